@@ -1,0 +1,9 @@
+pub mod Entries
+pub mod Files
+pub mod Faults
+pub mod Contents
+pub mod Listing
+pub mod Owners
+pub mod Claimed
+pub mod Gathered
+pub mod Told

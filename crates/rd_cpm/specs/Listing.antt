@@ -1,0 +1,27 @@
+-- What `files` tells of an image.
+use Rattle.std.specs.Prelude.{◌≡◌, ℕ, ◌<◌, ◌≤◌, ◌↔◌, IsTrue, List, [], slice_index, All, AllPairs, Contains, map}
+use Rattle.rd_geometry.specs.Places.{CPM_UNITS}
+use Rattle.rd_cpm.specs.Entries.{slot_of, first_of, name_of, plain}
+use Rattle.rd_cpm.specs.Files.{IsFileSlot}
+use Rattle.rd_cpm.specs.Faults.{IsSound, AreFaults}
+use Rattle.rd_cpm.specs.Contents.{AreSectors}
+use Rattle.rd_cpm.specs.declared.listing.CpmFile.{CpmFile}
+
+-- The file of an image is described: its slot, user, name and marks as the entry at its slot has
+-- them, its faults, and its sectors where it is sound.
+pub record Describes (image : List ℕ) (file : CpmFile) : Type 0 where
+  pub slot : IsFileSlot (slot_of image) file.slot
+  pub user : file.user ≡ first_of (slot_of image file.slot)
+  pub name : file.name ≡ plain (name_of (slot_of image file.slot))
+  pub read_only : IsTrue file.read_only ↔ (128 ≤ slice_index (name_of (slot_of image file.slot)) 8)
+  pub system : IsTrue file.system ↔ (128 ≤ slice_index (name_of (slot_of image file.slot)) 9)
+  pub faults : AreFaults (slot_of image) file.slot file.faults
+  pub sectors : IsSound (slot_of image) file.slot → AreSectors (slot_of image) file.slot file.sectors
+  pub faulty : ¬ IsSound (slot_of image) file.slot → file.sectors ≡ []
+  pub on_disk : All (λ sector. sector < CPM_UNITS) file.sectors
+
+-- The files of an image, by slot: each is described, and none is missing.
+pub record AreFiles (image : List ℕ) (files : List CpmFile) : Type 0 where
+  pub each : All (Describes image) files
+  pub ascending : AllPairs (λ f g. f.slot < g.slot) files
+  pub complete : (k : ℕ) → IsFileSlot (slot_of image) k → Contains (map (λ f. f.slot) files) k

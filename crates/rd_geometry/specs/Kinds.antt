@@ -1,0 +1,12 @@
+use Rattle.std.specs.Prelude.{ℕ, List, codes}
+use Rattle.rd_geometry.specs.declared.kind.Kind.{Kind}
+use Rattle.rd_geometry.specs.declared.kind.Kind.TheVariants.{Cpm8}
+use Rattle.rd_geometry.specs.Places.{CPM_SIZE}
+
+-- how many bytes an image of a kind has
+abbrev pub size_of : Kind → ℕ
+size_of Cpm8 = CPM_SIZE
+
+-- the word for a kind
+abbrev pub word_of : Kind → List ℕ
+word_of Cpm8 = codes "cpm8"

@@ -1,0 +1,65 @@
+ghost use Rattle.std.specs.Prelude.{◌≡◌, ◌↔◌, length, IfOk, IfErr, IsOk};
+ghost use Rattle.rd_geometry.specs.Kinds.{size_of};
+
+use crate::kind::Kind;
+use std::error::Error;
+use std::fmt;
+
+/// The bytes are not as many as an image of the kind has.
+#[derive(Clone, Copy, Debug, PartialEq, Eq, Hash)]
+pub struct WrongSize {
+    /// How many bytes there are.
+    pub found: usize,
+}
+
+impl fmt::Display for WrongSize {
+    fn fmt<W: fmt::Write>(&self, f: &mut fmt::Formatter<W>) -> fmt::Result {
+        let found = self.found;
+        write!(f, "{found} bytes are no image of the kind")
+    }
+}
+
+impl Error for WrongSize {}
+
+/// An image: a kind, and bytes of exactly that kind's length, which it borrows.
+#[derive(Debug, Drop)]
+pub struct Image<'a> {
+    kind: Kind,
+    bytes: &'a [u8],
+    pub ghost sized: { length bytes.now ≡ size_of kind },
+}
+
+impl<'a> Image<'a> {
+    ghost use Rattle.rd_geometry.specs.Images.{kind_of, bytes_of};
+
+    /// The image of a kind with these bytes, whatever they are.
+    ///
+    /// It fails with `WrongSize` where they are not as many as an image of the kind has.
+    pub fn new(kind: Kind, bytes: &'a [u8]) -> Result<Image<'a>, WrongSize>
+        ensures taken { IsOk result ↔ (length bytes.entry.now ≡ size_of kind) }
+        ensures kind { IfOk result (λ image. kind_of image ≡ kind) }
+        ensures bytes { IfOk result (λ image. bytes_of image ≡ bytes.entry.now) }
+        ensures refused { IfErr result (λ fault. fault.found ≡ length bytes.entry.now) }
+    {
+        if bytes.len() == kind.size() {
+            Ok(Image { kind, bytes })
+        } else {
+            Err(WrongSize { found: bytes.len() })
+        }
+    }
+
+    /// The kind.
+    pub fn kind(&self) -> Kind
+        ensures { result ≡ kind_of self.now }
+    {
+        self.kind
+    }
+
+    /// The bytes, which outlive the image.
+    pub fn bytes(&self) -> &'a [u8]
+        ensures value { result.now ≡ bytes_of self.now }
+        ensures sized { length result.now ≡ size_of (kind_of self.now) }
+    {
+        self.bytes
+    }
+}
