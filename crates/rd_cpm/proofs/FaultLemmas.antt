@@ -6,9 +6,9 @@ use Rattle.std.proofs.lemmas.List.Elements.{Contains-get_or}
 use Rattle.std.proofs.lemmas.List.Sums.{sum_by-cons}
 use Rattle.std.proofs.Math.ListN.{get_or-eq_default}
 use Rattle.rd_geometry.specs.Places.{CPM_UNITS}
-use Rattle.rd_cpm.specs.Entries.{IsOfFile, rc_of, extent_of, pointers_of, pointer_of}
-use Rattle.rd_cpm.specs.Files.{Directory, EntryOf, Claims}
-use Rattle.rd_cpm.specs.Faults.{HasBadCount, HasDuplicate, HasGap, IsShort, HasHole, IsOffDisk, IsClaimedBeside, IsCrossed, IsSound, AreFaults}
+use Rattle.rd_cpm.specs.Entries.{IsOfFile, rc_of, extent_number_of, pointers_of, pointer_of}
+use Rattle.rd_cpm.specs.Files.{Directory, IsEntryOf, Claims}
+use Rattle.rd_cpm.specs.Faults.{HasBadCount, HasDuplicate, HasGap, IsShort, HasHole, IsOffDisk, HasOtherClaim, IsCrossed, IsSound, AreFaults}
 use Rattle.rd_cpm.specs.Contents.{AreSectors}
 use Rattle.rd_cpm.specs.Claimed.{IsClaimedBefore, IsSharedBefore, AreClaims}
 use Rattle.rd_cpm.specs.Gathered.{AreGathered, LacksPredecessor, EndsEarly, AreTwice, IsHole, SomePlace, IsOffDiskIn, IsSharedBlock, IsCrossedIn}
@@ -17,16 +17,6 @@ use Rattle.rd_cpm.proofs.BitLemmas.{no_bit, no_bits}
 use Rattle.rd_cpm.proofs.ClaimLemmas.{numbered}
 use Rattle.rd_cpm.proofs.OwnerLemmas.{of_file}
 use Rattle.rd_cpm.proofs.GatherLemmas.{any_to_entry, entry_to_any, member_to_entry}
-
--- no fault is told
-pub in_order : (shared : List Bool) (entries : List (List ℕ)) → AreTold shared entries 0 → AreInOrder entries
-in_order shared entries told = record {
-  counts = λ found. no_bit 1 (told.bad_count.1 found);
-  once = λ found. no_bit 2 (told.duplicate.1 found);
-  dense = λ found. no_bit 4 (told.gap.1 found);
-  full = λ found. no_bit 8 (told.short.1 found);
-  on_disk = λ found. no_bit 32 (told.off_disk.1 found);
-}
 
 bad_count_as : (d : Directory) (k : ℕ) (entries : List (List ℕ)) → AreGathered d k entries → Any (λ entry. 128 < rc_of entry) entries ↔ HasBadCount d k
 bad_count_as d k entries g = (
@@ -54,16 +44,16 @@ duplicate_as d k entries g = (to, from)
           one_of_file = (g.of_file.each _).0 (Contains-get_or g.slots twice.one 0 one_in);
           other_of_file = (g.of_file.each _).0 (Contains-get_or g.slots twice.other 0 other_in);
           two = g.of_file.once twice.one twice.other 0 twice.first other_in;
-          same = ap extent_of (sym (at_place d k entries g twice.one one_in)) ∙ twice.same ∙ ap extent_of (at_place d k entries g twice.other other_in);
+          same = ap extent_number_of (sym (at_place d k entries g twice.one one_in)) ∙ twice.same ∙ ap extent_number_of (at_place d k entries g twice.other other_in);
         }
 
-    pair : (i j : ℕ) → i < j → j < length g.slots → extent_of (d (slice_index_or g.slots i 0)) ≡ extent_of (d (slice_index_or g.slots j 0)) → AreTwice entries
+    pair : (i j : ℕ) → i < j → j < length g.slots → extent_number_of (d (slice_index_or g.slots i 0)) ≡ extent_number_of (d (slice_index_or g.slots j 0)) → AreTwice entries
     pair i j first inside same = record {
       one = i;
       other = j;
       first = first;
       inside = (let whole : length entries ≡ length g.slots = ap length g.taken ∙ length-map g.slots d in omega arith);
-      same = ap extent_of (at_place d k entries g i (omega arith)) ∙ same ∙ ap extent_of (sym (at_place d k entries g j inside));
+      same = ap extent_number_of (at_place d k entries g i (omega arith)) ∙ same ∙ ap extent_number_of (sym (at_place d k entries g j inside));
     }
 
     from : HasDuplicate d k → AreTwice entries
@@ -72,8 +62,8 @@ duplicate_as d k entries g = (to, from)
         let other = (g.of_file.each has.other).1 has.other_of_file in
         let one_is : slice_index_or g.slots one.0 0 ≡ has.one = get_or_default g.slots one.0 0 has.one one.1 ∙ one.2 in
         let other_is : slice_index_or g.slots other.0 0 ≡ has.other = get_or_default g.slots other.0 0 has.other other.1 ∙ other.2 in
-        let same : extent_of (d (slice_index_or g.slots one.0 0)) ≡ extent_of (d (slice_index_or g.slots other.0 0)) =
-        ap (λ j. extent_of (d j)) one_is ∙ has.same ∙ ap (λ j. extent_of (d j)) (sym other_is) in
+        let same : extent_number_of (d (slice_index_or g.slots one.0 0)) ≡ extent_number_of (d (slice_index_or g.slots other.0 0)) =
+        ap (λ j. extent_number_of (d j)) one_is ∙ has.same ∙ ap (λ j. extent_number_of (d j)) (sym other_is) in
         elim (cases_order one.0 other.0) [
           | inl equal ↦ absurd (has.two (sym one_is ∙ ap (λ i. slice_index_or g.slots i 0) equal ∙ other_is))
           | inr apart ↦ elim apart [
@@ -87,12 +77,12 @@ gap_as d k entries g = (
   λ found. let one = any_to_entry d k entries (LacksPredecessor entries) g found in record {
     entry = one.0;
     of_file = one.1;
-    later = one.2.later;
-    alone = λ j entry next. one.2.alone (extent_of (d j)) next (entry_to_any d k entries (λ e. extent_of e ≡ extent_of (d j)) j g entry refl);
+    above = one.2.later;
+    alone = λ j entry next. one.2.alone (extent_number_of (d j)) next (entry_to_any d k entries (λ e. extent_number_of e ≡ extent_number_of (d j)) j g entry refl);
   },
   λ has. entry_to_any d k entries (LacksPredecessor entries) has.entry g has.of_file (record {
-    later = has.later;
-    alone = λ number next found. let one = any_to_entry d k entries (λ e. extent_of e ≡ number) g found in
+    later = has.above;
+    alone = λ number next found. let one = any_to_entry d k entries (λ e. extent_number_of e ≡ number) g found in
         has.alone one.0 one.1 (ap (λ n. n + 1) one.2 ∙ next);
   }),
 )
@@ -101,11 +91,11 @@ short_as : (d : Directory) (k : ℕ) (entries : List (List ℕ)) → AreGathered
 short_as d k entries g = (
   λ found.
       let one = any_to_entry d k entries (EndsEarly entries) g found in
-      let later = any_to_entry d k entries (λ e. extent_of (d one.0) < extent_of e) g one.2.later in
+      let later = any_to_entry d k entries (λ e. extent_number_of (d one.0) < extent_number_of e) g one.2.later in
       record { entry = one.0; later = later.0; of_file = one.1; later_of_file = later.1; few = one.2.few; higher = later.2 },
   λ is. entry_to_any d k entries (EndsEarly entries) is.entry g is.of_file (record {
     few = is.few;
-    later = entry_to_any d k entries (λ e. extent_of (d is.entry) < extent_of e) is.later g is.later_of_file is.higher;
+    later = entry_to_any d k entries (λ e. extent_number_of (d is.entry) < extent_number_of e) is.later g is.later_of_file is.higher;
   }),
 )
 
@@ -154,7 +144,7 @@ claim_before d j i b claim = record {
 }
 
 -- of two different claims of a block one is another than a given one
-beside_one : (d : Directory) (j i b : ℕ) → i < 16 → IsSharedBefore d 1024 b → IsClaimedBeside d j i b
+beside_one : (d : Directory) (j i b : ℕ) → i < 16 → IsSharedBefore d 1024 b → HasOtherClaim d j i b
 beside_one d j i b low s = elim (cases_eq s.one (16 * j + i)) [
   | inl same ↦ record {
     slot = s.other / 16;
@@ -171,7 +161,7 @@ beside_one d j i b low s = elim (cases_eq s.one (16 * j + i)) [
 ]
 
 -- a claim and another one of its block are two
-two_claims : (d : Directory) (j i b : ℕ) → Claims d j i b → IsClaimedBeside d j i b → IsSharedBefore d 1024 b
+two_claims : (d : Directory) (j i b : ℕ) → Claims d j i b → HasOtherClaim d j i b → IsSharedBefore d 1024 b
 two_claims d j i b claim beside =
     let low_j : j < 64 = claim.slot in
     let low_i : i < 16 = claim.place in
@@ -192,10 +182,10 @@ crossed_as : (d : Directory) (k : ℕ) (entries : List (List ℕ)) (claimed shar
 unfolding IsCrossedIn
 crossed_as d k entries claimed shared g claims = (to, from)
   where
-    of_user : (j : ℕ) → EntryOf d k j → IsOfFile (d j)
+    of_user : (j : ℕ) → IsEntryOf d k j → IsOfFile (d j)
     of_user j entry = of_file d k j entry
 
-    shared_in : (j i b : ℕ) → Claims d j i b → (b ≡ 1) ⊎ IsTrue (slice_index_or shared b false) → (b ≡ 1) ⊎ IsClaimedBeside d j i b
+    shared_in : (j i b : ℕ) → Claims d j i b → (b ≡ 1) ⊎ IsTrue (slice_index_or shared b false) → (b ≡ 1) ⊎ HasOtherClaim d j i b
     shared_in j i b claim taken = elim taken [
       | inl directory ↦ inl directory
       | inr twice ↦ inr (beside_one d j i b claim.place ((claims.twice b claim.block (claims.bytes b (claim_before d j i b claim))).0 twice))
@@ -211,9 +201,9 @@ crossed_as d k entries claimed shared g claims = (to, from)
           value = place_of_block (d one.0) one.2.0 one.2.1 one.2.2 one.2.3;
           block = one.2.4.some;
         } in
-        record { entry = one.0; place = one.2.0; block = one.2.1; of_file = one.1; claim = claim; shared = shared_in one.0 one.2.0 one.2.1 claim one.2.4.taken }
+        record { entry = one.0; place = one.2.0; block = one.2.1; of_file = one.1; claim = claim; taken = shared_in one.0 one.2.0 one.2.1 claim one.2.4.taken }
 
-    block_shared : (j i b : ℕ) → Claims d j i b → (b ≡ 1) ⊎ IsClaimedBeside d j i b → IsSharedBlock shared b
+    block_shared : (j i b : ℕ) → Claims d j i b → (b ≡ 1) ⊎ HasOtherClaim d j i b → IsSharedBlock shared b
     block_shared j i b claim taken = record {
       some = claim.block;
       taken = elim taken [
@@ -226,7 +216,7 @@ crossed_as d k entries claimed shared g claims = (to, from)
     from is = entry_to_any d k entries (IsCrossedIn shared) is.entry g is.of_file
         (block_of_place (d is.entry) is.place (IsSharedBlock shared)
         (subst (λ b. 0 < b) (sym is.claim.value) is.claim.block)
-        (subst (IsSharedBlock shared) (sym is.claim.value) (block_shared is.entry is.place is.block is.claim is.shared)))
+        (subst (IsSharedBlock shared) (sym is.claim.value) (block_shared is.entry is.place is.block is.claim is.taken)))
 
 -- one fact after another
 through : {P Q R : Type 0} → (P ↔ Q) → (Q ↔ R) → P ↔ R
@@ -252,7 +242,7 @@ faults_as d k entries claimed shared faults g claims told =
       off_disk = h;
       crossed = i;
       no_other = told.no_other;
-      none = (
+      sound = (
         λ zero. record {
           no_bad_count = λ has. unset 1 zero (a.1 has);
           no_duplicate = λ has. unset 2 zero (b.1 has);
@@ -286,7 +276,7 @@ sectors_as d k entries sectors g records = record {
       record {
         entry = one.0;
         of_file = one.1;
-        extent = ap extent_of one.2 ∙ found.extent;
+        extent = ap extent_number_of one.2 ∙ found.extent;
         sector = rw one.2 found.sector;
       };
 }
@@ -300,8 +290,8 @@ pub record AreFileSectors (d : Directory) (k : ℕ) (sectors : List ℕ) : Type 
 pub judged_sectors : (d : Directory) (k : ℕ) (entries : List (List ℕ)) (shared : List Bool) (faults : ℕ) (sectors : List ℕ) → AreGathered d k entries
     → AreFaults d k faults → AreJudged shared entries faults sectors → AreFileSectors d k sectors
 judged_sectors d k entries shared faults sectors g are judged = record {
-  sound = λ sound. sectors_as d k entries sectors g (judged.sound (are.none.1 sound));
-  faulty = λ unsound. judged.faulty (λ zero. unsound (are.none.0 zero));
+  sound = λ sound. sectors_as d k entries sectors g (judged.sound (are.sound.1 sound));
+  faulty = λ unsound. judged.faulty (λ zero. unsound (are.sound.0 zero));
   on_disk = elim (cases_eq faults 0) [
     | inl zero ↦ (judged.sound zero).on_disk
     | inr some ↦ subst (All (λ sector. sector < CPM_UNITS)) (sym (judged.faulty some)) (λ k x inside. absurd (let low : k < 0 = inside in omega arith))

@@ -6,23 +6,23 @@ use Rattle.std.proofs.lemmas.List.{get_or_default, get_or-take}
 use Rattle.std.proofs.lemmas.List.Sums.{sum_by-cons}
 use Rattle.std.proofs.Math.ListN.{get_or-eq_default}
 use Rattle.rd_geometry.specs.Places.{CPM_UNITS}
-use Rattle.rd_cpm.specs.Entries.{rc_of, extent_of, pointers_of, pointer_of}
+use Rattle.rd_cpm.specs.Entries.{rc_of, extent_number_of, pointers_of, pointer_of}
 use Rattle.rd_cpm.specs.Gathered.{HasExtent, IsOffDiskIn}
 use Rattle.rd_cpm.specs.Told.{AreInOrder, IsRecordIn, AreRecords}
 use Rattle.rd_cpm.proofs.Tests.{not_above}
 
 -- the record count of an entry whose extent number is below n, or is n
 pub part : ℕ → List ℕ → ℕ
-part n entry = cond (ltb (extent_of entry) n) (rc_of entry) 0
+part n entry = cond (ltb (extent_number_of entry) n) (rc_of entry) 0
 
 at : ℕ → List ℕ → ℕ
-at n entry = cond (eqb (extent_of entry) n) (rc_of entry) 0
+at n entry = cond (eqb (extent_number_of entry) n) (rc_of entry) 0
 
 part-next : (n : ℕ) (entry : List ℕ) → part (n + 1) entry ≡ part n entry + at n entry
 unfolding part at
 part-next n entry = grind (arith, nat_tests)
 
-part-below : (n : ℕ) (entry : List ℕ) → extent_of entry < n → part n entry ≡ rc_of entry
+part-below : (n : ℕ) (entry : List ℕ) → extent_number_of entry < n → part n entry ≡ rc_of entry
 unfolding part
 part-below n entry low = grind (arith, nat_tests)
 
@@ -30,11 +30,11 @@ part-zero : (entry : List ℕ) → part 0 entry ≡ 0
 unfolding part
 part-zero entry = grind (arith, nat_tests)
 
-at-other : (n : ℕ) (entry : List ℕ) → extent_of entry ≢ n → at n entry ≡ 0
+at-other : (n : ℕ) (entry : List ℕ) → extent_number_of entry ≢ n → at n entry ≡ 0
 unfolding at
 at-other n entry other = grind (arith, nat_tests)
 
-at-same : (n : ℕ) (entry : List ℕ) → extent_of entry ≡ n → at n entry ≡ rc_of entry
+at-same : (n : ℕ) (entry : List ℕ) → extent_number_of entry ≡ n → at n entry ≡ rc_of entry
 unfolding at
 at-same n entry same = grind (arith, nat_tests)
 
@@ -50,14 +50,14 @@ sum-part-next n (entry ∷ entries) =
     let rest : sum_by (part (n + 1)) entries ≡ sum_by (part n) entries + sum_by (at n) entries = sum-part-next n entries in
     omega (arith, sum_by-cons (part (n + 1)) entry entries, sum_by-cons (part n) entry entries, sum_by-cons (at n) entry entries)
 
-sum-part-all : (n : ℕ) (entries : List (List ℕ)) → ((j : ℕ) → j < length entries → extent_of (slice_index_or entries j []) < n) → sum_by (part n) entries ≡ sum_by rc_of entries
+sum-part-all : (n : ℕ) (entries : List (List ℕ)) → ((j : ℕ) → j < length entries → extent_number_of (slice_index_or entries j []) < n) → sum_by (part n) entries ≡ sum_by rc_of entries
 sum-part-all n [] low = refl
 sum-part-all n (entry ∷ entries) low =
     let own : part n entry ≡ rc_of entry = part-below n entry (low 0 (omega arith)) in
     let rest : sum_by (part n) entries ≡ sum_by rc_of entries = sum-part-all n entries (λ j inside. low (suc j) (omega arith)) in
     omega (arith, sum_by-cons (part n) entry entries, sum_by-cons rc_of entry entries)
 
-sum-at-none : (n : ℕ) (entries : List (List ℕ)) → ((j : ℕ) → j < length entries → extent_of (slice_index_or entries j []) ≢ n) → sum_by (at n) entries ≡ 0
+sum-at-none : (n : ℕ) (entries : List (List ℕ)) → ((j : ℕ) → j < length entries → extent_number_of (slice_index_or entries j []) ≢ n) → sum_by (at n) entries ≡ 0
 sum-at-none n [] none = refl
 sum-at-none n (entry ∷ entries) none =
     let own : at n entry ≡ 0 = at-other n entry (none 0 (omega arith)) in
@@ -65,8 +65,8 @@ sum-at-none n (entry ∷ entries) none =
     omega (arith, sum_by-cons (at n) entry entries)
 
 -- where one entry alone has the number, the sum is its record count
-sum-at-one : (n : ℕ) (entries : List (List ℕ)) (i : ℕ) → i < length entries → extent_of (slice_index_or entries i []) ≡ n
-    → ((j : ℕ) → j < length entries → extent_of (slice_index_or entries j []) ≡ n → j ≡ i) → sum_by (at n) entries ≡ rc_of (slice_index_or entries i [])
+sum-at-one : (n : ℕ) (entries : List (List ℕ)) (i : ℕ) → i < length entries → extent_number_of (slice_index_or entries i []) ≡ n
+    → ((j : ℕ) → j < length entries → extent_number_of (slice_index_or entries j []) ≡ n → j ≡ i) → sum_by (at n) entries ≡ rc_of (slice_index_or entries i [])
 sum-at-one n [] i inside same one = absurd (let low : i < 0 = inside in omega arith)
 sum-at-one n (entry ∷ entries) zero inside same one =
     let own : at n entry ≡ rc_of entry = at-same n entry same in
@@ -112,7 +112,7 @@ pub records_fit : (entries : List (List ℕ)) (own : List ℕ) → AreInOrder en
 records_fit entries own ordered there = not_above (rc_of own) 128 (λ many. ordered.counts (there.0, own, there.1, there.2, many))
 
 -- an entry with a later one has as many records as an extent
-records_full : (entries : List (List ℕ)) (own : List ℕ) → AreInOrder entries → Contains entries own → HasExtent entries (extent_of own + 1) → 128 ≤ rc_of own
+records_full : (entries : List (List ℕ)) (own : List ℕ) → AreInOrder entries → Contains entries own → HasExtent entries (extent_number_of own + 1) → 128 ≤ rc_of own
 records_full entries own ordered there next = not_above 128 (rc_of own) (λ few. ordered.full (
   there.0,
   own,
@@ -120,13 +120,13 @@ records_full entries own ordered there next = not_above 128 (rc_of own) (λ few.
   there.2,
   record {
     few = few;
-    later = (next.0, next.1, next.2, next.3, let is : extent_of next.1 ≡ extent_of own + 1 = next.4 in omega arith);
+    later = (next.0, next.1, next.2, next.3, let is : extent_number_of next.1 ≡ extent_number_of own + 1 = next.4 in omega arith);
   },
 ))
 
 -- one entry alone has its number
 one_of_number : (entries : List (List ℕ)) (i j : ℕ) → AreInOrder entries → i < length entries → j < length entries
-    → extent_of (slice_index_or entries j []) ≡ extent_of (slice_index_or entries i []) → j ≡ i
+    → extent_number_of (slice_index_or entries j []) ≡ extent_number_of (slice_index_or entries i []) → j ≡ i
 one_of_number entries i j ordered low_i low_j same = elim (cases_order j i) [
   | inl is ↦ is
   | inr apart ↦ elim apart [
@@ -136,7 +136,7 @@ one_of_number entries i j ordered low_i low_j same = elim (cases_order j i) [
 ]
 
 -- record r of the entries, where the entry of its extent was added behind the first ones
-new_record : (entries : List (List ℕ)) (n r t start : ℕ) (own new : List ℕ) → Contains entries own → extent_of own ≡ n → start ≡ 128 * n → r ≡ start + t → t < 128
+new_record : (entries : List (List ℕ)) (n r t start : ℕ) (own new : List ℕ) → Contains entries own → extent_number_of own ≡ n → start ≡ 128 * n → r ≡ start + t → t < 128
     → slice_index new (start + t) ≡ 8 * pointer_of own (t / 8) + t % 8 → IsRecordIn entries r (slice_index new r)
 new_record entries n r t start own new there extent at_start place low is = record {
   entry = own;
@@ -150,13 +150,13 @@ new_record entries n r t start own new there extent at_start place low is = reco
 
 -- extent n has more records
 pub records_more : (entries : List (List ℕ)) (n : ℕ) (own : List ℕ) (old new : List ℕ) → AreInOrder entries → AreRecordsBelow entries n old
-    → Contains entries own → extent_of own ≡ n → take (length old) new ≡ old → length new ≡ length old + rc_of own
+    → Contains entries own → extent_number_of own ≡ n → take (length old) new ≡ old → length new ≡ length old + rc_of own
     → ((t : ℕ) → t < rc_of own → slice_index new (length old + t) ≡ 8 * pointer_of own (t / 8) + t % 8)
     → AreRecordsBelow entries (n + 1) new
 records_more entries n own old new ordered are there extent before count each =
     let i : ℕ = there.0 in
     let own_at : slice_index_or entries i [] ≡ own = get_or_default entries i [] own there.1 ∙ there.2 in
-    let number : extent_of (slice_index_or entries i []) ≡ n = ap extent_of own_at ∙ extent in
+    let number : extent_number_of (slice_index_or entries i []) ≡ n = ap extent_number_of own_at ∙ extent in
     let stands : HasExtent entries n = (i, own, there.1, there.2, extent) in
     let start : length old ≡ 128 * n = are.full stands in
     let fit : rc_of own ≤ 128 = records_fit entries own ordered there in
@@ -193,9 +193,9 @@ none_after entries n ordered none (suc m) found = ordered.dense (
   found.2,
   found.3,
   record {
-    later = let is : extent_of found.1 ≡ n + suc m = found.4 in omega arith;
+    later = let is : extent_number_of found.1 ≡ n + suc m = found.4 in omega arith;
     alone = λ number next has. none_after entries n ordered none m
-        (let is : extent_of found.1 ≡ n + suc m = found.4 in let same : number ≡ n + m = omega arith in subst (HasExtent entries) same has);
+        (let is : extent_number_of found.1 ≡ n + suc m = found.4 in let same : number ≡ n + m = omega arith in subst (HasExtent entries) same has);
   },
 )
 
@@ -208,13 +208,13 @@ records_all entries n sectors ordered are none = record {
   on_disk = λ k x inside. subst (λ u. u < CPM_UNITS) (get_or_default sectors k 0 x inside) (are.on_disk k inside);
 }
   where
-    below : (j : ℕ) → j < length entries → extent_of (slice_index_or entries j []) < n
-    below j low = elim (cases_lt (extent_of (slice_index_or entries j [])) n) [
+    below : (j : ℕ) → j < length entries → extent_number_of (slice_index_or entries j []) < n
+    below j low = elim (cases_lt (extent_number_of (slice_index_or entries j [])) n) [
       | inl less ↦ less
-      | inr more ↦ absurd (none_after entries n ordered none (extent_of (slice_index_or entries j []) - n)
-          (j, slice_index_or entries j [], low, get_or_default entries j (slice_index_or entries j []) [] low, let sum : extent_of (slice_index_or entries j []) ≡ n + (extent_of (slice_index_or entries j []) - n) = omega arith in sum))
+      | inr more ↦ absurd (none_after entries n ordered none (extent_number_of (slice_index_or entries j []) - n)
+          (j, slice_index_or entries j [], low, get_or_default entries j (slice_index_or entries j []) [] low, let sum : extent_number_of (slice_index_or entries j []) ≡ n + (extent_number_of (slice_index_or entries j []) - n) = omega arith in sum))
     ]
 
 -- no extent number is as high as 2,048
 pub none_at_last : (entries : List (List ℕ)) → ¬ HasExtent entries 2048
-none_at_last entries found = let is : extent_of found.1 ≡ 2048 = found.4 in omega arith
+none_at_last entries found = let is : extent_number_of found.1 ≡ 2048 = found.4 in omega arith

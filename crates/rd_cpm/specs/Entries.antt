@@ -3,11 +3,11 @@
 use Rattle.std.specs.Prelude.{ℕ, ◌+◌, ◌*◌, ◌/◌, ◌%◌, ◌<◌, List, slice_index, slice_range, map}
 use Rattle.rd_geometry.specs.Places.{cpm_unit}
 
--- the 32 bytes of slot k of the directory of an image: each logical sector holds four entries
+-- the 32 bytes of slot k, 0 to 63, of the directory of an image: four to a logical sector
 unfoldable pub slot_of : List ℕ → ℕ → List ℕ
 slot_of image k = slice_range (cpm_unit image (k / 4)) (32 * (k % 4)) (32 * (k % 4) + 32)
 
--- byte 0: the user number, or E5 hex where the entry is free
+-- byte 0: the user number, 0 to 15, or E5 hex where the slot is free; any other value: no file
 abbrev pub first_of : List ℕ → ℕ
 first_of entry = slice_index entry 0
 
@@ -15,19 +15,19 @@ first_of entry = slice_index entry 0
 abbrev pub name_of : List ℕ → List ℕ
 name_of entry = slice_range entry 1 12
 
--- byte 12: the low part of the extent number
+-- byte 12, EX: the low part of the extent number
 abbrev pub ex_of : List ℕ → ℕ
 ex_of entry = slice_index entry 12
 
--- byte 13
+-- byte 13, S1: not looked at
 abbrev pub s1_of : List ℕ → ℕ
 s1_of entry = slice_index entry 13
 
--- byte 14: the high part of the extent number
+-- byte 14, S2: the high part of the extent number
 abbrev pub s2_of : List ℕ → ℕ
 s2_of entry = slice_index entry 14
 
--- byte 15: how many records the extent has
+-- byte 15, RC: how many records the extent has
 abbrev pub rc_of : List ℕ → ℕ
 rc_of entry = slice_index entry 15
 
@@ -39,11 +39,13 @@ pointers_of entry = slice_range entry 16 32
 abbrev pub pointer_of : List ℕ → ℕ → ℕ
 pointer_of entry i = slice_index (pointers_of entry) i
 
--- the number of the extent that an entry holds
-abbrev pub extent_of : List ℕ → ℕ
-extent_of entry = 32 * (s2_of entry % 64) + ex_of entry % 32
+-- the number of the extent that an entry holds, 32 · (S2 mod 64) + (EX mod 32); the two masks are this
+-- project's profile
+abbrev pub extent_number_of : List ℕ → ℕ
+extent_number_of entry = 32 * (s2_of entry % 64) + ex_of entry % 32
 
--- the entry is one of a file: byte 0 is a user, 0 to 15
+-- the entry is one of a file: byte 0 is a user, 0 to 15 (that all else is of no file is this project's
+-- profile)
 abbrev pub IsOfFile : List ℕ → Type 0
 IsOfFile entry = first_of entry < 16
 

@@ -2,13 +2,13 @@
 use Rattle.std.specs.Prelude.{◌≡◌, ℕ, ◌<◌, ◌≤◌, List}
 use Rattle.rd_cpm.specs.Entries.{first_of, name_of, pointer_of, IsOfFile, plain}
 
--- A directory is the entry at each slot, 0 to 63.
+-- A directory is the entry at each slot, 0 to 63. What it gives past them counts nowhere.
 abbrev pub Directory : Type 0
 Directory = ℕ → List ℕ
 
 -- Slot j has an entry of the file of slot k: both are entries of a file, with the same user and the
 -- same name but for the high bits.
-pub record EntryOf (d : Directory) (k j : ℕ) : Type 0 where
+pub record IsEntryOf (d : Directory) (k j : ℕ) : Type 0 where
   pub slot : j < 64
   pub file : IsOfFile (d k)
   pub user : first_of (d j) ≡ first_of (d k)
@@ -18,7 +18,7 @@ pub record EntryOf (d : Directory) (k j : ℕ) : Type 0 where
 pub record IsFileSlot (d : Directory) (k : ℕ) : Type 0 where
   pub slot : k < 64
   pub file : IsOfFile (d k)
-  pub least : (j : ℕ) → EntryOf d k j → k ≤ j
+  pub least : (j : ℕ) → IsEntryOf d k j → k ≤ j
 
 -- Pointer i of the entry at slot j claims block b. A claim counts whether or not the entry's record
 -- count reaches it.

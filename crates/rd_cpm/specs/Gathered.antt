@@ -2,7 +2,7 @@
 -- list of its 32 bytes.
 use Rattle.std.specs.Prelude.{◌≡◌, ℕ, ◌+◌, ◌*◌, ◌<◌, ◌⊎◌, List, Bool, false, map, Any, IsTrue, [], length}
 use Rattle.std.specs.List.{slice_index_or}
-use Rattle.rd_cpm.specs.Entries.{rc_of, pointers_of, pointer_of, extent_of}
+use Rattle.rd_cpm.specs.Entries.{rc_of, pointers_of, pointer_of, extent_number_of}
 use Rattle.rd_cpm.specs.Files.{Directory}
 use Rattle.rd_cpm.specs.Contents.{AreEntries}
 
@@ -14,21 +14,21 @@ pub record AreGathered (d : Directory) (k : ℕ) (entries : List (List ℕ)) : T
 
 -- an entry of the list holds the extent of a number
 abbrev pub HasExtent : List (List ℕ) → ℕ → Type 0
-HasExtent entries number = Any (λ entry. extent_of entry ≡ number) entries
+HasExtent entries number = Any (λ entry. extent_number_of entry ≡ number) entries
 
 -- an entry of the list holds an extent of a higher number
 abbrev pub HasLater : List (List ℕ) → ℕ → Type 0
-HasLater entries number = Any (λ entry. number < extent_of entry) entries
+HasLater entries number = Any (λ entry. number < extent_number_of entry) entries
 
 -- The entry's extent number is above 0, and no entry of the list has the one before it.
 pub record LacksPredecessor (entries : List (List ℕ)) (entry : List ℕ) : Type 0 where
-  pub later : 0 < extent_of entry
-  pub alone : (number : ℕ) → number + 1 ≡ extent_of entry → ¬ HasExtent entries number
+  pub later : 0 < extent_number_of entry
+  pub alone : (number : ℕ) → number + 1 ≡ extent_number_of entry → ¬ HasExtent entries number
 
 -- The entry has fewer than 128 records, and an entry of the list has a higher extent number.
 pub record EndsEarly (entries : List (List ℕ)) (entry : List ℕ) : Type 0 where
   pub few : rc_of entry < 128
-  pub later : HasLater entries (extent_of entry)
+  pub later : HasLater entries (extent_number_of entry)
 
 -- Two entries of the list hold the extent of one number.
 pub record AreTwice (entries : List (List ℕ)) : Type 0 where
@@ -36,7 +36,7 @@ pub record AreTwice (entries : List (List ℕ)) : Type 0 where
   pub other : ℕ
   pub first : one < other
   pub inside : other < length entries
-  pub same : extent_of (slice_index_or entries one []) ≡ extent_of (slice_index_or entries other [])
+  pub same : extent_number_of (slice_index_or entries one []) ≡ extent_number_of (slice_index_or entries other [])
 
 -- Pointer i of the entry is 0 though the record count reaches its block.
 pub record IsHole (entry : List ℕ) (i : ℕ) : Type 0 where

@@ -7,8 +7,9 @@ use Rattle.rd_cpm.specs.Faults.{IsSound, AreFaults}
 use Rattle.rd_cpm.specs.Contents.{AreSectors}
 use Rattle.rd_cpm.specs.declared.listing.CpmFile.{CpmFile}
 
--- The file of an image is described: its slot, user, name and marks as the entry at its slot has
--- them, its faults, and its sectors where it is sound.
+-- The file, as it is told, is one of the image: its slot is a file's; its user and its marks are those
+-- of the entry at its slot, and its name too, without high bits; its faults are told; its sectors are
+-- there where it is sound, else none, and lie on the disk.
 pub record Describes (image : List ℕ) (file : CpmFile) : Type 0 where
   pub slot : IsFileSlot (slot_of image) file.slot
   pub user : file.user ≡ first_of (slot_of image file.slot)
@@ -17,10 +18,10 @@ pub record Describes (image : List ℕ) (file : CpmFile) : Type 0 where
   pub system : IsTrue file.system ↔ (128 ≤ slice_index (name_of (slot_of image file.slot)) 9)
   pub faults : AreFaults (slot_of image) file.slot file.faults
   pub sectors : IsSound (slot_of image) file.slot → AreSectors (slot_of image) file.slot file.sectors
-  pub faulty : ¬ IsSound (slot_of image) file.slot → file.sectors ≡ []
+  pub none_where_faulty : ¬ IsSound (slot_of image) file.slot → file.sectors ≡ []
   pub on_disk : All (λ sector. sector < CPM_UNITS) file.sectors
 
--- The files of an image, by slot: each is described, and none is missing.
+-- The files of an image, by ascending slot: each is told as it is, and none is missing.
 pub record AreFiles (image : List ℕ) (files : List CpmFile) : Type 0 where
   pub each : All (Describes image) files
   pub ascending : AllPairs (λ f g. f.slot < g.slot) files

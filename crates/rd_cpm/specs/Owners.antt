@@ -1,12 +1,12 @@
 -- The file of each slot, as the walk over the directory notes it.
 use Rattle.std.specs.Prelude.{ℕ, ◌<◌, ◌≤◌, List, slice_index}
 use Rattle.rd_cpm.specs.Entries.{IsOfFile}
-use Rattle.rd_cpm.specs.Files.{Directory, EntryOf, IsFileSlot}
+use Rattle.rd_cpm.specs.Files.{Directory, IsEntryOf, IsFileSlot}
 
 -- The owner of slot j is the slot of its file, or 64 and more where its entry is of no file.
 pub record IsOwner (d : Directory) (j owner : ℕ) : Type 0 where
   pub file_slot : owner < 64 → IsFileSlot d owner
-  pub of_file : owner < 64 → EntryOf d owner j
+  pub of_file : owner < 64 → IsEntryOf d owner j
   pub free : 64 ≤ owner → ¬ IsOfFile (d j)
 
 -- The list has the owner of each slot below n.

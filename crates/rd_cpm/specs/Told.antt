@@ -1,7 +1,7 @@
 -- What the tests of a file's gathered entries tell of it.
 use Rattle.std.specs.Prelude.{◌≡◌, ◌≢◌, ℕ, ◌+◌, ◌*◌, ◌/◌, ◌%◌, ◌<◌, ◌↔◌, List, [], Bool, Any, All, Contains, IsBitSet, length, slice_index, sum_by}
 use Rattle.rd_geometry.specs.Places.{CPM_UNITS}
-use Rattle.rd_cpm.specs.Entries.{rc_of, pointer_of, extent_of}
+use Rattle.rd_cpm.specs.Entries.{rc_of, pointer_of, extent_number_of}
 use Rattle.rd_cpm.specs.Gathered.{LacksPredecessor, EndsEarly, AreTwice, IsHole, SomePlace, IsOffDiskIn, IsCrossedIn}
 
 -- The number has a bit for each test that some entry passes.
@@ -27,7 +27,7 @@ pub record AreInOrder (entries : List (List ℕ)) : Type 0 where
 pub record IsRecordIn (entries : List (List ℕ)) (r u : ℕ) : Type 0 where
   pub entry : List ℕ
   pub there : Contains entries entry
-  pub extent : extent_of entry ≡ r / 128
+  pub extent : extent_number_of entry ≡ r / 128
   pub sector : u ≡ 8 * pointer_of entry (r % 128 / 8) + r % 8
 
 -- The sectors are the records of the entries in order.

@@ -1,5 +1,5 @@
 ghost use Rattle.std.specs.Prelude.{◌≡◌, ◌↔◌, ◌<◌, IsTrue, List, ℕ, length};
-ghost use Rattle.rd_cpm.specs.Entries.{first_of, name_of, ex_of, s1_of, s2_of, rc_of, pointers_of, extent_of, IsOfFile, plain};
+ghost use Rattle.rd_cpm.specs.Entries.{first_of, name_of, ex_of, s1_of, s2_of, rc_of, pointers_of, extent_number_of, IsOfFile, plain};
 
 use std::marker::Model;
 
@@ -89,7 +89,7 @@ impl<'a> Entry<'a> {
 
     /// The number of the extent, 0 to 2,047.
     pub fn extent_number(&self) -> u16
-        ensures { result ≡ extent_of self.now }
+        ensures { result ≡ extent_number_of self.now }
     {
         32 * u16::from(self.s2() % 64) + u16::from(self.ex() % 32)
     }

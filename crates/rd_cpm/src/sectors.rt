@@ -1,5 +1,5 @@
 ghost use Rattle.std.specs.Prelude.{◌≡◌, ◌<◌, ◌≤◌, ◌+◌, ◌*◌, ◌/◌, ◌%◌, ℕ, IfOk, OnOk, IfSome, IfNone, Contains, length, take, slice_index};
-ghost use Rattle.rd_cpm.specs.Entries.{rc_of, extent_of, pointer_of};
+ghost use Rattle.rd_cpm.specs.Entries.{rc_of, extent_number_of, pointer_of};
 ghost use Rattle.rd_cpm.specs.Gathered.{HasExtent};
 ghost use Rattle.rd_cpm.specs.Told.{AreInOrder, AreRecords};
 
@@ -12,7 +12,7 @@ const EXTENTS: u16 = 2048;
 
 /// The entry that holds the extent of a number.
 fn find_extent<'e, 'a>(entries: &'e [Entry<'a>], number: u16) -> Option<&'e Entry<'a>>
-    ensures found { IfSome result (λ own. Contains entries.entry.now own.now × (extent_of own.now ≡ number)) }
+    ensures found { IfSome result (λ own. Contains entries.entry.now own.now × (extent_number_of own.now ≡ number)) }
     ensures none { IfNone result (¬ HasExtent entries.entry.now number) }
 {
     entries.iter().find(|own| own.extent_number() == number)

@@ -7,6 +7,6 @@ use Rattle.rd_geometry.specs.Places.{CPM_SIZE}
 abbrev pub size_of : Kind → ℕ
 size_of Cpm8 = CPM_SIZE
 
--- the word for a kind
+-- the word by which a kind is asked for
 abbrev pub word_of : Kind → List ℕ
 word_of Cpm8 = codes "cpm8"

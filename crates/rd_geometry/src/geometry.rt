@@ -31,14 +31,15 @@ pub trait Geometry<'a> {
     /// The bytes of unit `n`, as a slice of the image.
     fn unit(&self, n: u16) -> &'a [u8]
         requires { n < unit_count self.now }
-        ensures value { result.now ≡ slice_range (image_bytes self.now) (place_of self.now n) (place_of self.now n + unit_length self.now) }
+        ensures value { let start = place_of self.now n in
+            result.now ≡ slice_range (image_bytes self.now) start (start + unit_length self.now) }
         ensures sized { length result.now ≡ unit_length self.now };
 
     /// Each unit lies in the image.
     ghost inside: { (disk : Self) (n : ℕ) → n < unit_count disk
         → place_of disk n + unit_length disk ≤ length (image_bytes disk) };
 
-    /// Two units never overlap: one ends before the other begins.
+    /// Two different units never overlap: one ends before the other begins.
     ghost apart: { (disk : Self) (m n : ℕ) → m < unit_count disk → n < unit_count disk → m ≢ n
         → (place_of disk m + unit_length disk ≤ place_of disk n)
         ⊎ (place_of disk n + unit_length disk ≤ place_of disk m) };

@@ -30,6 +30,6 @@ returns-clause-file c =
       system = marked _ _ 9 name;
       faults = faults;
       sectors = kept.sound;
-      faulty = kept.faulty;
+      none_where_faulty = kept.faulty;
       on_disk = kept.on_disk;
     }

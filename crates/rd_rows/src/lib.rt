@@ -1,0 +1,6 @@
+//! Builders of sample images, and the tests that cross crates.
+#![tactic(auto)]
+
+pub mod cpm;
+#[cfg(test)]
+mod tests;
