@@ -1,4 +1,5 @@
-ghost use Rattle.std.specs.Prelude.{◌≡◌, ◌↔◌, length, IfOk, IfErr, IsOk};
+ghost use Rattle.std.specs.Prelude.{◌≡◌, ◌↔◌, ◌++◌, Some, codes, length, IfOk, IfErr, IsOk};
+ghost use Rattle.std.specs.Fmt.{decimal};
 ghost use Rattle.rd_geometry.specs.Kinds.{size_of};
 
 use crate::kind::Kind;
@@ -13,6 +14,8 @@ pub struct WrongSize {
 }
 
 impl fmt::Display for WrongSize {
+    ghost output = { λ fault. Some (decimal fault.found ++ codes " bytes are no image of the kind") };
+
     fn fmt<W: fmt::Write>(&self, f: &mut fmt::Formatter<W>) -> fmt::Result {
         let found = self.found;
         write!(f, "{found} bytes are no image of the kind")

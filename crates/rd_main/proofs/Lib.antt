@@ -1,0 +1,7 @@
+pub mod Operands
+pub mod Texts
+pub mod CatLine
+pub mod Asked
+pub mod Written
+pub mod Served
+pub mod Ran

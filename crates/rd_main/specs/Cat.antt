@@ -1,0 +1,66 @@
+-- What the command `cat` gives.
+use Rattle.std.specs.Prelude.{◌≡◌, ◌≢◌, ◌⊎◌, ℕ, List, Option, length}
+use Rattle.std.specs.Io.KnownBytes.{Appends, Keeps}
+use Rattle.rd_geometry.specs.Kinds.{size_of}
+use Rattle.rd_geometry.specs.declared.kind.Kind.{Kind}
+use Rattle.rd_cpm.specs.Contents.{AreSectors, bytes_of_sectors}
+use Rattle.rd_cpm.specs.Entries.{slot_of}
+use Rattle.rd_cpm.specs.Faults.{IsSound}
+use Rattle.rd_cpm.specs.Files.{IsFileSlot}
+use Rattle.rd_main.specs.Output.{AppendsPart}
+use Rattle.rd_main.specs.declared.refusal.Refusal.{Refusal}
+use Rattle.rd_main.specs.declared.refusal.Refusal.TheVariants.{Usage, Device, NoMemory}
+use Rattle.rd_main.specs.declared.refusal.Refusal.TheVariants.{WrongSize, NoFile, Faulty}
+
+-- The bytes are an image of the kind, the slot is that of a file, the file is sound, and out is
+-- exactly the file's bytes.
+pub record IsCat (kind : Kind) (slot : ℕ) (image out : List ℕ) : Type 0 where
+  pub size : length image ≡ size_of kind
+  pub file : IsFileSlot (slot_of image) slot
+  pub sound : IsSound (slot_of image) slot
+  pub sectors : List ℕ
+  pub are_sectors : AreSectors (slot_of image) slot sectors
+  pub bytes : out ≡ bytes_of_sectors image sectors
+
+-- A writer has gained exactly the bytes of the file at the slot of the image.
+pub record Serves (kind : Kind) (slot : ℕ) (image : List ℕ) (old new : Option (List ℕ))
+    : Type 0 where
+  pub out : List ℕ
+  pub is_cat : IsCat kind slot image out
+  pub gained : Appends old new out
+
+-- A writer has gained a front part of the bytes of the file at the slot of the image.
+pub record ServesPart (kind : Kind) (slot : ℕ) (image : List ℕ) (old new : Option (List ℕ))
+    : Type 0 where
+  pub out : List ℕ
+  pub is_cat : IsCat kind slot image out
+  pub gained : AppendsPart old new out
+
+-- A writer has gained nothing, or no more than a front part of the bytes of that file.
+abbrev pub IsCut : Kind → ℕ → List ℕ → Option (List ℕ) → Option (List ℕ) → Type 0
+IsCut kind slot image old new = Keeps old new ⊎ ServesPart kind slot image old new
+
+-- The bytes are an image of the kind, and the slot is that of no file.
+pub record HasNoFile (kind : Kind) (slot : ℕ) (image : List ℕ) : Type 0 where
+  pub size : length image ≡ size_of kind
+  pub absent : ¬ IsFileSlot (slot_of image) slot
+
+-- The bytes are an image of the kind, the slot is that of a file, and the file has a fault.
+pub record HasFaultyFile (kind : Kind) (slot : ℕ) (image : List ℕ) : Type 0 where
+  pub size : length image ≡ size_of kind
+  pub file : IsFileSlot (slot_of image) slot
+  pub faulty : ¬ IsSound (slot_of image) slot
+
+-- The bytes are no image of the kind, no file of it has the slot, or that file is not sound.
+abbrev pub HasNoSoundFile : Kind → ℕ → List ℕ → Type 0
+HasNoSoundFile kind slot image =
+    (length image ≢ size_of kind) ⊎ (HasNoFile kind slot image ⊎ HasFaultyFile kind slot image)
+
+-- Why `cat` is refused, and what was written then.
+abbrev pub Refuses : Refusal → Kind → ℕ → List ℕ → Option (List ℕ) → Option (List ℕ) → Type 0
+Refuses Usage kind slot image old new = ⊥
+Refuses Device kind slot image old new = IsCut kind slot image old new
+Refuses NoMemory kind slot image old new = Keeps old new
+Refuses WrongSize kind slot image old new = Keeps old new × (length image ≢ size_of kind)
+Refuses NoFile kind slot image old new = Keeps old new × HasNoFile kind slot image
+Refuses Faulty kind slot image old new = Keeps old new × HasFaultyFile kind slot image

@@ -1,0 +1,64 @@
+-- The command line as it is described to `clap`.
+use Rattle.std.specs.Prelude.{◌≡◌, List, [], ◌∷◌, Some, codes, map, pos, true}
+use Rattle.std.specs.Borrow.{Bor}
+use Rattle.clap.specs.Simple.{on_top}
+use Rattle.clap.specs.Words.{App, Rule, Shape, Text, new_app, new_rule, with_rule, with_subcommand}
+use Rattle.clap.specs.declared.builder.value_parser.ValueParser.{ValueParser}
+use Rattle.clap.specs.declared.builder.value_parser.ValueParser.TheVariants.{Names, Signed}
+
+-- a list of names, behind references
+abbrev pub NameList : Type 0
+NameList = Bor (List (Bor Text))
+
+-- an operand that has to be there
+abbrev pub required : Text → Rule
+required id = record (new_rule id) { required = true }
+
+-- an operand that has to be there and passes a parser
+abbrev pub required_by : Text → ValueParser → Rule
+required_by id parser = record (required id) { parser = Some parser }
+
+-- the operand for a kind, one of these names
+abbrev pub kind_rule : NameList → Rule
+kind_rule kinds = required_by (codes "KIND") (Names kinds)
+
+-- the operand for an image
+abbrev pub image_rule : Rule
+image_rule = required (codes "IMAGE")
+
+-- the operand for a slot, a number from 0 to 9,999
+abbrev pub slot_rule : Rule
+slot_rule = required_by (codes "SLOT") (Signed (pos 0) (pos 9999))
+
+-- the command `cat`
+abbrev pub cat_app : NameList → App
+cat_app kinds =
+    with_rule (with_rule (with_rule (new_app (codes "cat")) (kind_rule kinds)) image_rule) slot_rule
+
+-- the words come without the program's name, and one of them is a command's
+abbrev pub wants_command : Shape → Shape
+wants_command s = record s {
+  no_binary_name = true;
+  arg_required_else_help = true;
+  subcommand_required = true;
+}
+
+-- the program
+abbrev pub desk_app : NameList → App
+desk_app kinds = with_subcommand (on_top wants_command (new_app (codes "desk"))) (cat_app kinds).top
+
+-- the names are those of the kinds that a command takes
+abbrev pub AreKindNames : NameList → Type 0
+AreKindNames kinds = map (λ name. name.now) kinds.now ≡ codes "cpm8" ∷ []
+
+-- an operand for one of the kinds
+abbrev pub IsKindRule : Rule → Type 0
+IsKindRule rule = (kinds : NameList) × AreKindNames kinds × (rule ≡ kind_rule kinds)
+
+-- the command `cat`, with one of the kinds
+abbrev pub IsCatApp : App → Type 0
+IsCatApp app = (kinds : NameList) × AreKindNames kinds × (app ≡ cat_app kinds)
+
+-- the program, whose commands take these kinds
+abbrev pub IsDeskApp : App → Type 0
+IsDeskApp app = (kinds : NameList) × AreKindNames kinds × (app ≡ desk_app kinds)

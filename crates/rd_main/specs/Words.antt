@@ -1,0 +1,31 @@
+-- The commands of the program, in the words after its name.
+use Rattle.std.specs.Prelude.{◌≡◌, ◌≢◌, ◌≤◌, ◌⊎◌, ℕ, List, [], ◌∷◌, Some, Ok, codes, slice_get}
+use Rattle.std.specs.Str.Parse.{ParsesUnsigned}
+use Rattle.std.specs.declared.num.ParseIntError.{ParseIntError}
+use Rattle.rd_geometry.specs.declared.kind.Kind.{Kind}
+use Rattle.rd_geometry.specs.Kinds.{word_of}
+
+-- the words `cat KIND IMAGE SLOT`
+abbrev pub cat_words : List ℕ → List ℕ → List ℕ → List (List ℕ)
+cat_words kind image slot = codes "cat" ∷ kind ∷ image ∷ slot ∷ []
+
+-- the word is an operand and no flag, as the documentation of `clap` has it: it is a hyphen (45)
+-- alone, or it does not begin with one
+abbrev pub IsOperand : List ℕ → Type 0
+IsOperand word = (word ≡ codes "-") ⊎ (slice_get word 0 ≢ Some 45)
+
+-- the text reads as the number n of a slot: `str::parse` reads it as the `u16` n, at most 9,999
+pub record IsSlotText (text : List ℕ) (n : ℕ) : Type 0 where
+  pub reads : ParsesUnsigned {E = ParseIntError} 16 10 text (Ok n)
+  pub most : n ≤ 9999
+
+-- the words ask for the file at a slot of an image of a kind
+pub record AsksCat (words : List (List ℕ)) (kind : Kind) (image : List ℕ) (slot : ℕ) : Type 0 where
+  pub slot_text : List ℕ
+  pub spelled : words ≡ cat_words (word_of kind) image slot_text
+  pub operand : IsOperand image
+  pub number : IsSlotText slot_text slot
+
+-- the words are a command of the program
+abbrev pub IsCommand : List (List ℕ) → Type 0
+IsCommand words = (kind : Kind) × (image : List ℕ) × (slot : ℕ) × AsksCat words kind image slot

@@ -1,0 +1,20 @@
+//! The program `desk`: it reads files from disk images.
+#![tactic(auto)]
+
+mod cat;
+mod command_line;
+mod host;
+mod input;
+mod machine;
+mod output;
+mod refusal;
+mod run;
+#[cfg(test)]
+mod tests;
+mod words;
+
+use std::process::ExitCode;
+
+fn main(rt: HostRuntime) -> ExitCode {
+    ExitCode::from(host::start(&rt))
+}

@@ -1,0 +1,258 @@
+//! What the program says and writes.
+mod fakes;
+mod images;
+
+use crate::machine::MachineFault;
+use crate::run::run;
+use fakes::{End, Narrow, OneFile, Tape};
+use std::alloc::{AllocError, Global};
+
+/// What a run left behind.
+#[derive(Drop)]
+struct Ran {
+    status: u8,
+    output: Vec<u8>,
+    errors: Vec<u8>,
+}
+
+/// A machine with no file.
+fn no_file<'a>() -> OneFile<'a> {
+    OneFile {
+        path: "",
+        bytes: Err(MachineFault::Failed),
+    }
+}
+
+fn run_with(alloc: Global, words: &[&str], mut input: &[u8], machine: &mut OneFile) -> Ran {
+    let mut output = Vec::new(alloc);
+    let mut errors = Vec::new(alloc);
+    let status = run(alloc, words, &mut input, &mut output, &mut errors, machine);
+    Ran {
+        status,
+        output,
+        errors,
+    }
+}
+
+fn run_on(alloc: Global, words: &[&str], input: &[u8]) -> Ran {
+    run_with(alloc, words, input, &mut no_file())
+}
+
+/// The run was refused in these words, and wrote nothing.
+fn is_refused(ran: &Ran, status: u8, line: &str) -> bool {
+    ran.status == status && ran.output.is_empty() && ran.errors.as_slice() == line.as_bytes()
+}
+
+/// The run told a mistake in the words, and wrote nothing.
+fn is_usage_fault(ran: &Ran) -> bool {
+    ran.status == 2 && ran.output.is_empty() && !ran.errors.is_empty()
+}
+
+#[test]
+fn writes_the_file_of_the_image_on_standard_input(rt: HostRuntime) {
+    let alloc = rt.alloc();
+    let image = images::hello(alloc).expect(&rt, "memory");
+    let wanted = images::hello_bytes(alloc).expect(&rt, "memory");
+    for slot in ["0", "+0", "0000"] {
+        let words = ["cat", "cpm8", "-", slot];
+        let ran = run_on(alloc, words.as_slice(), image.as_slice());
+        assert!(rt; ran.status == 0 && ran.errors.is_empty(), "{slot}");
+        assert!(rt; ran.output.as_slice() == wanted.as_slice(), "{slot}");
+    }
+}
+
+#[test]
+fn writes_the_file_of_an_image_that_the_machine_reads(rt: HostRuntime) {
+    let alloc = rt.alloc();
+    let image = images::hello(alloc).expect(&rt, "memory");
+    let wanted = images::hello_bytes(alloc).expect(&rt, "memory");
+    let mut machine = OneFile {
+        path: "disk.img",
+        bytes: Ok(image.as_slice()),
+    };
+    let words = ["cat", "cpm8", "disk.img", "0"];
+    let ran = run_with(alloc, words.as_slice(), &[], &mut machine);
+    assert!(rt; ran.status == 0 && ran.errors.is_empty());
+    assert!(rt; ran.output.as_slice() == wanted.as_slice());
+}
+
+#[test]
+fn refuses_an_image_of_another_size(rt: HostRuntime) {
+    let alloc = rt.alloc();
+    let words = ["cat", "cpm8", "-", "0"];
+    let mut image = images::hello(alloc).expect(&rt, "memory");
+    image.push(0).expect(&rt, "memory");
+    let long = run_on(alloc, words.as_slice(), image.as_slice());
+    assert!(rt; is_refused(&long, 1, "desk: wrong-size\n"));
+    image.truncate(256_255);
+    let short = run_on(alloc, words.as_slice(), image.as_slice());
+    assert!(rt; is_refused(&short, 1, "desk: wrong-size\n"));
+}
+
+#[test]
+fn refuses_a_slot_that_no_file_has(rt: HostRuntime) {
+    let alloc = rt.alloc();
+    let image = images::hello(alloc).expect(&rt, "memory");
+    for slot in ["1", "64", "256", "9999"] {
+        let words = ["cat", "cpm8", "-", slot];
+        let ran = run_on(alloc, words.as_slice(), image.as_slice());
+        assert!(rt; is_refused(&ran, 1, "desk: no-file\n"), "{slot}");
+    }
+    let empty = images::empty(alloc).expect(&rt, "memory");
+    let words = ["cat", "cpm8", "-", "0"];
+    let ran = run_on(alloc, words.as_slice(), empty.as_slice());
+    assert!(rt; is_refused(&ran, 1, "desk: no-file\n"));
+}
+
+#[test]
+fn refuses_a_file_with_a_fault(rt: HostRuntime) {
+    let alloc = rt.alloc();
+    let image = images::hello_counting(alloc, 129).expect(&rt, "memory");
+    let words = ["cat", "cpm8", "-", "0"];
+    let ran = run_on(alloc, words.as_slice(), image.as_slice());
+    assert!(rt; is_refused(&ran, 1, "desk: faulty\n"));
+}
+
+#[test]
+fn refuses_words_that_are_no_command(rt: HostRuntime) {
+    let alloc = rt.alloc();
+    let image = images::hello(alloc).expect(&rt, "memory");
+    for words in [
+        ["cat", "d64", "-", "0"],
+        ["list", "cpm8", "-", "0"],
+        ["cat", "cpm8", "-", "10000"],
+        ["cat", "cpm8", "-", "-1"],
+        ["cat", "cpm8", "-", ""],
+        ["cat", "cpm8", "-x", "0"],
+        ["cat", "CPM8", "-", "0"],
+    ] {
+        let ran = run_on(alloc, words.as_slice(), image.as_slice());
+        assert!(rt; is_usage_fault(&ran), "{:?}", words);
+    }
+    let none = run_on(alloc, &[], image.as_slice());
+    assert!(rt; is_usage_fault(&none));
+    let short = run_on(alloc, &["cat", "cpm8"], image.as_slice());
+    assert!(rt; is_usage_fault(&short));
+}
+
+#[test]
+fn gives_help_on_the_output(rt: HostRuntime) {
+    let alloc = rt.alloc();
+    for words in [["--help"].as_slice(), ["cat", "--help"].as_slice()] {
+        let ran = run_on(alloc, words, &[]);
+        assert!(rt; ran.status == 0 && ran.errors.is_empty());
+        let text = std::str::from_utf8(ran.output.as_slice()).expect(&rt, "text");
+        assert!(rt; text.contains("Example: desk cat cpm8 disk.img 0"));
+    }
+}
+
+#[test]
+fn tells_a_device_that_fails(rt: HostRuntime) {
+    let alloc = rt.alloc();
+    let mut image = images::hello(alloc).expect(&rt, "memory");
+    image.truncate(100_000);
+    let words = ["cat", "cpm8", "-", "0"];
+    let mut input = Tape {
+        bytes: image.as_slice(),
+        is_interrupted: true,
+        fails_at_end: true,
+    };
+    let mut output = Vec::new(alloc);
+    let mut errors = Vec::new(alloc);
+    let status = run(
+        alloc,
+        words.as_slice(),
+        &mut input,
+        &mut output,
+        &mut errors,
+        &mut no_file(),
+    );
+    let ran = Ran {
+        status,
+        output,
+        errors,
+    };
+    assert!(rt; is_refused(&ran, 3, "desk: device\n"));
+}
+
+#[test]
+fn passes_over_interruptions(rt: HostRuntime) {
+    let alloc = rt.alloc();
+    let image = images::hello(alloc).expect(&rt, "memory");
+    let wanted = images::hello_bytes(alloc).expect(&rt, "memory");
+    let words = ["cat", "cpm8", "-", "0"];
+    let mut input = Tape {
+        bytes: image.as_slice(),
+        is_interrupted: true,
+        fails_at_end: false,
+    };
+    let mut output = Narrow {
+        taken: Vec::new(alloc),
+        room: 128,
+        is_interrupted: true,
+        end: End::Fails,
+        flush_fails: false,
+    };
+    let mut errors = Vec::new(alloc);
+    let status = run(
+        alloc,
+        words.as_slice(),
+        &mut input,
+        &mut output,
+        &mut errors,
+        &mut no_file(),
+    );
+    assert!(rt; status == 0 && errors.is_empty());
+    assert!(rt; output.taken.as_slice() == wanted.as_slice());
+}
+
+/// Runs `cat` with an output that has room for so many bytes.
+fn run_narrow(alloc: Global, room: usize, end: End) -> Result<(u8, Narrow, Vec<u8>), AllocError> {
+    let image = images::hello(alloc)?;
+    let words = ["cat", "cpm8", "-", "0"];
+    let mut output = Narrow {
+        taken: Vec::new(alloc),
+        room,
+        is_interrupted: false,
+        end,
+        flush_fails: room == 128,
+    };
+    let mut errors = Vec::new(alloc);
+    let status = run(
+        alloc,
+        words.as_slice(),
+        &mut image.as_slice(),
+        &mut output,
+        &mut errors,
+        &mut no_file(),
+    );
+    Ok((status, output, errors))
+}
+
+#[test]
+fn writes_a_front_part_where_a_write_fails(rt: HostRuntime) {
+    let alloc = rt.alloc();
+    let wanted = images::hello_bytes(alloc).expect(&rt, "memory");
+    for end in [End::Fails, End::TakesNone] {
+        for room in [0, 1, 100, 127, 128] {
+            let (status, output, errors) = run_narrow(alloc, room, end).expect(&rt, "memory");
+            assert!(rt; status == 3 && errors.as_slice() == b"desk: device\n".as_slice());
+            assert!(rt; output.taken.len() == room);
+            assert!(rt; wanted.starts_with(output.taken.as_slice()));
+        }
+    }
+}
+
+#[test]
+fn tells_why_the_machine_gives_no_file(rt: HostRuntime) {
+    let alloc = rt.alloc();
+    let words = ["cat", "cpm8", "disk.img", "0"];
+    let failed = run_on(alloc, words.as_slice(), &[]);
+    assert!(rt; is_refused(&failed, 3, "desk: device\n"));
+    let mut machine = OneFile {
+        path: "disk.img",
+        bytes: Err(MachineFault::NoMemory),
+    };
+    let ran = run_with(alloc, words.as_slice(), &[], &mut machine);
+    assert!(rt; is_refused(&ran, 3, "desk: no-memory\n"));
+}
