@@ -1,21 +1,28 @@
 -- What the getters of `clap` read of the operands of a command.
-use Rattle.std.proofs.Common.{◌≡◌, ◌≢◌, ◌∙◌, ℕ, List, Option, Some, None, Result, IfSome, IfNone, IfOk, IfErr, sym, ap, subst, true}
+use Rattle.std.proofs.Common.{◌≡◌, ◌≢◌, ◌∙◌, ℕ, List, Option, Some, None, Result, Ok, Err, option_map, IfSome, IfNone, IfOk, IfErr, sym, ap, subst, true, inl, inr, codes, arith, refl, slice_index}
 use Rattle.std.specs.Prelude.{IsSomeAnd, ok_or}
 use Rattle.std.specs.Str.Parse.{ExplainsUnsignedError, HasUnsignedDigitsIfOk, ParsesUnsigned}
 use Rattle.std.specs.declared.num.ParseIntError.{ParseIntError}
-use Rattle.clap.specs.Words.{App, HasMatchesOf, Text, first_of, first_value, is_simple, rows_of, subcommand_of, subcommand_rows_of, takes}
+use Rattle.clap.specs.Words.{App, HasMatchesOf, Row, Text, first_of, first_value, is_simple, rows_of, subcommand_of, subcommand_name_of, subcommand_rows_of, takes}
 use Rattle.clap.specs.declared.parser.matches.ArgMatches.{ArgMatches}
 use Rattle.clap.specs.Matches.{ReadsOne}
+use Rattle.clap.specs.declared.parser.matches.ArgMatches.TheViews.{out-ArgMatches, out-SubCommand}
+use Rattle.clap.specs.declared.parser.matches.SubCommand.{SubCommand}
+use Rattle.clap.specs.Simple.{subcommand_rows}
+use Rattle.std.specs.Box.{box_value}
+use Rattle.std.specs.Prelude.{Box}
+use Rattle.std.specs.declared.alloc.Global.{Global}
 use Rattle.clap.specs.declared.parser.matches.Found.{Found}
 use Rattle.clap.proofs.WalkLemmas.{first_value-rows}
 use Rattle.rd_geometry.specs.declared.kind.Kind.{Kind}
 use Rattle.rd_geometry.specs.Kinds.{word_of}
-use Rattle.rd_main.specs.Asks.{Asks, EntersCat}
+use Rattle.rd_main.specs.Asks.{EntersCat, EntersList, IsFileAsk, IsFilesAsk}
 use Rattle.rd_main.specs.CommandLine.{IsDeskApp}
-use Rattle.rd_main.specs.Words.{AsksCat, IsCommand, IsSlotText}
+use Rattle.rd_main.specs.Words.{AsksCat, AsksList, IsCommand, IsSlotText}
 use Rattle.rd_main.specs.declared.words.Ask.{Ask}
 use Rattle.rd_main.specs.declared.words.Unread.{Unread}
 use Rattle.rd_main.proofs.CatLine.{gives_cat, simple, takes_cat}
+use Rattle.rd_main.proofs.ListLine.{gives_list, takes_list}
 use Rattle.rd_main.proofs.Texts.{same_kind}
 
 -- the text that a getter gives is the one in the rows
@@ -41,30 +48,60 @@ pub slot_is : (text : Text) (slot : ℕ) (r : Option ℕ) → ReadsOne Reads tex
 slot_is text slot (Some n) read number = ap Some (read.0.1 ∙ sym number.reads.1)
 slot_is text slot None read number = absurd (read.1.0 number.reads.0)
 
--- what a parse of the words found is what they ask for
-pub ask_given : (o : Option Ask) (app : App) (words : List Text) (m : ArgMatches) → IsDeskApp app → HasMatchesOf app words m
-    → ((kind : Kind) (image : Text) (slot : ℕ) → EntersCat (subcommand_rows_of m) kind image slot → IsSomeAnd o (λ ask. Asks ask kind image slot))
-    → (kind : Kind) (image : Text) (slot : ℕ) → AsksCat words kind image slot → IsSomeAnd o (λ ask. Asks ask kind image slot)
-ask_given o app words m desk matches given kind image slot asks =
-    let entered : subcommand_rows_of m ≡ subcommand_of app words = (matches (ap is_simple desk.2 ∙ simple desk.0)).1 in
-    given kind image slot (subst (λ e. EntersCat e kind image slot) (sym entered) (gives_cat app words kind image slot desk asks))
+-- the words that a parse of the program's command line was given went into a command
+entered_is : (app : App) (words : List Text) (m : ArgMatches) → IsDeskApp app → HasMatchesOf app words m → subcommand_of app words ≡ subcommand_rows_of m
+entered_is app words m desk matches = sym (matches (ap is_simple desk.is ∙ simple desk.cat_kinds desk.list_kinds)).1
 
-abbrev pub GivesAsk : List Text → Option Ask → Type 0
-GivesAsk words o = (kind : Kind) (image : Text) (slot : ℕ) → AsksCat words kind image slot → IsSomeAnd o (λ ask. Asks ask kind image slot)
+-- What a parse of the words found is what they ask for.
+pub record GivesAsk (words : List Text) (o : Option Ask) : Type 0 where
+  pub file : (kind : Kind) (image : Text) (slot : ℕ) → AsksCat words kind image slot → IsSomeAnd o (IsFileAsk kind image slot)
+  pub files : (kind : Kind) (image : Text) → AsksList words kind image → IsSomeAnd o (IsFilesAsk kind image)
+
+pub ask_given : (o : Option Ask) (app : App) (words : List Text) (m : ArgMatches) → IsDeskApp app → HasMatchesOf app words m
+    → ((kind : Kind) (image : Text) (slot : ℕ) → EntersCat (subcommand_rows_of m) kind image slot → IsSomeAnd o (IsFileAsk kind image slot))
+    → ((kind : Kind) (image : Text) → EntersList (subcommand_rows_of m) kind image → IsSomeAnd o (IsFilesAsk kind image))
+    → GivesAsk words o
+ask_given o app words m desk matches file files = record {
+  file = λ kind image slot asks. file kind image slot (subst (λ e. EntersCat e kind image slot) (entered_is app words m desk matches) (gives_cat app words kind image slot desk asks));
+  files = λ kind image asks. files kind image (subst (λ e. EntersList e kind image) (entered_is app words m desk matches) (gives_list app words kind image desk asks));
+}
 
 -- words that are read are what is asked for
 pub ask_read : (o : Option Ask) (fault : Unread) (r : Result Ask Unread) (words : List Text) → r ≡ ok_or o fault → GivesAsk words o
-    → IfOk r (λ ask. (kind : Kind) (image : Text) (slot : ℕ) → AsksCat words kind image slot → Asks ask kind image slot)
-ask_read (Some ask) fault r words is given = subst (λ x. IfOk x (λ a. (kind : Kind) (image : Text) (slot : ℕ) → AsksCat words kind image slot → Asks a kind image slot)) (sym is) given
-ask_read None fault r words is given = subst (λ x. IfOk x (λ a. (kind : Kind) (image : Text) (slot : ℕ) → AsksCat words kind image slot → Asks a kind image slot)) (sym is) tt
+    → IfOk r (λ ask. (kind : Kind) (image : Text) (slot : ℕ) → AsksCat words kind image slot → IsFileAsk kind image slot ask)
+ask_read (Some ask) fault r words is given = subst (λ x. IfOk x (λ a. (kind : Kind) (image : Text) (slot : ℕ) → AsksCat words kind image slot → IsFileAsk kind image slot a)) (sym is) given.file
+ask_read None fault r words is given = subst (λ x. IfOk x (λ a. (kind : Kind) (image : Text) (slot : ℕ) → AsksCat words kind image slot → IsFileAsk kind image slot a)) (sym is) tt
+
+-- a command is found
+no_command : (words : List Text) → GivesAsk words None → IsCommand words → ⊥
+no_command words given (inl cat) = given.file cat.0 cat.1 cat.2 cat.3
+no_command words given (inr list) = given.files list.0 list.1 list.2
 
 -- words that are not read are no command
 pub ask_unread : (o : Option Ask) (fault : Unread) (r : Result Ask Unread) (words : List Text) (P : Unread → Type 0) → r ≡ ok_or o fault → GivesAsk words o
     → IfErr r (λ f. IsCommand words → P f)
 ask_unread (Some ask) fault r words P is given = subst (λ x. IfErr x (λ f. IsCommand words → P f)) (sym is) tt
 ask_unread None fault r words P is given =
-    subst (λ x. IfErr x (λ f. IsCommand words → P f)) (sym is) (λ command. absurd (given command.0 command.1 command.2 command.3))
+    subst (λ x. IfErr x (λ f. IsCommand words → P f)) (sym is) (λ command. absurd (no_command words given command))
 
 -- a parse of a command fails for want of memory alone
 pub takes_command : (app : App) (words : List Text) → IsDeskApp app → IsCommand words → takes app words ≡ true
-takes_command app words desk command = takes_cat app words command.0 command.1 command.2 desk command.3
+takes_command app words desk (inl cat) = takes_cat app words cat.0 cat.1 cat.2 desk cat.3
+takes_command app words desk (inr list) = takes_list app words list.0 list.1 desk list.2
+
+-- the name of the command that a parse went into
+pub name_met : (m : ArgMatches) (name : Text) (rows : List Row) → subcommand_rows_of m ≡ Some (name, rows) → subcommand_name_of m ≡ Some name
+name_met m name rows into = named (out-ArgMatches m).subcommand ∙ ap (option_map (λ (p : Text × List Row). p.0)) into
+  where
+    named : (o : Option (Box SubCommand Global)) → option_map (λ b. (out-SubCommand (box_value b)).name.now) o ≡ option_map (λ (p : Text × List Row). p.0) (subcommand_rows o)
+    named (Some b) = refl
+    named None = refl
+
+-- the rows of the command that a parse went into
+pub rows_met : (m : ArgMatches) (name : Text) (rows shown : List Row) → subcommand_rows_of m ≡ Some (name, rows)
+    → option_map (λ (p : Text × List Row). p.1) (subcommand_rows_of m) ≡ Some shown → rows ≡ shown
+rows_met m name rows shown into are = let same : Some rows ≡ Some shown = sym (ap (option_map (λ (p : Text × List Row). p.1)) into) ∙ are in cc
+
+-- no command has two names
+pub not_both : {P : Type 0} → Some (codes "cat") ≡ Some (codes "list") → P
+not_both same = absurd (let letters : codes "cat" ≡ codes "list" = cc in let first : 99 ≡ 108 = ap (λ l. slice_index l 0) letters in omega arith)

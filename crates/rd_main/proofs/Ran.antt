@@ -2,15 +2,15 @@
 use Rattle.std.proofs.Common.{◌≡◌, ℕ, List, Option, Some, None, IfSome, inl, inr, subst, arith}
 use Rattle.std.specs.Io.KnownBytes.{Keeps}
 use Rattle.rd_geometry.specs.declared.kind.Kind.{Kind}
-use Rattle.rd_main.specs.Asks.{Asks}
+use Rattle.rd_main.specs.Asks.{AsksFile}
 use Rattle.rd_main.specs.Cat.{HasNoSoundFile, IsCut, Refuses}
 use Rattle.rd_main.specs.Refusals.{status_of}
 use Rattle.rd_main.specs.declared.refusal.Refusal.{Refusal}
 use Rattle.rd_main.specs.declared.refusal.Refusal.TheVariants.{Usage, Device, NoMemory, WrongSize, NoFile, Faulty}
-use Rattle.rd_main.specs.declared.words.Ask.{Ask}
+use Rattle.rd_main.specs.declared.words.FileAsk.{FileAsk}
 
 -- what holds of the kind and the slot that were read holds of those that were asked for
-pub as_asked : (P : Kind → ℕ → Type 0) (ask : Ask) (kind : Kind) (image : List ℕ) (slot : ℕ) → Asks ask kind image slot → P ask.kind ask.slot → P kind slot
+pub as_asked : (P : Kind → ℕ → Type 0) (ask : FileAsk) (kind : Kind) (image : List ℕ) (slot : ℕ) → AsksFile ask kind image slot → P ask.kind ask.slot → P kind slot
 as_asked P ask kind image slot asks fact = subst (λ s. P kind s) asks.slot_is (subst (λ k. P k ask.slot) asks.kind_is fact)
 
 pub of_known : {P Q : List ℕ → Type 0} (known : Option (List ℕ)) → ((bytes : List ℕ) → P bytes → Q bytes) → IfSome known P → IfSome known Q
@@ -25,7 +25,7 @@ no_sound_file Device kind slot image old new status refused = absurd (omega arit
 no_sound_file NoMemory kind slot image old new status refused = absurd (omega arith)
 no_sound_file WrongSize kind slot image old new status refused = inl refused.1
 no_sound_file NoFile kind slot image old new status refused = inr (inl refused.1)
-no_sound_file Faulty kind slot image old new status refused = inr (inr refused.1)
+no_sound_file (Faulty faults) kind slot image old new status refused = inr (inr refused.1)
 
 -- a refusal with the status 3 has written no more than a part
 pub is_cut : (refusal : Refusal) (kind : Kind) (slot : ℕ) (image : List ℕ) (old new : Option (List ℕ)) → status_of refusal ≡ 3
@@ -35,7 +35,7 @@ is_cut Device kind slot image old new status refused = refused
 is_cut NoMemory kind slot image old new status refused = inl refused
 is_cut WrongSize kind slot image old new status refused = inl refused.0
 is_cut NoFile kind slot image old new status refused = inl refused.0
-is_cut Faulty kind slot image old new status refused = inl refused.0
+is_cut (Faulty faults) kind slot image old new status refused = inl refused.0
 
 -- nothing was written where the words were not read
 pub kept_is_cut : (known : Option (List ℕ)) (kind : Kind) (slot : ℕ) (old new : Option (List ℕ)) → Keeps old new → IfSome known (λ image. IsCut kind slot image old new)

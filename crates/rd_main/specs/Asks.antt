@@ -4,13 +4,31 @@ use Rattle.clap.specs.Words.{Row, Text, first_of, one_of}
 use Rattle.rd_geometry.specs.declared.kind.Kind.{Kind}
 use Rattle.rd_geometry.specs.Kinds.{word_of}
 use Rattle.rd_main.specs.declared.words.Ask.{Ask}
+use Rattle.rd_main.specs.declared.words.Ask.TheVariants.{File, Files}
+use Rattle.rd_main.specs.declared.words.FileAsk.{FileAsk}
+use Rattle.rd_main.specs.declared.words.ImageAsk.{ImageAsk}
 use Rattle.rd_main.specs.Words.{IsSlotText}
 
 -- the file at the slot of the image of the kind is asked for
-pub record Asks (ask : Ask) (kind : Kind) (image : List ℕ) (slot : ℕ) : Type 0 where
+pub record AsksFile (ask : FileAsk) (kind : Kind) (image : List ℕ) (slot : ℕ) : Type 0 where
   pub kind_is : ask.kind ≡ kind
   pub image_is : ask.image.now ≡ image
   pub slot_is : ask.slot ≡ slot
+
+-- the files of the image of the kind are asked for
+pub record AsksFiles (ask : ImageAsk) (kind : Kind) (image : List ℕ) : Type 0 where
+  pub kind_is : ask.kind ≡ kind
+  pub image_is : ask.image.now ≡ image
+
+-- what is asked for is the file at the slot of the image of the kind
+abbrev pub IsFileAsk : Kind → List ℕ → ℕ → Ask → Type 0
+IsFileAsk kind image slot (File ask) = AsksFile ask kind image slot
+IsFileAsk kind image slot (Files ask) = ⊥
+
+-- what is asked for is the files of the image of the kind
+abbrev pub IsFilesAsk : Kind → List ℕ → Ask → Type 0
+IsFilesAsk kind image (File ask) = ⊥
+IsFilesAsk kind image (Files ask) = AsksFiles ask kind image
 
 -- the operands that `clap` found for `cat`
 pub record AreCatRows (rows : List Row) (kind : Kind) (image : List ℕ) (slot : ℕ) : Type 0 where
@@ -26,3 +44,15 @@ pub record EntersCat (entered : Option (Text × List Row)) (kind : Kind) (image 
   pub rows : List Row
   pub into : entered ≡ Some (codes "cat", rows)
   pub found : AreCatRows rows kind image slot
+
+-- the operands that `clap` found for `list`
+pub record AreListRows (rows : List Row) (kind : Kind) (image : List ℕ) : Type 0 where
+  pub kind_found : first_of (codes "KIND") rows ≡ Some (word_of kind)
+  pub image_found : first_of (codes "IMAGE") rows ≡ Some image
+
+-- the parse went into `list`, and found its operands
+pub record EntersList (entered : Option (Text × List Row)) (kind : Kind) (image : List ℕ)
+    : Type 0 where
+  pub rows : List Row
+  pub into : entered ≡ Some (codes "list", rows)
+  pub found : AreListRows rows kind image

@@ -63,4 +63,4 @@ Refuses Device kind slot image old new = IsCut kind slot image old new
 Refuses NoMemory kind slot image old new = Keeps old new
 Refuses WrongSize kind slot image old new = Keeps old new × (length image ≢ size_of kind)
 Refuses NoFile kind slot image old new = Keeps old new × HasNoFile kind slot image
-Refuses Faulty kind slot image old new = Keeps old new × HasFaultyFile kind slot image
+Refuses (Faulty faults) kind slot image old new = Keeps old new × HasFaultyFile kind slot image

@@ -35,6 +35,10 @@ abbrev pub cat_app : NameList → App
 cat_app kinds =
     with_rule (with_rule (with_rule (new_app (codes "cat")) (kind_rule kinds)) image_rule) slot_rule
 
+-- the command `list`
+abbrev pub list_app : NameList → App
+list_app kinds = with_rule (with_rule (new_app (codes "list")) (kind_rule kinds)) image_rule
+
 -- the words come without the program's name, and one of them is a command's
 abbrev pub wants_command : Shape → Shape
 wants_command s = record s {
@@ -44,8 +48,8 @@ wants_command s = record s {
 }
 
 -- the program
-abbrev pub desk_app : NameList → App
-desk_app kinds = with_subcommand (on_top wants_command (new_app (codes "desk"))) (cat_app kinds).top
+abbrev pub desk_app : NameList → NameList → App
+desk_app kinds kinds' = with_subcommand (with_subcommand (on_top wants_command (new_app (codes "desk"))) (cat_app kinds).top) (list_app kinds').top
 
 -- the names are those of the kinds that a command takes
 abbrev pub AreKindNames : NameList → Type 0
@@ -59,6 +63,14 @@ IsKindRule rule = (kinds : NameList) × AreKindNames kinds × (rule ≡ kind_rul
 abbrev pub IsCatApp : App → Type 0
 IsCatApp app = (kinds : NameList) × AreKindNames kinds × (app ≡ cat_app kinds)
 
+-- the command `list`, with one of the kinds
+abbrev pub IsListApp : App → Type 0
+IsListApp app = (kinds : NameList) × AreKindNames kinds × (app ≡ list_app kinds)
+
 -- the program, whose commands take these kinds
-abbrev pub IsDeskApp : App → Type 0
-IsDeskApp app = (kinds : NameList) × AreKindNames kinds × (app ≡ desk_app kinds)
+pub record IsDeskApp (app : App) : Type 0 where
+  pub cat_kinds : NameList
+  pub list_kinds : NameList
+  pub cat_names : AreKindNames cat_kinds
+  pub list_names : AreKindNames list_kinds
+  pub is : app ≡ desk_app cat_kinds list_kinds

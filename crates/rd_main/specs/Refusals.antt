@@ -13,7 +13,7 @@ name_of Device = codes "device"
 name_of NoMemory = codes "no-memory"
 name_of WrongSize = codes "wrong-size"
 name_of NoFile = codes "no-file"
-name_of Faulty = codes "faulty"
+name_of (Faulty faults) = codes "faulty"
 
 -- the exit status: 1 where the image or its file is refused, 2 where the words are, and else 3
 abbrev pub status_of : Refusal → ℕ
@@ -22,7 +22,7 @@ status_of Device = 3
 status_of NoMemory = 3
 status_of WrongSize = 1
 status_of NoFile = 1
-status_of Faulty = 1
+status_of (Faulty faults) = 1
 
 -- what the program ends with where the machine fails
 abbrev pub refusal_for : MachineFault → Refusal

@@ -26,6 +26,16 @@ pub record AsksCat (words : List (List ℕ)) (kind : Kind) (image : List ℕ) (s
   pub operand : IsOperand image
   pub number : IsSlotText slot_text slot
 
+-- the words `list KIND IMAGE`
+abbrev pub list_words : List ℕ → List ℕ → List (List ℕ)
+list_words kind image = codes "list" ∷ kind ∷ image ∷ []
+
+-- the words ask for the files of an image of a kind
+pub record AsksList (words : List (List ℕ)) (kind : Kind) (image : List ℕ) : Type 0 where
+  pub spelled : words ≡ list_words (word_of kind) image
+  pub operand : IsOperand image
+
 -- the words are a command of the program
 abbrev pub IsCommand : List (List ℕ) → Type 0
-IsCommand words = (kind : Kind) × (image : List ℕ) × (slot : ℕ) × AsksCat words kind image slot
+IsCommand words = ((kind : Kind) × (image : List ℕ) × (slot : ℕ) × AsksCat words kind image slot)
+    ⊎ ((kind : Kind) × (image : List ℕ) × AsksList words kind image)

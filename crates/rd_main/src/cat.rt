@@ -6,11 +6,11 @@ ghost use Rattle.rd_geometry.specs.Kinds.{size_of};
 ghost use Rattle.rd_main.specs.Cat.{Refuses, Serves};
 ghost use Rattle.rd_main.specs.Refusals.{status_of};
 
-use crate::input::read_front;
 use crate::machine::Machine;
 use crate::output::write_units;
 use crate::refusal::Refusal;
-use crate::words::Ask;
+use crate::source::read_image;
+use crate::words::FileAsk;
 use rd_cpm::{CpmFile, files};
 use rd_geometry::{CpmDisk, Image, Kind};
 use std::alloc::Global;
@@ -19,7 +19,7 @@ use std::io::{Read, Write};
 /// The disk that the bytes are an image of, of a kind.
 ///
 /// It fails with `WrongSize` where they are not as many as an image of the kind has.
-fn disk_of<'a>(kind: Kind, bytes: &'a [u8]) -> Result<CpmDisk<'a>, Refusal>
+pub(crate) fn disk_of<'a>(kind: Kind, bytes: &'a [u8]) -> Result<CpmDisk<'a>, Refusal>
     ensures size { IsOk result ↔ (length bytes.entry.now ≡ size_of kind) }
     ensures bytes { IfOk result (λ disk. cpm_bytes disk ≡ bytes.entry.now) }
     ensures refused { IfErr result (λ refusal. refusal ≡ Refusal.WrongSize) }
@@ -60,7 +60,7 @@ fn cat_image<W: Write>(
         return Err(Refusal::NoFile);
     };
     if file.faults != 0 {
-        return Err(Refusal::Faulty);
+        return Err(Refusal::Faulty(file.faults));
     }
     write_units(output, &disk, file.sectors.as_slice())
 }
@@ -71,7 +71,7 @@ fn cat_image<W: Write>(
 /// It fails as `cat_image` does, and with `Device` or `NoMemory` where the image cannot be read.
 pub(crate) fn cat<R: Read, W: Write, M: Machine>(
     alloc: Global,
-    ask: Ask,
+    ask: FileAsk,
     input: &mut R,
     output: &mut W,
     machine: &mut M,
@@ -86,10 +86,6 @@ pub(crate) fn cat<R: Read, W: Write, M: Machine>(
         → IfErr result (λ refusal. IfSome (R.remaining input.old) (λ image. Refuses refusal
         ask.entry.kind ask.entry.slot image (W.contents output.old) (W.contents output.new))) }
 {
-    let bytes = if ask.image == "-" {
-        read_front(alloc, ask.kind.size() + 1, input)?
-    } else {
-        machine.read_file(alloc, ask.image)?
-    };
+    let bytes = read_image(alloc, ask.kind, ask.image, input, machine)?;
     cat_image(alloc, ask.kind, ask.slot, bytes.as_slice(), output)
 }

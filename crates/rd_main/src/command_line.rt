@@ -1,7 +1,7 @@
 ghost use Rattle.std.specs.Prelude.{◌≡◌, IfOk, false};
 ghost use Rattle.clap.specs.Words.{app_of, rule_of};
 ghost use Rattle.clap.specs.declared.builder.command.Command.TheViews.{out-Command as fields_of};
-ghost use Rattle.rd_main.specs.CommandLine.{IsCatApp, IsDeskApp, IsKindRule, image_rule, slot_rule};
+ghost use Rattle.rd_main.specs.CommandLine.{IsCatApp, IsDeskApp, IsKindRule, IsListApp, image_rule, slot_rule};
 
 use clap::{Arg, Command, value_parser};
 use std::alloc::{AllocError, Global};
@@ -54,16 +54,29 @@ fn cat_command<'a>(alloc: Global) -> Result<Command<'a>, AllocError>
         .arg(slot_operand(alloc))
 }
 
+/// The command `list`.
+fn list_command<'a>(alloc: Global) -> Result<Command<'a>, AllocError>
+    ensures shape { IfOk result (λ list. IsListApp (app_of list)) }
+    ensures local { IfOk result (λ list. (fields_of list).has_globals ≡ false) }
+{
+    Command::new(alloc, "list")
+        .about("Lists the files of an image: slot, user, type, size, faults and name")
+        .after_help("Example: desk list cpm8 disk.img")
+        .arg(kind_operand(alloc))?
+        .arg(image_operand(alloc))
+}
+
 /// The command line of the program, for words that come without the program's name.
 pub(crate) fn desk_command<'a>(alloc: Global) -> Result<Command<'a>, AllocError>
     ensures { IfOk result (λ desk. IsDeskApp (app_of desk)) }
 {
     Command::new(alloc, "desk")
         .about("Reads files from disk images")
-        .after_help("Example: desk cat cpm8 disk.img 0")
+        .after_help("Examples:\n  desk list cpm8 disk.img\n  desk cat cpm8 disk.img 0")
         .no_binary_name(true)
         .bin_name("desk")?
         .subcommand_required(true)
         .arg_required_else_help(true)
-        .subcommand(cat_command(alloc)?)
+        .subcommand(cat_command(alloc)?)?
+        .subcommand(list_command(alloc)?)
 }

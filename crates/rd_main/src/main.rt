@@ -5,10 +5,13 @@ mod cat;
 mod command_line;
 mod host;
 mod input;
+mod list;
 mod machine;
 mod output;
+mod printed;
 mod refusal;
 mod run;
+mod source;
 #[cfg(test)]
 mod tests;
 mod words;

@@ -2,8 +2,10 @@ ghost use Rattle.std.specs.Prelude.{◌≡◌};
 ghost use Rattle.rd_main.specs.Refusals.{name_of, status_of};
 ghost use Rattle.rd_main.specs.declared.refusal.Refusal.TheVariants as refusal;
 
+use crate::printed::FaultWords;
 use rd_geometry::NoMemory;
 use std::alloc::AllocError;
+use std::fmt;
 
 /// Why a command ends without what was asked for.
 #[derive(Clone, Copy, Debug, PartialEq, Eq)]
@@ -18,8 +20,8 @@ pub enum Refusal {
     WrongSize,
     /// No file of the image has the slot.
     NoFile,
-    /// The file has a fault.
-    Faulty,
+    /// The file has these faults, by bit.
+    Faulty(u8),
 }
 
 impl Refusal {
@@ -33,7 +35,7 @@ impl Refusal {
             Refusal::NoMemory => "no-memory",
             Refusal::WrongSize => "wrong-size",
             Refusal::NoFile => "no-file",
-            Refusal::Faulty => "faulty",
+            Refusal::Faulty(_) => "faulty",
         }
     }
 
@@ -42,9 +44,23 @@ impl Refusal {
         ensures { result ≡ status_of self }
     {
         match self {
-            Refusal::WrongSize | Refusal::NoFile | Refusal::Faulty => 1,
+            Refusal::WrongSize | Refusal::NoFile | Refusal::Faulty(_) => 1,
             Refusal::Usage => 2,
             Refusal::Device | Refusal::NoMemory => 3,
+        }
+    }
+}
+
+impl fmt::Display for Refusal {
+    /// The name, and the words of the faults where there are any.
+    fn fmt<W: fmt::Write>(&self, f: &mut fmt::Formatter<W>) -> fmt::Result {
+        let name = self.name();
+        match self {
+            Refusal::Faulty(faults) => {
+                let faults = FaultWords(*faults);
+                write!(f, "{name} {faults}")
+            }
+            _ => write!(f, "{name}"),
         }
     }
 }

@@ -1,19 +1,21 @@
-ghost use Rattle.std.specs.Prelude.{◌≡◌, ◌≢◌, ◌≤◌, IfErr, IfSome, List, codes, map, ℕ};
+ghost use Rattle.std.specs.Prelude.{◌≡◌, ◌≢◌, ◌≤◌, IfErr, IfSome, List, OnOk, codes, map, ℕ};
 ghost use Rattle.std.specs.Io.KnownBytes.{Keeps};
 ghost use Rattle.clap.specs.Values.{kind_of};
 ghost use Rattle.clap.specs.declared.error.Error.{Error};
 ghost use Rattle.clap.specs.declared.error.kind.ErrorKind.TheVariants.{DisplayHelp, DisplayVersion};
 ghost use Rattle.rd_geometry.specs.declared.kind.Kind.{Kind};
-ghost use Rattle.rd_main.specs.Cat.{HasNoSoundFile, IsCut, Serves};
+ghost use Rattle.rd_main.specs.Asks.{IsFileAsk};
+ghost use Rattle.rd_main.specs.Cat.{HasNoSoundFile, IsCut, Refuses, Serves};
 ghost use Rattle.rd_main.specs.Refusals.{status_of};
 ghost use Rattle.rd_main.specs.Words.{AsksCat, IsCommand};
 ghost use Rattle.rd_main.specs.declared.words.Unread.TheVariants as Unread;
 
 use crate::cat::cat;
+use crate::list::list;
 use crate::machine::Machine;
 use crate::output::flush;
 use crate::refusal::Refusal;
-use crate::words::{Unread, read_words};
+use crate::words::{Ask, Unread, read_words};
 use clap::Error;
 use std::alloc::Global;
 use std::io::{Read, Write};
@@ -22,7 +24,7 @@ use std::io::{Read, Write};
 pub(crate) fn tell_refusal<E: Write>(refused: Refusal, errors: &mut E) -> u8
     ensures { result ≡ status_of refused }
 {
-    let _ = writeln!(errors, "desk: {}", refused.name());
+    let _ = writeln!(errors, "desk: {refused}");
     refused.status()
 }
 
@@ -60,6 +62,32 @@ fn tell_unread<W: Write, E: Write>(unread: Unread, output: &mut W, errors: &mut 
             Ok(()) => 0,
             Err(refused) => tell_refusal(refused, errors),
         },
+    }
+}
+
+/// Does what is asked for.
+///
+/// It fails as `cat` and `list` do.
+fn perform<R: Read, W: Write, M: Machine>(
+    alloc: Global,
+    ask: Ask,
+    input: &mut R,
+    output: &mut W,
+    machine: &mut M,
+) -> Result<(), Refusal>
+    ensures never { IfErr result (λ refusal. status_of refusal ≢ 2) }
+    ensures kept { IfErr result (λ refusal. status_of refusal ≡ 1
+        → Keeps (W.contents output.old) (W.contents output.new)) }
+    ensures done { (kind : Kind) (slot : ℕ) → IsFileAsk kind (codes "-") slot ask.entry
+        → OnOk result (IfSome (R.remaining input.old) (λ image.
+        Serves kind slot image (W.contents output.old) (W.contents output.new))) }
+    ensures refused { (kind : Kind) (slot : ℕ) → IsFileAsk kind (codes "-") slot ask.entry
+        → IfErr result (λ refusal. IfSome (R.remaining input.old) (λ image.
+        Refuses refusal kind slot image (W.contents output.old) (W.contents output.new))) }
+{
+    match ask {
+        Ask::File(ask) => cat(alloc, ask, input, output, machine),
+        Ask::Files(ask) => list(alloc, ask, input, output, machine),
     }
 }
 
@@ -103,7 +131,7 @@ pub fn run<R: Read, W: Write, E: Write, M: Machine>(
         IsCut kind slot image (W.contents output.old) (W.contents output.new)) }
 {
     match read_words(alloc, words) {
-        Ok(ask) => match cat(alloc, ask, input, output, machine) {
+        Ok(ask) => match perform(alloc, ask, input, output, machine) {
             Ok(()) => 0,
             Err(refused) => tell_refusal(refused, errors),
         },

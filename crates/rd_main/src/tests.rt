@@ -1,11 +1,14 @@
 //! What the program says and writes.
 mod fakes;
-mod images;
+mod lists;
+mod refused;
 
 use crate::machine::MachineFault;
 use crate::run::run;
 use fakes::{End, Narrow, OneFile, Tape};
-use std::alloc::{AllocError, Global};
+use rd_geometry::NoMemory;
+use rd_rows::cpm::{FILE, NewEntry, blank, hello, put_entry};
+use std::alloc::Global;
 
 /// What a run left behind.
 #[derive(Drop)]
@@ -38,6 +41,13 @@ fn run_on(alloc: Global, words: &[&str], input: &[u8]) -> Ran {
     run_with(alloc, words, input, &mut no_file())
 }
 
+/// The bytes of the file `HELLO.TXT`: a line of text, and 1A hex to the record's end.
+fn hello_bytes(alloc: Global) -> Result<Vec<u8>, NoMemory> {
+    let mut bytes = Vec::from_slice(alloc, b"HELLO FROM CP/M\r\n")?;
+    bytes.resize(128, 0x1a)?;
+    Ok(bytes)
+}
+
 /// The run was refused in these words, and wrote nothing.
 fn is_refused(ran: &Ran, status: u8, line: &str) -> bool {
     ran.status == status && ran.output.is_empty() && ran.errors.as_slice() == line.as_bytes()
@@ -51,8 +61,8 @@ fn is_usage_fault(ran: &Ran) -> bool {
 #[test]
 fn writes_the_file_of_the_image_on_standard_input(rt: HostRuntime) {
     let alloc = rt.alloc();
-    let image = images::hello(alloc).expect(&rt, "memory");
-    let wanted = images::hello_bytes(alloc).expect(&rt, "memory");
+    let image = hello(alloc).expect(&rt, "memory");
+    let wanted = hello_bytes(alloc).expect(&rt, "memory");
     for slot in ["0", "+0", "0000"] {
         let words = ["cat", "cpm8", "-", slot];
         let ran = run_on(alloc, words.as_slice(), image.as_slice());
@@ -64,8 +74,8 @@ fn writes_the_file_of_the_image_on_standard_input(rt: HostRuntime) {
 #[test]
 fn writes_the_file_of_an_image_that_the_machine_reads(rt: HostRuntime) {
     let alloc = rt.alloc();
-    let image = images::hello(alloc).expect(&rt, "memory");
-    let wanted = images::hello_bytes(alloc).expect(&rt, "memory");
+    let image = hello(alloc).expect(&rt, "memory");
+    let wanted = hello_bytes(alloc).expect(&rt, "memory");
     let mut machine = OneFile {
         path: "disk.img",
         bytes: Ok(image.as_slice()),
@@ -80,7 +90,7 @@ fn writes_the_file_of_an_image_that_the_machine_reads(rt: HostRuntime) {
 fn refuses_an_image_of_another_size(rt: HostRuntime) {
     let alloc = rt.alloc();
     let words = ["cat", "cpm8", "-", "0"];
-    let mut image = images::hello(alloc).expect(&rt, "memory");
+    let mut image = hello(alloc).expect(&rt, "memory");
     image.push(0).expect(&rt, "memory");
     let long = run_on(alloc, words.as_slice(), image.as_slice());
     assert!(rt; is_refused(&long, 1, "desk: wrong-size\n"));
@@ -92,13 +102,13 @@ fn refuses_an_image_of_another_size(rt: HostRuntime) {
 #[test]
 fn refuses_a_slot_that_no_file_has(rt: HostRuntime) {
     let alloc = rt.alloc();
-    let image = images::hello(alloc).expect(&rt, "memory");
+    let image = hello(alloc).expect(&rt, "memory");
     for slot in ["1", "64", "256", "9999"] {
         let words = ["cat", "cpm8", "-", slot];
         let ran = run_on(alloc, words.as_slice(), image.as_slice());
         assert!(rt; is_refused(&ran, 1, "desk: no-file\n"), "{slot}");
     }
-    let empty = images::empty(alloc).expect(&rt, "memory");
+    let empty = blank(alloc).expect(&rt, "memory");
     let words = ["cat", "cpm8", "-", "0"];
     let ran = run_on(alloc, words.as_slice(), empty.as_slice());
     assert!(rt; is_refused(&ran, 1, "desk: no-file\n"));
@@ -107,16 +117,22 @@ fn refuses_a_slot_that_no_file_has(rt: HostRuntime) {
 #[test]
 fn refuses_a_file_with_a_fault(rt: HostRuntime) {
     let alloc = rt.alloc();
-    let image = images::hello_counting(alloc, 129).expect(&rt, "memory");
+    let mut image = blank(alloc).expect(&rt, "memory");
+    let bad = NewEntry {
+        rc: 129,
+        pointers: b"\x02",
+        ..FILE
+    };
+    put_entry(&mut image, 0, &bad);
     let words = ["cat", "cpm8", "-", "0"];
     let ran = run_on(alloc, words.as_slice(), image.as_slice());
-    assert!(rt; is_refused(&ran, 1, "desk: faulty\n"));
+    assert!(rt; is_refused(&ran, 1, "desk: faulty bad-count hole\n"));
 }
 
 #[test]
 fn refuses_words_that_are_no_command(rt: HostRuntime) {
     let alloc = rt.alloc();
-    let image = images::hello(alloc).expect(&rt, "memory");
+    let image = hello(alloc).expect(&rt, "memory");
     for words in [
         ["cat", "d64", "-", "0"],
         ["list", "cpm8", "-", "0"],
@@ -125,14 +141,25 @@ fn refuses_words_that_are_no_command(rt: HostRuntime) {
         ["cat", "cpm8", "-", ""],
         ["cat", "cpm8", "-x", "0"],
         ["cat", "CPM8", "-", "0"],
+        ["list", "cpm8", "-", "-"],
+        ["init", "--store", "f", "--key"],
     ] {
         let ran = run_on(alloc, words.as_slice(), image.as_slice());
         assert!(rt; is_usage_fault(&ran), "{:?}", words);
     }
     let none = run_on(alloc, &[], image.as_slice());
     assert!(rt; is_usage_fault(&none));
-    let short = run_on(alloc, &["cat", "cpm8"], image.as_slice());
-    assert!(rt; is_usage_fault(&short));
+    for words in [
+        ["cat", "cpm8"],
+        ["list", "cpm8"],
+        ["list", "d64"],
+        ["serve", "-"],
+    ] {
+        let ran = run_on(alloc, words.as_slice(), image.as_slice());
+        assert!(rt; is_usage_fault(&ran), "{:?}", words);
+    }
+    let other = run_on(alloc, &["list", "d64", "-"], image.as_slice());
+    assert!(rt; is_usage_fault(&other));
 }
 
 #[test]
@@ -142,14 +169,14 @@ fn gives_help_on_the_output(rt: HostRuntime) {
         let ran = run_on(alloc, words, &[]);
         assert!(rt; ran.status == 0 && ran.errors.is_empty());
         let text = std::str::from_utf8(ran.output.as_slice()).expect(&rt, "text");
-        assert!(rt; text.contains("Example: desk cat cpm8 disk.img 0"));
+        assert!(rt; text.contains("desk cat cpm8 disk.img 0"));
     }
 }
 
 #[test]
 fn tells_a_device_that_fails(rt: HostRuntime) {
     let alloc = rt.alloc();
-    let mut image = images::hello(alloc).expect(&rt, "memory");
+    let mut image = hello(alloc).expect(&rt, "memory");
     image.truncate(100_000);
     let words = ["cat", "cpm8", "-", "0"];
     let mut input = Tape {
@@ -178,8 +205,8 @@ fn tells_a_device_that_fails(rt: HostRuntime) {
 #[test]
 fn passes_over_interruptions(rt: HostRuntime) {
     let alloc = rt.alloc();
-    let image = images::hello(alloc).expect(&rt, "memory");
-    let wanted = images::hello_bytes(alloc).expect(&rt, "memory");
+    let image = hello(alloc).expect(&rt, "memory");
+    let wanted = hello_bytes(alloc).expect(&rt, "memory");
     let words = ["cat", "cpm8", "-", "0"];
     let mut input = Tape {
         bytes: image.as_slice(),
@@ -207,8 +234,8 @@ fn passes_over_interruptions(rt: HostRuntime) {
 }
 
 /// Runs `cat` with an output that has room for so many bytes.
-fn run_narrow(alloc: Global, room: usize, end: End) -> Result<(u8, Narrow, Vec<u8>), AllocError> {
-    let image = images::hello(alloc)?;
+fn run_narrow(alloc: Global, room: usize, end: End) -> Result<(u8, Narrow, Vec<u8>), NoMemory> {
+    let image = hello(alloc)?;
     let words = ["cat", "cpm8", "-", "0"];
     let mut output = Narrow {
         taken: Vec::new(alloc),
@@ -232,7 +259,7 @@ fn run_narrow(alloc: Global, room: usize, end: End) -> Result<(u8, Narrow, Vec<u
 #[test]
 fn writes_a_front_part_where_a_write_fails(rt: HostRuntime) {
     let alloc = rt.alloc();
-    let wanted = images::hello_bytes(alloc).expect(&rt, "memory");
+    let wanted = hello_bytes(alloc).expect(&rt, "memory");
     for end in [End::Fails, End::TakesNone] {
         for room in [0, 1, 100, 127, 128] {
             let (status, output, errors) = run_narrow(alloc, room, end).expect(&rt, "memory");

@@ -3,8 +3,8 @@ ghost use Rattle.clap.specs.Words.{first_of, found_of, kind_of, one_of, rows_of}
 ghost use Rattle.clap.specs.Words.{subcommand_rows_of};
 ghost use Rattle.clap.specs.declared.error.kind.ErrorKind.TheVariants.{OutOfMemory};
 ghost use Rattle.rd_geometry.specs.Kinds.{word_of};
-ghost use Rattle.rd_main.specs.Asks.{AreCatRows, Asks, EntersCat};
-ghost use Rattle.rd_main.specs.Words.{AsksCat, IsCommand, IsSlotText};
+ghost use Rattle.rd_main.specs.Asks.{AreCatRows, AreListRows, AsksFile, AsksFiles, EntersCat, EntersList, IsFileAsk, IsFilesAsk};
+ghost use Rattle.rd_main.specs.Words.{AsksCat, AsksList, IsCommand, IsSlotText};
 ghost use Rattle.rd_main.specs.declared.words.Unread.TheVariants as Unread;
 
 use crate::command_line::desk_command;
@@ -15,13 +15,31 @@ use std::alloc::{AllocError, Global};
 
 /// The file that a command asks for.
 #[derive(Clone, Copy, Debug)]
-pub(crate) struct Ask<'a> {
+pub(crate) struct FileAsk<'a> {
     /// The kind of the image.
     pub(crate) kind: Kind,
     /// The path of the image, or a hyphen for standard input.
     pub(crate) image: &'a str,
     /// The slot of the file, at most 9,999.
     pub(crate) slot: u16,
+}
+
+/// The image whose files a command asks for.
+#[derive(Clone, Copy, Debug)]
+pub(crate) struct ImageAsk<'a> {
+    /// The kind of the image.
+    pub(crate) kind: Kind,
+    /// The path of the image, or a hyphen for standard input.
+    pub(crate) image: &'a str,
+}
+
+/// What a command asks for.
+#[derive(Clone, Copy, Debug)]
+pub(crate) enum Ask<'a> {
+    /// The bytes of a file.
+    File(FileAsk<'a>),
+    /// The list of an image's files.
+    Files(ImageAsk<'a>),
 }
 
 /// Why words ask for no file.
@@ -74,35 +92,52 @@ fn slot_asked(found: &ArgMatches) -> Option<u16>
 }
 
 /// What the operands of `cat` ask for, `None` where one is missing or does not read.
-fn ask_of<'a>(found: &ArgMatches<'a>) -> Option<Ask<'a>>
+fn file_asked<'a>(found: &ArgMatches<'a>) -> Option<FileAsk<'a>>
     ensures { (kind : Kind) (image : List ℕ) (slot : ℕ)
         → AreCatRows (rows_of (found_of found.now)) kind image slot
-        → IsSomeAnd result (λ ask. Asks ask kind image slot) }
+        → IsSomeAnd result (λ ask. AsksFile ask kind image slot) }
 {
-    Some(Ask {
+    Some(FileAsk {
         kind: kind_asked(found)?,
         image: found.get_str("IMAGE")?,
         slot: slot_asked(found)?,
     })
 }
 
+/// What the operands of `list` ask for, `None` where one is missing or does not read.
+fn files_asked<'a>(found: &ArgMatches<'a>) -> Option<ImageAsk<'a>>
+    ensures { (kind : Kind) (image : List ℕ)
+        → AreListRows (rows_of (found_of found.now)) kind image
+        → IsSomeAnd result (λ ask. AsksFiles ask kind image) }
+{
+    Some(ImageAsk {
+        kind: kind_asked(found)?,
+        image: found.get_str("IMAGE")?,
+    })
+}
+
 /// What a parse of the words found that a command asks for, `None` where it found no command.
 fn ask_found<'a>(matches: &ArgMatches<'a>) -> Option<Ask<'a>>
-    ensures { (kind : Kind) (image : List ℕ) (slot : ℕ)
+    ensures file { (kind : Kind) (image : List ℕ) (slot : ℕ)
         → EntersCat (subcommand_rows_of matches.now) kind image slot
-        → IsSomeAnd result (λ ask. Asks ask kind image slot) }
+        → IsSomeAnd result (IsFileAsk kind image slot) }
+    ensures files { (kind : Kind) (image : List ℕ)
+        → EntersList (subcommand_rows_of matches.now) kind image
+        → IsSomeAnd result (IsFilesAsk kind image) }
 {
-    let (_, found) = matches.subcommand()?;
-    ask_of(found)
+    if let Some(found) = matches.subcommand_matches("list") {
+        return Some(Ask::Files(files_asked(found)?));
+    }
+    Some(Ask::File(file_asked(matches.subcommand_matches("cat")?)?))
 }
 
 /// Reads the words of a command, which come without the program's name.
 ///
-/// It fails with `Told` where they ask for help or are no command, and and with `NoMemory`.
+/// It fails with `Told` where they ask for help or are no command, and with `NoMemory`.
 pub(crate) fn read_words<'a>(alloc: Global, words: &'a [&'a str]) -> Result<Ask<'a>, Unread>
     ensures read { IfOk result (λ ask. (kind : Kind) (image : List ℕ) (slot : ℕ)
         → AsksCat (map (λ word. word.now) words.entry.now) kind image slot
-        → Asks ask kind image slot) }
+        → IsFileAsk kind image slot ask) }
     ensures unread { IfErr result (λ fault. IsCommand (map (λ word. word.now) words.entry.now)
         → fault ≡ Unread.NoMemory) }
 {

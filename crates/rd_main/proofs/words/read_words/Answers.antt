@@ -8,13 +8,13 @@ pub returns-in-Ok-clause-read : goal.returns-in-Ok-clause-read
 returns-in-Ok-clause-read c =
     let words = map (λ word. word.now) c.args.words.now in
     ask_read c.ask_found.result Usage c.ok_or.result words c.ok_or.ensures.value
-    (ask_given c.ask_found.result (app_of c.in_ok-desk.desk) words c.in-Ok.matches c.in_ok-desk.ensures c.in-Ok.ensures.matches c.ask_found.ensures)
+    (ask_given c.ask_found.result (app_of c.in_ok-desk.desk) words c.in-Ok.matches c.in_ok-desk.ensures c.in-Ok.ensures.matches c.ask_found.ensures.file c.ask_found.ensures.files)
 
 pub returns-in-Ok-clause-unread : goal.returns-in-Ok-clause-unread
 returns-in-Ok-clause-unread c =
     let words = map (λ word. word.now) c.args.words.now in
     ask_unread c.ask_found.result Usage c.ok_or.result words (λ f. f ≡ NoMemory) c.ok_or.ensures.value
-    (ask_given c.ask_found.result (app_of c.in_ok-desk.desk) words c.in-Ok.matches c.in_ok-desk.ensures c.in-Ok.ensures.matches c.ask_found.ensures)
+    (ask_given c.ask_found.result (app_of c.in_ok-desk.desk) words c.in-Ok.matches c.in_ok-desk.ensures c.in-Ok.ensures.matches c.ask_found.ensures.file c.ask_found.ensures.files)
 
 pub returns-in-Err-clause-unread : goal.returns-in-Err-clause-unread
 returns-in-Err-clause-unread c = λ command.

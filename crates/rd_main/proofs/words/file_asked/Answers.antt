@@ -1,7 +1,7 @@
 use Rattle.clap.specs.Words.{found_of}
 use Rattle.std.proofs.Common.{codes}
 use Rattle.rd_main.proofs.Asked.{text_is, text_there}
-use Rattle.rd_main.proofs.words.ask_of.Goals as goal
+use Rattle.rd_main.proofs.words.file_asked.Goals as goal
 
 pub returns-in_err-get_str : goal.returns-in_err-get_str
 returns-in_err-get_str c = λ kind image slot rows. absurd (text_there (found_of c.args.found.now) (codes "IMAGE") image c.in_err-get_str.ensures rows.image_found)

@@ -1,0 +1,219 @@
+//! What `list` prints, and `cat` of files of many extents.
+
+use super::{is_refused, run_on};
+use rd_rows::cpm::{FILE, NewEntry, blank, filled, hello, put, put_entry, with_entries};
+use std::alloc::{Alloc, AllocGlobal};
+use std::process::Abort;
+use std::test::Fail;
+
+/// `list` of an image prints a text.
+fn assert_lists<R: Abort + AllocGlobal>(rt: &R, image: &[u8], text: &str) {
+    let ran = run_on(rt.alloc(), &["list", "cpm8", "-"], image);
+    assert!(rt; ran.status == 0 && ran.errors.is_empty());
+    assert_eq!(rt; ran.output.as_slice(), text.as_bytes());
+}
+
+/// `cat` of a slot is refused in one line.
+fn assert_refuses<R: Abort + AllocGlobal>(rt: &R, image: &[u8], slot: &str, line: &str) {
+    let ran = run_on(rt.alloc(), &["cat", "cpm8", "-", slot], image);
+    assert!(rt; is_refused(&ran, 1, line), "{line}");
+}
+
+#[test]
+fn lists_one_file(rt: HostRuntime) -> Result<(), Fail> {
+    let image = hello(rt.alloc())?;
+    assert_lists(
+        &rt,
+        image.as_slice(),
+        "0\t0\tTXT\t128\t\tHELLO.TXT\nfiles\t1\tend\n",
+    );
+    Ok(())
+}
+
+#[test]
+fn lists_no_file(rt: HostRuntime) -> Result<(), Fail> {
+    let mut image = blank(rt.alloc())?;
+    assert_lists(&rt, image.as_slice(), "files\t0\tend\n");
+    image.truncate(256_255);
+    let ran = run_on(rt.alloc(), &["list", "cpm8", "-"], image.as_slice());
+    assert!(rt; is_refused(&ran, 1, "desk: wrong-size\n"));
+    Ok(())
+}
+
+#[test]
+fn lists_faults_by_their_words(rt: HostRuntime) -> Result<(), Fail> {
+    let entries = [
+        NewEntry {
+            name: b"H",
+            rc: 9,
+            pointers: b"\x02\x00",
+            ..FILE
+        },
+        NewEntry {
+            name: b"O",
+            rc: 1,
+            pointers: b"\xf3",
+            ..FILE
+        },
+        NewEntry {
+            name: b"X",
+            rc: 1,
+            pointers: b"\x01",
+            ..FILE
+        },
+        NewEntry {
+            name: b"S",
+            rc: 1,
+            pointers: b"\x04",
+            ..FILE
+        },
+    ];
+    let image = with_entries(rt.alloc(), &entries)?;
+    let lines =
+        "0\t0\t\t\thole\tH\n1\t0\t\t\toff-disk\tO\n2\t0\t\t\tcrossed\tX\n3\t0\t\t128\t\tS\nfiles\t4\tend\n";
+    assert_lists(&rt, image.as_slice(), lines);
+    assert_refuses(&rt, image.as_slice(), "0", "desk: faulty hole\n");
+    assert_refuses(&rt, image.as_slice(), "1", "desk: faulty off-disk\n");
+    assert_refuses(&rt, image.as_slice(), "9", "desk: no-file\n");
+    Ok(())
+}
+
+#[test]
+fn tells_each_fault_of_one_file(rt: HostRuntime) -> Result<(), Fail> {
+    let one = NewEntry {
+        rc: 1,
+        pointers: b"\x02",
+        ..FILE
+    };
+    let other = NewEntry {
+        rc: 1,
+        pointers: b"\x03",
+        ..FILE
+    };
+    let twice = with_entries(rt.alloc(), &[one, other])?;
+    assert_refuses(&rt, twice.as_slice(), "0", "desk: faulty duplicate\n");
+    let gap = with_entries(rt.alloc(), &[NewEntry { ex: 2, ..one }])?;
+    assert_refuses(&rt, gap.as_slice(), "0", "desk: faulty gap\n");
+    let full = NewEntry {
+        rc: 129,
+        pointers: b"\x02\x03\x04\x05\x06\x07\x08\x09\x0a\x0b\x0c\x0d\x0e\x0f\x10\x11",
+        ..FILE
+    };
+    let many = with_entries(rt.alloc(), &[full])?;
+    assert_refuses(&rt, many.as_slice(), "0", "desk: faulty bad-count\n");
+    let short = with_entries(
+        rt.alloc(),
+        &[NewEntry { rc: 5, ..one }, NewEntry { ex: 1, ..other }],
+    )?;
+    assert_refuses(&rt, short.as_slice(), "0", "desk: faulty short\n");
+    Ok(())
+}
+
+#[test]
+fn prints_what_is_no_plain_character_in_hexadecimal(rt: HostRuntime) -> Result<(), Fail> {
+    let image = with_entries(
+        rt.alloc(),
+        &[NewEntry {
+            name: b"A.B%",
+            extension: b"\xc3",
+            ..FILE
+        }],
+    )?;
+    assert_lists(
+        &rt,
+        image.as_slice(),
+        "0\t0\tC\t0\t\tA%2EB%25.C\nfiles\t1\tend\n",
+    );
+    let odd = NewEntry {
+        user: 15,
+        name: b" \x00\x7f~",
+        extension: b" x",
+        ..FILE
+    };
+    let image = with_entries(rt.alloc(), &[odd])?;
+    assert_lists(
+        &rt,
+        image.as_slice(),
+        "0\t15\t x\t0\t\t %00%7F~. x\nfiles\t1\tend\n",
+    );
+    Ok(())
+}
+
+#[test]
+fn lists_images_of_one_byte(rt: HostRuntime) -> Result<(), Fail> {
+    let zeros = "0\t0\t%00%00%00\t\tduplicate\t%00%00%00%00%00%00%00%00.%00%00%00\nfiles\t1\tend\n";
+    assert_lists(&rt, filled(rt.alloc(), 0)?.as_slice(), zeros);
+    let ones =
+        "0\t1\t%01%01%01\t\tduplicate gap crossed\t%01%01%01%01%01%01%01%01.%01%01%01\nfiles\t1\tend\n";
+    assert_lists(&rt, filled(rt.alloc(), 1)?.as_slice(), ones);
+    assert_lists(&rt, filled(rt.alloc(), 0xff)?.as_slice(), "files\t0\tend\n");
+    Ok(())
+}
+
+/// The block numbers of an extent of a file that has all blocks in order.
+fn blocks_of(extent: u8) -> [u8; 16] {
+    let mut blocks = [0; 16];
+    for place in 0..16u8 {
+        let block = 2 + 16 * u16::from(extent) + u16::from(place);
+        if let Ok(block) = u8::try_from(block) {
+            if block <= 242 {
+                blocks[place as usize] = block;
+            }
+        }
+    }
+    blocks
+}
+
+#[test]
+fn writes_extents_in_the_order_of_their_numbers(rt: HostRuntime) -> Result<(), Fail> {
+    let mut image = blank(rt.alloc())?;
+    for slot in 0..16u8 {
+        let extent = 15 - slot;
+        let rc = if extent == 15 { 8 } else { 128 };
+        put_entry(
+            &mut image,
+            slot,
+            &NewEntry {
+                ex: extent,
+                rc,
+                pointers: &blocks_of(extent),
+                ..FILE
+            },
+        );
+    }
+    put(&mut image, 9_088, b"first record of block 2");
+    put(&mut image, 254_336, b"last record of block 242");
+    assert_lists(
+        &rt,
+        image.as_slice(),
+        "0\t0\t\t246784\t\tFILE\nfiles\t1\tend\n",
+    );
+    let ran = run_on(rt.alloc(), &["cat", "cpm8", "-", "0"], image.as_slice());
+    assert!(rt; ran.status == 0 && ran.errors.is_empty());
+    assert_eq!(rt; ran.output.len(), 246_784);
+    assert!(rt;
+        ran.output
+            .starts_with(b"first record of block 2".as_slice())
+    );
+    assert_eq!(rt;
+        ran.output.get(246_656..246_680),
+        Some(b"last record of block 242".as_slice())
+    );
+    Ok(())
+}
+
+#[test]
+fn a_full_extent_ends_where_it_ends(rt: HostRuntime) -> Result<(), Fail> {
+    let full = NewEntry {
+        rc: 128,
+        pointers: &blocks_of(0),
+        ..FILE
+    };
+    let image = with_entries(rt.alloc(), &[full, NewEntry { ex: 1, ..FILE }])?;
+    let ran = run_on(rt.alloc(), &["cat", "cpm8", "-", "0"], image.as_slice());
+    assert!(rt; ran.status == 0 && ran.output.len() == 16_384);
+    let none = with_entries(rt.alloc(), &[FILE])?;
+    let ran = run_on(rt.alloc(), &["cat", "cpm8", "-", "0"], none.as_slice());
+    assert!(rt; ran.status == 0 && ran.output.is_empty() && ran.errors.is_empty());
+    Ok(())
+}

@@ -1,0 +1,72 @@
+//! Runs that a script makes under an allocator that refuses one growth. A run that tells that memory was
+//! refused is made again, and then has to end as ever. Outputs are arrays, which ask for no memory.
+
+use super::no_file;
+use crate::run::run;
+use rd_geometry::NoMemory;
+use rd_rows::cpm::hello;
+use std::alloc::Global;
+use std::test::Fail;
+
+/// Runs words on the image of one file, again where memory was refused, and gives the status.
+fn run_again(alloc: Global, words: &[&str], output: &mut [u8]) -> Result<u8, Fail> {
+    let image = match hello(alloc) {
+        Ok(image) => image,
+        Err(NoMemory) => hello(alloc)?,
+    };
+    let mut errors = [0; 64];
+    let mut told = errors.as_mut_slice();
+    let mut room = &mut output[..];
+    let status = run(
+        alloc,
+        words,
+        &mut image.as_slice(),
+        &mut room,
+        &mut told,
+        &mut no_file(),
+    );
+    if status != 3 {
+        return Ok(status);
+    }
+    if !errors.starts_with(b"desk: no-memory\n".as_slice()) {
+        return Err(Fail::from("another refusal than of memory"));
+    }
+    let mut told = errors.as_mut_slice();
+    let mut room = &mut output[..];
+    Ok(run(
+        alloc,
+        words,
+        &mut image.as_slice(),
+        &mut room,
+        &mut told,
+        &mut no_file(),
+    ))
+}
+
+#[test]
+fn cat_when_memory_is_refused(rt: HostRuntime) -> Result<(), Fail> {
+    let mut output = [0; 128];
+    assert_eq!(rt;
+        run_again(rt.alloc(), &["cat", "cpm8", "-", "0"], &mut output)?,
+        0
+    );
+    assert!(rt; output.starts_with(b"HELLO FROM CP/M\r\n\x1a".as_slice()));
+    Ok(())
+}
+
+#[test]
+fn list_when_memory_is_refused(rt: HostRuntime) -> Result<(), Fail> {
+    let mut output = [0; 64];
+    assert_eq!(rt;
+        run_again(rt.alloc(), &["list", "cpm8", "-"], &mut output)?,
+        0
+    );
+    assert!(rt; output.starts_with(b"0\t0\tTXT\t128\t\tHELLO.TXT\nfiles\t1\tend\n".as_slice()));
+    Ok(())
+}
+
+#[test]
+fn usage_when_memory_is_refused(rt: HostRuntime) -> Result<(), Fail> {
+    assert_eq!(rt; run_again(rt.alloc(), &["cat", "cpm8"], &mut [])?, 2);
+    Ok(())
+}
