@@ -109,6 +109,68 @@ fn tells_each_fault_of_one_file(rt: HostRuntime) -> Result<(), Fail> {
     Ok(())
 }
 
+/// The first three lines that `list` prints, which tell of three files `A`, `B` and `C`.
+fn assert_tells<R: Abort + AllocGlobal>(
+    rt: &R,
+    pointers: [&[u8]; 3],
+    lines: &str,
+) -> Result<(), Fail> {
+    let [a, b, c] = pointers;
+    let one = NewEntry { rc: 1, ..FILE };
+    let entries = [
+        NewEntry {
+            name: b"A",
+            pointers: a,
+            ..one
+        },
+        NewEntry {
+            name: b"B",
+            pointers: b,
+            ..one
+        },
+        NewEntry {
+            name: b"C",
+            pointers: c,
+            ..one
+        },
+    ];
+    let image = with_entries(rt.alloc(), &entries)?;
+    let ran = run_on(rt.alloc(), &["list", "cpm8", "-"], image.as_slice());
+    assert!(rt;
+        ran.status == 0 && ran.output.starts_with(lines.as_bytes()),
+        "{lines}"
+    );
+    Ok(())
+}
+
+#[test]
+fn tells_who_shares_a_block(rt: HostRuntime) -> Result<(), Fail> {
+    let twice = "0\t0\t\t\tcrossed\tA\n1\t0\t\t128\t\tB\n2\t0\t\t128\t\tC\n";
+    assert_tells(&rt, [b"\x02\x02", b"\x03", b"\x04"], twice)?;
+    let off = "0\t0\t\t\toff-disk crossed\tA\n1\t0\t\t128\t\tB\n2\t0\t\t\toff-disk crossed\tC\n";
+    assert_tells(&rt, [b"\xf3", b"\x03", b"\xf3"], off)?;
+    let beyond = "0\t0\t\t128\t\tA\n1\t0\t\t\tcrossed\tB\n2\t0\t\t\tcrossed\tC\n";
+    assert_tells(&rt, [b"\x02", b"\x03\x04", b"\x04"], beyond)?;
+    let zero = "0\t0\t\t128\t\tA\n1\t0\t\t128\t\tB\n2\t0\t\t128\t\tC\n";
+    assert_tells(&rt, [b"\x02\x00", b"\x03", b"\x04"], zero)
+}
+
+#[test]
+fn an_entry_of_user_16_is_no_file(rt: HostRuntime) -> Result<(), Fail> {
+    let one = NewEntry {
+        rc: 1,
+        pointers: b"\x02",
+        ..FILE
+    };
+    let image = with_entries(rt.alloc(), &[one, NewEntry { user: 16, ..one }])?;
+    assert_lists(
+        &rt,
+        image.as_slice(),
+        "0\t0\t\t128\t\tFILE\nfiles\t1\tend\n",
+    );
+    Ok(())
+}
+
 #[test]
 fn prints_what_is_no_plain_character_in_hexadecimal(rt: HostRuntime) -> Result<(), Fail> {
     let image = with_entries(
