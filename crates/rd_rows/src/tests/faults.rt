@@ -148,3 +148,25 @@ fn files_are_crossed_with_one_another(rt: HostRuntime) -> Result<(), Fail> {
     }
     Ok(())
 }
+
+#[test]
+fn a_sound_file_stands_beside_faulty_ones(rt: HostRuntime) -> Result<(), Fail> {
+    let entries = [
+        file(b"H", 9, b"\x02\x00"),
+        file(b"O", 1, b"\xf3"),
+        file(b"X", 1, b"\x01"),
+        file(b"S", 1, b"\x04"),
+    ];
+    let files = files_of(rt.alloc(), with_entries(rt.alloc(), &entries)?.as_slice())?;
+    assert_eq!(rt; files.len(), 4);
+    for (found, (slot, faults)) in files
+        .iter()
+        .zip([(0, HOLE), (1, OFF_DISK), (2, CROSSED), (3, 0)])
+    {
+        assert_eq!(rt; (found.slot, found.user, found.faults), (slot, 0, faults));
+        assert_eq!(rt; found.sectors.as_slice().is_empty(), faults != 0);
+    }
+    let sound = files.last().ok_or("a file")?;
+    assert_eq!(rt; sound.sectors.as_slice(), [32].as_slice());
+    Ok(())
+}
