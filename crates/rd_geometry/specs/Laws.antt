@@ -1,6 +1,7 @@
--- Proofs of the laws of `Geometry` for a CP/M disk, which its `impl` cites.
+-- Proofs of the laws of `Geometry` for the disks, which their `impl`s cite.
 use Rattle.std.specs.Prelude.{◌≡◌, ◌≢◌, ℕ, ◌+◌, ◌*◌, ◌/◌, ◌%◌, ◌<◌, ◌≤◌, ◌⊎◌}
 use Rattle.std.proofs.Common.{arith}
+use Rattle.rd_geometry.specs.Blocks.{place_of_block, CBM_SIZE, CBM_BLOCKS, CBM_BLOCK_LENGTH}
 use Rattle.rd_geometry.specs.Places.{skewed, place_of_cpm_unit, CPM_SIZE, CPM_UNITS, CPM_UNIT_LENGTH}
 
 skewed-below : (s : ℕ) → s < 26 → skewed s < 26
@@ -25,3 +26,10 @@ cpm_units_apart m n low_m low_n differ =
     sectors_apart m n (skewed (m % 26)) (skewed (n % 26)) differ
     (λ _ same. skewed-injective (m % 26) (n % 26) (omega arith) (omega arith) same)
     (skewed-below (m % 26) (omega arith)) (skewed-below (n % 26) (omega arith))
+
+pub block_inside : (n size : ℕ) → n < CBM_BLOCKS → size ≡ CBM_SIZE → place_of_block n + CBM_BLOCK_LENGTH ≤ size
+block_inside n size below whole = omega arith
+
+pub blocks_apart : (m n : ℕ) → m < CBM_BLOCKS → n < CBM_BLOCKS → m ≢ n
+    → (place_of_block m + CBM_BLOCK_LENGTH ≤ place_of_block n) ⊎ (place_of_block n + CBM_BLOCK_LENGTH ≤ place_of_block m)
+blocks_apart m n low_m low_n differ = grind arith

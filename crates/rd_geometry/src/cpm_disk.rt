@@ -42,6 +42,7 @@ impl<'a> CpmDisk<'a> {
             Kind::Cpm8 => Some(CpmDisk {
                 bytes: image.bytes(),
             }),
+            Kind::D64 => None,
         }
     }
 }

@@ -7,6 +7,8 @@ pub enum Kind {
     /// A CP/M 2.2 disk of eight inches and single density: a raw dump of 77 tracks of 26 sectors of
     /// 128 bytes.
     Cpm8,
+    /// A Commodore 1541 disk of 35 tracks: its 683 blocks of 256 bytes, without error bytes.
+    D64,
 }
 
 impl Kind {
@@ -16,6 +18,7 @@ impl Kind {
     {
         match self {
             Kind::Cpm8 => 77 * 26 * 128,
+            Kind::D64 => 683 * 256,
         }
     }
 
@@ -25,6 +28,7 @@ impl Kind {
     {
         match self {
             Kind::Cpm8 => "cpm8",
+            Kind::D64 => "d64",
         }
     }
 
@@ -35,6 +39,7 @@ impl Kind {
     {
         match word {
             "cpm8" => Some(Kind::Cpm8),
+            "d64" => Some(Kind::D64),
             _ => None,
         }
     }

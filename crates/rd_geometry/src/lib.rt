@@ -1,6 +1,7 @@
 //! The kinds of disk image, and the place of each unit of a disk in its image.
 #![tactic(auto)]
 
+mod cbm_disk;
 mod cpm_disk;
 mod geometry;
 mod image;
@@ -9,6 +10,7 @@ mod kind;
 mod memory;
 mod text;
 
+pub use cbm_disk::CbmDisk;
 pub use cpm_disk::CpmDisk;
 pub use geometry::Geometry;
 pub use image::{Image, WrongSize};

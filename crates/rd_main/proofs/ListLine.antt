@@ -1,7 +1,7 @@
 -- What `clap` makes of the words `list KIND IMAGE`.
-use Rattle.std.proofs.Common.{◌≡◌, ◌∙◌, ℕ, List, [], ◌∷◌, Some, Bool, true, false, codes, refl, ap, ap₂, fold, ◌&&◌, is_some}
+use Rattle.std.proofs.Common.{◌≡◌, ◌∙◌, List, [], ◌∷◌, Some, Bool, true, false, codes, refl, ap, ap₂, fold, ◌&&◌, is_some}
 use Rattle.clap.specs.Walk.{Row, Text, first_of, finished, nothing_held, rows_after, walk, walk_from}
-use Rattle.clap.specs.Simple.{App, Shape, built, built_leaf, entered, inherited, is_simple, names_of, subcommand_of}
+use Rattle.clap.specs.Simple.{App, Shape, built, built_leaf, entered, inherited, names_of, subcommand_of}
 use Rattle.clap.specs.Takes.{entered_passes, level_passes, takes}
 use Rattle.clap.specs.ValueTests.{accepts}
 use Rattle.clap.specs.declared.builder.value_parser.ValueParser.TheVariants.{Names}
@@ -74,7 +74,7 @@ pub takes_list : (app : App) (words : List Text) (kind : Kind) (image : Text) �
 takes_list app words kind image desk asks =
     ap₂ takes desk.is asks.spelled
     ∙ takes_operands desk.list_kinds desk.cat_kinds (word_of kind) image (words_plain kind image asks.operand)
-    (kind_accepted desk.list_kinds kind desk.list_names)
+    (kind_accepted desk.list_kinds kind asks.taken desk.list_names)
 
 -- a parse of a command enters `list`, with the command's operands
 pub gives_list : (app : App) (words : List Text) (kind : Kind) (image : Text) → IsDeskApp app → AsksList words kind image
@@ -87,6 +87,7 @@ gives_list app words kind image desk asks =
       into = ap₂ subcommand_of desk.is asks.spelled ∙ enters_list desk.list_kinds desk.cat_kinds (word_of kind) image
           ∙ ap (λ (rows : List Row). Some (codes "list", rows)) (rows_after-plain (list_leaf desk.list_kinds desk.cat_kinds).rules operands plain);
       found = record {
+        taken = asks.taken;
         kind_found = kind_row desk.list_kinds desk.cat_kinds (word_of kind) image;
         image_found = image_row desk.list_kinds desk.cat_kinds (word_of kind) image;
       };

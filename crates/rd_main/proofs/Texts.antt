@@ -1,5 +1,5 @@
 -- The texts of a command's operands, as `clap` looks at them.
-use Rattle.std.proofs.Common.{◌≡◌, ◌∙◌, ◌≢◌, inl, inr, ℕ, List, [], ◌∷◌, Some, Bool, true, false, codes, refl, ap, sym, subst, arith, drop, cond, eqb-true, ◌==◌}
+use Rattle.std.proofs.Common.{◌≡◌, ◌∙◌, ◌≢◌, inl, inr, ℕ, List, [], ◌∷◌, Some, Bool, true, false, codes, refl, ap, sym, subst, arith, drop, length, cond, eqb-true, ◌==◌}
 use Rattle.std.specs.Prelude.{pos}
 use Rattle.std.specs.List.{list_any}
 use Rattle.std.specs.Str.Parse.{IsNumeral, without_leading_plus, digits_value, starts_with_minus}
@@ -13,10 +13,10 @@ use Rattle.clap.specs.declared.builder.value_parser.ValueParser.TheVariants.{Nam
 use Rattle.clap.proofs.ValueTestLemmas.{Accepts-accepts}
 use Rattle.clap.proofs.WalkLemmas.{list_any-map}
 use Rattle.rd_geometry.specs.declared.kind.Kind.{Kind}
-use Rattle.rd_geometry.specs.declared.kind.Kind.TheVariants.{Cpm8}
+use Rattle.rd_geometry.specs.declared.kind.Kind.TheVariants.{Cpm8, D64}
 use Rattle.rd_geometry.specs.Kinds.{word_of}
 use Rattle.rd_main.specs.CommandLine.{AreKindNames, NameList}
-use Rattle.rd_main.specs.Words.{IsOperand, IsSlotText}
+use Rattle.rd_main.specs.Words.{IsOperand, IsSlotText, IsTaken}
 use Rattle.rd_main.proofs.Operands.{IsPlainWord, cons_plain, empty_plain, hyphen_plain}
 
 -- an operand is no flag
@@ -28,19 +28,21 @@ operand_plain (c ∷ rest) (inr other) = cons_plain c rest (ne_eqb c 45 (λ same
 -- the word of a kind is no flag
 pub kind_plain : (kind : Kind) → IsPlainWord (word_of kind)
 kind_plain Cpm8 = cons_plain _ _ refl
+kind_plain D64 = cons_plain _ _ refl
 
--- the word of a kind is among the names of the kinds
-pub kind_accepted : (kinds : NameList) (kind : Kind) → AreKindNames kinds → accepts false (Names kinds) (word_of kind) ≡ true
-kind_accepted kinds kind names =
+-- the word of a kind that is taken is among the names of the kinds
+pub kind_accepted : (kinds : NameList) (kind : Kind) → IsTaken kind → AreKindNames kinds → accepts false (Names kinds) (word_of kind) ≡ true
+kind_accepted kinds kind taken names =
     list_any-map (λ name. same_text false name (word_of kind)) (λ name. name.now) kinds.now
-    ∙ ap (list_any (λ name. same_text false name (word_of kind))) names ∙ among kind
-  where
-    among : (k : Kind) → list_any (λ name. same_text false name (word_of k)) (codes "cpm8" ∷ []) ≡ true
-    among Cpm8 = refl
+    ∙ ap (list_any (λ name. same_text false name (word_of kind))) names
+    ∙ ap (λ k. list_any (λ name. same_text false name (word_of k)) (codes "cpm8" ∷ [])) taken
 
 -- no two kinds have one word
 pub same_kind : (k l : Kind) → word_of k ≡ word_of l → k ≡ l
 same_kind Cpm8 Cpm8 same = refl
+same_kind Cpm8 D64 same = absurd (let lengths : 4 ≡ 3 = ap length same in omega arith)
+same_kind D64 Cpm8 same = absurd (let lengths : 3 ≡ 4 = ap length same in omega arith)
+same_kind D64 D64 same = refl
 
 not_hyphen : (c : ℕ) (rest : List ℕ) (b : Bool) → (c == 43) ≡ b → IsNumeral 10 (drop (cond b 1 0) (c ∷ rest)) → c ≢ 45
 not_hyphen c rest true plus numeral = let is_plus : c ≡ 43 = eqb-true c 43 plus in λ hyphen. omega arith

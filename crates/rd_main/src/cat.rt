@@ -5,6 +5,7 @@ ghost use Rattle.rd_geometry.specs.CpmDisks.{cpm_bytes};
 ghost use Rattle.rd_geometry.specs.Kinds.{size_of};
 ghost use Rattle.rd_main.specs.Cat.{Refuses, Serves};
 ghost use Rattle.rd_main.specs.Refusals.{status_of};
+ghost use Rattle.rd_main.specs.Words.{IsTaken};
 
 use crate::machine::Machine;
 use crate::output::write_units;
@@ -16,11 +17,12 @@ use rd_geometry::{CpmDisk, Image, Kind};
 use std::alloc::Global;
 use std::io::{Read, Write};
 
-/// The disk that the bytes are an image of, of a kind.
+/// The CP/M disk that the bytes are an image of, of a kind that the commands take.
 ///
-/// It fails with `WrongSize` where they are not as many as an image of the kind has.
+/// It fails with `WrongSize` where they are not as many as an image of the kind has, and for a kind
+/// that the commands do not take.
 pub(crate) fn disk_of<'a>(kind: Kind, bytes: &'a [u8]) -> Result<CpmDisk<'a>, Refusal>
-    ensures size { IsOk result ↔ (length bytes.entry.now ≡ size_of kind) }
+    ensures size { IsTaken kind → (IsOk result ↔ (length bytes.entry.now ≡ size_of kind)) }
     ensures bytes { IfOk result (λ disk. cpm_bytes disk ≡ bytes.entry.now) }
     ensures refused { IfErr result (λ refusal. refusal ≡ Refusal.WrongSize) }
 {
@@ -49,9 +51,12 @@ fn cat_image<W: Write>(
     bytes: &[u8],
     output: &mut W,
 ) -> Result<(), Refusal>
-    ensures done { OnOk result
+    ensures never { IfErr result (λ refusal. status_of refusal ≢ 2) }
+    ensures kept { IfErr result (λ refusal. status_of refusal ≡ 1
+        → Keeps (W.contents output.old) (W.contents output.new)) }
+    ensures done { IsTaken kind → OnOk result
         (Serves kind slot bytes.now (W.contents output.old) (W.contents output.new)) }
-    ensures refused { IfErr result (λ refusal.
+    ensures refused { IsTaken kind → IfErr result (λ refusal.
         Refuses refusal kind slot bytes.now (W.contents output.old) (W.contents output.new)) }
 {
     let disk = disk_of(kind, bytes)?;
@@ -79,10 +84,10 @@ pub(crate) fn cat<R: Read, W: Write, M: Machine>(
     ensures never { IfErr result (λ refusal. status_of refusal ≢ 2) }
     ensures kept { IfErr result (λ refusal. status_of refusal ≡ 1
         → Keeps (W.contents output.old) (W.contents output.new)) }
-    ensures done { ask.entry.image.now ≡ codes "-"
+    ensures done { IsTaken ask.entry.kind → ask.entry.image.now ≡ codes "-"
         → OnOk result (IfSome (R.remaining input.old) (λ image. Serves
         ask.entry.kind ask.entry.slot image (W.contents output.old) (W.contents output.new))) }
-    ensures refused { ask.entry.image.now ≡ codes "-"
+    ensures refused { IsTaken ask.entry.kind → ask.entry.image.now ≡ codes "-"
         → IfErr result (λ refusal. IfSome (R.remaining input.old) (λ image. Refuses refusal
         ask.entry.kind ask.entry.slot image (W.contents output.old) (W.contents output.new))) }
 {

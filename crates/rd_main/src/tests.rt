@@ -7,6 +7,7 @@ use crate::machine::MachineFault;
 use crate::run::run;
 use fakes::{End, Narrow, OneFile, Tape};
 use rd_geometry::NoMemory;
+use rd_rows::cbm::formatted;
 use rd_rows::cpm::{FILE, NewEntry, blank, hello, put_entry};
 use std::alloc::Global;
 
@@ -134,7 +135,6 @@ fn refuses_words_that_are_no_command(rt: HostRuntime) {
     let alloc = rt.alloc();
     let image = hello(alloc).expect(&rt, "memory");
     for words in [
-        ["cat", "d64", "-", "0"],
         ["list", "cpm8", "-", "0"],
         ["cat", "cpm8", "-", "10000"],
         ["cat", "cpm8", "-", "-1"],
@@ -158,8 +158,16 @@ fn refuses_words_that_are_no_command(rt: HostRuntime) {
         let ran = run_on(alloc, words.as_slice(), image.as_slice());
         assert!(rt; is_usage_fault(&ran), "{:?}", words);
     }
-    let other = run_on(alloc, &["list", "d64", "-"], image.as_slice());
-    assert!(rt; is_usage_fault(&other));
+}
+
+#[test]
+fn takes_no_image_of_a_1541_disk(rt: HostRuntime) {
+    let alloc = rt.alloc();
+    let image = formatted(alloc).expect(&rt, "memory");
+    let cat = run_on(alloc, &["cat", "d64", "-", "0"], image.as_slice());
+    assert!(rt; is_usage_fault(&cat));
+    let list = run_on(alloc, &["list", "d64", "-"], image.as_slice());
+    assert!(rt; is_usage_fault(&list));
 }
 
 #[test]

@@ -1,18 +1,19 @@
 //! CP/M images, written without the code that reads them.
 
-ghost use Rattle.std.specs.Prelude.{◌≡◌, ◌<◌, length, vec_len, IfOk};
+ghost use Rattle.std.specs.Prelude.{◌≡◌, ◌<◌, ◌≤◌, ◌+◌, length, vec_len, IfOk};
+ghost use Rattle.rd_rows.specs.CpmEntries.{entry_bytes, place_of_slot};
+ghost use Rattle.rd_rows.specs.Written.{written};
 
+use crate::bytes::{padded, put};
 use rd_geometry::NoMemory;
 use std::alloc::Global;
 
 /// The number of bytes of an image.
 const SIZE: usize = 256_256;
 
-/// The byte at which the first track after the system tracks begins.
-const DIRECTORY_TRACK: usize = 2 * 26 * 128;
-
-/// The sectors of that track that hold the directory, counted from 1, in the order of the slots.
-const DIRECTORY_SECTORS: [u8; 16] = [1, 7, 13, 19, 25, 5, 11, 17, 23, 3, 9, 15, 21, 2, 8, 14];
+/// The sectors of the first track after the two system tracks that hold the directory, counted
+/// from 0, in the order of the slots.
+const DIRECTORY_SECTORS: [u8; 16] = [0, 6, 12, 18, 24, 4, 10, 16, 22, 2, 8, 14, 20, 1, 7, 13];
 
 /// An entry of the directory to be written.
 #[derive(Clone, Copy, Debug)]
@@ -44,37 +45,38 @@ pub const FILE: NewEntry<'static> = NewEntry {
     pointers: b"",
 };
 
-/// Writes bytes over those of an image from a place on, as far as it goes.
-pub fn put(image: &mut [u8], place: usize, bytes: &[u8])
-    ensures { length image.new ≡ length image.old }
+/// The byte of an image at which the entry of a slot begins.
+fn place_of_slot(slot: u8) -> usize
+    requires { slot < 64 }
+    ensures { result ≡ place_of_slot slot }
 {
-    for (old, new) in image.iter_mut().skip(place).zip(bytes) {
-        *old = *new;
-    }
+    let sector = DIRECTORY_SECTORS[(slot / 4) as usize] as usize;
+    128 * (2 * 26 + sector) + 32 * (slot % 4) as usize
 }
 
-/// The 32 bytes of an entry, whose byte S1 is 0. What is too long is written over by what follows.
-fn entry_bytes(entry: &NewEntry<'_>) -> [u8; 32] {
+/// The 32 bytes of an entry.
+fn entry_bytes(entry: &NewEntry<'_>) -> [u8; 32]
+    ensures { result ≡ entry_bytes entry.now }
+{
     let mut bytes = [0; 32];
-    bytes[0] = entry.user;
-    put(&mut bytes, 1, b"           ");
-    put(&mut bytes, 1, entry.name);
-    put(&mut bytes, 9, b"   ");
-    put(&mut bytes, 9, entry.extension);
+    put(&mut bytes, 0, &[entry.user]);
+    put(&mut bytes, 1, &padded::<8>(entry.name, b' '));
+    put(&mut bytes, 9, &padded::<3>(entry.extension, b' '));
     put(&mut bytes, 12, &[entry.ex, 0, entry.s2, entry.rc]);
-    put(&mut bytes, 16, &[0; 16]);
-    put(&mut bytes, 16, entry.pointers);
+    put(&mut bytes, 16, &padded::<16>(entry.pointers, 0));
     bytes
 }
 
-/// Writes an entry at a slot of the directory, 0 to 63.
+/// Writes an entry at a slot of the directory, 0 to 63. Where the image is too short for it,
+/// nothing is written.
 pub fn put_entry(image: &mut [u8], slot: u8, entry: &NewEntry<'_>)
     requires { slot < 64 }
-    ensures { length image.new ≡ length image.old }
+    ensures value { place_of_slot slot + 32 ≤ length image.old
+        → image.new ≡ written image.old (place_of_slot slot) (entry_bytes entry.now) }
+    ensures kept { length image.old < place_of_slot slot + 32 → image.new ≡ image.old }
+    ensures sized { length image.new ≡ length image.old }
 {
-    let sector = DIRECTORY_SECTORS[(slot / 4) as usize] as usize;
-    let place = DIRECTORY_TRACK + 128 * (sector.max(1) - 1) + 32 * (slot % 4) as usize;
-    put(image, place, &entry_bytes(entry));
+    put(image, place_of_slot(slot), &entry_bytes(entry));
 }
 
 /// An image whose bytes are all alike.

@@ -1,3 +1,6 @@
+mod blocks;
+mod cbm;
+mod chains;
 mod disk;
 mod entries;
 mod faults;

@@ -1,7 +1,8 @@
 //! What `list` prints, and `cat` of files of many extents.
 
 use super::{is_refused, run_on};
-use rd_rows::cpm::{FILE, NewEntry, blank, filled, hello, put, put_entry, with_entries};
+use rd_rows::bytes::put;
+use rd_rows::cpm::{FILE, NewEntry, blank, filled, hello, put_entry, with_entries};
 use std::alloc::{Alloc, AllocGlobal};
 use std::process::Abort;
 use std::test::Fail;

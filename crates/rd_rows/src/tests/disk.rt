@@ -7,7 +7,7 @@ fn kinds_have_words(rt: HostRuntime) {
     assert_eq!(rt; Kind::Cpm8.word(), "cpm8");
     assert_eq!(rt; Kind::Cpm8.size(), 256_256);
     assert_eq!(rt; Kind::from_word("cpm8"), Some(Kind::Cpm8));
-    for word in ["", "cpm", "cpm88", "CPM8", "d64", " cpm8"] {
+    for word in ["", "cpm", "cpm88", "CPM8", " cpm8"] {
         assert_eq!(rt; Kind::from_word(word), None, "of {word:?}");
     }
 }

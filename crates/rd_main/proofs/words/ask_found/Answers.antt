@@ -1,4 +1,4 @@
-use Rattle.std.proofs.Common.{List, subst}
+use Rattle.std.proofs.Common.{subst}
 use Rattle.rd_main.specs.Asks.{AreCatRows}
 use Rattle.rd_main.proofs.Asked.{rows_met}
 use Rattle.rd_main.proofs.words.ask_found.Goals as goal

@@ -1,0 +1,5 @@
+pub mod Marks
+pub mod WalkLaws
+pub mod Steps
+pub mod Existence
+pub mod Inside
