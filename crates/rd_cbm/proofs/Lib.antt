@@ -3,3 +3,12 @@ pub mod WalkLaws
 pub mod Steps
 pub mod Existence
 pub mod Inside
+pub mod EntryLemmas
+pub mod UseLemmas
+pub mod ClaimLemmas
+pub mod CountLemmas
+pub mod BitLemmas
+pub mod Tests
+pub mod FileLemmas
+pub mod ListingLemmas
+pub mod MapLemmas

@@ -1,2 +1,9 @@
 pub mod Links
 pub mod Walks
+pub mod Counts
+pub mod Entries
+pub mod Files
+pub mod Faults
+pub mod BlockMap
+pub mod Listing
+pub mod Marked

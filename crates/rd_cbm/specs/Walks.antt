@@ -16,8 +16,8 @@ next_of (Next n) = Some n
 next_of (Last e) = None
 next_of Off = None
 
--- place i, counted from 0, of the walk from s: the block there, if the walk comes that far. Place 0 is s,
--- where it is on the disk; place i + 1 is the block that the link of place i leads to.
+-- place i, counted from 0, of the walk from s: the block there, if the walk comes that far. Place 0
+-- is s, where it is on the disk; place i + 1 is the block that the link of place i leads to.
 unfoldable pub at : Links → Option ℕ → ℕ → Option ℕ
 at link s zero = s
 at link s (suc i) = option_and_then (λ n. next_of (link n)) (at link s i)

@@ -1,6 +1,7 @@
 use rd_geometry::Items;
 
-/// Where a block leads, by its bytes 0 and 1: track and sector of the next block (1541 User's Guide).
+/// Where a block leads, by its bytes 0 and 1: track and sector of the next block (1541 User's
+/// Guide).
 #[derive(Clone, Copy, Debug, PartialEq, Eq, Hash)]
 pub enum Link {
     /// Track 0: it is the last block, and this is its byte 1, the position of the last byte used.

@@ -10,7 +10,7 @@ use rd_geometry::{CbmDisk, Geometry, Items, NoMemory};
 use std::alloc::Global;
 
 /// How many blocks a disk has.
-const BLOCKS: usize = 683;
+pub(crate) const BLOCKS: usize = 683;
 
 /// Where block `n`, 0 to 682, of a disk leads: its bytes 0 and 1 (1541 User's Guide).
 #[tactic(auto, unfolding(crate::specs::Links::link_of))]
@@ -55,9 +55,9 @@ fn walk(disk: &CbmDisk, start: Option<u16>, blocks: &mut Vec<u16>) -> Result<End
     Ok(End::Loop)
 }
 
-/// The chain of a track and a sector: the blocks that the walk along the links from there comes to, at
-/// most 683, each once and in order, and how the walk ends. From a start that is not on the disk there
-/// are no blocks, and the end is `Off`.
+/// The chain of a track and a sector: the blocks that the walk along the links from there comes to,
+/// at most 683, each once and in order, and how the walk ends. From a start that is not on the disk
+/// there are no blocks, and the end is `Off`.
 ///
 /// It fails only where memory is refused.
 pub fn chain(alloc: Global, disk: &CbmDisk, start: (u8, u8)) -> Result<Chain, NoMemory>
@@ -74,8 +74,9 @@ pub fn chain(alloc: Global, disk: &CbmDisk, start: (u8, u8)) -> Result<Chain, No
     })
 }
 
-/// A law, which no code calls: on each image the walk from each start ends in exactly one way, with one
-/// last byte where it ends at a last block; and there is a 684th place on it only where it loops.
+/// A law, which no code calls: on each image the walk from each start ends in exactly one way, with
+/// one last byte where it ends at a last block; and there is a 684th place on it only where it
+/// loops.
 pub fn each_walk_ends_once()
     ensures once { (image : List ℕ) (track sector : ℕ) → EndsOnce (link_of image) (index_of track sector) }
     ensures long { (image : List ℕ) (track sector n : ℕ) → walks.at (link_of image) (index_of track sector) CBM_BLOCKS ≡ Some n

@@ -1,7 +1,4 @@
-use Rattle.std.proofs.Common.{rules, ◌≡◌, ◌∙◌, sym, refl, subst}
-use Rattle.rd_geometry.specs.CbmDisks.{cbm_bytes}
-use Rattle.rd_cbm.specs.Links.{link_of}
-use Rattle.rd_cbm.specs.Walks.{IsChain}
+use Rattle.std.proofs.Common.{rules, sym, refl}
 use Rattle.rd_cbm.proofs.Steps.{noted_more, walk_on, chain_none, chain_stopped, chain_looped, loops, first_block}
 use Rattle.rd_cbm.proofs.walk.walk.Goals as goal
 

@@ -1,0 +1,77 @@
+-- The bits of a number below 16 that is a sum of weights.
+use Rattle.std.proofs.Common.{◌≡◌, ◌≢◌, ◌∙◌, ◌⊎◌, inl, inr, ◌↔◌, ◌+◌, ◌*◌, ◌/◌, ◌%◌, ◌<◌, ◌≤◌, ℕ, Bool, true, false, IsTrue, List, cond, eqb, eq-eqb, eqb-true, bit_and, arith, refl, sym}
+use Rattle.std.proofs.lemmas.Bool.{agree_below_at, cases_eq}
+use Rattle.std.specs.Int.Bits.{and_zero_l}
+use Rattle.rd_cbm.specs.declared.chains.Chain.{Chain}
+use Rattle.rd_cbm.specs.declared.chains.End.TheVariants as end
+use Rattle.rd_cbm.specs.Entries.{IsClosed}
+use Rattle.rd_cbm.specs.Marked.{AreTold, SomeShared}
+
+-- the digit of a flag
+pub digit : Bool → ℕ
+digit true = 1
+digit false = 0
+
+digit-bound : (b : Bool) → digit b ≤ 1
+unfolding digit
+digit-bound true = omega arith
+digit-bound false = omega arith
+
+-- a weight where the flag is set is the weight times the digit
+pub weighed : (b : Bool) (m w : ℕ) → w ≡ cond b m 0 → w ≡ m * digit b
+unfolding digit
+weighed true m w is = omega arith
+weighed false m w is = omega arith
+
+digit_test : (b : Bool) → IsTrue b ↔ (digit b ≢ 0)
+unfolding digit
+digit_test true = (λ _ none. let z : 1 ≡ 0 = none in absurd (omega arith), λ _. refl)
+digit_test false = (λ t. let wrong : false ≡ true = t in absurd (cc), λ some. absurd (some refl))
+
+-- two tests that agree tell of the same
+same_zero : (x y : ℕ) → eqb x 0 ≡ eqb y 0 → (x ≢ 0) ↔ (y ≢ 0)
+same_zero x y same = (
+  λ some none. some (eqb-true _ _ (same ∙ eq-eqb y 0 none)),
+  λ some none. some (eqb-true _ _ (sym same ∙ eq-eqb x 0 none)),
+)
+
+-- the bit of weight m is set exactly where the flag of its digit is
+told_bit : {P : Type 0} (n m : ℕ) (b : Bool) → eqb (bit_and n m) 0 ≡ eqb (n / m % 2) 0 → n / m % 2 ≡ digit b → IsTrue b ↔ P → (bit_and n m ≢ 0) ↔ P
+told_bit n m b agree is test =
+    let same = same_zero (bit_and n m) (n / m % 2) agree in (
+      λ set. test.0 ((digit_test b).1 (λ none. same.0 set (is ∙ none))),
+      λ fact. same.1 (λ none. (digit_test b).0 (test.1 fact) (sym is ∙ none)),
+    )
+
+-- What four tests tell of a file is told by the sum of the weights of those that answer true.
+pub told : (shared : List Bool) (type : ℕ) (contents sides : Chain) (a b c d : Bool) (n : ℕ)
+    → n ≡ digit a + 2 * digit b + 4 * digit c + 8 * digit d → IsTrue a ↔ (¬ IsClosed type)
+    → IsTrue b ↔ ((contents.end ≡ end.Off) ⊎ (sides.end ≡ end.Off)) → IsTrue c ↔ ((contents.end ≡ end.Loop) ⊎ (sides.end ≡ end.Loop))
+    → IsTrue d ↔ (SomeShared shared contents.blocks ⊎ SomeShared shared sides.blocks) → AreTold shared type contents sides n
+told shared type contents sides a b c d n is test_a test_b test_c test_d =
+    let a1 : digit a ≤ 1 = digit-bound a in let b1 : digit b ≤ 1 = digit-bound b in
+    let c1 : digit c ≤ 1 = digit-bound c in let d1 : digit d ≤ 1 = digit-bound d in
+    let low : n < 16 = omega arith in
+    record {
+      not_closed = told_bit n 1 a (agree_below_at (λ k. eqb (bit_and k 1) 0) (λ k. eqb (k / 1 % 2) 0) 16 n refl low) (omega arith) test_a;
+      off_disk = told_bit n 2 b (agree_below_at (λ k. eqb (bit_and k 2) 0) (λ k. eqb (k / 2 % 2) 0) 16 n refl low) (omega arith) test_b;
+      loop = told_bit n 4 c (agree_below_at (λ k. eqb (bit_and k 4) 0) (λ k. eqb (k / 4 % 2) 0) 16 n refl low) (omega arith) test_c;
+      crossed = told_bit n 8 d (agree_below_at (λ k. eqb (bit_and k 8) 0) (λ k. eqb (k / 8 % 2) 0) 16 n refl low) (omega arith) test_d;
+      no_other = low;
+    }
+
+-- no bit of 0 is set
+pub no_bit : (m : ℕ) → (bit_and 0 m ≢ 0) → ⊥
+no_bit m set = set (and_zero_l m)
+
+clear : (n m : ℕ) → eqb (bit_and n m) 0 ≡ eqb (n / m % 2) 0 → ¬ (bit_and n m ≢ 0) → n / m % 2 ≡ 0
+clear n m agree none = elim (cases_eq (n / m % 2) 0) [ inl zero ↦ zero | inr some ↦ absurd (none ((same_zero (bit_and n m) (n / m % 2) agree).1 some)) ]
+
+-- a number below 16 with none of its four bits set is 0
+pub no_bits : (n : ℕ) → n < 16 → ¬ (bit_and n 1 ≢ 0) → ¬ (bit_and n 2 ≢ 0) → ¬ (bit_and n 4 ≢ 0) → ¬ (bit_and n 8 ≢ 0) → n ≡ 0
+no_bits n low a b c d =
+    let a0 : n / 1 % 2 ≡ 0 = clear n 1 (agree_below_at (λ k. eqb (bit_and k 1) 0) (λ k. eqb (k / 1 % 2) 0) 16 n refl low) a in
+    let b0 : n / 2 % 2 ≡ 0 = clear n 2 (agree_below_at (λ k. eqb (bit_and k 2) 0) (λ k. eqb (k / 2 % 2) 0) 16 n refl low) b in
+    let c0 : n / 4 % 2 ≡ 0 = clear n 4 (agree_below_at (λ k. eqb (bit_and k 4) 0) (λ k. eqb (k / 4 % 2) 0) 16 n refl low) c in
+    let d0 : n / 8 % 2 ≡ 0 = clear n 8 (agree_below_at (λ k. eqb (bit_and k 8) 0) (λ k. eqb (k / 8 % 2) 0) 16 n refl low) d in
+    omega arith

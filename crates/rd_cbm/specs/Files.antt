@@ -1,0 +1,43 @@
+-- The files of a 1541 directory, and the blocks that they claim. The blocks of the directory are
+-- handed in as a list: they are the chain of 18/1.
+use Rattle.std.specs.Prelude.{◌≡◌, ◌≢◌, ℕ, ◌*◌, ◌<◌, ◌⊎◌, List, Some, Contains, length}
+use Rattle.rd_geometry.specs.Blocks.{index_of}
+use Rattle.rd_cbm.specs.Links.{link_of}
+use Rattle.rd_cbm.specs.Walks.{IsChain, Reaches}
+use Rattle.rd_cbm.specs.Entries.{Way, entry_at, type_of, start_of, ClaimsBy}
+
+-- the blocks are those of the directory: the chain of 18/1, whatever 18/0 links to
+abbrev pub AreDirectoryBlocks : List ℕ → List ℕ → Type 0
+AreDirectoryBlocks image blocks = IsChain (link_of image) (index_of 18 1) blocks
+
+-- The slot is a file's: one of the directory's, and its entry is used.
+pub record IsFileSlot (image blocks : List ℕ) (slot : ℕ) : Type 0 where
+  pub inside : slot < 8 * length blocks
+  pub used : type_of (entry_at image blocks slot) ≢ 0
+
+-- The file at a slot claims a block by one of its chains.
+pub record Claims (image blocks : List ℕ) (slot : ℕ) (way : Way) (block : ℕ) : Type 0 where
+  pub file : IsFileSlot image blocks slot
+  pub claimant : ClaimsBy (type_of (entry_at image blocks slot)) way
+  pub on_chain : Reaches (link_of image) (start_of (entry_at image blocks slot) way) block
+
+-- The block is the disk's own: 18/0, which holds the block map, or one of the directory.
+abbrev pub IsSystem : List ℕ → ℕ → Type 0
+IsSystem blocks block = (index_of 18 0 ≡ Some block) ⊎ Contains blocks block
+
+-- A file claims the block.
+pub record IsClaimed (image blocks : List ℕ) (block : ℕ) : Type 0 where
+  pub slot : ℕ
+  pub way : Way
+  pub claim : Claims image blocks slot way block
+
+-- the block is in use: a file claims it, or it is the disk's own
+abbrev pub IsInUse : List ℕ → List ℕ → ℕ → Type 0
+IsInUse image blocks block = IsSystem blocks block ⊎ IsClaimed image blocks block
+
+-- Another slot claims the block, or the slot's other chain.
+pub record HasOtherClaim (image blocks : List ℕ) (slot : ℕ) (way : Way) (block : ℕ) : Type 0 where
+  pub other_slot : ℕ
+  pub other_way : Way
+  pub claim : Claims image blocks other_slot other_way block
+  pub other : other_slot ≡ slot → other_way ≡ way → ⊥
