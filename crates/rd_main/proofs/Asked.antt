@@ -1,5 +1,5 @@
 -- What the getters of `clap` read of the operands of a command.
-use Rattle.std.proofs.Common.{◌≡◌, ◌∙◌, ℕ, List, Option, Some, None, Result, option_map, IfOk, IfErr, sym, ap, subst, true, inl, inr, codes, arith, refl, slice_index}
+use Rattle.std.proofs.Common.{◌≡◌, ◌≢◌, ◌∙◌, ℕ, List, Option, Some, None, Result, option_map, IfSome, IfNone, IfOk, IfErr, sym, ap, subst, true, inl, inr, codes, arith, refl, slice_index}
 use Rattle.std.specs.Prelude.{IsSomeAnd, ok_or}
 use Rattle.std.specs.Str.Parse.{ExplainsUnsignedError, HasUnsignedDigitsIfOk, ParsesUnsigned}
 use Rattle.std.specs.declared.num.ParseIntError.{ParseIntError}
@@ -15,6 +15,7 @@ use Rattle.std.specs.declared.alloc.Global.{Global}
 use Rattle.clap.specs.declared.parser.matches.Found.{Found}
 use Rattle.clap.proofs.WalkLemmas.{first_value-rows}
 use Rattle.rd_geometry.specs.declared.kind.Kind.{Kind}
+use Rattle.rd_geometry.specs.Kinds.{word_of}
 use Rattle.rd_main.specs.Asks.{EntersCat, EntersList, IsFileAsk, IsFilesAsk}
 use Rattle.rd_main.specs.CommandLine.{IsDeskApp}
 use Rattle.rd_main.specs.Words.{AsksCat, AsksList, IsCommand, IsSlotText}
@@ -22,6 +23,7 @@ use Rattle.rd_main.specs.declared.words.Ask.{Ask}
 use Rattle.rd_main.specs.declared.words.Unread.{Unread}
 use Rattle.rd_main.proofs.CatLine.{gives_cat, simple, takes_cat}
 use Rattle.rd_main.proofs.ListLine.{gives_list, takes_list}
+use Rattle.rd_main.proofs.Texts.{same_kind}
 
 -- the text that a getter gives is the one in the rows
 pub text_is : (found : Found) (id s t : Text) → Some s ≡ first_value found id → first_of id (rows_of found) ≡ Some t → s ≡ t
@@ -30,6 +32,12 @@ text_is found id s t given there = let same : Some s ≡ Some t = given ∙ firs
 -- where the rows have a text a getter gives one
 pub text_there : (found : Found) (id t : Text) → None ≡ first_value found id → first_of id (rows_of found) ≡ Some t → ⊥
 text_there found id t none there = let same : None ≡ Some t = none ∙ first_value-rows found id ∙ there in cc
+
+-- the kind of a kind's word
+pub kind_is : (r : Option Kind) (word : Text) (kind : Kind) → IfSome r (λ k. word ≡ word_of k) → IfNone r ((k : Kind) → word ≢ word_of k)
+    → word ≡ word_of kind → r ≡ Some kind
+kind_is (Some k) word kind found none is = ap Some (same_kind k kind (sym found ∙ is))
+kind_is None word kind found none is = absurd (none kind is)
 
 -- how `parse` reads a `u16`
 abbrev pub Reads : Text → Result ℕ ParseIntError → Type 0

@@ -83,7 +83,7 @@ pub takes_cat : (app : App) (words : List Text) (kind : Kind) (image : Text) (sl
 takes_cat app words kind image slot desk asks =
     ap₂ takes desk.is asks.spelled
     ∙ takes_operands desk.cat_kinds desk.list_kinds (word_of kind) image asks.slot_text (words_plain kind image asks.slot_text slot asks.operand asks.number)
-    (kind_accepted desk.cat_kinds kind asks.taken desk.cat_names) (slot_accepted asks.slot_text slot asks.number)
+    (kind_accepted desk.cat_kinds kind desk.cat_names) (slot_accepted asks.slot_text slot asks.number)
 
 -- a parse of a command enters `cat`, with the command's operands
 pub gives_cat : (app : App) (words : List Text) (kind : Kind) (image : Text) (slot : ℕ) → IsDeskApp app → AsksCat words kind image slot
@@ -96,7 +96,6 @@ gives_cat app words kind image slot desk asks =
       into = ap₂ subcommand_of desk.is asks.spelled ∙ enters_cat desk.cat_kinds desk.list_kinds (word_of kind) image asks.slot_text
           ∙ ap (λ (rows : List Row). Some (codes "cat", rows)) (rows_after-plain (cat_leaf desk.cat_kinds desk.list_kinds).rules operands plain);
       found = record {
-        taken = asks.taken;
         kind_found = kind_row desk.cat_kinds desk.list_kinds (word_of kind) image asks.slot_text;
         image_found = image_row desk.cat_kinds desk.list_kinds (word_of kind) image asks.slot_text;
         slot_text = asks.slot_text;

@@ -74,7 +74,7 @@ pub takes_list : (app : App) (words : List Text) (kind : Kind) (image : Text) �
 takes_list app words kind image desk asks =
     ap₂ takes desk.is asks.spelled
     ∙ takes_operands desk.list_kinds desk.cat_kinds (word_of kind) image (words_plain kind image asks.operand)
-    (kind_accepted desk.list_kinds kind asks.taken desk.list_names)
+    (kind_accepted desk.list_kinds kind desk.list_names)
 
 -- a parse of a command enters `list`, with the command's operands
 pub gives_list : (app : App) (words : List Text) (kind : Kind) (image : Text) → IsDeskApp app → AsksList words kind image
@@ -87,7 +87,6 @@ gives_list app words kind image desk asks =
       into = ap₂ subcommand_of desk.is asks.spelled ∙ enters_list desk.list_kinds desk.cat_kinds (word_of kind) image
           ∙ ap (λ (rows : List Row). Some (codes "list", rows)) (rows_after-plain (list_leaf desk.list_kinds desk.cat_kinds).rules operands plain);
       found = record {
-        taken = asks.taken;
         kind_found = kind_row desk.list_kinds desk.cat_kinds (word_of kind) image;
         image_found = image_row desk.list_kinds desk.cat_kinds (word_of kind) image;
       };

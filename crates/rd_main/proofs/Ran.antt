@@ -6,7 +6,7 @@ use Rattle.rd_main.specs.Asks.{AsksFile}
 use Rattle.rd_main.specs.Cat.{HasNoSoundFile, IsCut, Refuses}
 use Rattle.rd_main.specs.Refusals.{status_of}
 use Rattle.rd_main.specs.declared.refusal.Refusal.{Refusal}
-use Rattle.rd_main.specs.declared.refusal.Refusal.TheVariants.{Usage, Device, NoMemory, WrongSize, NoFile, Faulty}
+use Rattle.rd_main.specs.declared.refusal.Refusal.TheVariants.{Usage, Device, NoMemory, WrongSize, NoFile, ListedOnly, Faulty}
 use Rattle.rd_main.specs.declared.words.FileAsk.{FileAsk}
 
 -- what holds of the kind and the slot that were read holds of those that were asked for
@@ -25,7 +25,8 @@ no_sound_file Device kind slot image old new status refused = absurd (omega arit
 no_sound_file NoMemory kind slot image old new status refused = absurd (omega arith)
 no_sound_file WrongSize kind slot image old new status refused = inl refused.1
 no_sound_file NoFile kind slot image old new status refused = inr (inl refused.1)
-no_sound_file (Faulty faults) kind slot image old new status refused = inr (inr refused.1)
+no_sound_file ListedOnly kind slot image old new status refused = inr (inr (inl refused.1))
+no_sound_file (Faulty of_kind faults) kind slot image old new status refused = inr (inr (inr refused.1))
 
 -- a refusal with the status 3 has written no more than a part
 pub is_cut : (refusal : Refusal) (kind : Kind) (slot : ℕ) (image : List ℕ) (old new : Option (List ℕ)) → status_of refusal ≡ 3
@@ -35,7 +36,8 @@ is_cut Device kind slot image old new status refused = refused
 is_cut NoMemory kind slot image old new status refused = inl refused
 is_cut WrongSize kind slot image old new status refused = inl refused.0
 is_cut NoFile kind slot image old new status refused = inl refused.0
-is_cut (Faulty faults) kind slot image old new status refused = inl refused.0
+is_cut ListedOnly kind slot image old new status refused = inl refused.0
+is_cut (Faulty of_kind faults) kind slot image old new status refused = inl refused.0
 
 -- nothing was written where the words were not read
 pub kept_is_cut : (known : Option (List ℕ)) (kind : Kind) (slot : ℕ) (old new : Option (List ℕ)) → Keeps old new → IfSome known (λ image. IsCut kind slot image old new)

@@ -16,7 +16,7 @@ use Rattle.rd_geometry.specs.declared.kind.Kind.{Kind}
 use Rattle.rd_geometry.specs.declared.kind.Kind.TheVariants.{Cpm8, D64}
 use Rattle.rd_geometry.specs.Kinds.{word_of}
 use Rattle.rd_main.specs.CommandLine.{AreKindNames, NameList}
-use Rattle.rd_main.specs.Words.{IsOperand, IsSlotText, IsTaken}
+use Rattle.rd_main.specs.Words.{IsOperand, IsSlotText}
 use Rattle.rd_main.proofs.Operands.{IsPlainWord, cons_plain, empty_plain, hyphen_plain}
 
 -- an operand is no flag
@@ -30,12 +30,15 @@ pub kind_plain : (kind : Kind) → IsPlainWord (word_of kind)
 kind_plain Cpm8 = cons_plain _ _ refl
 kind_plain D64 = cons_plain _ _ refl
 
--- the word of a kind that is taken is among the names of the kinds
-pub kind_accepted : (kinds : NameList) (kind : Kind) → IsTaken kind → AreKindNames kinds → accepts false (Names kinds) (word_of kind) ≡ true
-kind_accepted kinds kind taken names =
+-- the word of a kind is among the names of the kinds
+pub kind_accepted : (kinds : NameList) (kind : Kind) → AreKindNames kinds → accepts false (Names kinds) (word_of kind) ≡ true
+kind_accepted kinds kind names =
     list_any-map (λ name. same_text false name (word_of kind)) (λ name. name.now) kinds.now
-    ∙ ap (list_any (λ name. same_text false name (word_of kind))) names
-    ∙ ap (λ k. list_any (λ name. same_text false name (word_of k)) (codes "cpm8" ∷ [])) taken
+    ∙ ap (list_any (λ name. same_text false name (word_of kind))) names ∙ among kind
+  where
+    among : (k : Kind) → list_any (λ name. same_text false name (word_of k)) (codes "cpm8" ∷ codes "d64" ∷ []) ≡ true
+    among Cpm8 = refl
+    among D64 = refl
 
 -- no two kinds have one word
 pub same_kind : (k l : Kind) → word_of k ≡ word_of l → k ≡ l

@@ -1,12 +1,11 @@
 -- What writers have gained.
-use Rattle.std.proofs.Common.{◌≡◌, ◌∙◌, ℕ, ◌+◌, ◌-◌, ◌<◌, ◌≤◌, List, [], ◌++◌, Option, Some, None, Result, Ok, Err, OnErr, append-nil, append_assoc, drop, drop-cons, get_or, length, length-drop, take, subst, sym, suc, ap, arith}
-use Rattle.std.proofs.lemmas.Grind.{flat_map-append}
+use Rattle.std.proofs.Common.{◌≡◌, ◌∙◌, ℕ, ◌+◌, ◌-◌, ◌≤◌, List, [], ◌∷◌, ◌++◌, Option, Some, None, Result, Ok, Err, OnErr, append-nil, append_assoc, drop, length, length-drop, take, subst, sym, ap, arith}
+use Rattle.std.specs.List.{concat}
 use Rattle.std.proofs.lemmas.List.{take-append-drop, take_all}
+use Rattle.std.proofs.lemmas.List.Folds.{concat-append}
 use Rattle.std.specs.Io.KnownBytes.{Appends, Keeps}
 use Rattle.std.proofs.KnownBytes.{Appends-kept, Appends-trans, Keeps-trans}
 use lib.Seq.{take-add}
-use Rattle.rd_geometry.specs.Places.{cpm_unit}
-use Rattle.rd_cpm.specs.Contents.{bytes_of_sectors}
 use Rattle.rd_main.specs.Output.{AppendsPart}
 
 -- a writer that has gained nothing is as it was
@@ -35,26 +34,22 @@ part_written old mid new bytes at before kept = record {
   gained = Appends-kept old mid new (take at bytes) before kept;
 }
 
-units_split : (image units : List ℕ) (k : ℕ) → k < length units
-    → bytes_of_sectors image units ≡ bytes_of_sectors image (take k units) ++ (cpm_unit image (get_or units k 0) ++ bytes_of_sectors image (drop (suc k) units))
-units_split image units k within =
-    ap (bytes_of_sectors image) (sym (take-append-drop k units))
-    ∙ flat_map-append (cpm_unit image) (take k units) (drop k units)
-    ∙ ap (λ l. bytes_of_sectors image (take k units) ++ bytes_of_sectors image l) (drop-cons units k 0 within)
+-- one more piece is written
+pub piece_more : (old mid new : Option (List ℕ)) (before : List (List ℕ)) (piece : List ℕ) → Appends old mid (concat before) → Appends mid new piece
+    → Appends old new (concat (before ++ piece ∷ []))
+piece_more old mid new before piece written more =
+    subst (Appends old new) (sym (concat-append before (piece ∷ []) ∙ ap (λ l. concat before ++ l) (append-nil piece)))
+    (Appends-trans old mid new (concat before) piece written more)
 
--- where a unit is written in part, so are the units
-pub units_part : (old mid new : Option (List ℕ)) (image units bytes : List ℕ) (k : ℕ) → k < length units
-    → Appends old mid (bytes_of_sectors image (take k units)) → bytes ≡ cpm_unit image (get_or units k 0) → AppendsPart mid new bytes
-    → AppendsPart old new (bytes_of_sectors image units)
-units_part old mid new image units bytes k within before unit part =
-    let front = bytes_of_sectors image (take k units) in
-    let back = bytes_of_sectors image (drop (suc k) units) in
-    record {
-      part = front ++ part.part;
-      rest = part.rest ++ back;
-      whole = units_split image units k within ∙ ap (λ l. front ++ (l ++ back)) (sym unit ∙ part.whole) ∙ simp append_assoc;
-      gained = Appends-trans old mid new front part.part before part.gained;
-    }
+-- where a piece is written in part, so are the pieces
+pub pieces_part : (old mid new : Option (List ℕ)) (all before after : List (List ℕ)) (piece : List ℕ) → before ++ (piece ∷ after) ≡ all
+    → Appends old mid (concat before) → AppendsPart mid new piece → AppendsPart old new (concat all)
+pieces_part old mid new all before after piece are written part = record {
+  part = concat before ++ part.part;
+  rest = part.rest ++ concat after;
+  whole = ap concat (sym are) ∙ concat-append before (piece ∷ after) ∙ ap (λ l. concat before ++ (l ++ concat after)) part.whole ∙ simp append_assoc;
+  gained = Appends-trans old mid new (concat before) part.part written part.gained;
+}
 
 -- at an error a part is written
 pub on_err : {T E P : Type 0} (r : Result T E) → P → OnErr r P

@@ -7,18 +7,16 @@ use Rattle.rd_main.specs.declared.words.Ask.{Ask}
 use Rattle.rd_main.specs.declared.words.Ask.TheVariants.{File, Files}
 use Rattle.rd_main.specs.declared.words.FileAsk.{FileAsk}
 use Rattle.rd_main.specs.declared.words.ImageAsk.{ImageAsk}
-use Rattle.rd_main.specs.Words.{IsSlotText, IsTaken}
+use Rattle.rd_main.specs.Words.{IsSlotText}
 
--- the file at the slot of the image of the kind, which the commands take, is asked for
+-- the file at the slot of the image of the kind is asked for
 pub record AsksFile (ask : FileAsk) (kind : Kind) (image : List ℕ) (slot : ℕ) : Type 0 where
-  pub taken : IsTaken kind
   pub kind_is : ask.kind ≡ kind
   pub image_is : ask.image.now ≡ image
   pub slot_is : ask.slot ≡ slot
 
--- the files of the image of the kind, which the commands take, are asked for
+-- the files of the image of the kind are asked for
 pub record AsksFiles (ask : ImageAsk) (kind : Kind) (image : List ℕ) : Type 0 where
-  pub taken : IsTaken kind
   pub kind_is : ask.kind ≡ kind
   pub image_is : ask.image.now ≡ image
 
@@ -32,9 +30,8 @@ abbrev pub IsFilesAsk : Kind → List ℕ → Ask → Type 0
 IsFilesAsk kind image (File ask) = ⊥
 IsFilesAsk kind image (Files ask) = AsksFiles ask kind image
 
--- the operands that `clap` found for `cat`, of a kind that it takes
+-- the operands that `clap` found for `cat`
 pub record AreCatRows (rows : List Row) (kind : Kind) (image : List ℕ) (slot : ℕ) : Type 0 where
-  pub taken : IsTaken kind
   pub kind_found : first_of (codes "KIND") rows ≡ Some (word_of kind)
   pub image_found : first_of (codes "IMAGE") rows ≡ Some image
   pub slot_text : List ℕ
@@ -48,9 +45,8 @@ pub record EntersCat (entered : Option (Text × List Row)) (kind : Kind) (image 
   pub into : entered ≡ Some (codes "cat", rows)
   pub found : AreCatRows rows kind image slot
 
--- the operands that `clap` found for `list`, of a kind that it takes
+-- the operands that `clap` found for `list`
 pub record AreListRows (rows : List Row) (kind : Kind) (image : List ℕ) : Type 0 where
-  pub taken : IsTaken kind
   pub kind_found : first_of (codes "KIND") rows ≡ Some (word_of kind)
   pub image_found : first_of (codes "IMAGE") rows ≡ Some image
 

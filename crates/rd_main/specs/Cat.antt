@@ -3,24 +3,20 @@ use Rattle.std.specs.Prelude.{◌≡◌, ◌≢◌, ◌⊎◌, ℕ, List, Option
 use Rattle.std.specs.Io.KnownBytes.{Appends, Keeps}
 use Rattle.rd_geometry.specs.Kinds.{size_of}
 use Rattle.rd_geometry.specs.declared.kind.Kind.{Kind}
-use Rattle.rd_cpm.specs.Contents.{AreSectors, bytes_of_sectors}
-use Rattle.rd_cpm.specs.Entries.{slot_of}
-use Rattle.rd_cpm.specs.Faults.{IsSound}
-use Rattle.rd_cpm.specs.Files.{IsFileSlot}
+use Rattle.rd_volume.specs.Volumes.{AreBytesOf, HasNoFault, IsOfServedClass, IsSlotOfFile}
 use Rattle.rd_main.specs.Output.{AppendsPart}
 use Rattle.rd_main.specs.declared.refusal.Refusal.{Refusal}
 use Rattle.rd_main.specs.declared.refusal.Refusal.TheVariants.{Usage, Device, NoMemory}
-use Rattle.rd_main.specs.declared.refusal.Refusal.TheVariants.{WrongSize, NoFile, Faulty}
+use Rattle.rd_main.specs.declared.refusal.Refusal.TheVariants.{WrongSize, NoFile, ListedOnly, Faulty}
 
--- The bytes are an image of the kind, the slot is that of a file, the file is sound, and out is
--- exactly the file's bytes.
+-- The bytes are an image of the kind, the slot is that of a file, the file is of the class that is served
+-- and has no fault, and out is exactly the file's bytes.
 pub record IsCat (kind : Kind) (slot : ℕ) (image out : List ℕ) : Type 0 where
   pub size : length image ≡ size_of kind
-  pub file : IsFileSlot (slot_of image) slot
-  pub sound : IsSound (slot_of image) slot
-  pub sectors : List ℕ
-  pub are_sectors : AreSectors (slot_of image) slot sectors
-  pub bytes : out ≡ bytes_of_sectors image sectors
+  pub file : IsSlotOfFile kind image slot
+  pub served : IsOfServedClass kind image slot
+  pub no_fault : HasNoFault kind image slot
+  pub bytes : AreBytesOf kind image slot out
 
 -- A writer has gained exactly the bytes of the file at the slot of the image.
 pub record Serves (kind : Kind) (slot : ℕ) (image : List ℕ) (old new : Option (List ℕ))
@@ -43,18 +39,29 @@ IsCut kind slot image old new = Keeps old new ⊎ ServesPart kind slot image old
 -- The bytes are an image of the kind, and the slot is that of no file.
 pub record HasNoFile (kind : Kind) (slot : ℕ) (image : List ℕ) : Type 0 where
   pub size : length image ≡ size_of kind
-  pub absent : ¬ IsFileSlot (slot_of image) slot
+  pub absent : ¬ IsSlotOfFile kind image slot
 
--- The bytes are an image of the kind, the slot is that of a file, and the file has a fault.
+-- The bytes are an image of the kind, the slot is that of a file, and the file is not of the class that
+-- is served.
+pub record IsListedOnly (kind : Kind) (slot : ℕ) (image : List ℕ) : Type 0 where
+  pub size : length image ≡ size_of kind
+  pub file : IsSlotOfFile kind image slot
+  pub not_served : ¬ IsOfServedClass kind image slot
+
+-- The bytes are an image of the kind, the slot is that of a file, and the file is of the class that is
+-- served and has a fault.
 pub record HasFaultyFile (kind : Kind) (slot : ℕ) (image : List ℕ) : Type 0 where
   pub size : length image ≡ size_of kind
-  pub file : IsFileSlot (slot_of image) slot
-  pub faulty : ¬ IsSound (slot_of image) slot
+  pub file : IsSlotOfFile kind image slot
+  pub served : IsOfServedClass kind image slot
+  pub faulty : ¬ HasNoFault kind image slot
 
--- The bytes are no image of the kind, no file of it has the slot, or that file is not sound.
+-- The bytes are no image of the kind, no file of it has the slot, or that file is not of the class that
+-- is served or has a fault.
 abbrev pub HasNoSoundFile : Kind → ℕ → List ℕ → Type 0
 HasNoSoundFile kind slot image =
-    (length image ≢ size_of kind) ⊎ (HasNoFile kind slot image ⊎ HasFaultyFile kind slot image)
+    (length image ≢ size_of kind) ⊎ (HasNoFile kind slot image
+    ⊎ (IsListedOnly kind slot image ⊎ HasFaultyFile kind slot image))
 
 -- Why `cat` is refused, and what was written then.
 abbrev pub Refuses : Refusal → Kind → ℕ → List ℕ → Option (List ℕ) → Option (List ℕ) → Type 0
@@ -63,4 +70,6 @@ Refuses Device kind slot image old new = IsCut kind slot image old new
 Refuses NoMemory kind slot image old new = Keeps old new
 Refuses WrongSize kind slot image old new = Keeps old new × (length image ≢ size_of kind)
 Refuses NoFile kind slot image old new = Keeps old new × HasNoFile kind slot image
-Refuses (Faulty faults) kind slot image old new = Keeps old new × HasFaultyFile kind slot image
+Refuses ListedOnly kind slot image old new = Keeps old new × IsListedOnly kind slot image
+Refuses (Faulty of_kind faults) kind slot image old new =
+    Keeps old new × HasFaultyFile kind slot image

@@ -53,7 +53,7 @@ desk_app kinds kinds' = with_subcommand (with_subcommand (on_top wants_command (
 
 -- the names are those of the kinds that a command takes
 abbrev pub AreKindNames : NameList → Type 0
-AreKindNames kinds = map (λ name. name.now) kinds.now ≡ codes "cpm8" ∷ []
+AreKindNames kinds = map (λ name. name.now) kinds.now ≡ codes "cpm8" ∷ codes "d64" ∷ []
 
 -- an operand for one of the kinds
 abbrev pub IsKindRule : Rule → Type 0

@@ -3,12 +3,7 @@ use Rattle.std.specs.Prelude.{◌≡◌, ◌≢◌, ◌≤◌, ◌⊎◌, ℕ, L
 use Rattle.std.specs.Str.Parse.{ParsesUnsigned}
 use Rattle.std.specs.declared.num.ParseIntError.{ParseIntError}
 use Rattle.rd_geometry.specs.declared.kind.Kind.{Kind}
-use Rattle.rd_geometry.specs.declared.kind.Kind.TheVariants.{Cpm8}
 use Rattle.rd_geometry.specs.Kinds.{word_of}
-
--- the commands take images of the kind: they do of CP/M disks alone
-abbrev pub IsTaken : Kind → Type 0
-IsTaken kind = kind ≡ Cpm8
 
 -- the words `cat KIND IMAGE SLOT`
 abbrev pub cat_words : List ℕ → List ℕ → List ℕ → List (List ℕ)
@@ -24,9 +19,8 @@ pub record IsSlotText (text : List ℕ) (n : ℕ) : Type 0 where
   pub reads : ParsesUnsigned {E = ParseIntError} 16 10 text (Ok n)
   pub most : n ≤ 9999
 
--- the words ask for the file at a slot of an image of a kind that the commands take
+-- the words ask for the file at a slot of an image of a kind
 pub record AsksCat (words : List (List ℕ)) (kind : Kind) (image : List ℕ) (slot : ℕ) : Type 0 where
-  pub taken : IsTaken kind
   pub slot_text : List ℕ
   pub spelled : words ≡ cat_words (word_of kind) image slot_text
   pub operand : IsOperand image
@@ -36,9 +30,8 @@ pub record AsksCat (words : List (List ℕ)) (kind : Kind) (image : List ℕ) (s
 abbrev pub list_words : List ℕ → List ℕ → List (List ℕ)
 list_words kind image = codes "list" ∷ kind ∷ image ∷ []
 
--- the words ask for the files of an image of a kind that the commands take
+-- the words ask for the files of an image of a kind
 pub record AsksList (words : List (List ℕ)) (kind : Kind) (image : List ℕ) : Type 0 where
-  pub taken : IsTaken kind
   pub spelled : words ≡ list_words (word_of kind) image
   pub operand : IsOperand image
 

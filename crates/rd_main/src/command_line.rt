@@ -7,7 +7,7 @@ use clap::{Arg, Command, value_parser};
 use std::alloc::{AllocError, Global};
 
 /// The kinds of image that a command takes.
-static KINDS: [&str; 1] = ["cpm8"];
+static KINDS: [&str; 2] = ["cpm8", "d64"];
 
 /// The operand for a kind.
 fn kind_operand<'a>(alloc: Global) -> Arg<'a>
@@ -16,7 +16,7 @@ fn kind_operand<'a>(alloc: Global) -> Arg<'a>
 {
     Arg::new(alloc, "KIND")
         .required(true)
-        .help("The kind of disk image")
+        .help("The kind of disk image: cpm8 or d64")
         .value_parser(KINDS.as_slice())
 }
 
@@ -48,7 +48,7 @@ fn cat_command<'a>(alloc: Global) -> Result<Command<'a>, AllocError>
 {
     Command::new(alloc, "cat")
         .about("Writes the bytes of a file of an image to standard output")
-        .after_help("Example: desk cat cpm8 disk.img 0")
+        .after_help("Examples:\n  desk cat cpm8 disk.img 0\n  desk cat d64 disk.d64 0")
         .arg(kind_operand(alloc))?
         .arg(image_operand(alloc))?
         .arg(slot_operand(alloc))
@@ -61,7 +61,7 @@ fn list_command<'a>(alloc: Global) -> Result<Command<'a>, AllocError>
 {
     Command::new(alloc, "list")
         .about("Lists the files of an image: slot, user, type, size, faults and name")
-        .after_help("Example: desk list cpm8 disk.img")
+        .after_help("Examples:\n  desk list cpm8 disk.img\n  desk list d64 disk.d64")
         .arg(kind_operand(alloc))?
         .arg(image_operand(alloc))
 }
@@ -72,7 +72,9 @@ pub(crate) fn desk_command<'a>(alloc: Global) -> Result<Command<'a>, AllocError>
 {
     Command::new(alloc, "desk")
         .about("Reads files from disk images")
-        .after_help("Examples:\n  desk list cpm8 disk.img\n  desk cat cpm8 disk.img 0")
+        .after_help(
+            "Examples:\n  desk list cpm8 disk.img\n  desk cat cpm8 disk.img 0\n  desk list d64 disk.d64",
+        )
         .no_binary_name(true)
         .bin_name("desk")?
         .subcommand_required(true)

@@ -2,7 +2,7 @@ use crate::input::read_front;
 use crate::machine::{Machine, MachineFault};
 use crate::refusal::Refusal;
 use crate::run::{run, tell_refusal};
-use rd_geometry::Kind;
+use rd_volume::Kind;
 use std::alloc::{AllocError, Global};
 use std::io::{BufWriter, ErrorKind};
 use std::{env, fs, io};

@@ -2,41 +2,55 @@ ghost use Rattle.std.specs.Prelude.{◌≡◌, ◌≢◌, IfErr};
 ghost use Rattle.std.specs.Io.KnownBytes.{Keeps};
 ghost use Rattle.rd_main.specs.Refusals.{status_of};
 
-use crate::cat::disk_of;
 use crate::machine::Machine;
 use crate::output::flush;
 use crate::printed::Line;
 use crate::refusal::Refusal;
 use crate::source::read_image;
 use crate::words::ImageAsk;
-use rd_cpm::{CpmFile, files};
+use rd_volume::{End, Found, Image, Kind, report, survey};
 use std::alloc::Global;
 use std::io::{Read, Write};
 
-/// Writes a line for each file.
+/// Writes a line for each file of an image of a kind.
 ///
 /// It fails with `Device` where a write failed.
-fn write_lines<W: Write>(files: &[CpmFile], output: &mut W) -> Result<(), Refusal>
+fn write_lines<W: Write>(kind: Kind, files: &[Found], output: &mut W) -> Result<(), Refusal>
     ensures { IfErr result (λ refusal. refusal ≡ Refusal.Device) }
 {
     for file in files {
-        if writeln!(output, "{}", Line(file)).is_err() {
+        if writeln!(output, "{}", Line(kind, file)).is_err() {
             return Err(Refusal::Device);
         }
     }
     Ok(())
 }
 
-/// Writes a line for each file, and one that counts them and tells that the directory came to its
-/// end, as one of CP/M always does.
+/// The word that tells how a directory ends.
+fn end_word(end: End) -> &'static str {
+    match end {
+        End::Last(_) => "end",
+        End::Loop => "loop",
+        End::Off => "off",
+    }
+}
+
+/// Writes a line for each file of an image of a kind, and one that counts them and tells how the
+/// directory ends.
 ///
 /// It fails with `Device` where a write or the flush failed.
-fn write_list<W: Write>(files: &[CpmFile], output: &mut W) -> Result<(), Refusal>
+fn write_list<W: Write>(
+    kind: Kind,
+    files: &[Found],
+    end: End,
+    output: &mut W,
+) -> Result<(), Refusal>
     ensures { IfErr result (λ refusal. refusal ≡ Refusal.Device) }
 {
-    write_lines(files, output)?;
+    write_lines(kind, files, output)?;
     let count = files.len();
-    if write!(output, "files\t{count}\tend\n").is_err() {
+    let end = end_word(end);
+    if write!(output, "files\t{count}\t{end}\n").is_err() {
         return Err(Refusal::Device);
     }
     flush(output)
@@ -60,7 +74,8 @@ pub(crate) fn list<R: Read, W: Write, M: Machine>(
         → Keeps (W.contents output.old) (W.contents output.new)) }
 {
     let bytes = read_image(alloc, ask.kind, ask.image, input, machine)?;
-    let disk = disk_of(ask.kind, bytes.as_slice())?;
-    let all = files(alloc, &disk)?;
-    write_list(all.as_slice(), output)
+    let image = Image::new(ask.kind, bytes.as_slice())?;
+    let files = survey(alloc, &image)?;
+    let end = report(alloc, &image)?.directory;
+    write_list(ask.kind, files.as_slice(), end, output)
 }

@@ -1,13 +1,12 @@
-ghost use Rattle.std.specs.Prelude.{◌≡◌, ◌<◌, All, IfErr, IfOk, OnErr, OnOk, length};
+ghost use Rattle.std.specs.Prelude.{◌≡◌, ◌<◌, IfErr, IfOk, OnErr, OnOk};
 ghost use Rattle.std.specs.Io.{WritesAtMost};
 ghost use Rattle.std.specs.Io.KnownBytes.{Appends, Keeps, WriteAppends};
-ghost use Rattle.rd_geometry.specs.CpmDisks.{cpm_bytes};
-ghost use Rattle.rd_geometry.specs.Places.{CPM_UNITS};
-ghost use Rattle.rd_cpm.specs.Contents.{bytes_of_sectors};
+ghost use Rattle.std.specs.List.{concat};
+ghost use Rattle.rd_volume.specs.PiecesLeft.{pieces_left};
 ghost use Rattle.rd_main.specs.Output.{AppendsPart};
 
 use crate::refusal::Refusal;
-use rd_geometry::{CpmDisk, Geometry};
+use rd_volume::Pieces;
 use std::io::{ErrorKind, Write};
 
 /// Writes once, and again where the write was interrupted.
@@ -49,19 +48,18 @@ fn write_bytes<W: Write>(output: &mut W, bytes: &[u8]) -> Result<(), Refusal>
     Ok(())
 }
 
-/// Writes units of a disk, one after another, as slices of its image.
+/// Writes the pieces of a file, one after another.
 ///
 /// It fails with `Device` where a write failed or took no byte: then a front part was written.
-fn write_each<W: Write>(output: &mut W, disk: &CpmDisk, units: &[u16]) -> Result<(), Refusal>
-    requires { All (λ unit. unit < CPM_UNITS) units.now }
+fn write_each<W: Write>(output: &mut W, pieces: Pieces<'_>) -> Result<(), Refusal>
     ensures done { OnOk result (Appends (W.contents output.old) (W.contents output.new)
-        (bytes_of_sectors (cpm_bytes disk.now) units.now)) }
+        (concat (pieces_left pieces.entry))) }
     ensures cut { OnErr result (AppendsPart (W.contents output.old) (W.contents output.new)
-        (bytes_of_sectors (cpm_bytes disk.now) units.now)) }
+        (concat (pieces_left pieces.entry))) }
     ensures device { IfErr result (λ refusal. refusal ≡ Refusal.Device) }
 {
-    for unit in units {
-        write_bytes(output, disk.unit(*unit))?;
+    for piece in pieces {
+        write_bytes(output, piece)?;
     }
     Ok(())
 }
@@ -77,22 +75,17 @@ pub(crate) fn flush<W: Write>(output: &mut W) -> Result<(), Refusal>
     }
 }
 
-/// Writes units of a disk, one after another, as slices of its image, and flushes the output.
+/// Writes the pieces of a file, one after another, and flushes the output.
 ///
 /// It fails with `Device` where a write failed or took no byte, or the flush failed: then a front
 /// part was written.
-pub(crate) fn write_units<W: Write>(
-    output: &mut W,
-    disk: &CpmDisk,
-    units: &[u16],
-) -> Result<(), Refusal>
-    requires { All (λ unit. unit < CPM_UNITS) units.now }
+pub(crate) fn write_pieces<W: Write>(output: &mut W, pieces: Pieces<'_>) -> Result<(), Refusal>
     ensures done { OnOk result (Appends (W.contents output.old) (W.contents output.new)
-        (bytes_of_sectors (cpm_bytes disk.now) units.now)) }
+        (concat (pieces_left pieces.entry))) }
     ensures cut { OnErr result (AppendsPart (W.contents output.old) (W.contents output.new)
-        (bytes_of_sectors (cpm_bytes disk.now) units.now)) }
+        (concat (pieces_left pieces.entry))) }
     ensures device { IfErr result (λ refusal. refusal ≡ Refusal.Device) }
 {
-    write_each(output, disk, units)?;
+    write_each(output, pieces)?;
     flush(output)
 }

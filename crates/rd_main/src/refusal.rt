@@ -2,8 +2,8 @@ ghost use Rattle.std.specs.Prelude.{◌≡◌};
 ghost use Rattle.rd_main.specs.Refusals.{name_of, status_of};
 ghost use Rattle.rd_main.specs.declared.refusal.Refusal.TheVariants as refusal;
 
-use crate::printed::FaultWords;
-use rd_geometry::NoMemory;
+use crate::printed::Joined;
+use rd_volume::{Kind, NoMemory, WrongSize, fault_words};
 use std::alloc::AllocError;
 use std::fmt;
 
@@ -20,8 +20,10 @@ pub enum Refusal {
     WrongSize,
     /// No file of the image has the slot.
     NoFile,
-    /// The file has these faults, by bit.
-    Faulty(u8),
+    /// The file is listed, and its bytes are not served: it is not of the class that is.
+    ListedOnly,
+    /// The file, of an image of a kind, has these faults, by bit.
+    Faulty(Kind, u8),
 }
 
 impl Refusal {
@@ -35,7 +37,8 @@ impl Refusal {
             Refusal::NoMemory => "no-memory",
             Refusal::WrongSize => "wrong-size",
             Refusal::NoFile => "no-file",
-            Refusal::Faulty(_) => "faulty",
+            Refusal::ListedOnly => "listed-only",
+            Refusal::Faulty(_, _) => "faulty",
         }
     }
 
@@ -44,7 +47,8 @@ impl Refusal {
         ensures { result ≡ status_of self }
     {
         match self {
-            Refusal::WrongSize | Refusal::NoFile | Refusal::Faulty(_) => 1,
+            Refusal::WrongSize | Refusal::NoFile => 1,
+            Refusal::ListedOnly | Refusal::Faulty(_, _) => 1,
             Refusal::Usage => 2,
             Refusal::Device | Refusal::NoMemory => 3,
         }
@@ -56,8 +60,8 @@ impl fmt::Display for Refusal {
     fn fmt<W: fmt::Write>(&self, f: &mut fmt::Formatter<W>) -> fmt::Result {
         let name = self.name();
         match self {
-            Refusal::Faulty(faults) => {
-                let faults = FaultWords(*faults);
+            Refusal::Faulty(kind, faults) => {
+                let faults = Joined(fault_words(*kind, *faults));
                 write!(f, "{name} {faults}")
             }
             _ => write!(f, "{name}"),
@@ -78,5 +82,13 @@ impl From<NoMemory> for Refusal {
 
     fn from(_error: NoMemory) -> Refusal {
         Refusal::NoMemory
+    }
+}
+
+impl From<WrongSize> for Refusal {
+    ghost from_gives = { λ _ refused. refused ≡ refusal.WrongSize };
+
+    fn from(_error: WrongSize) -> Refusal {
+        Refusal::WrongSize
     }
 }

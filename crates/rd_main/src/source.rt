@@ -5,7 +5,7 @@ ghost use Rattle.rd_main.specs.Refusals.{status_of};
 use crate::input::read_front;
 use crate::machine::Machine;
 use crate::refusal::Refusal;
-use rd_geometry::Kind;
+use rd_volume::Kind;
 use std::alloc::Global;
 use std::io::Read;
 

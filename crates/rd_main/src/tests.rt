@@ -1,4 +1,5 @@
 //! What the program says and writes.
+mod d64;
 mod fakes;
 mod lists;
 mod refused;
@@ -6,9 +7,8 @@ mod refused;
 use crate::machine::MachineFault;
 use crate::run::run;
 use fakes::{End, Narrow, OneFile, Tape};
-use rd_geometry::NoMemory;
-use rd_rows::cbm::formatted;
 use rd_rows::cpm::{FILE, NewEntry, blank, hello, put_entry};
+use rd_volume::NoMemory;
 use std::alloc::Global;
 
 /// What a run left behind.
@@ -141,6 +141,7 @@ fn refuses_words_that_are_no_command(rt: HostRuntime) {
         ["cat", "cpm8", "-", ""],
         ["cat", "cpm8", "-x", "0"],
         ["cat", "CPM8", "-", "0"],
+        ["cat", "d64e", "-", "0"],
         ["list", "cpm8", "-", "-"],
         ["init", "--store", "f", "--key"],
     ] {
@@ -161,16 +162,6 @@ fn refuses_words_that_are_no_command(rt: HostRuntime) {
 }
 
 #[test]
-fn takes_no_image_of_a_1541_disk(rt: HostRuntime) {
-    let alloc = rt.alloc();
-    let image = formatted(alloc).expect(&rt, "memory");
-    let cat = run_on(alloc, &["cat", "d64", "-", "0"], image.as_slice());
-    assert!(rt; is_usage_fault(&cat));
-    let list = run_on(alloc, &["list", "d64", "-"], image.as_slice());
-    assert!(rt; is_usage_fault(&list));
-}
-
-#[test]
 fn gives_help_on_the_output(rt: HostRuntime) {
     let alloc = rt.alloc();
     for words in [["--help"].as_slice(), ["cat", "--help"].as_slice()] {
@@ -178,6 +169,7 @@ fn gives_help_on_the_output(rt: HostRuntime) {
         assert!(rt; ran.status == 0 && ran.errors.is_empty());
         let text = std::str::from_utf8(ran.output.as_slice()).expect(&rt, "text");
         assert!(rt; text.contains("desk cat cpm8 disk.img 0"));
+        assert!(rt; text.contains("d64 disk.d64"));
     }
 }
 

@@ -1,16 +1,16 @@
-ghost use Rattle.std.specs.Prelude.{◌≡◌, IfErr, IfOk, IfSome, IsSomeAnd, List, codes, map, ℕ};
+ghost use Rattle.std.specs.Prelude.{◌≡◌, IfErr, IfOk, IsSomeAnd, List, codes, map, ℕ};
 ghost use Rattle.clap.specs.Words.{first_of, found_of, kind_of, one_of, rows_of};
 ghost use Rattle.clap.specs.Words.{subcommand_rows_of};
 ghost use Rattle.clap.specs.declared.error.kind.ErrorKind.TheVariants.{OutOfMemory};
 ghost use Rattle.rd_geometry.specs.Kinds.{word_of};
 ghost use Rattle.rd_main.specs.Asks.{AreCatRows, AreListRows, AsksFile, AsksFiles, EntersCat, EntersList, IsFileAsk, IsFilesAsk};
-ghost use Rattle.rd_main.specs.Words.{AsksCat, AsksList, IsCommand, IsSlotText, IsTaken};
+ghost use Rattle.rd_main.specs.Words.{AsksCat, AsksList, IsCommand, IsSlotText};
 ghost use Rattle.rd_main.specs.declared.words.Unread.TheVariants as Unread;
 
 use crate::command_line::desk_command;
 use clap::error::ErrorKind;
 use clap::{ArgMatches, Command, Error};
-use rd_geometry::Kind;
+use rd_volume::Kind;
 use std::alloc::{AllocError, Global};
 
 /// The file that a command asks for.
@@ -73,25 +73,13 @@ impl From<Error> for Unread {
     }
 }
 
-/// The kind, `None` where the commands do not take it.
-fn if_taken(kind: Kind) -> Option<Kind>
-    ensures taken { IfSome result IsTaken }
-    ensures kept { IsTaken kind → result ≡ Some kind }
-{
-    match kind {
-        Kind::Cpm8 => Some(kind),
-        Kind::D64 => None,
-    }
-}
-
-/// The kind that the operand for a kind names, `None` where there is none that the commands take.
+/// The kind that the operand for a kind names, `None` where there is none.
 fn kind_asked(found: &ArgMatches) -> Option<Kind>
-    ensures taken { IfSome result IsTaken }
-    ensures named { (kind : Kind) → IsTaken kind
+    ensures { (kind : Kind)
         → first_of (codes "KIND") (rows_of (found_of found.now)) ≡ Some (word_of kind)
         → result ≡ Some kind }
 {
-    if_taken(Kind::from_word(found.get_str("KIND")?)?)
+    Kind::from_word(found.get_str("KIND")?)
 }
 
 /// The number that the operand for a slot reads as, `None` where there is none.

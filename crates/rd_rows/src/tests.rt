@@ -1,20 +1,66 @@
+mod block_map;
 mod blocks;
 mod cbm;
+mod cbm_directory;
+mod cbm_files;
 mod chains;
 mod disk;
 mod entries;
 mod faults;
 mod files;
 mod refused;
+mod volumes;
 
+ghost use Rattle.std.specs.Prelude.{◌≡◌, ◌<◌, length, vec_len, IfOk};
+
+use crate::bytes::put;
+use crate::cbm::put_block;
 use rd_cpm::{CpmFile, files};
-use rd_geometry::{CpmDisk, Image, Kind};
+use rd_geometry::{CbmDisk, CpmDisk, Image, Kind, NoMemory};
 use std::alloc::Global;
 use std::test::Fail;
 
-/// The files of an image, where memory is ample.
+/// The files of a CP/M image, where memory is ample.
 fn files_of(alloc: Global, bytes: &[u8]) -> Result<Vec<CpmFile>, Fail> {
     let image = Image::new(Kind::Cpm8, bytes)?;
     let disk = CpmDisk::of(&image).ok_or("a CP/M disk")?;
     Ok(files(alloc, &disk)?)
+}
+
+/// The disk of a 1541 image.
+fn cbm_disk<'a>(bytes: &'a [u8]) -> Result<CbmDisk<'a>, Fail> {
+    let image = Image::new(Kind::D64, bytes)?;
+    Ok(CbmDisk::of(&image).ok_or("a 1541 disk")?)
+}
+
+/// A 1541 image whose bytes are all alike.
+fn repeated(alloc: Global, byte: u8) -> Result<Vec<u8>, NoMemory>
+    ensures { IfOk result (λ image. vec_len image ≡ 174848) }
+{
+    Ok(vec![in alloc; byte; 174_848]?)
+}
+
+/// Writes the same three bytes, from byte 2 on, into each of the eight slots of a block.
+fn put_in_slots(image: &mut [u8], block: u16, entry: &[u8; 3])
+    requires block { block < 683 }
+    requires image { length image.old ≡ 174848 }
+    ensures { length image.new ≡ 174848 }
+{
+    for slot in 0..8 {
+        put(image, 256 * block as usize + 32 * slot + 2, entry);
+    }
+}
+
+/// A 1541 image of zeros whose blocks link to one another in a circle, in order; in each of them there
+/// are eight entries with this type byte and this first block.
+fn circle(alloc: Global, entry: &[u8; 3]) -> Result<Vec<u8>, NoMemory>
+    ensures { IfOk result (λ image. vec_len image ≡ 174848) }
+{
+    let mut image = repeated(alloc, 0)?;
+    for block in 0..683 {
+        let (track, sector) = CbmDisk::address((block + 1) % 683);
+        put_block(&mut image, block, &[track, sector]);
+        put_in_slots(&mut image, block, entry);
+    }
+    Ok(image)
 }

@@ -1,4 +1,4 @@
-//! What `list` prints, and `cat` of files of many extents.
+//! What `list` prints of CP/M images, and `cat` of files of many extents.
 
 use super::{is_refused, run_on};
 use rd_rows::bytes::put;

@@ -3,16 +3,25 @@
 
 use super::no_file;
 use crate::run::run;
-use rd_geometry::NoMemory;
+use rd_rows::cbm::one_program;
 use rd_rows::cpm::hello;
+use rd_volume::{Kind, NoMemory};
 use std::alloc::Global;
 use std::test::Fail;
 
+/// An image of one file.
+fn one_file(alloc: Global, kind: Kind) -> Result<Vec<u8>, NoMemory> {
+    match kind {
+        Kind::Cpm8 => hello(alloc),
+        Kind::D64 => one_program(alloc),
+    }
+}
+
 /// Runs words on the image of one file, again where memory was refused, and gives the status.
-fn run_again(alloc: Global, words: &[&str], output: &mut [u8]) -> Result<u8, Fail> {
-    let image = match hello(alloc) {
+fn run_again(alloc: Global, kind: Kind, words: &[&str], output: &mut [u8]) -> Result<u8, Fail> {
+    let image = match one_file(alloc, kind) {
         Ok(image) => image,
-        Err(NoMemory) => hello(alloc)?,
+        Err(NoMemory) => one_file(alloc, kind)?,
     };
     let mut errors = [0; 64];
     let mut told = errors.as_mut_slice();
@@ -47,7 +56,12 @@ fn run_again(alloc: Global, words: &[&str], output: &mut [u8]) -> Result<u8, Fai
 fn cat_when_memory_is_refused(rt: HostRuntime) -> Result<(), Fail> {
     let mut output = [0; 128];
     assert_eq!(rt;
-        run_again(rt.alloc(), &["cat", "cpm8", "-", "0"], &mut output)?,
+        run_again(
+            rt.alloc(),
+            Kind::Cpm8,
+            &["cat", "cpm8", "-", "0"],
+            &mut output
+        )?,
         0
     );
     assert!(rt; output.starts_with(b"HELLO FROM CP/M\r\n\x1a".as_slice()));
@@ -58,7 +72,7 @@ fn cat_when_memory_is_refused(rt: HostRuntime) -> Result<(), Fail> {
 fn list_when_memory_is_refused(rt: HostRuntime) -> Result<(), Fail> {
     let mut output = [0; 64];
     assert_eq!(rt;
-        run_again(rt.alloc(), &["list", "cpm8", "-"], &mut output)?,
+        run_again(rt.alloc(), Kind::Cpm8, &["list", "cpm8", "-"], &mut output)?,
         0
     );
     assert!(rt; output.starts_with(b"0\t0\tTXT\t128\t\tHELLO.TXT\nfiles\t1\tend\n".as_slice()));
@@ -66,7 +80,37 @@ fn list_when_memory_is_refused(rt: HostRuntime) -> Result<(), Fail> {
 }
 
 #[test]
+fn cat_of_a_program_when_memory_is_refused(rt: HostRuntime) -> Result<(), Fail> {
+    let mut output = [0; 258];
+    assert_eq!(rt;
+        run_again(
+            rt.alloc(),
+            Kind::D64,
+            &["cat", "d64", "-", "0"],
+            &mut output
+        )?,
+        0
+    );
+    assert!(rt; output.ends_with(b"ABCDE".as_slice()));
+    Ok(())
+}
+
+#[test]
+fn list_of_a_program_when_memory_is_refused(rt: HostRuntime) -> Result<(), Fail> {
+    let mut output = [0; 64];
+    assert_eq!(rt;
+        run_again(rt.alloc(), Kind::D64, &["list", "d64", "-"], &mut output)?,
+        0
+    );
+    assert!(rt; output.starts_with(b"0\t\tPRG\t258\t\tHELLO\nfiles\t1\tend\n".as_slice()));
+    Ok(())
+}
+
+#[test]
 fn usage_when_memory_is_refused(rt: HostRuntime) -> Result<(), Fail> {
-    assert_eq!(rt; run_again(rt.alloc(), &["cat", "cpm8"], &mut [])?, 2);
+    assert_eq!(rt;
+        run_again(rt.alloc(), Kind::Cpm8, &["cat", "cpm8"], &mut [])?,
+        2
+    );
     Ok(())
 }

@@ -1,11 +1,13 @@
 //! Calls that allocate, which a script runs under an allocator that refuses one growth. A call that
 //! answers that memory was refused is made again, and must then answer as ever.
 
+use super::cbm_disk;
 use crate::cbm::one_program;
 use crate::cpm::hello;
-use rd_cbm::{End, chain};
+use rd_cbm::{End, MapReport, block_map, chain, directory};
 use rd_cpm::files;
-use rd_geometry::{CbmDisk, CpmDisk, Image, Kind, NoMemory};
+use rd_geometry::{CpmDisk, Image, Kind, NoMemory};
+use std::alloc::Global;
 use std::test::Fail;
 
 #[test]
@@ -27,19 +29,70 @@ fn files_when_memory_is_refused(rt: HostRuntime) -> Result<(), Fail> {
     Ok(())
 }
 
+/// The image of one program, asked for again where memory is refused.
+fn one_program_again(alloc: Global) -> Result<Vec<u8>, NoMemory> {
+    match one_program(alloc) {
+        Ok(bytes) => Ok(bytes),
+        Err(NoMemory) => one_program(alloc),
+    }
+}
+
 #[test]
 fn a_chain_when_memory_is_refused(rt: HostRuntime) -> Result<(), Fail> {
-    let bytes = match one_program(rt.alloc()) {
-        Ok(bytes) => bytes,
-        Err(NoMemory) => one_program(rt.alloc())?,
-    };
-    let image = Image::new(Kind::D64, bytes.as_slice())?;
-    let disk = CbmDisk::of(&image).ok_or("a 1541 disk")?;
+    let bytes = one_program_again(rt.alloc())?;
+    let disk = cbm_disk(bytes.as_slice())?;
     let found = match chain(rt.alloc(), &disk, (17, 0)) {
         Ok(found) => found,
         Err(NoMemory) => chain(rt.alloc(), &disk, (17, 0))?,
     };
     assert_eq!(rt; found.blocks.as_slice(), [336, 346].as_slice());
     assert_eq!(rt; found.end, End::Last(5));
+    Ok(())
+}
+
+#[test]
+fn a_directory_when_memory_is_refused(rt: HostRuntime) -> Result<(), Fail> {
+    let bytes = one_program_again(rt.alloc())?;
+    let disk = cbm_disk(bytes.as_slice())?;
+    let found = match directory(rt.alloc(), &disk) {
+        Ok(found) => found,
+        Err(NoMemory) => directory(rt.alloc(), &disk)?,
+    };
+    assert_eq!(rt; found.blocks.as_slice(), [358].as_slice());
+    assert_eq!(rt;
+        (found.entries.as_slice().len(), found.end),
+        (1, End::Last(255))
+    );
+    Ok(())
+}
+
+#[test]
+fn files_of_a_1541_when_memory_is_refused(rt: HostRuntime) -> Result<(), Fail> {
+    let bytes = one_program_again(rt.alloc())?;
+    let disk = cbm_disk(bytes.as_slice())?;
+    let found = match rd_cbm::files(rt.alloc(), &disk) {
+        Ok(found) => found,
+        Err(NoMemory) => rd_cbm::files(rt.alloc(), &disk)?,
+    };
+    let file = found.first().ok_or("a file")?;
+    assert_eq!(rt; (found.len(), file.faults, file.last), (1, 0, 5));
+    assert_eq!(rt; file.blocks.as_slice(), [336, 346].as_slice());
+    Ok(())
+}
+
+#[test]
+fn a_block_map_when_memory_is_refused(rt: HostRuntime) -> Result<(), Fail> {
+    let bytes = one_program_again(rt.alloc())?;
+    let disk = cbm_disk(bytes.as_slice())?;
+    let told = match block_map(rt.alloc(), &disk) {
+        Ok(told) => told,
+        Err(NoMemory) => block_map(rt.alloc(), &disk)?,
+    };
+    let expected = MapReport {
+        wrong_counts: 0,
+        claimed_free: 2,
+        unclaimed_used: 0,
+    };
+    assert_eq!(rt; told, expected);
     Ok(())
 }

@@ -1,7 +1,6 @@
-use Rattle.std.proofs.Common.{IfErr, IfSome, OnOk, codes, subst, sym}
+use Rattle.std.proofs.Common.{IfErr, IfSome, OnOk, codes, subst}
 use Rattle.rd_main.specs.Asks.{AsksFile, IsFileAsk}
 use Rattle.rd_main.specs.Cat.{Refuses, Serves}
-use Rattle.rd_main.specs.Words.{IsTaken}
 use Rattle.rd_main.proofs.Ran.{as_asked}
 use Rattle.rd_main.proofs.run.perform.Goals as goal
 
@@ -9,13 +8,13 @@ pub returns-in-File-clause-done : goal.returns-in-File-clause-done
 returns-in-File-clause-done g c = λ kind slot asked.
     let asks : AsksFile c.in-File.ask kind (codes "-") slot = subst (IsFileAsk kind (codes "-") slot) c.in-File.is asked in
     as_asked (λ k s. OnOk c.cat.result (IfSome (g.R.Read.remaining c.args.input.now) (λ image. Serves k s image (g.W.Write.contents c.args.output.now) (g.W.Write.contents c.cat.new.output))))
-    c.in-File.ask kind (codes "-") slot asks (c.cat.ensures.done (subst IsTaken (sym asks.kind_is) asks.taken) asks.image_is)
+    c.in-File.ask kind (codes "-") slot asks (c.cat.ensures.done asks.image_is)
 
 pub returns-in-File-clause-refused : goal.returns-in-File-clause-refused
 returns-in-File-clause-refused g c = λ kind slot asked.
     let asks : AsksFile c.in-File.ask kind (codes "-") slot = subst (IsFileAsk kind (codes "-") slot) c.in-File.is asked in
     as_asked (λ k s. IfErr c.cat.result (λ refusal. IfSome (g.R.Read.remaining c.args.input.now) (λ image. Refuses refusal k s image (g.W.Write.contents c.args.output.now) (g.W.Write.contents c.cat.new.output))))
-    c.in-File.ask kind (codes "-") slot asks (c.cat.ensures.refused (subst IsTaken (sym asks.kind_is) asks.taken) asks.image_is)
+    c.in-File.ask kind (codes "-") slot asks (c.cat.ensures.refused asks.image_is)
 
 pub returns-in-Files-clause-done : goal.returns-in-Files-clause-done
 returns-in-Files-clause-done g c = λ kind slot asked. absurd (subst (IsFileAsk kind (codes "-") slot) c.in-Files.is asked)

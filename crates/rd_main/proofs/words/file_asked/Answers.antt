@@ -8,8 +8,7 @@ returns-in_err-get_str c = λ kind image slot rows. absurd (text_there (found_of
 
 pub returns : goal.returns
 returns c = λ kind image slot rows. record {
-  taken = rows.taken;
-  kind_is = let same = c.in_ok-kind_asked.ensures.named kind rows.taken rows.kind_found in cc;
+  kind_is = let same = c.in_ok-kind_asked.ensures kind rows.kind_found in cc;
   image_is = text_is (found_of c.args.found.now) (codes "IMAGE") _ image c.in_ok-get_str.ensures rows.image_found;
   slot_is = let same = c.in_ok-slot_asked.ensures rows.slot_text slot rows.slot_found rows.number in cc;
 }

@@ -8,7 +8,6 @@ returns-in_err-get_str c = λ kind image rows. absurd (text_there (found_of c.ar
 
 pub returns : goal.returns
 returns c = λ kind image rows. record {
-  taken = rows.taken;
-  kind_is = let same = c.in_ok-kind_asked.ensures.named kind rows.taken rows.kind_found in cc;
+  kind_is = let same = c.in_ok-kind_asked.ensures kind rows.kind_found in cc;
   image_is = text_is (found_of c.args.found.now) (codes "IMAGE") _ image c.in_ok-get_str.ensures rows.image_found;
 }

@@ -1,0 +1,123 @@
+-- The files of a 1541 disk counted.
+use Rattle.std.proofs.Common.{◌≡◌, ◌∙◌, ◌*◌, ◌%◌, ◌<◌, ◌≤◌, ◌==◌, ◌&&◌, ℕ, List, All, IsSome, Option, Some, ap, arith, count_by, length, nat_le, not, refl, slice_index_or, subst, sym, true}
+use Rattle.std.proofs.lemmas.Bool.{agree_below_at, and_from, and_parts, eq-eqb, eqb-false, eqb-true, le-leb, leb-true, ne_eqb, not-true, not_from_false}
+use Rattle.rd_geometry.specs.Blocks.{CBM_BLOCKS, cbm_block, index_of}
+use Rattle.rd_geometry.specs.declared.kind.Kind.TheVariants.{D64}
+use Rattle.rd_cbm.specs.BlockMap.{bytes_at, map_of}
+use Rattle.rd_cbm.specs.Counts.{IsCount}
+use Rattle.rd_cbm.specs.Entries.{Way, class_of, entry_at, size_field_of, type_of}
+use Rattle.rd_cbm.specs.Files.{AreDirectoryBlocks, Claims}
+use Rattle.rd_cbm.specs.Listing.{AreFiles, Describes}
+use Rattle.rd_cbm.specs.declared.listing.CbmFile.{CbmFile}
+use Rattle.rd_volume.specs.Directories.{in_blocks, of_blocks, one_chain}
+use Rattle.rd_volume.specs.Reports.{DiffersInSize, HasOtherSize, IsFaultySlot, IsSoundSlot}
+use Rattle.rd_volume.specs.Tallies.{differs_in_size, is_claimant, is_sound}
+use Rattle.rd_volume.specs.Volumes.{IsSlotOfFile}
+use Rattle.rd_volume.proofs.CbmLemmas.{class_by, class_is, told_class}
+use Rattle.rd_volume.proofs.CountLemmas.{counted, counted_all, one_count}
+use Rattle.rd_volume.proofs.ToldLemmas.{few_below, few_items}
+
+few_slots : (n slot : ℕ) → n ≤ 683 → slot < 8 * n → slot < 5464
+few_slots n slot few below = omega arith
+
+-- a disk has at most 5,464 files
+pub few_files : (image blocks : List ℕ) (files : List CbmFile) → AreDirectoryBlocks image blocks → All (λ block. block < CBM_BLOCKS) blocks → AreFiles image files
+    → length files ≤ 5464
+few_files image blocks files are_blocks on_disk are =
+    let same = one_chain _ _ blocks are.blocks are_blocks are.directory in
+    let few : length are.blocks ≤ 683 = subst (λ bs. length bs ≤ 683) same (few_below blocks CBM_BLOCKS on_disk are_blocks.once) in
+    few_items (λ file. file.slot) files 5464 are.ascending
+    (λ i d inside. few_slots (length are.blocks) (slice_index_or files i d).slot few (are.each i d inside).slot.inside)
+
+pub all_files : (image : List ℕ) (files : List CbmFile) → AreFiles image files → IsCount (IsSlotOfFile D64 image) (length files)
+all_files image files are =
+    counted_all (λ file. file.slot) (IsSlotOfFile D64 image) files are.ascending
+    (λ i d inside. in_blocks image are.blocks are.directory _ (are.each i d inside).slot)
+    (λ n is. are.complete n (of_blocks image are.blocks are.directory _ is))
+
+pub sound_files : (image : List ℕ) (files : List CbmFile) → AreFiles image files → IsCount (IsSoundSlot D64 image) (count_by is_sound files)
+sound_files image files are =
+    counted (λ file. file.slot) is_sound (IsSoundSlot D64 image) files are.ascending
+    (λ i d inside passed.
+    let file = slice_index_or files i d in
+    let told = are.each i d inside in
+    let parts = and_parts _ (file.faults == 0) passed in
+    record {
+      file = in_blocks image are.blocks are.directory _ told.slot;
+      class = in_blocks image are.blocks are.directory _ ((told_class image are.blocks file told).0 parts.0);
+      sound = in_blocks image are.blocks are.directory _ (told.faults.none.0 (eqb-true file.faults 0 parts.1));
+    })
+    (λ i d inside is.
+    let file = slice_index_or files i d in
+    let told = are.each i d inside in
+    and_from _ (file.faults == 0) ((told_class image are.blocks file told).1 (of_blocks image are.blocks are.directory _ is.class))
+    (eq-eqb file.faults 0 (told.faults.none.1 (of_blocks image are.blocks are.directory _ is.sound))))
+    (λ n is. are.complete n (of_blocks image are.blocks are.directory _ is.file))
+
+pub faulty_files : (image : List ℕ) (files : List CbmFile) → AreFiles image files → IsCount (IsFaultySlot D64 image) (count_by (λ file. not (file.faults == 0)) files)
+faulty_files image files are =
+    counted (λ file. file.slot) (λ file. not (file.faults == 0)) (IsFaultySlot D64 image) files are.ascending
+    (λ i d inside passed.
+    let file = slice_index_or files i d in
+    let told = are.each i d inside in
+    record {
+      file = in_blocks image are.blocks are.directory _ told.slot;
+      faulty = λ none. eqb-false file.faults 0 (not-true (file.faults == 0) passed) (told.faults.none.1 (of_blocks image are.blocks are.directory _ none));
+    })
+    (λ i d inside is.
+    let file = slice_index_or files i d in
+    let told = are.each i d inside in
+    not_from_false (file.faults == 0) (ne_eqb file.faults 0 (λ zero. is.faulty (in_blocks image are.blocks are.directory _ (told.faults.none.0 zero)))))
+    (λ n is. are.complete n (of_blocks image are.blocks are.directory _ is.file))
+
+-- a class claims blocks, where its files are closed
+claimant_by : (k : ℕ) → k < 16 → is_claimant (class_by k) ≡ (nat_le 1 k && nat_le k 4)
+claimant_by k low = agree_below_at (λ k. is_claimant (class_by k)) (λ k. nat_le 1 k && nat_le k 4) 16 k refl low
+
+claimant_is : (type : ℕ) → is_claimant (class_of type) ≡ (nat_le 1 (type % 16) && nat_le (type % 16) 4)
+claimant_is type = ap is_claimant (class_is type) ∙ claimant_by (type % 16) (omega arith)
+
+claimant_of : (type : ℕ) → is_claimant (class_of type) ≡ true → (1 ≤ type % 16) × (type % 16 ≤ 4)
+claimant_of type passed =
+    let parts = and_parts (nat_le 1 (type % 16)) (nat_le (type % 16) 4) (sym (claimant_is type) ∙ passed) in
+    (leb-true 1 (type % 16) parts.0, leb-true (type % 16) 4 parts.1)
+
+claimant_to : (type : ℕ) → 1 ≤ type % 16 → type % 16 ≤ 4 → is_claimant (class_of type) ≡ true
+claimant_to type low high =
+    claimant_is type ∙ and_from (nat_le 1 (type % 16)) (nat_le (type % 16) 4) (le-leb 1 (type % 16) low) (le-leb (type % 16) 4 high)
+
+other_size : (image blocks : List ℕ) (file : CbmFile) → Describes image blocks file → differs_in_size file ≡ true → HasOtherSize image file.slot blocks
+other_size image blocks file told passed =
+    let both = and_parts (file.closed && is_claimant file.class) (not (file.claimed == file.size_field)) passed in
+    let parts = and_parts file.closed (is_claimant file.class) both.0 in
+    let kinds = claimant_of (type_of (entry_at image blocks file.slot)) (ap is_claimant (sym told.class) ∙ parts.1) in
+    record {
+      file = told.slot;
+      claimant = (told.closed.0 parts.0, kinds.0, kinds.1);
+      differs = λ count. eqb-false file.claimed file.size_field (not-true (file.claimed == file.size_field) both.1)
+          (one_count _ file.claimed (size_field_of (entry_at image blocks file.slot)) told.claimed count ∙ sym told.size_field);
+    }
+
+told_size : (image blocks : List ℕ) (file : CbmFile) → Describes image blocks file → HasOtherSize image file.slot blocks → differs_in_size file ≡ true
+told_size image blocks file told is =
+    and_from (file.closed && is_claimant file.class) (not (file.claimed == file.size_field))
+    (and_from file.closed (is_claimant file.class) (told.closed.1 is.claimant.0)
+    (ap is_claimant told.class ∙ claimant_to (type_of (entry_at image blocks file.slot)) is.claimant.1 is.claimant.2))
+    (not_from_false (file.claimed == file.size_field) (ne_eqb file.claimed file.size_field (λ same.
+    is.differs (subst (IsCount (λ block. (way : Way) × Claims image blocks file.slot way block)) (same ∙ told.size_field) told.claimed))))
+
+pub other_sizes : (image : List ℕ) (files : List CbmFile) → AreFiles image files → IsCount (DiffersInSize D64 image) (count_by differs_in_size files)
+other_sizes image files are =
+    counted (λ file. file.slot) differs_in_size (DiffersInSize D64 image) files are.ascending
+    (λ i d inside passed. in_blocks image are.blocks are.directory _ (other_size image are.blocks (slice_index_or files i d) (are.each i d inside) passed))
+    (λ i d inside is. told_size image are.blocks (slice_index_or files i d) (are.each i d inside) (of_blocks image are.blocks are.directory _ is))
+    (λ n is. are.complete n (of_blocks image are.blocks are.directory _ is).file)
+
+-- 18/0 is on the disk, and holds the block map
+pub has_map_block : (found : Option ℕ) → found ≡ index_of 18 0 → IsSome found
+unfolding index_of
+has_map_block found is = rw is refl
+
+pub is_map_block : (image : List ℕ) (found : Option ℕ) (n : ℕ) → found ≡ index_of 18 0 → found ≡ Some n → cbm_block image n ≡ map_of image
+unfolding map_of
+is_map_block image found n is at = ap (bytes_at image) (sym at ∙ is)

@@ -1,0 +1,9 @@
+mod PrintedLemmas
+mod WordLemmas
+mod ToldLemmas
+mod CpmLemmas
+mod CbmLemmas
+mod PieceLemmas
+mod CountLemmas
+mod CpmReport
+mod CbmReport

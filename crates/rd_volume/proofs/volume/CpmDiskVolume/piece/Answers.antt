@@ -1,0 +1,14 @@
+use Rattle.rd_geometry.specs.CpmDisks.{cpm_bytes}
+use Rattle.rd_geometry.specs.declared.kind.Kind.TheVariants.{Cpm8}
+use Rattle.rd_volume.proofs.PieceLemmas.{piece_at_end, piece_before}
+use Rattle.rd_volume.proofs.volume.CpmDiskVolume.piece.Goals as goal
+
+pub returns-then-i-units : goal.returns-then-i-units
+returns-then-i-units c =
+    piece_before Cpm8 (cpm_bytes c.args.self.now) c.args.found.now.units c.as_slice-units.result.now c.unit-body.result.now
+    c.args.found.now.last_len c.args.i c.as_slice-units.ensures c.unit-body.ensures.value c.if-i-units.true
+
+pub returns : goal.returns
+returns c =
+    piece_at_end Cpm8 (cpm_bytes c.args.self.now) c.args.found.now.units c.as_slice-units.result.now c.unit-body.result.now
+    c.args.found.now.last_len c.args.i c.as_slice-units.ensures c.unit-body.ensures.value c.requires.below c.if-i-units.false

@@ -1,0 +1,10 @@
+use Rattle.rd_geometry.specs.CpmDisks.{cpm_bytes}
+use Rattle.rd_volume.proofs.CpmLemmas.{all_few, founds_are}
+use Rattle.rd_volume.proofs.volume.CpmDiskVolume.survey.Goals as goal
+
+pub tell_files-requires : goal.tell_files-requires
+tell_files-requires c = all_few (cpm_bytes c.args.self.now) c.in_ok-files.files.items c.in_ok-files.ensures
+
+pub returns : goal.returns
+returns c = rw c.of.ensures (founds_are (cpm_bytes c.args.self.now) c.in_ok-files.files.items c.in_ok-tell_files.field-0.items c.args.self.now.sized
+    c.in_ok-files.ensures c.in_ok-tell_files.ensures)

@@ -1,0 +1,14 @@
+pub mod Kinds
+pub mod Printed
+pub mod Words
+pub mod Founds
+pub mod CpmFounds
+pub mod Directories
+pub mod CbmFounds
+pub mod Volumes
+pub mod Disks
+pub mod PiecesLeft
+pub mod Tallies
+pub mod Reports
+pub mod Laws
+pub mod Told

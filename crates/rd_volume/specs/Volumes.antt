@@ -1,0 +1,85 @@
+-- The files of an image of either kind, and their bytes. An image is its kind and the list of its bytes.
+use Rattle.std.specs.Prelude.{◌≡◌, ◌<◌, ℕ, List, [], ◌∷◌, All, AllPairs, Contains, drop, map, take}
+use Rattle.std.specs.List.{concat}
+use Rattle.rd_geometry.specs.Blocks.{cbm_block}
+use Rattle.rd_geometry.specs.Places.{cpm_unit}
+use Rattle.rd_geometry.specs.declared.kind.Kind.{Kind}
+use Rattle.rd_geometry.specs.declared.kind.Kind.TheVariants.{Cpm8, D64}
+use Rattle.rd_cbm.specs.Entries as cbm_entry
+use Rattle.rd_cbm.specs.Faults as cbm_fault
+use Rattle.rd_cbm.specs.Files as cbm_file
+use Rattle.rd_cbm.specs.Links.{link_of}
+use Rattle.rd_cbm.specs.Walks.{Ends, IsChain}
+use Rattle.rd_cpm.specs.Contents.{AreSectors, bytes_of_sectors}
+use Rattle.rd_cpm.specs.Entries.{slot_of}
+use Rattle.rd_cpm.specs.Faults.{IsSound}
+use Rattle.rd_cpm.specs.Files.{IsFileSlot}
+use Rattle.rd_volume.specs.CbmFounds.{IsCbmFile, bytes_of_chain}
+use Rattle.rd_volume.specs.CpmFounds.{IsCpmFile}
+use Rattle.rd_volume.specs.Directories.{OfDirectory}
+use Rattle.rd_volume.specs.declared.found.Found.{Found}
+
+-- slot k is the slot of a file
+abbrev pub IsSlotOfFile : Kind → List ℕ → ℕ → Type 0
+IsSlotOfFile Cpm8 image k = IsFileSlot (slot_of image) k
+IsSlotOfFile D64 image k = OfDirectory image (λ blocks. cbm_file.IsFileSlot image blocks k)
+
+-- the file of slot k is of the class that is served: each CP/M file; SEQ, PRG and USR on a 1541 disk
+abbrev pub IsOfServedClass : Kind → List ℕ → ℕ → Type 0
+IsOfServedClass Cpm8 image k = Unit {0}
+IsOfServedClass D64 image k =
+    OfDirectory image (λ blocks. cbm_entry.IsServed (cbm_entry.type_of (cbm_entry.entry_at image blocks k)))
+
+-- the file of slot k has no fault
+abbrev pub HasNoFault : Kind → List ℕ → ℕ → Type 0
+HasNoFault Cpm8 image k = IsSound (slot_of image) k
+HasNoFault D64 image k = OfDirectory image (λ blocks. cbm_fault.HasNoFault image blocks k)
+
+-- The bytes are those of the sound file of slot k of a CP/M image.
+pub record AreCpmBytes (image : List ℕ) (k : ℕ) (bytes : List ℕ) : Type 0 where
+  pub sectors : List ℕ
+  pub are_sectors : AreSectors (slot_of image) k sectors
+  pub joined : bytes ≡ bytes_of_sectors image sectors
+
+-- The bytes are those of the sound file of slot k of a 1541 image, whose directory's blocks are handed
+-- in: those of the chain of its data.
+pub record AreCbmBytes (image : List ℕ) (k : ℕ) (bytes blocks : List ℕ) : Type 0 where
+  pub chain : List ℕ
+  pub used : ℕ
+  pub is_chain : IsChain (link_of image) (cbm_entry.start_of (cbm_entry.entry_at image blocks k) cbm_entry.Data) chain
+  pub ends : Ends (link_of image) (cbm_entry.start_of (cbm_entry.entry_at image blocks k) cbm_entry.Data) used
+  pub joined : bytes ≡ bytes_of_chain image chain used
+
+-- the bytes are those of the sound file of slot k
+abbrev pub AreBytesOf : Kind → List ℕ → ℕ → List ℕ → Type 0
+AreBytesOf Cpm8 image k bytes = AreCpmBytes image k bytes
+AreBytesOf D64 image k bytes = OfDirectory image (AreCbmBytes image k bytes)
+
+-- the file is told as it is in the image
+abbrev pub IsFound : Kind → List ℕ → Found → Type 0
+IsFound Cpm8 image found = IsCpmFile image found
+IsFound D64 image found = OfDirectory image (IsCbmFile image found)
+
+-- The files of an image, by ascending slot: each is told as it is, and none is missing.
+pub record AreFounds (kind : Kind) (image : List ℕ) (founds : List Found) : Type 0 where
+  pub each : All (IsFound kind image) founds
+  pub ascending : AllPairs (λ f g. f.slot < g.slot) founds
+  pub complete : (k : ℕ) → IsSlotOfFile kind image k → Contains (map (λ f. f.slot) founds) k
+
+-- the bytes of unit n in which a file's bytes stand: all of a CP/M sector, and all of a 1541 block but
+-- the two of its link
+abbrev pub body_of : Kind → List ℕ → ℕ → List ℕ
+body_of Cpm8 image n = cpm_unit image n
+body_of D64 image n = drop 2 (cbm_block image n)
+
+-- the pieces of a file, one for each unit: all that the unit holds, and of the last unit the first
+-- `last` bytes of it
+abbrev pub pieces_of : Kind → List ℕ → List ℕ → ℕ → List (List ℕ)
+pieces_of kind image [] last = []
+pieces_of kind image (unit ∷ []) last = take last (body_of kind image unit) ∷ []
+pieces_of kind image (unit ∷ next ∷ units) last =
+    body_of kind image unit ∷ pieces_of kind image (next ∷ units) last
+
+-- the pieces of a file, joined
+abbrev pub contents_of : Kind → List ℕ → Found → List ℕ
+contents_of kind image found = concat (pieces_of kind image found.units found.last_len)

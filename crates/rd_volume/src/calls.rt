@@ -1,0 +1,77 @@
+//! The calls over an image of either kind.
+
+ghost use Rattle.std.specs.Prelude.{◌≡◌, ◌<◌, All, AllPairs, IfOk, Some, length};
+ghost use Rattle.rd_geometry.specs.Images.{bytes_of, kind_of};
+ghost use Rattle.rd_volume.specs.Founds.{Fits, IsSoundFile};
+ghost use Rattle.rd_volume.specs.PiecesLeft.{pieces_left};
+ghost use Rattle.rd_volume.specs.Reports.{IsReport};
+ghost use Rattle.rd_volume.specs.Volumes.{AreFounds, AreBytesOf, IsFound, contents_of, pieces_of};
+ghost use Rattle.rd_volume.specs.Words.{words_left, words_of};
+ghost use Rattle.std.specs.List.{concat};
+
+use crate::disk::Disk;
+use crate::found::Found;
+use crate::reports::Report;
+use crate::slices::Pieces;
+use crate::volume::Volume;
+use crate::words::FaultWords;
+use rd_geometry::{Image, Items, Kind, NoMemory};
+use std::alloc::Global;
+
+/// The files of a disk of either kind.
+fn survey_of<'a, V: Volume<'a>>(alloc: Global, disk: &V) -> Result<Items<Found>, NoMemory>
+    ensures files { IfOk result (AreFounds (V.volume_kind disk.now) (V.image_bytes disk.now)) }
+    ensures ascending { IfOk result (AllPairs (λ f g. f.slot < g.slot)) }
+    ensures fits { IfOk result (All (Fits (V.volume_kind disk.now))) }
+    ensures sizes { IfOk result (All (λ found. IsSoundFile found
+        → found.size ≡ Some (length (contents_of (V.volume_kind disk.now) (V.image_bytes disk.now) found)))) }
+{
+    disk.survey(alloc)
+}
+
+/// The files of an image, by ascending slot. Each fits the image, and the pieces of a sound one total
+/// its size. It fails only where memory is refused.
+pub fn survey(alloc: Global, image: &Image<'_>) -> Result<Items<Found>, NoMemory>
+    ensures files { IfOk result (AreFounds (kind_of image.now) (bytes_of image.now)) }
+    ensures ascending { IfOk result (AllPairs (λ f g. f.slot < g.slot)) }
+    ensures fits { IfOk result (All (Fits (kind_of image.now))) }
+    ensures sizes { IfOk result (All (λ found. IsSoundFile found
+        → found.size ≡ Some (length (contents_of (kind_of image.now) (bytes_of image.now) found)))) }
+{
+    match Disk::of(image) {
+        Disk::Cpm(disk) => survey_of(alloc, &disk),
+        Disk::Cbm(disk) => survey_of(alloc, &disk),
+    }
+}
+
+/// What an image has, counted. It fails only where memory is refused.
+pub fn report(alloc: Global, image: &Image<'_>) -> Result<Report, NoMemory>
+    ensures { IfOk result (IsReport (kind_of image.now) (bytes_of image.now)) }
+{
+    match Disk::of(image) {
+        Disk::Cpm(disk) => disk.report(alloc),
+        Disk::Cbm(disk) => disk.report(alloc),
+    }
+}
+
+/// The pieces of a sound file of an image, in order: for each unit a slice of the image. Joined they
+/// are the bytes of the file.
+pub fn pieces<'a>(image: &Image<'a>, found: &'a Found) -> Pieces<'a>
+    requires sound { IsSoundFile found.now }
+    requires fits { Fits (kind_of image.now) found.now }
+    ensures pieces { let found = found.entry.now in pieces_left result
+        ≡ pieces_of (kind_of image.now) (bytes_of image.now) found.units found.last_len }
+    ensures count { length (pieces_left result) ≡ length found.entry.now.units }
+    ensures bytes { let found = found.entry.now in IsFound (kind_of image.now) (bytes_of image.now) found
+        → AreBytesOf (kind_of image.now) (bytes_of image.now) found.slot (concat (pieces_left result)) }
+{
+    Pieces::of(Disk::of(image), found.units.as_slice(), found.last_len)
+}
+
+/// The words of the faults whose bits are set, of a file of an image of a kind, in the order of the
+/// bits. It takes no memory.
+pub fn fault_words(kind: Kind, faults: u8) -> FaultWords
+    ensures { words_left result ≡ words_of kind faults }
+{
+    FaultWords::of(kind, faults)
+}

@@ -1,0 +1,181 @@
+//! The files of a 1541 disk as both kinds tell them.
+
+ghost use Rattle.std.specs.Prelude.{◌≡◌, ◌≢◌, ◌-◌, ◌<◌, ◌≤◌, ◌==◌, All, IfOk, None, Some, count_by, length, not, true};
+ghost use Rattle.rd_cbm.specs.BlockMap.{map_of};
+ghost use Rattle.rd_geometry.specs.Blocks.{CBM_BLOCKS, CBM_BLOCK_LENGTH};
+ghost use Rattle.rd_geometry.specs.CbmDisks.{cbm_bytes};
+ghost use Rattle.rd_volume.specs.Volumes.{body_of};
+ghost use Rattle.rd_volume.specs.Reports.{IsReport, label_of};
+ghost use Rattle.rd_volume.specs.Tallies.{differs_in_size, is_claimant, is_sound};
+ghost use Rattle.rd_volume.specs.CbmFounds.{TellsCbm, TellsCbmFiles, is_served, length_of_blocks};
+
+use crate::found::Found;
+use crate::printed::{cbm_name, cbm_type};
+use crate::reports::Report;
+use rd_cbm::{CbmFile, Class};
+use rd_geometry::{CbmDisk, Geometry, Kind, NoMemory, Text};
+use std::alloc::Global;
+
+/// How many bytes of a file a block holds: all but the two of its link.
+const ROOM: u32 = 254;
+
+/// The bytes of a block in which a file's bytes stand: all but its link.
+pub(crate) fn body<'a>(disk: &CbmDisk<'a>, n: u16) -> &'a [u8]
+    requires { n < CBM_BLOCKS }
+    ensures value { result.now ≡ body_of Kind.D64 (cbm_bytes disk.now) n }
+    ensures sized { length result.now ≡ 254 }
+{
+    &disk.unit(n)[2..]
+}
+
+/// Whether a class is one that is served.
+fn serves(class: Class) -> bool
+    ensures { result ≡ is_served class }
+{
+    matches!(class, Class::Seq | Class::Prg | Class::Usr)
+}
+
+/// How many bytes of a file its last block holds: from byte 2 to the last one used.
+fn last_length(file: &CbmFile) -> u16
+    ensures value { result ≡ file.now.last - 1 }
+    ensures byte { file.now.last < 256 }
+{
+    u16::from(file.last.saturating_sub(1))
+}
+
+/// How many bytes a chain of blocks has, of which the last holds so many.
+fn chain_length(blocks: &[u16], last_len: u16) -> u32
+    requires { length blocks.now ≤ 683 }
+    ensures { result ≡ length_of_blocks blocks.now last_len }
+{
+    match blocks {
+        [] => 0,
+        [_, rest @ ..] => ROOM * rest.len() as u32 + u32::from(last_len),
+    }
+}
+
+/// The size of a file in bytes, where it is of the class that is served and has no fault.
+fn size(file: &CbmFile) -> Option<u32>
+    requires { length file.now.blocks ≤ 683 }
+    ensures sound { is_served file.now.class ≡ true → file.now.faults ≡ 0
+        → result ≡ Some (length_of_blocks file.now.blocks (file.now.last - 1)) }
+    ensures none { (is_served file.now.class ≡ true → file.now.faults ≢ 0) → result ≡ None }
+{
+    if !serves(file.class) {
+        return None;
+    }
+    if file.faults != 0 {
+        return None;
+    }
+    Some(chain_length(file.blocks.as_slice(), last_length(file)))
+}
+
+/// A file of a 1541 disk as both kinds tell it.
+fn tell(alloc: Global, file: CbmFile) -> Result<Found, NoMemory>
+    requires { length file.blocks ≤ 683 }
+    ensures { IfOk result (TellsCbm file) }
+{
+    let name = cbm_name(alloc, &file.name)?;
+    let ty = cbm_type(alloc, file.class)?;
+    let size = size(&file);
+    let last_len = last_length(&file);
+    Ok(Found {
+        slot: file.slot,
+        name,
+        ty,
+        user: None,
+        served_class: serves(file.class),
+        size,
+        faults: file.faults,
+        units: file.blocks,
+        last_len,
+    })
+}
+
+/// The files of a 1541 disk as both kinds tell them, in their order.
+pub(crate) fn tell_files(alloc: Global, files: Vec<CbmFile>) -> Result<Vec<Found>, NoMemory>
+    requires { All (λ file. length file.blocks ≤ 683) files.items }
+    ensures { IfOk result (λ founds. TellsCbmFiles files.items founds.items) }
+{
+    let mut founds = Vec::with_capacity(alloc, files.len())?;
+    for file in files {
+        founds.push(tell(alloc, file)?)?;
+    }
+    Ok(founds)
+}
+
+/// Whether files of a class claim blocks where they are closed.
+fn claims(class: Class) -> bool
+    ensures { result ≡ is_claimant class }
+{
+    matches!(class, Class::Seq | Class::Prg | Class::Usr | Class::Rel)
+}
+
+/// Whether a file claims blocks, and not as many as its entry tells.
+fn differs(file: &CbmFile) -> bool
+    ensures { result ≡ differs_in_size file.now }
+{
+    file.closed && claims(file.class) && file.claimed != file.size_field
+}
+
+/// Whether a file is of the class that is served and has no fault.
+fn sound(file: &CbmFile) -> bool
+    ensures { result ≡ is_sound file.now }
+{
+    serves(file.class) && file.faults == 0
+}
+
+/// How many files are sound.
+fn count_sound(files: &[CbmFile]) -> usize
+    ensures { result ≡ count_by is_sound files.now }
+{
+    files.iter().filter(|file| sound(file)).count()
+}
+
+/// How many files have a fault.
+fn count_faulty(files: &[CbmFile]) -> usize
+    ensures { result ≡ count_by (λ file. not (file.faults == 0)) files.now }
+{
+    files.iter().filter(|file| file.faults != 0).count()
+}
+
+/// How many files claim blocks, and not as many as their entry tells.
+fn count_differing(files: &[CbmFile]) -> usize
+    ensures { result ≡ count_by differs_in_size files.now }
+{
+    files.iter().filter(|file| differs(file)).count()
+}
+
+/// The block 18/0, which holds the block map and the disk's name.
+fn map_block<'a>(disk: &CbmDisk<'a>) -> &'a [u8]
+    ensures value { result.now ≡ map_of (cbm_bytes disk.now) }
+    ensures sized { length result.now ≡ CBM_BLOCK_LENGTH }
+{
+    disk.unit(CbmDisk::index(18, 0).unwrap())
+}
+
+/// The printed name of a disk.
+fn label(alloc: Global, disk: &CbmDisk) -> Result<Text, NoMemory>
+    ensures { IfOk result (λ text. text ≡ label_of Kind.D64 (cbm_bytes disk.now)) }
+{
+    cbm_name(alloc, &map_block(disk)[144..160])
+}
+
+/// What a 1541 disk has, counted.
+pub(crate) fn report(alloc: Global, disk: &CbmDisk) -> Result<Report, NoMemory>
+    ensures { IfOk result (IsReport Kind.D64 (cbm_bytes disk.now)) }
+{
+    let directory = rd_cbm::directory(alloc, disk)?;
+    let files = rd_cbm::files(alloc, disk)?;
+    let map = rd_cbm::block_map(alloc, disk)?;
+    let label = label(alloc, disk)?;
+    Ok(Report {
+        files: files.len() as u16,
+        served: count_sound(files.as_slice()) as u16,
+        faulty: count_faulty(files.as_slice()) as u16,
+        size_differs: count_differing(files.as_slice()) as u16,
+        map,
+        directory: directory.end,
+        label,
+    })
+}

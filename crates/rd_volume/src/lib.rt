@@ -1,0 +1,23 @@
+//! Both kinds of disk as one volume: its files, and the bytes of each as slices of the image.
+#![tactic(auto)]
+
+mod calls;
+mod cbm;
+mod cpm;
+mod disk;
+mod found;
+mod kinds;
+mod printed;
+mod reports;
+mod slices;
+mod volume;
+mod words;
+
+pub use calls::{fault_words, pieces, report, survey};
+pub use found::Found;
+pub use rd_cbm::{End, MapReport};
+pub use rd_geometry::{CbmDisk, CpmDisk, Geometry, Image, Items, Kind, NoMemory, Text, WrongSize};
+pub use reports::Report;
+pub use slices::Pieces;
+pub use volume::Volume;
+pub use words::FaultWords;

@@ -1,0 +1,22 @@
+use rd_cbm::{End, MapReport};
+use rd_geometry::Text;
+
+/// What an image has, counted. For a CP/M disk `size_differs` and the counts of `map` are 0,
+/// `directory` is `Last(0)` and `label` is empty.
+#[derive(Debug, Drop)]
+pub struct Report {
+    /// How many files there are.
+    pub files: u16,
+    /// How many of them are sound.
+    pub served: u16,
+    /// How many of them have a fault.
+    pub faulty: u16,
+    /// How many claim other than as many blocks as their entry tells.
+    pub size_differs: u16,
+    /// How the block map differs from the blocks in use.
+    pub map: MapReport,
+    /// How the walk along the directory's blocks ends.
+    pub directory: End,
+    /// The printed name of the disk.
+    pub label: Text,
+}
