@@ -1,0 +1,3 @@
+pub mod DayLemmas
+pub mod DateLemmas
+pub mod OrderLemmas

@@ -1,0 +1,45 @@
+ghost use Rattle.std.specs.Prelude.{◌↔◌, IsTrue};
+
+/// Who asks.
+#[derive(Clone, Copy, Debug, PartialEq, Eq, Hash)]
+pub enum Audience {
+    /// Anyone without a key.
+    Public,
+    /// A visitor of the reading room.
+    Room,
+    /// The museum's staff.
+    Staff,
+}
+
+/// A set of audiences.
+#[derive(Clone, Copy, Debug, PartialEq, Eq, Hash)]
+pub struct Audiences {
+    /// Whether the public is in it.
+    pub public: bool,
+    /// Whether the reading room is in it.
+    pub room: bool,
+    /// Whether the staff is in it.
+    pub staff: bool,
+}
+
+impl Audiences {
+    ghost use Rattle.rd_policy.specs.Audiences.{IsAmong, IsEmpty};
+
+    /// Whether an audience is in the set.
+    pub fn contains(self, audience: Audience) -> bool
+        ensures { IsTrue result ↔ IsAmong self audience }
+    {
+        match audience {
+            Audience::Public => self.public,
+            Audience::Room => self.room,
+            Audience::Staff => self.staff,
+        }
+    }
+
+    /// Whether no audience is in the set.
+    pub fn is_empty(self) -> bool
+        ensures { IsTrue result ↔ IsEmpty self }
+    {
+        !self.public && !self.room && !self.staff
+    }
+}

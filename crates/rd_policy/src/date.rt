@@ -1,0 +1,78 @@
+ghost use Rattle.std.specs.Prelude.{◌≡◌, Some, codes, IfOk, IfErr, string_bytes};
+ghost use Rattle.rd_policy.specs.Days.{IsDay};
+ghost use Rattle.rd_policy.specs.Dates.{IsDateOf, IsNoDate, OneText, OneDay};
+
+use crate::day::is_day;
+use jiff::civil::Date;
+use rd_geometry::NoMemory;
+use std::alloc::Global;
+use std::error::Error;
+use std::fmt;
+
+/// Why a text gives no day.
+#[derive(Clone, Copy, Debug, PartialEq, Eq, Hash)]
+pub enum DateFault {
+    /// The text is no date from 0001-01-01 to 9999-12-31 of the form `2030-01-01`.
+    BadDate,
+    /// A growth of memory was refused.
+    NoMemory,
+}
+
+impl fmt::Display for DateFault {
+    fn fmt<W: fmt::Write>(&self, f: &mut fmt::Formatter<W>) -> fmt::Result {
+        match self {
+            DateFault::BadDate => write!(f, "no date"),
+            DateFault::NoMemory => write!(f, "no memory"),
+        }
+    }
+}
+
+impl Error for DateFault {}
+
+/// The date of a day, as `2030-01-01`.
+///
+/// The day is one from −719,162 (0001-01-01) to 2,932,896 (9999-12-31). It fails only where memory is
+/// refused.
+pub fn date_text(alloc: Global, day: i32) -> Result<String, NoMemory>
+    requires { IsDay day }
+    ensures { IfOk result (λ text. IsDateOf day (string_bytes text)) }
+{
+    let Ok(date) = jiff_core::civil::Date::from_unix_epoch_day(i64::from(day)) else {
+        unreachable!()
+    };
+    match Date::from_plain(date).to_string(alloc) {
+        Ok(text) => Ok(text),
+        Err(_) => Err(NoMemory),
+    }
+}
+
+/// The day of a date, which is written as `2030-01-01`.
+///
+/// It fails with `BadDate` where the text is no date of that form from 0001-01-01 to 9999-12-31, and
+/// with `NoMemory` where memory is refused.
+pub fn date_read(alloc: Global, text: &str) -> Result<i32, DateFault>
+    ensures day { IfOk result (λ day. IsDateOf day text.now) }
+    ensures bad { IfErr result (λ fault. fault ≡ DateFault.BadDate → IsNoDate text.now) }
+{
+    let Ok(date) = text.parse::<Date>() else {
+        return Err(DateFault::BadDate);
+    };
+    let day = date.to_plain().to_unix_epoch_day();
+    if !is_day(day) {
+        return Err(DateFault::BadDate);
+    }
+    let Ok(written) = date.to_string(alloc) else {
+        return Err(DateFault::NoMemory);
+    };
+    if written.as_str() == text {
+        Ok(day)
+    } else {
+        Err(DateFault::BadDate)
+    }
+}
+
+/// Law: a day has one date, and a date one day.
+pub fn one_date()
+    ensures text { OneText }
+    ensures day { OneDay }
+{}
