@@ -52,7 +52,7 @@ program() {
 
 for crate in rd_rows rd_main; do
     tests=crates/$crate/out/${crate}_tests
-    for name in $("$tests" --list | sed -n 's/^\(tests::refused::[a-z_]*\): test$/\1/p'); do
+    for name in $("$tests" --list | sed -n 's/^\(tests::refused::[a-z0-9_]*\): test$/\1/p'); do
         sweep "$crate $name" refused "$tests" "$name"
     done
 done
