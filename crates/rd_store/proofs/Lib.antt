@@ -1,0 +1,4 @@
+pub mod Laws
+pub mod Querying
+pub mod Orders
+pub mod Found

@@ -1,0 +1,54 @@
+-- What a query leaves of a connection.
+use Rattle.std.proofs.Common.{◌≡◌, ◌⊎◌, inl, inr, ℕ, List, Ok, Err, Result, IsTrue, refl, sym, ap, subst, ◌∙◌, arith}
+use Rattle.sqlite.specs.Order.{Row}
+use Rattle.sqlite.specs.Store.{Ghosts}
+use Rattle.sqlite.specs.declared.error.Error.{Error}
+use Rattle.sqlite.specs.Listing.{understood}
+use Rattle.sqlite.specs.State.{State, HasCleanDisk, IsUnchanged, IsRolledBack, FailsToQuery, Shown, Survives, CommitsShowing}
+use Rattle.sqlite.specs.Held.{Held, state}
+use Rattle.sqlite.proofs.Callers.{IsPlain}
+use Rattle.rd_tables.specs.Schemas.{desk_schema}
+use Rattle.rd_tables.proofs.Reading.{query_fails, shown_was_open, shown_unchanged, read_survives}
+use Rattle.rd_store.specs.Held.{HasTables, HoldsTables, Stays, IsOpen, IsClean}
+use Rattle.rd_store.proofs.Laws.{Laws, clean_at}
+
+-- the connection was open, and shows what it did
+pub record Same (old new : State) : Type 0 where
+  pub was_open : IsTrue old.is_open
+  pub now : new.now ≡ old.now
+  pub committed : new.committed ≡ old.committed
+  pub autocommit : new.in_transaction ≡ old.in_transaction
+
+unchanged : (old new : State) → IsUnchanged old new → Same old new
+unchanged old new same = record { was_open = same.0.was_open; now = same.0.now_is; committed = same.0.committed_is; autocommit = same.0.mode }
+
+undone : (old new : State) → HasTables old → IsTrue new.is_open → IsRolledBack old new → Same old new
+undone old new tables is_open back =
+    record { was_open = back.was_open is_open; now = (back.undone is_open).0 ∙ tables.settled; committed = (back.undone is_open).1; autocommit = back.autocommit ∙ sym tables.autocommit }
+
+module _ {S : Type 0} (g : Ghosts S) (laws : Laws g) (text : List ℕ) (params : Row) (old new : Held S) (held : HoldsTables (state g old)) (plain : IsPlain (understood desk_schema text))
+    (survives : Survives (state g old) (state g new) (CommitsShowing text params (state g old))) where
+  stays : (IsOpen g new → Same (state g old) (state g new)) → Stays g old new
+  stays same = record {
+    was_open = λ is_open. (same is_open).was_open;
+    now = λ is_open. (same is_open).now;
+    committed = λ is_open. (same is_open).committed;
+    autocommit = λ is_open. let at = same is_open in at.autocommit ∙ (held at.was_open).autocommit;
+    clean = λ clean. omega (arith, survives.clean, clean);
+    quiet = λ was. read_survives text params (state g old) (state g new) (held was).schema plain survives;
+  }
+
+  pub shown_stays : (rows : List Row) → (IsClean g new → Shown text params (state g old) (state g new) rows) → Stays g old new
+  shown_stays rows shown = stays (λ is_open.
+      let h = shown (clean_at g laws new is_open) in
+      let tables = held (shown_was_open text params (state g old) (state g new) rows h) in
+      unchanged (state g old) (state g new) (shown_unchanged text params (state g old) (state g new) tables.schema plain rows h))
+
+  pub shown_open : (rows : List Row) → IsOpen g old → Shown text params (state g old) (state g new) rows → IsOpen g new
+  shown_open rows was h = (shown_unchanged text params (state g old) (state g new) (held was).schema plain rows h).0.is_open
+
+  pub failed_stays : (e : Error) → (IsClean g new → FailsToQuery text params (state g old) (state g new) e) → Stays g old new
+  failed_stays e fails = stays (λ is_open. elim (query_fails (state g old) (state g new) text params e (fails (clean_at g laws new is_open))) [
+    | inl same ↦ unchanged (state g old) (state g new) same
+    | inr back ↦ undone (state g old) (state g new) (held (back.was_open is_open)) is_open back
+  ])

@@ -1,0 +1,112 @@
+-- The numbers and texts by which columns stand for values.
+use Rattle.std.specs.Prelude.{ℕ, zero, suc, ◌+◌, ◌/◌, ◌%◌, ◌==◌, ◌&&◌, ℤ, List, [], Bool, cond, Option, Some, None}
+use Rattle.sqlite.specs.declared.types.Value.{Value}
+use Rattle.sqlite.specs.declared.types.Value.TheVariants.{Null, Int, Real, Text, Blob}
+use Rattle.rd_geometry.specs.declared.kind.Kind.{Kind}
+use Rattle.rd_geometry.specs.declared.kind.Kind.TheVariants.{Cpm8, D64}
+use Rattle.rd_policy.specs.declared.audience.Audience.{Audience}
+use Rattle.rd_policy.specs.declared.audience.Audience.TheVariants.{Public, Room, Staff}
+use Rattle.rd_policy.specs.declared.audience.Audiences.{Audiences}
+use Rattle.rd_policy.specs.declared.rule.Band.{Band}
+use Rattle.rd_policy.specs.declared.rule.Band.TheVariants.{Takedown, Deed}
+use Rattle.rd_policy.specs.declared.rule.Effect.{Effect}
+use Rattle.rd_policy.specs.declared.rule.Effect.TheVariants.{Deny, List as Listed, Read}
+use Rattle.rd_policy.specs.declared.select.Select.{Select}
+use Rattle.rd_policy.specs.declared.select.Select.TheVariants.{All, Slot, Prefix, User, Kind as OfKind}
+use Rattle.rd_store.specs.declared.rows.Outcome.{Outcome}
+use Rattle.rd_store.specs.declared.rows.Outcome.TheVariants.{Sound, Changed}
+
+abbrev pub kind_code : Kind → ℕ
+kind_code Cpm8 = 0
+kind_code D64 = 1
+
+abbrev pub kind_in : ℕ → Kind
+kind_in zero = Cpm8
+kind_in (suc code) = D64
+
+abbrev pub band_code : Band → ℕ
+band_code Takedown = 0
+band_code Deed = 1
+
+abbrev pub band_in : ℕ → Band
+band_in zero = Takedown
+band_in (suc code) = Deed
+
+-- the rule stands in this band, for this number
+abbrev pub is_at : Band → ℕ → Band → ℕ → Bool
+is_at band scope other_band other_scope = (band_code other_band == band_code band) && (other_scope == scope)
+
+abbrev pub effect_code : Effect → ℕ
+effect_code Deny = 0
+effect_code Listed = 1
+effect_code Read = 2
+
+abbrev pub effect_in : ℕ → Effect
+effect_in zero = Deny
+effect_in (suc zero) = Listed
+effect_in (suc (suc code)) = Read
+
+-- the sum of 1 for the public, 2 for the room and 4 for the staff
+abbrev pub audiences_code : Audiences → ℕ
+audiences_code set = cond set.public 1 0 + (cond set.room 2 0 + cond set.staff 4 0)
+
+abbrev pub audiences_in : ℕ → Audiences
+audiences_in code = record { public = code % 2 == 1; room = code / 2 % 2 == 1; staff = code / 4 % 2 == 1 }
+
+-- no key is the public's
+abbrev pub audience_code : Audience → ℕ
+audience_code Public = 0
+audience_code Room = 1
+audience_code Staff = 2
+
+abbrev pub audience_in : ℕ → Audience
+audience_in zero = Public
+audience_in (suc zero) = Room
+audience_in (suc (suc code)) = Staff
+
+abbrev pub outcome_code : Outcome → ℕ
+outcome_code Sound = 0
+outcome_code Changed = 1
+
+abbrev pub outcome_in : ℕ → Outcome
+outcome_in zero = Sound
+outcome_in (suc code) = Changed
+
+-- ---- a selector is three columns
+
+abbrev pub how : Select → ℕ
+how All = 0
+how (Slot slot) = 1
+how (Prefix text) = 2
+how (User user) = 3
+how (OfKind text) = 4
+
+abbrev pub number : Select → ℕ
+number All = 0
+number (Slot slot) = slot
+number (Prefix text) = 0
+number (User user) = user
+number (OfKind text) = 0
+
+abbrev pub word : Select → List ℕ
+word All = []
+word (Slot slot) = []
+word (Prefix text) = text
+word (User user) = []
+word (OfKind text) = text
+
+abbrev pub select_in : ℕ → ℕ → List ℕ → Select
+select_in zero number word = All
+select_in (suc zero) number word = Slot number
+select_in (suc (suc zero)) number word = Prefix word
+select_in (suc (suc (suc zero))) number word = User number
+select_in (suc (suc (suc (suc how)))) number word = OfKind word
+
+-- ---- a day that may be absent
+
+abbrev pub day_in : Value → Option ℤ
+day_in Null = None
+day_in (Int day) = Some day
+day_in (Real x) = None
+day_in (Text text) = None
+day_in (Blob bytes) = None

@@ -1,0 +1,113 @@
+-- What a store holds, what a call makes of it, and what a crash leaves.
+use Rattle.std.specs.Prelude.{◌≡◌, ◌⊎◌, false, IsTrue, Result, Ok, Err, OnOk, OnErr, ⊤}
+use Rattle.sqlite.specs.Tree.{Trees}
+use Rattle.sqlite.specs.Store.{Ghosts}
+use Rattle.sqlite.specs.Effect.{Database, IsDatabase}
+use Rattle.sqlite.specs.State.{State, HasCleanDisk, Survives, KeepsCommit}
+use Rattle.sqlite.specs.Held.{Held, state}
+use Rattle.rd_tables.specs.Schemas.{desk_schema}
+use Rattle.rd_store.specs.declared.faults.StoreFault.{StoreFault}
+use Rattle.rd_store.specs.declared.faults.StoreFault.TheVariants.{Sql, Missing, Conflict}
+use Rattle.rd_store.specs.State.{Desk}
+use Rattle.rd_store.specs.Lawful.{IsLawful}
+use Rattle.rd_store.specs.Spelled.{SpellDesk, HaveOwnRowids, desk_of}
+
+-- The database has the tables of a desk, and their rows spell this one.
+pub record IsOf (desk : Desk) (db : Database) : Type 0 where
+  pub schema : db.schema ≡ desk_schema
+  pub rows : SpellDesk db.trees
+  pub rowids : HaveOwnRowids db.trees
+  pub sound : IsDatabase db
+  pub is : desk_of db.trees ≡ desk
+
+-- and the desk is a lawful one
+pub record Holds (desk : Desk) (db : Database) : Type 0 where
+  pub of : IsOf desk db
+  pub lawful : IsLawful desk
+
+-- trees that a crash left hold this desk
+abbrev pub IsLeft : Desk → Trees → Type 0
+IsLeft desk left = Holds desk (record { schema = desk_schema; trees = left })
+
+-- Between two calls the connection has the tables of a desk and is outside a transaction, and the last
+-- commit is what is seen.
+pub record HasTables (s : State) : Type 0 where
+  pub schema : s.now.schema ≡ desk_schema
+  pub settled : s.committed ≡ s.now
+  pub autocommit : s.in_transaction ≡ false
+
+abbrev pub HoldsTables : State → Type 0
+HoldsTables s = IsTrue s.is_open → HasTables s
+
+pub record IsDeskAt (s : State) : Type 0 where
+  pub tables : HasTables s
+  pub holds : Holds (desk_of s.now.trees) s.now
+
+-- what a store keeps true of its connection; of one that a fault of the disk has shut nothing is known
+abbrev pub HoldsDesk : State → Type 0
+HoldsDesk s = IsTrue s.is_open → IsDeskAt s
+
+module _ {S : Type 0} (g : Ghosts S) (h : Held S) where
+  -- the desk that a connection shows
+  abbrev pub desk : Desk
+  desk = desk_of (state g h).now.trees
+
+  abbrev pub IsOpen : Type 0
+  IsOpen = IsTrue (state g h).is_open
+
+  abbrev pub IsClean : Type 0
+  IsClean = HasCleanDisk (state g h)
+
+  -- a crash leaves this desk and nothing else
+  abbrev pub LeavesOnly : Desk → Type 0
+  LeavesOnly d = (left : Trees) → g.recovers h.store left → IsLeft d left
+
+-- after Ok a connection that was open is open, where the disk has returned what was written
+abbrev pub StaysOpen : {S T X : Type 0} → Ghosts S → Held S → Held S → Result T X → Type 0
+StaysOpen g old new result = IsOpen g old → IsClean g new → OnOk result (IsOpen g new)
+
+-- A call that changes the desk to this one, in one transaction. Where the connection is open at the end,
+-- the desk is the new one after Ok and the old one after an error, and a crash leaves it and nothing else.
+-- Where it was open, and the disk has returned what was written, a crash leaves one of the two.
+pub record Changes {S T X : Type 0} (g : Ghosts S) (old new : Held S) (after : Desk) (result : Result T X) : Type 0 where
+  pub was_open : IsOpen g new → IsOpen g old
+  pub ok : IsOpen g new → OnOk result (desk g new ≡ after)
+  pub err : IsOpen g new → OnErr result (desk g new ≡ desk g old)
+  pub clean : IsClean g new → IsClean g old
+  pub stands : StaysOpen g old new result
+  pub crash : IsOpen g old → IsClean g new → (left : Trees) → g.recovers new.store left → IsLeft (desk g old) left ⊎ IsLeft after left
+  pub durable : IsOpen g new → LeavesOnly g new (desk g new)
+
+-- A call that reads. Where the connection is open at the end, the desk is as it was, and at each moment
+-- where the disk has returned what was written a crash leaves it and nothing else.
+pub record Keeps {S : Type 0} (g : Ghosts S) (old new : Held S) : Type 0 where
+  pub was_open : IsOpen g new → IsOpen g old
+  pub same : IsOpen g new → desk g new ≡ desk g old
+  pub clean : IsClean g new → IsClean g old
+  pub crash : IsOpen g old → IsClean g new → LeavesOnly g new (desk g old)
+
+-- Why a call is refused: Missing exactly where something is missing, then Conflict exactly where something
+-- conflicts, and Sql for want of memory or of the store.
+abbrev pub Judges : {T : Type 0} → Type 0 → Type 0 → Result T StoreFault → Type 0
+Judges IsMissing Conflicts (Ok value) = (¬ IsMissing) × (¬ Conflicts)
+Judges IsMissing Conflicts (Err Missing) = IsMissing
+Judges IsMissing Conflicts (Err Conflict) = (¬ IsMissing) × Conflicts
+Judges IsMissing Conflicts (Err Sql) = ⊤
+
+-- ---- inside
+
+-- A query. Where the connection is open at the end, it shows what it did.
+pub record Stays {S : Type 0} (g : Ghosts S) (old new : Held S) : Type 0 where
+  pub was_open : IsOpen g new → IsOpen g old
+  pub now : IsOpen g new → (state g new).now ≡ (state g old).now
+  pub committed : IsOpen g new → (state g new).committed ≡ (state g old).committed
+  pub autocommit : IsOpen g new → (state g new).in_transaction ≡ false
+  pub clean : IsClean g new → IsClean g old
+  pub quiet : IsOpen g old → Survives (state g old) (state g new) (λ _. ⊥)
+
+-- A call inside a transaction, from a database of which Before holds. Nothing is committed, and after Ok
+-- the transaction goes on, with a database of which After holds.
+pub record Moves {S T X : Type 0} (g : Ghosts S) (old new : Held S) (Before After : Database → Type 0) (result : Result T X) : Type 0 where
+  pub quiet : Survives (state g old) (state g new) (λ _. ⊥)
+  pub kept : IsClean g new → KeepsCommit (state g old) (state g new)
+  pub ok : IsClean g new → IsOpen g old → IsTrue old.in_transaction → Before (state g old).now → OnOk result (IsOpen g new × IsTrue new.in_transaction × After (state g new).now)

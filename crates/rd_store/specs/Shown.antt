@@ -1,0 +1,31 @@
+-- How the queries show entries.
+use Rattle.std.specs.Prelude.{ℕ, pos, List, [], ◌∷◌}
+use Rattle.sqlite.specs.declared.types.Value.TheVariants.{Int, Text, Blob}
+use Rattle.sqlite.specs.Order.{Row}
+use Rattle.rd_policy.specs.declared.audience.Audience.{Audience}
+use Rattle.rd_store.specs.declared.images.Label.{Label}
+use Rattle.rd_store.specs.declared.rows.DeedRow.{DeedRow}
+use Rattle.rd_store.specs.declared.rows.ImageRow.{ImageRow}
+use Rattle.rd_store.specs.Codes.{kind_code, audience_code}
+
+abbrev pub deed_shown : DeedRow → Row
+deed_shown deed = Text deed.donor ∷ Int deed.signed ∷ []
+
+abbrev pub image_shown : ImageRow → Row
+image_shown image = Int (pos (kind_code image.kind)) ∷ Int (pos image.deed) ∷ Blob image.digest ∷ Blob image.bytes ∷ []
+
+-- an image without its bytes
+abbrev pub label_of : ImageRow → Label
+label_of image = record { kind = image.kind; deed = image.deed; digest = image.digest }
+
+abbrev pub label_shown : ImageRow → Row
+label_shown image = Int (pos (kind_code image.kind)) ∷ Int (pos image.deed) ∷ Blob image.digest ∷ []
+
+abbrev pub audience_shown : Audience → Row
+audience_shown audience = Int (pos (audience_code audience)) ∷ []
+
+abbrev pub accession_shown : ℕ → Row
+accession_shown acc = Int (pos acc) ∷ []
+
+abbrev pub key_shown : List ℕ × Audience → Row
+key_shown key = Blob key.0 ∷ Int (pos (audience_code key.1)) ∷ []

@@ -1,0 +1,98 @@
+-- How the rows of the tables spell a desk.
+use Rattle.std.specs.Prelude.{◌≡◌, ℕ, pos, List, [], ◌∷◌, map}
+use Rattle.std.specs.Ordering.{nat_cmp}
+use Rattle.sqlite.specs.declared.types.Value.TheVariants.{Int, Text, Blob}
+use Rattle.sqlite.specs.Order.{Row, column}
+use Rattle.sqlite.specs.Values.{or_null}
+use Rattle.sqlite.specs.Tree.{Trees}
+use Rattle.sqlite_value.specs.Order.{bytes}
+use Rattle.sqlite_rules.specs.Edit.{id_in}
+use Rattle.rd_policy.specs.declared.audience.Audience.{Audience}
+use Rattle.rd_tables.specs.Sheets.{Sheet, Spells, HaveRowids, map_of, natural}
+use Rattle.rd_store.specs.declared.rows.DeedRow.{DeedRow}
+use Rattle.rd_store.specs.declared.rows.ImageRow.{ImageRow}
+use Rattle.rd_store.specs.declared.rows.Outcome.{Outcome}
+use Rattle.rd_store.specs.Codes.{kind_code, kind_in, band_code, band_in, effect_code, effect_in, audiences_code, audiences_in, audience_code, audience_in, outcome_code, outcome_in, how, number, word, select_in, day_in}
+use Rattle.rd_store.specs.State.{Desk, Place, Terms, Checkup, place_cmp, digest_cmp, checkup_cmp}
+
+abbrev pub deed_sheet : Sheet ℕ DeedRow
+deed_sheet = record {
+  places = 0 ∷ 2 ∷ 3 ∷ [];
+  cmp = nat_cmp;
+  columns = λ e. Int (pos e.0) ∷ Text e.1.donor ∷ Int e.1.signed ∷ [];
+  entry = λ row. (natural (column row 0), record { donor = bytes (column row 1); signed = id_in (column row 2) });
+}
+
+abbrev pub image_sheet : Sheet ℕ ImageRow
+image_sheet = record {
+  places = 0 ∷ 2 ∷ 3 ∷ 4 ∷ 5 ∷ [];
+  cmp = nat_cmp;
+  columns = λ e. Int (pos e.0) ∷ Int (pos (kind_code e.1.kind)) ∷ Int (pos e.1.deed) ∷ Blob e.1.digest ∷ Blob e.1.bytes ∷ [];
+  entry = λ row. (
+    natural (column row 0),
+    record { kind = kind_in (natural (column row 1)); deed = natural (column row 2); digest = bytes (column row 3); bytes = bytes (column row 4) },
+  );
+}
+
+abbrev pub rule_sheet : Sheet Place Terms
+rule_sheet = record {
+  places = 1 ∷ 2 ∷ 3 ∷ 4 ∷ 5 ∷ 6 ∷ 7 ∷ 8 ∷ 9 ∷ 10 ∷ [];
+  cmp = place_cmp;
+  columns = λ e. Int (pos (band_code e.0.band)) ∷ Int (pos e.0.scope) ∷ Int (pos e.0.rank) ∷ Int (pos (audiences_code e.1.audiences)) ∷ or_null Int e.1.from ∷ or_null Int e.1.until
+      ∷ Int (pos (how e.1.select)) ∷ Int (pos (number e.1.select)) ∷ Text (word e.1.select) ∷ Int (pos (effect_code e.1.effect)) ∷ [];
+  entry = λ row. (
+    record { band = band_in (natural (column row 0)); scope = natural (column row 1); rank = natural (column row 2) },
+    record {
+      audiences = audiences_in (natural (column row 3));
+      from = day_in (column row 4);
+      until = day_in (column row 5);
+      select = select_in (natural (column row 6)) (natural (column row 7)) (bytes (column row 8));
+      effect = effect_in (natural (column row 9));
+    },
+  );
+}
+
+abbrev pub key_sheet : Sheet (List ℕ) Audience
+key_sheet = record {
+  places = 1 ∷ 2 ∷ [];
+  cmp = digest_cmp;
+  columns = λ e. Blob e.0 ∷ Int (pos (audience_code e.1)) ∷ [];
+  entry = λ row. (bytes (column row 0), audience_in (natural (column row 1)));
+}
+
+abbrev pub check_sheet : Sheet Checkup Outcome
+check_sheet = record {
+  places = 1 ∷ 2 ∷ 3 ∷ [];
+  cmp = checkup_cmp;
+  columns = λ e. Int (pos e.0.acc) ∷ Int e.0.day ∷ Int (pos (outcome_code e.1)) ∷ [];
+  entry = λ row. (record { acc = natural (column row 0); day = id_in (column row 1) }, outcome_in (natural (column row 2)));
+}
+
+-- the desk has its one row, which says this version
+abbrev pub HasVersion : ℕ → List Row → Type 0
+HasVersion version rows = map (λ row. column row 2) rows ≡ Int (pos version) ∷ []
+
+-- The rows spell a desk of version 0.
+pub record SpellDesk (trees : Trees) : Type 0 where
+  pub version : HasVersion 0 (trees 0)
+  pub deeds : Spells deed_sheet (trees 1)
+  pub images : Spells image_sheet (trees 2)
+  pub rules : Spells rule_sheet (trees 3)
+  pub keys : Spells key_sheet (trees 5)
+  pub checks : Spells check_sheet (trees 7)
+
+-- and this is the desk
+abbrev pub desk_of : Trees → Desk
+desk_of trees = record {
+  deeds = map_of deed_sheet (trees 1);
+  images = map_of image_sheet (trees 2);
+  rules = map_of rule_sheet (trees 3);
+  keys = map_of key_sheet (trees 5);
+  checks = map_of check_sheet (trees 7);
+}
+
+-- In the tables whose key is not the rowid, no two rows share a rowid.
+pub record HaveOwnRowids (trees : Trees) : Type 0 where
+  pub rules : HaveRowids (trees 3)
+  pub keys : HaveRowids (trees 5)
+  pub checks : HaveRowids (trees 7)

@@ -1,0 +1,92 @@
+ghost use Rattle.std.specs.Prelude.{◌≡◌};
+ghost use Rattle.rd_store.specs.Codes.{kind_code, band_code, effect_code, audiences_code, audience_code, how as how_of, number as number_of, word as word_of};
+
+use rd_geometry::Kind;
+use rd_policy::{Audience, Audiences, Band, Effect, Select};
+
+/// The number of a kind in the tables.
+pub(crate) fn of_kind(kind: Kind) -> u32
+    ensures { result ≡ kind_code kind }
+{
+    match kind {
+        Kind::Cpm8 => 0,
+        Kind::D64 => 1,
+    }
+}
+
+/// The number of a band in the tables.
+pub(crate) fn of_band(band: Band) -> u32
+    ensures { result ≡ band_code band }
+{
+    match band {
+        Band::Takedown => 0,
+        Band::Deed => 1,
+    }
+}
+
+/// The number of an effect in the tables.
+pub(crate) fn of_effect(effect: Effect) -> u32
+    ensures { result ≡ effect_code effect }
+{
+    match effect {
+        Effect::Deny => 0,
+        Effect::List => 1,
+        Effect::Read => 2,
+    }
+}
+
+/// The number of a set of audiences in the tables.
+pub(crate) fn of_audiences(set: Audiences) -> u32
+    ensures { result ≡ audiences_code set }
+{
+    let public = if set.public { 1 } else { 0 };
+    let room = if set.room { 2 } else { 0 };
+    let staff = if set.staff { 4 } else { 0 };
+    public + (room + staff)
+}
+
+/// The number of an audience in the tables.
+pub(crate) fn of_audience(audience: Audience) -> u32
+    ensures { result ≡ audience_code audience }
+{
+    match audience {
+        Audience::Public => 0,
+        Audience::Room => 1,
+        Audience::Staff => 2,
+    }
+}
+
+/// How a selector selects, in the tables.
+pub(crate) fn how(select: &Select) -> u32
+    ensures { result ≡ how_of select.now }
+{
+    match select {
+        Select::All => 0,
+        Select::Slot(_) => 1,
+        Select::Prefix(_) => 2,
+        Select::User(_) => 3,
+        Select::Kind(_) => 4,
+    }
+}
+
+/// The number by which a selector selects, 0 where it has none.
+pub(crate) fn number(select: &Select) -> u32
+    ensures { result ≡ number_of select.now }
+{
+    match select {
+        Select::Slot(slot) => u32::from(*slot),
+        Select::User(user) => u32::from(*user),
+        _ => 0,
+    }
+}
+
+/// The text by which a selector selects, empty where it has none.
+pub(crate) fn word(select: &Select) -> &str
+    ensures { result.now ≡ word_of select.now }
+{
+    match select {
+        Select::Prefix(text) => text.as_str(),
+        Select::Kind(text) => text.as_str(),
+        _ => "",
+    }
+}

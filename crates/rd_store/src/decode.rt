@@ -1,0 +1,143 @@
+ghost use Rattle.std.specs.Prelude.{◌≡◌, IfOk, IfErr, pos, string_bytes};
+ghost use Rattle.sqlite.specs.declared.types.Value.TheVariants.{Int, Text as Words, Blob};
+ghost use Rattle.sqlite.specs.Order.{column};
+ghost use Rattle.sqlite.specs.Values.{or_null};
+ghost use Rattle.sqlite_value.specs.Order.{bytes};
+ghost use Rattle.rd_tables.specs.Sheets.{natural};
+ghost use Rattle.rd_store.specs.Codes.{kind_in, band_in, effect_in, audiences_in, audience_in, select_in};
+
+use crate::faults::StoreFault;
+use rd_geometry::{Kind, Text};
+use rd_policy::{Audience, Audiences, Band, Effect, Select};
+use sqlite::Row;
+use sqlite::types::ValueRef;
+use std::alloc::Global;
+
+/// The natural number in a column.
+pub(crate) fn number_at(row: &Row, at: usize) -> Result<u32, StoreFault>
+    ensures value { IfOk result (λ number. column row.now at ≡ Int (pos number)) }
+    ensures fault { IfErr result (λ fault. fault ≡ StoreFault.Sql) }
+{
+    row.get(at).map_err(|_| StoreFault::Sql)
+}
+
+/// The day in a column.
+pub(crate) fn day_at(row: &Row, at: usize) -> Result<i32, StoreFault>
+    ensures value { IfOk result (λ day. column row.now at ≡ Int day) }
+    ensures fault { IfErr result (λ fault. fault ≡ StoreFault.Sql) }
+{
+    row.get(at).map_err(|_| StoreFault::Sql)
+}
+
+/// The day in a column that may be NULL.
+pub(crate) fn some_day_at(row: &Row, at: usize) -> Result<Option<i32>, StoreFault>
+    ensures value { IfOk result (λ day. column row.now at ≡ or_null Int day) }
+    ensures fault { IfErr result (λ fault. fault ≡ StoreFault.Sql) }
+{
+    row.get(at).map_err(|_| StoreFault::Sql)
+}
+
+/// The text in a column.
+pub(crate) fn text_at(row: &Row, at: usize) -> Result<String, StoreFault>
+    ensures value { IfOk result (λ text. column row.now at ≡ Words (string_bytes text)) }
+    ensures fault { IfErr result (λ fault. fault ≡ StoreFault.Sql) }
+{
+    row.get(at).map_err(|_| StoreFault::Sql)
+}
+
+/// The digest in a column.
+pub(crate) fn digest_at(row: &Row, at: usize) -> Result<[u8; 32], StoreFault>
+    ensures value { IfOk result (λ digest. column row.now at ≡ Blob digest) }
+    ensures fault { IfErr result (λ fault. fault ≡ StoreFault.Sql) }
+{
+    match row.get_ref(at) {
+        Ok(ValueRef::Blob(bytes)) => <[u8; 32]>::try_from(bytes).map_err(|_| StoreFault::Sql),
+        _ => Err(StoreFault::Sql),
+    }
+}
+
+/// A copy of the bytes in a column.
+pub(crate) fn bytes_at(alloc: Global, row: &Row, at: usize) -> Result<Vec<u8>, StoreFault>
+    ensures value { IfOk result (λ copy. column row.now at ≡ Blob copy.items) }
+    ensures fault { IfErr result (λ fault. fault ≡ StoreFault.Sql) }
+{
+    match row.get_ref(at) {
+        Ok(ValueRef::Blob(bytes)) => {
+            Vec::from_slice(alloc, bytes).map_err(|_| StoreFault::Sql)
+        }
+        _ => Err(StoreFault::Sql),
+    }
+}
+
+/// The kind with a number.
+pub(crate) fn kind(code: u32) -> Kind
+    ensures { result ≡ kind_in code }
+{
+    match code {
+        0 => Kind::Cpm8,
+        _ => Kind::D64,
+    }
+}
+
+/// The band with a number.
+pub(crate) fn band(code: u32) -> Band
+    ensures { result ≡ band_in code }
+{
+    match code {
+        0 => Band::Takedown,
+        _ => Band::Deed,
+    }
+}
+
+/// The effect with a number.
+pub(crate) fn effect(code: u32) -> Effect
+    ensures { result ≡ effect_in code }
+{
+    match code {
+        0 => Effect::Deny,
+        1 => Effect::List,
+        _ => Effect::Read,
+    }
+}
+
+/// The set of audiences with a number.
+pub(crate) fn audiences(code: u32) -> Audiences
+    ensures { result ≡ audiences_in code }
+{
+    Audiences {
+        public: code % 2 == 1,
+        room: code / 2 % 2 == 1,
+        staff: code / 4 % 2 == 1,
+    }
+}
+
+/// The audience with a number.
+pub(crate) fn audience(code: u32) -> Audience
+    ensures { result ≡ audience_in code }
+{
+    match code {
+        0 => Audience::Public,
+        1 => Audience::Room,
+        _ => Audience::Staff,
+    }
+}
+
+/// The selector that three columns spell.
+pub(crate) fn select(how: u32, number: u32, word: String) -> Result<Select, StoreFault>
+    ensures value { IfOk result (λ select. select ≡ select_in how number (string_bytes word)) }
+    ensures fault { IfErr result (λ fault. fault ≡ StoreFault.Sql) }
+{
+    match how {
+        0 => Ok(Select::All),
+        1 => match u16::try_from(number) {
+            Ok(slot) => Ok(Select::Slot(slot)),
+            Err(_) => Err(StoreFault::Sql),
+        },
+        2 => Ok(Select::Prefix(Text::of(word))),
+        3 => match u8::try_from(number) {
+            Ok(user) => Ok(Select::User(user)),
+            Err(_) => Err(StoreFault::Sql),
+        },
+        _ => Ok(Select::Kind(Text::of(word))),
+    }
+}

@@ -1,0 +1,62 @@
+ghost use Rattle.std.specs.Prelude.{◌≡◌, IfOk, IfErr, map};
+ghost use Rattle.std.specs.FinMap.{get};
+ghost use Rattle.std.specs.Option.{option_to_list};
+ghost use Rattle.sqlite.specs.Held.{state};
+ghost use Rattle.rd_store.specs.Held.{HoldsDesk, IsOpen, Stays, StaysOpen, desk};
+ghost use Rattle.rd_store.specs.Shown.{deed_shown};
+
+use crate::decode::{day_at, text_at};
+use crate::faults::StoreFault;
+use crate::read::read_all;
+use crate::rows::DeedRow;
+use rd_geometry::Text;
+use sqlite::types::ToSql;
+use sqlite::{Alter, Connection, Row};
+
+/// The rows for the deed with a number.
+fn deed_rows<S: Alter>(conn: &mut Connection<S>, num: u32) -> Result<Vec<Row>, StoreFault>
+    requires holds { HoldsDesk (state S.Store conn.old) }
+    ensures rows { IsOpen S.Store conn.new → IfOk result (λ rows.
+        rows.items ≡ map deed_shown (option_to_list (get (desk S.Store conn.old).deeds num))) }
+    ensures stays { Stays S.Store conn.old conn.new }
+    ensures stands { StaysOpen S.Store conn.old conn.new result }
+    ensures kept { HoldsDesk (state S.Store conn.new) }
+    ensures fault { IfErr result (λ fault. fault ≡ StoreFault.Sql) }
+{
+    let key = num.to_sql();
+    read_all(
+        conn,
+        "SELECT donor, signed FROM deed WHERE num = ?1",
+        &[key],
+    )
+}
+
+/// The deed that a row shows.
+fn read_deed(row: &Row) -> Result<DeedRow, StoreFault>
+    ensures deed { IfOk result (λ read. (deed : DeedRow) → row.now ≡ deed_shown deed → read ≡ deed) }
+    ensures fault { IfErr result (λ fault. fault ≡ StoreFault.Sql) }
+{
+    let donor = Text::of(text_at(row, 0)?);
+    let signed = day_at(row, 1)?;
+    Ok(DeedRow { donor, signed })
+}
+
+/// The deed with a number, `None` where there is none.
+pub(crate) fn deed<S: Alter>(
+    conn: &mut Connection<S>,
+    num: u32,
+) -> Result<Option<DeedRow>, StoreFault>
+    requires holds { HoldsDesk (state S.Store conn.old) }
+    ensures answer { IsOpen S.Store conn.new → IfOk result (λ found.
+        found ≡ get (desk S.Store conn.old).deeds num) }
+    ensures stays { Stays S.Store conn.old conn.new }
+    ensures stands { StaysOpen S.Store conn.old conn.new result }
+    ensures kept { HoldsDesk (state S.Store conn.new) }
+    ensures fault { IfErr result (λ fault. fault ≡ StoreFault.Sql) }
+{
+    let rows = deed_rows(conn, num)?;
+    match rows.first() {
+        Some(row) => Ok(Some(read_deed(row)?)),
+        None => Ok(None),
+    }
+}

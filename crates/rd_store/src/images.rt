@@ -1,0 +1,176 @@
+ghost use Rattle.std.specs.Prelude.{◌≡◌, IfOk, IfErr, map, option_map};
+ghost use Rattle.std.specs.FinMap.{get, keys};
+ghost use Rattle.std.specs.Option.{option_to_list};
+ghost use Rattle.sqlite.specs.Held.{state};
+ghost use Rattle.sqlite.specs.Order.{column};
+ghost use Rattle.rd_tables.specs.Sheets.{natural};
+ghost use Rattle.rd_store.specs.Held.{HoldsDesk, IsOpen, Stays, StaysOpen, desk};
+ghost use Rattle.rd_store.specs.Shown.{accession_shown, image_shown, label_of, label_shown};
+
+use crate::decode::{bytes_at, digest_at, kind, number_at};
+use crate::faults::StoreFault;
+use crate::read::read_all;
+use crate::rows::ImageRow;
+use rd_geometry::{Items, Kind};
+use sqlite::types::ToSql;
+use sqlite::{Alter, Connection, Row};
+use std::alloc::Global;
+
+/// An image without its bytes.
+#[derive(Debug)]
+pub(crate) struct Label {
+    pub(crate) kind: Kind,
+    pub(crate) deed: u32,
+    pub(crate) digest: [u8; 32],
+}
+
+/// The rows for the image of an accession.
+fn image_rows<S: Alter>(conn: &mut Connection<S>, acc: u32) -> Result<Vec<Row>, StoreFault>
+    requires holds { HoldsDesk (state S.Store conn.old) }
+    ensures rows { IsOpen S.Store conn.new → IfOk result (λ rows.
+        rows.items ≡ map image_shown (option_to_list (get (desk S.Store conn.old).images acc))) }
+    ensures stays { Stays S.Store conn.old conn.new }
+    ensures stands { StaysOpen S.Store conn.old conn.new result }
+    ensures kept { HoldsDesk (state S.Store conn.new) }
+    ensures fault { IfErr result (λ fault. fault ≡ StoreFault.Sql) }
+{
+    let key = acc.to_sql();
+    read_all(
+        conn,
+        "SELECT kind, deed, digest, bytes FROM image WHERE acc = ?1",
+        &[key],
+    )
+}
+
+/// The image that a row shows.
+fn read_image(alloc: Global, row: &Row) -> Result<ImageRow, StoreFault>
+    ensures image { IfOk result (λ read. (image : ImageRow) → row.now ≡ image_shown image → read ≡ image) }
+    ensures fault { IfErr result (λ fault. fault ≡ StoreFault.Sql) }
+{
+    let kind = kind(number_at(row, 0)?);
+    let deed = number_at(row, 1)?;
+    let digest = digest_at(row, 2)?;
+    let bytes = Items::of(bytes_at(alloc, row, 3)?);
+    Ok(ImageRow {
+        kind,
+        deed,
+        digest,
+        bytes,
+    })
+}
+
+/// The image of an accession, `None` where there is none.
+pub(crate) fn image<S: Alter>(
+    alloc: Global,
+    conn: &mut Connection<S>,
+    acc: u32,
+) -> Result<Option<ImageRow>, StoreFault>
+    requires holds { HoldsDesk (state S.Store conn.old) }
+    ensures answer { IsOpen S.Store conn.new → IfOk result (λ found.
+        found ≡ get (desk S.Store conn.old).images acc) }
+    ensures stays { Stays S.Store conn.old conn.new }
+    ensures stands { StaysOpen S.Store conn.old conn.new result }
+    ensures kept { HoldsDesk (state S.Store conn.new) }
+    ensures fault { IfErr result (λ fault. fault ≡ StoreFault.Sql) }
+{
+    let rows = image_rows(conn, acc)?;
+    match rows.first() {
+        Some(row) => Ok(Some(read_image(alloc, row)?)),
+        None => Ok(None),
+    }
+}
+
+/// The rows for the image of an accession without its bytes.
+fn label_rows<S: Alter>(conn: &mut Connection<S>, acc: u32) -> Result<Vec<Row>, StoreFault>
+    requires holds { HoldsDesk (state S.Store conn.old) }
+    ensures rows { IsOpen S.Store conn.new → IfOk result (λ rows.
+        rows.items ≡ map label_shown (option_to_list (get (desk S.Store conn.old).images acc))) }
+    ensures stays { Stays S.Store conn.old conn.new }
+    ensures stands { StaysOpen S.Store conn.old conn.new result }
+    ensures kept { HoldsDesk (state S.Store conn.new) }
+    ensures fault { IfErr result (λ fault. fault ≡ StoreFault.Sql) }
+{
+    let key = acc.to_sql();
+    read_all(
+        conn,
+        "SELECT kind, deed, digest FROM image WHERE acc = ?1",
+        &[key],
+    )
+}
+
+/// What a row shows of an image.
+fn read_label(row: &Row) -> Result<Label, StoreFault>
+    ensures label { IfOk result (λ read. (image : ImageRow) → row.now ≡ label_shown image → read ≡ label_of image) }
+    ensures fault { IfErr result (λ fault. fault ≡ StoreFault.Sql) }
+{
+    let kind = kind(number_at(row, 0)?);
+    let deed = number_at(row, 1)?;
+    let digest = digest_at(row, 2)?;
+    Ok(Label { kind, deed, digest })
+}
+
+/// The image of an accession without its bytes, `None` where there is none.
+pub(crate) fn label_at<S: Alter>(
+    conn: &mut Connection<S>,
+    acc: u32,
+) -> Result<Option<Label>, StoreFault>
+    requires holds { HoldsDesk (state S.Store conn.old) }
+    ensures answer { IsOpen S.Store conn.new → IfOk result (λ found.
+        found ≡ option_map label_of (get (desk S.Store conn.old).images acc)) }
+    ensures stays { Stays S.Store conn.old conn.new }
+    ensures stands { StaysOpen S.Store conn.old conn.new result }
+    ensures kept { HoldsDesk (state S.Store conn.new) }
+    ensures fault { IfErr result (λ fault. fault ≡ StoreFault.Sql) }
+{
+    let rows = label_rows(conn, acc)?;
+    match rows.first() {
+        Some(row) => Ok(Some(read_label(row)?)),
+        None => Ok(None),
+    }
+}
+
+/// The rows for all accessions.
+fn accession_rows<S: Alter>(conn: &mut Connection<S>) -> Result<Vec<Row>, StoreFault>
+    requires holds { HoldsDesk (state S.Store conn.old) }
+    ensures rows { IsOpen S.Store conn.new → IfOk result (λ rows.
+        rows.items ≡ map accession_shown (keys (desk S.Store conn.old).images)) }
+    ensures stays { Stays S.Store conn.old conn.new }
+    ensures stands { StaysOpen S.Store conn.old conn.new result }
+    ensures kept { HoldsDesk (state S.Store conn.new) }
+    ensures fault { IfErr result (λ fault. fault ≡ StoreFault.Sql) }
+{
+    read_all(conn, "SELECT acc FROM image ORDER BY acc", &[])
+}
+
+/// The numbers in the first column of rows.
+fn read_numbers(alloc: Global, rows: &[Row]) -> Result<Vec<u32>, StoreFault>
+    ensures numbers { IfOk result (λ numbers.
+        numbers.items ≡ map (λ row. natural (column row 0)) rows.now) }
+    ensures fault { IfErr result (λ fault. fault ≡ StoreFault.Sql) }
+{
+    let mut numbers = Vec::new(alloc);
+    for row in rows {
+        let number = number_at(row, 0)?;
+        if numbers.push(number).is_err() {
+            return Err(StoreFault::Sql);
+        }
+    }
+    Ok(numbers)
+}
+
+/// All accessions, ascending.
+pub(crate) fn accessions<S: Alter>(
+    alloc: Global,
+    conn: &mut Connection<S>,
+) -> Result<Vec<u32>, StoreFault>
+    requires holds { HoldsDesk (state S.Store conn.old) }
+    ensures answer { IsOpen S.Store conn.new → IfOk result (λ numbers.
+        numbers.items ≡ keys (desk S.Store conn.old).images) }
+    ensures stays { Stays S.Store conn.old conn.new }
+    ensures stands { StaysOpen S.Store conn.old conn.new result }
+    ensures kept { HoldsDesk (state S.Store conn.new) }
+    ensures fault { IfErr result (λ fault. fault ≡ StoreFault.Sql) }
+{
+    let rows = accession_rows(conn)?;
+    read_numbers(alloc, &rows)
+}

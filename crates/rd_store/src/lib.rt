@@ -1,0 +1,16 @@
+//! The tables of the desk: an exact, transactional store of deeds, images, rules and desk keys, over any
+//! store of `sqlite`.
+#![tactic(auto)]
+
+mod codes;
+mod deeds;
+mod decode;
+mod faults;
+mod images;
+mod keys;
+mod read;
+mod rows;
+mod rules;
+
+pub use faults::StoreFault;
+pub use rows::{DeedRow, ImageRow, Outcome};

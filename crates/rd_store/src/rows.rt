@@ -1,0 +1,32 @@
+use rd_geometry::{Items, Kind, Text};
+
+/// A deed.
+#[derive(Debug, Drop)]
+pub struct DeedRow {
+    /// Who gave the disks: 1 to 1,000 bytes without control characters.
+    pub donor: Text,
+    /// The day on which it was signed, counted from 1970-01-01.
+    pub signed: i32,
+}
+
+/// An accession: an image as it was given.
+#[derive(Debug, Drop)]
+pub struct ImageRow {
+    /// The kind of disk image.
+    pub kind: Kind,
+    /// The number of its deed, 1 to 999,999.
+    pub deed: u32,
+    /// The SHA-256 that was given for its bytes.
+    pub digest: [u8; 32],
+    /// Its bytes, as many as its kind has.
+    pub bytes: Items<u8>,
+}
+
+/// What a check of an image found.
+#[derive(Clone, Copy, Debug, PartialEq, Eq, Hash)]
+pub enum Outcome {
+    /// The SHA-256 of its bytes is the one that was given.
+    Sound,
+    /// It is another.
+    Changed,
+}

@@ -1,0 +1,121 @@
+ghost use Rattle.std.specs.Prelude.{◌≡◌, IfOk, IfErr, map};
+ghost use Rattle.std.specs.FinMap.{entries, retain_keys};
+ghost use Rattle.sqlite.specs.Held.{state};
+ghost use Rattle.sqlite.specs.Order.{column};
+ghost use Rattle.sqlite_value.specs.Order.{bytes};
+ghost use Rattle.rd_tables.specs.Sheets.{natural};
+ghost use Rattle.rd_store.specs.Codes.{is_at, select_in};
+ghost use Rattle.rd_store.specs.Held.{HoldsDesk, IsOpen, Stays, StaysOpen, desk};
+ghost use Rattle.rd_store.specs.Spelled.{rule_sheet};
+ghost use Rattle.rd_store.specs.State.{rule_of, rules_at};
+
+use crate::codes;
+use crate::decode::{audiences, band, effect, number_at, select, some_day_at, text_at};
+use crate::faults::StoreFault;
+use crate::read::read_all;
+use rd_policy::{Band, Rule, Select};
+use sqlite::types::ToSql;
+use sqlite::{Alter, Connection, Row};
+use std::alloc::Global;
+
+/// The rows for the rules of a band and a number.
+fn rule_rows<S: Alter>(
+    conn: &mut Connection<S>,
+    band: Band,
+    scope: u32,
+) -> Result<Vec<Row>, StoreFault>
+    requires holds { HoldsDesk (state S.Store conn.old) }
+    ensures rows { IsOpen S.Store conn.new → IfOk result (λ rows.
+        rows.items ≡ map rule_sheet.columns (entries (retain_keys (desk S.Store conn.old).rules (λ place. is_at band scope place.band place.scope)))) }
+    ensures stays { Stays S.Store conn.old conn.new }
+    ensures stands { StaysOpen S.Store conn.old conn.new result }
+    ensures kept { HoldsDesk (state S.Store conn.new) }
+    ensures fault { IfErr result (λ fault. fault ≡ StoreFault.Sql) }
+{
+    let first = codes::of_band(band).to_sql();
+    let second = scope.to_sql();
+    read_all(
+        conn,
+        "SELECT band, scope, rank, audiences, day_from, day_until, how, number, word, effect FROM rule WHERE band = ?1 AND scope = ?2 ORDER BY rank",
+        &[first, second],
+    )
+}
+
+/// The rank that a row shows.
+fn rank_at(row: &Row, at: usize) -> Result<u16, StoreFault>
+    ensures rank { IfOk result (λ rank. rank ≡ natural (column row.now at)) }
+    ensures fault { IfErr result (λ fault. fault ≡ StoreFault.Sql) }
+{
+    u16::try_from(number_at(row, at)?).map_err(|_| StoreFault::Sql)
+}
+
+/// The selector that a row shows.
+fn select_at(row: &Row) -> Result<Select, StoreFault>
+    ensures select { IfOk result (λ select. select ≡ select_in (natural (column row.now 6)) (natural (column row.now 7)) (bytes (column row.now 8))) }
+    ensures fault { IfErr result (λ fault. fault ≡ StoreFault.Sql) }
+{
+    let how = number_at(row, 6)?;
+    let number = number_at(row, 7)?;
+    let word = text_at(row, 8)?;
+    select(how, number, word)
+}
+
+/// The rule that a row shows.
+fn read_rule(row: &Row) -> Result<Rule, StoreFault>
+    ensures rule { IfOk result (λ rule. rule ≡ rule_of (rule_sheet.entry row.now)) }
+    ensures fault { IfErr result (λ fault. fault ≡ StoreFault.Sql) }
+{
+    let band = band(number_at(row, 0)?);
+    let scope = number_at(row, 1)?;
+    let rank = rank_at(row, 2)?;
+    let audiences = audiences(number_at(row, 3)?);
+    let from = some_day_at(row, 4)?;
+    let until = some_day_at(row, 5)?;
+    let select = select_at(row)?;
+    let effect = effect(number_at(row, 9)?);
+    Ok(Rule {
+        band,
+        scope,
+        rank,
+        audiences,
+        from,
+        until,
+        select,
+        effect,
+    })
+}
+
+/// The rules that rows show.
+fn read_rules(alloc: Global, rows: &[Row]) -> Result<Vec<Rule>, StoreFault>
+    ensures rules { IfOk result (λ rules.
+        rules.items ≡ map (λ row. rule_of (rule_sheet.entry row)) rows.now) }
+    ensures fault { IfErr result (λ fault. fault ≡ StoreFault.Sql) }
+{
+    let mut rules = Vec::new(alloc);
+    for row in rows {
+        let rule = read_rule(row)?;
+        if rules.push(rule).is_err() {
+            return Err(StoreFault::Sql);
+        }
+    }
+    Ok(rules)
+}
+
+/// The rules of a band and a number, by rank.
+pub(crate) fn rules_of<S: Alter>(
+    alloc: Global,
+    conn: &mut Connection<S>,
+    band: Band,
+    scope: u32,
+) -> Result<Vec<Rule>, StoreFault>
+    requires holds { HoldsDesk (state S.Store conn.old) }
+    ensures answer { IsOpen S.Store conn.new → IfOk result (λ rules.
+        rules.items ≡ rules_at (desk S.Store conn.old) band scope) }
+    ensures stays { Stays S.Store conn.old conn.new }
+    ensures stands { StaysOpen S.Store conn.old conn.new result }
+    ensures kept { HoldsDesk (state S.Store conn.new) }
+    ensures fault { IfErr result (λ fault. fault ≡ StoreFault.Sql) }
+{
+    let rows = rule_rows(conn, band, scope)?;
+    read_rules(alloc, &rows)
+}

@@ -1,0 +1,110 @@
+-- What a row put in, or rows taken out, make of the map that the rows of a table spell.
+use Rattle.std.proofs.Common.{◌≡◌, List, [], ◌∷◌, map, filter, Bool, true, false, not, cond, Option, Some, None, refl, sym, ap, subst, ◌∙◌, Ordering, Less, Equal, Greater, is_eq, true≢false}
+use Rattle.std.specs.List.{AllByRecursion, IsDistinct}
+use Rattle.std.specs.List.Sorted.{IsPermutation}
+use Rattle.std.specs.Ordering.{eq_by_cmp, match_ordering}
+use Rattle.std.specs.FinMap.{get, insert, remove, same_map, get-remove, get-from_entries}
+use Rattle.std.specs.FinMap.Entries.{find, where_key, find-where_key}
+use Rattle.std.proofs.lemmas.Cmp.{eq_by_cmp_equiv}
+use Rattle.std.proofs.lemmas.List.Sorted.{IsPermutation-trans, IsPermutation-refl, IsPermutation-cons, IsPermutation-map, IsPermutation-middle, IsPermutation-sym, All-permutation}
+use Rattle.std.proofs.lemmas.List.Elements.{recursion_from_All, All-from_recursion}
+use Rattle.std.proofs.lemmas.Map.Keys.{IsDistinct-IsPermutation, IsDistinct-cons}
+use Rattle.std.proofs.lemmas.Map.Made.{IsDistinct-keys_filter}
+use Rattle.sqlite.specs.Order.{Row, value_cmp}
+use Rattle.sqlite.specs.Tree.{rowid, put_row}
+use Rattle.sqlite.specs.Edit.{is_taken}
+use Rattle.rd_tables.specs.Sheets.{Sheet, entry_of, IsSpelled, Spells, map_of}
+use Rattle.rd_tables.proofs.Lists.{map_map, neither, all_map, all_weaker, all_filtered}
+use Rattle.rd_tables.proofs.Entries.{IsKeyOrder, one_map}
+use Rattle.rd_tables.proofs.Finding.{kept_entries, keys_apart}
+
+-- a row whose rowid is free goes in somewhere
+pub put_permutes : (new : Row) (rows : List Row) → is_taken rows new ≡ false → IsPermutation (new ∷ rows) (put_row new rows)
+put_permutes new [] free = IsPermutation-refl (new ∷ [])
+put_permutes new (r ∷ rows) free =
+    let parts = neither _ _ free in
+    go (value_cmp (rowid r) (rowid new)) parts.0 (put_permutes new rows parts.1)
+  where
+    go : (o : Ordering) → is_eq o ≡ false → IsPermutation (new ∷ rows) (put_row new rows) → IsPermutation (new ∷ r ∷ rows) (match_ordering o (r ∷ put_row new rows) (new ∷ rows) (new ∷ r ∷ rows))
+    go Less apart more = IsPermutation-trans _ _ _ (IsPermutation-sym _ _ (IsPermutation-middle (r ∷ []) new rows)) (IsPermutation-cons r _ _ more)
+    go Equal apart more = absurd (true≢false apart)
+    go Greater apart more = IsPermutation-refl (new ∷ r ∷ rows)
+
+module _ {K X : Type 0} (sheet : Sheet K X) (order : IsKeyOrder sheet.cmp) where
+  abbrev look : Row → K × X
+  look row = entry_of sheet row
+
+  abbrev key_at : Row → K
+  key_at row = (look row).0
+
+  -- the row does not have the key
+  abbrev pub IsOtherThan : K → Row → Type 0
+  IsOtherThan key row = eq_by_cmp sheet.cmp key (key_at row) ≡ false
+
+  -- A row is put in whose key no row has.
+  module _ (new : Row) (rows : List Row) (spells : Spells sheet rows) (is : IsSpelled sheet new) (none : AllByRecursion (IsOtherThan (key_at new)) rows) (free : is_taken rows new ≡ false) where
+    apart : IsDistinct (eq_by_cmp sheet.cmp) (map key_at (new ∷ rows))
+    apart = IsDistinct-cons (eq_by_cmp sheet.cmp) (key_at new) (map key_at rows) (all_map (λ k. eq_by_cmp sheet.cmp (key_at new) k ≡ false) key_at rows none) spells.apart
+
+    pub spells_put : Spells sheet (put_row new rows)
+    spells_put = record {
+      spelled = recursion_from_All (IsSpelled sheet) _ (All-permutation (IsSpelled sheet) _ _ (put_permutes new rows free) (All-from_recursion (IsSpelled sheet) (new ∷ rows) (is, spells.spelled)));
+      apart = IsDistinct-IsPermutation (eq_by_cmp sheet.cmp) (eq_by_cmp_equiv order.total).symm _ _ (IsPermutation-map key_at _ _ (put_permutes new rows free)) apart;
+    }
+
+    pub map_put : map_of sheet (put_row new rows) ≡ insert (map_of sheet rows) (look new).0 (look new).1
+    map_put =
+        sym (one_map sheet.cmp order (map look (new ∷ rows)) (map look (put_row new rows)) (IsPermutation-map look _ _ (put_permutes new rows free))
+        (subst (IsDistinct (eq_by_cmp sheet.cmp)) (sym (map_map (λ (e : K × X). e.0) look (new ∷ rows))) apart))
+
+  -- where the map has nothing at a key, no row has it
+  pub none_at : (key : K) (rows : List Row) → get (map_of sheet rows) key ≡ None → AllByRecursion (IsOtherThan key) rows
+  none_at key rows nothing = go rows (sym (get-from_entries order.total (map look rows) key) ∙ nothing)
+    where
+      parted : {A : Type 0} (b : Bool) (x : A) (o : Option A) → cond b (Some x) o ≡ None → (b ≡ false) × (o ≡ None)
+      parted true x o e = absurd cc
+      parted false x o e = (refl, e)
+
+      go : (rs : List Row) → find sheet.cmp key (map look rs) ≡ None → AllByRecursion (IsOtherThan key) rs
+      go [] e = tt
+      go (r ∷ rs) e =
+          let parts = parted (eq_by_cmp sheet.cmp key (key_at r)) (look r).1 (find sheet.cmp key (map look rs)) e in
+          (parts.0, go rs parts.1)
+
+  -- The rows with one key are taken out.
+  module _ (key : K) (test : Row → Bool) (rows : List Row) (spells : Spells sheet rows) (tests : (row : Row) → IsSpelled sheet row → test row ≡ eq_by_cmp sheet.cmp key (key_at row)) where
+    abbrev left : List Row
+    left = filter (λ row. not (test row)) rows
+
+    kept : map look left ≡ where_key sheet.cmp (λ k. not (eq_by_cmp sheet.cmp key k)) (map look rows)
+    kept = kept_entries sheet order (λ k. not (eq_by_cmp sheet.cmp key k)) (λ row. not (test row)) rows (all_weaker _ _ rows (λ row is. ap not (tests row is)) spells.spelled)
+
+    pub map_left : map_of sheet left ≡ remove (map_of sheet rows) key
+    map_left = same_map order.total order.same _ _ (λ q.
+        get-from_entries order.total (map look left) q ∙ ap (find sheet.cmp q) kept
+        ∙ find-where_key sheet.cmp (λ k. not (eq_by_cmp sheet.cmp key k)) q (λ k tied. ap (λ y. not (eq_by_cmp sheet.cmp key y)) (sym (order.same q k tied))) (map look rows)
+        ∙ ap (λ o. cond (not (eq_by_cmp sheet.cmp key q)) o None) (sym (get-from_entries order.total (map look rows) q)) ∙ turned (eq_by_cmp sheet.cmp key q) (get (map_of sheet rows) q)
+        ∙ ap (λ b. cond b None (get (map_of sheet rows) q)) ((eq_by_cmp_equiv order.total).symm key q) ∙ sym (get-remove order.total (map_of sheet rows) key q))
+      where
+        turned : {A : Type 0} (b : Bool) (o : Option A) → cond (not b) o None ≡ cond b None o
+        turned true o = refl
+        turned false o = refl
+
+    pub spells_left : Spells sheet left
+    spells_left = record {
+      spelled = all_filtered (IsSpelled sheet) (λ row. not (test row)) rows spells.spelled;
+      apart = subst (IsDistinct (eq_by_cmp sheet.cmp)) (map_map (λ (e : K × X). e.0) look left)
+          (subst (λ l. IsDistinct (eq_by_cmp sheet.cmp) (map (λ (e : K × X). e.0) l)) (sym kept) (IsDistinct-keys_filter (eq_by_cmp sheet.cmp) (λ e. not (eq_by_cmp sheet.cmp key e.0)) (map look rows) (keys_apart sheet order rows spells)));
+    }
+
+    -- no row is left that has it
+    pub none_left : AllByRecursion (IsOtherThan key) left
+    none_left = go rows spells.spelled
+      where
+        go : (rs : List Row) → AllByRecursion (IsSpelled sheet) rs → AllByRecursion (IsOtherThan key) (filter (λ row. not (test row)) rs)
+        go [] all = tt
+        go (r ∷ rs) all =
+            elim (test r) as (λ b. test r ≡ b → AllByRecursion (IsOtherThan key) (cond (not b) (r ∷ filter (λ row. not (test row)) rs) (filter (λ row. not (test row)) rs))) [
+              | true ↦ λ e. go rs all.1
+              | false ↦ λ e. (sym (tests r all.0) ∙ e, go rs all.1)
+            ] refl

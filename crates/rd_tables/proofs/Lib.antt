@@ -1,0 +1,16 @@
+pub mod Lists
+pub mod Values
+pub mod CreateTexts
+pub mod StatementTexts
+pub mod QueryTexts
+pub mod Picking
+pub mod Entries
+pub mod Finding
+pub mod Changed
+pub mod Removed
+pub mod Steps
+pub mod Deleting
+pub mod Setting
+pub mod Reading
+pub mod Running
+pub mod Statements

@@ -1,0 +1,35 @@
+-- What the texts of the statements mean over the tables of a desk.
+use Rattle.std.proofs.Common.{◌≡◌, refl}
+use Rattle.sqlite.specs.Listing.{understood}
+use Rattle.sqlite_tied.specs.Compute.{everything}
+use Rattle.rd_tables.specs.Schemas.{desk_schema}
+use Rattle.rd_tables.specs.Statements.{put_version_text, put_version, put_deed_text, put_deed, put_image_text, put_image, put_rule_text, put_rule, drop_rule_text, drop_rule, put_key_text, put_key, drop_key_text, drop_key}
+use Rattle.rd_tables.proofs.Running.{IsWrite}
+
+pub put_version_writes : IsWrite desk_schema put_version_text put_version
+unfolding understood everything
+put_version_writes = record { is = refl; plain = (refl, refl); writes = λ old new statement params count h. h; no_commit = λ e. absurd cc; no_release = λ name e. absurd cc }
+
+pub put_deed_writes : IsWrite desk_schema put_deed_text put_deed
+unfolding understood everything
+put_deed_writes = record { is = refl; plain = (refl, refl); writes = λ old new statement params count h. h; no_commit = λ e. absurd cc; no_release = λ name e. absurd cc }
+
+pub put_image_writes : IsWrite desk_schema put_image_text put_image
+unfolding understood everything
+put_image_writes = record { is = refl; plain = (refl, refl); writes = λ old new statement params count h. h; no_commit = λ e. absurd cc; no_release = λ name e. absurd cc }
+
+pub put_rule_writes : IsWrite desk_schema put_rule_text put_rule
+unfolding understood everything
+put_rule_writes = record { is = refl; plain = (refl, refl); writes = λ old new statement params count h. h; no_commit = λ e. absurd cc; no_release = λ name e. absurd cc }
+
+pub drop_rule_writes : IsWrite desk_schema drop_rule_text drop_rule
+unfolding understood everything
+drop_rule_writes = record { is = refl; plain = (refl, refl); writes = λ old new statement params count h. h; no_commit = λ e. absurd cc; no_release = λ name e. absurd cc }
+
+pub put_key_writes : IsWrite desk_schema put_key_text put_key
+unfolding understood everything
+put_key_writes = record { is = refl; plain = (refl, refl); writes = λ old new statement params count h. h; no_commit = λ e. absurd cc; no_release = λ name e. absurd cc }
+
+pub drop_key_writes : IsWrite desk_schema drop_key_text drop_key
+unfolding understood everything
+drop_key_writes = record { is = refl; plain = (refl, refl); writes = λ old new statement params count h. h; no_commit = λ e. absurd cc; no_release = λ name e. absurd cc }

@@ -1,0 +1,195 @@
+-- What each statement makes of the rows of its table.
+use Rattle.std.proofs.Common.{◌≡◌, ◌⊎◌, inl, inr, ℕ, ℤ, pos, List, [], ◌∷◌, filter, Bool, true, false, not, ◌||◌, Option, Some, None, Ok, refl, sym, ap, subst, ◌∙◌, is_eq}
+use Rattle.std.specs.List.{list_all}
+use Rattle.sqlite.specs.declared.types.Value.{Value}
+use Rattle.sqlite.specs.declared.types.Value.TheVariants.{Null, Int, Text, Blob}
+use Rattle.sqlite.specs.Order.{Row, value_cmp}
+use Rattle.sqlite.specs.Tree.{put_row, rowid}
+use Rattle.sqlite.specs.Edit.{with_rowid, next_rowid, is_taken}
+use Rattle.sqlite.specs.Effect.{Database}
+use Rattle.sqlite.specs.Does.{Tally, Does}
+use Rattle.sqlite.specs.Rows.{Task, mended}
+use Rattle.sqlite.specs.Table.{Table}
+use Rattle.sqlite.specs.Term.{Term, lit, col, holds}
+use Rattle.sqlite.specs.Cast.{cast_row}
+use Rattle.sqlite.specs.Rowids.TheVariants.{Chosen}
+use Rattle.sqlite.specs.Values.{or_null}
+use Rattle.sqlite.specs.Command.{Command}
+use Rattle.sqlite_schema.specs.declared.command.Conflict.TheVariants.{Replace}
+use Rattle.sqlite_schema.specs.declared.schema.Keys.TheVariants.{Enforced}
+use Rattle.sqlite_schema.specs.Rules.{agree}
+use Rattle.sqlite_value.specs.Keys.{plain, first_key}
+use Rattle.sqlite_rules.specs.Keys.{AreConflicts}
+use Rattle.rd_tables.specs.Sheets.{HaveRowids}
+use Rattle.rd_tables.specs.Schemas.{desk_schema, desk_table, deed_table, image_table, rule_table, badge_table}
+use Rattle.rd_tables.specs.Statements.{put_version, put_deed, put_image, put_rule, drop_rule, by_place, put_key, drop_key, by_digest}
+use Rattle.rd_tables.proofs.Lists.{and_true, or_false}
+use Rattle.rd_tables.proofs.Values.{cast_int, cast_null, cast_or_null, equal_int}
+use Rattle.rd_tables.proofs.Removed.{Picks, removed_rows}
+use Rattle.rd_tables.proofs.Steps.{SetsRows, went, inserts, replaces}
+use Rattle.rd_tables.proofs.Deleting.{deletes}
+use Rattle.rd_tables.proofs.Running.{plain_mode}
+use Rattle.rd_tables.proofs.Setting.{Sets, sets_rows, concluded}
+
+-- the command, run with these parameters on a database of the desk, gave this one
+abbrev pub Runs : List ℕ → Option ℕ → Row → Command → Database → Database → Tally → Type 0
+Runs statement limit params command db after tally = Does limit plain_mode params db statement None command (Ok (tally, after))
+
+-- over the tables of a desk
+over_desk : (statement : List ℕ) (limit : Option ℕ) (params : Row) (command : Command) (db after : Database) (tally : Tally) → db.schema ≡ desk_schema → Runs statement limit params command db after tally
+    → Runs statement limit params command (record db { schema = desk_schema }) after tally
+over_desk statement limit params command db after tally schema h = subst (λ s. Runs statement limit params command (record db { schema = s }) after tally) schema h
+
+abbrev task_on : Option ℕ → Table → Row → Task
+task_on limit table params = record { limit = limit; keys = Enforced; schema = desk_schema; table = table; params = params }
+
+-- a row was put in, whose rowid was free
+abbrev pub PutsIn : ℕ → Database → Database → (List Row → Row) → Type 0
+PutsIn tree db after new = (is_taken (db.trees tree) (new (db.trees tree)) ≡ false) × Sets tree db after (put_row (new (db.trees tree)) (db.trees tree))
+
+-- the rows that pass a test were taken out
+abbrev pub TakesOut : ℕ → Database → Database → (Row → Bool) → Type 0
+TakesOut tree db after test = Sets tree db after (filter (λ row. not (test row)) (db.trees tree))
+
+-- ---- the first row of the desk
+
+abbrev pub version_row : Row
+version_row = Int (pos 1) ∷ Null ∷ Int (pos 0) ∷ []
+
+pub puts_version : (statement : List ℕ) (limit : Option ℕ) (db after : Database) (tally : Tally) → db.schema ≡ desk_schema → Runs statement limit [] put_version db after tally → PutsIn 0 db after (λ _. version_row)
+puts_version statement limit db after tally schema h =
+    let task = task_on limit (desk_table 0) [] in
+    let done = went (over_desk statement limit [] put_version db after tally schema h) in
+    let end = concluded task plain_mode done.0 (tally, after) done.2 in
+    let terms : List Term = lit (Int (pos 1)) ∷ lit Null ∷ lit (Int (pos 0)) ∷ [] in
+    let is : with_rowid Chosen (db.trees 0) (cast_row (desk_table 0) version_row) ≡ version_row = rw (cast_int (pos 1), cast_int (pos 0), cast_null) refl in
+    let it = inserts task (λ olds. refl) (λ olds row. refl) refl terms 3 version_row db.trees done.0 refl done.1 version_row is in
+    (it.0, sets_rows 0 db after done.0.trees (put_row version_row (db.trees 0)) it.1 end)
+
+-- ---- deeds
+
+module _ (num : ℕ) (donor : List ℕ) (signed : ℤ) where
+  abbrev pub deed_params : Row
+  deed_params = Int (pos num) ∷ Text donor ∷ Int signed ∷ []
+
+  abbrev pub deed_row : Row
+  deed_row = Int (pos num) ∷ Null ∷ Text donor ∷ Int signed ∷ []
+
+  -- the row has its rowid
+  abbrev pub has_number : Row → Bool
+  has_number row = agree plain (0 ∷ []) row (0 ∷ []) deed_row
+
+  pub by_rowid : (row : Row) → has_number row ≡ is_eq (value_cmp (rowid row) (rowid deed_row))
+  unfolding first_key
+  by_rowid row = and_true _ ∙ equal_int (rowid row) (pos num)
+
+  conflicts : (rows found : List Row) → AreConflicts None desk_schema.indexes (deed_table 1) rows deed_row found → Picks has_number rows found
+  conflicts rows found h = record {
+    sound = λ x there. let it = h.sound x there in (it.0, it.1, sym (or_false _) ∙ it.2, it.3);
+    complete = λ row here passes. h.complete row here (or_false _ ∙ passes);
+  }
+
+  pub puts_deed : (statement : List ℕ) (limit : Option ℕ) (db after : Database) (tally : Tally) → db.schema ≡ desk_schema → HaveRowids (db.trees 1) → Runs statement limit deed_params put_deed db after tally
+      → Sets 1 db after (put_row deed_row (filter (λ row. not (has_number row)) (db.trees 1)))
+  puts_deed statement limit db after tally schema rowids h =
+      let task = task_on limit (deed_table 1) deed_params in
+      let done = went (over_desk statement limit deed_params put_deed db after tally schema h) in
+      let end = concluded task plain_mode done.0 (tally, after) done.2 in
+      let terms : List Term = col 0 0 ∷ lit Null ∷ col 0 1 ∷ col 0 2 ∷ [] in
+      let is : with_rowid Chosen (db.trees 1) (cast_row (deed_table 1) (mended Replace (deed_table 1) deed_row)) ≡ deed_row = rw (cast_int (pos num), cast_int signed, cast_null) refl in
+      let again : cast_row (deed_table 1) deed_row ≡ deed_row = rw (cast_int (pos num), cast_int signed, cast_null) refl in
+      let it = replaces task (λ olds. refl) (λ olds row. refl) refl terms 4 deed_row db.trees done.0 refl done.1 deed_row is again in
+      let left = removed_rows has_number (db.trees 1) it.0 rowids (conflicts (db.trees 1) it.0 it.1) in
+      sets_rows 1 db after done.0.trees _ (subst (λ rows. SetsRows desk_schema 1 db.trees done.0.trees (put_row deed_row rows)) left it.2) end
+
+-- ---- images
+
+module _ (acc kind deed : ℕ) (digest bytes : List ℕ) where
+  abbrev pub image_params : Row
+  image_params = Int (pos acc) ∷ Int (pos kind) ∷ Int (pos deed) ∷ Blob digest ∷ Blob bytes ∷ []
+
+  abbrev pub image_row : Row
+  image_row = Int (pos acc) ∷ Null ∷ Int (pos kind) ∷ Int (pos deed) ∷ Blob digest ∷ Blob bytes ∷ []
+
+  pub puts_image : (statement : List ℕ) (limit : Option ℕ) (db after : Database) (tally : Tally) → db.schema ≡ desk_schema → Runs statement limit image_params put_image db after tally → PutsIn 2 db after (λ _. image_row)
+  puts_image statement limit db after tally schema h =
+      let task = task_on limit (image_table 2) image_params in
+      let done = went (over_desk statement limit image_params put_image db after tally schema h) in
+      let end = concluded task plain_mode done.0 (tally, after) done.2 in
+      let terms : List Term = col 0 0 ∷ lit Null ∷ col 0 1 ∷ col 0 2 ∷ col 0 3 ∷ col 0 4 ∷ [] in
+      let is : with_rowid Chosen (db.trees 2) (cast_row (image_table 2) image_row) ≡ image_row = rw (cast_int (pos acc), cast_int (pos kind), cast_int (pos deed), cast_null) refl in
+      let it = inserts task (λ olds. refl) (λ olds row. refl) refl terms 6 image_row db.trees done.0 refl done.1 image_row is in
+      (it.0, sets_rows 2 db after done.0.trees (put_row image_row (db.trees 2)) it.1 end)
+
+-- ---- rules
+
+module _ (band scope rank : ℕ) where
+  abbrev pub place_params : Row
+  place_params = Int (pos band) ∷ Int (pos scope) ∷ Int (pos rank) ∷ []
+
+  abbrev pub has_place : Row → Bool
+  has_place row = list_all (holds (place_params ∷ row ∷ [])) by_place
+
+  pub drops_rule : (statement : List ℕ) (limit : Option ℕ) (db after : Database) (tally : Tally) → db.schema ≡ desk_schema → HaveRowids (db.trees 3) → Runs statement limit place_params drop_rule db after tally → TakesOut 3 db after has_place
+  drops_rule statement limit db after tally schema rowids h =
+      let task = task_on limit (rule_table 3) place_params in
+      let done = went (over_desk statement limit place_params drop_rule db after tally schema h) in
+      let end = concluded task plain_mode done.0 (tally, after) done.2 in
+      let it = deletes 3 by_place place_params (λ trees. refl) task (λ olds. refl) refl refl db.trees done.0 done.1 in
+      let left = removed_rows has_place (db.trees 3) it.0 rowids it.1 in
+      sets_rows 3 db after done.0.trees _ (subst (λ rows. SetsRows desk_schema 3 db.trees done.0.trees rows) left it.2) end
+
+  module _ (audiences : ℕ) (from until : Option ℤ) (how number : ℕ) (word : List ℕ) (effect : ℕ) where
+    abbrev pub rule_params : Row
+    rule_params = Int (pos band) ∷ Int (pos scope) ∷ Int (pos rank) ∷ Int (pos audiences) ∷ or_null Int from ∷ or_null Int until ∷ Int (pos how) ∷ Int (pos number) ∷ Text word ∷ Int (pos effect) ∷ []
+
+    abbrev pub rule_row : List Row → Row
+    rule_row rows = Int (next_rowid rows) ∷ rule_params
+
+    pub puts_rule : (statement : List ℕ) (limit : Option ℕ) (db after : Database) (tally : Tally) → db.schema ≡ desk_schema → Runs statement limit rule_params put_rule db after tally → PutsIn 3 db after rule_row
+    puts_rule statement limit db after tally schema h =
+        let task = task_on limit (rule_table 3) rule_params in
+        let done = went (over_desk statement limit rule_params put_rule db after tally schema h) in
+        let end = concluded task plain_mode done.0 (tally, after) done.2 in
+        let rows = db.trees 3 in
+        let terms : List Term = lit Null ∷ col 0 0 ∷ col 0 1 ∷ col 0 2 ∷ col 0 3 ∷ col 0 4 ∷ col 0 5 ∷ col 0 6 ∷ col 0 7 ∷ col 0 8 ∷ col 0 9 ∷ [] in
+        let is : with_rowid Chosen rows (cast_row (rule_table 3) (Null ∷ rule_params)) ≡ rule_row rows =
+        rw (cast_null, cast_int (pos band), cast_int (pos scope), cast_int (pos rank), cast_int (pos audiences), cast_or_null from, cast_or_null until, cast_int (pos how), cast_int (pos number), cast_int (pos effect)) refl in
+        let it = inserts task (λ olds. refl) (λ olds row. refl) refl terms 11 (Null ∷ rule_params) db.trees done.0 refl done.1 (rule_row rows) is in
+        (it.0, sets_rows 3 db after done.0.trees (put_row (rule_row rows) rows) it.1 end)
+
+-- ---- desk keys
+
+module _ (digest : List ℕ) where
+  abbrev pub digest_params : Row
+  digest_params = Blob digest ∷ []
+
+  abbrev pub has_digest : Row → Bool
+  has_digest row = list_all (holds (digest_params ∷ row ∷ [])) by_digest
+
+  pub drops_key : (statement : List ℕ) (limit : Option ℕ) (db after : Database) (tally : Tally) → db.schema ≡ desk_schema → HaveRowids (db.trees 5) → Runs statement limit digest_params drop_key db after tally → TakesOut 5 db after has_digest
+  drops_key statement limit db after tally schema rowids h =
+      let task = task_on limit (badge_table 5) digest_params in
+      let done = went (over_desk statement limit digest_params drop_key db after tally schema h) in
+      let end = concluded task plain_mode done.0 (tally, after) done.2 in
+      let it = deletes 5 by_digest digest_params (λ trees. refl) task (λ olds. refl) refl refl db.trees done.0 done.1 in
+      let left = removed_rows has_digest (db.trees 5) it.0 rowids it.1 in
+      sets_rows 5 db after done.0.trees _ (subst (λ rows. SetsRows desk_schema 5 db.trees done.0.trees rows) left it.2) end
+
+  module _ (audience : ℕ) where
+    abbrev pub key_params : Row
+    key_params = Blob digest ∷ Int (pos audience) ∷ []
+
+    abbrev pub key_row : List Row → Row
+    key_row rows = Int (next_rowid rows) ∷ key_params
+
+    pub puts_key : (statement : List ℕ) (limit : Option ℕ) (db after : Database) (tally : Tally) → db.schema ≡ desk_schema → Runs statement limit key_params put_key db after tally → PutsIn 5 db after key_row
+    puts_key statement limit db after tally schema h =
+        let task = task_on limit (badge_table 5) key_params in
+        let done = went (over_desk statement limit key_params put_key db after tally schema h) in
+        let end = concluded task plain_mode done.0 (tally, after) done.2 in
+        let rows = db.trees 5 in
+        let terms : List Term = lit Null ∷ col 0 0 ∷ col 0 1 ∷ [] in
+        let is : with_rowid Chosen rows (cast_row (badge_table 5) (Null ∷ key_params)) ≡ key_row rows = rw (cast_null, cast_int (pos audience)) refl in
+        let it = inserts task (λ olds. refl) (λ olds row. refl) refl terms 3 (Null ∷ key_params) db.trees done.0 refl done.1 (key_row rows) is in
+        (it.0, sets_rows 5 db after done.0.trees (put_row (key_row rows) rows) it.1 end)

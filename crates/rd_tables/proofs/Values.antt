@@ -1,0 +1,59 @@
+-- How columns take values, and when a parameter equals a column.
+use Rattle.std.proofs.Common.{◌≡◌, ℕ, ℤ, pos, List, Bool, true, false, cond, Option, Some, None, refl, sym, ap, ◌∙◌, arith, nat_cmp, is_eq}
+use Rattle.std.specs.Ordering.{eq_by_cmp}
+use Rattle.std.specs.Cmp.Lexicographic.{slice_cmp}
+use Rattle.std.proofs.lemmas.Cmp.{nat_cmp_total, nat_list_cmp_total, eq_by_cmp_equiv}
+use Rattle.std.proofs.lemmas.Bool.Decides.{nat_tests}
+use Rattle.sqlite.specs.declared.types.Value.{Value}
+use Rattle.sqlite.specs.declared.types.Value.TheVariants.{Null, Int, Real, Text, Blob}
+use Rattle.sqlite.specs.Collation.TheVariants.{Binary}
+use Rattle.sqlite.specs.Kind.TheVariants.{Integer}
+use Rattle.sqlite.specs.Cast.{cast}
+use Rattle.sqlite.specs.Ops.{unary}
+use Rattle.sqlite.specs.Order.{value_cmp}
+use Rattle.sqlite.specs.Values.{or_null}
+use Rattle.sqlite_schema.specs.Rules.{equal}
+use Rattle.sqlite_sql.specs.Ops.{binary, is_true, from_truth}
+use Rattle.sqlite_sql.specs.declared.ops.BinaryOp.TheVariants.{Compare}
+use Rattle.sqlite_sql.specs.declared.ops.CompareOp.TheVariants.{Eq}
+use Rattle.sqlite_value.proofs.OrderLemmas.{value_cmp-Int, value_cmp-Blob, value_cmp-Null}
+
+either : (b : Bool) (x : Value) → cond b x x ≡ x
+either true x = refl
+either false x = refl
+
+-- ---- a column of kind INTEGER keeps a number and NULL as they are
+
+pub cast_null : cast Integer Null ≡ Null
+unfolding unary
+cast_null = either _ Null
+
+pub cast_int : (n : ℤ) → cast Integer (Int n) ≡ Int n
+unfolding unary
+cast_int n = either _ (Int n)
+
+pub cast_or_null : (n : Option ℤ) → cast Integer (or_null Int n) ≡ or_null Int n
+cast_or_null None = cast_null
+cast_or_null (Some n) = cast_int n
+
+-- ---- comparisons
+
+truth_kept : (b : Bool) → is_true (from_truth (Some b)) ≡ b
+truth_kept true = refl
+truth_kept false = refl
+
+pub equal_numbers : (a b : ℕ) → is_true (binary (Compare Eq Binary) (Int (pos a)) (Int (pos b))) ≡ eq_by_cmp nat_cmp b a
+unfolding binary
+equal_numbers a b = truth_kept _ ∙ ap is_eq (value_cmp-Int (pos a) (pos b)) ∙ grind (arith, nat_tests)
+
+pub equal_blobs : (a b : List ℕ) → is_true (binary (Compare Eq Binary) (Blob a) (Blob b)) ≡ eq_by_cmp (slice_cmp nat_cmp) b a
+unfolding binary
+equal_blobs a b = truth_kept _ ∙ ap is_eq (value_cmp-Blob a b) ∙ (eq_by_cmp_equiv nat_list_cmp_total).symm a b
+
+pub equal_int : (v : Value) (n : ℤ) → equal Binary v (Int n) ≡ is_eq (value_cmp v (Int n))
+unfolding binary
+equal_int Null n = ap is_eq (sym (value_cmp-Null (Int n)))
+equal_int (Int m) n = truth_kept _
+equal_int (Real x) n = truth_kept _
+equal_int (Text t) n = truth_kept _
+equal_int (Blob b) n = truth_kept _

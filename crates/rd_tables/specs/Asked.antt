@@ -1,0 +1,44 @@
+-- What a query over one table shows.
+use Rattle.std.specs.Prelude.{◌≡◌, ℕ, pos, negsuc, false, List, [], ◌∷◌, map, filter, None, IsPermutation, IsSorted}
+use Rattle.std.specs.List.{list_all}
+use Rattle.sqlite.specs.declared.types.Value.TheVariants.{Int}
+use Rattle.sqlite.specs.Order.{Row}
+use Rattle.sqlite_sql.specs.Term.{Term, lit, col, op2, holds}
+use Rattle.sqlite_sql.specs.declared.ops.BinaryOp.TheVariants.{Compare}
+use Rattle.sqlite_sql.specs.declared.ops.CompareOp.TheVariants.{Eq}
+use Rattle.sqlite.specs.Query.{Query, inner, end, Output, output, output_cmp}
+use Rattle.sqlite.specs.Collation.TheVariants.{Binary}
+use Rattle.sqlite_value.specs.declared.keys.Key.{Key}
+
+-- the rows of one table that pass each test, with the columns shown and in the order given
+abbrev pub asks_of : ℕ → List Term → List Term → List (Term × Key) → Query
+asks_of tree tests shown order = record {
+  from = inner tree end;
+  filter = tests;
+  group = None;
+  project = shown;
+  distinct = false;
+  collations = [];
+  order = order;
+  limit = lit (Int (negsuc 0));
+  offset = lit (Int (pos 0));
+}
+
+-- ascending, by bytes
+abbrev pub rising : Key
+rising = record { collation = Binary; descending = false }
+
+-- the column at a place equals a parameter
+abbrev pub equals : ℕ → ℕ → Term
+equals place parameter = op2 (Compare Eq Binary) (col 1 place) (col 0 parameter)
+
+-- the rows that pass, each with what it is sorted by and what is shown of it
+abbrev pub picked : Query → Row → List Row → List Output
+picked query params table = map (λ row. output query (params ∷ row ∷ [])) (filter (λ row. list_all (holds (params ∷ row ∷ [])) query.filter) table)
+
+-- The answer is what is shown of those rows, in an order that ORDER BY allows.
+pub record IsPicked (query : Query) (params : Row) (table rows : List Row) : Type 0 where
+  pub ordered : List Output
+  pub same : IsPermutation (picked query params table) ordered
+  pub sorted : IsSorted (output_cmp query) ordered
+  pub shown : rows ≡ map (λ out. out.1) ordered

@@ -1,0 +1,5 @@
+pub mod Sheets
+pub mod Asked
+pub mod Schemas
+pub mod Statements
+pub mod Queries

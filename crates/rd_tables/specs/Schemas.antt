@@ -1,0 +1,127 @@
+-- The tables of the desk as SQL understands their declarations. A column's place is one more than its
+-- number, since the rowid stands first; a tree is where the rows of a table or of its index lie.
+use Rattle.std.specs.Prelude.{◌≡◌, ℕ, ◌+◌, Bool, true, false, List, [], ◌∷◌, Option, Some, None, codes, pos}
+use Rattle.std.specs.List.{AllByRecursion}
+use Rattle.sqlite.specs.Collation.TheVariants.{Binary}
+use Rattle.sqlite.specs.declared.types.Value.TheVariants.{Null, Int}
+use Rattle.sqlite.specs.Table.{Table}
+use Rattle.sqlite.specs.Schema.{Schema}
+use Rattle.sqlite.specs.Kind.{Kind}
+use Rattle.sqlite.specs.Kind.TheVariants.{Integer, Text, Blob}
+use Rattle.sqlite_schema.specs.declared.schema.Column.{Column}
+use Rattle.sqlite_schema.specs.declared.schema.Index.{Index}
+use Rattle.sqlite_schema.specs.declared.schema.Reference.{Reference}
+use Rattle.sqlite_schema.specs.declared.schema.Action.TheVariants.{NoAction}
+use Rattle.sqlite_sql.specs.Term.{Term, lit, col, op2}
+use Rattle.sqlite_sql.specs.declared.ops.BinaryOp.TheVariants.{Compare, And}
+use Rattle.sqlite_sql.specs.declared.ops.CompareOp.TheVariants.{Eq, Le, Ge}
+use Rattle.sqlite_value.specs.Keys.{plain}
+use Rattle.sqlite_value.specs.declared.keys.Order.{Order}
+
+-- ---- parts of a declaration
+
+abbrev pub column_of : List ℕ → Kind → Bool → Column
+column_of name kind not_null = record { name = name; kind = kind; is_strict = true; not_null = not_null; default = Null; collation = Binary }
+
+-- the value at a place is from one number to another
+abbrev pub between : ℕ → ℕ → ℕ → Term
+between place low high = op2 And (op2 (Compare Ge Binary) (col 1 place) (lit (Int (pos low)))) (op2 (Compare Le Binary) (col 1 place) (lit (Int (pos high))))
+
+abbrev pub table_of : List ℕ → ℕ → List Column → Option ℕ → List ℕ → List (List ℕ) → List Order → List Term → List Reference → Table
+table_of name tree columns rowid primary uniques orders checks references = record {
+  name = name;
+  tree = tree;
+  columns = columns;
+  key = rowid;
+  primary = primary;
+  uniques = uniques;
+  orders = orders;
+  checks = checks;
+  references = references;
+  computed = [];
+  stamps = record { places = []; terms = []; formats = [] };
+  is_counted = false;
+}
+
+-- a table whose first column is its INTEGER PRIMARY KEY
+abbrev pub numbered : List ℕ → ℕ → List Column → List Term → List Reference → Table
+numbered name tree columns checks references = table_of name tree columns (Some 0) (0 ∷ []) [] [] checks references
+
+-- a table whose PRIMARY KEY is the columns at these places
+abbrev pub keyed : List ℕ → ℕ → List Column → List ℕ → List Term → Table
+keyed name tree columns key checks = table_of name tree columns None key (key ∷ []) (plain ∷ []) checks []
+
+-- the index that such a key has
+abbrev pub index_of : List ℕ → ℕ → ℕ → List ℕ → Index
+index_of name tree table key = record { name = name; tree = tree; table = table; columns = key; order = plain; is_unique = true }
+
+-- ---- the tables
+
+abbrev pub desk_table : ℕ → Table
+desk_table tree = numbered (codes "desk") tree (column_of (codes "id") Integer false ∷ column_of (codes "version") Integer true ∷ [])
+    (op2 (Compare Eq Binary) (col 1 0) (lit (Int (pos 1))) ∷ []) []
+
+abbrev pub deed_table : ℕ → Table
+deed_table tree = numbered (codes "deed") tree (column_of (codes "num") Integer false ∷ column_of (codes "donor") Text true ∷ column_of (codes "signed") Integer true ∷ []) [] []
+
+-- an image belongs to a deed that stands
+abbrev pub to_deed : Reference
+to_deed = record { columns = 3 ∷ []; parent = codes "deed"; parent_columns = codes "num" ∷ []; on_delete = NoAction; on_update = NoAction; is_deferred = false }
+
+abbrev pub image_table : ℕ → Table
+image_table tree = numbered (codes "image") tree
+    (column_of (codes "acc") Integer false ∷ column_of (codes "kind") Integer true ∷ column_of (codes "deed") Integer true ∷ column_of (codes "digest") Blob true
+    ∷ column_of (codes "bytes") Blob true ∷ [])
+    (between 2 0 1 ∷ []) (to_deed ∷ [])
+
+abbrev pub rule_key : List ℕ
+rule_key = 1 ∷ 2 ∷ 3 ∷ []
+
+abbrev pub rule_table : ℕ → Table
+rule_table tree = keyed (codes "rule") tree
+    (column_of (codes "band") Integer true ∷ column_of (codes "scope") Integer true ∷ column_of (codes "rank") Integer true ∷ column_of (codes "audiences") Integer true
+    ∷ column_of (codes "day_from") Integer false ∷ column_of (codes "day_until") Integer false ∷ column_of (codes "how") Integer true
+    ∷ column_of (codes "number") Integer true ∷ column_of (codes "word") Text true ∷ column_of (codes "effect") Integer true ∷ [])
+    rule_key (between 1 0 1 ∷ between 4 1 7 ∷ between 7 0 4 ∷ between 10 0 2 ∷ [])
+
+abbrev pub badge_key : List ℕ
+badge_key = 1 ∷ []
+
+abbrev pub badge_table : ℕ → Table
+badge_table tree = keyed (codes "badge") tree (column_of (codes "digest") Blob true ∷ column_of (codes "audience") Integer true ∷ []) badge_key (between 2 1 2 ∷ [])
+
+abbrev pub checked_key : List ℕ
+checked_key = 1 ∷ 2 ∷ []
+
+abbrev pub checked_table : ℕ → Table
+checked_table tree = keyed (codes "checked") tree (column_of (codes "acc") Integer true ∷ column_of (codes "day") Integer true ∷ column_of (codes "outcome") Integer true ∷ [])
+    checked_key (between 3 0 1 ∷ [])
+
+abbrev pub rule_index : Index
+rule_index = index_of (codes "sqlite_autoindex_rule_1") 4 3 rule_key
+
+abbrev pub badge_index : Index
+badge_index = index_of (codes "sqlite_autoindex_badge_1") 6 5 badge_key
+
+abbrev pub checked_index : Index
+checked_index = index_of (codes "sqlite_autoindex_checked_1") 8 7 checked_key
+
+-- the tables of a desk, in the order in which a new desk makes them
+abbrev pub desk_schema : Schema
+desk_schema = record {
+  tables = desk_table 0 ∷ deed_table 1 ∷ image_table 2 ∷ rule_table 3 ∷ badge_table 5 ∷ checked_table 7 ∷ [];
+  indexes = rule_index ∷ badge_index ∷ checked_index ∷ [];
+  views = [];
+}
+
+-- Each table of a desk that stands is declared as here, on whatever tree its rows lie.
+pub record IsDeclaredTable (table : Table) : Type 0 where
+  pub desk : table.name ≡ codes "desk" → table ≡ desk_table table.tree
+  pub deed : table.name ≡ codes "deed" → table ≡ deed_table table.tree
+  pub image : table.name ≡ codes "image" → table ≡ image_table table.tree
+  pub rule : table.name ≡ codes "rule" → table ≡ rule_table table.tree
+  pub badge : table.name ≡ codes "badge" → table ≡ badge_table table.tree
+  pub checked : table.name ≡ codes "checked" → table ≡ checked_table table.tree
+
+abbrev pub IsDeclared : Schema → Type 0
+IsDeclared schema = AllByRecursion IsDeclaredTable schema.tables

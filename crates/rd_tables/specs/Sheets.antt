@@ -1,0 +1,58 @@
+-- How the rows of a table spell a finite map: each row spells one entry, and no two rows one key.
+use Rattle.std.specs.Prelude.{◌≡◌, ℕ, ℤ, pos, negsuc, List, map, IsTrue}
+use Rattle.std.specs.List.{AllByRecursion, IsDistinct}
+use Rattle.std.specs.declared.cmp.Ordering.{Ordering}
+use Rattle.std.specs.declared.cmp.Ordering.TheVariants.{Equal}
+use Rattle.std.specs.Ordering.{eq_by_cmp}
+use Rattle.std.specs.FinMap.{FinMap, from_entries}
+use Rattle.sqlite.specs.declared.types.Value.{Value}
+use Rattle.sqlite.specs.Order.{Row, column, value_cmp}
+use Rattle.sqlite.specs.Tree.{rowid}
+use Rattle.sqlite_trees.specs.View.{is_int}
+use Rattle.sqlite_rules.specs.Lists.{Has}
+use Rattle.sqlite_rules.specs.Edit.{id_in}
+
+-- How the rows of one table are read.
+pub record Sheet (K X : Type 0) : Type 0 where
+  -- where the columns stand in a row
+  pub places : List ℕ
+  -- the order of the keys
+  pub cmp : K → K → Ordering
+  -- the columns that spell an entry, and the entry that columns spell
+  pub columns : K × X → Row
+  pub entry : Row → K × X
+
+-- the columns of a row at these places
+abbrev pub seen : List ℕ → Row → Row
+seen places row = map (λ at. column row at) places
+
+-- the entry that a row spells
+abbrev pub entry_of : {K X : Type 0} → Sheet K X → Row → K × X
+entry_of sheet row = sheet.entry (seen sheet.places row)
+
+-- the columns of the row are those that spell its entry
+abbrev pub IsSpelled : {K X : Type 0} → Sheet K X → Row → Type 0
+IsSpelled sheet row = seen sheet.places row ≡ sheet.columns (entry_of sheet row)
+
+pub record Spells {K X : Type 0} (sheet : Sheet K X) (rows : List Row) : Type 0 where
+  pub spelled : AllByRecursion (IsSpelled sheet) rows
+  pub apart : IsDistinct (eq_by_cmp sheet.cmp) (map (λ row. (entry_of sheet row).0) rows)
+
+-- the map that they spell
+abbrev pub map_of : {K X : Type 0} (sheet : Sheet K X) → List Row → FinMap sheet.cmp X
+map_of sheet rows = from_entries (map (entry_of sheet) rows)
+
+-- The rowids are numbers, and no two rows have one. A DELETE goes by the rowid.
+pub record HaveRowids (rows : List Row) : Type 0 where
+  pub keyed : (row : Row) → Has rows row → IsTrue (is_int (rowid row))
+  pub apart : (row other : Row) → Has rows row → Has rows other → value_cmp (rowid row) (rowid other) ≡ Equal → row ≡ other
+
+-- ---- values
+
+abbrev pub natural_of : ℤ → ℕ
+natural_of (pos n) = n
+natural_of (negsuc n) = 0
+
+-- the natural number in a column, 0 where it has none
+abbrev pub natural : Value → ℕ
+natural value = natural_of (id_in value)

@@ -1,0 +1,101 @@
+-- The statements that make and change the tables of the desk, and the commands that their texts are.
+use Rattle.std.specs.Prelude.{ℕ, zero, suc, pos, List, [], ◌∷◌, codes}
+use Rattle.sqlite.specs.declared.types.Value.TheVariants.{Null, Int}
+use Rattle.sqlite.specs.Schema.{Schema}
+use Rattle.sqlite.specs.Term.{Term, lit, col}
+use Rattle.sqlite.specs.Query.{Query}
+use Rattle.sqlite.specs.Source.TheVariants.{Values}
+use Rattle.sqlite.specs.Command.{Command}
+use Rattle.sqlite.specs.Command.TheVariants.{Insert, InsertOr, Delete}
+use Rattle.sqlite_schema.specs.declared.command.Conflict.TheVariants.{Replace}
+use Rattle.rd_tables.specs.Asked.{asks_of, equals}
+use Rattle.rd_tables.specs.Schemas.{desk_table, deed_table, image_table, rule_table, badge_table, rule_index, badge_index, desk_schema}
+
+-- ---- CREATE TABLE
+
+abbrev pub desk_text : List ℕ
+desk_text = codes "CREATE TABLE desk (id INTEGER PRIMARY KEY CHECK (id = 1), version INTEGER NOT NULL) STRICT"
+
+abbrev pub deed_text : List ℕ
+deed_text = codes "CREATE TABLE deed (num INTEGER PRIMARY KEY, donor TEXT NOT NULL, signed INTEGER NOT NULL) STRICT"
+
+abbrev pub image_text : List ℕ
+image_text = codes "CREATE TABLE image (acc INTEGER PRIMARY KEY, kind INTEGER NOT NULL CHECK (kind BETWEEN 0 AND 1), deed INTEGER NOT NULL REFERENCES deed (num), digest BLOB NOT NULL, bytes BLOB NOT NULL) STRICT"
+
+abbrev pub rule_text : List ℕ
+rule_text = codes "CREATE TABLE rule (band INTEGER NOT NULL CHECK (band BETWEEN 0 AND 1), scope INTEGER NOT NULL, rank INTEGER NOT NULL, audiences INTEGER NOT NULL CHECK (audiences BETWEEN 1 AND 7), day_from INTEGER, day_until INTEGER, how INTEGER NOT NULL CHECK (how BETWEEN 0 AND 4), number INTEGER NOT NULL, word TEXT NOT NULL, effect INTEGER NOT NULL CHECK (effect BETWEEN 0 AND 2), PRIMARY KEY (band, scope, rank)) STRICT"
+
+abbrev pub badge_text : List ℕ
+badge_text = codes "CREATE TABLE badge (digest BLOB NOT NULL PRIMARY KEY, audience INTEGER NOT NULL CHECK (audience BETWEEN 1 AND 2)) STRICT"
+
+abbrev pub checked_text : List ℕ
+checked_text = codes "CREATE TABLE checked (acc INTEGER NOT NULL, day INTEGER NOT NULL, outcome INTEGER NOT NULL CHECK (outcome BETWEEN 0 AND 1), PRIMARY KEY (acc, day)) STRICT"
+
+-- in the order in which a new desk makes them
+abbrev pub create_texts : List (List ℕ)
+create_texts = desk_text ∷ deed_text ∷ image_text ∷ rule_text ∷ badge_text ∷ checked_text ∷ []
+
+-- the tables once so many are made
+abbrev pub schema_after : ℕ → Schema
+schema_after zero = record { tables = []; indexes = []; views = [] }
+schema_after (suc zero) = record { tables = desk_table 0 ∷ []; indexes = []; views = [] }
+schema_after (suc (suc zero)) = record { tables = desk_table 0 ∷ deed_table 1 ∷ []; indexes = []; views = [] }
+schema_after (suc (suc (suc zero))) = record { tables = desk_table 0 ∷ deed_table 1 ∷ image_table 2 ∷ []; indexes = []; views = [] }
+schema_after (suc (suc (suc (suc zero)))) = record { tables = desk_table 0 ∷ deed_table 1 ∷ image_table 2 ∷ rule_table 3 ∷ []; indexes = rule_index ∷ []; views = [] }
+schema_after (suc (suc (suc (suc (suc zero))))) =
+    record { tables = desk_table 0 ∷ deed_table 1 ∷ image_table 2 ∷ rule_table 3 ∷ badge_table 5 ∷ []; indexes = rule_index ∷ badge_index ∷ []; views = [] }
+schema_after (suc (suc (suc (suc (suc (suc count)))))) = desk_schema
+
+-- ---- INSERT and DELETE
+
+-- the rowids of the rows that pass each test
+abbrev pub rowids_of : ℕ → List Term → Query
+rowids_of tree tests = asks_of tree tests (col 1 0 ∷ []) []
+
+abbrev pub put_version_text : List ℕ
+put_version_text = codes "INSERT INTO desk (id, version) VALUES (1, 0)"
+
+abbrev pub put_version : Command
+put_version = Insert 0 (Values (lit (Int (pos 1)) ∷ lit Null ∷ lit (Int (pos 0)) ∷ []) 3)
+
+abbrev pub put_deed_text : List ℕ
+put_deed_text = codes "INSERT OR REPLACE INTO deed (num, donor, signed) VALUES (?1, ?2, ?3)"
+
+abbrev pub put_deed : Command
+put_deed = InsertOr 1 Replace (Values (col 0 0 ∷ lit Null ∷ col 0 1 ∷ col 0 2 ∷ []) 4) []
+
+abbrev pub put_image_text : List ℕ
+put_image_text = codes "INSERT INTO image (acc, kind, deed, digest, bytes) VALUES (?1, ?2, ?3, ?4, ?5)"
+
+abbrev pub put_image : Command
+put_image = Insert 2 (Values (col 0 0 ∷ lit Null ∷ col 0 1 ∷ col 0 2 ∷ col 0 3 ∷ col 0 4 ∷ []) 6)
+
+abbrev pub put_rule_text : List ℕ
+put_rule_text = codes "INSERT INTO rule (band, scope, rank, audiences, day_from, day_until, how, number, word, effect) VALUES (?1, ?2, ?3, ?4, ?5, ?6, ?7, ?8, ?9, ?10)"
+
+abbrev pub put_rule : Command
+put_rule = Insert 3 (Values (lit Null ∷ col 0 0 ∷ col 0 1 ∷ col 0 2 ∷ col 0 3 ∷ col 0 4 ∷ col 0 5 ∷ col 0 6 ∷ col 0 7 ∷ col 0 8 ∷ col 0 9 ∷ []) 11)
+
+abbrev pub drop_rule_text : List ℕ
+drop_rule_text = codes "DELETE FROM rule WHERE band = ?1 AND scope = ?2 AND rank = ?3"
+
+abbrev pub by_place : List Term
+by_place = equals 1 0 ∷ equals 2 1 ∷ equals 3 2 ∷ []
+
+abbrev pub drop_rule : Command
+drop_rule = Delete 3 (record { lets = []; body = rowids_of 3 by_place })
+
+abbrev pub put_key_text : List ℕ
+put_key_text = codes "INSERT INTO badge (digest, audience) VALUES (?1, ?2)"
+
+abbrev pub put_key : Command
+put_key = Insert 4 (Values (lit Null ∷ col 0 0 ∷ col 0 1 ∷ []) 3)
+
+abbrev pub drop_key_text : List ℕ
+drop_key_text = codes "DELETE FROM badge WHERE digest = ?1"
+
+abbrev pub by_digest : List Term
+by_digest = equals 1 0 ∷ []
+
+abbrev pub drop_key : Command
+drop_key = Delete 4 (record { lets = []; body = rowids_of 5 by_digest })
