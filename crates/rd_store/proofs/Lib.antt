@@ -2,3 +2,8 @@ pub mod Laws
 pub mod Querying
 pub mod Orders
 pub mod Found
+pub mod Single
+pub mod Inside
+pub mod Whole
+pub mod Making
+pub mod Lawful

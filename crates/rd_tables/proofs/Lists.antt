@@ -1,10 +1,11 @@
 -- Lists, filters and their order.
 use Rattle.std.proofs.Common.{◌≡◌, ◌⊎◌, inl, inr, ℕ, List, [], ◌∷◌, map, filter, length, get_or, set, Bool, true, false, not, cond, ◌&&◌, ◌||◌, Option, Some, None, refl, sym, ap, subst, ◌∙◌, arith, true≢false}
-use Rattle.std.specs.List.{AllByRecursion, swap}
+use Rattle.std.specs.List.{AllByRecursion, IsDistinct, swap}
 use Rattle.std.specs.List.Sorted.{IsPermutation, SwapsInRange, apply_swaps}
 use Rattle.std.proofs.lemmas.Bool.{cases_Bool}
 use Rattle.std.proofs.lemmas.List.{length-map, map-set}
 use Rattle.std.proofs.Math.ListN.{get_or-map}
+use Rattle.std.proofs.lemmas.Map.Keys.{IsDistinct-head, IsDistinct-tail}
 use Rattle.sqlite_rules.specs.Lists.{Has}
 
 pub map_map : {A B C : Type 0} (f : B → C) (g : A → B) (xs : List A) → map f (map g xs) ≡ map (λ x. f (g x)) xs
@@ -105,3 +106,19 @@ permuted_images f xs ys h = (
   record { moves = h.moves; below = subst (λ n. SwapsInRange n h.moves) (length-map xs f) h.below; is = refl },
   h.is ∙ sym (swaps_map f xs h.moves),
 )
+
+-- ---- items of a list whose keys are apart
+
+module _ {A K : Type 0} (same : K → K → Bool) (symm : (a b : K) → same a b ≡ same b a) (key : A → K) where
+  other_key : (k : K) (xs : List A) (y : A) → AllByRecursion (λ j. same k j ≡ false) (map key xs) → Has xs y → same k (key y) ≡ false
+  other_key k [] y all there = absurd there
+  other_key k (x ∷ xs) y all (inl is) = ap (λ (z : A). same k (key z)) is ∙ all.0
+  other_key k (x ∷ xs) y all (inr there) = other_key k xs y all.1 there
+
+  -- no two items have one key
+  pub one_row : (xs : List A) → IsDistinct same (map key xs) → (x y : A) → Has xs x → Has xs y → same (key x) (key y) ≡ true → x ≡ y
+  one_row [] apart x y here there e = absurd here
+  one_row (z ∷ xs) apart x y (inl h) (inl k) e = h ∙ sym k
+  one_row (z ∷ xs) apart x y (inl h) (inr k) e = absurd (true≢false (sym e ∙ ap (λ (w : A). same (key w) (key y)) h ∙ other_key (key z) xs y (IsDistinct-head same (key z) (map key xs) apart) k))
+  one_row (z ∷ xs) apart x y (inr h) (inl k) e = absurd (true≢false (sym e ∙ symm (key x) (key y) ∙ ap (λ (w : A). same (key w) (key x)) k ∙ other_key (key z) xs x (IsDistinct-head same (key z) (map key xs) apart) h))
+  one_row (z ∷ xs) apart x y (inr h) (inr k) e = one_row xs (IsDistinct-tail same (key z) (map key xs) apart) x y h k e

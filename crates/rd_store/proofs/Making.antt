@@ -1,0 +1,284 @@
+-- What the statements make of a database of a desk.
+use Rattle.std.proofs.Common.{◌≡◌, ◌⊎◌, inl, inr, ℕ, ℤ, pos, List, [], ◌∷◌, filter, Bool, true, false, not, ◌&&◌, Option, Some, None, refl, sym, ap, subst, ◌∙◌, IsTrue, Equal, nat_cmp, int_cmp, arith}
+use Rattle.std.specs.List.{AllByRecursion}
+use Rattle.std.specs.Ordering.{eq_by_cmp}
+use Rattle.std.specs.FinMap.{FinMap, get, insert, remove}
+use Rattle.std.proofs.lemmas.Cmp.{eq_by_cmp_equiv, nat_cmp_total}
+use Rattle.std.proofs.lemmas.Bool.Decides.{nat_tests}
+use Rattle.sqlite.specs.declared.types.Value.TheVariants.{Null, Int, Text, Blob}
+use Rattle.sqlite.specs.Collation.TheVariants.{Binary}
+use Rattle.sqlite.specs.Order.{Row, column, value_cmp}
+use Rattle.sqlite.specs.Tree.{put_row, rowid}
+use Rattle.sqlite.specs.Effect.{Database, IsDatabase}
+use Rattle.sqlite.specs.Listing.{understood}
+use Rattle.sqlite.proofs.Callers.{statement_of}
+use Rattle.sqlite_sql.specs.Ops.{binary, is_true}
+use Rattle.sqlite_sql.specs.declared.ops.BinaryOp.TheVariants.{Compare}
+use Rattle.sqlite_sql.specs.declared.ops.CompareOp.TheVariants.{Eq}
+use Rattle.sqlite_trees.specs.View.{is_int}
+use Rattle.sqlite_rules.specs.Lists.{Has}
+use Rattle.sqlite_rules.proofs.ListLemmas.{all_has}
+use Rattle.sqlite_value.proofs.OrderLemmas.{value_cmp-Int}
+use Rattle.sqlite_value.specs.Keys.{first_key}
+use Rattle.rd_policy.specs.declared.audience.Audience.{Audience}
+use Rattle.rd_tables.specs.Schemas.{desk_schema}
+use Rattle.rd_tables.specs.Sheets.{Sheet, Spells, IsSpelled, HaveRowids, entry_of, map_of}
+use Rattle.rd_tables.specs.Statements.{put_deed_text, put_deed, put_image_text, put_image, put_rule_text, put_rule, drop_rule_text, drop_rule, put_key_text, put_key, drop_key_text, drop_key}
+use Rattle.rd_tables.proofs.Lists.{and_true, one_row}
+use Rattle.rd_tables.proofs.Values.{equal_numbers, equal_blobs}
+use Rattle.rd_tables.proofs.Entries.{insert_removed}
+use Rattle.rd_tables.proofs.Changed.{spells_put, map_put, none_at, map_left, spells_left, none_left}
+use Rattle.rd_tables.proofs.Removed.{rowids_left, rowids_put}
+use Rattle.rd_tables.proofs.Running.{Makes}
+use Rattle.rd_tables.proofs.Setting.{Sets, not_taken}
+use Rattle.rd_tables.proofs.StatementTexts.{put_deed_writes, put_image_writes, put_rule_writes, drop_rule_writes, put_key_writes, drop_key_writes}
+use Rattle.rd_tables.proofs.Statements.{deed_params, deed_row, has_number, by_rowid, puts_deed, image_params, image_row, puts_image, place_params, has_place, drops_rule, rule_params, rule_row, puts_rule, digest_params, has_digest, drops_key, key_params, key_row, puts_key}
+use Rattle.rd_store.specs.declared.rows.DeedRow.{DeedRow}
+use Rattle.rd_store.specs.declared.rows.ImageRow.{ImageRow}
+use Rattle.rd_store.specs.Codes.{kind_code, band_code, audiences_code, audience_code, effect_code, how, number, word}
+use Rattle.rd_store.specs.State.{Desk, Place, Terms, place_cmp, digest_cmp, added, with_deed, with_image, with_rule, without_rule, with_key, without_key}
+use Rattle.rd_store.specs.Spelled.{deed_sheet, image_sheet, rule_sheet, key_sheet, check_sheet, HasVersion, SpellDesk, HaveOwnRowids, desk_of}
+use Rattle.rd_store.specs.Held.{IsOf}
+use Rattle.rd_store.proofs.Orders.{number_order, place_order, digest_order, kind_back, audience_back, rule_back}
+
+-- ---- one table is set, and the others stay
+
+module _ (desk : Desk) (db after : Database) (rows : List Row) (of : IsOf desk db) (sound : IsDatabase after) where
+  of_deeds : Sets 1 db after rows → Spells deed_sheet rows → (m : FinMap nat_cmp DeedRow) → map_of deed_sheet rows ≡ m → IsOf (record desk { deeds = m }) after
+  of_deeds h spells m are =
+      let images = ap (map_of image_sheet) (h.stays 2 refl refl) ∙ ap (λ (d : Desk). d.images) of.is in
+      let rules = ap (map_of rule_sheet) (h.stays 3 refl refl) ∙ ap (λ (d : Desk). d.rules) of.is in
+      let keys = ap (map_of key_sheet) (h.stays 5 refl refl) ∙ ap (λ (d : Desk). d.keys) of.is in
+      let checks = ap (map_of check_sheet) (h.stays 7 refl refl) ∙ ap (λ (d : Desk). d.checks) of.is in
+      let now = ap (map_of deed_sheet) h.now ∙ are in
+      record {
+        schema = h.schema;
+        rows = record {
+          version = subst (HasVersion 0) (sym (h.stays 0 refl refl)) of.rows.version;
+          deeds = subst (Spells deed_sheet) (sym h.now) spells;
+          images = subst (Spells image_sheet) (sym (h.stays 2 refl refl)) of.rows.images;
+          rules = subst (Spells rule_sheet) (sym (h.stays 3 refl refl)) of.rows.rules;
+          keys = subst (Spells key_sheet) (sym (h.stays 5 refl refl)) of.rows.keys;
+          checks = subst (Spells check_sheet) (sym (h.stays 7 refl refl)) of.rows.checks;
+        };
+        rowids = record {
+          rules = subst HaveRowids (sym (h.stays 3 refl refl)) of.rowids.rules;
+          keys = subst HaveRowids (sym (h.stays 5 refl refl)) of.rowids.keys;
+          checks = subst HaveRowids (sym (h.stays 7 refl refl)) of.rowids.checks;
+        };
+        sound = sound;
+        is = λ i. record { deeds = now i; images = images i; rules = rules i; keys = keys i; checks = checks i };
+      }
+
+  of_images : Sets 2 db after rows → Spells image_sheet rows → (m : FinMap nat_cmp ImageRow) → map_of image_sheet rows ≡ m → IsOf (record desk { images = m }) after
+  of_images h spells m are =
+      let deeds = ap (map_of deed_sheet) (h.stays 1 refl refl) ∙ ap (λ (d : Desk). d.deeds) of.is in
+      let rules = ap (map_of rule_sheet) (h.stays 3 refl refl) ∙ ap (λ (d : Desk). d.rules) of.is in
+      let keys = ap (map_of key_sheet) (h.stays 5 refl refl) ∙ ap (λ (d : Desk). d.keys) of.is in
+      let checks = ap (map_of check_sheet) (h.stays 7 refl refl) ∙ ap (λ (d : Desk). d.checks) of.is in
+      let now = ap (map_of image_sheet) h.now ∙ are in
+      record {
+        schema = h.schema;
+        rows = record {
+          version = subst (HasVersion 0) (sym (h.stays 0 refl refl)) of.rows.version;
+          deeds = subst (Spells deed_sheet) (sym (h.stays 1 refl refl)) of.rows.deeds;
+          images = subst (Spells image_sheet) (sym h.now) spells;
+          rules = subst (Spells rule_sheet) (sym (h.stays 3 refl refl)) of.rows.rules;
+          keys = subst (Spells key_sheet) (sym (h.stays 5 refl refl)) of.rows.keys;
+          checks = subst (Spells check_sheet) (sym (h.stays 7 refl refl)) of.rows.checks;
+        };
+        rowids = record {
+          rules = subst HaveRowids (sym (h.stays 3 refl refl)) of.rowids.rules;
+          keys = subst HaveRowids (sym (h.stays 5 refl refl)) of.rowids.keys;
+          checks = subst HaveRowids (sym (h.stays 7 refl refl)) of.rowids.checks;
+        };
+        sound = sound;
+        is = λ i. record { deeds = deeds i; images = now i; rules = rules i; keys = keys i; checks = checks i };
+      }
+
+  of_rules : Sets 3 db after rows → Spells rule_sheet rows → HaveRowids rows → (m : FinMap place_cmp Terms) → map_of rule_sheet rows ≡ m → IsOf (record desk { rules = m }) after
+  of_rules h spells rowids m are =
+      let deeds = ap (map_of deed_sheet) (h.stays 1 refl refl) ∙ ap (λ (d : Desk). d.deeds) of.is in
+      let images = ap (map_of image_sheet) (h.stays 2 refl refl) ∙ ap (λ (d : Desk). d.images) of.is in
+      let keys = ap (map_of key_sheet) (h.stays 5 refl refl) ∙ ap (λ (d : Desk). d.keys) of.is in
+      let checks = ap (map_of check_sheet) (h.stays 7 refl refl) ∙ ap (λ (d : Desk). d.checks) of.is in
+      let now = ap (map_of rule_sheet) h.now ∙ are in
+      record {
+        schema = h.schema;
+        rows = record {
+          version = subst (HasVersion 0) (sym (h.stays 0 refl refl)) of.rows.version;
+          deeds = subst (Spells deed_sheet) (sym (h.stays 1 refl refl)) of.rows.deeds;
+          images = subst (Spells image_sheet) (sym (h.stays 2 refl refl)) of.rows.images;
+          rules = subst (Spells rule_sheet) (sym h.now) spells;
+          keys = subst (Spells key_sheet) (sym (h.stays 5 refl refl)) of.rows.keys;
+          checks = subst (Spells check_sheet) (sym (h.stays 7 refl refl)) of.rows.checks;
+        };
+        rowids = record {
+          rules = subst HaveRowids (sym h.now) rowids;
+          keys = subst HaveRowids (sym (h.stays 5 refl refl)) of.rowids.keys;
+          checks = subst HaveRowids (sym (h.stays 7 refl refl)) of.rowids.checks;
+        };
+        sound = sound;
+        is = λ i. record { deeds = deeds i; images = images i; rules = now i; keys = keys i; checks = checks i };
+      }
+
+  of_keys : Sets 5 db after rows → Spells key_sheet rows → HaveRowids rows → (m : FinMap digest_cmp Audience) → map_of key_sheet rows ≡ m → IsOf (record desk { keys = m }) after
+  of_keys h spells rowids m are =
+      let deeds = ap (map_of deed_sheet) (h.stays 1 refl refl) ∙ ap (λ (d : Desk). d.deeds) of.is in
+      let images = ap (map_of image_sheet) (h.stays 2 refl refl) ∙ ap (λ (d : Desk). d.images) of.is in
+      let rules = ap (map_of rule_sheet) (h.stays 3 refl refl) ∙ ap (λ (d : Desk). d.rules) of.is in
+      let checks = ap (map_of check_sheet) (h.stays 7 refl refl) ∙ ap (λ (d : Desk). d.checks) of.is in
+      let now = ap (map_of key_sheet) h.now ∙ are in
+      record {
+        schema = h.schema;
+        rows = record {
+          version = subst (HasVersion 0) (sym (h.stays 0 refl refl)) of.rows.version;
+          deeds = subst (Spells deed_sheet) (sym (h.stays 1 refl refl)) of.rows.deeds;
+          images = subst (Spells image_sheet) (sym (h.stays 2 refl refl)) of.rows.images;
+          rules = subst (Spells rule_sheet) (sym (h.stays 3 refl refl)) of.rows.rules;
+          keys = subst (Spells key_sheet) (sym h.now) spells;
+          checks = subst (Spells check_sheet) (sym (h.stays 7 refl refl)) of.rows.checks;
+        };
+        rowids = record {
+          rules = subst HaveRowids (sym (h.stays 3 refl refl)) of.rowids.rules;
+          keys = subst HaveRowids (sym h.now) rowids;
+          checks = subst HaveRowids (sym (h.stays 7 refl refl)) of.rowids.checks;
+        };
+        sound = sound;
+        is = λ i. record { deeds = deeds i; images = images i; rules = rules i; keys = now i; checks = checks i };
+      }
+
+pub of_schema : (desk : Desk) (db : Database) → IsOf desk db → db.schema ≡ desk_schema
+of_schema desk db of = of.schema
+
+-- ---- deeds
+
+number_at : (row : Row) → IsSpelled deed_sheet row → rowid row ≡ Int (pos (entry_of deed_sheet row).0)
+number_at row is = ap (λ s. column s 0) is
+
+-- a deed's number is its rowid, so no two rows have one
+deed_rowids : (rows : List Row) → Spells deed_sheet rows → HaveRowids rows
+deed_rowids rows spells = record {
+  keyed = λ row here. subst (λ v. IsTrue (is_int v)) (sym (number_at row (all_has (IsSpelled deed_sheet) rows row spells.spelled here))) refl;
+  apart = λ row other here there tie.
+      let one = number_at row (all_has (IsSpelled deed_sheet) rows row spells.spelled here) in
+      let two = number_at other (all_has (IsSpelled deed_sheet) rows other spells.spelled there) in
+      one_row (eq_by_cmp nat_cmp) (eq_by_cmp_equiv nat_cmp_total).symm (λ r. (entry_of deed_sheet r).0) rows spells.apart row other here there
+      (tied (entry_of deed_sheet row).0 (entry_of deed_sheet other).0 (sym (value_cmp-Int _ _) ∙ (rw (one, two) at tie)));
+}
+  where
+    tied : (a b : ℕ) → int_cmp (pos a) (pos b) ≡ Equal → eq_by_cmp nat_cmp a b ≡ true
+    tied a b e = grind (arith, nat_tests)
+
+module _ (num : ℕ) (deed : DeedRow) where
+  abbrev new_deed : Row
+  new_deed = deed_row num deed.donor deed.signed
+
+  numbered : (row : Row) → IsSpelled deed_sheet row → has_number num deed.donor deed.signed row ≡ eq_by_cmp nat_cmp num (entry_of deed_sheet row).0
+  unfolding first_key
+  numbered row is = and_true _ ∙ rw (number_at row is) (equal_numbers (entry_of deed_sheet row).0 num)
+
+  pub makes_deed : (desk : Desk) → Makes desk_schema put_deed_text put_deed put_deed_writes (deed_params num deed.donor deed.signed) (IsOf desk) (IsOf (with_deed num deed desk))
+  makes_deed desk limit db after tally of does sound =
+      let rows = db.trees 1 in
+      let spells = of.rows.deeds in
+      let h = puts_deed num deed.donor deed.signed (statement_of put_deed_text (understood desk_schema put_deed_text)) limit db after tally of.schema (deed_rowids rows spells) does in
+      let test = has_number num deed.donor deed.signed in
+      let left = spells_left deed_sheet number_order num test rows spells numbered in
+      let none = none_left deed_sheet number_order num test rows spells numbered in
+      let free = not_taken test new_deed (by_rowid num deed.donor deed.signed) rows in
+      let kept = filter (λ row. not (test row)) rows in
+      let put = spells_put deed_sheet number_order new_deed kept left refl none free in
+      let are = map_put deed_sheet number_order new_deed kept left refl none free ∙ ap (λ m. insert m num deed) (map_left deed_sheet number_order num test rows spells numbered)
+      ∙ insert_removed nat_cmp number_order (map_of deed_sheet rows) num deed ∙ ap (λ (d : Desk). insert d.deeds num deed) of.is in
+      of_deeds desk db after (put_row new_deed kept) of sound h put (insert desk.deeds num deed) are
+
+-- ---- images
+
+module _ (acc : ℕ) (image : ImageRow) where
+  abbrev new_image : Row
+  new_image = image_row acc (kind_code image.kind) image.deed image.digest image.bytes
+
+  image_read : entry_of image_sheet new_image ≡ (acc, image)
+  image_read = λ i. (acc, record { kind = kind_back image.kind i; deed = image.deed; digest = image.digest; bytes = image.bytes })
+
+  pub makes_image : (desk : Desk) → get desk.images acc ≡ None
+      → Makes desk_schema put_image_text put_image put_image_writes (image_params acc (kind_code image.kind) image.deed image.digest image.bytes) (IsOf desk) (IsOf (with_image acc image desk))
+  makes_image desk free limit db after tally of does sound =
+      let rows = db.trees 2 in
+      let h = puts_image acc (kind_code image.kind) image.deed image.digest image.bytes (statement_of put_image_text (understood desk_schema put_image_text)) limit db after tally of.schema does in
+      let is : IsSpelled image_sheet new_image = sym (ap image_sheet.columns image_read) in
+      let none = subst (λ (e : ℕ × ImageRow). AllByRecursion (λ row. eq_by_cmp nat_cmp e.0 (entry_of image_sheet row).0 ≡ false) rows) (sym image_read)
+          (none_at image_sheet number_order acc rows (ap (λ (d : Desk). get d.images acc) of.is ∙ free)) in
+      let put = spells_put image_sheet number_order new_image rows of.rows.images is none h.0 in
+      let are = map_put image_sheet number_order new_image rows of.rows.images is none h.0 ∙ ap (λ (e : ℕ × ImageRow). insert (map_of image_sheet rows) e.0 e.1) image_read
+      ∙ ap (λ (d : Desk). insert d.images acc image) of.is in
+      subst (λ found. IsOf (added found acc image desk) after) (sym free) (of_images desk db after (put_row new_image rows) of sound h.1 put (insert desk.images acc image) are)
+
+-- ---- rules
+
+module _ (place : Place) where
+  abbrev at_place : Row → Bool
+  at_place = has_place (band_code place.band) place.scope place.rank
+
+  placed : (row : Row) → IsSpelled rule_sheet row → at_place row ≡ eq_by_cmp place_cmp place (entry_of rule_sheet row).0
+  placed row is =
+      let key = (entry_of rule_sheet row).0 in
+      ap (λ s. is_true (binary (Compare Eq Binary) (column s 0) (Int (pos (band_code place.band)))) && (is_true (binary (Compare Eq Binary) (column s 1) (Int (pos place.scope))) && (is_true (binary (Compare Eq Binary) (column s 2) (Int (pos place.rank))) && true))) is
+      ∙ rw (equal_numbers (band_code key.band) (band_code place.band), equal_numbers key.scope place.scope, equal_numbers key.rank place.rank, and_true) (grind (arith, nat_tests))
+
+  pub makes_no_rule : (desk : Desk) → Makes desk_schema drop_rule_text drop_rule drop_rule_writes (place_params (band_code place.band) place.scope place.rank) (IsOf desk) (IsOf (without_rule place desk))
+  makes_no_rule desk limit db after tally of does sound =
+      let rows = db.trees 3 in
+      let h = drops_rule (band_code place.band) place.scope place.rank (statement_of drop_rule_text (understood desk_schema drop_rule_text)) limit db after tally of.schema of.rowids.rules does in
+      let left = spells_left rule_sheet place_order place at_place rows of.rows.rules placed in
+      let are = map_left rule_sheet place_order place at_place rows of.rows.rules placed ∙ ap (λ (d : Desk). remove d.rules place) of.is in
+      of_rules desk db after (filter (λ row. not (at_place row)) rows) of sound h left (rowids_left (λ row. not (at_place row)) rows of.rowids.rules) (remove desk.rules place) are
+
+  module _ (terms : Terms) where
+    abbrev new_rule : List Row → Row
+    new_rule = rule_row (band_code place.band) place.scope place.rank (audiences_code terms.audiences) terms.from terms.until (how terms.select) (number terms.select) (word terms.select) (effect_code terms.effect)
+
+    pub makes_rule : (desk : Desk) → get desk.rules place ≡ None
+        → Makes desk_schema put_rule_text put_rule put_rule_writes (rule_sheet.columns (place, terms)) (IsOf desk) (IsOf (with_rule place terms desk))
+    makes_rule desk free limit db after tally of does sound =
+        let rows = db.trees 3 in
+        let new = new_rule rows in
+        let h = puts_rule (band_code place.band) place.scope place.rank (audiences_code terms.audiences) terms.from terms.until (how terms.select) (number terms.select) (word terms.select) (effect_code terms.effect) (statement_of put_rule_text (understood desk_schema put_rule_text)) limit db after tally of.schema does in
+        let read : entry_of rule_sheet new ≡ (place, terms) = rule_back (place, terms) in
+        let is : IsSpelled rule_sheet new = sym (ap rule_sheet.columns read) in
+        let none = subst (λ (e : Place × Terms). AllByRecursion (λ row. eq_by_cmp place_cmp e.0 (entry_of rule_sheet row).0 ≡ false) rows) (sym read)
+            (none_at rule_sheet place_order place rows (ap (λ (d : Desk). get d.rules place) of.is ∙ free)) in
+        let put = spells_put rule_sheet place_order new rows of.rows.rules is none h.0 in
+        let are = map_put rule_sheet place_order new rows of.rows.rules is none h.0 ∙ ap (λ (e : Place × Terms). insert (map_of rule_sheet rows) e.0 e.1) read
+        ∙ ap (λ (d : Desk). insert d.rules place terms) of.is in
+        of_rules desk db after (put_row new rows) of sound h.1 put (rowids_put new rows refl h.0 of.rowids.rules) (insert desk.rules place terms) are
+
+-- ---- desk keys
+
+module _ (digest : List ℕ) where
+  digested : (row : Row) → IsSpelled key_sheet row → has_digest digest row ≡ eq_by_cmp digest_cmp digest (entry_of key_sheet row).0
+  digested row is = ap (λ s. is_true (binary (Compare Eq Binary) (column s 0) (Blob digest)) && true) is ∙ and_true _ ∙ equal_blobs (entry_of key_sheet row).0 digest
+
+  pub makes_no_key : (desk : Desk) → Makes desk_schema drop_key_text drop_key drop_key_writes (digest_params digest) (IsOf desk) (IsOf (without_key digest desk))
+  makes_no_key desk limit db after tally of does sound =
+      let rows = db.trees 5 in
+      let h = drops_key digest (statement_of drop_key_text (understood desk_schema drop_key_text)) limit db after tally of.schema of.rowids.keys does in
+      let left = spells_left key_sheet digest_order digest (has_digest digest) rows of.rows.keys digested in
+      let are = map_left key_sheet digest_order digest (has_digest digest) rows of.rows.keys digested ∙ ap (λ (d : Desk). remove d.keys digest) of.is in
+      of_keys desk db after (filter (λ row. not (has_digest digest row)) rows) of sound h left (rowids_left (λ row. not (has_digest digest row)) rows of.rowids.keys) (remove desk.keys digest) are
+
+  module _ (audience : Audience) where
+    pub makes_key : (desk : Desk) → get desk.keys digest ≡ None → Makes desk_schema put_key_text put_key put_key_writes (key_params digest (audience_code audience)) (IsOf desk) (IsOf (with_key digest audience desk))
+    makes_key desk free limit db after tally of does sound =
+        let rows = db.trees 5 in
+        let new = key_row digest (audience_code audience) rows in
+        let h = puts_key digest (audience_code audience) (statement_of put_key_text (understood desk_schema put_key_text)) limit db after tally of.schema does in
+        let read : entry_of key_sheet new ≡ (digest, audience) = λ i. (digest, audience_back audience i) in
+        let is : IsSpelled key_sheet new = sym (ap key_sheet.columns read) in
+        let none = subst (λ (e : List ℕ × Audience). AllByRecursion (λ row. eq_by_cmp digest_cmp e.0 (entry_of key_sheet row).0 ≡ false) rows) (sym read)
+            (none_at key_sheet digest_order digest rows (ap (λ (d : Desk). get d.keys digest) of.is ∙ free)) in
+        let put = spells_put key_sheet digest_order new rows of.rows.keys is none h.0 in
+        let are = map_put key_sheet digest_order new rows of.rows.keys is none h.0 ∙ ap (λ (e : List ℕ × Audience). insert (map_of key_sheet rows) e.0 e.1) read
+        ∙ ap (λ (d : Desk). insert d.keys digest audience) of.is in
+        of_keys desk db after (put_row new rows) of sound h.1 put (rowids_put new rows refl h.0 of.rowids.keys) (insert desk.keys digest audience) are
