@@ -40,7 +40,7 @@ failed text params old new e at is_open h = elim (write_fails text params old ne
 -- ---- one statement
 
 module _ {S : Type 0} (g : Ghosts S) (laws : Laws g) (text : List ℕ) (command : Command) (write : IsWrite desk_schema text command) (params : Row) (after : Desk) (old new : Held S) (holds : HoldsDesk (state g old))
-    (makes : Makes desk_schema text command write params (IsOf (desk g old)) (IsOf after)) (lawful : IsLawful (desk g old) → IsLawful after) where
+    (makes : IsOpen g old → Makes desk_schema text command write params (IsOf (desk g old)) (IsOf after)) (lawful : IsOpen g old → IsLawful (desk g old) → IsLawful after) where
   Now : Result ℕ Error → Type 0
   Now (Ok count) = desk g new ≡ after
   Now (Err e) = (state g new).now ≡ (state g old).now
@@ -49,9 +49,9 @@ module _ {S : Type 0} (g : Ghosts S) (laws : Laws g) (text : List ℕ) (command 
   wrote count was h =
       let at = holds was in
       let writes = ran desk_schema text command write params (state g old) (state g new) count at.tables.schema h in
-      let made = makes (state g old).step_limit (state g old).now (state g new).now writes.tally at.holds.of writes.changed writes.sound in
+      let made = makes was (state g old).step_limit (state g old).now (state g new).now writes.tally at.holds.of writes.changed writes.sound in
       let settled : (state g new).committed ≡ (state g new).now = rw at.tables.autocommit at writes.shown.committed_is in
-      (writes.shown.is_open, rests_on after (state g new) (record { of = made; lawful = lawful at.holds.lawful }) settled (writes.shown.mode ∙ at.tables.autocommit), made.is)
+      (writes.shown.is_open, rests_on after (state g new) (record { of = made; lawful = lawful was at.holds.lawful }) settled (writes.shown.mode ∙ at.tables.autocommit), made.is)
 
   rested : (q : Result ℕ Error) → IsOpen g new → IsOpen g old → Executes text params (state g old) (state g new) q → IsDeskAt (state g new) × Now q
   unfolding Now
@@ -90,8 +90,8 @@ module _ {S : Type 0} (g : Ghosts S) (laws : Laws g) (text : List ℕ) (command 
         | inl before ↦ inl (leaves_only g laws old holds was left before)
         | inr commits ↦
             let at = holds was in
-            let it = committed desk_schema text command write params (IsOf (desk g old)) (IsOf after) makes (state g old) left at.tables.schema at.holds.of commits in
-            inr (left_is after it.0 left (record { of = it.1; lawful = lawful at.holds.lawful }) it.2)
+            let it = committed desk_schema text command write params (IsOf (desk g old)) (IsOf after) (makes was) (state g old) left at.tables.schema at.holds.of commits in
+            inr (left_is after it.0 left (record { of = it.1; lawful = lawful was at.holds.lawful }) it.2)
       ];
       durable = λ is_open. leaves_only g laws new (λ o. (now r runs o).0) is_open;
     },

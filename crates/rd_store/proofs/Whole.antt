@@ -16,7 +16,7 @@ module _ {S : Type 0} (g : Ghosts S) (old new : Held S) (holds : HoldsDesk (stat
   pub starts : IsOpen g old → IsAt (IsOf (desk g old)) (state g old)
   starts was = let at = holds was in record { settled = at.tables.settled; autocommit = at.tables.autocommit; holds = at.holds.of }
 
-  module _ (laws : Laws g) (after : Desk) (lawful : IsLawful (desk g old) → IsLawful after) where
+  module _ (laws : Laws g) (after : Desk) (lawful : IsOpen g old → IsLawful (desk g old) → IsLawful after) where
     -- where it ends
     abbrev Ended : {T X : Type 0} → Result T X → Type 0
     Ended (Ok value) = desk g new ≡ after
@@ -25,7 +25,7 @@ module _ {S : Type 0} (g : Ghosts S) (old new : Held S) (holds : HoldsDesk (stat
     rested : {T X : Type 0} (r : Result T X) → Turns g old new (IsOf after) r → IsOpen g new → IsDeskAt (state g new) × Ended r
     rested (Ok value) turns is_open =
         let at = turns.ok is_open in
-        (rests_on after (state g new) (record { of = at.holds; lawful = lawful (holds (turns.was_open is_open)).holds.lawful }) at.settled at.autocommit, at.holds.is)
+        (rests_on after (state g new) (record { of = at.holds; lawful = lawful (turns.was_open is_open) (holds (turns.was_open is_open)).holds.lawful }) at.settled at.autocommit, at.holds.is)
     rested (Err e) turns is_open =
         let at = turns.err is_open in
         (rests_as (state g old) (state g new) (holds (turns.was_open is_open)) at.holds at.settled at.autocommit, ap (λ (db : Database). desk_of db.trees) at.holds)
@@ -41,7 +41,7 @@ module _ {S : Type 0} (g : Ghosts S) (old new : Held S) (holds : HoldsDesk (stat
         stands = turns.stands;
         crash = λ was clean left may. elim (turns.crash was clean left may) [
           | inl before ↦ inl (leaves_only g laws old holds was left before)
-          | inr made ↦ inr (left_is after made.0 left (record { of = made.1; lawful = lawful (holds was).holds.lawful }) made.2)
+          | inr made ↦ inr (left_is after made.0 left (record { of = made.1; lawful = lawful was (holds was).holds.lawful }) made.2)
         ];
         durable = λ is_open. leaves_only g laws new (λ o. (rested r turns o).0) is_open;
       },

@@ -2,8 +2,10 @@ ghost use Rattle.std.specs.Prelude.{◌≡◌, IfOk, IfErr, map};
 ghost use Rattle.std.specs.FinMap.{get};
 ghost use Rattle.std.specs.Option.{option_to_list};
 ghost use Rattle.sqlite.specs.Held.{state};
-ghost use Rattle.rd_store.specs.Held.{HoldsDesk, IsOpen, Stays, StaysOpen, desk};
+ghost use Rattle.rd_store.specs.Held.{Changes, HoldsDesk, IsOpen, Stays, StaysOpen, desk};
+ghost use Rattle.rd_store.specs.Lawful.{IsDeed};
 ghost use Rattle.rd_store.specs.Shown.{deed_shown};
+ghost use Rattle.rd_store.specs.State.{with_deed};
 
 use crate::decode::{day_at, text_at};
 use crate::faults::StoreFault;
@@ -11,7 +13,7 @@ use crate::read::read_all;
 use crate::rows::DeedRow;
 use rd_geometry::Text;
 use sqlite::types::ToSql;
-use sqlite::{Alter, Connection, Row};
+use sqlite::{Alter, Connection, Error, Row, params};
 
 /// The rows for the deed with a number.
 fn deed_rows<S: Alter>(conn: &mut Connection<S>, num: u32) -> Result<Vec<Row>, StoreFault>
@@ -59,4 +61,23 @@ pub(crate) fn deed<S: Alter>(
         Some(row) => Ok(Some(read_deed(row)?)),
         None => Ok(None),
     }
+}
+
+/// Puts a deed, in place of one with its number.
+pub(crate) fn insert_deed<S: Alter>(
+    conn: &mut Connection<S>,
+    num: u32,
+    donor: &str,
+    signed: i32,
+) -> Result<usize, Error>
+    requires holds { HoldsDesk (state S.Store conn.old) }
+    requires deed { IsDeed num (record { donor = donor.now; signed = signed }) }
+    ensures kept { HoldsDesk (state S.Store conn.new) }
+    ensures changes { Changes S.Store conn.old conn.new
+        (with_deed num (record { donor = donor.now; signed = signed }) (desk S.Store conn.old)) result }
+{
+    conn.execute(
+        "INSERT OR REPLACE INTO deed (num, donor, signed) VALUES (?1, ?2, ?3)",
+        params![num, donor, signed],
+    )
 }

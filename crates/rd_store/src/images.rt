@@ -1,19 +1,22 @@
-ghost use Rattle.std.specs.Prelude.{◌≡◌, IfOk, IfErr, map, option_map};
+ghost use Rattle.std.specs.Prelude.{◌≡◌, IfOk, IfErr, IsSome, None, map, option_map};
 ghost use Rattle.std.specs.FinMap.{get, keys};
 ghost use Rattle.std.specs.Option.{option_to_list};
 ghost use Rattle.sqlite.specs.Held.{state};
 ghost use Rattle.sqlite.specs.Order.{column};
 ghost use Rattle.rd_tables.specs.Sheets.{natural};
-ghost use Rattle.rd_store.specs.Held.{HoldsDesk, IsOpen, Stays, StaysOpen, desk};
+ghost use Rattle.rd_store.specs.Held.{Changes, HoldsDesk, IsOpen, Stays, StaysOpen, desk};
+ghost use Rattle.rd_store.specs.Lawful.{IsImage};
 ghost use Rattle.rd_store.specs.Shown.{accession_shown, image_shown, label_of, label_shown};
+ghost use Rattle.rd_store.specs.State.{with_image};
 
+use crate::codes;
 use crate::decode::{bytes_at, digest_at, kind, number_at};
 use crate::faults::StoreFault;
 use crate::read::read_all;
 use crate::rows::ImageRow;
 use rd_geometry::{Items, Kind};
 use sqlite::types::ToSql;
-use sqlite::{Alter, Connection, Row};
+use sqlite::{Alter, Connection, Error, Row, params};
 use std::alloc::Global;
 
 /// An image without its bytes.
@@ -173,4 +176,29 @@ pub(crate) fn accessions<S: Alter>(
 {
     let rows = accession_rows(conn)?;
     read_numbers(alloc, &rows)
+}
+
+/// Puts an image where none stands.
+pub(crate) fn insert_image<S: Alter>(
+    conn: &mut Connection<S>,
+    acc: u32,
+    kind: Kind,
+    deed: u32,
+    digest: &[u8; 32],
+    bytes: &[u8],
+) -> Result<usize, Error>
+    requires holds { HoldsDesk (state S.Store conn.old) }
+    requires image { IsImage acc (record { kind = kind; deed = deed; digest = digest.now; bytes = bytes.now }) }
+    requires deed { IsOpen S.Store conn.old → IsSome (get (desk S.Store conn.old).deeds deed) }
+    requires free { IsOpen S.Store conn.old → get (desk S.Store conn.old).images acc ≡ None }
+    ensures kept { HoldsDesk (state S.Store conn.new) }
+    ensures changes { Changes S.Store conn.old conn.new
+        (with_image acc (record { kind = kind; deed = deed; digest = digest.now; bytes = bytes.now }) (desk S.Store conn.old)) result }
+{
+    let code = codes::of_kind(kind);
+    let sum = digest.as_slice();
+    conn.execute(
+        "INSERT INTO image (acc, kind, deed, digest, bytes) VALUES (?1, ?2, ?3, ?4, ?5)",
+        params![acc, code, deed, sum, bytes],
+    )
 }

@@ -1,13 +1,14 @@
-ghost use Rattle.std.specs.Prelude.{◌≡◌, IfOk, IfErr, map};
-ghost use Rattle.std.specs.FinMap.{entries, retain_keys};
+ghost use Rattle.std.specs.Prelude.{◌≡◌, false, IfOk, IfErr, None, map};
+ghost use Rattle.std.specs.FinMap.{entries, get, retain_keys};
 ghost use Rattle.sqlite.specs.Held.{state};
 ghost use Rattle.sqlite.specs.Order.{column};
 ghost use Rattle.sqlite_value.specs.Order.{bytes};
 ghost use Rattle.rd_tables.specs.Sheets.{natural};
 ghost use Rattle.rd_store.specs.Codes.{is_at, select_in};
-ghost use Rattle.rd_store.specs.Held.{HoldsDesk, IsOpen, Stays, StaysOpen, desk};
+ghost use Rattle.rd_store.specs.Held.{Changes, HoldsDesk, IsOf, IsOpen, Moves, Stays, StaysOpen, desk};
 ghost use Rattle.rd_store.specs.Spelled.{rule_sheet};
-ghost use Rattle.rd_store.specs.State.{rule_of, rules_at};
+ghost use Rattle.rd_policy.specs.Rules.{IsRule};
+ghost use Rattle.rd_store.specs.State.{Stands, place_of, rule_of, rules_at, terms_of, with_rule, without_rule};
 
 use crate::codes;
 use crate::decode::{audiences, band, effect, number_at, select, some_day_at, text_at};
@@ -15,7 +16,7 @@ use crate::faults::StoreFault;
 use crate::read::read_all;
 use rd_policy::{Band, Rule, Select};
 use sqlite::types::ToSql;
-use sqlite::{Alter, Connection, Row};
+use sqlite::{Alter, Connection, Error, Row, Transaction, params};
 use std::alloc::Global;
 
 /// The rows for the rules of a band and a number.
@@ -118,4 +119,75 @@ pub(crate) fn rules_of<S: Alter>(
 {
     let rows = rule_rows(conn, band, scope)?;
     read_rules(alloc, &rows)
+}
+
+/// Takes a rule away, if it is there.
+pub(crate) fn delete_rule<S: Alter>(
+    conn: &mut Connection<S>,
+    band: Band,
+    scope: u32,
+    rank: u16,
+) -> Result<usize, Error>
+    requires holds { HoldsDesk (state S.Store conn.old) }
+    ensures kept { HoldsDesk (state S.Store conn.new) }
+    ensures changes { Changes S.Store conn.old conn.new
+        (without_rule (record { band = band; scope = scope; rank = rank }) (desk S.Store conn.old)) result }
+{
+    let code = codes::of_band(band);
+    let number = u32::from(rank);
+    conn.execute(
+        "DELETE FROM rule WHERE band = ?1 AND scope = ?2 AND rank = ?3",
+        params![code, scope, number],
+    )
+}
+
+/// Takes the rule at a rule's place away, inside a transaction.
+fn delete_place<S: Alter>(tx: &mut Transaction<'_, S>, rule: &Rule) -> Result<usize, Error>
+    ensures same_reference { tx.new.conn.ghost_name ≡ tx.old.conn.ghost_name }
+    ensures moves { (before : _) → Moves S.Store tx.old.conn.now tx.new.conn.now
+        (IsOf before) (IsOf (without_rule (place_of rule.now) before)) result }
+{
+    let band = codes::of_band(rule.band);
+    let rank = u32::from(rule.rank);
+    tx.execute(
+        "DELETE FROM rule WHERE band = ?1 AND scope = ?2 AND rank = ?3",
+        params![band, rule.scope, rank],
+    )
+}
+
+/// Puts a rule where none stands, inside a transaction.
+fn insert_rule<S: Alter>(tx: &mut Transaction<'_, S>, rule: &Rule) -> Result<usize, Error>
+    ensures same_reference { tx.new.conn.ghost_name ≡ tx.old.conn.ghost_name }
+    ensures moves { (before : _) → get before.rules (place_of rule.now) ≡ None → Moves S.Store tx.old.conn.now tx.new.conn.now
+        (IsOf before) (IsOf (with_rule (place_of rule.now) (terms_of rule.now) before)) result }
+{
+    let band = codes::of_band(rule.band);
+    let rank = u32::from(rule.rank);
+    let audiences = codes::of_audiences(rule.audiences);
+    let how = codes::how(&rule.select);
+    let number = codes::number(&rule.select);
+    let word = codes::word(&rule.select);
+    let effect = codes::of_effect(rule.effect);
+    tx.execute(
+        "INSERT INTO rule (band, scope, rank, audiences, day_from, day_until, how, number, word, effect) VALUES (?1, ?2, ?3, ?4, ?5, ?6, ?7, ?8, ?9, ?10)",
+        params![
+            band, rule.scope, rank, audiences, rule.from, rule.until, how, number, word, effect
+        ],
+    )
+}
+
+/// Puts a rule, in place of one at its rank.
+pub(crate) fn write_rule<S: Alter>(conn: &mut Connection<S>, rule: &Rule) -> Result<(), Error>
+    requires mode { conn.old.in_transaction ≡ false }
+    requires holds { HoldsDesk (state S.Store conn.old) }
+    requires rule { IsRule rule.now }
+    requires stands { IsOpen S.Store conn.old → Stands (desk S.Store conn.old) rule.now.band rule.now.scope }
+    ensures kept { HoldsDesk (state S.Store conn.new) }
+    ensures changes { Changes S.Store conn.old conn.new
+        (with_rule (place_of rule.now) (terms_of rule.now) (desk S.Store conn.old)) result }
+{
+    let mut tx = conn.transaction();
+    delete_place(&mut tx, rule)?;
+    insert_rule(&mut tx, rule)?;
+    tx.commit()
 }
