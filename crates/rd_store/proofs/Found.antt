@@ -1,7 +1,17 @@
 -- What the queries show of a desk.
-use Rattle.std.proofs.Common.{◌≡◌, ℕ, pos, List, [], ◌∷◌, map, option_map, Bool, true, false, Some, None, Option, refl, sym, ap, ◌∙◌, arith, nat_cmp, int_cmp, is_lt, is_eq, Less, ◌&&◌, ◌==◌}
+use Rattle.std.proofs.Common.{◌≡◌, ◌≢◌, ◌⊎◌, inl, inr, ℕ, zero, suc, ◌<◌, slice_index_or, pos, List, [], ◌∷◌, map, option_map, Bool, true, false, Some, None, Option, refl, sym, ap, ◌∙◌, arith, nat_cmp, int_cmp, is_lt, is_eq, Less, Equal, Greater, Ordering, ◌&&◌, ◌==◌, All, subst, length}
+use Rattle.std.specs.Prelude.{MatchBool}
 use Rattle.std.specs.Option.{option_to_list}
-use Rattle.std.specs.Ordering.{eq_by_cmp, ordering_then}
+use Rattle.std.specs.List.{Any}
+use Rattle.std.specs.Cmp.Lexicographic.{slice_cmp}
+use Rattle.std.proofs.lemmas.Cmp.{nat_list_cmp_total}
+use Rattle.std.proofs.lemmas.List.Elements.{recursion_from_All}
+use Rattle.sqlite_rules.specs.Lists.{Has}
+use Rattle.sqlite_rules.proofs.ListLemmas.{all_has}
+use Rattle.sqlite_value.proofs.OrderLemmas.{value_cmp-Blob}
+use Rattle.rd_policy.specs.declared.audience.Audience.{Audience}
+use Rattle.rd_policy.specs.declared.audience.Audience.TheVariants.{Staff}
+use Rattle.std.specs.Ordering.{eq_by_cmp, ordering_then, ordering_reverse}
 use Rattle.std.specs.FinMap.{FinMap, get, keys, entries, retain_keys}
 use Rattle.std.proofs.lemmas.Bool.Decides.{nat_tests}
 use Rattle.sqlite.specs.declared.types.Value.TheVariants.{Int, Blob}
@@ -13,20 +23,20 @@ use Rattle.sqlite_sql.specs.declared.ops.BinaryOp.TheVariants.{Compare}
 use Rattle.sqlite_sql.specs.declared.ops.CompareOp.TheVariants.{Eq}
 use Rattle.sqlite_value.proofs.OrderLemmas.{value_cmp-Int, then-Equal}
 use Rattle.rd_tables.specs.Asked.{IsPicked, rising}
-use Rattle.rd_tables.specs.Queries.{deed_query, image_query, label_query, accessions_query, audience_query, rules_query}
+use Rattle.rd_tables.specs.Queries.{deed_query, image_query, label_query, accessions_query, audience_query, rules_query, keys_query}
 use Rattle.rd_tables.specs.Sheets.{Spells, map_of, natural, seen}
-use Rattle.rd_tables.proofs.Lists.{map_map, and_true, both}
+use Rattle.rd_tables.proofs.Lists.{map_map, and_true, both, in_map, from_map}
 use Rattle.rd_tables.proofs.Values.{equal_numbers, equal_blobs}
-use Rattle.rd_tables.proofs.Entries.{retain_all}
+use Rattle.rd_tables.proofs.Entries.{retain_all, entry_got, got_entry}
 use Rattle.rd_tables.proofs.Finding.{looked_up, in_order}
 use Rattle.rd_policy.specs.declared.rule.Band.{Band}
 use Rattle.rd_policy.specs.declared.rule.Rule.{Rule}
 use Rattle.rd_store.specs.Codes.{band_code, is_at}
-use Rattle.rd_store.specs.State.{Desk, Place, Terms, digest_cmp, place_cmp, rule_of, rules_at}
+use Rattle.rd_store.specs.State.{Desk, Place, Terms, digest_cmp, place_cmp, rule_of, rules_at, HasOtherStaff}
 use Rattle.rd_store.specs.declared.rows.ImageRow.{ImageRow}
-use Rattle.rd_store.specs.Shown.{deed_shown, image_shown, label_shown, label_of, accession_shown, audience_shown}
+use Rattle.rd_store.specs.Shown.{deed_shown, image_shown, label_shown, label_of, accession_shown, audience_shown, ShowsOther, IsOtherKey}
 use Rattle.rd_store.specs.Spelled.{deed_sheet, image_sheet, key_sheet, rule_sheet}
-use Rattle.rd_store.proofs.Orders.{number_order, digest_order, place_order, rule_back}
+use Rattle.rd_store.proofs.Orders.{number_order, digest_order, place_order, rule_back, key_back}
 
 -- the first column equals the parameter
 first_is : (n : ℕ) (k : ℕ) → (is_true (binary (Compare Eq Binary) (Int (pos k)) (Int (pos n))) && true) ≡ eq_by_cmp nat_cmp n k
@@ -92,3 +102,46 @@ module _ (band : Band) (scope : ℕ) (table rows : List Row) where
 pub rules_back : (es : List (Place × Terms)) → map (λ row. rule_of (rule_sheet.entry row)) (map rule_sheet.columns es) ≡ map rule_of es
 rules_back [] = refl
 rules_back (e ∷ es) = λ i. rule_of (rule_back e i) ∷ rules_back es i
+
+-- ---- all desk keys
+
+-- ORDER BY a digest, whose digests differ
+digests_rise : (a b : List ℕ) → true ≡ true → true ≡ true → is_lt (key_cmp 0 (rising ∷ []) (Blob b ∷ []) (Blob a ∷ [])) ≡ false → eq_by_cmp digest_cmp a b ≡ false → digest_cmp a b ≡ Less
+digests_rise a b first second up apart = go (digest_cmp a b) apart (sym (ap is_lt (nat_list_cmp_total.antisymm b a)) ∙ sym (ap is_lt (then-Equal _ ∙ value_cmp-Blob b a)) ∙ up)
+  where
+    go : (o : Ordering) → is_eq o ≡ false → is_lt (ordering_reverse o) ≡ false → o ≡ Less
+    go Less e f = refl
+    go Equal e f = absurd cc
+    go Greater e f = absurd cc
+
+pub keys_found : (table rows : List Row) → Spells key_sheet table → IsPicked keys_query [] table rows → rows ≡ map key_sheet.columns (entries (map_of key_sheet table))
+keys_found table rows spells picks =
+    in_order key_sheet digest_order keys_query [] table rows spells picks (λ _. true) key_sheet.columns (λ digest. Blob digest ∷ []) (λ row is. refl) (λ row is. ap (λ s. (column s 0 ∷ [], s)) is) digests_rise
+    ∙ ap (λ m. map key_sheet.columns (entries m)) (retain_all digest_cmp digest_order (map_of key_sheet table))
+
+any_has : (P : Row → Type 0) (rows : List Row) → Any P rows → (row : Row) × Has rows row × P row
+any_has P rows any = (any.1, at rows any.0 any.1 any.2 any.3, any.4)
+  where
+    at : (rs : List Row) (k : ℕ) (row : Row) → k < length rs → slice_index_or rs k row ≡ row → Has rs row
+    at [] k row low is = absurd (omega (arith, low))
+    at (r ∷ rs) zero row low is = inl (sym is)
+    at (r ∷ rs) (suc k) row low is = inr (at rs k row (omega (arith, low)) is)
+
+-- the rows that show all keys tell whether another staff key stands
+module _ (desk : Desk) (digest : List ℕ) (rows : List Row) (are : rows ≡ map key_sheet.columns (entries desk.keys)) where
+  pub other_shown : Any (ShowsOther digest) rows → HasOtherStaff desk digest
+  other_shown any =
+      let it = any_has (ShowsOther digest) rows any in
+      let e = from_map key_sheet.columns (entries desk.keys) it.0 (subst (λ l. Has l it.0) are it.1) in
+      let is : IsOtherKey digest e.0 = subst (IsOtherKey digest) (ap key_sheet.entry e.2 ∙ key_back e.0) it.2 in
+      (e.0.0, is.0, entry_got digest_cmp digest_order desk.keys e.0.0 e.0.1 e.1 ∙ ap Some is.1)
+
+  pub none_shown : All (λ row. ¬ ShowsOther digest row) rows → ¬ HasOtherStaff desk digest
+  none_shown none other =
+      let e : List ℕ × Audience = (other.0, Staff) in
+      let here : Has rows (key_sheet.columns e) = subst (λ l. Has l (key_sheet.columns e)) (sym are) (in_map key_sheet.columns (entries desk.keys) e (got_entry digest_cmp digest_order desk.keys other.0 Staff other.2)) in
+      all_has (λ row. ¬ ShowsOther digest row) rows (key_sheet.columns e) (recursion_from_All (λ row. ¬ ShowsOther digest row) rows none) here (subst (IsOtherKey digest) (sym (key_back e)) (other.1, refl))
+
+  pub other_told : (b : Bool) → MatchBool b (Any (ShowsOther digest) rows) (All (λ row. ¬ ShowsOther digest row) rows) → MatchBool b (HasOtherStaff desk digest) (¬ HasOtherStaff desk digest)
+  other_told true shown = other_shown shown
+  other_told false none = none_shown none

@@ -1,5 +1,5 @@
 -- The orders of the keys, and that columns spell the entry that they come from.
-use Rattle.std.proofs.Common.{◌≡◌, ℕ, ℤ, Option, Some, None, true, false, refl, ap, ◌∙◌, arith, nat_cmp}
+use Rattle.std.proofs.Common.{◌≡◌, ℕ, ℤ, List, Option, Some, None, true, false, refl, ap, ◌∙◌, arith, nat_cmp}
 use Rattle.std.specs.FinMap.{nat_cmp-IsAntisymmetric, slice_cmp-IsAntisymmetric}
 use Rattle.std.proofs.lemmas.Cmp.{nat_cmp_total, nat_list_cmp_total, then_total, on_total}
 use Rattle.sqlite.specs.declared.types.Value.TheVariants.{Int}
@@ -19,7 +19,7 @@ use Rattle.rd_policy.specs.declared.select.Select.TheVariants.{All, Slot, Prefix
 use Rattle.rd_tables.proofs.Entries.{IsKeyOrder}
 use Rattle.rd_store.specs.Codes.{kind_code, kind_in, band_code, band_in, effect_code, effect_in, audiences_code, audiences_in, audience_code, audience_in, how, number, word, select_in, day_in}
 use Rattle.rd_store.specs.State.{Place, Terms, place_cmp, digest_cmp}
-use Rattle.rd_store.specs.Spelled.{rule_sheet}
+use Rattle.rd_store.specs.Spelled.{key_sheet, rule_sheet}
 
 pub number_order : IsKeyOrder nat_cmp
 number_order = record { total = nat_cmp_total; same = nat_cmp-IsAntisymmetric }
@@ -88,6 +88,9 @@ flags_back false false false = refl
 
 audiences_back : (set : Audiences) → audiences_in (audiences_code set) ≡ set
 audiences_back set = flags_back set.public set.room set.staff
+
+pub key_back : (e : List ℕ × Audience) → key_sheet.entry (key_sheet.columns e) ≡ e
+key_back e = λ i. (e.0, audience_back e.1 i)
 
 pub rule_back : (e : Place × Terms) → rule_sheet.entry (rule_sheet.columns e) ≡ e
 rule_back e = λ i. (

@@ -1,12 +1,14 @@
 -- How the queries show entries.
-use Rattle.std.specs.Prelude.{ℕ, pos, List, [], ◌∷◌}
+use Rattle.std.specs.Prelude.{◌≡◌, ◌≢◌, ℕ, pos, List, [], ◌∷◌}
 use Rattle.sqlite.specs.declared.types.Value.TheVariants.{Int, Text, Blob}
 use Rattle.sqlite.specs.Order.{Row}
 use Rattle.rd_policy.specs.declared.audience.Audience.{Audience}
+use Rattle.rd_policy.specs.declared.audience.Audience.TheVariants.{Staff}
 use Rattle.rd_store.specs.declared.images.Label.{Label}
 use Rattle.rd_store.specs.declared.rows.DeedRow.{DeedRow}
 use Rattle.rd_store.specs.declared.rows.ImageRow.{ImageRow}
 use Rattle.rd_store.specs.Codes.{kind_code, audience_code}
+use Rattle.rd_store.specs.Spelled.{key_sheet}
 
 abbrev pub deed_shown : DeedRow → Row
 deed_shown deed = Text deed.donor ∷ Int deed.signed ∷ []
@@ -27,5 +29,10 @@ audience_shown audience = Int (pos (audience_code audience)) ∷ []
 abbrev pub accession_shown : ℕ → Row
 accession_shown acc = Int (pos acc) ∷ []
 
-abbrev pub key_shown : List ℕ × Audience → Row
-key_shown key = Blob key.0 ∷ Int (pos (audience_code key.1)) ∷ []
+-- a key of the staff with another digest
+abbrev pub IsOtherKey : List ℕ → List ℕ × Audience → Type 0
+IsOtherKey digest key = (key.0 ≢ digest) × (key.1 ≡ Staff)
+
+-- a row shows such a key
+abbrev pub ShowsOther : List ℕ → Row → Type 0
+ShowsOther digest row = IsOtherKey digest (key_sheet.entry row)

@@ -1,16 +1,21 @@
-ghost use Rattle.std.specs.Prelude.{◌≡◌, IfOk, IfErr, map};
-ghost use Rattle.std.specs.FinMap.{get};
+ghost use Rattle.std.specs.Prelude.{◌≡◌, ◌⊎◌, ◌↔◌, All, false, IfOk, IfErr, IsTrue, MatchBool, None, map};
+ghost use Rattle.std.specs.List.{Any};
+ghost use Rattle.std.specs.FinMap.{entries, get};
 ghost use Rattle.std.specs.Option.{option_to_list};
 ghost use Rattle.sqlite.specs.Held.{state};
-ghost use Rattle.rd_store.specs.Held.{HoldsDesk, IsOpen, Stays, StaysOpen, desk};
-ghost use Rattle.rd_store.specs.Shown.{audience_shown};
+ghost use Rattle.rd_store.specs.Held.{Changes, HoldsDesk, IsOf, IsOpen, Moves, Stays, StaysOpen, desk};
+ghost use Rattle.rd_store.specs.Lawful.{IsKey};
+ghost use Rattle.rd_store.specs.Shown.{ShowsOther, audience_shown};
+ghost use Rattle.rd_store.specs.Spelled.{key_sheet};
+ghost use Rattle.rd_store.specs.State.{HasOtherStaff, with_key, without_key};
 
-use crate::decode::{audience, number_at};
+use crate::codes;
+use crate::decode::{audience, digest_at, number_at};
 use crate::faults::StoreFault;
 use crate::read::read_all;
 use rd_policy::Audience;
 use sqlite::types::ToSql;
-use sqlite::{Alter, Connection, Row};
+use sqlite::{Alter, Connection, Error, Row, Transaction, params};
 
 /// The rows for the desk key with a digest.
 fn audience_rows<S: Alter>(
@@ -55,4 +60,122 @@ pub(crate) fn audience_of<S: Alter>(
         Some(row) => Ok(Some(read_audience(row)?)),
         None => Ok(None),
     }
+}
+
+/// The rows for all desk keys.
+fn key_rows<S: Alter>(conn: &mut Connection<S>) -> Result<Vec<Row>, StoreFault>
+    requires holds { HoldsDesk (state S.Store conn.old) }
+    ensures rows { IsOpen S.Store conn.new → IfOk result (λ rows.
+        rows.items ≡ map key_sheet.columns (entries (desk S.Store conn.old).keys)) }
+    ensures stays { Stays S.Store conn.old conn.new }
+    ensures stands { StaysOpen S.Store conn.old conn.new result }
+    ensures kept { HoldsDesk (state S.Store conn.new) }
+    ensures fault { IfErr result (λ fault. fault ≡ StoreFault.Sql) }
+{
+    read_all(conn, "SELECT digest, audience FROM badge ORDER BY digest", &[])
+}
+
+/// Whether a row shows a staff key with another digest.
+fn shows_other(row: &Row, digest: &[u8; 32]) -> Result<bool, StoreFault>
+    ensures other { IfOk result (λ other. IsTrue other ↔ ShowsOther digest.now row.now) }
+    ensures fault { IfErr result (λ fault. fault ≡ StoreFault.Sql) }
+{
+    let shown = digest_at(row, 0)?;
+    let audience = audience(number_at(row, 1)?);
+    Ok(shown != *digest && audience == Audience::Staff)
+}
+
+/// Whether one of the rows shows a staff key with another digest.
+fn show_other(rows: &[Row], digest: &[u8; 32]) -> Result<bool, StoreFault>
+    ensures other { IfOk result (λ other. MatchBool other
+        (Any (ShowsOther digest.now) rows.now) (All (λ row. ¬ ShowsOther digest.now row) rows.now)) }
+    ensures fault { IfErr result (λ fault. fault ≡ StoreFault.Sql) }
+{
+    for row in rows {
+        if shows_other(row, digest)? {
+            return Ok(true);
+        }
+    }
+    Ok(false)
+}
+
+/// Whether there is a staff key beside the one with a digest.
+pub(crate) fn has_other_staff<S: Alter>(
+    conn: &mut Connection<S>,
+    digest: &[u8; 32],
+) -> Result<bool, StoreFault>
+    requires holds { HoldsDesk (state S.Store conn.old) }
+    ensures other { IsOpen S.Store conn.new → IfOk result (λ other. MatchBool other
+        (HasOtherStaff (desk S.Store conn.old) digest.now) (¬ HasOtherStaff (desk S.Store conn.old) digest.now)) }
+    ensures stays { Stays S.Store conn.old conn.new }
+    ensures stands { StaysOpen S.Store conn.old conn.new result }
+    ensures kept { HoldsDesk (state S.Store conn.new) }
+    ensures fault { IfErr result (λ fault. fault ≡ StoreFault.Sql) }
+{
+    let rows = key_rows(conn)?;
+    show_other(&rows, digest)
+}
+
+/// Takes a desk key away, if it is there; another staff key stands.
+pub(crate) fn delete_key<S: Alter>(
+    conn: &mut Connection<S>,
+    digest: &[u8; 32],
+) -> Result<usize, Error>
+    requires holds { HoldsDesk (state S.Store conn.old) }
+    requires other { IsOpen S.Store conn.old → HasOtherStaff (desk S.Store conn.old) digest.now }
+    ensures kept { HoldsDesk (state S.Store conn.new) }
+    ensures changes { Changes S.Store conn.old conn.new (without_key digest.now (desk S.Store conn.old)) result }
+{
+    let sum = digest.as_slice();
+    conn.execute("DELETE FROM badge WHERE digest = ?1", params![sum])
+}
+
+/// Takes a desk key away, inside a transaction.
+fn delete_digest<S: Alter>(
+    tx: &mut Transaction<'_, S>,
+    digest: &[u8; 32],
+) -> Result<usize, Error>
+    ensures same_reference { tx.new.conn.ghost_name ≡ tx.old.conn.ghost_name }
+    ensures moves { (before : _) → Moves S.Store tx.old.conn.now tx.new.conn.now
+        (IsOf before) (IsOf (without_key digest.now before)) result }
+{
+    let sum = digest.as_slice();
+    tx.execute("DELETE FROM badge WHERE digest = ?1", params![sum])
+}
+
+/// Puts a desk key where none stands, inside a transaction.
+fn insert_key<S: Alter>(
+    tx: &mut Transaction<'_, S>,
+    digest: &[u8; 32],
+    audience: Audience,
+) -> Result<usize, Error>
+    ensures same_reference { tx.new.conn.ghost_name ≡ tx.old.conn.ghost_name }
+    ensures moves { (before : _) → get before.keys digest.now ≡ None → Moves S.Store tx.old.conn.now tx.new.conn.now
+        (IsOf before) (IsOf (with_key digest.now audience before)) result }
+{
+    let sum = digest.as_slice();
+    let code = codes::of_audience(audience);
+    tx.execute(
+        "INSERT INTO badge (digest, audience) VALUES (?1, ?2)",
+        params![sum, code],
+    )
+}
+
+/// Puts a desk key, in place of one with its digest; a staff key is left.
+pub(crate) fn write_key<S: Alter>(
+    conn: &mut Connection<S>,
+    digest: &[u8; 32],
+    audience: Audience,
+) -> Result<(), Error>
+    requires mode { conn.old.in_transaction ≡ false }
+    requires holds { HoldsDesk (state S.Store conn.old) }
+    requires key { IsKey digest.now audience }
+    requires staff { IsOpen S.Store conn.old → (audience ≡ Audience.Staff) ⊎ HasOtherStaff (desk S.Store conn.old) digest.now }
+    ensures kept { HoldsDesk (state S.Store conn.new) }
+    ensures changes { Changes S.Store conn.old conn.new (with_key digest.now audience (desk S.Store conn.old)) result }
+{
+    let mut tx = conn.transaction();
+    delete_digest(&mut tx, digest)?;
+    insert_key(&mut tx, digest, audience)?;
+    tx.commit()
 }

@@ -11,6 +11,8 @@ mod keys;
 mod read;
 mod rows;
 mod rules;
+mod store;
 
 pub use faults::StoreFault;
 pub use rows::{DeedRow, ImageRow, Outcome};
+pub use store::Store;

@@ -1,15 +1,17 @@
 -- A list of entries, no two with one key, is a finite map whatever its order.
-use Rattle.std.proofs.Common.{◌≡◌, ℕ, List, [], ◌∷◌, map, filter, Bool, true, false, not, cond, T, Some, None, Option, refl, sym, ap, subst, ◌∙◌, arith, Ordering, Less, Equal, Greater, is_eq, ◌&&◌}
+use Rattle.std.proofs.Common.{◌≡◌, ◌⊎◌, inl, inr, ℕ, List, [], ◌∷◌, map, filter, Bool, true, false, not, cond, T, Some, None, Option, refl, sym, ap, subst, ◌∙◌, arith, Ordering, Less, Equal, Greater, is_eq, is_lt, ◌&&◌}
 use Rattle.std.specs.List.{AllByRecursion, IsDistinct}
 use Rattle.std.specs.Option.{option_to_list}
 use Rattle.std.specs.List.Sorted.{IsPermutation, IsStrictlySortedBy}
 use Rattle.std.specs.Ordering.{eq_by_cmp}
 use Rattle.std.specs.Cmp.{IsTotalOrder}
-use Rattle.std.specs.FinMap.{FinMap, get, insert, remove, from_entries, retain_keys, same_map, get-insert, get-remove, get-from_entries, get-retain_keys, IsAntisymmetric}
+use Rattle.std.specs.FinMap.{FinMap, get, entries, entries_sorted, get-entries, insert, remove, from_entries, retain_keys, same_map, get-insert, get-remove, get-from_entries, get-retain_keys, IsAntisymmetric}
 use Rattle.std.specs.FinMap.Entries.{find, is_sorted, below_all, where_key}
+use Rattle.std.proofs.lemmas.Bool.{cases_Bool}
 use Rattle.std.proofs.lemmas.Cmp.{eq_by_cmp_equiv}
 use Rattle.std.proofs.lemmas.List.Sorted.{length_permutation, IsPermutation-map}
 use Rattle.std.proofs.lemmas.Map.Keys.{IsDistinct-IsPermutation, IsDistinct-head, IsDistinct-tail, sorted_head, sorted_tail}
+use Rattle.sqlite_rules.specs.Lists.{Has}
 use Rattle.sqlite_trees.proofs.ListLemmas.{IsPermutation-filter}
 use Rattle.sqlite.proofs.Callers.{one_permutation}
 
@@ -28,6 +30,15 @@ tie : (o : Ordering) → is_eq o ≡ true → o ≡ Equal
 tie Equal h = refl
 tie Less h = absurd cc
 tie Greater h = absurd cc
+
+parts : (a b : Bool) → T (a && b) → T a × T b
+parts true b h = (tt, h)
+parts false b h = absurd h
+
+apart_if_less : (o : Ordering) → T (is_lt o) → is_eq o ≡ false
+apart_if_less Less h = refl
+apart_if_less Equal h = absurd h
+apart_if_less Greater h = absurd h
 
 module _ {K X : Type 0} (cmp : K → K → Ordering) (order : IsKeyOrder cmp) where
   abbrev keys_of : List (K × X) → List K
@@ -99,3 +110,34 @@ module _ {K X : Type 0} (cmp : K → K → Ordering) (order : IsKeyOrder cmp) wh
         | true ↦ λ is. (is, where_key_passes p es)
         | false ↦ λ is. where_key_passes p es
       ] refl
+
+  -- ---- what is found is an entry, and each entry is found
+
+  found_has : (q : K) (v : X) (es : List (K × X)) → find cmp q es ≡ Some v → Has es (q, v)
+  found_has q v [] is = absurd cc
+  found_has q v (e ∷ es) is = elim (cases_Bool (eq_by_cmp cmp q e.0)) [
+    | inl same ↦
+        let key : q ≡ e.0 = order.same q e.0 (tie (cmp q e.0) same) in
+        let value : e.1 ≡ v = (let it : cond (eq_by_cmp cmp q e.0) (Some e.1) (find cmp q es) ≡ Some v = is in let some = rw same at it in cc) in
+        inl (λ i. (key i, sym value i))
+    | inr other ↦ inr (found_has q v es (let it : cond (eq_by_cmp cmp q e.0) (Some e.1) (find cmp q es) ≡ Some v = is in rw other at it))
+  ]
+
+  below_has : (x q : K) (v : X) (es : List (K × X)) → T (below_all cmp x es) → Has es (q, v) → T (is_lt (cmp x q))
+  below_has x q v [] below here = absurd here
+  below_has x q v (e ∷ es) below (inl is) = subst (λ (f : K × X). T (is_lt (cmp x f.0))) (sym is) (parts (is_lt (cmp x e.0)) (below_all cmp x es) below).0
+  below_has x q v (e ∷ es) below (inr there) = below_has x q v es (parts (is_lt (cmp x e.0)) (below_all cmp x es) below).1 there
+
+  has_found : (q : K) (v : X) (es : List (K × X)) → T (is_sorted cmp es) → Has es (q, v) → find cmp q es ≡ Some v
+  has_found q v [] sorted here = absurd here
+  has_found q v (e ∷ es) sorted (inl is) = subst (λ (f : K × X). find cmp q (f ∷ es) ≡ Some v) is (rw ((eq_by_cmp_equiv order.total).refl q) refl)
+  has_found q v (e ∷ es) sorted (inr there) =
+      let halves = parts (below_all cmp e.0 es) (is_sorted cmp es) sorted in
+      let apart : eq_by_cmp cmp q e.0 ≡ false = (eq_by_cmp_equiv order.total).symm q e.0 ∙ apart_if_less (cmp e.0 q) (below_has e.0 q v es halves.0 there) in
+      rw apart (has_found q v es halves.1 there)
+
+  pub entry_got : (m : FinMap cmp X) (q : K) (v : X) → Has (entries m) (q, v) → get m q ≡ Some v
+  entry_got m q v here = get-entries m q ∙ has_found q v (entries m) (entries_sorted m) here
+
+  pub got_entry : (m : FinMap cmp X) (q : K) (v : X) → get m q ≡ Some v → Has (entries m) (q, v)
+  got_entry m q v is = found_has q v (entries m) (sym (get-entries m q) ∙ is)

@@ -1,0 +1,14 @@
+use Rattle.std.proofs.Common.{◌≡◌, ◌∙◌, ◌≤◌, ◌<◌, All, length, sym, subst, true≢false, arith}
+use Rattle.std.proofs.lemmas.List.{take_all}
+use Rattle.std.proofs.lemmas.List.Elements.{All-more}
+use Rattle.sqlite.specs.Order.{Row}
+use Rattle.rd_store.specs.Shown.{ShowsOther}
+use Rattle.rd_store.proofs.keys.show_other.Goals as goal
+
+pub loop-row-preserved : goal.loop-row-preserved
+loop-row-preserved c =
+    All-more (λ (row : Row). ¬ ShowsOther c.args.digest.now row) c.args.rows.now c.loop-row.row-index c.row-item.result (omega (arith, c.loop-row-test.true)) c.loop-row.invariant
+    (subst (λ (row : Row). ¬ ShowsOther c.args.digest.now row) c.row-item.is (λ shows. true≢false (sym (c.in_ok-shows_other.ensures.other.1 shows) ∙ c.if-branch.false)))
+
+pub returns-clause-other : goal.returns-clause-other
+returns-clause-other c = subst (All (λ (row : Row). ¬ ShowsOther c.args.digest.now row)) (take_all c.loop-row.row-index c.args.rows.now (omega (arith, c.loop-row-test.false))) c.loop-row.invariant
