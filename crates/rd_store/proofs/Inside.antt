@@ -17,6 +17,7 @@ use Rattle.sqlite.proofs.Callers.{survives_begin}
 use Rattle.sqlite.proofs.StateLemmas.{survives_then}
 use Rattle.rd_tables.proofs.Running.{IsWrite, Makes, inside_keeps, ran}
 use Rattle.rd_store.specs.Held.{Moves, IsOpen, IsClean}
+use Rattle.rd_store.specs.Created.{IsAt, Turns}
 
 -- ---- one statement
 
@@ -70,22 +71,6 @@ stopped g old new P Q R e (Err b) is h = record { quiet = h.quiet; kept = h.kept
 stopped g old new P Q R e (Ok b) is h = absurd (true≢false (sym is))
 
 -- ---- the whole
-
--- Outside a transaction, with nothing to commit.
-pub record IsAt (P : Database → Type 0) (s : State) : Type 0 where
-  pub settled : s.committed ≡ s.now
-  pub autocommit : s.in_transaction ≡ false
-  pub holds : P s.now
-
--- A transaction from a database of which Before holds: after Ok one of which After holds is there and
--- committed, and after an error the old one.
-pub record Turns {S T X : Type 0} (g : Ghosts S) (old new : Held S) (After : Database → Type 0) (result : Result T X) : Type 0 where
-  pub was_open : IsOpen g new → IsOpen g old
-  pub ok : IsOpen g new → OnOk result (IsAt After (state g new))
-  pub err : IsOpen g new → OnErr result (IsAt (λ db. db ≡ (state g old).now) (state g new))
-  pub clean : IsClean g new → IsClean g old
-  pub stands : IsOpen g old → IsClean g new → OnOk result (IsOpen g new)
-  pub crash : IsOpen g old → IsClean g new → (left : Trees) → g.recovers new.store left → g.recovers old.store left ⊎ ((db : Database) × After db × (left ≡ db.trees))
 
 abbrev pub begun : {S : Type 0} → Held S → Held S
 begun h = record h { in_transaction = true }

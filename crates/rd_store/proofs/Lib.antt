@@ -7,3 +7,4 @@ pub mod Inside
 pub mod Whole
 pub mod Making
 pub mod Lawful
+pub mod Creating

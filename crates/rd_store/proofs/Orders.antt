@@ -1,7 +1,7 @@
 -- The orders of the keys, and that columns spell the entry that they come from.
 use Rattle.std.proofs.Common.{◌≡◌, ℕ, ℤ, List, Option, Some, None, true, false, refl, ap, ◌∙◌, arith, nat_cmp}
-use Rattle.std.specs.FinMap.{nat_cmp-IsAntisymmetric, slice_cmp-IsAntisymmetric}
-use Rattle.std.proofs.lemmas.Cmp.{nat_cmp_total, nat_list_cmp_total, then_total, on_total}
+use Rattle.std.specs.FinMap.{nat_cmp-IsAntisymmetric, int_cmp-IsAntisymmetric, slice_cmp-IsAntisymmetric}
+use Rattle.std.proofs.lemmas.Cmp.{nat_cmp_total, nat_list_cmp_total, int_cmp_total, then_total, on_total}
 use Rattle.sqlite.specs.declared.types.Value.TheVariants.{Int}
 use Rattle.sqlite.specs.Values.{or_null}
 use Rattle.sqlite_value.proofs.KeyLemmas.{then_tied}
@@ -18,7 +18,7 @@ use Rattle.rd_policy.specs.declared.select.Select.{Select}
 use Rattle.rd_policy.specs.declared.select.Select.TheVariants.{All, Slot, Prefix, User, Kind as OfKind}
 use Rattle.rd_tables.proofs.Entries.{IsKeyOrder}
 use Rattle.rd_store.specs.Codes.{kind_code, kind_in, band_code, band_in, effect_code, effect_in, audiences_code, audiences_in, audience_code, audience_in, how, number, word, select_in, day_in}
-use Rattle.rd_store.specs.State.{Place, Terms, place_cmp, digest_cmp}
+use Rattle.rd_store.specs.State.{Place, Terms, Checkup, place_cmp, digest_cmp, checkup_cmp}
 use Rattle.rd_store.specs.Spelled.{key_sheet, rule_sheet}
 
 pub number_order : IsKeyOrder nat_cmp
@@ -43,6 +43,16 @@ place_order = record {
       let scope = nat_cmp-IsAntisymmetric _ _ second.0 in
       let rank = nat_cmp-IsAntisymmetric _ _ second.1 in
       λ i. record { band = band i; scope = scope i; rank = rank i };
+}
+
+pub checkup_order : IsKeyOrder checkup_cmp
+checkup_order = record {
+  total = then_total (on_total (λ (checkup : Checkup). checkup.acc) nat_cmp_total) (on_total (λ (checkup : Checkup). checkup.day) int_cmp_total);
+  same = λ x y tied.
+      let both = then_tied _ _ tied in
+      let acc = nat_cmp-IsAntisymmetric _ _ both.0 in
+      let day = int_cmp-IsAntisymmetric _ _ both.1 in
+      λ i. record { acc = acc i; day = day i };
 }
 
 -- ---- what is written is read back

@@ -35,7 +35,7 @@ module _ {S : Type 0} (g : Ghosts S) (laws : Laws g) (text : List ℕ) (params :
     committed = λ is_open. (same is_open).committed;
     autocommit = λ is_open. let at = same is_open in at.autocommit ∙ (held at.was_open).autocommit;
     clean = λ clean. omega (arith, survives.clean, clean);
-    quiet = λ was. read_survives text params (state g old) (state g new) (held was).schema plain survives;
+    quiet = λ was clean. read_survives text params (state g old) (state g new) (held was).schema plain survives;
   }
 
   pub shown_stays : (rows : List Row) → (IsClean g new → Shown text params (state g old) (state g new) rows) → Stays g old new

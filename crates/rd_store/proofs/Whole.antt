@@ -9,7 +9,7 @@ use Rattle.rd_store.specs.Spelled.{desk_of}
 use Rattle.rd_store.specs.Held.{IsOf, Holds, IsDeskAt, HoldsDesk, Changes, IsOpen, desk}
 use Rattle.rd_store.proofs.Laws.{Laws, leaves_only, left_is}
 use Rattle.rd_store.proofs.Single.{rests_on, rests_as}
-use Rattle.rd_store.proofs.Inside.{IsAt, Turns}
+use Rattle.rd_store.specs.Created.{IsAt, Turns}
 
 module _ {S : Type 0} (g : Ghosts S) (old new : Held S) (holds : HoldsDesk (state g old)) where
   -- where a transaction begins

@@ -86,13 +86,13 @@ pub record Keeps {S : Type 0} (g : Ghosts S) (old new : Held S) : Type 0 where
   pub clean : IsClean g new → IsClean g old
   pub crash : IsOpen g old → IsClean g new → LeavesOnly g new (desk g old)
 
--- Why a call is refused: Missing exactly where something is missing, then Conflict exactly where something
--- conflicts, and Sql for want of memory or of the store.
+-- Why a call is refused: Missing exactly where something is not there, then Conflict exactly where
+-- something conflicts, and Sql for want of memory or of the store.
 abbrev pub Judges : {T : Type 0} → Type 0 → Type 0 → Result T StoreFault → Type 0
-Judges IsMissing Conflicts (Ok value) = (¬ IsMissing) × (¬ Conflicts)
-Judges IsMissing Conflicts (Err Missing) = IsMissing
-Judges IsMissing Conflicts (Err Conflict) = (¬ IsMissing) × Conflicts
-Judges IsMissing Conflicts (Err Sql) = ⊤
+Judges IsThere Conflicts (Ok value) = IsThere × ¬ Conflicts
+Judges IsThere Conflicts (Err Missing) = ¬ IsThere
+Judges IsThere Conflicts (Err Conflict) = IsThere × Conflicts
+Judges IsThere Conflicts (Err Sql) = ⊤
 
 -- ---- inside
 
@@ -103,7 +103,7 @@ pub record Stays {S : Type 0} (g : Ghosts S) (old new : Held S) : Type 0 where
   pub committed : IsOpen g new → (state g new).committed ≡ (state g old).committed
   pub autocommit : IsOpen g new → (state g new).in_transaction ≡ false
   pub clean : IsClean g new → IsClean g old
-  pub quiet : IsOpen g old → Survives (state g old) (state g new) (λ _. ⊥)
+  pub quiet : IsOpen g old → IsClean g new → Survives (state g old) (state g new) (λ _. ⊥)
 
 -- A call inside a transaction, from a database of which Before holds. Nothing is committed, and after Ok
 -- the transaction goes on, with a database of which After holds.

@@ -4,3 +4,4 @@ pub mod Lawful
 pub mod Spelled
 pub mod Held
 pub mod Shown
+pub mod Created

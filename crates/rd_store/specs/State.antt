@@ -1,5 +1,5 @@
 -- What a desk holds: finite maps, and what each accepted command makes of them.
-use Rattle.std.specs.Prelude.{◌≡◌, ◌≢◌, ℕ, ℤ, List, Option, Some, None, IsSome, map}
+use Rattle.std.specs.Prelude.{◌≡◌, ◌≢◌, ℕ, ℤ, List, [], ◌++◌, Option, Some, None, IsSome, map}
 use Rattle.std.specs.declared.cmp.Ordering.{Ordering}
 use Rattle.std.specs.Cmp.Lexicographic.{slice_cmp}
 use Rattle.std.specs.Ordering.{nat_cmp, int_cmp, on, then_cmp}
@@ -16,7 +16,7 @@ use Rattle.rd_policy.specs.declared.select.Select.{Select}
 use Rattle.rd_store.specs.declared.rows.DeedRow.{DeedRow}
 use Rattle.rd_store.specs.declared.rows.ImageRow.{ImageRow}
 use Rattle.rd_store.specs.declared.rows.Outcome.{Outcome}
-use Rattle.rd_store.specs.Codes.{band_code}
+use Rattle.rd_store.specs.Codes.{band_code, is_at}
 
 -- The place of a rule: its band, the number of its accession or deed, and its rank.
 pub record Place : Type 0 where
@@ -105,7 +105,15 @@ HasOtherImage desk acc image = (standing : ImageRow) × (get desk.images acc ≡
 
 -- the rules of one band and scope, by rank
 abbrev pub rules_at : Desk → Band → ℕ → List Rule
-rules_at desk band scope = map rule_of (entries (retain_keys desk.rules (λ place. Rattle.rd_store.specs.Codes.is_at band scope place.band place.scope)))
+rules_at desk band scope = map rule_of (entries (retain_keys desk.rules (λ place. is_at band scope place.band place.scope)))
+
+abbrev pub rules_with : Desk → ℕ → Option ImageRow → List Rule
+rules_with desk acc None = []
+rules_with desk acc (Some image) = rules_at desk Takedown acc ++ rules_at desk Deed image.deed
+
+-- the takedowns of an accession and then the rules of its deed, each by rank; none where it is not there
+abbrev pub rules_for : Desk → ℕ → List Rule
+rules_for desk acc = rules_with desk acc (get desk.images acc)
 
 -- ---- what the commands make of it
 

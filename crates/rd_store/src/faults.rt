@@ -1,3 +1,5 @@
+use sqlite::{Alter, Connection};
+
 /// Why a call of the store is refused. All is then as it was.
 #[derive(Clone, Copy, Debug, PartialEq, Eq, Hash)]
 pub enum StoreFault {
@@ -7,4 +9,21 @@ pub enum StoreFault {
     Missing,
     /// Something else stands there, or no staff key would be left.
     Conflict,
+}
+
+/// Why no desk is made.
+#[derive(Clone, Copy, Debug, PartialEq, Eq, Hash)]
+pub enum CreateFault {
+    /// A table `desk` stands.
+    Exists,
+    /// Other tables stand, the database failed, or memory was wanting.
+    Sql,
+}
+
+/// Why a connection is no store, and the connection.
+pub struct Refused<F, S: Alter> {
+    /// Why.
+    pub fault: F,
+    /// The connection, whose database is as it was.
+    pub conn: Connection<S>,
 }

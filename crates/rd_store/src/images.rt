@@ -4,13 +4,14 @@ ghost use Rattle.std.specs.Option.{option_to_list};
 ghost use Rattle.sqlite.specs.Held.{state};
 ghost use Rattle.sqlite.specs.Order.{column};
 ghost use Rattle.rd_tables.specs.Sheets.{natural};
-ghost use Rattle.rd_store.specs.Held.{Changes, HoldsDesk, IsOpen, Stays, StaysOpen, desk};
+ghost use Rattle.rd_store.specs.Held.{Changes, HoldsDesk, IsOpen, Judges, Stays, StaysOpen, desk};
 ghost use Rattle.rd_store.specs.Lawful.{IsImage};
 ghost use Rattle.rd_store.specs.Shown.{accession_shown, image_shown, label_of, label_shown};
-ghost use Rattle.rd_store.specs.State.{with_image};
+ghost use Rattle.rd_store.specs.State.{HasOtherImage, with_image};
 
 use crate::codes;
 use crate::decode::{bytes_at, digest_at, kind, number_at};
+use crate::deeds;
 use crate::faults::StoreFault;
 use crate::read::read_all;
 use crate::rows::ImageRow;
@@ -20,7 +21,7 @@ use sqlite::{Alter, Connection, Error, Row, params};
 use std::alloc::Global;
 
 /// An image without its bytes.
-#[derive(Debug)]
+#[derive(Debug, Drop)]
 pub(crate) struct Label {
     pub(crate) kind: Kind,
     pub(crate) deed: u32,
@@ -201,4 +202,39 @@ pub(crate) fn insert_image<S: Alter>(
         "INSERT INTO image (acc, kind, deed, digest, bytes) VALUES (?1, ?2, ?3, ?4, ?5)",
         params![acc, code, deed, sum, bytes],
     )
+}
+
+/// Puts an image where none stands. The same kind, deed and digest again change nothing.
+pub(crate) fn put_image<S: Alter>(
+    conn: &mut Connection<S>,
+    acc: u32,
+    kind: Kind,
+    deed: u32,
+    digest: &[u8; 32],
+    bytes: &[u8],
+) -> Result<(), StoreFault>
+    requires holds { HoldsDesk (state S.Store conn.old) }
+    requires image { IsImage acc (record { kind = kind; deed = deed; digest = digest.now; bytes = bytes.now }) }
+    ensures kept { HoldsDesk (state S.Store conn.new) }
+    ensures changes { Changes S.Store conn.old conn.new
+        (with_image acc (record { kind = kind; deed = deed; digest = digest.now; bytes = bytes.now }) (desk S.Store conn.old)) result }
+    ensures judges { IsOpen S.Store conn.new → Judges (IsSome (get (desk S.Store conn.old).deeds deed))
+        (HasOtherImage (desk S.Store conn.old) acc (record { kind = kind; deed = deed; digest = digest.now; bytes = bytes.now })) result }
+{
+    if deeds::deed(conn, deed)?.is_none() {
+        return Err(StoreFault::Missing);
+    }
+    match label_at(conn, acc)? {
+        Some(label) => {
+            if label.kind == kind && label.deed == deed && label.digest == *digest {
+                Ok(())
+            } else {
+                Err(StoreFault::Conflict)
+            }
+        }
+        None => match insert_image(conn, acc, kind, deed, digest, bytes) {
+            Ok(_) => Ok(()),
+            Err(_) => Err(StoreFault::Sql),
+        },
+    }
 }

@@ -1,13 +1,13 @@
-ghost use Rattle.std.specs.Prelude.{◌≡◌, ◌⊎◌, ◌↔◌, All, false, IfOk, IfErr, IsTrue, MatchBool, None, map};
+ghost use Rattle.std.specs.Prelude.{◌≡◌, ◌≢◌, ◌⊎◌, ◌↔◌, ⊤, All, false, IfOk, IfErr, IsTrue, MatchBool, None, map};
 ghost use Rattle.std.specs.List.{Any};
 ghost use Rattle.std.specs.FinMap.{entries, get};
 ghost use Rattle.std.specs.Option.{option_to_list};
 ghost use Rattle.sqlite.specs.Held.{state};
-ghost use Rattle.rd_store.specs.Held.{Changes, HoldsDesk, IsOf, IsOpen, Moves, Stays, StaysOpen, desk};
+ghost use Rattle.rd_store.specs.Held.{Changes, HoldsDesk, IsOf, IsOpen, Judges, Moves, Stays, StaysOpen, desk};
 ghost use Rattle.rd_store.specs.Lawful.{IsKey};
 ghost use Rattle.rd_store.specs.Shown.{ShowsOther, audience_shown};
 ghost use Rattle.rd_store.specs.Spelled.{key_sheet};
-ghost use Rattle.rd_store.specs.State.{HasOtherStaff, with_key, without_key};
+ghost use Rattle.rd_store.specs.State.{HasOtherStaff, IsLastStaff, with_key, without_key};
 
 use crate::codes;
 use crate::decode::{audience, digest_at, number_at};
@@ -144,7 +144,7 @@ fn delete_digest<S: Alter>(
 }
 
 /// Puts a desk key where none stands, inside a transaction.
-fn insert_key<S: Alter>(
+pub(crate) fn insert_key<S: Alter>(
     tx: &mut Transaction<'_, S>,
     digest: &[u8; 32],
     audience: Audience,
@@ -178,4 +178,48 @@ pub(crate) fn write_key<S: Alter>(
     delete_digest(&mut tx, digest)?;
     insert_key(&mut tx, digest, audience)?;
     tx.commit()
+}
+
+/// Puts a desk key, in place of one with its digest, where a staff key is left.
+pub(crate) fn put_key<S: Alter>(
+    conn: &mut Connection<S>,
+    digest: &[u8; 32],
+    audience: Audience,
+) -> Result<(), StoreFault>
+    requires holds { HoldsDesk (state S.Store conn.old) }
+    requires key { IsKey digest.now audience }
+    ensures kept { HoldsDesk (state S.Store conn.new) }
+    ensures changes { Changes S.Store conn.old conn.new (with_key digest.now audience (desk S.Store conn.old)) result }
+    ensures judges { IsOpen S.Store conn.new → Judges ⊤
+        ((audience ≢ Audience.Staff) × IsLastStaff (desk S.Store conn.old) digest.now) result }
+{
+    if audience != Audience::Staff && !has_other_staff(conn, digest)? {
+        return Err(StoreFault::Conflict);
+    }
+    if !conn.is_autocommit() {
+        return Err(StoreFault::Sql);
+    }
+    match write_key(conn, digest, audience) {
+        Ok(()) => Ok(()),
+        Err(_) => Err(StoreFault::Sql),
+    }
+}
+
+/// Takes a desk key away, if it is there, where a staff key is left.
+pub(crate) fn drop_key<S: Alter>(
+    conn: &mut Connection<S>,
+    digest: &[u8; 32],
+) -> Result<(), StoreFault>
+    requires holds { HoldsDesk (state S.Store conn.old) }
+    ensures kept { HoldsDesk (state S.Store conn.new) }
+    ensures changes { Changes S.Store conn.old conn.new (without_key digest.now (desk S.Store conn.old)) result }
+    ensures judges { IsOpen S.Store conn.new → Judges ⊤ (IsLastStaff (desk S.Store conn.old) digest.now) result }
+{
+    if !has_other_staff(conn, digest)? {
+        return Err(StoreFault::Conflict);
+    }
+    match delete_key(conn, digest) {
+        Ok(_) => Ok(()),
+        Err(_) => Err(StoreFault::Sql),
+    }
 }

@@ -3,6 +3,7 @@
 #![tactic(auto)]
 
 mod codes;
+mod create;
 mod deeds;
 mod decode;
 mod faults;
@@ -13,6 +14,6 @@ mod rows;
 mod rules;
 mod store;
 
-pub use faults::StoreFault;
+pub use faults::{CreateFault, Refused, StoreFault};
 pub use rows::{DeedRow, ImageRow, Outcome};
 pub use store::Store;

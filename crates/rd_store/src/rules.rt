@@ -1,18 +1,19 @@
-ghost use Rattle.std.specs.Prelude.{◌≡◌, false, IfOk, IfErr, None, map};
+ghost use Rattle.std.specs.Prelude.{◌≡◌, ◌++◌, false, IfOk, IfErr, MatchBool, None, map};
 ghost use Rattle.std.specs.FinMap.{entries, get, retain_keys};
 ghost use Rattle.sqlite.specs.Held.{state};
 ghost use Rattle.sqlite.specs.Order.{column};
 ghost use Rattle.sqlite_value.specs.Order.{bytes};
 ghost use Rattle.rd_tables.specs.Sheets.{natural};
 ghost use Rattle.rd_store.specs.Codes.{is_at, select_in};
-ghost use Rattle.rd_store.specs.Held.{Changes, HoldsDesk, IsOf, IsOpen, Moves, Stays, StaysOpen, desk};
+ghost use Rattle.rd_store.specs.Held.{Changes, HoldsDesk, IsOf, IsOpen, Judges, Moves, Stays, StaysOpen, desk};
 ghost use Rattle.rd_store.specs.Spelled.{rule_sheet};
 ghost use Rattle.rd_policy.specs.Rules.{IsRule};
-ghost use Rattle.rd_store.specs.State.{Stands, place_of, rule_of, rules_at, terms_of, with_rule, without_rule};
+ghost use Rattle.rd_store.specs.State.{Stands, place_of, rule_of, rules_at, rules_for as rules_for_accession, terms_of, with_rule, without_rule};
 
 use crate::codes;
 use crate::decode::{audiences, band, effect, number_at, select, some_day_at, text_at};
 use crate::faults::StoreFault;
+use crate::{deeds, images};
 use crate::read::read_all;
 use rd_policy::{Band, Rule, Select};
 use sqlite::types::ToSql;
@@ -190,4 +191,106 @@ pub(crate) fn write_rule<S: Alter>(conn: &mut Connection<S>, rule: &Rule) -> Res
     delete_place(&mut tx, rule)?;
     insert_rule(&mut tx, rule)?;
     tx.commit()
+}
+
+/// Whether the accession or the deed of a rule stands.
+fn stands<S: Alter>(conn: &mut Connection<S>, band: Band, scope: u32) -> Result<bool, StoreFault>
+    requires holds { HoldsDesk (state S.Store conn.old) }
+    ensures stand { IsOpen S.Store conn.new → IfOk result (λ stand. MatchBool stand
+        (Stands (desk S.Store conn.old) band scope) (¬ Stands (desk S.Store conn.old) band scope)) }
+    ensures stays { Stays S.Store conn.old conn.new }
+    ensures stands { StaysOpen S.Store conn.old conn.new result }
+    ensures kept { HoldsDesk (state S.Store conn.new) }
+    ensures fault { IfErr result (λ fault. fault ≡ StoreFault.Sql) }
+{
+    match band {
+        Band::Takedown => Ok(images::label_at(conn, scope)?.is_some()),
+        Band::Deed => Ok(deeds::deed(conn, scope)?.is_some()),
+    }
+}
+
+/// Puts a rule, in place of one at its place, where its accession or deed stands.
+pub(crate) fn put_rule<S: Alter>(conn: &mut Connection<S>, rule: &Rule) -> Result<(), StoreFault>
+    requires holds { HoldsDesk (state S.Store conn.old) }
+    requires rule { IsRule rule.now }
+    ensures kept { HoldsDesk (state S.Store conn.new) }
+    ensures changes { Changes S.Store conn.old conn.new
+        (with_rule (place_of rule.now) (terms_of rule.now) (desk S.Store conn.old)) result }
+    ensures judges { IsOpen S.Store conn.new → Judges (Stands (desk S.Store conn.old) rule.now.band rule.now.scope) ⊥ result }
+{
+    if !stands(conn, rule.band, rule.scope)? {
+        return Err(StoreFault::Missing);
+    }
+    if !conn.is_autocommit() {
+        return Err(StoreFault::Sql);
+    }
+    match write_rule(conn, rule) {
+        Ok(()) => Ok(()),
+        Err(_) => Err(StoreFault::Sql),
+    }
+}
+
+/// Takes a rule away, if it is there, where its accession or deed stands.
+pub(crate) fn drop_rule<S: Alter>(
+    conn: &mut Connection<S>,
+    band: Band,
+    scope: u32,
+    rank: u16,
+) -> Result<(), StoreFault>
+    requires holds { HoldsDesk (state S.Store conn.old) }
+    ensures kept { HoldsDesk (state S.Store conn.new) }
+    ensures changes { Changes S.Store conn.old conn.new
+        (without_rule (record { band = band; scope = scope; rank = rank }) (desk S.Store conn.old)) result }
+    ensures judges { IsOpen S.Store conn.new → Judges (Stands (desk S.Store conn.old) band scope) ⊥ result }
+{
+    if !stands(conn, band, scope)? {
+        return Err(StoreFault::Missing);
+    }
+    match delete_rule(conn, band, scope, rank) {
+        Ok(_) => Ok(()),
+        Err(_) => Err(StoreFault::Sql),
+    }
+}
+
+/// The takedowns of an accession and the rules of a deed.
+fn rules_of_both<S: Alter>(
+    alloc: Global,
+    conn: &mut Connection<S>,
+    acc: u32,
+    deed: u32,
+) -> Result<Vec<Rule>, StoreFault>
+    requires holds { HoldsDesk (state S.Store conn.old) }
+    ensures answer { IsOpen S.Store conn.new → IfOk result (λ rules.
+        rules.items ≡ rules_at (desk S.Store conn.old) Band.Takedown acc ++ rules_at (desk S.Store conn.old) Band.Deed deed) }
+    ensures stays { Stays S.Store conn.old conn.new }
+    ensures stands { StaysOpen S.Store conn.old conn.new result }
+    ensures kept { HoldsDesk (state S.Store conn.new) }
+    ensures fault { IfErr result (λ fault. fault ≡ StoreFault.Sql) }
+{
+    let mut rules = rules_of(alloc, conn, Band::Takedown, acc)?;
+    let mut more = rules_of(alloc, conn, Band::Deed, deed)?;
+    if rules.append(&mut more).is_err() {
+        return Err(StoreFault::Sql);
+    }
+    Ok(rules)
+}
+
+/// The rules that decide on the files of an accession, in their order; none where it is not there.
+pub(crate) fn rules_for<S: Alter>(
+    alloc: Global,
+    conn: &mut Connection<S>,
+    acc: u32,
+) -> Result<Vec<Rule>, StoreFault>
+    requires holds { HoldsDesk (state S.Store conn.old) }
+    ensures answer { IsOpen S.Store conn.new → IfOk result (λ rules.
+        rules.items ≡ rules_for_accession (desk S.Store conn.old) acc) }
+    ensures stays { Stays S.Store conn.old conn.new }
+    ensures stands { StaysOpen S.Store conn.old conn.new result }
+    ensures kept { HoldsDesk (state S.Store conn.new) }
+    ensures fault { IfErr result (λ fault. fault ≡ StoreFault.Sql) }
+{
+    match images::label_at(conn, acc)? {
+        Some(label) => rules_of_both(alloc, conn, acc, label.deed),
+        None => Ok(Vec::new(alloc)),
+    }
 }

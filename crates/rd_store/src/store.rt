@@ -1,16 +1,20 @@
-ghost use Rattle.std.specs.Prelude.{◌≡◌, ◌≢◌, ◌++◌, IfOk, IfErr, IsNone, option_map};
+ghost use Rattle.std.specs.Prelude.{◌≡◌, ◌≢◌, ⊤, false, IfOk, IfErr, IsSome, MatchBool};
 ghost use Rattle.std.specs.FinMap.{get, keys};
 ghost use Rattle.sqlite.specs.Held.{state};
 ghost use Rattle.rd_policy.specs.Rules.{IsRule};
-ghost use Rattle.rd_store.specs.Held.{Changes, IsOpen, Judges, Keeps, StaysOpen, desk};
+ghost use Rattle.rd_store.specs.Created.{IsBlank, IsUntouched, LeavesOldOr, new_desk};
+ghost use Rattle.rd_store.specs.Held.{Changes, IsOpen, Judges, Keeps, LeavesOnly, StaysOpen, desk};
+ghost use Rattle.rd_tables.specs.Schemas.{has_desk};
 ghost use Rattle.rd_store.specs.Lawful.{IsDeed, IsImage, IsKey};
-ghost use Rattle.rd_store.specs.State.{HasOtherImage, IsLastStaff, Stands, place_of, terms_of, with_deed, with_image, with_key, with_rule, without_key, without_rule};
+ghost use Rattle.rd_store.specs.State.{HasOtherImage, IsLastStaff, Stands, place_of, rules_for, terms_of, with_deed, with_image, with_key, with_rule, without_key, without_rule};
 
-use crate::faults::StoreFault;
+use crate::create;
+use crate::faults::{CreateFault, Refused, StoreFault};
 use crate::rows::{DeedRow, ImageRow};
 use crate::{deeds, images, keys, rules};
 use rd_geometry::Kind;
 use rd_policy::{Audience, Band, Rule};
+use rd_tables::{has_desk as has_desk_table, is_blank};
 use sqlite::{Alter, Connection};
 use std::alloc::Global;
 use std::marker::Model;
@@ -40,6 +44,46 @@ impl<S: Alter + Drop> Drop for Store<S> {
 }
 
 impl<S: Alter> Store<S> {
+    /// Makes a desk with one staff key in a database without tables. The connection is outside a
+    /// transaction.
+    ///
+    /// It fails with `Exists` where a table `desk` stands, and with `Sql`, also where another table or a
+    /// view stands.
+    pub fn create(
+        mut conn: Connection<S>,
+        staff: &[u8; 32],
+    ) -> Result<Store<S>, Refused<CreateFault, S>>
+        requires outside { conn.in_transaction ≡ false }
+        ensures desk { IfOk result (λ store. IsOpen S.Store store → desk S.Store store ≡ new_desk staff.now) }
+        ensures blank { IfOk result (λ store. IsBlank conn.schema) }
+        ensures exists { IfErr result (λ refused. MatchBool (has_desk conn.schema)
+            (refused.fault ≡ CreateFault.Exists) (refused.fault ≡ CreateFault.Sql)) }
+        ensures untouched { IfErr result (λ refused. IsOpen S.Store refused.conn → IsUntouched S.Store conn refused.conn) }
+        ensures crash_ok { IfOk result (λ store. LeavesOldOr S.Store conn store (new_desk staff.now)) }
+        ensures crash_err { IfErr result (λ refused. LeavesOldOr S.Store conn refused.conn (new_desk staff.now)) }
+        ensures durable { IfOk result (λ store. IsOpen S.Store store → LeavesOnly S.Store store (new_desk staff.now)) }
+    {
+        if has_desk_table(conn.schema()) {
+            return Err(Refused {
+                fault: CreateFault::Exists,
+                conn,
+            });
+        }
+        if !is_blank(conn.schema()) || !conn.is_autocommit() {
+            return Err(Refused {
+                fault: CreateFault::Sql,
+                conn,
+            });
+        }
+        match create::write_desk(&mut conn, staff) {
+            Ok(()) => Ok(Store { conn }),
+            Err(_) => Err(Refused {
+                fault: CreateFault::Sql,
+                conn,
+            }),
+        }
+    }
+
     /// Gives the connection back, with the rows of the desk.
     pub fn into_connection(self) -> Connection<S>
         ensures { result ≡ self }
@@ -115,16 +159,84 @@ impl<S: Alter> Store<S> {
         }
     }
 
+    /// Puts an image where none stands. The same kind, deed and digest again are done, and change
+    /// nothing, whatever the bytes.
+    ///
+    /// It fails with `Missing` where there is no such deed, with `Conflict` where another kind, deed or
+    /// digest stands at the accession, and with `Sql`.
+    pub fn put_image(
+        &mut self,
+        acc: u32,
+        kind: Kind,
+        deed: u32,
+        digest: &[u8; 32],
+        bytes: &[u8],
+    ) -> Result<(), StoreFault>
+        requires image { IsImage acc (record { kind = kind; deed = deed; digest = digest.now; bytes = bytes.now }) }
+        ensures changes { Changes S.Store self.old self.new
+            (with_image acc (record { kind = kind; deed = deed; digest = digest.now; bytes = bytes.now }) (desk S.Store self.old)) result }
+        ensures judges { IsOpen S.Store self.new → Judges (IsSome (get (desk S.Store self.old).deeds deed))
+            (HasOtherImage (desk S.Store self.old) acc (record { kind = kind; deed = deed; digest = digest.now; bytes = bytes.now })) result }
+    {
+        images::put_image(&mut self.conn, acc, kind, deed, digest, bytes)
+    }
+
+    /// Puts a rule, in place of one of its band, number and rank.
+    ///
+    /// It fails with `Missing` where there is no such accession or deed, and with `Sql`.
+    pub fn put_rule(&mut self, rule: &Rule) -> Result<(), StoreFault>
+        requires rule { IsRule rule.now }
+        ensures changes { Changes S.Store self.old self.new
+            (with_rule (place_of rule.now) (terms_of rule.now) (desk S.Store self.old)) result }
+        ensures judges { IsOpen S.Store self.new → Judges (Stands (desk S.Store self.old) rule.now.band rule.now.scope) ⊥ result }
+    {
+        rules::put_rule(&mut self.conn, rule)
+    }
+
     /// Takes a rule away, if it is there.
     ///
-    /// It fails with `Sql`.
+    /// It fails with `Missing` where there is no such accession or deed, and with `Sql`.
     pub fn drop_rule(&mut self, band: Band, scope: u32, rank: u16) -> Result<(), StoreFault>
         ensures changes { Changes S.Store self.old self.new
             (without_rule (record { band = band; scope = scope; rank = rank }) (desk S.Store self.old)) result }
+        ensures judges { IsOpen S.Store self.new → Judges (Stands (desk S.Store self.old) band scope) ⊥ result }
     {
-        match rules::delete_rule(&mut self.conn, band, scope, rank) {
-            Ok(_) => Ok(()),
-            Err(_) => Err(StoreFault::Sql),
-        }
+        rules::drop_rule(&mut self.conn, band, scope, rank)
+    }
+
+    /// Puts a desk key by its digest, for the reading room or the staff, in place of one with it.
+    ///
+    /// It fails with `Conflict` where the last staff key would go, and with `Sql`.
+    pub fn put_key(&mut self, digest: &[u8; 32], audience: Audience) -> Result<(), StoreFault>
+        requires key { IsKey digest.now audience }
+        ensures changes { Changes S.Store self.old self.new (with_key digest.now audience (desk S.Store self.old)) result }
+        ensures judges { IsOpen S.Store self.new → Judges ⊤
+            ((audience ≢ Audience.Staff) × IsLastStaff (desk S.Store self.old) digest.now) result }
+    {
+        keys::put_key(&mut self.conn, digest, audience)
+    }
+
+    /// Takes a desk key away by its digest, if it is there.
+    ///
+    /// It fails with `Conflict` where it is the last staff key, and with `Sql`.
+    pub fn drop_key(&mut self, digest: &[u8; 32]) -> Result<(), StoreFault>
+        ensures changes { Changes S.Store self.old self.new (without_key digest.now (desk S.Store self.old)) result }
+        ensures judges { IsOpen S.Store self.new → Judges ⊤ (IsLastStaff (desk S.Store self.old) digest.now) result }
+    {
+        keys::drop_key(&mut self.conn, digest)
+    }
+
+    /// The rules that decide on the files of an accession: its takedowns by rank, and then the rules of
+    /// its deed by rank; none where it is not there.
+    ///
+    /// It fails with `Sql`.
+    pub fn rules_for(&mut self, alloc: Global, acc: u32) -> Result<Vec<Rule>, StoreFault>
+        ensures answer { IsOpen S.Store self.new → IfOk result (λ rules.
+            rules.items ≡ rules_for (desk S.Store self.old) acc) }
+        ensures keeps { Keeps S.Store self.old self.new }
+        ensures stands { StaysOpen S.Store self.old self.new result }
+        ensures fault { IfErr result (λ fault. fault ≡ StoreFault.Sql) }
+    {
+        rules::rules_for(alloc, &mut self.conn, acc)
     }
 }

@@ -9,6 +9,7 @@ use Rattle.sqlite.specs.Does.{lacks_sequence}
 use Rattle.sqlite.specs.Listing.{understood}
 use Rattle.sqlite.proofs.Callers.{IsPlain, command_of, statement_of}
 use Rattle.sqlite_tied.specs.Compute.{everything}
+use Rattle.rd_tables.proofs.Running.{IsWrite}
 use Rattle.rd_tables.specs.Schemas.{desk_table, deed_table, image_table, rule_table, badge_table, checked_table}
 use Rattle.rd_tables.specs.Statements.{desk_text, deed_text, image_text, rule_text, badge_text, checked_text, create_texts, schema_after}
 
@@ -55,3 +56,8 @@ creates (suc (suc (suc zero))) low = record { command = refl; plain = (refl, ref
 creates (suc (suc (suc (suc zero)))) low = record { command = refl; plain = (refl, refl); whole = refl; table = badge_table 0; defined = badge_defined; is = refl; unsequenced = refl }
 creates (suc (suc (suc (suc (suc zero))))) low = record { command = refl; plain = (refl, refl); whole = refl; table = checked_table 0; defined = checked_defined; is = refl; unsequenced = refl }
 creates (suc (suc (suc (suc (suc (suc i)))))) low = absurd (omega arith)
+
+pub creates_writes : (i : ℕ) → i < 6 → IsWrite (schema_after i) (get_or create_texts i []) CreateTable
+creates_writes i low =
+    let it = creates i low in
+    record { is = it.command; plain = it.plain; writes = λ old new statement params count h. h; no_commit = λ e. absurd cc; no_release = λ name e. absurd cc }

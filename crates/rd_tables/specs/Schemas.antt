@@ -1,13 +1,14 @@
 -- The tables of the desk as SQL understands their declarations. A column's place is one more than its
 -- number, since the rowid stands first; a tree is where the rows of a table or of its index lie.
 use Rattle.std.specs.Prelude.{◌≡◌, ℕ, ◌+◌, Bool, true, false, List, [], ◌∷◌, Option, Some, None, codes, pos}
-use Rattle.std.specs.List.{AllByRecursion}
+use Rattle.std.specs.List.{AllByRecursion, list_any}
 use Rattle.sqlite.specs.Collation.TheVariants.{Binary}
 use Rattle.sqlite.specs.declared.types.Value.TheVariants.{Null, Int}
 use Rattle.sqlite.specs.Table.{Table}
 use Rattle.sqlite.specs.Schema.{Schema}
 use Rattle.sqlite.specs.Kind.{Kind}
 use Rattle.sqlite.specs.Kind.TheVariants.{Integer, Text, Blob}
+use Rattle.sqlite_schema.specs.Names.{same_name}
 use Rattle.sqlite_schema.specs.declared.schema.Column.{Column}
 use Rattle.sqlite_schema.specs.declared.schema.Index.{Index}
 use Rattle.sqlite_schema.specs.declared.schema.Reference.{Reference}
@@ -125,3 +126,7 @@ pub record IsDeclaredTable (table : Table) : Type 0 where
 
 abbrev pub IsDeclared : Schema → Type 0
 IsDeclared schema = AllByRecursion IsDeclaredTable schema.tables
+
+-- a table `desk` stands, in small or capital letters
+abbrev pub has_desk : Schema → Bool
+has_desk schema = list_any (λ table. same_name table.name (codes "desk")) schema.tables

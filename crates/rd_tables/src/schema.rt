@@ -1,13 +1,12 @@
-ghost use Rattle.std.specs.Prelude.{◌≡◌, ◌↔◌, [], codes, IsTrue};
-ghost use Rattle.std.specs.List.{list_any};
-ghost use Rattle.sqlite_schema.specs.Names.{same_name};
+ghost use Rattle.std.specs.Prelude.{◌≡◌, [], IsTrue};
+ghost use Rattle.rd_tables.specs.Schemas.{has_desk};
 
 use sqlite_schema::names::same_name;
 use sqlite_schema::schema::Schema;
 
 /// Whether a table `desk` stands, in small or capital letters.
 pub fn has_desk(schema: &Schema) -> bool
-    ensures { result ≡ list_any (λ table. same_name table.name (codes "desk")) schema.now.tables }
+    ensures { result ≡ has_desk schema.now }
 {
     for table in schema.tables.as_slice() {
         if same_name(table.name.as_slice(), b"desk") {

@@ -1,0 +1,61 @@
+-- A new desk, and what becomes of the database in which it is made.
+use Rattle.std.specs.Prelude.{◌≡◌, ◌⊎◌, ℕ, false, List, [], Result, OnOk, OnErr}
+use Rattle.std.specs.List.{AllByRecursion}
+use Rattle.std.specs.FinMap.{from_entries}
+use Rattle.sqlite.specs.Tree.{Trees}
+use Rattle.sqlite.specs.Store.{Ghosts}
+use Rattle.sqlite.specs.Schema.{Schema}
+use Rattle.sqlite.specs.Effect.{Database, IsDatabase}
+use Rattle.sqlite.specs.State.{State}
+use Rattle.sqlite.specs.Held.{Held, state}
+use Rattle.rd_policy.specs.declared.audience.Audience.TheVariants.{Staff}
+use Rattle.rd_tables.specs.Statements.{schema_after}
+use Rattle.rd_store.specs.State.{Desk, with_key}
+use Rattle.rd_store.specs.Held.{IsOpen, IsClean, IsLeft}
+
+-- nothing at all
+abbrev pub empty_desk : Desk
+empty_desk = record { deeds = from_entries []; images = from_entries []; rules = from_entries []; keys = from_entries []; checks = from_entries [] }
+
+-- the one staff key
+abbrev pub new_desk : List ℕ → Desk
+new_desk staff = with_key staff Staff empty_desk
+
+-- no table and no view stands
+abbrev pub IsBlank : Schema → Type 0
+IsBlank schema = (schema.tables ≡ []) × (schema.views ≡ [])
+
+-- The connection was open, and shows the database that it showed.
+pub record IsUntouched {S : Type 0} (g : Ghosts S) (old new : Held S) : Type 0 where
+  pub was_open : IsOpen g old
+  pub now : (state g new).now ≡ (state g old).now
+  pub committed : (state g new).committed ≡ (state g old).committed
+  pub autocommit : (state g new).in_transaction ≡ (state g old).in_transaction
+
+-- a crash leaves what it left before, or this desk
+abbrev pub LeavesOldOr : {S : Type 0} → Ghosts S → Held S → Held S → Desk → Type 0
+LeavesOldOr g old new desk = IsOpen g old → IsClean g new → (left : Trees) → g.recovers new.store left → g.recovers old.store left ⊎ IsLeft desk left
+
+-- ---- inside
+
+-- So many of the tables are made, all empty.
+pub record IsMade (count : ℕ) (db : Database) : Type 0 where
+  pub schema : db.schema ≡ schema_after count
+  pub empty : AllByRecursion (λ table. db.trees table.tree ≡ []) (schema_after count).tables
+  pub sound : IsDatabase db
+
+-- Outside a transaction, with nothing to commit.
+pub record IsAt (P : Database → Type 0) (s : State) : Type 0 where
+  pub settled : s.committed ≡ s.now
+  pub autocommit : s.in_transaction ≡ false
+  pub holds : P s.now
+
+-- A transaction: after Ok a database of which After holds is there and committed, and after an error the
+-- old one.
+pub record Turns {S T X : Type 0} (g : Ghosts S) (old new : Held S) (After : Database → Type 0) (result : Result T X) : Type 0 where
+  pub was_open : IsOpen g new → IsOpen g old
+  pub ok : IsOpen g new → OnOk result (IsAt After (state g new))
+  pub err : IsOpen g new → OnErr result (IsAt (λ db. db ≡ (state g old).now) (state g new))
+  pub clean : IsClean g new → IsClean g old
+  pub stands : IsOpen g old → IsClean g new → OnOk result (IsOpen g new)
+  pub crash : IsOpen g old → IsClean g new → (left : Trees) → g.recovers new.store left → g.recovers old.store left ⊎ ((db : Database) × After db × (left ≡ db.trees))
