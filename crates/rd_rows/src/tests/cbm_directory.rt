@@ -1,6 +1,7 @@
+use super::plain::{directory, put_block, put_cbm_entry};
 use super::{cbm_disk, circle, repeated};
-use crate::cbm::{PROGRAM, formatted, mixed, put_block, put_cbm_entry};
-use rd_cbm::{End, directory};
+use crate::cbm::{PROGRAM, formatted, mixed};
+use rd_cbm::End;
 use std::test::Fail;
 
 #[test]
