@@ -68,7 +68,7 @@ def others(kind, command, path, name):
 
 
 def bench_case(desk, reference, cwd, case):
-    """Prints the ratios of a case, and gives the worst of each that something is owed of."""
+    """Prints the ratios of a case, and gives what is missed of that which is owed."""
     title, kind, image, name, slot = case
     path = os.path.join(cwd, "image")
     with open(path, "wb") as file:

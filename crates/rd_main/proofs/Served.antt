@@ -1,6 +1,5 @@
 -- The file that `cat` finds and writes, in the words of its contract.
-use Rattle.std.proofs.Common.{◌≡◌, ◌≢◌, ◌∙◌, ◌<◌, inr, ℕ, List, [], ◌∷◌, IsTrue, None, Option, Result, Some, Ok, Err, OnOk, IfErr, OnErr, All, Contains, arith, length, map, subst, sym}
-use Rattle.std.proofs.lemmas.List.{get_or-map, length-map}
+use Rattle.std.proofs.Common.{◌≡◌, ◌≢◌, inr, ℕ, List, IsTrue, None, Option, Result, Some, Ok, Err, OnOk, IfErr, OnErr, length, subst, sym}
 use Rattle.std.specs.Io.KnownBytes.{Appends}
 use Rattle.rd_geometry.specs.Kinds.{size_of}
 use Rattle.rd_geometry.specs.declared.kind.Kind.{Kind}
