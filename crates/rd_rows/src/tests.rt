@@ -8,7 +8,6 @@ mod disk;
 mod entries;
 mod faults;
 mod files;
-mod plain;
 mod refused;
 mod volumes;
 
@@ -16,8 +15,7 @@ ghost use Rattle.std.specs.Prelude.{◌≡◌, ◌<◌, length, vec_len, IfOk};
 
 use crate::bytes::put;
 use crate::cbm::put_block;
-use plain::cpm_files;
-use rd_cpm::CpmFile;
+use rd_cpm::{CpmFile, files};
 use rd_geometry::{CbmDisk, CpmDisk, Image, Kind, NoMemory};
 use std::alloc::Global;
 use std::test::Fail;
@@ -26,7 +24,7 @@ use std::test::Fail;
 fn files_of(alloc: Global, bytes: &[u8]) -> Result<Vec<CpmFile>, Fail> {
     let image = Image::new(Kind::Cpm8, bytes)?;
     let disk = CpmDisk::of(&image).ok_or("a CP/M disk")?;
-    Ok(cpm_files(alloc, &disk)?)
+    Ok(files(alloc, &disk)?)
 }
 
 /// The disk of a 1541 image.

@@ -1,7 +1,6 @@
-use super::plain::{block_map, put_block};
 use super::{cbm_disk, circle, repeated};
-use crate::cbm::{formatted, full, mixed, one_program};
-use rd_cbm::MapReport;
+use crate::cbm::{formatted, full, mixed, one_program, put_block};
+use rd_cbm::{MapReport, block_map};
 use std::alloc::Global;
 use std::test::Fail;
 

@@ -1,7 +1,6 @@
-use super::plain::{directory, put_block, put_cbm_entry};
 use super::{cbm_disk, circle, repeated};
-use crate::cbm::{PROGRAM, formatted, mixed};
-use rd_cbm::End;
+use crate::cbm::{PROGRAM, formatted, mixed, put_block, put_cbm_entry};
+use rd_cbm::{End, directory};
 use std::test::Fail;
 
 #[test]

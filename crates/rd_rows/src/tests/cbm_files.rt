@@ -1,7 +1,9 @@
-use super::plain::{cbm_files, put_block, put_cbm_entry};
 use super::{cbm_disk, circle, repeated};
-use crate::cbm::{NewCbmEntry, PROGRAM, crossed, formatted, full, looped, mixed, one_program};
-use rd_cbm::{CbmFile, Class};
+use crate::cbm::{
+    NewCbmEntry, PROGRAM, crossed, formatted, full, looped, mixed, one_program, put_block,
+    put_cbm_entry,
+};
+use rd_cbm::{CbmFile, Class, files};
 use std::alloc::Global;
 use std::test::Fail;
 
@@ -15,7 +17,7 @@ const RELATIVE: NewCbmEntry<'static> = NewCbmEntry {
 
 /// The files of an image, where memory is ample.
 fn files_of(alloc: Global, bytes: &[u8]) -> Result<Vec<CbmFile>, Fail> {
-    Ok(cbm_files(alloc, &cbm_disk(bytes)?)?)
+    Ok(files(alloc, &cbm_disk(bytes)?)?)
 }
 
 /// The faults of the files of a disk with these entries, of which 8 are taken, and these first bytes of

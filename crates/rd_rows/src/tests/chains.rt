@@ -1,6 +1,5 @@
-use super::plain::{chain, put_block};
-use crate::cbm::{formatted, full, looped, one_program};
-use rd_cbm::{Chain, End, Link, link};
+use crate::cbm::{formatted, full, looped, one_program, put_block};
+use rd_cbm::{Chain, End, Link, chain, link};
 use rd_geometry::{CbmDisk, Image, Kind};
 use std::alloc::Global;
 use std::test::Fail;

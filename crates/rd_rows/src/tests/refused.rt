@@ -2,11 +2,12 @@
 //! answers that memory was refused is made again, and must then answer as ever.
 
 use super::cbm_disk;
-use super::plain::{block_map, cbm_files, chain, cpm_files, directory, find, report, survey};
 use crate::cbm::one_program;
 use crate::cpm::hello;
-use rd_cbm::{End, MapReport};
+use rd_cbm::{End, MapReport, block_map, chain, directory, files as cbm_files};
+use rd_cpm::files as cpm_files;
 use rd_geometry::{CpmDisk, Image, Kind, NoMemory};
+use rd_volume::{find, report, survey};
 use std::alloc::Global;
 use std::test::Fail;
 

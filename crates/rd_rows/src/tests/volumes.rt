@@ -1,12 +1,17 @@
 ghost use Rattle.std.specs.Prelude.{◌≡◌};
 ghost use Rattle.rd_geometry.specs.Images.{kind_of};
 
-use super::plain::{directory_end, find, put_block, put_cbm_entry, report, survey};
 use super::{circle, repeated};
 use crate::bytes::put;
-use crate::cbm::{NewCbmEntry, PROGRAM, crossed, formatted, full, looped, mixed, one_program};
+use crate::cbm::{
+    NewCbmEntry, PROGRAM, crossed, formatted, full, looped, mixed, one_program, put_block,
+    put_cbm_entry,
+};
 use crate::cpm::{FILE, NewEntry, filled, hello, with_entries};
-use rd_volume::{CbmDisk, CpmDisk, End, Found, Image, Items, Kind, Volume, fault_words, pieces};
+use rd_volume::{
+    CbmDisk, CpmDisk, End, Found, Image, Items, Kind, Volume, directory_end, fault_words, find, pieces,
+    report, survey,
+};
 use std::alloc::Global;
 use std::test::Fail;
 
