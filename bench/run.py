@@ -3,7 +3,8 @@
 program that does the same work, side by side in one run.
 
 It prints ratios: instructions (counted by valgrind) and least time, of desk over the other program. Below 1,
-desk needs less."""
+desk needs less. It fails where desk is not below cpmcp and cpmls in both, or takes more than 2.5 times the
+instructions of the C program."""
 
 import os
 import shutil
@@ -13,16 +14,15 @@ import tempfile
 
 import images
 
-PACKAGES = ["cpmtools", "cbmconvert", "cc1541", "valgrind", "gcc", "libc6-dev"]
 HERE = os.path.dirname(os.path.abspath(__file__))
-RUNS = 200
+sys.path.insert(0, os.path.join(HERE, "..", "scripts"))
+import tools
 
-
-def install():
-    """Installs what is missing from Debian's packages."""
-    if not all(map(shutil.which, ["cpmcp", "cbmconvert", "cc1541", "valgrind", "gcc"])):
-        subprocess.run(["apt-get", "update", "-qq"], check=True)
-        subprocess.run(["apt-get", "install", "-y", "-qq", "--no-install-recommends", *PACKAGES], check=True)
+PROGRAMS = ["cpmcp", "cbmconvert", "cc1541", "valgrind", "gcc"]
+PACKAGES = ["cpmtools", "cbmconvert", "cc1541", "valgrind", "gcc", "libc6-dev"]
+MEMORY = "/dev/shm"
+RUNS = 5
+ROUNDS = 100
 
 
 def instructions(command, source, cwd):
@@ -37,15 +37,19 @@ def instructions(command, source, cwd):
 
 
 def least_time(command, source, cwd):
-    """The least time that a command took, in microseconds."""
+    """The least time that a command took in some runs, in microseconds."""
     timer = [os.path.join(cwd, "least"), str(RUNS), source, os.path.join(cwd, "written"), *command]
     return float(subprocess.run(timer, cwd=cwd, check=True, stdout=subprocess.PIPE, stderr=subprocess.DEVNULL).stdout)
 
 
-def measure(command, source, cwd):
-    """Instructions and least time of a command."""
-    command = [shutil.which(command[0]) or command[0], *command[1:]]
-    return instructions(command, source, cwd), least_time(command, source, cwd)
+def measure(commands, source, cwd):
+    """Instructions and least time of each of some commands, by their names. They are timed in turn, round after
+    round, so that what else the machine does meets all of them."""
+    commands = {who: [shutil.which(words[0]) or words[0], *words[1:]] for who, words in commands.items()}
+    rounds = [{who: least_time(words, source, cwd) for who, words in commands.items()} for _ in range(ROUNDS)]
+    return {
+        who: (instructions(words, source, cwd), min(times[who] for times in rounds)) for who, words in commands.items()
+    }
 
 
 def output_of(command, source, cwd):
@@ -64,22 +68,22 @@ def others(kind, command, path, name):
 
 
 def bench_case(desk, reference, cwd, case):
-    """Prints the ratios of a case, and gives the worst of each that something is owed of."""
+    """Prints the ratios of a case, and gives what is missed of that which is owed."""
     title, kind, image, name, slot = case
     path = os.path.join(cwd, "image")
     with open(path, "wb") as file:
         file.write(image)
     missed = []
     for command in ("cat", "list"):
-        rivals = {who: measure(words, path, cwd) for who, words in others(kind, command, path, name).items()}
+        rivals = others(kind, command, path, name)
         for source in (path, "-"):
             words = [command, kind, source, str(slot)] if command == "cat" else [command, kind, source]
             if output_of([desk, *words], path, cwd) != output_of([reference, *words], path, cwd):
                 sys.exit(f"desk and the C program write different bytes: {words}")
-            count, time = measure([desk, *words], path, cwd)
-            against = {**rivals, "C program": measure([reference, *words], path, cwd)}
+            measured = measure({"desk": [desk, *words], **rivals, "C program": [reference, *words]}, path, cwd)
+            count, time = measured.pop("desk")
             where = "standard input" if source == "-" else "a file"
-            for who, (their_count, their_time) in against.items():
+            for who, (their_count, their_time) in measured.items():
                 ratio, time_ratio = count / their_count, time / their_time
                 print(f"{title:20} {command:5} {where:15} {who:11} {ratio:8.2f} {time_ratio:8.2f}", flush=True)
                 owed = who in ("cpmcp", "cpmls")
@@ -89,13 +93,12 @@ def bench_case(desk, reference, cwd, case):
 
 
 def main():
-    if len(sys.argv) < 2:
-        sys.exit(__doc__)
-    desk = os.path.abspath(sys.argv[1])
-    kinds = sys.argv[2:] or ["cpm8", "d64"]
-    install()
+    desk, kinds = tools.arguments(__doc__)
+    tools.install(PROGRAMS, PACKAGES)
     missed = []
-    with tempfile.TemporaryDirectory() as cwd:
+    # In memory, where there is a folder for it: the times are to be those of the programs, and not of a disk that
+    # writes out what they wrote.
+    with tempfile.TemporaryDirectory(dir=MEMORY if os.path.isdir(MEMORY) else None) as cwd:
         for program in ("reference", "least"):
             source = os.path.join(HERE, program + ".c")
             subprocess.run(["gcc", "-O2", "-o", os.path.join(cwd, program), source], check=True)

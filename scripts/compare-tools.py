@@ -12,7 +12,8 @@ import subprocess
 import sys
 import tempfile
 
-PACKAGES = ["cpmtools", "cbmconvert", "cc1541"]
+import tools
+
 IMAGES = 24
 CPM_SIZE = 256256
 FORMAT = ["-f", "ibm-3740"]
@@ -24,13 +25,6 @@ def run(*command, check=True):
     if check and ran.returncode:
         sys.exit(f"{command}: {ran.stderr.decode(errors='replace')}")
     return ran.stdout
-
-
-def install():
-    """Installs what is missing from Debian's packages."""
-    if not all(map(shutil.which, ["cpmcp", "cbmconvert", "cc1541"])):
-        run("apt-get", "update", "-qq")
-        run("apt-get", "install", "-y", "-qq", "--no-install-recommends", *PACKAGES)
 
 
 def listed(desk, kind, image):
@@ -223,11 +217,8 @@ def compare_d64(desk, number, cwd, differences):
 
 
 def main():
-    if len(sys.argv) < 2:
-        sys.exit(__doc__)
-    desk = os.path.abspath(sys.argv[1])
-    kinds = sys.argv[2:] or ["cpm8", "d64"]
-    install()
+    desk, kinds = tools.arguments(__doc__)
+    tools.install(["cpmcp", "cbmconvert", "cc1541"], ["cpmtools", "cbmconvert", "cc1541"])
     differences = Differences()
     compare = {"cpm8": compare_cpm, "d64": compare_d64}
     with tempfile.TemporaryDirectory() as cwd:

@@ -1,5 +1,5 @@
 -- What `directory`, `files` and `block_map` tell of an image.
-use Rattle.std.specs.Prelude.{◌≡◌, ℕ, ◌<◌, ◌↔◌, IsTrue, List, [], slice_index, All, AllPairs, Contains, map}
+use Rattle.std.specs.Prelude.{◌≡◌, ℕ, ◌<◌, ◌↔◌, IfNone, IfSome, IsTrue, List, [], Option, slice_index, All, AllPairs, Contains, map}
 use Rattle.rd_geometry.specs.Blocks.{CBM_BLOCKS, index_of}
 use Rattle.rd_cbm.specs.Links.{link_of}
 use Rattle.rd_cbm.specs.Walks.{IsChain, Ends, EndsBy}
@@ -64,6 +64,14 @@ pub record AreFiles (image : List ℕ) (files : List CbmFile) : Type 0 where
   pub each : All (Describes image blocks) files
   pub ascending : AllPairs (λ f g. f.slot < g.slot) files
   pub complete : (slot : ℕ) → IsFileSlot image blocks slot → Contains (map (λ f. f.slot) files) slot
+
+-- The answer is the file at a slot of an image, none where no file has the slot.
+pub record IsFileAt (image : List ℕ) (slot : ℕ) (answer : Option CbmFile) : Type 0 where
+  pub blocks : List ℕ
+  pub directory : AreDirectoryBlocks image blocks
+  pub same_slot : IfSome answer (λ file. file.slot ≡ slot)
+  pub told : IfSome answer (Describes image blocks)
+  pub none : IfNone answer (¬ IsFileSlot image blocks slot)
 
 -- The three counts of the block map: of tracks, and of blocks by their indices.
 pub record AreCounts (image : List ℕ) (report : MapReport) : Type 0 where

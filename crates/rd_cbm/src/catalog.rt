@@ -61,7 +61,7 @@ fn told_blocks(alloc: Global, ty_byte: u8, faults: u8, contents: Chain) -> (Item
 }
 
 /// The file at a slot of the directory, from the directory's blocks and the uses of all blocks.
-fn file_at(
+pub(crate) fn file_at(
     alloc: Global,
     disk: &CbmDisk,
     blocks: &[u16],
@@ -94,7 +94,7 @@ fn file_at(
 }
 
 /// Whether the entry at a slot of the directory is used.
-fn is_used(disk: &CbmDisk, blocks: &[u16], slot: u16) -> bool
+pub(crate) fn is_used(disk: &CbmDisk, blocks: &[u16], slot: u16) -> bool
     requires slot { slot < 8 * length blocks.now }
     requires on_disk { All (λ block. block < CBM_BLOCKS) blocks.now }
     ensures { IsTrue result ↔ IsFileSlot (cbm_bytes disk.now) blocks.now slot }

@@ -5,6 +5,7 @@ mod claims;
 mod directory;
 mod faults;
 mod fields;
+mod find;
 mod gather;
 mod listing;
 mod owners;
@@ -13,5 +14,6 @@ mod walk;
 
 pub use directory::entry;
 pub use fields::Entry;
+pub use find::file;
 pub use listing::CpmFile;
 pub use walk::files;

@@ -30,7 +30,7 @@ fn judge(alloc: Global, claims: &Claims, entries: &[Entry<'_>]) -> Result<(u8, V
 }
 
 /// The file of a file slot, from the owners of all slots and the claims of all files.
-fn file_at(
+pub(crate) fn file_at(
     alloc: Global,
     disk: &CpmDisk,
     owners: &[u8; 64],

@@ -1,22 +1,15 @@
 -- The file that `cat` finds and writes, in the words of its contract.
-use Rattle.std.proofs.Common.{◌≡◌, ◌≢◌, ◌∙◌, ◌<◌, inr, ℕ, List, [], ◌∷◌, IsTrue, Option, Result, Ok, Err, OnOk, IfErr, OnErr, All, Contains, arith, length, map, subst, sym}
-use Rattle.std.proofs.lemmas.List.{get_or-map, length-map}
+use Rattle.std.proofs.Common.{◌≡◌, ◌≢◌, inr, ℕ, List, IsTrue, None, Option, Result, Some, Ok, Err, OnOk, IfErr, OnErr, length, subst, sym}
 use Rattle.std.specs.Io.KnownBytes.{Appends}
 use Rattle.rd_geometry.specs.Kinds.{size_of}
 use Rattle.rd_geometry.specs.declared.kind.Kind.{Kind}
-use Rattle.rd_volume.specs.Volumes.{AreBytesOf, AreFounds, IsFound, IsSlotOfFile}
+use Rattle.rd_volume.specs.Volumes.{AreBytesOf, IsFound, IsFoundAt, IsSlotOfFile}
 use Rattle.rd_volume.specs.declared.found.Found.{Found}
 use Rattle.rd_volume.specs.Told.{told_faults, told_served, told_slot}
 use Rattle.rd_main.specs.Cat.{HasFaultyFile, IsCat, IsListedOnly, Refuses, Serves, ServesPart}
 use Rattle.rd_main.specs.Output.{AppendsPart}
 use Rattle.rd_main.specs.declared.refusal.Refusal.{Refusal}
 use Rattle.rd_main.specs.declared.refusal.Refusal.TheVariants.{Device}
-
--- what holds of each item holds of one that the list contains
-pub all_at : {X : Type 0} (P : X → Type 0) (xs shown : List X) (x : X) → All P xs → shown ≡ xs → Contains shown x → P x
-all_at P xs shown x all same among =
-    let there : Contains xs x = subst (λ l. Contains l x) same among in
-    subst P there.2 (all there.0 x there.1)
 
 -- An image of a kind has a file that is told, at a slot.
 pub record HasFound (kind : Kind) (image : List ℕ) (slot : ℕ) (file : Found) : Type 0 where
@@ -25,28 +18,22 @@ pub record HasFound (kind : Kind) (image : List ℕ) (slot : ℕ) (file : Found)
   pub at : file.slot ≡ slot
 
 -- a file that is found at a slot is told
-pub found_file : (kind of_disk : Kind) (image disk : List ℕ) (files shown : List Found) (slot : ℕ) (file : Found) → length image ≡ size_of kind
-    → of_disk ≡ kind → disk ≡ image → AreFounds of_disk disk files → shown ≡ files → (file.slot ≡ slot) × Contains shown file
-    → HasFound kind image slot file
-found_file kind of_disk image disk files shown slot file size same_kind same are shown_is found = record {
-  size = size;
-  told = subst (λ k. IsFound k image file) same_kind
-      (subst (λ bytes. IsFound of_disk bytes file) same (all_at (IsFound of_disk disk) files shown file are.each shown_is found.1));
-  at = found.0;
-}
+pub found_file : (kind of_disk : Kind) (image disk : List ℕ) (slot : ℕ) (answer : Option Found) (file : Found) → length image ≡ size_of kind
+    → of_disk ≡ kind → disk ≡ image → answer ≡ Some file → IsFoundAt of_disk disk slot answer → HasFound kind image slot file
+found_file kind of_disk image disk slot answer file size same_kind same is at =
+    let here : IsFoundAt of_disk disk slot (Some file) = subst (IsFoundAt of_disk disk slot) is at in
+    record {
+      size = size;
+      told = subst (λ k. IsFound k image file) same_kind (subst (λ bytes. IsFound of_disk bytes file) same here.told);
+      at = here.same_slot;
+    }
 
-no_slot : (slot : ℕ) (files : List Found) → All (λ file. file.slot ≢ slot) files → ¬ Contains (map (λ file. file.slot) files) slot
-no_slot slot [] none there = absurd (omega (arith, there.1))
-no_slot slot (f ∷ fs) none there =
-    let within : there.0 < length (f ∷ fs) = simp length-map at there.1 in
-    none there.0 f within (sym (get_or-map (λ file. file.slot) (f ∷ fs) there.0 f slot within) ∙ there.2)
-
--- a slot that no file has is no file's
-pub absent : (kind of_disk : Kind) (image disk : List ℕ) (files shown : List Found) (slot : ℕ) → of_disk ≡ kind → disk ≡ image
-    → AreFounds of_disk disk files → shown ≡ files → All (λ file. file.slot ≢ slot) shown → ¬ IsSlotOfFile kind image slot
-absent kind of_disk image disk files shown slot same_kind same are shown_is none is_file =
-    no_slot slot files (subst (All (λ file. file.slot ≢ slot)) shown_is none)
-    (are.complete slot (subst (λ k. IsSlotOfFile k disk slot) (sym same_kind) (subst (λ bytes. IsSlotOfFile kind bytes slot) (sym same) is_file)))
+-- a slot at which no file of the disk is found is no file's of the image
+pub absent : (kind of_disk : Kind) (image disk : List ℕ) (slot : ℕ) (answer : Option Found) → of_disk ≡ kind → disk ≡ image → answer ≡ None
+    → IsFoundAt of_disk disk slot answer → ¬ IsSlotOfFile kind image slot
+absent kind of_disk image disk slot answer same_kind same is at =
+    let here : IsFoundAt of_disk disk slot None = subst (IsFoundAt of_disk disk slot) is at in
+    subst (λ k. ¬ IsSlotOfFile k image slot) same_kind (subst (λ bytes. ¬ IsSlotOfFile of_disk bytes slot) same here.none)
 
 -- a file that is told not to be of the class that is served is listed only
 pub listed_only : (kind : Kind) (slot : ℕ) (image : List ℕ) (file : Found) → HasFound kind image slot file → ¬ IsTrue file.served_class

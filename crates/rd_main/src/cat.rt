@@ -1,4 +1,4 @@
-ghost use Rattle.std.specs.Prelude.{◌≡◌, ◌≢◌, All, Contains, IfErr, IfNone, IfSome, OnOk, codes};
+ghost use Rattle.std.specs.Prelude.{◌≡◌, ◌≢◌, IfErr, IfSome, OnOk, codes};
 ghost use Rattle.std.specs.Io.KnownBytes.{Keeps};
 ghost use Rattle.rd_main.specs.Cat.{Refuses, Serves};
 ghost use Rattle.rd_main.specs.Refusals.{status_of};
@@ -8,17 +8,9 @@ use crate::output::write_pieces;
 use crate::refusal::Refusal;
 use crate::source::read_image;
 use crate::words::FileAsk;
-use rd_volume::{Found, Image, Kind, pieces, survey};
+use rd_volume::{Image, Kind, find, pieces};
 use std::alloc::Global;
 use std::io::{Read, Write};
-
-/// The file at a slot, `None` where no file has it.
-fn file_at(files: &[Found], slot: u16) -> Option<&Found>
-    ensures found { IfSome result (λ file. (file.now.slot ≡ slot) × Contains files.now file.now) }
-    ensures none { IfNone result (All (λ file. file.slot ≢ slot) files.now) }
-{
-    files.iter().find(|file| file.slot == slot)
-}
 
 /// Writes the bytes of the file at a slot of the image that the bytes are, and flushes the output.
 ///
@@ -37,8 +29,7 @@ fn cat_image<W: Write>(
         Refuses refusal kind slot bytes.now (W.contents output.old) (W.contents output.new)) }
 {
     let image = Image::new(kind, bytes)?;
-    let files = survey(alloc, &image)?;
-    let Some(file) = file_at(files.as_slice(), slot) else {
+    let Some(file) = find(alloc, &image, slot)? else {
         return Err(Refusal::NoFile);
     };
     if !file.served_class {
@@ -47,7 +38,7 @@ fn cat_image<W: Write>(
     if file.faults != 0 {
         return Err(Refusal::Faulty(kind, file.faults));
     }
-    write_pieces(output, pieces(&image, file))
+    write_pieces(output, pieces(&image, &file))
 }
 
 /// Writes the bytes of the file that is asked for. Standard input is read no further than one byte

@@ -8,7 +8,7 @@ use std::alloc::Global;
 use std::io::{ErrorKind, Read};
 
 /// How many bytes are read at a time.
-const PART: usize = 16_384;
+const PART: usize = 4_096;
 
 /// Reads once, and again where the read was interrupted.
 ///

@@ -8,7 +8,7 @@ use crate::printed::Line;
 use crate::refusal::Refusal;
 use crate::source::read_image;
 use crate::words::ImageAsk;
-use rd_volume::{End, Found, Image, Kind, report, survey};
+use rd_volume::{End, Found, Image, Kind, directory_end, survey};
 use std::alloc::Global;
 use std::io::{Read, Write};
 
@@ -76,6 +76,6 @@ pub(crate) fn list<R: Read, W: Write, M: Machine>(
     let bytes = read_image(alloc, ask.kind, ask.image, input, machine)?;
     let image = Image::new(ask.kind, bytes.as_slice())?;
     let files = survey(alloc, &image)?;
-    let end = report(alloc, &image)?.directory;
+    let end = directory_end(alloc, &image)?;
     write_list(ask.kind, files.as_slice(), end, output)
 }

@@ -1,3 +1,2 @@
-pub mod DayLemmas
 pub mod DateLemmas
 pub mod OrderLemmas

@@ -1,12 +1,11 @@
 -- Rules in order, and the one that decides.
-use Rattle.std.proofs.Common.{◌≡◌, ◌⊎◌, ◌∙◌, inl, inr, ℕ, zero, suc, ℤ, ◌+◌, ◌-◌, ◌<◌, ◌≤◌, List, length, slice_index_or, Contains, AllPairs, sym, ap, subst, refl, arith}
+use Rattle.std.proofs.Common.{◌≡◌, ◌⊎◌, ◌∙◌, inl, inr, ℕ, zero, suc, ℤ, ◌+◌, ◌-◌, ◌<◌, ◌≤◌, List, length, slice_index_or, Contains, sym, ap, subst, refl, arith}
 use Rattle.std.specs.List.{AllAdjacentBelow}
 use Rattle.std.proofs.lemmas.Bool.{cases_eq, cases_order}
 use Rattle.std.proofs.lemmas.List.{get_or_default}
 use Rattle.rd_volume.specs.declared.found.Found.{Found}
 use Rattle.rd_policy.specs.declared.audience.Audience.{Audience}
 use Rattle.rd_policy.specs.declared.rule.Rule.{Rule}
-use Rattle.rd_policy.specs.declared.rule.Band.TheVariants.{Takedown, Deed}
 use Rattle.rd_policy.specs.declared.verdict.Verdict.{Verdict}
 use Rattle.rd_policy.specs.Matches.{Matches}
 use Rattle.rd_policy.specs.Neighbours.{ComesFirst}

@@ -1,8 +1,10 @@
 -- Dates as texts.
-use Rattle.std.specs.Prelude.{◌≡◌, ℕ, ℤ, List}
+use Rattle.std.specs.Prelude.{◌≡◌, ℕ, ℤ, List, codes}
 use Rattle.jiff.specs.Types.{Date}
 use Rattle.jiff.specs.Words.{epoch_day, date_text}
 use Rattle.rd_policy.specs.Days.{IsDay}
+use Rattle.rd_policy.specs.declared.date.DateFault.{DateFault}
+use Rattle.rd_policy.specs.declared.date.DateFault.TheVariants.{BadDate, NoMemory}
 
 -- The text is the date of the day, as in 2030-01-01: four digits of the year, two of the month and two of
 -- the day, each before the next by a hyphen. The day is one from 0001-01-01 to 9999-12-31.
@@ -23,3 +25,8 @@ OneText = (day : ℤ) (one other : List ℕ) → IsDateOf day one → IsDateOf d
 -- a date has one day
 abbrev pub OneDay : Type 0
 OneDay = (text : List ℕ) (one other : ℤ) → IsDateOf one text → IsDateOf other text → one ≡ other
+
+-- why a text gives no day, as it is printed
+abbrev pub fault_text : DateFault → List ℕ
+fault_text BadDate = codes "no date"
+fault_text NoMemory = codes "no memory"

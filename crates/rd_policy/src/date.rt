@@ -1,4 +1,4 @@
-ghost use Rattle.std.specs.Prelude.{◌≡◌, Some, codes, IfOk, IfErr, string_bytes};
+ghost use Rattle.std.specs.Prelude.{◌≡◌, Some, IfOk, IfErr, string_bytes};
 ghost use Rattle.rd_policy.specs.Days.{IsDay};
 ghost use Rattle.rd_policy.specs.Dates.{IsDateOf, IsNoDate, OneText, OneDay};
 
@@ -19,6 +19,10 @@ pub enum DateFault {
 }
 
 impl fmt::Display for DateFault {
+    ghost use Rattle.rd_policy.specs.Dates.{fault_text};
+
+    ghost output = { λ fault. Some (fault_text fault) };
+
     fn fmt<W: fmt::Write>(&self, f: &mut fmt::Formatter<W>) -> fmt::Result {
         match self {
             DateFault::BadDate => write!(f, "no date"),

@@ -1,3 +1,5 @@
+mod refused;
+
 ghost use Rattle.rd_policy.specs.Days.{IsDay};
 
 use crate::{

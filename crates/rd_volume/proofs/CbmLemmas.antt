@@ -1,5 +1,5 @@
 -- The files of a 1541 disk as both kinds tell them.
-use Rattle.std.proofs.Common.{◌≡◌, ◌∙◌, inl, inr, ◌↔◌, ◌+◌, ◌-◌, ◌*◌, ◌%◌, ◌<◌, ◌≤◌, ◌&&◌, ℕ, List, [], ◌∷◌, All, AllPairs, Contains, IsTrue, Some, ap, sym, arith, cond, drop, false, length, nat_eq, nat_le, refl, slice_index_or, subst, take, true}
+use Rattle.std.proofs.Common.{◌≡◌, ◌∙◌, inl, inr, ◌↔◌, ◌+◌, ◌-◌, ◌*◌, ◌%◌, ◌<◌, ◌≤◌, ◌&&◌, ℕ, List, [], ◌∷◌, All, AllPairs, Contains, IfNone, IfSome, IsTrue, None, Option, Some, ap, sym, arith, cond, drop, false, length, nat_eq, nat_le, refl, slice_index_or, subst, take, true}
 use Rattle.std.proofs.lemmas.Bool.{agree_below_at, and_from, and_parts, cases_Bool, cases_eq, le-leb, leb-true}
 use Rattle.std.proofs.lemmas.List.{length-append, length-drop, length-take}
 use Rattle.std.proofs.lemmas.List.Elements.{All-head, All-tail}
@@ -9,14 +9,14 @@ use Rattle.rd_geometry.specs.declared.kind.Kind.TheVariants.{D64}
 use Rattle.rd_cbm.specs.Entries.{IsServed, class_of, entry_at, type_of}
 use Rattle.rd_cbm.specs.Faults.{IsSound}
 use Rattle.rd_cbm.specs.Files.{IsFileSlot}
-use Rattle.rd_cbm.specs.Listing.{AreFiles, Describes}
+use Rattle.rd_cbm.specs.Listing.{AreFiles, Describes, IsFileAt}
 use Rattle.rd_cbm.specs.declared.class.Class.{Class}
 use Rattle.rd_cbm.specs.declared.class.Class.TheVariants.{Del, Seq, Prg, Usr, Rel, Other}
 use Rattle.rd_cbm.specs.declared.listing.CbmFile.{CbmFile}
 use Rattle.rd_volume.specs.CbmFounds.{IsCbmFile, TellsCbm, TellsCbmFiles, bytes_of_chain, is_served, length_of_blocks}
-use Rattle.rd_volume.specs.Directories.{one_chain}
+use Rattle.rd_volume.specs.Directories.{in_blocks, of_blocks, one_chain}
 use Rattle.rd_volume.specs.Printed.{cbm_type_of, printed}
-use Rattle.rd_volume.specs.Volumes.{AreFounds, IsFound}
+use Rattle.rd_volume.specs.Volumes.{AreFounds, IsFound, IsFoundAt}
 use Rattle.rd_volume.specs.declared.found.Found.{Found}
 use Rattle.rd_volume.proofs.ToldLemmas.{each_told, few_below, items_ascend, numbers_ascend, same_numbers}
 
@@ -52,7 +52,7 @@ not_served image blocks file told other sound =
     let wrong : true ≡ false = sym served ∙ other in cc
 
 -- a chain has at most as many blocks as the disk
-few_blocks : (image blocks : List ℕ) (file : CbmFile) → Describes image blocks file → length file.blocks ≤ 683
+pub few_blocks : (image blocks : List ℕ) (file : CbmFile) → Describes image blocks file → length file.blocks ≤ 683
 few_blocks image blocks file told = elim (cases_Bool (is_served file.class)) [
   | inl served ↦ elim (cases_eq file.faults 0) [
     | inl zero ↦ few_below file.blocks CBM_BLOCKS told.on_disk (told.chain (sound_file image blocks file told served zero)).once
@@ -84,7 +84,7 @@ length_chain image (n ∷ m ∷ chain) used size byte on_disk =
     length-append (take 254 (drop 2 (cbm_block image n))) (bytes_of_chain image (m ∷ chain) used) ∙ omega arith
 
 -- a file that is told as rd_cbm tells it is told as it is in the image
-is_file : (image blocks : List ℕ) (file : CbmFile) (found : Found) → length image ≡ CBM_SIZE → TellsCbm file found → Describes image blocks file
+pub is_file : (image blocks : List ℕ) (file : CbmFile) (found : Found) → length image ≡ CBM_SIZE → TellsCbm file found → Describes image blocks file
     → IsCbmFile image found blocks
 is_file image blocks file found size tells told = record {
   slot = rw tells.slot told.slot;
@@ -129,3 +129,25 @@ founds_are image files founds size are tells =
       complete = λ k is. subst (λ ns. Contains ns k) (sym slots)
           (are.complete k (subst (λ bs. IsFileSlot image bs k) (one_chain _ _ is.blocks are.blocks is.are_blocks are.directory) is.holds));
     }
+
+-- the file that an answer holds is that of the slot
+pub answered : (image blocks : List ℕ) (answer : Option CbmFile) (file : CbmFile) → answer ≡ Some file → IfSome answer (Describes image blocks)
+    → Describes image blocks file
+answered image blocks answer file is told = subst (λ o. IfSome o (Describes image blocks)) is told
+
+-- the file at a slot, told, is that of the image
+pub found_at : (image : List ℕ) (slot : ℕ) (answer : Option CbmFile) (file : CbmFile) (found : Found) → length image ≡ CBM_SIZE → answer ≡ Some file
+    → IsFileAt image slot answer → TellsCbm file found → IsFoundAt D64 image slot (Some found)
+found_at image slot answer file found size is at tells =
+    let here : file.slot ≡ slot = subst (λ o. IfSome o (λ (f : CbmFile). f.slot ≡ slot)) is at.same_slot in
+    record {
+      same_slot = tells.slot ∙ here;
+      told = in_blocks image at.blocks at.directory _ (is_file image at.blocks file found size tells (answered image at.blocks answer file is at.told));
+      none = tt;
+    }
+
+-- a slot that no file of the directory has is no file's
+pub found_none : (image : List ℕ) (slot : ℕ) (answer : Option CbmFile) → answer ≡ None → IsFileAt image slot answer → IsFoundAt D64 image slot None
+found_none image slot answer is at =
+    let free : ¬ IsFileSlot image at.blocks slot = subst (λ o. IfNone o (¬ IsFileSlot image at.blocks slot)) is at.none in
+    record { same_slot = tt; told = tt; none = λ there. free (of_blocks image at.blocks at.directory _ there) }

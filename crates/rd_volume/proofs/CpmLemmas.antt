@@ -1,5 +1,5 @@
 -- The files of a CP/M disk as both kinds tell them.
-use Rattle.std.proofs.Common.{◌≡◌, ◌∙◌, inl, inr, ◌+◌, ◌*◌, ◌<◌, ◌≤◌, ℕ, List, [], ◌∷◌, All, AllPairs, Contains, Some, ap, sym, arith, length, refl, slice_index_or, subst, sum_by}
+use Rattle.std.proofs.Common.{◌≡◌, ◌∙◌, inl, inr, ◌+◌, ◌*◌, ◌<◌, ◌≤◌, ℕ, List, [], ◌∷◌, All, AllPairs, Contains, IfSome, Option, Some, ap, sym, arith, length, refl, slice_index_or, subst, sum_by}
 use Rattle.std.proofs.lemmas.Bool.{cases_eq}
 use Rattle.std.proofs.lemmas.List.{length-append, length-drop, length-take}
 use Rattle.std.proofs.lemmas.List.Elements.{All-head, All-tail, Contains-get_or}
@@ -15,7 +15,7 @@ use Rattle.rd_cpm.specs.Listing.{AreFiles, Describes}
 use Rattle.rd_cpm.specs.declared.listing.CpmFile.{CpmFile}
 use Rattle.rd_volume.specs.CpmFounds.{IsCpmFile, TellsCpm, TellsCpmFiles, last_sector_length}
 use Rattle.rd_volume.specs.Printed.{cpm_name_of, cpm_type_of}
-use Rattle.rd_volume.specs.Volumes.{AreFounds}
+use Rattle.rd_volume.specs.Volumes.{AreFounds, IsFoundAt}
 use Rattle.rd_volume.specs.declared.found.Found.{Found}
 use Rattle.rd_volume.proofs.ToldLemmas.{each_told, few_below, items_ascend, numbers_ascend, same_numbers}
 
@@ -34,7 +34,7 @@ few_records d k slots are sound i e inside =
     (λ many. sound.no_bad_count (record { entry = slice_index_or slots i e; of_file = entry_in d k slots are i e inside; many = many }))
 
 -- a file has at most 64 entries, and a sound one at most 128 records in each
-few_sectors : (image : List ℕ) (file : CpmFile) → Describes image file → length file.sectors ≤ 8192
+pub few_sectors : (image : List ℕ) (file : CpmFile) → Describes image file → length file.sectors ≤ 8192
 few_sectors image file told = elim (cases_eq file.faults 0) [
   | inl zero ↦
       let sound : IsSound (slot_of image) file.slot = told.faults.sound.0 zero in
@@ -64,7 +64,7 @@ length_sectors image (n ∷ sectors) size on_disk =
     length-append (cpm_unit image n) (bytes_of_sectors image sectors) ∙ omega arith
 
 -- a file that is told as rd_cpm tells it is told as it is in the image
-is_file : (image : List ℕ) (file : CpmFile) (found : Found) → length image ≡ CPM_SIZE → TellsCpm file found → Describes image file → IsCpmFile image found
+pub is_file : (image : List ℕ) (file : CpmFile) (found : Found) → length image ≡ CPM_SIZE → TellsCpm file found → Describes image file → IsCpmFile image found
 is_file image file found size tells told = record {
   slot = rw tells.slot told.slot;
   name = rw tells.slot (tells.name ∙ ap cpm_name_of told.name);
@@ -99,4 +99,19 @@ founds_are image files founds size are tells =
       ascending = items_ascend (λ g. g.slot) founds
           (subst (AllPairs (λ m n. m < n)) (sym slots) (numbers_ascend (λ f. f.slot) files are.ascending));
       complete = λ k is. subst (λ ns. Contains ns k) (sym slots) (are.complete k is);
+    }
+
+-- the file that an answer holds is that of the slot
+pub answered : (image : List ℕ) (answer : Option CpmFile) (file : CpmFile) → answer ≡ Some file → IfSome answer (Describes image) → Describes image file
+answered image answer file is told = subst (λ o. IfSome o (Describes image)) is told
+
+-- the file at a slot, told, is that of the image
+pub found_at : (image : List ℕ) (slot : ℕ) (answer : Option CpmFile) (file : CpmFile) (found : Found) → length image ≡ CPM_SIZE → answer ≡ Some file
+    → IfSome answer (λ f. f.slot ≡ slot) → IfSome answer (Describes image) → TellsCpm file found → IsFoundAt Cpm8 image slot (Some found)
+found_at image slot answer file found size is at told tells =
+    let here : file.slot ≡ slot = subst (λ o. IfSome o (λ (f : CpmFile). f.slot ≡ slot)) is at in
+    record {
+      same_slot = tells.slot ∙ here;
+      told = is_file image file found size tells (answered image answer file is told);
+      none = tt;
     }

@@ -1,5 +1,5 @@
 -- The files of an image of either kind, and their bytes. An image is its kind and the list of its bytes.
-use Rattle.std.specs.Prelude.{◌≡◌, ◌<◌, ℕ, List, [], ◌∷◌, All, AllPairs, Contains, drop, map, take}
+use Rattle.std.specs.Prelude.{◌≡◌, ◌<◌, ℕ, List, [], ◌∷◌, All, AllPairs, Contains, IfNone, IfSome, Option, drop, map, take}
 use Rattle.std.specs.List.{concat}
 use Rattle.rd_geometry.specs.Blocks.{cbm_block}
 use Rattle.rd_geometry.specs.Places.{cpm_unit}
@@ -65,6 +65,12 @@ pub record AreFounds (kind : Kind) (image : List ℕ) (founds : List Found) : Ty
   pub each : All (IsFound kind image) founds
   pub ascending : AllPairs (λ f g. f.slot < g.slot) founds
   pub complete : (k : ℕ) → IsSlotOfFile kind image k → Contains (map (λ f. f.slot) founds) k
+
+-- The answer is the file at a slot of an image, none where no file has the slot.
+pub record IsFoundAt (kind : Kind) (image : List ℕ) (slot : ℕ) (answer : Option Found) : Type 0 where
+  pub same_slot : IfSome answer (λ found. found.slot ≡ slot)
+  pub told : IfSome answer (IsFound kind image)
+  pub none : IfNone answer (¬ IsSlotOfFile kind image slot)
 
 -- the bytes of unit n in which a file's bytes stand: all of a CP/M sector, and all of a 1541 block but
 -- the two of its link

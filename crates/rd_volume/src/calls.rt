@@ -1,11 +1,11 @@
 //! The calls over an image of either kind.
 
-ghost use Rattle.std.specs.Prelude.{◌≡◌, ◌<◌, All, AllPairs, IfOk, Some, length};
+ghost use Rattle.std.specs.Prelude.{◌≡◌, ◌<◌, All, AllPairs, IfOk, IfSome, Some, length};
 ghost use Rattle.rd_geometry.specs.Images.{bytes_of, kind_of};
 ghost use Rattle.rd_volume.specs.Founds.{Fits, IsSoundFile};
 ghost use Rattle.rd_volume.specs.PiecesLeft.{pieces_left};
-ghost use Rattle.rd_volume.specs.Reports.{IsReport};
-ghost use Rattle.rd_volume.specs.Volumes.{AreFounds, AreBytesOf, IsFound, contents_of, pieces_of};
+ghost use Rattle.rd_volume.specs.Reports.{IsDirectoryEnd, IsReport};
+ghost use Rattle.rd_volume.specs.Volumes.{AreFounds, AreBytesOf, IsFound, IsFoundAt, contents_of, pieces_of};
 ghost use Rattle.rd_volume.specs.Words.{words_left, words_of};
 ghost use Rattle.std.specs.List.{concat};
 
@@ -15,6 +15,8 @@ use crate::reports::Report;
 use crate::slices::Pieces;
 use crate::volume::Volume;
 use crate::words::FaultWords;
+use crate::{cbm, cpm};
+use rd_cbm::End;
 use rd_geometry::{Image, Items, Kind, NoMemory};
 use std::alloc::Global;
 
@@ -41,6 +43,29 @@ pub fn survey(alloc: Global, image: &Image<'_>) -> Result<Items<Found>, NoMemory
     match Disk::of(image) {
         Disk::Cpm(disk) => survey_of(alloc, &disk),
         Disk::Cbm(disk) => survey_of(alloc, &disk),
+    }
+}
+
+/// The file at a slot of an image, told as `survey` tells it, `None` where no file has the slot. It fits
+/// the image. It fails only where memory is refused.
+pub fn find(alloc: Global, image: &Image<'_>, slot: u16) -> Result<Option<Found>, NoMemory>
+    ensures file { IfOk result (IsFoundAt (kind_of image.now) (bytes_of image.now) slot) }
+    ensures fits { IfOk result (λ answer. IfSome answer (Fits (kind_of image.now))) }
+{
+    match Disk::of(image) {
+        Disk::Cpm(disk) => cpm::find(alloc, &disk, slot),
+        Disk::Cbm(disk) => cbm::find(alloc, &disk, slot),
+    }
+}
+
+/// How the walk along the blocks of an image's directory ends: `Last(0)` for a CP/M disk, which has no
+/// links. It fails only where memory is refused.
+pub fn directory_end(alloc: Global, image: &Image<'_>) -> Result<End, NoMemory>
+    ensures { IfOk result (IsDirectoryEnd (kind_of image.now) (bytes_of image.now)) }
+{
+    match Disk::of(image) {
+        Disk::Cpm(_) => Ok(End::Last(0)),
+        Disk::Cbm(disk) => cbm::directory_end(alloc, &disk),
     }
 }
 

@@ -1,18 +1,19 @@
 //! The files of a 1541 disk as both kinds tell them.
 
-ghost use Rattle.std.specs.Prelude.{◌≡◌, ◌≢◌, ◌-◌, ◌<◌, ◌≤◌, ◌==◌, All, IfOk, None, Some, count_by, length, not, true};
+ghost use Rattle.std.specs.Prelude.{◌≡◌, ◌≢◌, ◌-◌, ◌<◌, ◌≤◌, ◌==◌, All, IfOk, IfSome, None, Some, count_by, length, not, true};
 ghost use Rattle.rd_cbm.specs.BlockMap.{map_of};
 ghost use Rattle.rd_geometry.specs.Blocks.{CBM_BLOCKS, CBM_BLOCK_LENGTH};
 ghost use Rattle.rd_geometry.specs.CbmDisks.{cbm_bytes};
-ghost use Rattle.rd_volume.specs.Volumes.{body_of};
-ghost use Rattle.rd_volume.specs.Reports.{IsReport, label_of};
+ghost use Rattle.rd_volume.specs.Founds.{Fits};
+ghost use Rattle.rd_volume.specs.Volumes.{IsFoundAt, body_of};
+ghost use Rattle.rd_volume.specs.Reports.{IsDirectoryEnd, IsReport, label_of};
 ghost use Rattle.rd_volume.specs.Tallies.{differs_in_size, is_claimant, is_sound};
 ghost use Rattle.rd_volume.specs.CbmFounds.{TellsCbm, TellsCbmFiles, is_served, length_of_blocks};
 
 use crate::found::Found;
 use crate::printed::{cbm_name, cbm_type};
 use crate::reports::Report;
-use rd_cbm::{CbmFile, Class};
+use rd_cbm::{CbmFile, Class, End};
 use rd_geometry::{CbmDisk, Geometry, Kind, NoMemory, Text};
 use std::alloc::Global;
 
@@ -102,6 +103,24 @@ pub(crate) fn tell_files(alloc: Global, files: Vec<CbmFile>) -> Result<Vec<Found
         founds.push(tell(alloc, file)?)?;
     }
     Ok(founds)
+}
+
+/// The file at a slot of a 1541 disk as both kinds tell it, `None` where no file has the slot.
+pub(crate) fn find(alloc: Global, disk: &CbmDisk, slot: u16) -> Result<Option<Found>, NoMemory>
+    ensures file { IfOk result (IsFoundAt Kind.D64 (cbm_bytes disk.now) slot) }
+    ensures fits { IfOk result (λ answer. IfSome answer (Fits Kind.D64)) }
+{
+    let Some(file) = rd_cbm::file(alloc, disk, slot)? else {
+        return Ok(None);
+    };
+    Ok(Some(tell(alloc, file)?))
+}
+
+/// How the walk along the blocks of the directory ends.
+pub(crate) fn directory_end(alloc: Global, disk: &CbmDisk) -> Result<End, NoMemory>
+    ensures { IfOk result (IsDirectoryEnd Kind.D64 (cbm_bytes disk.now)) }
+{
+    Ok(rd_cbm::chain(alloc, disk, (18, 1))?.end)
 }
 
 /// Whether files of a class claim blocks where they are closed.

@@ -1,9 +1,11 @@
 //! The files of a CP/M disk as both kinds tell them.
 
-ghost use Rattle.std.specs.Prelude.{◌≡◌, ◌≢◌, ◌*◌, ◌≤◌, ◌==◌, All, IfOk, None, Some, count_by, length, not};
+ghost use Rattle.std.specs.Prelude.{◌≡◌, ◌≢◌, ◌*◌, ◌≤◌, ◌==◌, All, IfOk, IfSome, None, Some, count_by, length, not};
 ghost use Rattle.rd_geometry.specs.CpmDisks.{cpm_bytes};
 ghost use Rattle.rd_volume.specs.CpmFounds.{TellsCpm, TellsCpmFiles, last_sector_length};
+ghost use Rattle.rd_volume.specs.Founds.{Fits};
 ghost use Rattle.rd_volume.specs.Reports.{IsReport};
+ghost use Rattle.rd_volume.specs.Volumes.{IsFoundAt};
 
 use crate::found::Found;
 use crate::printed::{cpm_name, cpm_type};
@@ -77,6 +79,17 @@ pub(crate) fn tell_files(alloc: Global, files: Vec<CpmFile>) -> Result<Vec<Found
         founds.push(tell(alloc, file)?)?;
     }
     Ok(founds)
+}
+
+/// The file at a slot of a CP/M disk as both kinds tell it, `None` where no file has the slot.
+pub(crate) fn find(alloc: Global, disk: &CpmDisk, slot: u16) -> Result<Option<Found>, NoMemory>
+    ensures file { IfOk result (IsFoundAt Kind.Cpm8 (cpm_bytes disk.now) slot) }
+    ensures fits { IfOk result (λ answer. IfSome answer (Fits Kind.Cpm8)) }
+{
+    let Some(file) = rd_cpm::file(alloc, disk, slot)? else {
+        return Ok(None);
+    };
+    Ok(Some(tell(alloc, file)?))
 }
 
 /// How many files have no fault.

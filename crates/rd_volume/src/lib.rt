@@ -13,7 +13,7 @@ mod slices;
 mod volume;
 mod words;
 
-pub use calls::{fault_words, pieces, report, survey};
+pub use calls::{directory_end, fault_words, find, pieces, report, survey};
 pub use found::Found;
 pub use rd_cbm::{End, MapReport};
 pub use rd_geometry::{CbmDisk, CpmDisk, Geometry, Image, Items, Kind, NoMemory, Text, WrongSize};

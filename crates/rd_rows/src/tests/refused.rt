@@ -4,9 +4,10 @@
 use super::cbm_disk;
 use crate::cbm::one_program;
 use crate::cpm::hello;
-use rd_cbm::{End, MapReport, block_map, chain, directory};
-use rd_cpm::files;
+use rd_cbm::{End, MapReport, block_map, chain, directory, files as cbm_files};
+use rd_cpm::files as cpm_files;
 use rd_geometry::{CpmDisk, Image, Kind, NoMemory};
+use rd_volume::{find, report, survey};
 use std::alloc::Global;
 use std::test::Fail;
 
@@ -18,9 +19,9 @@ fn files_when_memory_is_refused(rt: HostRuntime) -> Result<(), Fail> {
     };
     let image = Image::new(Kind::Cpm8, bytes.as_slice())?;
     let disk = CpmDisk::of(&image).ok_or("a CP/M disk")?;
-    let found = match files(rt.alloc(), &disk) {
+    let found = match cpm_files(rt.alloc(), &disk) {
         Ok(found) => found,
-        Err(NoMemory) => files(rt.alloc(), &disk)?,
+        Err(NoMemory) => cpm_files(rt.alloc(), &disk)?,
     };
     assert_eq!(rt; found.len(), 1);
     let file = found.first().ok_or("a file")?;
@@ -70,9 +71,9 @@ fn a_directory_when_memory_is_refused(rt: HostRuntime) -> Result<(), Fail> {
 fn files_of_a_1541_when_memory_is_refused(rt: HostRuntime) -> Result<(), Fail> {
     let bytes = one_program_again(rt.alloc())?;
     let disk = cbm_disk(bytes.as_slice())?;
-    let found = match rd_cbm::files(rt.alloc(), &disk) {
+    let found = match cbm_files(rt.alloc(), &disk) {
         Ok(found) => found,
-        Err(NoMemory) => rd_cbm::files(rt.alloc(), &disk)?,
+        Err(NoMemory) => cbm_files(rt.alloc(), &disk)?,
     };
     let file = found.first().ok_or("a file")?;
     assert_eq!(rt; (found.len(), file.faults, file.last), (1, 0, 5));
@@ -94,5 +95,50 @@ fn a_block_map_when_memory_is_refused(rt: HostRuntime) -> Result<(), Fail> {
         unclaimed_used: 0,
     };
     assert_eq!(rt; told, expected);
+    Ok(())
+}
+
+#[test]
+fn a_survey_when_memory_is_refused(rt: HostRuntime) -> Result<(), Fail> {
+    let bytes = one_program_again(rt.alloc())?;
+    let image = Image::new(Kind::D64, bytes.as_slice())?;
+    let found = match survey(rt.alloc(), &image) {
+        Ok(found) => found,
+        Err(NoMemory) => survey(rt.alloc(), &image)?,
+    };
+    let file = found.as_slice().first().ok_or("a file")?;
+    assert_eq!(rt; (file.slot, file.faults, file.size), (0, 0, Some(258)));
+    assert_eq!(rt; (file.name.as_str(), file.ty.as_str()), ("HELLO", "PRG"));
+    assert_eq!(rt; file.units.as_slice(), [336, 346].as_slice());
+    Ok(())
+}
+
+#[test]
+fn a_report_when_memory_is_refused(rt: HostRuntime) -> Result<(), Fail> {
+    let bytes = one_program_again(rt.alloc())?;
+    let image = Image::new(Kind::D64, bytes.as_slice())?;
+    let told = match report(rt.alloc(), &image) {
+        Ok(told) => told,
+        Err(NoMemory) => report(rt.alloc(), &image)?,
+    };
+    assert_eq!(rt; (told.files, told.served, told.faulty), (1, 1, 0));
+    assert_eq!(rt;
+        (told.directory, told.label.as_str()),
+        (End::Last(255), "MUSEUM")
+    );
+    Ok(())
+}
+
+#[test]
+fn one_file_when_memory_is_refused(rt: HostRuntime) -> Result<(), Fail> {
+    let bytes = one_program_again(rt.alloc())?;
+    let image = Image::new(Kind::D64, bytes.as_slice())?;
+    let found = match find(rt.alloc(), &image, 0) {
+        Ok(found) => found,
+        Err(NoMemory) => find(rt.alloc(), &image, 0)?,
+    };
+    let file = found.ok_or("a file")?;
+    assert_eq!(rt; (file.slot, file.faults, file.size), (0, 0, Some(258)));
+    assert_eq!(rt; file.units.as_slice(), [336, 346].as_slice());
     Ok(())
 }

@@ -1,3 +1,6 @@
+ghost use Rattle.std.specs.Prelude.{◌≡◌};
+ghost use Rattle.rd_geometry.specs.Images.{kind_of};
+
 use super::{circle, repeated};
 use crate::bytes::put;
 use crate::cbm::{
@@ -5,7 +8,10 @@ use crate::cbm::{
     put_cbm_entry,
 };
 use crate::cpm::{FILE, NewEntry, filled, hello, with_entries};
-use rd_volume::{End, Found, Image, Items, Kind, fault_words, pieces, report, survey};
+use rd_volume::{
+    CbmDisk, CpmDisk, End, Found, Image, Items, Kind, Volume, directory_end, fault_words, find, pieces,
+    report, survey,
+};
 use std::alloc::Global;
 use std::test::Fail;
 
@@ -17,6 +23,25 @@ fn contents(alloc: Global, image: &Image<'_>, file: &Found) -> Result<Vec<u8>, F
     }
     for piece in pieces(image, file) {
         bytes.extend_from_slice(piece)?;
+    }
+    Ok(bytes)
+}
+
+/// The bytes of a file of an image, by the pieces that its disk lends.
+fn contents_of_disk<'a, V: Volume<'a>>(
+    alloc: Global,
+    image: &Image<'_>,
+    disk: &V,
+    file: &Found,
+) -> Result<Vec<u8>, Fail>
+    requires { kind_of image.now ≡ V.volume_kind disk.now }
+{
+    let mut bytes = Vec::new(alloc);
+    if !file.sound() || !file.fits(image) {
+        return Err(Fail::from("no sound file of the image"));
+    }
+    for i in 0..file.units.as_slice().len() {
+        bytes.extend_from_slice(disk.piece(file, i))?;
     }
     Ok(bytes)
 }
@@ -168,6 +193,75 @@ fn an_image_is_reported(rt: HostRuntime) -> Result<(), Fail> {
         (told.files, told.served, told.faulty, told.size_differs),
         (1, 0, 1, 0)
     );
+    Ok(())
+}
+
+/// The slot, the name and the faults of the file at a slot, where there is one.
+fn told_at(
+    alloc: Global,
+    image: &Image<'_>,
+    slot: u16,
+    name: &str,
+) -> Result<Option<(u16, bool, u8)>, Fail> {
+    Ok(find(alloc, image, slot)?.map(|file| (file.slot, file.name.as_str() == name, file.faults)))
+}
+
+#[test]
+fn a_cpm_disk_lends_the_pieces_of_its_files(rt: HostRuntime) -> Result<(), Fail> {
+    let bytes = hello(rt.alloc())?;
+    let image = Image::new(Kind::Cpm8, bytes.as_slice())?;
+    let disk = CpmDisk::of(&image).ok_or("a CP/M disk")?;
+    let file = find(rt.alloc(), &image, 0)?.ok_or("a file")?;
+    let joined = contents(rt.alloc(), &image, &file)?;
+    let lent = contents_of_disk(rt.alloc(), &image, &disk, &file)?;
+    assert_eq!(rt; (lent.len(), lent.as_slice()), (128, joined.as_slice()));
+    Ok(())
+}
+
+#[test]
+fn a_1541_disk_lends_the_pieces_of_its_files(rt: HostRuntime) -> Result<(), Fail> {
+    let bytes = one_program(rt.alloc())?;
+    let image = Image::new(Kind::D64, bytes.as_slice())?;
+    let disk = CbmDisk::of(&image).ok_or("a 1541 disk")?;
+    let file = find(rt.alloc(), &image, 0)?.ok_or("a file")?;
+    let joined = contents(rt.alloc(), &image, &file)?;
+    let lent = contents_of_disk(rt.alloc(), &image, &disk, &file)?;
+    assert_eq!(rt; (lent.len(), lent.as_slice()), (258, joined.as_slice()));
+    Ok(())
+}
+
+#[test]
+fn a_file_is_found_by_its_slot(rt: HostRuntime) -> Result<(), Fail> {
+    let bytes = crossed(rt.alloc())?;
+    let image = Image::new(Kind::D64, bytes.as_slice())?;
+    for (slot, name, faults) in [(0, "A", 8), (1, "B", 8), (2, "C", 0)] {
+        assert_eq!(rt;
+            told_at(rt.alloc(), &image, slot, name)?,
+            Some((slot, true, faults))
+        );
+    }
+    for slot in [3, 7, 8, 5_464, 65_535] {
+        assert_eq!(rt; told_at(rt.alloc(), &image, slot, "")?, None);
+    }
+    let bytes = with_entries(rt.alloc(), &[FILE, NewEntry { user: 16, ..FILE }, FILE])?;
+    let image = Image::new(Kind::Cpm8, bytes.as_slice())?;
+    assert_eq!(rt; told_at(rt.alloc(), &image, 0, "FILE")?, Some((0, true, 2)));
+    for slot in [1, 2, 63, 64, 256, 65_535] {
+        assert_eq!(rt; told_at(rt.alloc(), &image, slot, "")?, None);
+    }
+    Ok(())
+}
+
+#[test]
+fn directories_end(rt: HostRuntime) -> Result<(), Fail> {
+    for (byte, end) in [(0, End::Last(0)), (1, End::Loop), (0xff, End::Off)] {
+        let bytes = repeated(rt.alloc(), byte)?;
+        let image = Image::new(Kind::D64, bytes.as_slice())?;
+        assert_eq!(rt; directory_end(rt.alloc(), &image)?, end);
+    }
+    let bytes = hello(rt.alloc())?;
+    let image = Image::new(Kind::Cpm8, bytes.as_slice())?;
+    assert_eq!(rt; directory_end(rt.alloc(), &image)?, End::Last(0));
     Ok(())
 }
 

@@ -2,7 +2,7 @@ use Rattle.std.proofs.Common.{rules, ◌≡◌, ◌∙◌, ap, pos, ◌+ℤ◌, 
 use Rattle.std.specs.Int.{int_div_euclid}
 use Rattle.std.proofs.lemmas.Int.{ints, to_z-of_z}
 use Rattle.std.proofs.lemmas.Result.{IfOk-weaker}
-use Rattle.rd_policy.specs.Days.{IsOffset, HasDay, day_number}
+use Rattle.rd_policy.specs.Days.{IsOffset, day_number}
 use Rattle.rd_policy.proofs.day.day_of.Goals as goal
 
 pub returns-clause-taken : goal.returns-clause-taken

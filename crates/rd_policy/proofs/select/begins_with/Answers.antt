@@ -1,4 +1,4 @@
-use Rattle.std.proofs.Common.{◌≡◌, ◌∙◌, length, drop, rules}
+use Rattle.std.proofs.Common.{◌≡◌, length, drop}
 use Rattle.std.proofs.lemmas.Bool.Decides.{Decides-eqb}
 use Rattle.std.proofs.lemmas.Slice.Eq.{starts_is}
 use Rattle.rd_policy.proofs.select.begins_with.Goals as goal
