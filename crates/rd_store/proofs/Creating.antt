@@ -9,8 +9,12 @@ use Rattle.sqlite.specs.Table.{Table}
 use Rattle.sqlite.specs.Schema.{Schema}
 use Rattle.sqlite.specs.Command.TheVariants.{CreateTable}
 use Rattle.sqlite.specs.Change.{created, next_tree, KeepsRows}
+use Rattle.sqlite.specs.Store.{Ghosts}
+use Rattle.sqlite.specs.Held.{Held, state}
 use Rattle.sqlite.specs.Effect.{Database, IsDatabase}
 use Rattle.sqlite.specs.Does.{Tally, Does, lacks_sequence}
+use Rattle.sqlite.specs.Listing.{understood}
+use Rattle.sqlite.proofs.Callers.{statement_of}
 use Rattle.rd_policy.specs.declared.audience.Audience.{Audience}
 use Rattle.rd_policy.specs.declared.audience.Audience.TheVariants.{Staff}
 use Rattle.rd_tables.specs.Schemas.{desk_schema}
@@ -25,8 +29,10 @@ use Rattle.rd_tables.proofs.Steps.{went, same_value}
 use Rattle.rd_store.specs.State.{Desk, digest_cmp, with_key}
 use Rattle.rd_store.specs.Lawful.{IsLawful, IsKey}
 use Rattle.rd_store.specs.Spelled.{deed_sheet, image_sheet, rule_sheet, key_sheet, check_sheet, HasVersion}
-use Rattle.rd_store.specs.Held.{IsOf}
-use Rattle.rd_store.specs.Created.{IsMade, empty_desk, new_desk}
+use Rattle.rd_store.specs.Held.{IsOf, IsDeskAt, HoldsDesk, IsOpen, LeavesOnly, desk}
+use Rattle.rd_store.specs.Created.{IsAt, IsMade, LeavesOldOr, Turns, empty_desk, new_desk}
+use Rattle.rd_store.proofs.Laws.{Laws, leaves_only, left_is}
+use Rattle.rd_store.proofs.Single.{rests_on}
 use Rattle.rd_store.proofs.Orders.{number_order, place_order, digest_order, checkup_order}
 use Rattle.rd_store.proofs.Lawful.{found_after}
 
@@ -70,6 +76,7 @@ made_schema i db made = made.schema
 -- ---- the first rows
 
 none_spell : {K X : Type 0} (sheet : Sheet K X) (rows : List Row) → rows ≡ [] → Spells sheet rows
+unfolding IsDistinct
 none_spell sheet rows is = subst (Spells sheet) (sym is) (record { spelled = tt; apart = tt })
 
 none_have : (rows : List Row) → rows ≡ [] → HaveRowids rows
@@ -77,7 +84,7 @@ none_have rows is = subst HaveRowids (sym is) (record { keyed = λ row here. abs
 
 pub makes_version : Makes desk_schema put_version_text put_version put_version_writes [] (IsMade 6) (IsOf empty_desk)
 makes_version limit db after tally made does sound =
-    let h = puts_version _ limit db after tally made.schema does in
+    let h = puts_version (statement_of put_version_text (understood desk_schema put_version_text)) limit db after tally made.schema does in
     let e = made.empty in
     let deeds = h.1.stays 1 refl refl ∙ e.1.0 in
     let images = h.1.stays 2 refl refl ∙ e.1.1.0 in
@@ -120,3 +127,20 @@ lawful_new staff long = record {
   staff = (staff, get_inserted digest_cmp digest_order empty_desk.keys staff Staff);
   checks = λ checkup outcome found. absurd (none_got _ checkup_order checkup outcome found);
 }
+
+-- ---- the whole
+
+module _ {S : Type 0} (g : Ghosts S) (laws : Laws g) (old new : Held S) (staff : List ℕ) (long : length staff ≡ 32) where
+  -- a new desk rests on its connection
+  pub rests_new : IsAt (IsOf (new_desk staff)) (state g new) → IsDeskAt (state g new)
+  rests_new at = rests_on (new_desk staff) (state g new) (record { of = at.holds; lawful = lawful_new staff long }) at.settled at.autocommit
+
+  -- what a crash leaves of the making
+  pub made_or_old : {T X : Type 0} (r : Result T X) → Turns g old new (IsOf (new_desk staff)) r → LeavesOldOr g old new (new_desk staff)
+  made_or_old r turns was clean left may = elim (turns.crash was clean left may) [
+    | inl before ↦ inl before
+    | inr made ↦ inr (left_is (new_desk staff) made.0 left (record { of = made.1; lawful = lawful_new staff long }) made.2)
+  ]
+
+  pub only_new : HoldsDesk (state g new) → (IsOpen g new → desk g new ≡ new_desk staff) → IsOpen g new → LeavesOnly g new (new_desk staff)
+  only_new holds is o = subst (LeavesOnly g new) (is o) (leaves_only g laws new holds o)
