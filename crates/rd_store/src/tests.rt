@@ -4,12 +4,13 @@ mod keys;
 mod refused;
 mod rules;
 
-ghost use Rattle.std.specs.Prelude.{◌≡◌, IfOk, length, vec_len};
+ghost use Rattle.std.specs.Prelude.{◌≡◌, false, IfOk, IsTrue, length, vec_len};
 ghost use Rattle.rd_policy.specs.Rules.{IsScope};
+ghost use Rattle.rd_store.specs.Lawful.{IsDonor};
 
 use crate::{Refused, Store, StoreFault};
 use rd_geometry::{Kind, NoMemory};
-use rd_policy::{Audience, Audiences, Band, Effect, Rule, Select};
+use rd_policy::{Audience, Audiences, Band, Effect, Rule, Select, is_day, is_scope};
 use sqlite::{Connection, Error, MemStore};
 use std::alloc::Global;
 use std::process::Abort;
@@ -71,12 +72,29 @@ fn bytes(alloc: Global, byte: u8) -> Result<Vec<u8>, NoMemory>
     Ok(vec![in alloc; byte; 174_848]?)
 }
 
-fn put_curator(desk: &mut Desk) -> Result<(), StoreFault> {
-    desk.put_deed(7, "A. Curator", 18_020)
+/// Whether a text may be a donor's name.
+fn is_donor(text: &str) -> bool
+    ensures { IsTrue result → IsDonor text.now }
+{
+    let bytes = text.as_bytes();
+    !bytes.is_empty() && bytes.len() <= 1_000 && bytes.iter().all(|byte| *byte >= 32)
 }
 
-fn put_donor(desk: &mut Desk) -> Result<(), StoreFault> {
-    desk.put_deed(8, "B. Donor", 18_321)
+fn put_deed(
+    rt: &impl Abort,
+    desk: &mut Desk,
+    num: u32,
+    donor: &str,
+    signed: i32,
+) -> Result<(), StoreFault> {
+    assert!(rt; is_scope(num));
+    assert!(rt; is_donor(donor));
+    assert!(rt; is_day(signed));
+    desk.put_deed(num, donor, signed)
+}
+
+fn put_curator(rt: &impl Abort, desk: &mut Desk) -> Result<(), StoreFault> {
+    put_deed(rt, desk, 7, "A. Curator", 18_020)
 }
 
 fn put_image(
@@ -142,8 +160,8 @@ fn takedown(acc: u32) -> Rule {
 /// A desk with deeds 7 and 8, a key for the room, two rules of deed 7, and image 12 under it.
 fn filled(rt: &impl Abort, alloc: Global) -> Result<Desk, Fail> {
     let mut desk = new_desk(alloc)?;
-    put_curator(&mut desk)?;
-    put_donor(&mut desk)?;
+    put_curator(rt, &mut desk)?;
+    put_deed(rt, &mut desk, 8, "B. Donor", 18_321)?;
     put_room_key(&mut desk, &ROOM)?;
     put_rule(rt, &mut desk, &open())?;
     put_rule(rt, &mut desk, &closed())?;

@@ -41,7 +41,7 @@ fn a_new_desk_has_its_staff_key(rt: HostRuntime) -> Result<(), Fail> {
 #[test]
 fn a_desk_that_stands_is_kept(rt: HostRuntime) -> Result<(), Fail> {
     let mut desk = new_desk(rt.alloc())?;
-    put_curator(&mut desk)?;
+    put_curator(&rt, &mut desk)?;
     let (fault, mut conn) = refusal(&rt, into_connection(desk))?;
     assert_eq!(rt; fault, CreateFault::Exists);
     assert_eq!(rt; number(&mut conn, "SELECT count(*) FROM deed")?, 1);

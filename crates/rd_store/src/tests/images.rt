@@ -4,16 +4,12 @@ ghost use Rattle.std.specs.Prelude.{◌≡◌, length};
 
 use super::{
     DIGEST, Desk, OTHER_DIGEST, bytes, filled, has_deed, has_image, new_desk, put_curator,
-    put_image,
+    put_deed, put_image,
 };
 use crate::StoreFault;
 use rd_geometry::Kind;
 use std::alloc::Global;
 use std::test::Fail;
-
-fn put_heir(desk: &mut Desk) -> Result<(), StoreFault> {
-    desk.put_deed(7, "C. Heir, \u{dc}lm", -719_162)
-}
 
 fn put_cpm(desk: &mut Desk, bytes: &[u8]) -> Result<(), StoreFault>
     requires { length bytes.now ≡ 256_256 }
@@ -29,7 +25,7 @@ fn accessions(alloc: Global, desk: &mut Desk) -> Result<Vec<u32>, StoreFault> {
 fn a_deed_is_replaced(rt: HostRuntime) -> Result<(), Fail> {
     let mut desk = filled(&rt, rt.alloc())?;
     assert!(rt; has_deed(&mut desk, 7, "A. Curator", 18_020)?);
-    put_heir(&mut desk)?;
+    put_deed(&rt, &mut desk, 7, "C. Heir, \u{dc}lm", -719_162)?;
     assert!(rt; has_deed(&mut desk, 7, "C. Heir, \u{dc}lm", -719_162)?);
     assert!(rt; has_deed(&mut desk, 8, "B. Donor", 18_321)?);
     assert!(rt; has_image(rt.alloc(), &mut desk, 12, 7, &DIGEST, 0)?);
@@ -98,7 +94,7 @@ fn accessions_ascend(rt: HostRuntime) -> Result<(), Fail> {
     let alloc = rt.alloc();
     let mut desk = new_desk(alloc)?;
     assert!(rt; accessions(alloc, &mut desk)?.is_empty());
-    put_curator(&mut desk)?;
+    put_curator(&rt, &mut desk)?;
     let ones = bytes(alloc, 1)?;
     put_image(&mut desk, 13, 7, &OTHER_DIGEST, ones.as_slice())?;
     put_image(&mut desk, 999_999, 7, &DIGEST, ones.as_slice())?;

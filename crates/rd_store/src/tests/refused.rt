@@ -58,7 +58,7 @@ fn desk_again(rt: &impl Abort, alloc: Global) -> Result<Desk, Fail> {
             Err(_) => return Err(Fail::new("no desk")),
         },
     };
-    again!(put_curator(&mut desk))?;
+    again!(put_curator(rt, &mut desk))?;
     Ok(desk)
 }
 
