@@ -16,4 +16,4 @@ mod store;
 
 pub use faults::{CreateFault, Refused, StoreFault};
 pub use rows::{DeedRow, ImageRow, Outcome};
-pub use store::Store;
+pub use store::{Store, memory_stays_open};

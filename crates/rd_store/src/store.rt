@@ -3,7 +3,8 @@ ghost use Rattle.std.specs.FinMap.{get, keys};
 ghost use Rattle.sqlite.specs.Held.{state};
 ghost use Rattle.rd_policy.specs.Rules.{IsRule};
 ghost use Rattle.rd_store.specs.Created.{IsBlank, IsUntouched, LeavesOldOr, new_desk};
-ghost use Rattle.rd_store.specs.Held.{Changes, IsOpen, Judges, Keeps, LeavesOnly, StaysOpen, desk};
+ghost use Rattle.sqlite.specs.Steps.{over_memory};
+ghost use Rattle.rd_store.specs.Held.{Changes, IsClean, IsOpen, Judges, Keeps, LeavesOnly, StaysOpen, desk};
 ghost use Rattle.rd_tables.specs.Schemas.{has_desk};
 ghost use Rattle.rd_store.specs.Lawful.{IsDeed, IsImage, IsKey};
 ghost use Rattle.rd_store.specs.State.{HasOtherImage, IsLastStaff, Stands, place_of, rules_for, terms_of, with_deed, with_image, with_key, with_rule, without_key, without_rule};
@@ -15,7 +16,7 @@ use crate::{deeds, images, keys, rules};
 use rd_geometry::Kind;
 use rd_policy::{Audience, Band, Rule};
 use rd_tables::{has_desk as has_desk_table, is_blank};
-use sqlite::{Alter, Connection};
+use sqlite::{Alter, Connection, MemStore};
 use std::alloc::Global;
 use std::marker::Model;
 
@@ -239,4 +240,13 @@ impl<S: Alter> Store<S> {
     {
         rules::rules_for(alloc, &mut self.conn, acc)
     }
+}
+
+/// In memory no disk can fail: such a store is open at all times, and what a call says of a connection
+/// that is open and clean it says of this one.
+pub fn memory_stays_open(store: &Store<MemStore>)
+    ensures open { IsOpen over_memory store.now }
+    ensures clean { IsClean over_memory store.now }
+{
+    let _ = store;
 }
