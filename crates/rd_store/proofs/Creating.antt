@@ -1,8 +1,7 @@
 -- What making the tables and their first rows comes to.
-use Rattle.std.proofs.Common.{◌≡◌, ◌⊎◌, inl, inr, ℕ, ◌+◌, ◌<◌, List, [], ◌∷◌, ◌++◌, length, get_or, false, Option, Some, None, Result, Ok, IsSome, refl, sym, ap, subst, subst₂, ◌∙◌}
+use Rattle.std.proofs.Common.{◌≡◌, inl, inr, ℕ, ◌+◌, ◌<◌, List, [], ◌∷◌, ◌++◌, length, get_or, false, Option, Some, None, Result, Ok, refl, sym, ap, subst, subst₂, ◌∙◌}
 use Rattle.std.specs.List.{AllByRecursion, IsDistinct}
-use Rattle.std.specs.Ordering.{eq_by_cmp}
-use Rattle.std.specs.FinMap.{FinMap, get, from_entries, get-from_entries}
+use Rattle.std.specs.FinMap.{get, from_entries, get-from_entries}
 use Rattle.sqlite.specs.Order.{Row}
 use Rattle.sqlite.specs.Tree.{Trees, put_row}
 use Rattle.sqlite.specs.Table.{Table}
@@ -11,11 +10,10 @@ use Rattle.sqlite.specs.Command.TheVariants.{CreateTable}
 use Rattle.sqlite.specs.Change.{created, next_tree, KeepsRows}
 use Rattle.sqlite.specs.Store.{Ghosts}
 use Rattle.sqlite.specs.Held.{Held, state}
-use Rattle.sqlite.specs.Effect.{Database, IsDatabase}
+use Rattle.sqlite.specs.Effect.{Database}
 use Rattle.sqlite.specs.Does.{Tally, Does, lacks_sequence}
 use Rattle.sqlite.specs.Listing.{understood}
 use Rattle.sqlite.proofs.Callers.{statement_of}
-use Rattle.rd_policy.specs.declared.audience.Audience.{Audience}
 use Rattle.rd_policy.specs.declared.audience.Audience.TheVariants.{Staff}
 use Rattle.rd_tables.specs.Schemas.{desk_schema}
 use Rattle.rd_tables.specs.Sheets.{Sheet, Spells, HaveRowids, map_of}
@@ -26,7 +24,7 @@ use Rattle.rd_tables.proofs.Running.{Makes, plain_mode}
 use Rattle.rd_tables.proofs.Statements.{puts_version, version_row}
 use Rattle.rd_tables.proofs.StatementTexts.{put_version_writes}
 use Rattle.rd_tables.proofs.Steps.{went, same_value}
-use Rattle.rd_store.specs.State.{Desk, digest_cmp, with_key}
+use Rattle.rd_store.specs.State.{digest_cmp}
 use Rattle.rd_store.specs.Lawful.{IsLawful, IsKey}
 use Rattle.rd_store.specs.Spelled.{deed_sheet, image_sheet, rule_sheet, key_sheet, check_sheet, HasVersion}
 use Rattle.rd_store.specs.Held.{IsOf, IsDeskAt, HoldsDesk, IsOpen, LeavesOnly, desk}

@@ -1,6 +1,6 @@
 -- The questions that the store asks of its tables, and the queries that their texts are.
 use Rattle.std.specs.Prelude.{ℕ, List, [], ◌∷◌, codes}
-use Rattle.sqlite.specs.Term.{Term, col}
+use Rattle.sqlite.specs.Term.{col}
 use Rattle.sqlite.specs.Query.{Query}
 use Rattle.rd_tables.specs.Asked.{asks_of, equals, rising}
 use Rattle.rd_tables.specs.Statements.{by_digest}

@@ -1,10 +1,9 @@
 use Rattle.std.proofs.Common.{◌≡◌, ◌∙◌, refl, sym, ap, subst, Option, Some, None, Result, Ok, Err, OnOk, IsErr, option_map, true≢false}
 use Rattle.std.specs.FinMap.{get}
 use Rattle.sqlite.specs.Effect.{Database}
-use Rattle.sqlite.specs.Held.{state}
 use Rattle.rd_store.specs.declared.images.Label.{Label}
 use Rattle.rd_store.specs.declared.rows.ImageRow.{ImageRow}
-use Rattle.rd_store.specs.Held.{Stays, IsOpen, IsClean, desk}
+use Rattle.rd_store.specs.Held.{Stays, IsOpen, desk}
 use Rattle.rd_store.specs.Shown.{label_of}
 use Rattle.rd_store.specs.Spelled.{desk_of}
 use Rattle.rd_store.specs.State.{Desk, added, with_image}

@@ -1,6 +1,4 @@
 use Rattle.std.proofs.Common.{◌≡◌, length}
-use Rattle.rd_store.specs.Held.{IsOpen, desk}
-use Rattle.rd_store.specs.Created.{new_desk}
 use Rattle.rd_store.proofs.Laws.{Laws}
 use Rattle.rd_store.proofs.Creating.{rests_new, made_or_old, only_new}
 use Rattle.rd_store.proofs.store.Store.create.Goals as goal
