@@ -28,7 +28,7 @@ use Rattle.rd_store.specs.State.{digest_cmp}
 use Rattle.rd_store.specs.Lawful.{IsLawful, IsKey}
 use Rattle.rd_store.specs.Spelled.{deed_sheet, image_sheet, rule_sheet, key_sheet, check_sheet, HasVersion}
 use Rattle.rd_store.specs.Held.{IsOf, IsDeskAt, HoldsDesk, IsOpen, LeavesOnly, desk}
-use Rattle.rd_store.specs.Created.{IsAt, IsMade, LeavesOldOr, Turns, empty_desk, new_desk}
+use Rattle.rd_store.specs.Created.{IsAt, IsMade, LeavesOldOrNew, Turns, empty_desk, new_desk}
 use Rattle.rd_store.proofs.Laws.{Laws, leaves_only, left_is}
 use Rattle.rd_store.proofs.Single.{rests_on}
 use Rattle.rd_store.proofs.Orders.{number_order, place_order, digest_order, checkup_order}
@@ -134,7 +134,7 @@ module _ {S : Type 0} (g : Ghosts S) (laws : Laws g) (old new : Held S) (staff :
   rests_new at = rests_on (new_desk staff) (state g new) (record { of = at.holds; lawful = lawful_new staff long }) at.settled at.autocommit
 
   -- what a crash leaves of the making
-  pub made_or_old : {T X : Type 0} (r : Result T X) → Turns g old new (IsOf (new_desk staff)) r → LeavesOldOr g old new (new_desk staff)
+  pub made_or_old : {T X : Type 0} (r : Result T X) → Turns g old new (IsOf (new_desk staff)) r → LeavesOldOrNew g old new (new_desk staff)
   made_or_old r turns was clean left may = elim (turns.crash was clean left may) [
     | inl before ↦ inl before
     | inr made ↦ inr (left_is (new_desk staff) made.0 left (record { of = made.1; lawful = lawful_new staff long }) made.2)

@@ -11,7 +11,7 @@ use Rattle.rd_policy.specs.declared.rule.Band.TheVariants.{Takedown, Deed}
 use Rattle.rd_tables.proofs.Entries.{IsKeyOrder, get_inserted}
 use Rattle.rd_store.specs.declared.rows.DeedRow.{DeedRow}
 use Rattle.rd_store.specs.declared.rows.ImageRow.{ImageRow}
-use Rattle.rd_store.specs.State.{Desk, Place, Terms, rule_of, place_cmp, digest_cmp, added, Stands, IsStaff, HasOtherStaff, with_deed, with_image, with_rule, without_rule, with_key, without_key}
+use Rattle.rd_store.specs.State.{Desk, Place, Terms, rule_of, place_cmp, digest_cmp, put_or_kept, Stands, IsStaff, HasOtherStaff, with_deed, with_image, with_rule, without_rule, with_key, without_key}
 use Rattle.rd_store.specs.Lawful.{IsLawful, IsDeed, IsImage, IsKey}
 use Rattle.rd_store.proofs.Orders.{number_order, place_order, digest_order}
 
@@ -101,7 +101,7 @@ module _ (acc : ℕ) (image : ImageRow) (desk : Desk) (is : IsImage acc image) (
   pub lawful_image : IsLawful (with_image acc image desk)
   lawful_image = go (get desk.images acc)
     where
-      go : (found : Option ImageRow) → IsLawful (added found acc image desk)
+      go : (found : Option ImageRow) → IsLawful (put_or_kept found acc image desk)
       go None = lawful_insert
       go (Some standing) = lawful
 

@@ -35,7 +35,7 @@ use Rattle.rd_tables.proofs.Statements.{deed_params, deed_row, has_number, by_ro
 use Rattle.rd_store.specs.declared.rows.DeedRow.{DeedRow}
 use Rattle.rd_store.specs.declared.rows.ImageRow.{ImageRow}
 use Rattle.rd_store.specs.Codes.{kind_code, band_code, audiences_code, audience_code, effect_code, how, number, word}
-use Rattle.rd_store.specs.State.{Desk, Place, Terms, place_cmp, digest_cmp, added, with_deed, with_image, with_rule, without_rule, with_key, without_key}
+use Rattle.rd_store.specs.State.{Desk, Place, Terms, place_cmp, digest_cmp, put_or_kept, with_deed, with_image, with_rule, without_rule, with_key, without_key}
 use Rattle.rd_store.specs.Spelled.{HaveOwnRowids, deed_sheet, image_sheet, rule_sheet, key_sheet, check_sheet, HasVersion}
 use Rattle.rd_store.specs.Held.{IsOf}
 use Rattle.rd_store.proofs.Orders.{number_order, place_order, digest_order, kind_back, audience_back, rule_back}
@@ -177,7 +177,7 @@ module _ (acc : ℕ) (image : ImageRow) where
       let put = spells_put image_sheet number_order new_image rows of.rows.images is none h.0 in
       let are = map_put image_sheet number_order new_image rows of.rows.images is none h.0 ∙ ap (λ (e : ℕ × ImageRow). insert (map_of image_sheet rows) e.0 e.1) image_read
       ∙ ap (λ (d : Desk). insert d.images acc image) of.is in
-      subst (λ found. IsOf (added found acc image desk) after) (sym free) (of_images desk db after (put_row new_image rows) of sound h.1 put (insert desk.images acc image) are)
+      subst (λ found. IsOf (put_or_kept found acc image desk) after) (sym free) (of_images desk db after (put_row new_image rows) of sound h.1 put (insert desk.images acc image) are)
 
 -- ---- rules
 
