@@ -13,6 +13,8 @@ mod read;
 mod rows;
 mod rules;
 mod store;
+#[cfg(test)]
+mod tests;
 
 pub use faults::{CreateFault, Refused, StoreFault};
 pub use rows::{DeedRow, ImageRow, Outcome};

@@ -1,0 +1,206 @@
+mod creating;
+mod images;
+mod keys;
+mod refused;
+mod rules;
+
+ghost use Rattle.std.specs.Prelude.{◌≡◌, IfOk, length, vec_len};
+ghost use Rattle.rd_policy.specs.Rules.{IsScope};
+
+use crate::{Refused, Store, StoreFault};
+use rd_geometry::{Kind, NoMemory};
+use rd_policy::{Audience, Audiences, Band, Effect, Rule, Select};
+use sqlite::{Connection, Error, MemStore};
+use std::alloc::Global;
+use std::process::Abort;
+use std::test::Fail;
+
+/// A desk in memory.
+type Desk = Store<MemStore>;
+
+/// The SHA-256 of `abc`, for the staff.
+const STAFF: [u8; 32] = [
+    0xba, 0x78, 0x16, 0xbf, 0x8f, 0x01, 0xcf, 0xea, 0x41, 0x41, 0x40, 0xde, 0x5d, 0xae, 0x22, 0x23,
+    0xb0, 0x03, 0x61, 0xa3, 0x96, 0x17, 0x7a, 0x9c, 0xb4, 0x10, 0xff, 0x61, 0xf2, 0x00, 0x15, 0xad,
+];
+
+/// The SHA-256 of `hello`, for the reading room.
+const ROOM: [u8; 32] = [
+    0x2c, 0xf2, 0x4d, 0xba, 0x5f, 0xb0, 0xa3, 0x0e, 0x26, 0xe8, 0x3b, 0x2a, 0xc5, 0xb9, 0xe2, 0x9e,
+    0x1b, 0x16, 0x1e, 0x5c, 0x1f, 0xa7, 0x42, 0x5e, 0x73, 0x04, 0x33, 0x62, 0x93, 0x8b, 0x98, 0x24,
+];
+
+/// What was given as the digest of image 12, and another.
+const DIGEST: [u8; 32] = [0xd1; 32];
+
+const OTHER_DIGEST: [u8; 32] = [0x07; 32];
+
+const ALL: Audiences = Audiences {
+    public: true,
+    room: true,
+    staff: true,
+};
+
+const NOT_STAFF: Audiences = Audiences {
+    public: true,
+    room: true,
+    staff: false,
+};
+
+// The calls of a store have a helper each, without a clause, so that the proof of a test does not carry what
+// all its calls say.
+
+fn new_connection(alloc: Global) -> Result<Connection<MemStore>, NoMemory>
+    ensures { IfOk result (λ conn. conn.in_transaction ≡ false) }
+{
+    Ok(Connection::open_in_memory(alloc)?)
+}
+
+/// A new desk with one staff key.
+fn new_desk(alloc: Global) -> Result<Desk, Fail> {
+    match Store::create(new_connection(alloc)?, &STAFF) {
+        Ok(desk) => Ok(desk),
+        Err(Refused { fault, conn: _ }) => Err(Fail::from(fault)),
+    }
+}
+
+/// As many bytes as a 1541 disk has, all the same.
+fn bytes(alloc: Global, byte: u8) -> Result<Vec<u8>, NoMemory>
+    ensures { IfOk result (λ bytes. vec_len bytes ≡ 174_848) }
+{
+    Ok(vec![in alloc; byte; 174_848]?)
+}
+
+fn put_curator(desk: &mut Desk) -> Result<(), StoreFault> {
+    desk.put_deed(7, "A. Curator", 18_020)
+}
+
+fn put_donor(desk: &mut Desk) -> Result<(), StoreFault> {
+    desk.put_deed(8, "B. Donor", 18_321)
+}
+
+fn put_image(
+    desk: &mut Desk,
+    acc: u32,
+    deed: u32,
+    digest: &[u8; 32],
+    bytes: &[u8],
+) -> Result<(), StoreFault>
+    requires scope { IsScope acc }
+    requires sized { length bytes.now ≡ 174_848 }
+{
+    desk.put_image(acc, Kind::D64, deed, digest, bytes)
+}
+
+fn put_room_key(desk: &mut Desk, digest: &[u8; 32]) -> Result<(), StoreFault> {
+    desk.put_key(digest, Audience::Room)
+}
+
+fn put_rule(rt: &impl Abort, desk: &mut Desk, rule: &Rule) -> Result<(), StoreFault> {
+    assert!(rt; rule.fits());
+    desk.put_rule(rule)
+}
+
+/// A rule of deed 7 for everyone, without days.
+fn rule(rank: u16, select: Select, effect: Effect) -> Rule {
+    Rule {
+        band: Band::Deed,
+        scope: 7,
+        rank,
+        audiences: ALL,
+        from: None,
+        until: None,
+        select,
+        effect,
+    }
+}
+
+/// The rule of rank 10 of deed 7: closed to all but the staff until 2030.
+fn closed() -> Rule {
+    Rule {
+        audiences: NOT_STAFF,
+        until: Some(21_915),
+        ..rule(10, Select::All, Effect::Deny)
+    }
+}
+
+/// The rule of rank 20 of deed 7: open to everyone.
+fn open() -> Rule {
+    rule(20, Select::All, Effect::Read)
+}
+
+/// The takedown of rank 1 of an accession: the file at slot 0, for all but the staff.
+fn takedown(acc: u32) -> Rule {
+    Rule {
+        band: Band::Takedown,
+        scope: acc,
+        audiences: NOT_STAFF,
+        ..rule(1, Select::Slot(0), Effect::Deny)
+    }
+}
+
+/// A desk with deeds 7 and 8, a key for the room, two rules of deed 7, and image 12 under it.
+fn filled(rt: &impl Abort, alloc: Global) -> Result<Desk, Fail> {
+    let mut desk = new_desk(alloc)?;
+    put_curator(&mut desk)?;
+    put_donor(&mut desk)?;
+    put_room_key(&mut desk, &ROOM)?;
+    put_rule(rt, &mut desk, &open())?;
+    put_rule(rt, &mut desk, &closed())?;
+    let zeros = bytes(alloc, 0)?;
+    put_image(&mut desk, 12, 7, &DIGEST, zeros.as_slice())?;
+    Ok(desk)
+}
+
+/// Whether a 1541 image of these values stands.
+fn has_image(
+    alloc: Global,
+    desk: &mut Desk,
+    acc: u32,
+    deed: u32,
+    digest: &[u8; 32],
+    byte: u8,
+) -> Result<bool, Fail> {
+    let Some(image) = desk.image(alloc, acc)? else {
+        return Ok(false);
+    };
+    let wanted = bytes(alloc, byte)?;
+    Ok(
+        image.kind == Kind::D64
+            && image.deed == deed
+            && image.digest == *digest
+            && image.bytes.as_slice() == wanted.as_slice(),
+    )
+}
+
+/// Whether the deed with a number has these values.
+fn has_deed(desk: &mut Desk, num: u32, donor: &str, signed: i32) -> Result<bool, StoreFault> {
+    match desk.deed(num)? {
+        Some(deed) => Ok(deed.donor.as_str() == donor && deed.signed == signed),
+        None => Ok(false),
+    }
+}
+
+/// Whether these are the rules for an accession, in this order.
+fn has_rules(alloc: Global, desk: &mut Desk, acc: u32, wanted: &[Rule]) -> Result<bool, Fail> {
+    let found = desk.rules_for(alloc, acc)?;
+    Ok(told(alloc, found.as_slice())?.as_str() == told(alloc, wanted)?.as_str())
+}
+
+/// All that rules hold, in words.
+fn told(alloc: Global, rules: &[Rule]) -> Result<String, Fail> {
+    Ok(format!(in alloc; "{rules:?}")?)
+}
+
+fn audience_of(desk: &mut Desk, digest: &[u8; 32]) -> Result<Option<Audience>, StoreFault> {
+    desk.audience_of(digest)
+}
+
+/// The number that a query tells.
+fn number(conn: &mut Connection<MemStore>, sql: &str) -> Result<i64, Error> {
+    conn.query_row(sql, &[])?.get(0)
+}
+
+fn run(conn: &mut Connection<MemStore>, sql: &str) -> Result<usize, Error> {
+    conn.execute(sql, &[])
+}
