@@ -1,9 +1,10 @@
 #!/usr/bin/env python3
 """scripts/compare-tools.py PROGRAM [KIND..]: compares desk with cpmtools, cbmconvert and cc1541.
 
-It makes 24 images of each kind with those tools, and compares what desk lists and what it writes of each
-file with what the tools say. docs/DECISIONS.md explains the differences that are allowed: that cpmcp cuts a
-file at its byte S1."""
+It makes 24 undamaged images of each kind with cpmtools or cc1541. It compares the users and names of CP/M files
+with what cpmls lists, the names and types of 1541 files with what cc1541 lists, the sizes with how many bytes desk
+writes, and these bytes with what cpmcp or cbmconvert gives out. docs/DECISIONS.md explains the four differences that
+are allowed: byte S1, blocks on track 76, the short images of mkfs.cpm, and DEL files."""
 
 import os
 import random

@@ -1,8 +1,7 @@
 -- What making the tables and their first rows comes to.
-use Rattle.std.proofs.Common.{◌≡◌, ◌⊎◌, inl, inr, ℕ, ◌+◌, ◌<◌, List, [], ◌∷◌, ◌++◌, length, get_or, false, Option, Some, None, Result, Ok, IsSome, refl, sym, ap, subst, subst₂, ◌∙◌}
+use Rattle.std.proofs.Common.{◌≡◌, inl, inr, ℕ, ◌+◌, ◌<◌, List, [], ◌∷◌, ◌++◌, length, get_or, false, Option, Some, None, Result, Ok, refl, sym, ap, subst, subst₂, ◌∙◌}
 use Rattle.std.specs.List.{AllByRecursion, IsDistinct}
-use Rattle.std.specs.Ordering.{eq_by_cmp}
-use Rattle.std.specs.FinMap.{FinMap, get, from_entries, get-from_entries}
+use Rattle.std.specs.FinMap.{get, from_entries, get-from_entries}
 use Rattle.sqlite.specs.Order.{Row}
 use Rattle.sqlite.specs.Tree.{Trees, put_row}
 use Rattle.sqlite.specs.Table.{Table}
@@ -11,11 +10,10 @@ use Rattle.sqlite.specs.Command.TheVariants.{CreateTable}
 use Rattle.sqlite.specs.Change.{created, next_tree, KeepsRows}
 use Rattle.sqlite.specs.Store.{Ghosts}
 use Rattle.sqlite.specs.Held.{Held, state}
-use Rattle.sqlite.specs.Effect.{Database, IsDatabase}
+use Rattle.sqlite.specs.Effect.{Database}
 use Rattle.sqlite.specs.Does.{Tally, Does, lacks_sequence}
 use Rattle.sqlite.specs.Listing.{understood}
 use Rattle.sqlite.proofs.Callers.{statement_of}
-use Rattle.rd_policy.specs.declared.audience.Audience.{Audience}
 use Rattle.rd_policy.specs.declared.audience.Audience.TheVariants.{Staff}
 use Rattle.rd_tables.specs.Schemas.{desk_schema}
 use Rattle.rd_tables.specs.Sheets.{Sheet, Spells, HaveRowids, map_of}
@@ -26,11 +24,11 @@ use Rattle.rd_tables.proofs.Running.{Makes, plain_mode}
 use Rattle.rd_tables.proofs.Statements.{puts_version, version_row}
 use Rattle.rd_tables.proofs.StatementTexts.{put_version_writes}
 use Rattle.rd_tables.proofs.Steps.{went, same_value}
-use Rattle.rd_store.specs.State.{Desk, digest_cmp, with_key}
+use Rattle.rd_store.specs.State.{digest_cmp}
 use Rattle.rd_store.specs.Lawful.{IsLawful, IsKey}
 use Rattle.rd_store.specs.Spelled.{deed_sheet, image_sheet, rule_sheet, key_sheet, check_sheet, HasVersion}
 use Rattle.rd_store.specs.Held.{IsOf, IsDeskAt, HoldsDesk, IsOpen, LeavesOnly, desk}
-use Rattle.rd_store.specs.Created.{IsAt, IsMade, LeavesOldOr, Turns, empty_desk, new_desk}
+use Rattle.rd_store.specs.Created.{IsAt, IsMade, LeavesOldOrNew, Turns, empty_desk, new_desk}
 use Rattle.rd_store.proofs.Laws.{Laws, leaves_only, left_is}
 use Rattle.rd_store.proofs.Single.{rests_on}
 use Rattle.rd_store.proofs.Orders.{number_order, place_order, digest_order, checkup_order}
@@ -136,7 +134,7 @@ module _ {S : Type 0} (g : Ghosts S) (laws : Laws g) (old new : Held S) (staff :
   rests_new at = rests_on (new_desk staff) (state g new) (record { of = at.holds; lawful = lawful_new staff long }) at.settled at.autocommit
 
   -- what a crash leaves of the making
-  pub made_or_old : {T X : Type 0} (r : Result T X) → Turns g old new (IsOf (new_desk staff)) r → LeavesOldOr g old new (new_desk staff)
+  pub made_or_old : {T X : Type 0} (r : Result T X) → Turns g old new (IsOf (new_desk staff)) r → LeavesOldOrNew g old new (new_desk staff)
   made_or_old r turns was clean left may = elim (turns.crash was clean left may) [
     | inl before ↦ inl before
     | inr made ↦ inr (left_is (new_desk staff) made.0 left (record { of = made.1; lawful = lawful_new staff long }) made.2)

@@ -1,9 +1,8 @@
 -- What the queries show of a desk.
-use Rattle.std.proofs.Common.{◌≡◌, ◌≢◌, ◌⊎◌, inl, inr, ℕ, zero, suc, ◌<◌, slice_index_or, pos, List, [], ◌∷◌, map, option_map, Bool, true, false, Some, None, Option, refl, sym, ap, ◌∙◌, arith, nat_cmp, int_cmp, is_lt, is_eq, Less, Equal, Greater, Ordering, ◌&&◌, ◌==◌, All, subst, length}
+use Rattle.std.proofs.Common.{◌≡◌, inl, inr, ℕ, zero, suc, ◌<◌, slice_index_or, pos, List, [], ◌∷◌, map, Bool, true, false, Some, refl, sym, ap, ◌∙◌, arith, nat_cmp, int_cmp, is_lt, is_eq, Less, Equal, Greater, Ordering, ◌&&◌, ◌==◌, All, subst, length}
 use Rattle.std.specs.Prelude.{MatchBool}
 use Rattle.std.specs.Option.{option_to_list}
 use Rattle.std.specs.List.{Any}
-use Rattle.std.specs.Cmp.Lexicographic.{slice_cmp}
 use Rattle.std.proofs.lemmas.Cmp.{nat_list_cmp_total}
 use Rattle.std.proofs.lemmas.List.Elements.{recursion_from_All}
 use Rattle.sqlite_rules.specs.Lists.{Has}
@@ -12,7 +11,7 @@ use Rattle.sqlite_value.proofs.OrderLemmas.{value_cmp-Blob}
 use Rattle.rd_policy.specs.declared.audience.Audience.{Audience}
 use Rattle.rd_policy.specs.declared.audience.Audience.TheVariants.{Staff}
 use Rattle.std.specs.Ordering.{eq_by_cmp, ordering_then, ordering_reverse}
-use Rattle.std.specs.FinMap.{FinMap, get, keys, entries, retain_keys}
+use Rattle.std.specs.FinMap.{get, keys, entries, retain_keys}
 use Rattle.std.proofs.lemmas.Bool.Decides.{nat_tests}
 use Rattle.sqlite.specs.declared.types.Value.TheVariants.{Int, Blob}
 use Rattle.sqlite.specs.Order.{Row, column}
@@ -23,18 +22,17 @@ use Rattle.sqlite_sql.specs.declared.ops.BinaryOp.TheVariants.{Compare}
 use Rattle.sqlite_sql.specs.declared.ops.CompareOp.TheVariants.{Eq}
 use Rattle.sqlite_value.proofs.OrderLemmas.{value_cmp-Int, then-Equal}
 use Rattle.rd_tables.specs.Asked.{IsPicked, rising}
-use Rattle.rd_tables.specs.Queries.{deed_query, image_query, label_query, accessions_query, audience_query, rules_query, keys_query}
+use Rattle.rd_tables.specs.Queries.{deed_query, image_query, heading_query, accessions_query, audience_query, rules_query, keys_query}
 use Rattle.rd_tables.specs.Sheets.{Spells, map_of, natural, seen}
 use Rattle.rd_tables.proofs.Lists.{map_map, and_true, both, in_map, from_map}
 use Rattle.rd_tables.proofs.Values.{equal_numbers, equal_blobs}
 use Rattle.rd_tables.proofs.Entries.{retain_all, entry_got, got_entry}
 use Rattle.rd_tables.proofs.Finding.{looked_up, in_order}
 use Rattle.rd_policy.specs.declared.rule.Band.{Band}
-use Rattle.rd_policy.specs.declared.rule.Rule.{Rule}
 use Rattle.rd_store.specs.Codes.{band_code, is_at}
-use Rattle.rd_store.specs.State.{Desk, Place, Terms, digest_cmp, place_cmp, rule_of, rules_at, HasOtherStaff}
+use Rattle.rd_store.specs.State.{Desk, Place, Terms, digest_cmp, rule_of, HasOtherStaff}
 use Rattle.rd_store.specs.declared.rows.ImageRow.{ImageRow}
-use Rattle.rd_store.specs.Shown.{deed_shown, image_shown, label_shown, label_of, accession_shown, audience_shown, ShowsOther, IsOtherKey}
+use Rattle.rd_store.specs.Shown.{deed_shown, image_shown, heading_shown, accession_shown, audience_shown, ShowsOther, IsOtherKey}
 use Rattle.rd_store.specs.Spelled.{deed_sheet, image_sheet, key_sheet, rule_sheet}
 use Rattle.rd_store.proofs.Orders.{number_order, digest_order, place_order, rule_back, key_back}
 
@@ -51,8 +49,8 @@ module _ (n : ℕ) (table rows : List Row) where
   image_found spells picks = looked_up image_sheet number_order image_query (Int (pos n) ∷ []) table rows spells picks n image_shown
       (λ row is. ap (λ s. is_true (binary (Compare Eq Binary) (column s 0) (Int (pos n))) && true) is ∙ first_is n _) (λ row is. ap (λ s. ([], column s 1 ∷ column s 2 ∷ column s 3 ∷ column s 4 ∷ [])) is)
 
-  pub label_found : Spells image_sheet table → IsPicked label_query (Int (pos n) ∷ []) table rows → rows ≡ map label_shown (option_to_list (get (map_of image_sheet table) n))
-  label_found spells picks = looked_up image_sheet number_order label_query (Int (pos n) ∷ []) table rows spells picks n label_shown
+  pub heading_found : Spells image_sheet table → IsPicked heading_query (Int (pos n) ∷ []) table rows → rows ≡ map heading_shown (option_to_list (get (map_of image_sheet table) n))
+  heading_found spells picks = looked_up image_sheet number_order heading_query (Int (pos n) ∷ []) table rows spells picks n heading_shown
       (λ row is. ap (λ s. is_true (binary (Compare Eq Binary) (column s 0) (Int (pos n))) && true) is ∙ first_is n _) (λ row is. ap (λ s. ([], column s 1 ∷ column s 2 ∷ column s 3 ∷ [])) is)
 
 -- ORDER BY a number, whose numbers differ

@@ -3,7 +3,6 @@ use Rattle.std.proofs.Common.{◌≡◌, ◌≢◌, ◌⊎◌, inl, inr, ℕ, Li
 use Rattle.std.specs.Ordering.{eq_by_cmp}
 use Rattle.std.specs.FinMap.{FinMap, get, insert, remove, get-insert, get-remove}
 use Rattle.std.proofs.lemmas.Bool.{cases_Bool}
-use Rattle.std.proofs.lemmas.Cmp.{eq_by_cmp_equiv}
 use Rattle.rd_policy.specs.Rules.{IsRule}
 use Rattle.rd_policy.specs.declared.audience.Audience.{Audience}
 use Rattle.rd_policy.specs.declared.audience.Audience.TheVariants.{Staff}
@@ -12,7 +11,7 @@ use Rattle.rd_policy.specs.declared.rule.Band.TheVariants.{Takedown, Deed}
 use Rattle.rd_tables.proofs.Entries.{IsKeyOrder, get_inserted}
 use Rattle.rd_store.specs.declared.rows.DeedRow.{DeedRow}
 use Rattle.rd_store.specs.declared.rows.ImageRow.{ImageRow}
-use Rattle.rd_store.specs.State.{Desk, Place, Terms, Checkup, rule_of, place_cmp, digest_cmp, added, Stands, IsStaff, HasOtherStaff, with_deed, with_image, with_rule, without_rule, with_key, without_key}
+use Rattle.rd_store.specs.State.{Desk, Place, Terms, rule_of, place_cmp, digest_cmp, put_or_kept, Stands, IsStaff, HasOtherStaff, with_deed, with_image, with_rule, without_rule, with_key, without_key}
 use Rattle.rd_store.specs.Lawful.{IsLawful, IsDeed, IsImage, IsKey}
 use Rattle.rd_store.proofs.Orders.{number_order, place_order, digest_order}
 
@@ -102,7 +101,7 @@ module _ (acc : ℕ) (image : ImageRow) (desk : Desk) (is : IsImage acc image) (
   pub lawful_image : IsLawful (with_image acc image desk)
   lawful_image = go (get desk.images acc)
     where
-      go : (found : Option ImageRow) → IsLawful (added found acc image desk)
+      go : (found : Option ImageRow) → IsLawful (put_or_kept found acc image desk)
       go None = lawful_insert
       go (Some standing) = lawful
 

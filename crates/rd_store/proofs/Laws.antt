@@ -1,15 +1,14 @@
 -- The laws of a store that are used, and what they say of a connection.
-use Rattle.std.proofs.Common.{◌≡◌, ◌⊎◌, inl, inr, ◌∙◌, false, Result, Ok, Err, OnOk, OnErr, sym, ap, subst, IsTrue}
+use Rattle.std.proofs.Common.{◌≡◌, inl, inr, ◌∙◌, false, Result, Ok, Err, OnOk, OnErr, sym, ap, subst, IsTrue}
 use Rattle.sqlite.specs.Tree.{Trees}
 use Rattle.sqlite.specs.Store.{Ghosts}
 use Rattle.sqlite.specs.Effect.{Database}
-use Rattle.sqlite.specs.State.{State, HasCleanDisk}
+use Rattle.sqlite.specs.State.{State}
 use Rattle.sqlite.specs.Held.{Held, state}
 use Rattle.sqlite.proofs.StateLemmas.{clean_if_open, survives_then}
-use Rattle.rd_tables.specs.Schemas.{desk_schema}
 use Rattle.rd_store.specs.State.{Desk}
 use Rattle.rd_store.specs.Spelled.{desk_of}
-use Rattle.rd_store.specs.Held.{Holds, IsLeft, IsDeskAt, HoldsDesk, HoldsTables, Changes, Keeps, Stays, StaysOpen, IsOpen, IsClean, LeavesOnly, desk}
+use Rattle.rd_store.specs.Held.{Holds, IsLeft, HoldsDesk, HoldsTables, Changes, Keeps, Stays, StaysOpen, IsOpen, IsClean, LeavesOnly, desk}
 
 pub record Laws {S : Type 0} (g : Ghosts S) : Type 0 where
   -- while the store is open, a crash leaves the last commit

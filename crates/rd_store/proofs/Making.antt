@@ -1,13 +1,13 @@
 -- What the statements make of a database of a desk.
-use Rattle.std.proofs.Common.{◌≡◌, ◌⊎◌, inl, inr, ℕ, ℤ, pos, List, [], ◌∷◌, filter, Bool, true, false, not, ◌&&◌, Option, Some, None, refl, sym, ap, subst, ◌∙◌, IsTrue, Equal, nat_cmp, int_cmp, arith}
+use Rattle.std.proofs.Common.{◌≡◌, ◌==◌, ℕ, pos, List, filter, Bool, true, false, not, ◌&&◌, None, refl, sym, ap, subst, ◌∙◌, IsTrue, Equal, nat_cmp, int_cmp, arith}
 use Rattle.std.specs.List.{AllByRecursion}
 use Rattle.std.specs.Ordering.{eq_by_cmp}
 use Rattle.std.specs.FinMap.{FinMap, get, insert, remove}
 use Rattle.std.proofs.lemmas.Cmp.{eq_by_cmp_equiv, nat_cmp_total}
 use Rattle.std.proofs.lemmas.Bool.Decides.{nat_tests}
-use Rattle.sqlite.specs.declared.types.Value.TheVariants.{Null, Int, Text, Blob}
+use Rattle.sqlite.specs.declared.types.Value.TheVariants.{Int, Blob}
 use Rattle.sqlite.specs.Collation.TheVariants.{Binary}
-use Rattle.sqlite.specs.Order.{Row, column, value_cmp}
+use Rattle.sqlite.specs.Order.{Row, column}
 use Rattle.sqlite.specs.Tree.{put_row, rowid}
 use Rattle.sqlite.specs.Effect.{Database, IsDatabase}
 use Rattle.sqlite.specs.Listing.{understood}
@@ -16,7 +16,6 @@ use Rattle.sqlite_sql.specs.Ops.{binary, is_true}
 use Rattle.sqlite_sql.specs.declared.ops.BinaryOp.TheVariants.{Compare}
 use Rattle.sqlite_sql.specs.declared.ops.CompareOp.TheVariants.{Eq}
 use Rattle.sqlite_trees.specs.View.{is_int}
-use Rattle.sqlite_rules.specs.Lists.{Has}
 use Rattle.sqlite_rules.proofs.ListLemmas.{all_has}
 use Rattle.sqlite_value.proofs.OrderLemmas.{value_cmp-Int}
 use Rattle.sqlite_value.specs.Keys.{first_key}
@@ -30,123 +29,88 @@ use Rattle.rd_tables.proofs.Entries.{insert_removed}
 use Rattle.rd_tables.proofs.Changed.{spells_put, map_put, none_at, map_left, spells_left, none_left}
 use Rattle.rd_tables.proofs.Removed.{rowids_left, rowids_put}
 use Rattle.rd_tables.proofs.Running.{Makes}
-use Rattle.rd_tables.proofs.Setting.{Sets, not_taken}
+use Rattle.rd_tables.proofs.Setting.{Sets, is_index_tree, not_taken}
 use Rattle.rd_tables.proofs.StatementTexts.{put_deed_writes, put_image_writes, put_rule_writes, drop_rule_writes, put_key_writes, drop_key_writes}
-use Rattle.rd_tables.proofs.Statements.{deed_params, deed_row, has_number, by_rowid, puts_deed, image_params, image_row, puts_image, place_params, has_place, drops_rule, rule_params, rule_row, puts_rule, digest_params, has_digest, drops_key, key_params, key_row, puts_key}
+use Rattle.rd_tables.proofs.Statements.{deed_params, deed_row, has_number, by_rowid, puts_deed, image_params, image_row, puts_image, place_params, has_place, drops_rule, rule_row, puts_rule, digest_params, has_digest, drops_key, key_params, key_row, puts_key}
 use Rattle.rd_store.specs.declared.rows.DeedRow.{DeedRow}
 use Rattle.rd_store.specs.declared.rows.ImageRow.{ImageRow}
 use Rattle.rd_store.specs.Codes.{kind_code, band_code, audiences_code, audience_code, effect_code, how, number, word}
-use Rattle.rd_store.specs.State.{Desk, Place, Terms, place_cmp, digest_cmp, added, with_deed, with_image, with_rule, without_rule, with_key, without_key}
-use Rattle.rd_store.specs.Spelled.{deed_sheet, image_sheet, rule_sheet, key_sheet, check_sheet, HasVersion, SpellDesk, HaveOwnRowids, desk_of}
+use Rattle.rd_store.specs.State.{Desk, Place, Terms, place_cmp, digest_cmp, put_or_kept, with_deed, with_image, with_rule, without_rule, with_key, without_key}
+use Rattle.rd_store.specs.Spelled.{HaveOwnRowids, deed_sheet, image_sheet, rule_sheet, key_sheet, check_sheet, HasVersion}
 use Rattle.rd_store.specs.Held.{IsOf}
 use Rattle.rd_store.proofs.Orders.{number_order, place_order, digest_order, kind_back, audience_back, rule_back}
 
 -- ---- one table is set, and the others stay
 
+-- The rows on one tree spell this map.
+record Part {K X : Type 0} (sheet : Sheet K X) (tree : ℕ) (db : Database) (m : FinMap sheet.cmp X) : Type 0 where
+  spells : Spells sheet (db.trees tree)
+  is : map_of sheet (db.trees tree) ≡ m
+
+set : {K X : Type 0} (sheet : Sheet K X) (tree : ℕ) (db after : Database) (rows : List Row) → Sets tree db after rows → Spells sheet rows → (m : FinMap sheet.cmp X) → map_of sheet rows ≡ m → Part sheet tree after m
+set sheet tree db after rows h spells m are = record { spells = subst (Spells sheet) (sym h.now) spells; is = ap (map_of sheet) h.now ∙ are }
+
+stays : {K X : Type 0} (sheet : Sheet K X) (tree : ℕ) (db after : Database) (m : FinMap sheet.cmp X) → after.trees tree ≡ db.trees tree → Part sheet tree db m → Part sheet tree after m
+stays sheet tree db after m same part = record { spells = subst (Spells sheet) (sym same) part.spells; is = ap (map_of sheet) same ∙ part.is }
+
+-- the parts of a desk
+whole : (desk : Desk) (db : Database) → db.schema ≡ desk_schema → HasVersion 0 (db.trees 0) → Part deed_sheet 1 db desk.deeds → Part image_sheet 2 db desk.images → Part rule_sheet 3 db desk.rules
+    → Part key_sheet 5 db desk.keys → Part check_sheet 7 db desk.checks → HaveOwnRowids db.trees → IsDatabase db → IsOf desk db
+whole desk db schema version deeds images rules keys checks rowids sound = record {
+  schema = schema;
+  rows = record { version = version; deeds = deeds.spells; images = images.spells; rules = rules.spells; keys = keys.spells; checks = checks.spells };
+  rowids = rowids;
+  sound = sound;
+  is = λ i. record { deeds = deeds.is i; images = images.is i; rules = rules.is i; keys = keys.is i; checks = checks.is i };
+}
+
 module _ (desk : Desk) (db after : Database) (rows : List Row) (of : IsOf desk db) (sound : IsDatabase after) where
+  version_stays : after.trees 0 ≡ db.trees 0 → HasVersion 0 (after.trees 0)
+  version_stays same = subst (HasVersion 0) (sym same) of.rows.version
+
+  deeds_stay : after.trees 1 ≡ db.trees 1 → Part deed_sheet 1 after desk.deeds
+  deeds_stay same = stays deed_sheet 1 db after desk.deeds same (record { spells = of.rows.deeds; is = ap (λ (d : Desk). d.deeds) of.is })
+
+  images_stay : after.trees 2 ≡ db.trees 2 → Part image_sheet 2 after desk.images
+  images_stay same = stays image_sheet 2 db after desk.images same (record { spells = of.rows.images; is = ap (λ (d : Desk). d.images) of.is })
+
+  rules_stay : after.trees 3 ≡ db.trees 3 → Part rule_sheet 3 after desk.rules
+  rules_stay same = stays rule_sheet 3 db after desk.rules same (record { spells = of.rows.rules; is = ap (λ (d : Desk). d.rules) of.is })
+
+  keys_stay : after.trees 5 ≡ db.trees 5 → Part key_sheet 5 after desk.keys
+  keys_stay same = stays key_sheet 5 db after desk.keys same (record { spells = of.rows.keys; is = ap (λ (d : Desk). d.keys) of.is })
+
+  checks_stay : after.trees 7 ≡ db.trees 7 → Part check_sheet 7 after desk.checks
+  checks_stay same = stays check_sheet 7 db after desk.checks same (record { spells = of.rows.checks; is = ap (λ (d : Desk). d.checks) of.is })
+
+  rowids_stay : after.trees 3 ≡ db.trees 3 → after.trees 5 ≡ db.trees 5 → after.trees 7 ≡ db.trees 7 → HaveOwnRowids after.trees
+  rowids_stay rules keys checks = record { rules = subst HaveRowids (sym rules) of.rowids.rules; keys = subst HaveRowids (sym keys) of.rowids.keys; checks = subst HaveRowids (sym checks) of.rowids.checks }
+
   of_deeds : Sets 1 db after rows → Spells deed_sheet rows → (m : FinMap nat_cmp DeedRow) → map_of deed_sheet rows ≡ m → IsOf (record desk { deeds = m }) after
   of_deeds h spells m are =
-      let images = ap (map_of image_sheet) (h.stays 2 refl refl) ∙ ap (λ (d : Desk). d.images) of.is in
-      let rules = ap (map_of rule_sheet) (h.stays 3 refl refl) ∙ ap (λ (d : Desk). d.rules) of.is in
-      let keys = ap (map_of key_sheet) (h.stays 5 refl refl) ∙ ap (λ (d : Desk). d.keys) of.is in
-      let checks = ap (map_of check_sheet) (h.stays 7 refl refl) ∙ ap (λ (d : Desk). d.checks) of.is in
-      let now = ap (map_of deed_sheet) h.now ∙ are in
-      record {
-        schema = h.schema;
-        rows = record {
-          version = subst (HasVersion 0) (sym (h.stays 0 refl refl)) of.rows.version;
-          deeds = subst (Spells deed_sheet) (sym h.now) spells;
-          images = subst (Spells image_sheet) (sym (h.stays 2 refl refl)) of.rows.images;
-          rules = subst (Spells rule_sheet) (sym (h.stays 3 refl refl)) of.rows.rules;
-          keys = subst (Spells key_sheet) (sym (h.stays 5 refl refl)) of.rows.keys;
-          checks = subst (Spells check_sheet) (sym (h.stays 7 refl refl)) of.rows.checks;
-        };
-        rowids = record {
-          rules = subst HaveRowids (sym (h.stays 3 refl refl)) of.rowids.rules;
-          keys = subst HaveRowids (sym (h.stays 5 refl refl)) of.rowids.keys;
-          checks = subst HaveRowids (sym (h.stays 7 refl refl)) of.rowids.checks;
-        };
-        sound = sound;
-        is = λ i. record { deeds = now i; images = images i; rules = rules i; keys = keys i; checks = checks i };
-      }
+      let at = λ (t : ℕ) (other : (t == 1) ≡ false) (table : is_index_tree t ≡ false). h.stays t other table in
+      whole (record desk { deeds = m }) after h.schema (version_stays (at 0 refl refl)) (set deed_sheet 1 db after rows h spells m are) (images_stay (at 2 refl refl)) (rules_stay (at 3 refl refl)) (keys_stay (at 5 refl refl))
+      (checks_stay (at 7 refl refl)) (rowids_stay (at 3 refl refl) (at 5 refl refl) (at 7 refl refl)) sound
 
   of_images : Sets 2 db after rows → Spells image_sheet rows → (m : FinMap nat_cmp ImageRow) → map_of image_sheet rows ≡ m → IsOf (record desk { images = m }) after
   of_images h spells m are =
-      let deeds = ap (map_of deed_sheet) (h.stays 1 refl refl) ∙ ap (λ (d : Desk). d.deeds) of.is in
-      let rules = ap (map_of rule_sheet) (h.stays 3 refl refl) ∙ ap (λ (d : Desk). d.rules) of.is in
-      let keys = ap (map_of key_sheet) (h.stays 5 refl refl) ∙ ap (λ (d : Desk). d.keys) of.is in
-      let checks = ap (map_of check_sheet) (h.stays 7 refl refl) ∙ ap (λ (d : Desk). d.checks) of.is in
-      let now = ap (map_of image_sheet) h.now ∙ are in
-      record {
-        schema = h.schema;
-        rows = record {
-          version = subst (HasVersion 0) (sym (h.stays 0 refl refl)) of.rows.version;
-          deeds = subst (Spells deed_sheet) (sym (h.stays 1 refl refl)) of.rows.deeds;
-          images = subst (Spells image_sheet) (sym h.now) spells;
-          rules = subst (Spells rule_sheet) (sym (h.stays 3 refl refl)) of.rows.rules;
-          keys = subst (Spells key_sheet) (sym (h.stays 5 refl refl)) of.rows.keys;
-          checks = subst (Spells check_sheet) (sym (h.stays 7 refl refl)) of.rows.checks;
-        };
-        rowids = record {
-          rules = subst HaveRowids (sym (h.stays 3 refl refl)) of.rowids.rules;
-          keys = subst HaveRowids (sym (h.stays 5 refl refl)) of.rowids.keys;
-          checks = subst HaveRowids (sym (h.stays 7 refl refl)) of.rowids.checks;
-        };
-        sound = sound;
-        is = λ i. record { deeds = deeds i; images = now i; rules = rules i; keys = keys i; checks = checks i };
-      }
+      let at = λ (t : ℕ) (other : (t == 2) ≡ false) (table : is_index_tree t ≡ false). h.stays t other table in
+      whole (record desk { images = m }) after h.schema (version_stays (at 0 refl refl)) (deeds_stay (at 1 refl refl)) (set image_sheet 2 db after rows h spells m are) (rules_stay (at 3 refl refl)) (keys_stay (at 5 refl refl))
+      (checks_stay (at 7 refl refl)) (rowids_stay (at 3 refl refl) (at 5 refl refl) (at 7 refl refl)) sound
 
   of_rules : Sets 3 db after rows → Spells rule_sheet rows → HaveRowids rows → (m : FinMap place_cmp Terms) → map_of rule_sheet rows ≡ m → IsOf (record desk { rules = m }) after
   of_rules h spells rowids m are =
-      let deeds = ap (map_of deed_sheet) (h.stays 1 refl refl) ∙ ap (λ (d : Desk). d.deeds) of.is in
-      let images = ap (map_of image_sheet) (h.stays 2 refl refl) ∙ ap (λ (d : Desk). d.images) of.is in
-      let keys = ap (map_of key_sheet) (h.stays 5 refl refl) ∙ ap (λ (d : Desk). d.keys) of.is in
-      let checks = ap (map_of check_sheet) (h.stays 7 refl refl) ∙ ap (λ (d : Desk). d.checks) of.is in
-      let now = ap (map_of rule_sheet) h.now ∙ are in
-      record {
-        schema = h.schema;
-        rows = record {
-          version = subst (HasVersion 0) (sym (h.stays 0 refl refl)) of.rows.version;
-          deeds = subst (Spells deed_sheet) (sym (h.stays 1 refl refl)) of.rows.deeds;
-          images = subst (Spells image_sheet) (sym (h.stays 2 refl refl)) of.rows.images;
-          rules = subst (Spells rule_sheet) (sym h.now) spells;
-          keys = subst (Spells key_sheet) (sym (h.stays 5 refl refl)) of.rows.keys;
-          checks = subst (Spells check_sheet) (sym (h.stays 7 refl refl)) of.rows.checks;
-        };
-        rowids = record {
-          rules = subst HaveRowids (sym h.now) rowids;
-          keys = subst HaveRowids (sym (h.stays 5 refl refl)) of.rowids.keys;
-          checks = subst HaveRowids (sym (h.stays 7 refl refl)) of.rowids.checks;
-        };
-        sound = sound;
-        is = λ i. record { deeds = deeds i; images = images i; rules = now i; keys = keys i; checks = checks i };
-      }
+      let at = λ (t : ℕ) (other : (t == 3) ≡ false) (table : is_index_tree t ≡ false). h.stays t other table in
+      whole (record desk { rules = m }) after h.schema (version_stays (at 0 refl refl)) (deeds_stay (at 1 refl refl)) (images_stay (at 2 refl refl)) (set rule_sheet 3 db after rows h spells m are) (keys_stay (at 5 refl refl))
+      (checks_stay (at 7 refl refl))
+      (record { rules = subst HaveRowids (sym h.now) rowids; keys = subst HaveRowids (sym (at 5 refl refl)) of.rowids.keys; checks = subst HaveRowids (sym (at 7 refl refl)) of.rowids.checks }) sound
 
   of_keys : Sets 5 db after rows → Spells key_sheet rows → HaveRowids rows → (m : FinMap digest_cmp Audience) → map_of key_sheet rows ≡ m → IsOf (record desk { keys = m }) after
   of_keys h spells rowids m are =
-      let deeds = ap (map_of deed_sheet) (h.stays 1 refl refl) ∙ ap (λ (d : Desk). d.deeds) of.is in
-      let images = ap (map_of image_sheet) (h.stays 2 refl refl) ∙ ap (λ (d : Desk). d.images) of.is in
-      let rules = ap (map_of rule_sheet) (h.stays 3 refl refl) ∙ ap (λ (d : Desk). d.rules) of.is in
-      let checks = ap (map_of check_sheet) (h.stays 7 refl refl) ∙ ap (λ (d : Desk). d.checks) of.is in
-      let now = ap (map_of key_sheet) h.now ∙ are in
-      record {
-        schema = h.schema;
-        rows = record {
-          version = subst (HasVersion 0) (sym (h.stays 0 refl refl)) of.rows.version;
-          deeds = subst (Spells deed_sheet) (sym (h.stays 1 refl refl)) of.rows.deeds;
-          images = subst (Spells image_sheet) (sym (h.stays 2 refl refl)) of.rows.images;
-          rules = subst (Spells rule_sheet) (sym (h.stays 3 refl refl)) of.rows.rules;
-          keys = subst (Spells key_sheet) (sym h.now) spells;
-          checks = subst (Spells check_sheet) (sym (h.stays 7 refl refl)) of.rows.checks;
-        };
-        rowids = record {
-          rules = subst HaveRowids (sym (h.stays 3 refl refl)) of.rowids.rules;
-          keys = subst HaveRowids (sym h.now) rowids;
-          checks = subst HaveRowids (sym (h.stays 7 refl refl)) of.rowids.checks;
-        };
-        sound = sound;
-        is = λ i. record { deeds = deeds i; images = images i; rules = rules i; keys = now i; checks = checks i };
-      }
+      let at = λ (t : ℕ) (other : (t == 5) ≡ false) (table : is_index_tree t ≡ false). h.stays t other table in
+      whole (record desk { keys = m }) after h.schema (version_stays (at 0 refl refl)) (deeds_stay (at 1 refl refl)) (images_stay (at 2 refl refl)) (rules_stay (at 3 refl refl)) (set key_sheet 5 db after rows h spells m are)
+      (checks_stay (at 7 refl refl))
+      (record { rules = subst HaveRowids (sym (at 3 refl refl)) of.rowids.rules; keys = subst HaveRowids (sym h.now) rowids; checks = subst HaveRowids (sym (at 7 refl refl)) of.rowids.checks }) sound
 
 pub of_schema : (desk : Desk) (db : Database) → IsOf desk db → db.schema ≡ desk_schema
 of_schema desk db of = of.schema
@@ -213,7 +177,7 @@ module _ (acc : ℕ) (image : ImageRow) where
       let put = spells_put image_sheet number_order new_image rows of.rows.images is none h.0 in
       let are = map_put image_sheet number_order new_image rows of.rows.images is none h.0 ∙ ap (λ (e : ℕ × ImageRow). insert (map_of image_sheet rows) e.0 e.1) image_read
       ∙ ap (λ (d : Desk). insert d.images acc image) of.is in
-      subst (λ found. IsOf (added found acc image desk) after) (sym free) (of_images desk db after (put_row new_image rows) of sound h.1 put (insert desk.images acc image) are)
+      subst (λ found. IsOf (put_or_kept found acc image desk) after) (sym free) (of_images desk db after (put_row new_image rows) of sound h.1 put (insert desk.images acc image) are)
 
 -- ---- rules
 

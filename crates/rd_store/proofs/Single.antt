@@ -1,7 +1,6 @@
 -- A call that is one statement outside a transaction, from what the statement makes of a desk.
-use Rattle.std.proofs.Common.{◌≡◌, ◌⊎◌, inl, inr, ℕ, List, false, Result, Ok, Err, is_ok, true≢false, OnOk, OnErr, IsErr, refl, sym, ap, subst, ◌∙◌, IsTrue, arith}
+use Rattle.std.proofs.Common.{◌≡◌, inl, inr, ℕ, List, false, Result, Ok, Err, is_ok, true≢false, OnOk, OnErr, IsErr, sym, ap, subst, ◌∙◌, IsTrue, arith}
 use Rattle.sqlite.specs.Order.{Row}
-use Rattle.sqlite.specs.Tree.{Trees}
 use Rattle.sqlite.specs.Store.{Ghosts}
 use Rattle.sqlite.specs.Command.{Command}
 use Rattle.sqlite.specs.Effect.{Database}
@@ -13,7 +12,7 @@ use Rattle.rd_tables.proofs.Running.{IsWrite, Makes, write_fails, was_open, ran,
 use Rattle.rd_store.specs.State.{Desk}
 use Rattle.rd_store.specs.Lawful.{IsLawful}
 use Rattle.rd_store.specs.Spelled.{desk_of}
-use Rattle.rd_store.specs.Held.{IsOf, Holds, IsLeft, IsDeskAt, HoldsDesk, Changes, IsOpen, IsClean, desk}
+use Rattle.rd_store.specs.Held.{IsOf, Holds, IsDeskAt, HoldsDesk, Changes, IsOpen, IsClean, desk}
 use Rattle.rd_store.proofs.Laws.{Laws, clean_at, leaves_only, left_is}
 
 -- ---- a connection that rests on a database of a desk

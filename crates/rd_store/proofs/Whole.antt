@@ -1,12 +1,12 @@
 -- A transaction that turns one desk into another.
-use Rattle.std.proofs.Common.{◌≡◌, ◌⊎◌, inl, inr, Result, Ok, Err, OnOk, OnErr, refl, sym, ap, subst, ◌∙◌}
+use Rattle.std.proofs.Common.{◌≡◌, inl, inr, Result, Ok, Err, OnOk, OnErr, ap}
 use Rattle.sqlite.specs.Store.{Ghosts}
 use Rattle.sqlite.specs.Effect.{Database}
 use Rattle.sqlite.specs.Held.{Held, state}
 use Rattle.rd_store.specs.State.{Desk}
 use Rattle.rd_store.specs.Lawful.{IsLawful}
 use Rattle.rd_store.specs.Spelled.{desk_of}
-use Rattle.rd_store.specs.Held.{IsOf, Holds, IsDeskAt, HoldsDesk, Changes, IsOpen, desk}
+use Rattle.rd_store.specs.Held.{IsOf, IsDeskAt, HoldsDesk, Changes, IsOpen, desk}
 use Rattle.rd_store.proofs.Laws.{Laws, leaves_only, left_is}
 use Rattle.rd_store.proofs.Single.{rests_on, rests_as}
 use Rattle.rd_store.specs.Created.{IsAt, Turns}

@@ -53,7 +53,7 @@ audiences_code set = cond set.public 1 0 + (cond set.room 2 0 + cond set.staff 4
 abbrev pub audiences_in : ℕ → Audiences
 audiences_in code = record { public = code % 2 == 1; room = code / 2 % 2 == 1; staff = code / 4 % 2 == 1 }
 
--- no key is the public's
+-- 0 stands for the public, in no lawful row
 abbrev pub audience_code : Audience → ℕ
 audience_code Public = 0
 audience_code Room = 1

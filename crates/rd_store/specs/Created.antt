@@ -21,10 +21,6 @@ empty_desk = record { deeds = from_entries []; images = from_entries []; rules =
 abbrev pub new_desk : List ℕ → Desk
 new_desk staff = with_key staff Staff empty_desk
 
--- no table and no view stands
-abbrev pub IsBlank : Schema → Type 0
-IsBlank schema = (schema.tables ≡ []) × (schema.views ≡ [])
-
 -- The connection was open, and shows the database that it showed.
 pub record IsUntouched {S : Type 0} (g : Ghosts S) (old new : Held S) : Type 0 where
   pub was_open : IsOpen g old
@@ -33,8 +29,8 @@ pub record IsUntouched {S : Type 0} (g : Ghosts S) (old new : Held S) : Type 0 w
   pub autocommit : (state g new).in_transaction ≡ (state g old).in_transaction
 
 -- a crash leaves what it left before, or this desk
-abbrev pub LeavesOldOr : {S : Type 0} → Ghosts S → Held S → Held S → Desk → Type 0
-LeavesOldOr g old new desk = IsOpen g old → IsClean g new → (left : Trees) → g.recovers new.store left → g.recovers old.store left ⊎ IsLeft desk left
+abbrev pub LeavesOldOrNew : {S : Type 0} → Ghosts S → Held S → Held S → Desk → Type 0
+LeavesOldOrNew g old new desk = IsOpen g old → IsClean g new → (left : Trees) → g.recovers new.store left → g.recovers old.store left ⊎ IsLeft desk left
 
 -- ---- inside
 

@@ -78,8 +78,9 @@ pub record Changes {S T X : Type 0} (g : Ghosts S) (old new : Held S) (after : D
   pub crash : IsOpen g old → IsClean g new → (left : Trees) → g.recovers new.store left → IsLeft (desk g old) left ⊎ IsLeft after left
   pub durable : IsOpen g new → LeavesOnly g new (desk g new)
 
--- A call that reads. Where the connection is open at the end, the desk is as it was, and at each moment
--- where the disk has returned what was written a crash leaves it and nothing else.
+-- A call that reads. Where the connection is open at the end, the desk is as it was. Where it was open at
+-- the beginning, and the disk has returned what was written, a crash at the end leaves that desk and
+-- nothing else.
 pub record Keeps {S : Type 0} (g : Ghosts S) (old new : Held S) : Type 0 where
   pub was_open : IsOpen g new → IsOpen g old
   pub same : IsOpen g new → desk g new ≡ desk g old
@@ -87,12 +88,23 @@ pub record Keeps {S : Type 0} (g : Ghosts S) (old new : Held S) : Type 0 where
   pub crash : IsOpen g old → IsClean g new → LeavesOnly g new (desk g old)
 
 -- Why a call is refused: Missing exactly where something is not there, then Conflict exactly where
--- something conflicts, and Sql for want of memory or of the store.
+-- something conflicts. Sql is answered at any time; why is not told.
 abbrev pub Judges : {T : Type 0} → Type 0 → Type 0 → Result T StoreFault → Type 0
 Judges IsThere Conflicts (Ok value) = IsThere × ¬ Conflicts
 Judges IsThere Conflicts (Err Missing) = ¬ IsThere
 Judges IsThere Conflicts (Err Conflict) = IsThere × Conflicts
 Judges IsThere Conflicts (Err Sql) = ⊤
+
+-- an answer of the desk, and not of the database
+abbrev pub IsAnswered : {T : Type 0} → Result T StoreFault → Type 0 → Type 0
+IsAnswered (Ok value) P = P
+IsAnswered (Err Missing) P = P
+IsAnswered (Err Conflict) P = P
+IsAnswered (Err Sql) P = ⊤
+
+-- after such an answer a connection that was open is open, where the disk has returned what was written
+abbrev pub AnswersOpen : {S T : Type 0} → Ghosts S → Held S → Held S → Result T StoreFault → Type 0
+AnswersOpen g old new result = IsOpen g old → IsClean g new → IsAnswered result (IsOpen g new)
 
 -- ---- inside
 

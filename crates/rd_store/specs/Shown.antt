@@ -4,7 +4,7 @@ use Rattle.sqlite.specs.declared.types.Value.TheVariants.{Int, Text, Blob}
 use Rattle.sqlite.specs.Order.{Row}
 use Rattle.rd_policy.specs.declared.audience.Audience.{Audience}
 use Rattle.rd_policy.specs.declared.audience.Audience.TheVariants.{Staff}
-use Rattle.rd_store.specs.declared.images.Label.{Label}
+use Rattle.rd_store.specs.declared.images.Heading.{Heading}
 use Rattle.rd_store.specs.declared.rows.DeedRow.{DeedRow}
 use Rattle.rd_store.specs.declared.rows.ImageRow.{ImageRow}
 use Rattle.rd_store.specs.Codes.{kind_code, audience_code}
@@ -17,11 +17,11 @@ abbrev pub image_shown : ImageRow → Row
 image_shown image = Int (pos (kind_code image.kind)) ∷ Int (pos image.deed) ∷ Blob image.digest ∷ Blob image.bytes ∷ []
 
 -- an image without its bytes
-abbrev pub label_of : ImageRow → Label
-label_of image = record { kind = image.kind; deed = image.deed; digest = image.digest }
+abbrev pub heading_of : ImageRow → Heading
+heading_of image = record { kind = image.kind; deed = image.deed; digest = image.digest }
 
-abbrev pub label_shown : ImageRow → Row
-label_shown image = Int (pos (kind_code image.kind)) ∷ Int (pos image.deed) ∷ Blob image.digest ∷ []
+abbrev pub heading_shown : ImageRow → Row
+heading_shown image = Int (pos (kind_code image.kind)) ∷ Int (pos image.deed) ∷ Blob image.digest ∷ []
 
 abbrev pub audience_shown : Audience → Row
 audience_shown audience = Int (pos (audience_code audience)) ∷ []

@@ -4,7 +4,6 @@ use Rattle.std.specs.declared.cmp.Ordering.{Ordering}
 use Rattle.std.specs.Cmp.Lexicographic.{slice_cmp}
 use Rattle.std.specs.Ordering.{nat_cmp, int_cmp, on, then_cmp}
 use Rattle.std.specs.FinMap.{FinMap, get, insert, remove, entries, retain_keys}
-use Rattle.rd_geometry.specs.declared.kind.Kind.{Kind}
 use Rattle.rd_policy.specs.declared.audience.Audience.{Audience}
 use Rattle.rd_policy.specs.declared.audience.Audience.TheVariants.{Staff}
 use Rattle.rd_policy.specs.declared.audience.Audiences.{Audiences}
@@ -87,7 +86,7 @@ Stands desk Deed scope = IsSome (get desk.deeds scope)
 abbrev pub IsStaff : Desk → List ℕ → Type 0
 IsStaff desk digest = get desk.keys digest ≡ Some Staff
 
--- there is a staff key beside the one with this digest
+-- a staff key with another digest stands
 abbrev pub HasOtherStaff : Desk → List ℕ → Type 0
 HasOtherStaff desk digest = (other : List ℕ) × (other ≢ digest) × IsStaff desk other
 
@@ -120,13 +119,13 @@ rules_for desk acc = rules_with desk acc (get desk.images acc)
 abbrev pub with_deed : ℕ → DeedRow → Desk → Desk
 with_deed num deed desk = record desk { deeds = insert desk.deeds num deed }
 
-abbrev pub added : Option ImageRow → ℕ → ImageRow → Desk → Desk
-added None acc image desk = record desk { images = insert desk.images acc image }
-added (Some standing) acc image desk = desk
+abbrev pub put_or_kept : Option ImageRow → ℕ → ImageRow → Desk → Desk
+put_or_kept None acc image desk = record desk { images = insert desk.images acc image }
+put_or_kept (Some standing) acc image desk = desk
 
 -- an image that stands is kept
 abbrev pub with_image : ℕ → ImageRow → Desk → Desk
-with_image acc image desk = added (get desk.images acc) acc image desk
+with_image acc image desk = put_or_kept (get desk.images acc) acc image desk
 
 abbrev pub with_rule : Place → Terms → Desk → Desk
 with_rule place terms desk = record desk { rules = insert desk.rules place terms }

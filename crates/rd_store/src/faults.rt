@@ -1,6 +1,7 @@
 use sqlite::{Alter, Connection};
 
-/// Why a call of the store is refused. All is then as it was.
+/// Why a call of the store is refused. All is then as it was, where the connection is still open; where a
+/// fault of the disk has shut it, opening again finds the desk before or after the call.
 #[derive(Clone, Copy, Debug, PartialEq, Eq, Hash)]
 pub enum StoreFault {
     /// The database failed, or memory was wanting.
@@ -24,6 +25,6 @@ pub enum CreateFault {
 pub struct Refused<F, S: Alter> {
     /// Why.
     pub fault: F,
-    /// The connection, whose database is as it was.
+    /// The connection. Where it is open, its database is as it was.
     pub conn: Connection<S>,
 }

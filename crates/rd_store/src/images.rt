@@ -4,9 +4,9 @@ ghost use Rattle.std.specs.Option.{option_to_list};
 ghost use Rattle.sqlite.specs.Held.{state};
 ghost use Rattle.sqlite.specs.Order.{column};
 ghost use Rattle.rd_tables.specs.Sheets.{natural};
-ghost use Rattle.rd_store.specs.Held.{Changes, HoldsDesk, IsOpen, Judges, Stays, StaysOpen, desk};
+ghost use Rattle.rd_store.specs.Held.{AnswersOpen, Changes, HoldsDesk, IsOpen, Judges, Stays, StaysOpen, desk};
 ghost use Rattle.rd_store.specs.Lawful.{IsImage};
-ghost use Rattle.rd_store.specs.Shown.{accession_shown, image_shown, label_of, label_shown};
+ghost use Rattle.rd_store.specs.Shown.{accession_shown, image_shown, heading_of, heading_shown};
 ghost use Rattle.rd_store.specs.State.{HasOtherImage, with_image};
 
 use crate::codes;
@@ -22,7 +22,7 @@ use std::alloc::Global;
 
 /// An image without its bytes.
 #[derive(Debug, Drop)]
-pub(crate) struct Label {
+pub(crate) struct Heading {
     pub(crate) kind: Kind,
     pub(crate) deed: u32,
     pub(crate) digest: [u8; 32],
@@ -85,10 +85,10 @@ pub(crate) fn image<S: Alter>(
 }
 
 /// The rows for the image of an accession without its bytes.
-fn label_rows<S: Alter>(conn: &mut Connection<S>, acc: u32) -> Result<Vec<Row>, StoreFault>
+fn heading_rows<S: Alter>(conn: &mut Connection<S>, acc: u32) -> Result<Vec<Row>, StoreFault>
     requires holds { HoldsDesk (state S.Store conn.old) }
     ensures rows { IsOpen S.Store conn.new → IfOk result (λ rows.
-        rows.items ≡ map label_shown (option_to_list (get (desk S.Store conn.old).images acc))) }
+        rows.items ≡ map heading_shown (option_to_list (get (desk S.Store conn.old).images acc))) }
     ensures stays { Stays S.Store conn.old conn.new }
     ensures stands { StaysOpen S.Store conn.old conn.new result }
     ensures kept { HoldsDesk (state S.Store conn.new) }
@@ -103,32 +103,32 @@ fn label_rows<S: Alter>(conn: &mut Connection<S>, acc: u32) -> Result<Vec<Row>, 
 }
 
 /// What a row shows of an image.
-fn read_label(row: &Row) -> Result<Label, StoreFault>
-    ensures label { IfOk result (λ read. (image : ImageRow) → row.now ≡ label_shown image → read ≡ label_of image) }
+fn read_heading(row: &Row) -> Result<Heading, StoreFault>
+    ensures heading { IfOk result (λ read. (image : ImageRow) → row.now ≡ heading_shown image → read ≡ heading_of image) }
     ensures fault { IfErr result (λ fault. fault ≡ StoreFault.Sql) }
 {
     let kind = kind(number_at(row, 0)?);
     let deed = number_at(row, 1)?;
     let digest = digest_at(row, 2)?;
-    Ok(Label { kind, deed, digest })
+    Ok(Heading { kind, deed, digest })
 }
 
 /// The image of an accession without its bytes, `None` where there is none.
-pub(crate) fn label_at<S: Alter>(
+pub(crate) fn heading_at<S: Alter>(
     conn: &mut Connection<S>,
     acc: u32,
-) -> Result<Option<Label>, StoreFault>
+) -> Result<Option<Heading>, StoreFault>
     requires holds { HoldsDesk (state S.Store conn.old) }
     ensures answer { IsOpen S.Store conn.new → IfOk result (λ found.
-        found ≡ option_map label_of (get (desk S.Store conn.old).images acc)) }
+        found ≡ option_map heading_of (get (desk S.Store conn.old).images acc)) }
     ensures stays { Stays S.Store conn.old conn.new }
     ensures stands { StaysOpen S.Store conn.old conn.new result }
     ensures kept { HoldsDesk (state S.Store conn.new) }
     ensures fault { IfErr result (λ fault. fault ≡ StoreFault.Sql) }
 {
-    let rows = label_rows(conn, acc)?;
+    let rows = heading_rows(conn, acc)?;
     match rows.first() {
-        Some(row) => Ok(Some(read_label(row)?)),
+        Some(row) => Ok(Some(read_heading(row)?)),
         None => Ok(None),
     }
 }
@@ -220,13 +220,14 @@ pub(crate) fn put_image<S: Alter>(
         (with_image acc (record { kind = kind; deed = deed; digest = digest.now; bytes = bytes.now }) (desk S.Store conn.old)) result }
     ensures judges { IsOpen S.Store conn.new → Judges (IsSome (get (desk S.Store conn.old).deeds deed))
         (HasOtherImage (desk S.Store conn.old) acc (record { kind = kind; deed = deed; digest = digest.now; bytes = bytes.now })) result }
+    ensures open { AnswersOpen S.Store conn.old conn.new result }
 {
     if deeds::deed(conn, deed)?.is_none() {
         return Err(StoreFault::Missing);
     }
-    match label_at(conn, acc)? {
-        Some(label) => {
-            if label.kind == kind && label.deed == deed && label.digest == *digest {
+    match heading_at(conn, acc)? {
+        Some(heading) => {
+            if heading.kind == kind && heading.deed == deed && heading.digest == *digest {
                 Ok(())
             } else {
                 Err(StoreFault::Conflict)

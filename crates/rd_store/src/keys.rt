@@ -3,7 +3,7 @@ ghost use Rattle.std.specs.List.{Any};
 ghost use Rattle.std.specs.FinMap.{entries, get};
 ghost use Rattle.std.specs.Option.{option_to_list};
 ghost use Rattle.sqlite.specs.Held.{state};
-ghost use Rattle.rd_store.specs.Held.{Changes, HoldsDesk, IsOf, IsOpen, Judges, Moves, Stays, StaysOpen, desk};
+ghost use Rattle.rd_store.specs.Held.{AnswersOpen, Changes, HoldsDesk, IsOf, IsOpen, Judges, Moves, Stays, StaysOpen, desk};
 ghost use Rattle.rd_store.specs.Lawful.{IsKey};
 ghost use Rattle.rd_store.specs.Shown.{ShowsOther, audience_shown};
 ghost use Rattle.rd_store.specs.Spelled.{key_sheet};
@@ -192,6 +192,7 @@ pub(crate) fn put_key<S: Alter>(
     ensures changes { Changes S.Store conn.old conn.new (with_key digest.now audience (desk S.Store conn.old)) result }
     ensures judges { IsOpen S.Store conn.new → Judges ⊤
         ((audience ≢ Audience.Staff) × IsLastStaff (desk S.Store conn.old) digest.now) result }
+    ensures open { AnswersOpen S.Store conn.old conn.new result }
 {
     if audience != Audience::Staff && !has_other_staff(conn, digest)? {
         return Err(StoreFault::Conflict);
@@ -214,6 +215,7 @@ pub(crate) fn drop_key<S: Alter>(
     ensures kept { HoldsDesk (state S.Store conn.new) }
     ensures changes { Changes S.Store conn.old conn.new (without_key digest.now (desk S.Store conn.old)) result }
     ensures judges { IsOpen S.Store conn.new → Judges ⊤ (IsLastStaff (desk S.Store conn.old) digest.now) result }
+    ensures open { AnswersOpen S.Store conn.old conn.new result }
 {
     if !has_other_staff(conn, digest)? {
         return Err(StoreFault::Conflict);

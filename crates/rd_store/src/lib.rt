@@ -18,4 +18,4 @@ mod tests;
 
 pub use faults::{CreateFault, Refused, StoreFault};
 pub use rows::{DeedRow, ImageRow, Outcome};
-pub use store::Store;
+pub use store::{Store, memory_stays_open};

@@ -3,7 +3,7 @@ use rd_geometry::{Items, Kind, Text};
 /// A deed.
 #[derive(Debug, Drop)]
 pub struct DeedRow {
-    /// Who gave the disks: 1 to 1,000 bytes without control characters.
+    /// Who gave the disks: 1 to 1,000 bytes, no character below U+0020.
     pub donor: Text,
     /// The day on which it was signed, counted from 1970-01-01.
     pub signed: i32,

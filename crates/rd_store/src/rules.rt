@@ -5,7 +5,7 @@ ghost use Rattle.sqlite.specs.Order.{column};
 ghost use Rattle.sqlite_value.specs.Order.{bytes};
 ghost use Rattle.rd_tables.specs.Sheets.{natural};
 ghost use Rattle.rd_store.specs.Codes.{is_at, select_in};
-ghost use Rattle.rd_store.specs.Held.{Changes, HoldsDesk, IsOf, IsOpen, Judges, Moves, Stays, StaysOpen, desk};
+ghost use Rattle.rd_store.specs.Held.{AnswersOpen, Changes, HoldsDesk, IsOf, IsOpen, Judges, Moves, Stays, StaysOpen, desk};
 ghost use Rattle.rd_store.specs.Spelled.{rule_sheet};
 ghost use Rattle.rd_policy.specs.Rules.{IsRule};
 ghost use Rattle.rd_store.specs.State.{Stands, place_of, rule_of, rules_at, rules_for as rules_for_accession, terms_of, with_rule, without_rule};
@@ -204,7 +204,7 @@ fn stands<S: Alter>(conn: &mut Connection<S>, band: Band, scope: u32) -> Result<
     ensures fault { IfErr result (λ fault. fault ≡ StoreFault.Sql) }
 {
     match band {
-        Band::Takedown => Ok(images::label_at(conn, scope)?.is_some()),
+        Band::Takedown => Ok(images::heading_at(conn, scope)?.is_some()),
         Band::Deed => Ok(deeds::deed(conn, scope)?.is_some()),
     }
 }
@@ -217,6 +217,7 @@ pub(crate) fn put_rule<S: Alter>(conn: &mut Connection<S>, rule: &Rule) -> Resul
     ensures changes { Changes S.Store conn.old conn.new
         (with_rule (place_of rule.now) (terms_of rule.now) (desk S.Store conn.old)) result }
     ensures judges { IsOpen S.Store conn.new → Judges (Stands (desk S.Store conn.old) rule.now.band rule.now.scope) ⊥ result }
+    ensures open { AnswersOpen S.Store conn.old conn.new result }
 {
     if !stands(conn, rule.band, rule.scope)? {
         return Err(StoreFault::Missing);
@@ -242,6 +243,7 @@ pub(crate) fn drop_rule<S: Alter>(
     ensures changes { Changes S.Store conn.old conn.new
         (without_rule (record { band = band; scope = scope; rank = rank }) (desk S.Store conn.old)) result }
     ensures judges { IsOpen S.Store conn.new → Judges (Stands (desk S.Store conn.old) band scope) ⊥ result }
+    ensures open { AnswersOpen S.Store conn.old conn.new result }
 {
     if !stands(conn, band, scope)? {
         return Err(StoreFault::Missing);
@@ -289,8 +291,8 @@ pub(crate) fn rules_for<S: Alter>(
     ensures kept { HoldsDesk (state S.Store conn.new) }
     ensures fault { IfErr result (λ fault. fault ≡ StoreFault.Sql) }
 {
-    match images::label_at(conn, acc)? {
-        Some(label) => rules_of_both(alloc, conn, acc, label.deed),
+    match images::heading_at(conn, acc)? {
+        Some(heading) => rules_of_both(alloc, conn, acc, heading.deed),
         None => Ok(Vec::new(alloc)),
     }
 }

@@ -1,10 +1,12 @@
 ghost use Rattle.std.specs.Prelude.{◌≡◌, ◌≢◌, ⊤, false, IfOk, IfErr, IsSome, MatchBool};
 ghost use Rattle.std.specs.FinMap.{get, keys};
-ghost use Rattle.sqlite.specs.Held.{state};
+ghost use Rattle.sqlite.specs.Held.{Held, state};
+ghost use Rattle.sqlite_trees.specs.declared.memory.MemStore.{MemStore};
 ghost use Rattle.rd_policy.specs.Rules.{IsRule};
-ghost use Rattle.rd_store.specs.Created.{IsBlank, IsUntouched, LeavesOldOr, new_desk};
-ghost use Rattle.rd_store.specs.Held.{Changes, IsOpen, Judges, Keeps, LeavesOnly, StaysOpen, desk};
-ghost use Rattle.rd_tables.specs.Schemas.{has_desk};
+ghost use Rattle.rd_store.specs.Created.{IsUntouched, LeavesOldOrNew, new_desk};
+ghost use Rattle.sqlite.specs.Steps.{over_memory};
+ghost use Rattle.rd_store.specs.Held.{AnswersOpen, Changes, HoldsDesk, IsClean, IsOpen, Judges, Keeps, LeavesOnly, StaysOpen, desk};
+ghost use Rattle.rd_tables.specs.Schemas.{IsBlank, has_desk};
 ghost use Rattle.rd_store.specs.Lawful.{IsDeed, IsImage, IsKey};
 ghost use Rattle.rd_store.specs.State.{HasOtherImage, IsLastStaff, Stands, place_of, rules_for, terms_of, with_deed, with_image, with_key, with_rule, without_key, without_rule};
 
@@ -44,8 +46,8 @@ impl<S: Alter + Drop> Drop for Store<S> {
 }
 
 impl<S: Alter> Store<S> {
-    /// Makes a desk with one staff key in a database without tables. The connection is outside a
-    /// transaction.
+    /// Makes a desk with one staff key, given by its SHA-256, in a database without tables. The connection
+    /// is outside a transaction.
     ///
     /// It fails with `Exists` where a table `desk` stands, and with `Sql`, also where another table or a
     /// view stands.
@@ -59,9 +61,10 @@ impl<S: Alter> Store<S> {
         ensures exists { IfErr result (λ refused. MatchBool (has_desk conn.schema)
             (refused.fault ≡ CreateFault.Exists) (refused.fault ≡ CreateFault.Sql)) }
         ensures untouched { IfErr result (λ refused. IsOpen S.Store refused.conn → IsUntouched S.Store conn refused.conn) }
-        ensures crash_ok { IfOk result (λ store. LeavesOldOr S.Store conn store (new_desk staff.now)) }
-        ensures crash_err { IfErr result (λ refused. LeavesOldOr S.Store conn refused.conn (new_desk staff.now)) }
+        ensures crash_ok { IfOk result (λ store. LeavesOldOrNew S.Store conn store (new_desk staff.now)) }
+        ensures crash_err { IfErr result (λ refused. LeavesOldOrNew S.Store conn refused.conn (new_desk staff.now)) }
         ensures durable { IfOk result (λ store. IsOpen S.Store store → LeavesOnly S.Store store (new_desk staff.now)) }
+        ensures stands { IfOk result (λ store. IsOpen S.Store conn → IsClean S.Store store → IsOpen S.Store store) }
     {
         if has_desk_table(conn.schema()) {
             return Err(Refused {
@@ -86,13 +89,14 @@ impl<S: Alter> Store<S> {
 
     /// Gives the connection back, with the rows of the desk.
     pub fn into_connection(self) -> Connection<S>
-        ensures { result ≡ self }
+        ensures same { result ≡ self }
+        ensures holds { HoldsDesk (state S.Store result) }
     {
         let Store { conn } = self;
         conn
     }
 
-    /// The deed with a number, `None` where there is none.
+    /// The deed with a number, 1 to 999,999; `None` where there is none.
     ///
     /// It fails with `Sql`.
     pub fn deed(&mut self, num: u32) -> Result<Option<DeedRow>, StoreFault>
@@ -105,7 +109,7 @@ impl<S: Alter> Store<S> {
         deeds::deed(&mut self.conn, num)
     }
 
-    /// The image of an accession, `None` where there is none.
+    /// The image of an accession, 1 to 999,999; `None` where there is none.
     ///
     /// It fails with `Sql`.
     pub fn image(&mut self, alloc: Global, acc: u32) -> Result<Option<ImageRow>, StoreFault>
@@ -131,7 +135,7 @@ impl<S: Alter> Store<S> {
         images::accessions(alloc, &mut self.conn)
     }
 
-    /// The audience of the desk key with a digest, `None` where there is no such key.
+    /// The audience of the desk key that has a digest, its SHA-256; `None` where there is no such key.
     ///
     /// It fails with `Sql`.
     pub fn audience_of(&mut self, digest: &[u8; 32]) -> Result<Option<Audience>, StoreFault>
@@ -144,7 +148,8 @@ impl<S: Alter> Store<S> {
         keys::audience_of(&mut self.conn, digest)
     }
 
-    /// Puts a deed, in place of one with its number.
+    /// Puts a deed, in place of one with its number: the number 1 to 999,999, the donor 1 to 1,000 bytes
+    /// with no character below U+0020, the day on which it was signed counted from 1970-01-01.
     ///
     /// It fails with `Sql`.
     pub fn put_deed(&mut self, num: u32, donor: &str, signed: i32) -> Result<(), StoreFault>
@@ -159,8 +164,8 @@ impl<S: Alter> Store<S> {
         }
     }
 
-    /// Puts an image where none stands. The same kind, deed and digest again are done, and change
-    /// nothing, whatever the bytes.
+    /// Puts an image of its kind's length where none stands, with the SHA-256 that was given for it. The
+    /// same kind, deed and digest again are done, and change nothing, whatever the bytes.
     ///
     /// It fails with `Missing` where there is no such deed, with `Conflict` where another kind, deed or
     /// digest stands at the accession, and with `Sql`.
@@ -177,6 +182,7 @@ impl<S: Alter> Store<S> {
             (with_image acc (record { kind = kind; deed = deed; digest = digest.now; bytes = bytes.now }) (desk S.Store self.old)) result }
         ensures judges { IsOpen S.Store self.new → Judges (IsSome (get (desk S.Store self.old).deeds deed))
             (HasOtherImage (desk S.Store self.old) acc (record { kind = kind; deed = deed; digest = digest.now; bytes = bytes.now })) result }
+        ensures open { AnswersOpen S.Store self.old self.new result }
     {
         images::put_image(&mut self.conn, acc, kind, deed, digest, bytes)
     }
@@ -189,6 +195,7 @@ impl<S: Alter> Store<S> {
         ensures changes { Changes S.Store self.old self.new
             (with_rule (place_of rule.now) (terms_of rule.now) (desk S.Store self.old)) result }
         ensures judges { IsOpen S.Store self.new → Judges (Stands (desk S.Store self.old) rule.now.band rule.now.scope) ⊥ result }
+        ensures open { AnswersOpen S.Store self.old self.new result }
     {
         rules::put_rule(&mut self.conn, rule)
     }
@@ -200,6 +207,7 @@ impl<S: Alter> Store<S> {
         ensures changes { Changes S.Store self.old self.new
             (without_rule (record { band = band; scope = scope; rank = rank }) (desk S.Store self.old)) result }
         ensures judges { IsOpen S.Store self.new → Judges (Stands (desk S.Store self.old) band scope) ⊥ result }
+        ensures open { AnswersOpen S.Store self.old self.new result }
     {
         rules::drop_rule(&mut self.conn, band, scope, rank)
     }
@@ -212,6 +220,7 @@ impl<S: Alter> Store<S> {
         ensures changes { Changes S.Store self.old self.new (with_key digest.now audience (desk S.Store self.old)) result }
         ensures judges { IsOpen S.Store self.new → Judges ⊤
             ((audience ≢ Audience.Staff) × IsLastStaff (desk S.Store self.old) digest.now) result }
+        ensures open { AnswersOpen S.Store self.old self.new result }
     {
         keys::put_key(&mut self.conn, digest, audience)
     }
@@ -222,6 +231,7 @@ impl<S: Alter> Store<S> {
     pub fn drop_key(&mut self, digest: &[u8; 32]) -> Result<(), StoreFault>
         ensures changes { Changes S.Store self.old self.new (without_key digest.now (desk S.Store self.old)) result }
         ensures judges { IsOpen S.Store self.new → Judges ⊤ (IsLastStaff (desk S.Store self.old) digest.now) result }
+        ensures open { AnswersOpen S.Store self.old self.new result }
     {
         keys::drop_key(&mut self.conn, digest)
     }
@@ -239,4 +249,12 @@ impl<S: Alter> Store<S> {
     {
         rules::rules_for(alloc, &mut self.conn, acc)
     }
+}
+
+/// In memory no disk can fail: each connection is open at all times, and what a call says of one that is
+/// open and clean it says of this one.
+pub fn memory_stays_open()
+    ensures open { (conn : Held MemStore) → IsOpen over_memory conn }
+    ensures clean { (conn : Held MemStore) → IsClean over_memory conn }
+{
 }

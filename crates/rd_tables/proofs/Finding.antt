@@ -1,10 +1,10 @@
 -- What a query shows of the map that the rows of its table spell.
-use Rattle.std.proofs.Common.{◌≡◌, ℕ, ◌+◌, ◌<◌, List, [], ◌∷◌, map, filter, length, get_or, Bool, true, false, cond, T, Some, None, Option, refl, sym, ap, subst, subst₂, ◌∙◌, arith, Ordering, Less, Equal, is_lt}
+use Rattle.std.proofs.Common.{◌≡◌, ◌+◌, ◌<◌, List, [], ◌∷◌, map, filter, length, get_or, Bool, true, false, cond, T, Some, None, Option, refl, sym, ap, subst, subst₂, ◌∙◌, arith, Less, Equal, is_lt}
 use Rattle.std.specs.List.{list_all, AllByRecursion, IsDistinct}
 use Rattle.std.specs.Option.{option_to_list}
 use Rattle.std.specs.List.Sorted.{IsPermutation, IsSorted, IsStrictlySortedBy}
 use Rattle.std.specs.Ordering.{eq_by_cmp}
-use Rattle.std.specs.FinMap.{FinMap, get, entries, entries_sorted, retain_keys, from_entries, get-from_entries, get-retain_keys, get-entries}
+use Rattle.std.specs.FinMap.{get, entries, entries_sorted, retain_keys, get-from_entries, get-retain_keys, get-entries}
 use Rattle.std.specs.FinMap.Entries.{find, is_sorted, where_key, find-where_key, same_entries}
 use Rattle.std.proofs.lemmas.List.{length-map}
 use Rattle.std.proofs.Math.ListN.{get_or-map}
@@ -20,7 +20,7 @@ use Rattle.sqlite.proofs.Callers.{one_permutation}
 use Rattle.rd_tables.specs.Asked.{IsPicked}
 use Rattle.rd_tables.specs.Sheets.{Sheet, entry_of, IsSpelled, Spells, map_of}
 use Rattle.rd_tables.proofs.Lists.{map_map, all_weaker, empty_by_length, permuted_images}
-use Rattle.rd_tables.proofs.Entries.{IsKeyOrder, found_by_key, found_in_any_order, is_rising, where_key_passes, retain_all}
+use Rattle.rd_tables.proofs.Entries.{IsKeyOrder, found_by_key, found_in_any_order, is_rising, where_key_passes}
 
 module _ {K X : Type 0} (sheet : Sheet K X) (order : IsKeyOrder sheet.cmp) where
   abbrev look : Row → K × X

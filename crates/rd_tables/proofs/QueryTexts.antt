@@ -11,7 +11,7 @@ use Rattle.sqlite.proofs.Callers.{IsPlain, command_of}
 use Rattle.sqlite_tied.specs.Compute.{everything}
 use Rattle.rd_tables.specs.Asked.{asks_of}
 use Rattle.rd_tables.specs.Schemas.{desk_schema}
-use Rattle.rd_tables.specs.Queries.{deed_text, deed_query, image_text, image_query, label_text, label_query, audience_text, audience_query, rules_text, rules_query, accessions_text, accessions_query, keys_text, keys_query}
+use Rattle.rd_tables.specs.Queries.{deed_text, deed_query, image_text, image_query, heading_text, heading_query, audience_text, audience_query, rules_text, rules_query, accessions_text, accessions_query, keys_text, keys_query}
 
 -- Over the tables of a desk the text asks this of the rows on one tree.
 pub record Asks (text : List ℕ) (tree : ℕ) (tests shown : List Term) (order : List (Term × Key)) : Type 0 where
@@ -33,9 +33,9 @@ pub image_asks : AsksBy image_text 2 image_query
 unfolding understood everything
 image_asks = record { names = codes "kind" ∷ codes "deed" ∷ codes "digest" ∷ codes "bytes" ∷ []; means = refl; plain = (refl, refl); stored = refl; here = λ trees. refl }
 
-pub label_asks : AsksBy label_text 2 label_query
+pub heading_asks : AsksBy heading_text 2 heading_query
 unfolding understood everything
-label_asks = record { names = codes "kind" ∷ codes "deed" ∷ codes "digest" ∷ []; means = refl; plain = (refl, refl); stored = refl; here = λ trees. refl }
+heading_asks = record { names = codes "kind" ∷ codes "deed" ∷ codes "digest" ∷ []; means = refl; plain = (refl, refl); stored = refl; here = λ trees. refl }
 
 pub audience_asks : AsksBy audience_text 5 audience_query
 unfolding understood everything

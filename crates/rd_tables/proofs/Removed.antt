@@ -1,5 +1,5 @@
 -- The rows that a DELETE takes out, and rows whose rowids are apart.
-use Rattle.std.proofs.Common.{◌≡◌, ◌⊎◌, inl, inr, ℤ, List, [], ◌∷◌, filter, Bool, true, false, not, cond, refl, sym, ap, subst, ◌∙◌, IsTrue, Ordering, Less, Equal, Greater, true≢false}
+use Rattle.std.proofs.Common.{◌≡◌, inl, inr, ℤ, List, [], ◌∷◌, filter, Bool, true, false, not, refl, sym, ap, subst, ◌∙◌, IsTrue, Ordering, Less, Equal, Greater, true≢false}
 use Rattle.std.specs.Ordering.{is_eq}
 use Rattle.std.specs.List.{list_any}
 use Rattle.std.proofs.lemmas.Bool.{false_from_ne_true}

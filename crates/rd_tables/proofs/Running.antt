@@ -1,5 +1,5 @@
 -- What a statement that writes does to a connection.
-use Rattle.std.proofs.Common.{◌≡◌, ◌⊎◌, inl, inr, ℕ, List, append-nil, Bool, true, false, Option, None, Result, Ok, Err, refl, sym, ap, subst, subst₂, ◌∙◌, IsTrue, arith}
+use Rattle.std.proofs.Common.{◌≡◌, ◌⊎◌, inl, inr, ℕ, List, append-nil, false, Option, None, Result, Ok, Err, sym, ap, subst, subst₂, ◌∙◌, IsTrue}
 use Rattle.std.proofs.lemmas.Bool.{cases_Bool}
 use Rattle.sqlite.specs.Order.{Row}
 use Rattle.sqlite.specs.Tree.{Trees}
@@ -13,7 +13,7 @@ use Rattle.sqlite.specs.Does.{Tally, Does}
 use Rattle.sqlite.specs.declared.error.Error.{Error}
 use Rattle.sqlite.specs.declared.run.Mode.{Mode}
 use Rattle.sqlite.specs.Listing.{understood}
-use Rattle.sqlite.specs.State.{State, HasCleanDisk, Executes, ExecutesIn, ExecutesInside, IsNotRun, IsUnchanged, IsRolledBack, KeepsCommit, Survives, CommitsBy, MayCommit, Runs, Writes, shows_rows}
+use Rattle.sqlite.specs.State.{State, Executes, ExecutesIn, ExecutesInside, IsNotRun, IsUnchanged, IsRolledBack, KeepsCommit, CommitsBy, MayCommit, Runs, Writes, shows_rows}
 use Rattle.sqlite.proofs.Callers.{IsPlain, command_of, statement_of, runs_as}
 
 -- keys are enforced, and nothing waits

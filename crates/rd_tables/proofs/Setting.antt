@@ -1,5 +1,5 @@
 -- What one statement on the rows of a table makes of a database of the desk.
-use Rattle.std.proofs.Common.{◌≡◌, ◌≢◌, ℕ, ◌==◌, List, [], ◌∷◌, Bool, true, false, not, cond, ◌||◌, filter, None, Ok, refl, sym, ap, ◌∙◌, true≢false, is_eq, arith}
+use Rattle.std.proofs.Common.{◌≡◌, ℕ, ◌==◌, List, [], ◌∷◌, Bool, true, false, not, cond, ◌||◌, filter, None, Ok, refl, sym, ap, ◌∙◌, true≢false, is_eq, arith}
 use Rattle.sqlite.specs.Order.{Row, value_cmp}
 use Rattle.sqlite.specs.Tree.{Trees, rowid}
 use Rattle.sqlite.specs.Edit.{IsNoIndex, is_taken}

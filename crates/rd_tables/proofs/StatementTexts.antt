@@ -1,5 +1,5 @@
 -- What the texts of the statements mean over the tables of a desk.
-use Rattle.std.proofs.Common.{◌≡◌, refl}
+use Rattle.std.proofs.Common.{refl}
 use Rattle.sqlite.specs.Listing.{understood}
 use Rattle.sqlite_tied.specs.Compute.{everything}
 use Rattle.rd_tables.specs.Schemas.{desk_schema}

@@ -1,6 +1,6 @@
 -- The questions that the store asks of its tables, and the queries that their texts are.
 use Rattle.std.specs.Prelude.{ℕ, List, [], ◌∷◌, codes}
-use Rattle.sqlite.specs.Term.{Term, col}
+use Rattle.sqlite.specs.Term.{col}
 use Rattle.sqlite.specs.Query.{Query}
 use Rattle.rd_tables.specs.Asked.{asks_of, equals, rising}
 use Rattle.rd_tables.specs.Statements.{by_digest}
@@ -20,11 +20,11 @@ abbrev pub image_query : Query
 image_query = asks_of 2 (equals 0 0 ∷ []) (col 1 2 ∷ col 1 3 ∷ col 1 4 ∷ col 1 5 ∷ []) []
 
 -- an image without its bytes
-abbrev pub label_text : List ℕ
-label_text = codes "SELECT kind, deed, digest FROM image WHERE acc = ?1"
+abbrev pub heading_text : List ℕ
+heading_text = codes "SELECT kind, deed, digest FROM image WHERE acc = ?1"
 
-abbrev pub label_query : Query
-label_query = asks_of 2 (equals 0 0 ∷ []) (col 1 2 ∷ col 1 3 ∷ col 1 4 ∷ []) []
+abbrev pub heading_query : Query
+heading_query = asks_of 2 (equals 0 0 ∷ []) (col 1 2 ∷ col 1 3 ∷ col 1 4 ∷ []) []
 
 abbrev pub audience_text : List ℕ
 audience_text = codes "SELECT audience FROM badge WHERE digest = ?1"

@@ -1,7 +1,7 @@
 -- The tables of the desk as SQL understands their declarations. A column's place is one more than its
 -- number, since the rowid stands first; a tree is where the rows of a table or of its index lie.
-use Rattle.std.specs.Prelude.{◌≡◌, ℕ, ◌+◌, Bool, true, false, List, [], ◌∷◌, Option, Some, None, codes, pos}
-use Rattle.std.specs.List.{AllByRecursion, list_any}
+use Rattle.std.specs.Prelude.{◌≡◌, ℕ, Bool, true, false, List, [], ◌∷◌, Option, Some, None, codes, pos}
+use Rattle.std.specs.List.{list_any}
 use Rattle.sqlite.specs.Collation.TheVariants.{Binary}
 use Rattle.sqlite.specs.declared.types.Value.TheVariants.{Null, Int}
 use Rattle.sqlite.specs.Table.{Table}
@@ -115,18 +115,12 @@ desk_schema = record {
   views = [];
 }
 
--- Each table of a desk that stands is declared as here, on whatever tree its rows lie.
-pub record IsDeclaredTable (table : Table) : Type 0 where
-  pub desk : table.name ≡ codes "desk" → table ≡ desk_table table.tree
-  pub deed : table.name ≡ codes "deed" → table ≡ deed_table table.tree
-  pub image : table.name ≡ codes "image" → table ≡ image_table table.tree
-  pub rule : table.name ≡ codes "rule" → table ≡ rule_table table.tree
-  pub badge : table.name ≡ codes "badge" → table ≡ badge_table table.tree
-  pub checked : table.name ≡ codes "checked" → table ≡ checked_table table.tree
-
-abbrev pub IsDeclared : Schema → Type 0
-IsDeclared schema = AllByRecursion IsDeclaredTable schema.tables
-
 -- a table `desk` stands, in small or capital letters
 abbrev pub has_desk : Schema → Bool
 has_desk schema = list_any (λ table. same_name table.name (codes "desk")) schema.tables
+
+-- Nothing stands.
+pub record IsBlank (schema : Schema) : Type 0 where
+  pub tables : schema.tables ≡ []
+  pub indexes : schema.indexes ≡ []
+  pub views : schema.views ≡ []

@@ -1,5 +1,5 @@
-ghost use Rattle.std.specs.Prelude.{◌≡◌, [], IsTrue};
-ghost use Rattle.rd_tables.specs.Schemas.{has_desk};
+ghost use Rattle.std.specs.Prelude.{◌≡◌, MatchBool};
+ghost use Rattle.rd_tables.specs.Schemas.{IsBlank, has_desk};
 
 use sqlite_schema::names::same_name;
 use sqlite_schema::schema::Schema;
@@ -16,11 +16,9 @@ pub fn has_desk(schema: &Schema) -> bool
     false
 }
 
-/// Whether there is no table and no view, so that no index stands either.
+/// Whether there is no table, no view and no index.
 pub fn is_blank(schema: &Schema) -> bool
-    ensures tables { IsTrue result → schema.now.tables ≡ [] }
-    ensures views { IsTrue result → schema.now.views ≡ [] }
-    ensures indexes { IsTrue result → schema.now.indexes ≡ [] }
+    ensures { MatchBool result (IsBlank schema.now) (¬ IsBlank schema.now) }
 {
     schema.tables.is_empty() && schema.views.is_empty() && schema.indexes.is_empty()
 }

@@ -9,8 +9,8 @@ use crate::cbm::{
 };
 use crate::cpm::{FILE, NewEntry, filled, hello, with_entries};
 use rd_volume::{
-    CbmDisk, CpmDisk, End, Found, Image, Items, Kind, Volume, directory_end, fault_words, find, pieces,
-    report, survey,
+    CbmDisk, CpmDisk, End, Found, Image, Items, Kind, Volume, directory_end, fault_words, find,
+    pieces, report, survey,
 };
 use std::alloc::Global;
 use std::test::Fail;

@@ -1,4 +1,4 @@
-use Rattle.std.proofs.Common.{Ok, Err, Result, ℕ}
+use Rattle.std.proofs.Common.{Ok, Err, ℕ}
 use Rattle.sqlite.specs.declared.error.Error.{Error}
 use Rattle.rd_store.specs.Created.{IsMade, empty_desk, new_desk}
 use Rattle.rd_store.specs.Held.{IsOf, Moves}

@@ -1,6 +1,5 @@
 use Rattle.std.proofs.Common.{◌≡◌, subst, rules, Ok, Err}
 use Rattle.sqlite.specs.declared.error.Error.{Error}
-use Rattle.sqlite.specs.Held.{Held, state}
 use Rattle.rd_store.specs.Created.{IsMade, Turns, new_desk}
 use Rattle.rd_store.specs.Held.{IsOf, Moves}
 use Rattle.rd_store.proofs.Laws.{Laws, clean_at}

@@ -1,13 +1,12 @@
 use Rattle.std.proofs.Common.{◌≡◌, ◌∙◌, refl, sym, ap, subst, Option, Some, None, Result, Ok, Err, OnOk, IsErr, option_map, true≢false}
 use Rattle.std.specs.FinMap.{get}
 use Rattle.sqlite.specs.Effect.{Database}
-use Rattle.sqlite.specs.Held.{state}
-use Rattle.rd_store.specs.declared.images.Label.{Label}
+use Rattle.rd_store.specs.declared.images.Heading.{Heading}
 use Rattle.rd_store.specs.declared.rows.ImageRow.{ImageRow}
-use Rattle.rd_store.specs.Held.{Stays, IsOpen, IsClean, desk}
-use Rattle.rd_store.specs.Shown.{label_of}
+use Rattle.rd_store.specs.Held.{Stays, IsOpen, desk}
+use Rattle.rd_store.specs.Shown.{heading_of}
 use Rattle.rd_store.specs.Spelled.{desk_of}
-use Rattle.rd_store.specs.State.{Desk, added, with_image}
+use Rattle.rd_store.specs.State.{Desk, put_or_kept, with_image}
 use Rattle.rd_store.proofs.Laws.{Laws, stays_then, stays_changes}
 use Rattle.rd_store.proofs.images.put_image.Goals as goal
 
@@ -16,18 +15,18 @@ on_err P (Err e) is = tt
 on_err P (Ok value) is = absurd (true≢false (sym is))
 
 -- an image that stands is kept
-kept_image : (d : Desk) (acc : _) (image : ImageRow) (found : Option ImageRow) (label : Label) → Some label ≡ option_map label_of found → d ≡ added found acc image d
-kept_image d acc image None label is = absurd cc
-kept_image d acc image (Some standing) label is = refl
+kept_image : (d : Desk) (acc : _) (image : ImageRow) (found : Option ImageRow) (heading : Heading) → Some heading ≡ option_map heading_of found → d ≡ put_or_kept found acc image d
+kept_image d acc image None heading is = absurd cc
+kept_image d acc image (Some standing) heading is = refl
 
-pub returns-in_err-label-clause-changes : goal.returns-in_err-label-clause-changes
-returns-in_err-label-clause-changes g c =
+pub returns-in_err-heading-clause-changes : goal.returns-in_err-heading-clause-changes
+returns-in_err-heading-clause-changes g c =
     let laws : Laws g.S.Store = record { settles = g.met.S.Store.settled; shuts = g.met.S.Store.shut_if_dirty } in
     let image : ImageRow = record { kind = c.args.kind; deed = c.args.deed; digest = c.args.digest.now; bytes = c.args.bytes.now } in
     let old = c.args.conn.now in
-    let new = c.label_at.new.conn in
-    let stays : Stays g.S.Store old new = stays_then g.S.Store old c.deed.new.conn new c.deed.ensures.stays c.in_ok-deed.ensures.stands c.label_at.ensures.stays in
-    stays_changes g.S.Store laws old new c.requires.holds stays (with_image c.args.acc image (desk g.S.Store old)) c.from_residual-in_err-label.result (λ o. on_err _ _ c.from_residual-in_err-label.ensures.0) (λ was clean. on_err _ _ c.from_residual-in_err-label.ensures.0)
+    let new = c.heading_at.new.conn in
+    let stays : Stays g.S.Store old new = stays_then g.S.Store old c.deed.new.conn new c.deed.ensures.stays c.in_ok-deed.ensures.stands c.heading_at.ensures.stays in
+    stays_changes g.S.Store laws old new c.requires.holds stays (with_image c.args.acc image (desk g.S.Store old)) c.from_residual-in_err-heading.result (λ o. on_err _ _ c.from_residual-in_err-heading.ensures.0) (λ was clean. on_err _ _ c.from_residual-in_err-heading.ensures.0)
 
 pub returns-then-eq-2-clause-changes : goal.returns-then-eq-2-clause-changes
 returns-then-eq-2-clause-changes g c =
@@ -36,11 +35,11 @@ returns-then-eq-2-clause-changes g c =
     let image : ImageRow = record { kind = c.args.kind; deed = c.args.deed; digest = c.args.digest.now; bytes = c.args.bytes.now } in
     let old = c.args.conn.now in
     let mid = c.deed.new.conn in
-    let new = c.label_at.new.conn in
-    let label = c.in-Some.label in
-    let stays : Stays g.S.Store old new = stays_then g.S.Store old mid new c.deed.ensures.stays c.in_ok-deed.ensures.stands c.label_at.ensures.stays in
+    let new = c.heading_at.new.conn in
+    let heading = c.in-Some.heading in
+    let stays : Stays g.S.Store old new = stays_then g.S.Store old mid new c.deed.ensures.stays c.in_ok-deed.ensures.stands c.heading_at.ensures.stays in
     let same : IsOpen g.S.Store mid → desk g.S.Store mid ≡ desk g.S.Store old = λ o. ap (λ (db : Database). desk_of db.trees) (c.deed.ensures.stays.now o) in
-    let found : IsOpen g.S.Store new → Some label ≡ option_map label_of (get (desk g.S.Store old).images acc) =
-    λ o. subst (λ (d : Desk). Some label ≡ option_map label_of (get d.images acc)) (same (c.label_at.ensures.stays.was_open o)) (sym c.in-Some.is ∙ c.in_ok-label.ensures.answer o) in
-    stays_changes g.S.Store laws old new c.requires.holds stays (with_image acc image (desk g.S.Store old)) (Ok tt) (λ o. kept_image (desk g.S.Store old) acc image (get (desk g.S.Store old).images acc) label (found o))
-    (λ was clean. c.in_ok-label.ensures.stands (c.in_ok-deed.ensures.stands was (c.label_at.ensures.stays.clean clean)) clean)
+    let found : IsOpen g.S.Store new → Some heading ≡ option_map heading_of (get (desk g.S.Store old).images acc) =
+    λ o. subst (λ (d : Desk). Some heading ≡ option_map heading_of (get d.images acc)) (same (c.heading_at.ensures.stays.was_open o)) (sym c.in-Some.is ∙ c.in_ok-heading.ensures.answer o) in
+    stays_changes g.S.Store laws old new c.requires.holds stays (with_image acc image (desk g.S.Store old)) (Ok tt) (λ o. kept_image (desk g.S.Store old) acc image (get (desk g.S.Store old).images acc) heading (found o))
+    (λ was clean. c.in_ok-heading.ensures.stands (c.in_ok-deed.ensures.stands was (c.heading_at.ensures.stays.clean clean)) clean)

@@ -1,10 +1,9 @@
-use Rattle.std.proofs.Common.{[], ◌∷◌, pos}
+use Rattle.std.proofs.Common.{[], ◌∷◌}
 use Rattle.std.proofs.lemmas.Result.{IfOk-weaker}
-use Rattle.sqlite.specs.declared.types.Value.TheVariants.{Int, Blob}
+use Rattle.sqlite.specs.declared.types.Value.TheVariants.{Blob}
 use Rattle.sqlite.specs.Held.{state}
 use Rattle.rd_tables.proofs.QueryTexts.{audience_asks}
 use Rattle.rd_tables.proofs.Reading.{shown_was_open, shown_picks}
-use Rattle.rd_store.specs.Codes.{band_code}
 use Rattle.rd_store.proofs.Laws.{holds_tables, stays_desk}
 use Rattle.rd_store.proofs.Found.{audience_found}
 use Rattle.rd_store.proofs.keys.audience_rows.Goals as goal

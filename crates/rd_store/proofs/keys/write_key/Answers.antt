@@ -1,8 +1,8 @@
 use Rattle.std.proofs.Common.{◌≡◌, subst, rules, Ok, Err, refl, ℕ}
 use Rattle.sqlite.specs.declared.error.Error.{Error}
-use Rattle.sqlite.specs.Held.{Held, state}
+use Rattle.sqlite.specs.Held.{state}
 use Rattle.rd_tables.proofs.Entries.{get_removed, insert_removed}
-use Rattle.rd_store.specs.Held.{IsOf, IsOpen, HoldsDesk, Moves, Changes, desk}
+use Rattle.rd_store.specs.Held.{IsOf, HoldsDesk, Moves, Changes, desk}
 use Rattle.rd_store.specs.State.{Desk, digest_cmp, with_key, without_key}
 use Rattle.rd_store.proofs.Laws.{Laws, clean_at}
 use Rattle.rd_store.proofs.Orders.{digest_order}

@@ -1,4 +1,3 @@
-use Rattle.sqlite.specs.Held.{state}
 use Rattle.rd_store.proofs.Laws.{Laws, clean_at}
 use Rattle.rd_store.proofs.Querying.{shown_stays, shown_open, failed_stays}
 use Rattle.rd_store.proofs.read.read_all.Goals as goal

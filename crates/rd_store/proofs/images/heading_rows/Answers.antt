@@ -2,17 +2,17 @@ use Rattle.std.proofs.Common.{[], ◌∷◌, pos}
 use Rattle.std.proofs.lemmas.Result.{IfOk-weaker}
 use Rattle.sqlite.specs.declared.types.Value.TheVariants.{Int}
 use Rattle.sqlite.specs.Held.{state}
-use Rattle.rd_tables.proofs.QueryTexts.{label_asks}
+use Rattle.rd_tables.proofs.QueryTexts.{heading_asks}
 use Rattle.rd_tables.proofs.Reading.{shown_was_open, shown_picks}
 use Rattle.rd_store.proofs.Laws.{holds_tables, stays_desk}
-use Rattle.rd_store.proofs.Found.{label_found}
-use Rattle.rd_store.proofs.images.label_rows.Goals as goal
+use Rattle.rd_store.proofs.Found.{heading_found}
+use Rattle.rd_store.proofs.images.heading_rows.Goals as goal
 
 pub read_all-requires-clause-tables : goal.read_all-requires-clause-tables
 read_all-requires-clause-tables g c = holds_tables (state g.S.Store c.args.conn.now) c.requires.holds
 
 pub read_all-requires-clause-plain : goal.read_all-requires-clause-plain
-read_all-requires-clause-plain g c = label_asks.plain
+read_all-requires-clause-plain g c = heading_asks.plain
 
 pub returns-clause-rows : goal.returns-clause-rows
 returns-clause-rows g c is_open =
@@ -22,7 +22,7 @@ returns-clause-rows g c is_open =
     let shown = (rw c.to_sql-key.ensures at (c.read_all.ensures.rows is_open)) in
     IfOk-weaker c.read_all.result _ _ (λ rows h.
     let at = c.requires.holds (shown_was_open _ params old new rows.items h) in
-    label_found c.args.acc _ rows.items at.holds.of.rows.images (shown_picks label_asks params old new at.tables.schema rows.items h)) shown
+    heading_found c.args.acc _ rows.items at.holds.of.rows.images (shown_picks heading_asks params old new at.tables.schema rows.items h)) shown
 
 pub returns-clause-kept : goal.returns-clause-kept
 returns-clause-kept g c = stays_desk g.S.Store c.args.conn.now c.read_all.new.conn c.read_all.ensures.stays c.requires.holds
