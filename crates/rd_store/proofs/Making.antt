@@ -173,7 +173,7 @@ module _ (acc : ℕ) (image : ImageRow) where
       let h = puts_image acc (kind_code image.kind) image.deed image.digest image.bytes (statement_of put_image_text (understood desk_schema put_image_text)) limit db after tally of.schema does in
       let is : IsSpelled image_sheet new_image = sym (ap image_sheet.columns image_read) in
       let none = subst (λ (e : ℕ × ImageRow). AllByRecursion (λ row. eq_by_cmp nat_cmp e.0 (entry_of image_sheet row).0 ≡ false) rows) (sym image_read)
-          (none_at image_sheet number_order acc rows (ap (λ (d : Desk). get d.images acc) of.is ∙ free)) in
+      (none_at image_sheet number_order acc rows (ap (λ (d : Desk). get d.images acc) of.is ∙ free)) in
       let put = spells_put image_sheet number_order new_image rows of.rows.images is none h.0 in
       let are = map_put image_sheet number_order new_image rows of.rows.images is none h.0 ∙ ap (λ (e : ℕ × ImageRow). insert (map_of image_sheet rows) e.0 e.1) image_read
       ∙ ap (λ (d : Desk). insert d.images acc image) of.is in
@@ -212,7 +212,7 @@ module _ (place : Place) where
         let read : entry_of rule_sheet new ≡ (place, terms) = rule_back (place, terms) in
         let is : IsSpelled rule_sheet new = sym (ap rule_sheet.columns read) in
         let none = subst (λ (e : Place × Terms). AllByRecursion (λ row. eq_by_cmp place_cmp e.0 (entry_of rule_sheet row).0 ≡ false) rows) (sym read)
-            (none_at rule_sheet place_order place rows (ap (λ (d : Desk). get d.rules place) of.is ∙ free)) in
+        (none_at rule_sheet place_order place rows (ap (λ (d : Desk). get d.rules place) of.is ∙ free)) in
         let put = spells_put rule_sheet place_order new rows of.rows.rules is none h.0 in
         let are = map_put rule_sheet place_order new rows of.rows.rules is none h.0 ∙ ap (λ (e : Place × Terms). insert (map_of rule_sheet rows) e.0 e.1) read
         ∙ ap (λ (d : Desk). insert d.rules place terms) of.is in
@@ -241,7 +241,7 @@ module _ (digest : List ℕ) where
         let read : entry_of key_sheet new ≡ (digest, audience) = λ i. (digest, audience_back audience i) in
         let is : IsSpelled key_sheet new = sym (ap key_sheet.columns read) in
         let none = subst (λ (e : List ℕ × Audience). AllByRecursion (λ row. eq_by_cmp digest_cmp e.0 (entry_of key_sheet row).0 ≡ false) rows) (sym read)
-            (none_at key_sheet digest_order digest rows (ap (λ (d : Desk). get d.keys digest) of.is ∙ free)) in
+        (none_at key_sheet digest_order digest rows (ap (λ (d : Desk). get d.keys digest) of.is ∙ free)) in
         let put = spells_put key_sheet digest_order new rows of.rows.keys is none h.0 in
         let are = map_put key_sheet digest_order new rows of.rows.keys is none h.0 ∙ ap (λ (e : List ℕ × Audience). insert (map_of key_sheet rows) e.0 e.1) read
         ∙ ap (λ (d : Desk). insert d.keys digest audience) of.is in

@@ -69,10 +69,7 @@ fn fill<S: Alter>(tx: &mut Transaction<'_, S>, staff: &[u8; 32]) -> Result<(), E
 }
 
 /// Makes a new desk in a blank database, in one transaction.
-pub(crate) fn write_desk<S: Alter>(
-    conn: &mut Connection<S>,
-    staff: &[u8; 32],
-) -> Result<(), Error>
+pub(crate) fn write_desk<S: Alter>(conn: &mut Connection<S>, staff: &[u8; 32]) -> Result<(), Error>
     requires mode { conn.old.in_transaction ≡ false }
     requires start { IsOpen S.Store conn.old → IsAt (IsMade 0) (state S.Store conn.old) }
     ensures turns { Turns S.Store conn.old conn.new (IsOf (new_desk staff.now)) result }

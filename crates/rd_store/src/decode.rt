@@ -62,9 +62,7 @@ pub(crate) fn bytes_at(alloc: Global, row: &Row, at: usize) -> Result<Vec<u8>, S
     ensures fault { IfErr result (λ fault. fault ≡ StoreFault.Sql) }
 {
     match row.get_ref(at) {
-        Ok(ValueRef::Blob(bytes)) => {
-            Vec::from_slice(alloc, bytes).map_err(|_| StoreFault::Sql)
-        }
+        Ok(ValueRef::Blob(bytes)) => { Vec::from_slice(alloc, bytes).map_err(|_| StoreFault::Sql) }
         _ => Err(StoreFault::Sql),
     }
 }

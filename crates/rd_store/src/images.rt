@@ -9,12 +9,11 @@ ghost use Rattle.rd_store.specs.Lawful.{IsImage};
 ghost use Rattle.rd_store.specs.Shown.{accession_shown, image_shown, heading_of, heading_shown};
 ghost use Rattle.rd_store.specs.State.{HasOtherImage, with_image};
 
-use crate::codes;
 use crate::decode::{bytes_at, digest_at, kind, number_at};
-use crate::deeds;
 use crate::faults::StoreFault;
 use crate::read::read_all;
 use crate::rows::ImageRow;
+use crate::{codes, deeds};
 use rd_geometry::{Items, Kind};
 use sqlite::types::ToSql;
 use sqlite::{Alter, Connection, Error, Row, params};

@@ -72,7 +72,11 @@ fn key_rows<S: Alter>(conn: &mut Connection<S>) -> Result<Vec<Row>, StoreFault>
     ensures kept { HoldsDesk (state S.Store conn.new) }
     ensures fault { IfErr result (λ fault. fault ≡ StoreFault.Sql) }
 {
-    read_all(conn, "SELECT digest, audience FROM badge ORDER BY digest", &[])
+    read_all(
+        conn,
+        "SELECT digest, audience FROM badge ORDER BY digest",
+        &[],
+    )
 }
 
 /// Whether a row shows a staff key with another digest.
@@ -131,10 +135,7 @@ pub(crate) fn delete_key<S: Alter>(
 }
 
 /// Takes a desk key away, inside a transaction.
-fn delete_digest<S: Alter>(
-    tx: &mut Transaction<'_, S>,
-    digest: &[u8; 32],
-) -> Result<usize, Error>
+fn delete_digest<S: Alter>(tx: &mut Transaction<'_, S>, digest: &[u8; 32]) -> Result<usize, Error>
     ensures same_reference { tx.new.conn.ghost_name ≡ tx.old.conn.ghost_name }
     ensures moves { (before : _) → Moves S.Store tx.old.conn.now tx.new.conn.now
         (IsOf before) (IsOf (without_key digest.now before)) result }

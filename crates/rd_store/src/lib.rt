@@ -4,11 +4,12 @@
 
 mod codes;
 mod create;
-mod deeds;
 mod decode;
+mod deeds;
 mod faults;
 mod images;
 mod keys;
+mod limits;
 mod read;
 mod rows;
 mod rules;
@@ -17,5 +18,6 @@ mod store;
 mod tests;
 
 pub use faults::{CreateFault, Refused, StoreFault};
+pub use limits::is_donor;
 pub use rows::{DeedRow, ImageRow, Outcome};
 pub use store::{Store, memory_stays_open};

@@ -10,11 +10,10 @@ ghost use Rattle.rd_store.specs.Spelled.{rule_sheet};
 ghost use Rattle.rd_policy.specs.Rules.{IsRule};
 ghost use Rattle.rd_store.specs.State.{Stands, place_of, rule_of, rules_at, rules_for as rules_for_accession, terms_of, with_rule, without_rule};
 
-use crate::codes;
 use crate::decode::{audiences, band, effect, number_at, select, some_day_at, text_at};
 use crate::faults::StoreFault;
-use crate::{deeds, images};
 use crate::read::read_all;
+use crate::{codes, deeds, images};
 use rd_policy::{Band, Rule, Select};
 use sqlite::types::ToSql;
 use sqlite::{Alter, Connection, Error, Row, Transaction, params};

@@ -10,10 +10,9 @@ ghost use Rattle.rd_tables.specs.Schemas.{IsBlank, has_desk};
 ghost use Rattle.rd_store.specs.Lawful.{IsDeed, IsImage, IsKey};
 ghost use Rattle.rd_store.specs.State.{HasOtherImage, IsLastStaff, Stands, place_of, rules_for, terms_of, with_deed, with_image, with_key, with_rule, without_key, without_rule};
 
-use crate::create;
 use crate::faults::{CreateFault, Refused, StoreFault};
 use crate::rows::{DeedRow, ImageRow};
-use crate::{deeds, images, keys, rules};
+use crate::{create, deeds, images, keys, rules};
 use rd_geometry::Kind;
 use rd_policy::{Audience, Band, Rule};
 use rd_tables::{has_desk as has_desk_table, is_blank};
@@ -256,5 +255,4 @@ impl<S: Alter> Store<S> {
 pub fn memory_stays_open()
     ensures open { (conn : Held MemStore) → IsOpen over_memory conn }
     ensures clean { (conn : Held MemStore) → IsClean over_memory conn }
-{
-}
+{}

@@ -4,11 +4,10 @@ mod keys;
 mod refused;
 mod rules;
 
-ghost use Rattle.std.specs.Prelude.{◌≡◌, false, IfOk, IsTrue, length, vec_len};
+ghost use Rattle.std.specs.Prelude.{◌≡◌, false, IfOk, length, vec_len};
 ghost use Rattle.rd_policy.specs.Rules.{IsScope};
-ghost use Rattle.rd_store.specs.Lawful.{IsDonor};
 
-use crate::{Refused, Store, StoreFault};
+use crate::{Refused, Store, StoreFault, is_donor};
 use rd_geometry::{Kind, NoMemory};
 use rd_policy::{Audience, Audiences, Band, Effect, Rule, Select, is_day, is_scope};
 use sqlite::{Connection, Error, MemStore};
@@ -70,14 +69,6 @@ fn bytes(alloc: Global, byte: u8) -> Result<Vec<u8>, NoMemory>
     ensures { IfOk result (λ bytes. vec_len bytes ≡ 174_848) }
 {
     Ok(vec![in alloc; byte; 174_848]?)
-}
-
-/// Whether a text may be a donor's name.
-fn is_donor(text: &str) -> bool
-    ensures { IsTrue result → IsDonor text.now }
-{
-    let bytes = text.as_bytes();
-    !bytes.is_empty() && bytes.len() <= 1_000 && bytes.iter().all(|byte| *byte >= 32)
 }
 
 fn put_deed(
@@ -221,4 +212,12 @@ fn number(conn: &mut Connection<MemStore>, sql: &str) -> Result<i64, Error> {
 
 fn run(conn: &mut Connection<MemStore>, sql: &str) -> Result<usize, Error> {
     conn.execute(sql, &[])
+}
+
+#[test]
+fn donors_have_names(rt: HostRuntime) {
+    assert!(rt; is_donor("A. Curator"));
+    assert!(rt; is_donor(" "));
+    assert!(rt; !is_donor(""));
+    assert!(rt; !is_donor("A. Curator\n"));
 }

@@ -21,7 +21,7 @@ returns-clause-rows g c is_open =
     let shown = c.read_all.ensures.rows is_open in
     IfOk-weaker c.read_all.result _ _ (λ rows h.
     let at = c.requires.holds (shown_was_open _ params old new rows.items h) in
-    accessions_found  _ rows.items at.holds.of.rows.images (shown_picks accessions_asks params old new at.tables.schema rows.items h)) shown
+    accessions_found _ rows.items at.holds.of.rows.images (shown_picks accessions_asks params old new at.tables.schema rows.items h)) shown
 
 pub returns-clause-kept : goal.returns-clause-kept
 returns-clause-kept g c = stays_desk g.S.Store c.args.conn.now c.read_all.new.conn c.read_all.ensures.stays c.requires.holds

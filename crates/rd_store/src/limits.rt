@@ -1,0 +1,10 @@
+ghost use Rattle.std.specs.Prelude.{◌↔◌, IsTrue};
+ghost use Rattle.rd_store.specs.Lawful.{IsDonor};
+
+/// Whether a text may be a donor's name: 1 to 1,000 bytes, no character below U+0020.
+pub fn is_donor(text: &str) -> bool
+    ensures { IsTrue result ↔ IsDonor text.now }
+{
+    let bytes = text.as_bytes();
+    !bytes.is_empty() && bytes.len() <= 1_000 && bytes.iter().all(|byte| *byte >= 32)
+}
