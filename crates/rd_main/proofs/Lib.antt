@@ -6,3 +6,4 @@ pub mod Asked
 pub mod Written
 pub mod Served
 pub mod Ran
+pub mod WordsWritten

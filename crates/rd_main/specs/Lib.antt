@@ -4,3 +4,4 @@ pub mod Asks
 pub mod Refusals
 pub mod Output
 pub mod Cat
+pub mod Printed

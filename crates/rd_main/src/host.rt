@@ -1,3 +1,9 @@
+ghost use Rattle.std.specs.Prelude.{◌↔◌, ◌≡◌};
+ghost use Rattle.std.specs.IoError.{error_kind};
+ghost use Rattle.std.specs.declared.io.ErrorKind.TheVariants.{OutOfMemory};
+ghost use Rattle.rd_main.specs.declared.machine.MachineFault.TheVariants as machine_fault;
+ghost use Rattle.rd_main.specs.declared.refusal.Refusal.TheVariants as refusal;
+
 use crate::input::read_front;
 use crate::machine::{Machine, MachineFault};
 use crate::refusal::Refusal;
@@ -14,6 +20,9 @@ struct Host<'a> {
 }
 
 impl From<io::Error> for MachineFault {
+    ghost from_gives = { λ error fault. (fault ≡ machine_fault.NoMemory)
+        ↔ (error_kind error ≡ OutOfMemory) };
+
     fn from(error: io::Error) -> MachineFault {
         match error.kind() {
             ErrorKind::OutOfMemory => MachineFault::NoMemory,
@@ -23,6 +32,9 @@ impl From<io::Error> for MachineFault {
 }
 
 impl From<Refusal> for MachineFault {
+    ghost from_gives = { λ refused fault. (fault ≡ machine_fault.NoMemory)
+        ↔ (refused ≡ refusal.NoMemory) };
+
     fn from(refusal: Refusal) -> MachineFault {
         match refusal {
             Refusal::NoMemory => MachineFault::NoMemory,

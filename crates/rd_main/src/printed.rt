@@ -1,5 +1,9 @@
 //! Faults and lines of a list, as they are printed.
 
+ghost use Rattle.std.specs.Prelude.{Some};
+ghost use Rattle.rd_main.specs.Printed.{joined};
+ghost use Rattle.rd_volume.specs.Words.{words_left};
+
 use rd_volume::{FaultWords, Found, Kind, fault_words};
 use std::fmt;
 
@@ -8,6 +12,8 @@ use std::fmt;
 pub(crate) struct Joined(pub(crate) FaultWords);
 
 impl fmt::Display for Joined {
+    ghost output = { λ shown. Some (joined (words_left shown.0)) };
+
     fn fmt<W: fmt::Write>(&self, f: &mut fmt::Formatter<W>) -> fmt::Result {
         let mut words = self.0;
         if let Some(first) = words.next() {

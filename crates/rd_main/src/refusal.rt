@@ -1,4 +1,5 @@
-ghost use Rattle.std.specs.Prelude.{◌≡◌};
+ghost use Rattle.std.specs.Prelude.{◌≡◌, Some};
+ghost use Rattle.rd_main.specs.Printed.{refusal_text};
 ghost use Rattle.rd_main.specs.Refusals.{name_of, status_of};
 ghost use Rattle.rd_main.specs.declared.refusal.Refusal.TheVariants as refusal;
 
@@ -56,6 +57,8 @@ impl Refusal {
 }
 
 impl fmt::Display for Refusal {
+    ghost output = { λ refusal. Some (refusal_text refusal) };
+
     /// The name, and the words of the faults where there are any.
     fn fmt<W: fmt::Write>(&self, f: &mut fmt::Formatter<W>) -> fmt::Result {
         let name = self.name();
