@@ -14,3 +14,5 @@ pub mod Setting
 pub mod Reading
 pub mod Running
 pub mod Statements
+pub mod Listed
+pub mod Unique

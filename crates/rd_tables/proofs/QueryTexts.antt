@@ -2,6 +2,10 @@
 use Rattle.std.proofs.Common.{◌≡◌, ℕ, List, [], ◌∷◌, codes, false, refl}
 use Rattle.sqlite.specs.Command.TheVariants.{Select}
 use Rattle.sqlite.specs.Query.{Query}
+use Rattle.sqlite.specs.Table.{Table}
+use Rattle.sqlite_schema.specs.declared.schema.Index.{Index}
+use Rattle.sqlite.specs.Schema.{Schema}
+use Rattle.sqlite_schema.specs.declared.schema.View.{View}
 use Rattle.sqlite.specs.Listing.{understood, reads_listing}
 use Rattle.sqlite.specs.Program.{overlay}
 use Rattle.sqlite.specs.Tree.{Trees}
@@ -10,16 +14,20 @@ use Rattle.sqlite_value.specs.declared.keys.Key.{Key}
 use Rattle.sqlite.proofs.Callers.{IsPlain, command_of}
 use Rattle.sqlite_tied.specs.Compute.{everything}
 use Rattle.rd_tables.specs.Asked.{asks_of}
-use Rattle.rd_tables.specs.Schemas.{desk_schema}
-use Rattle.rd_tables.specs.Queries.{deed_text, deed_query, image_text, image_query, heading_text, heading_query, audience_text, audience_query, rules_text, rules_query, accessions_text, accessions_query, keys_text, keys_query}
+use Rattle.rd_tables.specs.Schemas.{desk_schema, starts_with_desk}
+use Rattle.rd_tables.specs.Queries.{deed_text, deed_query, image_text, image_query, heading_text, heading_query, audience_text, audience_query, rules_text, rules_query, accessions_text, accessions_query, keys_text, keys_query, all_deeds_text, all_deeds_query, all_images_text, all_images_query, all_rules_text, all_rules_query, all_keys_text, all_keys_query, all_checks_text, all_checks_query, version_text, version_query}
 
--- Over the tables of a desk the text asks this of the rows on one tree.
-pub record Asks (text : List ℕ) (tree : ℕ) (tests shown : List Term) (order : List (Term × Key)) : Type 0 where
+-- Over these tables the text asks this of the rows on one tree.
+pub record AsksOver (schema : Schema) (text : List ℕ) (tree : ℕ) (tests shown : List Term) (order : List (Term × Key)) : Type 0 where
   pub names : List (List ℕ)
-  pub means : command_of (understood desk_schema text) ≡ Select (record { lets = []; body = asks_of tree tests shown order }) names
-  pub plain : IsPlain (understood desk_schema text)
-  pub stored : reads_listing desk_schema text ≡ false
+  pub means : command_of (understood schema text) ≡ Select (record { lets = []; body = asks_of tree tests shown order }) names
+  pub plain : IsPlain (understood schema text)
+  pub stored : reads_listing schema text ≡ false
   pub here : (trees : Trees) → overlay trees [] tree ≡ trees tree
+
+-- over the tables of a desk
+abbrev pub Asks : List ℕ → ℕ → List Term → List Term → List (Term × Key) → Type 0
+Asks = AsksOver desk_schema
 
 -- the same of a query that is written out
 abbrev pub AsksBy : List ℕ → ℕ → Query → Type 0
@@ -58,3 +66,28 @@ accessions_asks = record { names = codes "acc" ∷ []; means = refl; plain = (re
 pub keys_asks : AsksBy keys_text 5 keys_query
 unfolding understood everything
 keys_asks = record { names = codes "digest" ∷ codes "audience" ∷ []; means = refl; plain = (refl, refl); stored = refl; here = λ trees. refl }
+
+pub all_deeds_asks : AsksBy all_deeds_text 1 all_deeds_query
+unfolding understood everything
+all_deeds_asks = record { names = codes "num" ∷ codes "donor" ∷ codes "signed" ∷ []; means = refl; plain = (refl, refl); stored = refl; here = λ trees. refl }
+
+pub all_images_asks : AsksBy all_images_text 2 all_images_query
+unfolding understood everything
+all_images_asks = record { names = codes "acc" ∷ codes "kind" ∷ codes "deed" ∷ codes "digest" ∷ codes "length(bytes)" ∷ codes "typeof(bytes)" ∷ []; means = refl; plain = (refl, refl); stored = refl; here = λ trees. refl }
+
+pub all_rules_asks : AsksBy all_rules_text 3 all_rules_query
+unfolding understood everything
+all_rules_asks = record { names = codes "rowid" ∷ codes "band" ∷ codes "scope" ∷ codes "rank" ∷ codes "audiences" ∷ codes "day_from" ∷ codes "day_until" ∷ codes "how" ∷ codes "number" ∷ codes "word" ∷ codes "effect" ∷ []; means = refl; plain = (refl, refl); stored = refl; here = λ trees. refl }
+
+pub all_keys_asks : AsksBy all_keys_text 5 all_keys_query
+unfolding understood everything
+all_keys_asks = record { names = codes "rowid" ∷ codes "digest" ∷ codes "audience" ∷ []; means = refl; plain = (refl, refl); stored = refl; here = λ trees. refl }
+
+pub all_checks_asks : AsksBy all_checks_text 7 all_checks_query
+unfolding understood everything
+all_checks_asks = record { names = codes "rowid" ∷ codes "acc" ∷ codes "day" ∷ codes "outcome" ∷ []; means = refl; plain = (refl, refl); stored = refl; here = λ trees. refl }
+
+-- the version is read in one way whatever tables follow the first
+pub version_asks : (more : List Table) (indexes : List Index) (views : List View) → AsksOver (starts_with_desk more indexes views) version_text 0 version_query.filter version_query.project version_query.order
+unfolding understood everything
+version_asks more indexes views = record { names = codes "version" ∷ []; means = refl; plain = (refl, refl); stored = refl; here = λ trees. refl }

@@ -13,9 +13,9 @@ use Rattle.sqlite.specs.State.{State, IsUnchanged, IsRolledBack, FailsToShow, Fa
 use Rattle.sqlite.proofs.Callers.{IsPlain, reads_as, never_commits}
 use Rattle.sqlite.proofs.StateLemmas.{survives_weaker}
 use Rattle.rd_tables.specs.Asked.{asks_of, IsPicked}
-use Rattle.rd_tables.specs.Schemas.{desk_schema}
+use Rattle.sqlite.specs.Schema.{Schema}
 use Rattle.rd_tables.proofs.Picking.{answer_picks}
-use Rattle.rd_tables.proofs.QueryTexts.{Asks}
+use Rattle.rd_tables.proofs.QueryTexts.{AsksOver}
 
 not_shown : (old new : State) (text : List ℕ) (c : Compiled) (params : Row) (e : Error) (returning : Option Returning) → FailsToShow old new text c params e returning → IsUnchanged old new ⊎ IsRolledBack old new
 not_shown old new text c params e None h = inl h.3
@@ -41,7 +41,7 @@ rows_unchanged : (old new : State) (text : List ℕ) (c : Compiled) (params : Ro
 rows_unchanged old new text c params rows None none h = h.3
 rows_unchanged old new text c params rows (Some what) none h = absurd cc
 
-module _ (text : List ℕ) (params : Row) (old new : State) (schema : old.now.schema ≡ desk_schema) (plain : IsPlain (understood desk_schema text)) where
+module _ {over : Schema} (text : List ℕ) (params : Row) (old new : State) (schema : old.now.schema ≡ over) (plain : IsPlain (understood over text)) where
   plain_here : IsPlain (understood old.now.schema text)
   plain_here = subst (λ s. IsPlain (understood s text)) (sym schema) plain
 
@@ -54,7 +54,7 @@ module _ (text : List ℕ) (params : Row) (old new : State) (schema : old.now.sc
   read_survives = survives_weaker old new _ _ (λ _ trees. never_commits text params old trees plain_here)
 
 -- the rows are those that the text asks for
-pub shown_picks : {text : List ℕ} {tree : ℕ} {tests shown : List Term} {order : List (Term × Key)} → Asks text tree tests shown order → (params : Row) (old new : State) → old.now.schema ≡ desk_schema → (rows : List Row) → Shown text params old new rows
+pub shown_picks : {over : Schema} {text : List ℕ} {tree : ℕ} {tests shown : List Term} {order : List (Term × Key)} → AsksOver over text tree tests shown order → (params : Row) (old new : State) → old.now.schema ≡ over → (rows : List Row) → Shown text params old new rows
     → IsPicked (asks_of tree tests shown order) params (old.now.trees tree) rows
-shown_picks {text} {tree} {tests} {shown} {order} asks params old new schema rows h =
-    answer_picks tree tests shown order old.now.trees params rows (asks.here old.now.trees) ((reads_as text params old new desk_schema schema _ asks.means asks.plain asks.stored rows h).answer Null)
+shown_picks {over} {text} {tree} {tests} {shown} {order} asks params old new schema rows h =
+    answer_picks tree tests shown order old.now.trees params rows (asks.here old.now.trees) ((reads_as text params old new over schema _ asks.means asks.plain asks.stored rows h).answer Null)

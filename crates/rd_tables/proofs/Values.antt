@@ -38,7 +38,7 @@ cast_or_null (Some n) = cast_int n
 
 -- ---- comparisons
 
-truth_kept : (b : Bool) → is_true (from_truth (Some b)) ≡ b
+pub truth_kept : (b : Bool) → is_true (from_truth (Some b)) ≡ b
 truth_kept true = refl
 truth_kept false = refl
 

@@ -1,8 +1,10 @@
 -- What a query over one table shows.
-use Rattle.std.specs.Prelude.{◌≡◌, ℕ, pos, negsuc, false, List, [], ◌∷◌, map, filter, None, IsPermutation, IsSorted}
+use Rattle.std.specs.Prelude.{◌≡◌, ℕ, ◌+◌, ◌<◌, pos, negsuc, true, false, List, [], ◌∷◌, map, filter, length, All, get_or, int_lt, None, IsPermutation, IsSorted}
 use Rattle.std.specs.List.{list_all}
 use Rattle.sqlite.specs.declared.types.Value.TheVariants.{Int}
-use Rattle.sqlite.specs.Order.{Row}
+use Rattle.sqlite.specs.Order.{Row, column}
+use Rattle.sqlite_trees.specs.View.{is_int}
+use Rattle.sqlite_rules.specs.Edit.{id_in}
 use Rattle.sqlite_sql.specs.Term.{Term, lit, col, op2, holds}
 use Rattle.sqlite_sql.specs.declared.ops.BinaryOp.TheVariants.{Compare}
 use Rattle.sqlite_sql.specs.declared.ops.CompareOp.TheVariants.{Eq}
@@ -42,3 +44,13 @@ pub record IsPicked (query : Query) (params : Row) (table rows : List Row) : Typ
   pub same : IsPermutation (picked query params table) ordered
   pub sorted : IsSorted (output_cmp query) ordered
   pub shown : rows ≡ map (λ out. out.1) ordered
+
+-- The first column of each row is a number, above that of the row before.
+pub record AreRising (rows : List Row) : Type 0 where
+  pub numbers : All (λ row. is_int (column row 0) ≡ true) rows
+  pub rise : (k : ℕ) → k + 1 < length rows → int_lt (id_in (column (get_or rows k []) 0)) (id_in (column (get_or rows (k + 1) []) 0)) ≡ true
+
+-- All rows of a table are shown, each with a rowid of its own first.
+pub record IsListed (query : Query) (table rows : List Row) : Type 0 where
+  pub picks : IsPicked query [] table rows
+  pub rising : AreRising rows

@@ -1,6 +1,7 @@
 -- The questions that the store asks of its tables, and the queries that their texts are.
 use Rattle.std.specs.Prelude.{ℕ, List, [], ◌∷◌, codes}
-use Rattle.sqlite.specs.Term.{col}
+use Rattle.sqlite.specs.Term.{col, op1}
+use Rattle.sqlite_sql.specs.declared.ops.UnaryOp.TheVariants.{Length, TypeOf}
 use Rattle.sqlite.specs.Query.{Query}
 use Rattle.rd_tables.specs.Asked.{asks_of, equals, rising}
 use Rattle.rd_tables.specs.Statements.{by_digest}
@@ -52,3 +53,45 @@ keys_text = codes "SELECT digest, audience FROM badge ORDER BY digest"
 
 abbrev pub keys_query : Query
 keys_query = asks_of 5 [] (col 1 1 ∷ col 1 2 ∷ []) ((col 1 1, rising) ∷ [])
+
+-- ---- all rows, each with its rowid first
+
+abbrev pub all_deeds_text : List ℕ
+all_deeds_text = codes "SELECT num, donor, signed FROM deed ORDER BY num"
+
+abbrev pub all_deeds_query : Query
+all_deeds_query = asks_of 1 [] (col 1 0 ∷ col 1 2 ∷ col 1 3 ∷ []) ((col 1 0, rising) ∷ [])
+
+-- of the bytes of an image the length and the type
+abbrev pub all_images_text : List ℕ
+all_images_text = codes "SELECT acc, kind, deed, digest, length(bytes), typeof(bytes) FROM image ORDER BY acc"
+
+abbrev pub all_images_query : Query
+all_images_query = asks_of 2 [] (col 1 0 ∷ col 1 2 ∷ col 1 3 ∷ col 1 4 ∷ op1 Length (col 1 5) ∷ op1 TypeOf (col 1 5) ∷ []) ((col 1 0, rising) ∷ [])
+
+abbrev pub all_rules_text : List ℕ
+all_rules_text = codes "SELECT rowid, band, scope, rank, audiences, day_from, day_until, how, number, word, effect FROM rule ORDER BY rowid"
+
+abbrev pub all_rules_query : Query
+all_rules_query = asks_of 3 []
+    (col 1 0 ∷ col 1 1 ∷ col 1 2 ∷ col 1 3 ∷ col 1 4 ∷ col 1 5 ∷ col 1 6 ∷ col 1 7 ∷ col 1 8 ∷ col 1 9 ∷ col 1 10 ∷ []) ((col 1 0, rising) ∷ [])
+
+abbrev pub all_keys_text : List ℕ
+all_keys_text = codes "SELECT rowid, digest, audience FROM badge ORDER BY rowid"
+
+abbrev pub all_keys_query : Query
+all_keys_query = asks_of 5 [] (col 1 0 ∷ col 1 1 ∷ col 1 2 ∷ []) ((col 1 0, rising) ∷ [])
+
+abbrev pub all_checks_text : List ℕ
+all_checks_text = codes "SELECT rowid, acc, day, outcome FROM checked ORDER BY rowid"
+
+abbrev pub all_checks_query : Query
+all_checks_query = asks_of 7 [] (col 1 0 ∷ col 1 1 ∷ col 1 2 ∷ col 1 3 ∷ []) ((col 1 0, rising) ∷ [])
+
+-- ---- the version, whatever tables follow the first
+
+abbrev pub version_text : List ℕ
+version_text = codes "SELECT version FROM desk"
+
+abbrev pub version_query : Query
+version_query = asks_of 0 [] (col 1 2 ∷ []) []

@@ -1,6 +1,6 @@
 -- The tables of the desk as SQL understands their declarations. A column's place is one more than its
 -- number, since the rowid stands first; a tree is where the rows of a table or of its index lie.
-use Rattle.std.specs.Prelude.{◌≡◌, ℕ, Bool, true, false, List, [], ◌∷◌, Option, Some, None, codes, pos}
+use Rattle.std.specs.Prelude.{◌≡◌, ℕ, Bool, true, false, List, [], ◌∷◌, Option, Some, None, ◌&&◌, codes, pos}
 use Rattle.std.specs.List.{list_any}
 use Rattle.sqlite.specs.Collation.TheVariants.{Binary}
 use Rattle.sqlite.specs.declared.types.Value.TheVariants.{Null, Int}
@@ -12,6 +12,7 @@ use Rattle.sqlite_schema.specs.Names.{same_name}
 use Rattle.sqlite_schema.specs.declared.schema.Column.{Column}
 use Rattle.sqlite_schema.specs.declared.schema.Index.{Index}
 use Rattle.sqlite_schema.specs.declared.schema.Reference.{Reference}
+use Rattle.sqlite_schema.specs.declared.schema.View.{View}
 use Rattle.sqlite_schema.specs.declared.schema.Action.TheVariants.{NoAction}
 use Rattle.sqlite_sql.specs.Term.{Term, lit, col, op2}
 use Rattle.sqlite_sql.specs.declared.ops.BinaryOp.TheVariants.{Compare, And}
@@ -115,9 +116,30 @@ desk_schema = record {
   views = [];
 }
 
+-- the desk's own table comes first, and whatever else stands follows
+abbrev pub starts_with_desk : List Table → List Index → List View → Schema
+starts_with_desk more indexes views = record { tables = desk_table 0 ∷ more; indexes = indexes; views = views }
+
 -- a table `desk` stands, in small or capital letters
 abbrev pub has_desk : Schema → Bool
 has_desk schema = list_any (λ table. same_name table.name (codes "desk")) schema.tables
+
+-- the columns of a `desk`, in small or capital letters
+abbrev pub are_desk_columns : List Column → Bool
+are_desk_columns (id ∷ version ∷ []) = same_name id.name (codes "id") && same_name version.name (codes "version")
+are_desk_columns _ = false
+
+-- a table `desk` of exactly these columns stands
+abbrev pub has_desk_columns : Schema → Bool
+has_desk_columns schema = list_any (λ table. same_name table.name (codes "desk") && are_desk_columns table.columns) schema.tables
+
+-- Both have a first table, and it is the same.
+pub record SharesFirstTable (schema other : Schema) : Type 0 where
+  pub first : Table
+  pub more : List Table
+  pub rest : List Table
+  pub here : schema.tables ≡ first ∷ more
+  pub there : other.tables ≡ first ∷ rest
 
 -- Nothing stands.
 pub record IsBlank (schema : Schema) : Type 0 where

@@ -1,10 +1,10 @@
 -- How the rows of a table spell a finite map: each row spells one entry, and no two rows one key.
-use Rattle.std.specs.Prelude.{◌≡◌, ℕ, ℤ, pos, negsuc, List, map, IsTrue}
+use Rattle.std.specs.Prelude.{◌≡◌, ℕ, ℤ, pos, negsuc, List, map, Some, IsTrue}
 use Rattle.std.specs.List.{AllByRecursion, IsDistinct}
 use Rattle.std.specs.declared.cmp.Ordering.{Ordering}
 use Rattle.std.specs.declared.cmp.Ordering.TheVariants.{Equal}
 use Rattle.std.specs.Ordering.{eq_by_cmp}
-use Rattle.std.specs.FinMap.{FinMap, from_entries}
+use Rattle.std.specs.FinMap.{FinMap, from_entries, get}
 use Rattle.sqlite.specs.declared.types.Value.{Value}
 use Rattle.sqlite.specs.Order.{Row, column, value_cmp}
 use Rattle.sqlite.specs.Tree.{rowid}
@@ -41,6 +41,11 @@ pub record Spells {K X : Type 0} (sheet : Sheet K X) (rows : List Row) : Type 0 
 -- the map that they spell
 abbrev pub map_of : {K X : Type 0} (sheet : Sheet K X) → List Row → FinMap sheet.cmp X
 map_of sheet rows = from_entries (map (entry_of sheet) rows)
+
+-- They spell a map, and this is true of each of its entries.
+pub record SpellLawful {K X : Type 0} (sheet : Sheet K X) (P : K × X → Type 0) (rows : List Row) : Type 0 where
+  pub spells : Spells sheet rows
+  pub lawful : (key : K) (value : X) → get (map_of sheet rows) key ≡ Some value → P (key, value)
 
 -- The rowids are numbers, and no two rows have one. A DELETE goes by the rowid.
 pub record HaveRowids (rows : List Row) : Type 0 where

@@ -3,6 +3,8 @@
 //! `rd_store` stands on it.
 #![tactic(auto)]
 
+mod same;
 mod schema;
 
-pub use schema::{has_desk, is_blank};
+pub use same::{same_first_table, same_schema};
+pub use schema::{has_desk, has_desk_columns, is_blank};

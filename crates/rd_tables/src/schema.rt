@@ -1,8 +1,8 @@
 ghost use Rattle.std.specs.Prelude.{◌≡◌, MatchBool};
-ghost use Rattle.rd_tables.specs.Schemas.{IsBlank, has_desk};
+ghost use Rattle.rd_tables.specs.Schemas.{IsBlank, are_desk_columns, has_desk, has_desk_columns};
 
 use sqlite_schema::names::same_name;
-use sqlite_schema::schema::Schema;
+use sqlite_schema::schema::{Column, Schema};
 
 /// Whether a table `desk` stands, in small or capital letters.
 pub fn has_desk(schema: &Schema) -> bool
@@ -10,6 +10,30 @@ pub fn has_desk(schema: &Schema) -> bool
 {
     for table in schema.tables.as_slice() {
         if same_name(table.name.as_slice(), b"desk") {
+            return true;
+        }
+    }
+    false
+}
+
+/// Whether the columns are `id` and `version`.
+fn are_desk_columns(columns: &[Column]) -> bool
+    ensures { result ≡ are_desk_columns columns.now }
+{
+    match columns {
+        [id, version] => {
+            same_name(id.name.as_slice(), b"id") && same_name(version.name.as_slice(), b"version")
+        }
+        _ => false,
+    }
+}
+
+/// Whether a table `desk` with the columns `id` and `version` stands.
+pub fn has_desk_columns(schema: &Schema) -> bool
+    ensures { result ≡ has_desk_columns schema.now }
+{
+    for table in schema.tables.as_slice() {
+        if same_name(table.name.as_slice(), b"desk") && are_desk_columns(table.columns.as_slice()) {
             return true;
         }
     }

@@ -1,0 +1,9 @@
+use Rattle.std.proofs.Common.{◌≡◌, ◌&&◌, false, take, codes}
+use Rattle.std.specs.List.{list_any}
+use Rattle.sqlite_schema.specs.Names.{same_name}
+use Rattle.rd_tables.specs.Schemas.{are_desk_columns}
+use Rattle.rd_tables.proofs.schema.has_desk_columns.Given as goal
+
+-- none of the tables so far
+abbrev pub invariant-loop-table : goal.invariant-loop-table
+invariant-loop-table l = list_any (λ table. same_name table.name (codes "desk") && are_desk_columns table.columns) (take l.table-index l.table-items) ≡ false
