@@ -8,3 +8,8 @@ pub mod Whole
 pub mod Making
 pub mod Lawful
 pub mod Creating
+pub mod Columns
+pub mod Shapes
+pub mod Verdicts
+pub mod Sequels
+pub mod Listings

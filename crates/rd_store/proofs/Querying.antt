@@ -2,14 +2,14 @@
 use Rattle.std.proofs.Common.{◌≡◌, inl, inr, ℕ, List, IsTrue, sym, ◌∙◌, arith}
 use Rattle.sqlite.specs.Order.{Row}
 use Rattle.sqlite.specs.Store.{Ghosts}
+use Rattle.sqlite.specs.Schema.{Schema}
 use Rattle.sqlite.specs.declared.error.Error.{Error}
 use Rattle.sqlite.specs.Listing.{understood}
 use Rattle.sqlite.specs.State.{State, IsUnchanged, IsRolledBack, FailsToQuery, Shown, Survives, CommitsShowing}
 use Rattle.sqlite.specs.Held.{Held, state}
 use Rattle.sqlite.proofs.Callers.{IsPlain}
-use Rattle.rd_tables.specs.Schemas.{desk_schema}
 use Rattle.rd_tables.proofs.Reading.{query_fails, shown_was_open, shown_unchanged, read_survives}
-use Rattle.rd_store.specs.Held.{HasTables, HoldsTables, Stays, IsOpen, IsClean}
+use Rattle.rd_store.specs.Held.{RestsOver, Stays, IsOpen, IsClean}
 use Rattle.rd_store.proofs.Laws.{Laws, clean_at}
 
 -- the connection was open, and shows what it did
@@ -22,11 +22,11 @@ pub record Same (old new : State) : Type 0 where
 unchanged : (old new : State) → IsUnchanged old new → Same old new
 unchanged old new same = record { was_open = same.0.was_open; now = same.0.now_is; committed = same.0.committed_is; autocommit = same.0.mode }
 
-undone : (old new : State) → HasTables old → IsTrue new.is_open → IsRolledBack old new → Same old new
-undone old new tables is_open back =
+undone : {over : Schema} (old new : State) → RestsOver over old → IsTrue new.is_open → IsRolledBack old new → Same old new
+undone {over} old new tables is_open back =
     record { was_open = back.was_open is_open; now = (back.undone is_open).0 ∙ tables.settled; committed = (back.undone is_open).1; autocommit = back.autocommit ∙ sym tables.autocommit }
 
-module _ {S : Type 0} (g : Ghosts S) (laws : Laws g) (text : List ℕ) (params : Row) (old new : Held S) (held : HoldsTables (state g old)) (plain : IsPlain (understood desk_schema text))
+module _ {S : Type 0} {over : Schema} (g : Ghosts S) (laws : Laws g) (text : List ℕ) (params : Row) (old new : Held S) (held : IsOpen g old → RestsOver over (state g old)) (plain : IsPlain (understood over text))
     (survives : Survives (state g old) (state g new) (CommitsShowing text params (state g old))) where
   stays : (IsOpen g new → Same (state g old) (state g new)) → Stays g old new
   stays same = record {

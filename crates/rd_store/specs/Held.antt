@@ -2,6 +2,7 @@
 use Rattle.std.specs.Prelude.{◌≡◌, ◌⊎◌, false, IsTrue, Result, Ok, Err, OnOk, OnErr, ⊤}
 use Rattle.sqlite.specs.Tree.{Trees}
 use Rattle.sqlite.specs.Store.{Ghosts}
+use Rattle.sqlite.specs.Schema.{Schema}
 use Rattle.sqlite.specs.Effect.{Database, IsDatabase}
 use Rattle.sqlite.specs.State.{State, HasCleanDisk, Survives, KeepsCommit}
 use Rattle.sqlite.specs.Held.{Held, state}
@@ -29,12 +30,15 @@ pub record Holds (desk : Desk) (db : Database) : Type 0 where
 abbrev pub IsLeft : Desk → Trees → Type 0
 IsLeft desk left = Holds desk (record { schema = desk_schema; trees = left })
 
--- Between two calls the connection has the tables of a desk and is outside a transaction, and the last
--- commit is what is seen.
-pub record HasTables (s : State) : Type 0 where
-  pub schema : s.now.schema ≡ desk_schema
+-- The connection has these tables and is outside a transaction, and the last commit is what is seen.
+pub record RestsOver (over : Schema) (s : State) : Type 0 where
+  pub schema : s.now.schema ≡ over
   pub settled : s.committed ≡ s.now
   pub autocommit : s.in_transaction ≡ false
+
+-- between two calls they are the tables of a desk
+abbrev pub HasTables : State → Type 0
+HasTables = RestsOver desk_schema
 
 abbrev pub HoldsTables : State → Type 0
 HoldsTables s = IsTrue s.is_open → HasTables s

@@ -5,3 +5,5 @@ pub mod Spelled
 pub mod Held
 pub mod Shown
 pub mod Created
+pub mod Cells
+pub mod Opened

@@ -21,6 +21,20 @@ pub enum CreateFault {
     Sql,
 }
 
+/// Why a database is not opened as a desk.
+#[derive(Clone, Copy, Debug, PartialEq, Eq, Hash)]
+pub enum OpenFault {
+    /// No table `desk` with the columns of one stands.
+    NotADesk,
+    /// The table `desk` does not have its one row, or the row says another version.
+    Version,
+    /// The rows are not those of a desk: a value is out of its range, what it refers to is not there, or
+    /// no staff key is there.
+    Inconsistent,
+    /// Tables are declared otherwise, the database failed, or memory was wanting.
+    Sql,
+}
+
 /// Why a connection is no store, and the connection.
 pub struct Refused<F, S: Alter> {
     /// Why.

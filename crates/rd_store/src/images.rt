@@ -146,7 +146,7 @@ fn accession_rows<S: Alter>(conn: &mut Connection<S>) -> Result<Vec<Row>, StoreF
 }
 
 /// The numbers in the first column of rows.
-fn read_numbers(alloc: Global, rows: &[Row]) -> Result<Vec<u32>, StoreFault>
+pub(crate) fn read_numbers(alloc: Global, rows: &[Row]) -> Result<Vec<u32>, StoreFault>
     ensures numbers { IfOk result (λ numbers.
         numbers.items ≡ map (λ row. natural (column row 0)) rows.now) }
     ensures fault { IfErr result (λ fault. fault ≡ StoreFault.Sql) }

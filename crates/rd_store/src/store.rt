@@ -1,4 +1,4 @@
-ghost use Rattle.std.specs.Prelude.{◌≡◌, ◌≢◌, ⊤, false, IfOk, IfErr, IsSome, MatchBool};
+ghost use Rattle.std.specs.Prelude.{◌≡◌, ◌≢◌, ⊤, true, false, IfOk, IfErr, IsSome, MatchBool};
 ghost use Rattle.std.specs.FinMap.{get, keys};
 ghost use Rattle.sqlite.specs.Held.{Held, state};
 ghost use Rattle.sqlite_trees.specs.declared.memory.MemStore.{MemStore};
@@ -6,13 +6,14 @@ ghost use Rattle.rd_policy.specs.Rules.{IsRule};
 ghost use Rattle.rd_store.specs.Created.{IsUntouched, LeavesOldOrNew, new_desk};
 ghost use Rattle.sqlite.specs.Steps.{over_memory};
 ghost use Rattle.rd_store.specs.Held.{AnswersOpen, Changes, HoldsDesk, IsClean, IsOpen, Judges, Keeps, LeavesOnly, StaysOpen, desk};
-ghost use Rattle.rd_tables.specs.Schemas.{IsBlank, has_desk};
+ghost use Rattle.rd_tables.specs.Schemas.{IsBlank, has_desk, has_desk_columns};
+ghost use Rattle.rd_store.specs.Opened.{IsConsistent, Refuses};
 ghost use Rattle.rd_store.specs.Lawful.{IsDeed, IsImage, IsKey};
 ghost use Rattle.rd_store.specs.State.{HasOtherImage, IsLastStaff, Stands, place_of, rules_for, terms_of, with_deed, with_image, with_key, with_rule, without_key, without_rule};
 
-use crate::faults::{CreateFault, Refused, StoreFault};
+use crate::faults::{CreateFault, OpenFault, Refused, StoreFault};
 use crate::rows::{DeedRow, ImageRow};
-use crate::{create, deeds, images, keys, rules};
+use crate::{create, deeds, images, judging, keys, rules};
 use rd_geometry::Kind;
 use rd_policy::{Audience, Band, Rule};
 use rd_tables::{has_desk as has_desk_table, is_blank};
@@ -83,6 +84,31 @@ impl<S: Alter> Store<S> {
                 fault: CreateFault::Sql,
                 conn,
             }),
+        }
+    }
+
+    /// Opens the desk that a database holds. The connection is outside a transaction.
+    ///
+    /// It fails with `NotADesk` where no table `desk` with the columns of one stands; then with `Version`
+    /// where that table does not have its one row, or the row says another version; then with
+    /// `Inconsistent` where the rows are not those of a desk; and with `Sql`, also where another table
+    /// stands, or one is declared otherwise.
+    pub fn open(alloc: Global, mut conn: Connection<S>) -> Result<Store<S>, Refused<OpenFault, S>>
+        requires outside { conn.in_transaction ≡ false }
+        ensures desk { IfOk result (λ store. IsOpen S.Store store → IsConsistent (state S.Store conn).now.trees × (desk S.Store store ≡ desk S.Store conn)) }
+        ensures refused { IfErr result (λ refused. IsOpen S.Store refused.conn → Refuses refused.fault (state S.Store conn).now) }
+        ensures named { IfOk result (λ store. has_desk_columns conn.schema ≡ true) }
+        ensures no_desk { IfErr result (λ refused. MatchBool (has_desk_columns conn.schema)
+            (refused.fault ≢ OpenFault.NotADesk) (refused.fault ≡ OpenFault.NotADesk)) }
+        ensures untouched_ok { IfOk result (λ store. IsOpen S.Store store → IsUntouched S.Store conn store) }
+        ensures untouched_err { IfErr result (λ refused. IsOpen S.Store refused.conn → IsUntouched S.Store conn refused.conn) }
+        ensures durable { IfOk result (λ store. IsOpen S.Store store → LeavesOnly S.Store store (desk S.Store conn)) }
+        ensures stands { IfOk result (λ store. IsOpen S.Store conn → IsClean S.Store store → IsOpen S.Store store) }
+    {
+        let _outside = conn.is_autocommit();
+        match judging::judge(alloc, &mut conn) {
+            Ok(()) => Ok(Store { conn }),
+            Err(fault) => Err(Refused { fault, conn }),
         }
     }
 

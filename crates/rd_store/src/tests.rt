@@ -1,16 +1,19 @@
 mod creating;
+mod files;
 mod images;
+mod inconsistent;
 mod keys;
+mod opening;
 mod refused;
 mod rules;
 
 ghost use Rattle.std.specs.Prelude.{◌≡◌, false, IfOk, length, vec_len};
 ghost use Rattle.rd_policy.specs.Rules.{IsScope};
 
-use crate::{Refused, Store, StoreFault, is_donor};
+use crate::{OpenFault, Refused, Store, StoreFault, is_donor};
 use rd_geometry::{Kind, NoMemory};
 use rd_policy::{Audience, Audiences, Band, Effect, Rule, Select, is_day, is_scope};
-use sqlite::{Connection, Error, MemStore};
+use sqlite::{Alter, Connection, Error, MemStore};
 use std::alloc::Global;
 use std::process::Abort;
 use std::test::Fail;
@@ -64,6 +67,23 @@ fn new_desk(alloc: Global) -> Result<Desk, Fail> {
     }
 }
 
+fn into_connection<S: Alter>(desk: Store<S>) -> Connection<S> {
+    desk.into_connection()
+}
+
+/// The desk that a database holds, or why it is not opened as one, and the connection.
+fn open_desk<S: Alter>(
+    rt: &impl Abort,
+    alloc: Global,
+    conn: Connection<S>,
+) -> Result<Store<S>, (OpenFault, Connection<S>)> {
+    assert!(rt; conn.is_autocommit());
+    match Store::open(alloc, conn) {
+        Ok(desk) => Ok(desk),
+        Err(Refused { fault, conn }) => Err((fault, conn)),
+    }
+}
+
 /// As many bytes as a 1541 disk has, all the same.
 fn bytes(alloc: Global, byte: u8) -> Result<Vec<u8>, NoMemory>
     ensures { IfOk result (λ bytes. vec_len bytes ≡ 174_848) }
@@ -71,9 +91,9 @@ fn bytes(alloc: Global, byte: u8) -> Result<Vec<u8>, NoMemory>
     Ok(vec![in alloc; byte; 174_848]?)
 }
 
-fn put_deed(
+fn put_deed<S: Alter>(
     rt: &impl Abort,
-    desk: &mut Desk,
+    desk: &mut Store<S>,
     num: u32,
     donor: &str,
     signed: i32,
@@ -84,12 +104,12 @@ fn put_deed(
     desk.put_deed(num, donor, signed)
 }
 
-fn put_curator(rt: &impl Abort, desk: &mut Desk) -> Result<(), StoreFault> {
+fn put_curator<S: Alter>(rt: &impl Abort, desk: &mut Store<S>) -> Result<(), StoreFault> {
     put_deed(rt, desk, 7, "A. Curator", 18_020)
 }
 
-fn put_image(
-    desk: &mut Desk,
+fn put_image<S: Alter>(
+    desk: &mut Store<S>,
     acc: u32,
     deed: u32,
     digest: &[u8; 32],
@@ -101,11 +121,11 @@ fn put_image(
     desk.put_image(acc, Kind::D64, deed, digest, bytes)
 }
 
-fn put_room_key(desk: &mut Desk, digest: &[u8; 32]) -> Result<(), StoreFault> {
+fn put_room_key<S: Alter>(desk: &mut Store<S>, digest: &[u8; 32]) -> Result<(), StoreFault> {
     desk.put_key(digest, Audience::Room)
 }
 
-fn put_rule(rt: &impl Abort, desk: &mut Desk, rule: &Rule) -> Result<(), StoreFault> {
+fn put_rule<S: Alter>(rt: &impl Abort, desk: &mut Store<S>, rule: &Rule) -> Result<(), StoreFault> {
     assert!(rt; rule.fits());
     desk.put_rule(rule)
 }
@@ -148,23 +168,74 @@ fn takedown(acc: u32) -> Rule {
     }
 }
 
-/// A desk with deeds 7 and 8, a key for the room, two rules of deed 7, and image 12 under it.
+/// Puts deeds 7 and 8, and a key for the room.
+fn put_deeds<S: Alter>(rt: &impl Abort, desk: &mut Store<S>) -> Result<(), StoreFault> {
+    put_curator(rt, desk)?;
+    put_deed(rt, desk, 8, "B. Donor", 18_321)?;
+    put_room_key(desk, &ROOM)
+}
+
+/// Puts two rules of deed 7.
+fn put_rules<S: Alter>(rt: &impl Abort, desk: &mut Store<S>) -> Result<(), StoreFault> {
+    put_rule(rt, desk, &open())?;
+    put_rule(rt, desk, &closed())
+}
+
+/// Puts image 12 under deed 7.
+fn put_zeros<S: Alter>(alloc: Global, desk: &mut Store<S>) -> Result<(), Fail> {
+    let zeros = bytes(alloc, 0)?;
+    put_image(desk, 12, 7, &DIGEST, zeros.as_slice())?;
+    Ok(())
+}
+
+/// Puts deeds 7 and 8, a key for the room, two rules of deed 7, and image 12 under it.
+fn fill<S: Alter>(rt: &impl Abort, alloc: Global, desk: &mut Store<S>) -> Result<(), Fail> {
+    put_deeds(rt, desk)?;
+    put_rules(rt, desk)?;
+    put_zeros(alloc, desk)
+}
+
+/// A new desk, filled.
 fn filled(rt: &impl Abort, alloc: Global) -> Result<Desk, Fail> {
     let mut desk = new_desk(alloc)?;
-    put_curator(rt, &mut desk)?;
-    put_deed(rt, &mut desk, 8, "B. Donor", 18_321)?;
-    put_room_key(&mut desk, &ROOM)?;
-    put_rule(rt, &mut desk, &open())?;
-    put_rule(rt, &mut desk, &closed())?;
-    let zeros = bytes(alloc, 0)?;
-    put_image(&mut desk, 12, 7, &DIGEST, zeros.as_slice())?;
+    fill(rt, alloc, &mut desk)?;
     Ok(desk)
 }
 
-/// Whether a 1541 image of these values stands.
-fn has_image(
+/// Asserts that the deeds and the image are those that `fill` put.
+fn assert_given<S: Alter>(rt: &impl Abort, alloc: Global, desk: &mut Store<S>) -> Result<(), Fail> {
+    assert!(rt; has_deed(desk, 7, "A. Curator", 18_020)?);
+    assert!(rt; has_deed(desk, 8, "B. Donor", 18_321)?);
+    assert!(rt; has_image(alloc, desk, 12, 7, &DIGEST, 0)?);
+    Ok(())
+}
+
+/// Asserts that the desk keys are that of the staff and the one that `fill` put.
+fn assert_keys<S: Alter>(rt: &impl Abort, desk: &mut Store<S>) -> Result<(), Fail> {
+    assert_eq!(rt; audience_of(desk, &STAFF)?, Some(Audience::Staff));
+    assert_eq!(rt; audience_of(desk, &ROOM)?, Some(Audience::Room));
+    assert_eq!(rt; audience_of(desk, &OTHER_DIGEST)?, None);
+    Ok(())
+}
+
+/// Asserts that all reads of a desk answer what `fill` put.
+fn assert_filled<S: Alter>(
+    rt: &impl Abort,
     alloc: Global,
-    desk: &mut Desk,
+    desk: &mut Store<S>,
+) -> Result<(), Fail> {
+    assert_given(rt, alloc, desk)?;
+    assert_keys(rt, desk)?;
+    assert!(rt; has_rules(alloc, desk, 12, &[closed(), open()])?);
+    let found = accessions(alloc, desk)?;
+    assert_eq!(rt; found.as_slice(), [12].as_slice());
+    Ok(())
+}
+
+/// Whether a 1541 image of these values stands.
+fn has_image<S: Alter>(
+    alloc: Global,
+    desk: &mut Store<S>,
     acc: u32,
     deed: u32,
     digest: &[u8; 32],
@@ -183,7 +254,12 @@ fn has_image(
 }
 
 /// Whether the deed with a number has these values.
-fn has_deed(desk: &mut Desk, num: u32, donor: &str, signed: i32) -> Result<bool, StoreFault> {
+fn has_deed<S: Alter>(
+    desk: &mut Store<S>,
+    num: u32,
+    donor: &str,
+    signed: i32,
+) -> Result<bool, StoreFault> {
     match desk.deed(num)? {
         Some(deed) => Ok(deed.donor.as_str() == donor && deed.signed == signed),
         None => Ok(false),
@@ -191,7 +267,12 @@ fn has_deed(desk: &mut Desk, num: u32, donor: &str, signed: i32) -> Result<bool,
 }
 
 /// Whether these are the rules for an accession, in this order.
-fn has_rules(alloc: Global, desk: &mut Desk, acc: u32, wanted: &[Rule]) -> Result<bool, Fail> {
+fn has_rules<S: Alter>(
+    alloc: Global,
+    desk: &mut Store<S>,
+    acc: u32,
+    wanted: &[Rule],
+) -> Result<bool, Fail> {
     let found = desk.rules_for(alloc, acc)?;
     Ok(told(alloc, found.as_slice())?.as_str() == told(alloc, wanted)?.as_str())
 }
@@ -201,8 +282,15 @@ fn told(alloc: Global, rules: &[Rule]) -> Result<String, Fail> {
     Ok(format!(in alloc; "{rules:?}")?)
 }
 
-fn audience_of(desk: &mut Desk, digest: &[u8; 32]) -> Result<Option<Audience>, StoreFault> {
+fn audience_of<S: Alter>(
+    desk: &mut Store<S>,
+    digest: &[u8; 32],
+) -> Result<Option<Audience>, StoreFault> {
     desk.audience_of(digest)
+}
+
+fn accessions<S: Alter>(alloc: Global, desk: &mut Store<S>) -> Result<Vec<u32>, StoreFault> {
+    desk.accessions(alloc)
 }
 
 /// The number that a query tells.

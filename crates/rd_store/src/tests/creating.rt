@@ -1,7 +1,7 @@
 //! Making a desk, and giving its connection back.
 
 use super::{
-    Desk, ROOM, STAFF, audience_of, filled, has_deed, new_connection, new_desk, number,
+    ROOM, STAFF, audience_of, filled, has_deed, into_connection, new_connection, new_desk, number,
     put_curator, run,
 };
 use crate::{CreateFault, Refused, Store};
@@ -9,10 +9,6 @@ use rd_policy::Audience;
 use sqlite::{Connection, MemStore};
 use std::process::Abort;
 use std::test::Fail;
-
-fn into_connection(desk: Desk) -> Connection<MemStore> {
-    desk.into_connection()
-}
 
 /// Why no desk is made over a connection, and the connection.
 fn refusal(

@@ -3,22 +3,17 @@
 ghost use Rattle.std.specs.Prelude.{◌≡◌, length};
 
 use super::{
-    DIGEST, Desk, OTHER_DIGEST, bytes, filled, has_deed, has_image, new_desk, put_curator,
-    put_deed, put_image,
+    DIGEST, Desk, OTHER_DIGEST, accessions, bytes, filled, has_deed, has_image, new_desk,
+    put_curator, put_deed, put_image,
 };
 use crate::StoreFault;
 use rd_geometry::Kind;
-use std::alloc::Global;
 use std::test::Fail;
 
 fn put_cpm(desk: &mut Desk, bytes: &[u8]) -> Result<(), StoreFault>
     requires { length bytes.now ≡ 256_256 }
 {
     desk.put_image(12, Kind::Cpm8, 7, &DIGEST, bytes)
-}
-
-fn accessions(alloc: Global, desk: &mut Desk) -> Result<Vec<u32>, StoreFault> {
-    desk.accessions(alloc)
 }
 
 #[test]

@@ -4,12 +4,12 @@
 ghost use Rattle.std.specs.Prelude.{◌≡◌, IfOk, vec_len};
 
 use super::{
-    DIGEST, Desk, STAFF, bytes, closed, new_connection, open, put_curator, put_image, put_rule,
-    takedown,
+    DIGEST, Desk, ROOM, STAFF, accessions, audience_of, bytes, closed, has_deed, into_connection,
+    new_connection, open, open_desk, put_curator, put_image, put_room_key, put_rule, takedown,
 };
-use crate::{Refused, Store, StoreFault};
+use crate::{OpenFault, Refused, Store, StoreFault};
 use rd_geometry::NoMemory;
-use rd_policy::Rule;
+use rd_policy::{Audience, Rule};
 use sqlite::{Connection, MemStore};
 use std::alloc::Global;
 use std::process::Abort;
@@ -62,10 +62,6 @@ fn desk_again(rt: &impl Abort, alloc: Global) -> Result<Desk, Fail> {
     Ok(desk)
 }
 
-fn accessions(alloc: Global, desk: &mut Desk) -> Result<Vec<u32>, StoreFault> {
-    desk.accessions(alloc)
-}
-
 fn rules_for(alloc: Global, desk: &mut Desk) -> Result<Vec<Rule>, StoreFault> {
     desk.rules_for(alloc, 12)
 }
@@ -100,5 +96,44 @@ fn rules_when_memory_is_refused(rt: HostRuntime) -> Result<(), Fail> {
     for (rule, rank) in rules.iter().zip([1, 10, 20]) {
         assert_eq!(rt; rule.rank, rank);
     }
+    Ok(())
+}
+
+/// The desk that a database holds, opened again where memory was refused.
+fn open_again(rt: &impl Abort, alloc: Global, conn: Connection<MemStore>) -> Result<Desk, Fail> {
+    match open_desk(rt, alloc, conn) {
+        Ok(desk) => Ok(desk),
+        Err((fault, conn)) => {
+            assert_eq!(rt; fault, OpenFault::Sql);
+            match open_desk(rt, alloc, conn) {
+                Ok(desk) => Ok(desk),
+                Err((fault, _)) => Err(Fail::from(fault)),
+            }
+        }
+    }
+}
+
+#[test]
+fn opening_when_memory_is_refused(rt: HostRuntime) -> Result<(), Fail> {
+    let alloc = rt.alloc();
+    let mut desk = desk_again(&rt, alloc)?;
+    let ones = bytes_again(alloc)?;
+    again!(put_image(&mut desk, 12, 7, &DIGEST, ones.as_slice()))?;
+    again!(put_room_key(&mut desk, &ROOM))?;
+    again!(put_rule(&rt, &mut desk, &open()))?;
+    again!(put_rule(&rt, &mut desk, &takedown(12)))?;
+    let mut desk = open_again(&rt, alloc, into_connection(desk))?;
+    assert!(rt; again!(has_deed(&mut desk, 7, "A. Curator", 18_020))?);
+    assert_eq!(rt;
+        again!(audience_of(&mut desk, &STAFF))?,
+        Some(Audience::Staff)
+    );
+    assert_eq!(rt;
+        again!(audience_of(&mut desk, &ROOM))?,
+        Some(Audience::Room)
+    );
+    let found = again!(accessions(alloc, &mut desk))?;
+    assert_eq!(rt; found.as_slice(), [12].as_slice());
+    assert_eq!(rt; again!(rules_for(alloc, &mut desk))?.len(), 2);
     Ok(())
 }

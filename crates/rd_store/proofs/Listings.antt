@@ -1,0 +1,61 @@
+-- What the texts that ask for all rows of a table show.
+use Rattle.std.proofs.Common.{◌≡◌, ◌⊎◌, inl, inr, ℕ, zero, suc, ◌+◌, ◌<◌, List, [], ◌∷◌, length, slice_index_or, get_or, refl, sym, ap, ◌∙◌, arith}
+use Rattle.sqlite.specs.Order.{Row}
+use Rattle.sqlite.specs.Listing.{understood}
+use Rattle.sqlite.specs.State.{State, Shown}
+use Rattle.sqlite.proofs.Callers.{IsPlain}
+use Rattle.rd_tables.specs.Asked.{IsPicked}
+use Rattle.sqlite.specs.Schema.{Schema}
+use Rattle.sqlite.specs.Table.{Table}
+use Rattle.rd_tables.specs.Schemas.{desk_schema, desk_table, SharesFirstTable}
+use Rattle.rd_tables.proofs.QueryTexts.{all_deeds_asks, all_images_asks, all_rules_asks, all_keys_asks, all_checks_asks}
+use Rattle.rd_tables.proofs.Reading.{shown_picks}
+use Rattle.rd_store.specs.declared.opening.Listing.{Listing}
+use Rattle.rd_store.specs.declared.opening.Listing.TheVariants.{Deeds, Images, Rules, Keys, Checks}
+use Rattle.rd_store.specs.Opened.{IsSettledAt, StartsWithDesk, listing_text, listing_query, listing_tree}
+
+pub listing_plain : (table : Listing) → IsPlain (understood desk_schema (listing_text table))
+listing_plain Deeds = all_deeds_asks.plain
+listing_plain Images = all_images_asks.plain
+listing_plain Rules = all_rules_asks.plain
+listing_plain Keys = all_keys_asks.plain
+listing_plain Checks = all_checks_asks.plain
+
+pub listing_picks : (table : Listing) (old new : State) → old.now.schema ≡ desk_schema → (rows : List Row) → Shown (listing_text table) [] old new rows → IsPicked (listing_query table) [] (old.now.trees (listing_tree table)) rows
+listing_picks Deeds old new schema rows shown = shown_picks all_deeds_asks [] old new schema rows shown
+listing_picks Images old new schema rows shown = shown_picks all_images_asks [] old new schema rows shown
+listing_picks Rules old new schema rows shown = shown_picks all_rules_asks [] old new schema rows shown
+listing_picks Keys old new schema rows shown = shown_picks all_keys_asks [] old new schema rows shown
+listing_picks Checks old new schema rows shown = shown_picks all_checks_asks [] old new schema rows shown
+
+-- the desk's own table comes first where it does in a desk's schema
+pub starts : (s : State) (other : Schema) → other ≡ desk_schema → SharesFirstTable s.now.schema other → IsSettledAt s → StartsWithDesk s
+starts s other is shares settled =
+    let first : shares.first ≡ desk_table 0 = ap (λ (tables : List Table). get_or tables 0 (desk_table 0)) (sym shares.there ∙ ap (λ (o : Schema). o.tables) is) in
+    let tables : s.now.schema.tables ≡ desk_table 0 ∷ shares.more = shares.here ∙ ap (λ f. f ∷ shares.more) first in
+    record {
+      more = shares.more;
+      indexes = s.now.schema.indexes;
+      views = s.now.schema.views;
+      rests = λ is_open. record { schema = λ i. record { tables = tables i; indexes = s.now.schema.indexes; views = s.now.schema.views }; settled = settled.settled is_open; autocommit = settled.autocommit };
+    }
+
+-- ---- places in a list
+
+pub below_or_at : (m n : ℕ) → m < n + 1 → (m < n) ⊎ (m ≡ n)
+below_or_at zero zero low = inr refl
+below_or_at zero (suc n) low = inl (omega arith)
+below_or_at (suc m) zero low = absurd (omega (arith, low))
+below_or_at (suc m) (suc n) low = elim (below_or_at m n (omega (arith, low))) [
+  | inl less ↦ inl (omega (arith, less))
+  | inr same ↦ inr (ap (λ k. suc k) same)
+]
+
+-- within a list the default does not matter
+any_default : {A : Type 0} (xs : List A) (k : ℕ) (d e : A) → k < length xs → slice_index_or xs k d ≡ slice_index_or xs k e
+any_default [] k d e low = absurd (omega (arith, low))
+any_default (x ∷ xs) zero d e low = refl
+any_default (x ∷ xs) (suc k) d e low = any_default xs k d e (omega (arith, low))
+
+pub at_default : (rows : List Row) (k at : ℕ) → k ≡ at → (row : Row) → k < length rows → row ≡ slice_index_or rows at row → slice_index_or rows k [] ≡ row
+at_default rows k at same row low is = any_default rows k [] row low ∙ ap (λ n. slice_index_or rows n row) same ∙ sym is

@@ -1,0 +1,21 @@
+use Rattle.std.proofs.Common.{List, All, subst}
+use Rattle.std.specs.Prelude.{true, false}
+use Rattle.sqlite.specs.Held.{state}
+use Rattle.sqlite.specs.Order.{Row}
+use Rattle.rd_tables.proofs.Listed.{have_rowids}
+use Rattle.rd_store.specs.Cells.{IsCheckRow}
+use Rattle.rd_store.proofs.Verdicts.{checks_told}
+use Rattle.rd_store.proofs.opening.check_checks.Goals as goal
+
+pub returns-clause-judges : goal.returns-clause-judges
+returns-clause-judges g c is_open =
+    let was = c.read_listing.ensures.stays.was_open is_open in
+    checks_told (state g.S.Store c.args.conn.now).now (c.requires.tables was).schema (c.requires.sound was) _ c.args.accessions.now (c.in_ok-rows.ensures.rows is_open) true (subst (λ (rows : List Row). All (IsCheckRow c.args.accessions.now) rows) c.deref.ensures.value c.if-not-are_checks.ensures)
+
+pub returns-clause-rowids : goal.returns-clause-rowids
+returns-clause-rowids g c is_open = have_rowids 7 _ _ _ _ (c.in_ok-rows.ensures.rows is_open)
+
+pub returns-then-not-are_checks-clause-judges : goal.returns-then-not-are_checks-clause-judges
+returns-then-not-are_checks-clause-judges g c is_open =
+    let was = c.read_listing.ensures.stays.was_open is_open in
+    checks_told (state g.S.Store c.args.conn.now).now (c.requires.tables was).schema (c.requires.sound was) _ c.args.accessions.now (c.in_ok-rows.ensures.rows is_open) false (subst (λ (rows : List Row). ¬ (All (IsCheckRow c.args.accessions.now) rows)) c.deref.ensures.value c.if-not-are_checks.ensures)

@@ -1,0 +1,23 @@
+use Rattle.std.proofs.Common.{◌∙◌, All, map, ap, sym, subst}
+use Rattle.sqlite.specs.Order.{column}
+use Rattle.rd_tables.specs.Sheets.{map_of, natural}
+use Rattle.rd_store.specs.Cells.{IsDeedRow}
+use Rattle.rd_store.specs.Opened.{AreKeys}
+use Rattle.rd_store.specs.Spelled.{deed_sheet}
+use Rattle.rd_store.proofs.Verdicts.{deeds_told, deed_numbers}
+use Rattle.rd_store.proofs.opening.check_deeds.Goals as goal
+use Rattle.std.specs.Prelude.{true, false}
+
+pub returns-then-not-are_deeds-clause-judges : goal.returns-then-not-are_deeds-clause-judges
+returns-then-not-are_deeds-clause-judges g c is_open =
+    deeds_told _ _ (c.in_ok-rows.ensures.rows is_open) false (subst (λ rows. ¬ All IsDeedRow rows) c.deref.ensures.value c.if-not-are_deeds.ensures)
+
+pub returns-in-Ok-clause-judges : goal.returns-in-Ok-clause-judges
+returns-in-Ok-clause-judges g c is_open =
+    deeds_told _ _ (c.in_ok-rows.ensures.rows is_open) true (subst (All IsDeedRow) c.deref.ensures.value c.if-not-are_deeds.ensures)
+
+pub returns-in-Ok-clause-numbers : goal.returns-in-Ok-clause-numbers
+returns-in-Ok-clause-numbers g c is_open =
+    let listed = c.in_ok-rows.ensures.rows is_open in
+    let lawful = deeds_told _ _ listed true (subst (All IsDeedRow) c.deref.ensures.value c.if-not-are_deeds.ensures) in
+    subst (AreKeys (map_of deed_sheet _)) (sym (c.in-Ok.ensures.numbers ∙ ap (map (λ row. natural (column row 0))) c.deref-2.ensures.value)) (deed_numbers _ _ listed lawful)

@@ -1,0 +1,22 @@
+use Rattle.std.proofs.Common.{List, All, subst}
+use Rattle.std.specs.Prelude.{true, false}
+use Rattle.std.specs.List.{Any}
+use Rattle.sqlite.specs.Held.{state}
+use Rattle.sqlite.specs.Order.{Row}
+use Rattle.rd_tables.proofs.Listed.{have_rowids}
+use Rattle.rd_store.specs.Cells.{IsKeyRow, IsStaffRow}
+use Rattle.rd_store.proofs.Verdicts.{staff_told}
+use Rattle.rd_store.proofs.opening.check_keys.Goals as goal
+
+pub returns-clause-judges : goal.returns-clause-judges
+returns-clause-judges g c is_open =
+    let was = c.read_listing.ensures.stays.was_open is_open in
+    staff_told (state g.S.Store c.args.conn.now).now (c.requires.tables was).schema (c.requires.sound was) _ (c.in_ok-rows.ensures.rows is_open) true (subst (λ (rows : List Row). All IsKeyRow rows × Any IsStaffRow rows) c.deref.ensures.value c.if-not-are_keys.ensures)
+
+pub returns-clause-rowids : goal.returns-clause-rowids
+returns-clause-rowids g c is_open = have_rowids 5 _ _ _ _ (c.in_ok-rows.ensures.rows is_open)
+
+pub returns-then-not-are_keys-clause-judges : goal.returns-then-not-are_keys-clause-judges
+returns-then-not-are_keys-clause-judges g c is_open =
+    let was = c.read_listing.ensures.stays.was_open is_open in
+    staff_told (state g.S.Store c.args.conn.now).now (c.requires.tables was).schema (c.requires.sound was) _ (c.in_ok-rows.ensures.rows is_open) false (subst (λ (rows : List Row). ¬ (All IsKeyRow rows × Any IsStaffRow rows)) c.deref.ensures.value c.if-not-are_keys.ensures)

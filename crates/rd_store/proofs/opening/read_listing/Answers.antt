@@ -1,0 +1,24 @@
+use Rattle.std.proofs.Common.{[], refl, sym, subst}
+use Rattle.sqlite.specs.Held.{state}
+use Rattle.sqlite.specs.Listing.{understood}
+use Rattle.sqlite.specs.State.{Shown}
+use Rattle.sqlite.proofs.Callers.{IsPlain}
+use Rattle.rd_tables.specs.Asked.{AreRising}
+use Rattle.rd_tables.specs.Schemas.{desk_schema}
+use Rattle.rd_tables.proofs.Reading.{shown_was_open}
+use Rattle.rd_store.specs.Opened.{listing_text}
+use Rattle.rd_store.proofs.Listings.{listing_plain, listing_picks}
+use Rattle.rd_store.proofs.opening.read_listing.Goals as goal
+
+pub read_all-requires-clause-plain : goal.read_all-requires-clause-plain
+read_all-requires-clause-plain g c = subst (λ text. IsPlain (understood desk_schema text)) (sym c.listing_text.ensures) (listing_plain c.args.table)
+
+pub returns-in-Ok-clause-rows : goal.returns-in-Ok-clause-rows
+returns-in-Ok-clause-rows g c is_open =
+    let old = state g.S.Store c.args.conn.now in
+    let new = state g.S.Store c.read_all.new.conn in
+    let shown = subst (λ text. Shown text [] old new c.in-Ok.rows.items) c.listing_text.ensures (c.in-Ok.ensures.rows is_open) in
+    record {
+      picks = listing_picks c.args.table old new (c.requires.tables (shown_was_open (listing_text c.args.table) [] old new c.in-Ok.rows.items shown)).schema c.in-Ok.rows.items shown;
+      rising = subst AreRising c.deref.ensures.value (c.if-are_rising.ensures refl);
+    }

@@ -1,0 +1,150 @@
+-- When a database is that of a desk, and why it is not opened as one.
+use Rattle.std.specs.Prelude.{◌≡◌, ◌↔◌, ℕ, List, true, false, Some, IsSome, IsTrue, Result, Ok, Err, ⊤}
+use Rattle.std.specs.Ordering.{nat_cmp}
+use Rattle.std.specs.FinMap.{FinMap, get}
+use Rattle.sqlite.specs.Tree.{Trees}
+use Rattle.sqlite.specs.Store.{Ghosts}
+use Rattle.sqlite.specs.Table.{Table}
+use Rattle.sqlite.specs.Query.{Query}
+use Rattle.sqlite.specs.Effect.{Database, IsDatabase}
+use Rattle.sqlite.specs.State.{State}
+use Rattle.sqlite.specs.Held.{Held, state}
+use Rattle.sqlite_rules.specs.Lists.{Has}
+use Rattle.sqlite_schema.specs.declared.schema.Index.{Index}
+use Rattle.sqlite_schema.specs.declared.schema.View.{View}
+use Rattle.rd_policy.specs.Days.{IsDay}
+use Rattle.rd_policy.specs.Rules.{IsRule}
+use Rattle.rd_policy.specs.declared.audience.Audience.TheVariants.{Staff}
+use Rattle.rd_policy.specs.declared.rule.Band.{Band}
+use Rattle.rd_policy.specs.declared.rule.Band.TheVariants.{Takedown, Deed}
+use Rattle.rd_tables.specs.Queries as ask
+use Rattle.rd_tables.specs.Schemas.{desk_schema, has_desk_columns, starts_with_desk}
+use Rattle.rd_tables.specs.Sheets.{SpellLawful, map_of}
+use Rattle.rd_store.specs.declared.faults.OpenFault.{OpenFault}
+use Rattle.rd_store.specs.declared.faults.OpenFault.TheVariants.{NotADesk, Version, Inconsistent, Sql}
+use Rattle.rd_store.specs.declared.opening.Listing.{Listing}
+use Rattle.rd_store.specs.declared.opening.Listing.TheVariants as all
+use Rattle.rd_store.specs.declared.rows.ImageRow.{ImageRow}
+use Rattle.rd_store.specs.declared.rows.Outcome.{Outcome}
+use Rattle.rd_store.specs.State.{Place, Terms, Checkup, rule_of}
+use Rattle.rd_store.specs.Lawful.{IsDeed, IsImage, IsKey, IsLawful}
+use Rattle.rd_store.specs.Spelled.{SpellDesk, HasVersion, desk_of, deed_sheet, image_sheet, rule_sheet, key_sheet, check_sheet}
+use Rattle.rd_store.specs.Held.{RestsOver, IsOpen}
+
+-- The rows spell a desk, and it is a lawful one.
+pub record IsConsistent (trees : Trees) : Type 0 where
+  pub spelled : SpellDesk trees
+  pub lawful : IsLawful (desk_of trees)
+
+-- what is told of a database by each refusal; why Sql is answered is not told
+abbrev pub Refuses : OpenFault → Database → Type 0
+Refuses NotADesk db = has_desk_columns db.schema ≡ false
+Refuses Version db = (has_desk_columns db.schema ≡ true) × ¬ HasVersion 0 (db.trees 0)
+Refuses Inconsistent db = (db.schema ≡ desk_schema) × HasVersion 0 (db.trees 0) × ¬ IsConsistent db.trees
+Refuses Sql db = has_desk_columns db.schema ≡ true
+
+-- ---- inside
+
+-- the desk's own table comes first
+pub record StartsWithDesk (s : State) : Type 0 where
+  pub more : List Table
+  pub indexes : List Index
+  pub views : List View
+  pub rests : IsTrue s.is_open → RestsOver (starts_with_desk more indexes views) s
+
+-- outside a transaction the last commit is what is seen
+pub record IsSettledAt (s : State) : Type 0 where
+  pub settled : IsTrue s.is_open → s.committed ≡ s.now
+  pub autocommit : s.in_transaction ≡ false
+
+-- the rows keep what their tables declare
+abbrev pub IsSoundAt : State → Type 0
+IsSoundAt s = IsTrue s.is_open → IsDatabase s.now
+
+-- what each refusal by a test of rows says: after Inconsistent it does not hold
+abbrev pub Denied : Type 0 → OpenFault → Type 0
+Denied P NotADesk = ⊥
+Denied P Version = ⊥
+Denied P Inconsistent = ¬ P
+Denied P Sql = ⊤
+
+-- and after Ok it holds
+abbrev pub Judged : {T : Type 0} → Type 0 → Result T OpenFault → Type 0
+Judged P (Ok value) = P
+Judged P (Err fault) = Denied P fault
+
+-- where the connection is open, of the rows that it showed
+abbrev pub JudgesRows : {S T : Type 0} → Ghosts S → Held S → Held S → (Trees → Type 0) → Result T OpenFault → Type 0
+JudgesRows g old new P result = IsOpen g new → Judged (P (state g old).now.trees) result
+
+-- the numbers are the keys of the map
+abbrev pub AreKeys : {X : Type 0} → FinMap nat_cmp X → List ℕ → Type 0
+AreKeys map numbers = (n : ℕ) → Has numbers n ↔ IsSome (get map n)
+
+-- ---- the listing of a table
+
+abbrev pub listing_text : Listing → List ℕ
+listing_text all.Deeds = ask.all_deeds_text
+listing_text all.Images = ask.all_images_text
+listing_text all.Rules = ask.all_rules_text
+listing_text all.Keys = ask.all_keys_text
+listing_text all.Checks = ask.all_checks_text
+
+abbrev pub listing_query : Listing → Query
+listing_query all.Deeds = ask.all_deeds_query
+listing_query all.Images = ask.all_images_query
+listing_query all.Rules = ask.all_rules_query
+listing_query all.Keys = ask.all_keys_query
+listing_query all.Checks = ask.all_checks_query
+
+abbrev pub listing_tree : Listing → ℕ
+listing_tree all.Deeds = 1
+listing_tree all.Images = 2
+listing_tree all.Rules = 3
+listing_tree all.Keys = 5
+listing_tree all.Checks = 7
+
+-- ---- the rows of one table spell lawful entries
+
+abbrev pub LawfulDeeds : Trees → Type 0
+LawfulDeeds trees = SpellLawful deed_sheet (λ e. IsDeed e.0 e.1) (trees 1)
+
+abbrev pub IsImageOf : List ℕ → ℕ × ImageRow → Type 0
+IsImageOf deeds e = IsImage e.0 e.1 × Has deeds e.1.deed
+
+abbrev pub LawfulImages : List ℕ → Trees → Type 0
+LawfulImages deeds trees = SpellLawful image_sheet (IsImageOf deeds) (trees 2)
+
+abbrev pub StandsAmong : List ℕ → List ℕ → Band → ℕ → Type 0
+StandsAmong accessions deeds Takedown scope = Has accessions scope
+StandsAmong accessions deeds Deed scope = Has deeds scope
+
+abbrev pub IsRuleOf : List ℕ → List ℕ → Place × Terms → Type 0
+IsRuleOf accessions deeds e = IsRule (rule_of e) × StandsAmong accessions deeds e.0.band e.0.scope
+
+abbrev pub LawfulRules : List ℕ → List ℕ → Trees → Type 0
+LawfulRules accessions deeds trees = SpellLawful rule_sheet (IsRuleOf accessions deeds) (trees 3)
+
+-- and one of the keys is of the staff
+abbrev pub LawfulKeys : Trees → Type 0
+LawfulKeys trees = SpellLawful key_sheet (λ e. IsKey e.0 e.1) (trees 5) × ((digest : List ℕ) × (get (map_of key_sheet (trees 5)) digest ≡ Some Staff))
+
+abbrev pub IsCheckOf : List ℕ → Checkup × Outcome → Type 0
+IsCheckOf accessions e = IsDay e.0.day × Has accessions e.0.acc
+
+abbrev pub LawfulChecks : List ℕ → Trees → Type 0
+LawfulChecks accessions trees = SpellLawful check_sheet (IsCheckOf accessions) (trees 7)
+
+-- ---- and those of several tables
+
+-- the deeds, and images each of a deed that stands
+abbrev pub LawfulGiven : Trees → Type 0
+LawfulGiven trees = LawfulDeeds trees × SpellLawful image_sheet (λ e. IsImage e.0 e.1 × IsSome (get (map_of deed_sheet (trees 1)) e.1.deed)) (trees 2)
+
+-- the numbers of the deeds and the accessions
+abbrev pub AreNumbers : Trees → List ℕ → List ℕ → Type 0
+AreNumbers trees deeds accessions = AreKeys (map_of deed_sheet (trees 1)) deeds × AreKeys (map_of image_sheet (trees 2)) accessions
+
+-- the rules, the desk keys and the checks
+abbrev pub LawfulOthers : List ℕ → List ℕ → Trees → Type 0
+LawfulOthers accessions deeds trees = LawfulRules accessions deeds trees × LawfulKeys trees × LawfulChecks accessions trees

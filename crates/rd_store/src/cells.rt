@@ -1,0 +1,87 @@
+ghost use Rattle.std.specs.Prelude.{◌≡◌, MatchBool, MatchOption, pos};
+ghost use Rattle.sqlite.specs.declared.types.Value.TheVariants.{Int, Text};
+ghost use Rattle.sqlite.specs.Order.{column};
+ghost use Rattle.rd_store.specs.Cells.{IsDonorAt, IsWordAt, is_day, is_digest, is_number, is_one_of, is_some_day, blob_name};
+
+use crate::limits::is_donor;
+use sqlite::Row;
+use sqlite::types::ValueRef;
+
+/// Whether a column has a number from `low` to `high`.
+pub(crate) fn has_number(row: &Row, at: usize, low: u32, high: u32) -> bool
+    ensures { result ≡ is_number low high (column row.now at) }
+{
+    match row.get_ref(at) {
+        Ok(ValueRef::Int(number)) => i64::from(low) <= number && number <= i64::from(high),
+        _ => false,
+    }
+}
+
+/// Whether a column has one of these numbers.
+pub(crate) fn has_one_of(row: &Row, at: usize, numbers: &[u32]) -> bool
+    ensures { result ≡ is_one_of numbers.now (column row.now at) }
+{
+    numbers.iter().any(|one| has_number(row, at, *one, *one))
+}
+
+/// Whether a column has a day from 0001-01-01 to 9999-12-31.
+pub(crate) fn has_day(row: &Row, at: usize) -> bool
+    ensures { result ≡ is_day (column row.now at) }
+{
+    match row.get_ref(at) {
+        Ok(ValueRef::Int(day)) => -719_162 <= day && day <= 2_932_896,
+        _ => false,
+    }
+}
+
+/// Whether a column has such a day or NULL.
+pub(crate) fn has_some_day(row: &Row, at: usize) -> bool
+    ensures { result ≡ is_some_day (column row.now at) }
+{
+    matches!(row.get_ref(at), Ok(ValueRef::Null) | Err(_)) || has_day(row, at)
+}
+
+/// Whether a column has 32 bytes.
+pub(crate) fn has_digest(row: &Row, at: usize) -> bool
+    ensures { result ≡ is_digest (column row.now at) }
+{
+    match row.get_ref(at) {
+        Ok(ValueRef::Blob(bytes)) => bytes.len() == 32,
+        _ => false,
+    }
+}
+
+/// Whether a column has a donor's name.
+pub(crate) fn has_donor(row: &Row, at: usize) -> bool
+    ensures { MatchBool result (IsDonorAt (column row.now at)) (¬ IsDonorAt (column row.now at)) }
+{
+    match row.get_ref(at) {
+        Ok(ValueRef::Text(bytes)) => match std::str::from_utf8(bytes) {
+            Ok(text) => is_donor(text),
+            Err(_) => false,
+        },
+        _ => false,
+    }
+}
+
+/// Whether a column has a text of at most `most` bytes, each a printable character of ASCII or a blank.
+pub(crate) fn has_word(row: &Row, at: usize, most: usize) -> bool
+    ensures { MatchBool result (IsWordAt most (column row.now at)) (¬ IsWordAt most (column row.now at)) }
+{
+    match row.get_ref(at) {
+        Ok(ValueRef::Text(bytes)) => {
+            bytes.len() <= most && bytes.iter().all(|byte| (32..=126).contains(byte))
+        }
+        _ => false,
+    }
+}
+
+/// Whether a column names the type of a BLOB.
+pub(crate) fn names_blob(row: &Row, at: usize) -> bool
+    ensures { MatchBool result (column row.now at ≡ Text blob_name) (¬ (column row.now at ≡ Text blob_name)) }
+{
+    match row.get_ref(at) {
+        Ok(ValueRef::Text(bytes)) => bytes == b"blob".as_slice(),
+        _ => false,
+    }
+}

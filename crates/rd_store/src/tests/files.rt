@@ -1,0 +1,85 @@
+//! A desk in a file.
+
+use super::{STAFF, assert_filled, fill, into_connection, open_desk};
+use crate::{Refused, Store};
+use sqlite::{Connection, Error, File, FileStore};
+use std::alloc::Global;
+use std::process::Abort;
+use std::test::Fail;
+use std::{env, fs};
+
+type OnDisk = FileStore<File>;
+
+fn connect(rt: &HostRuntime, path: &str) -> Result<Connection<OnDisk>, Error> {
+    Connection::open(rt, path)
+}
+
+fn close(conn: Connection<OnDisk>) -> Result<(), Error> {
+    conn.close()
+}
+
+fn create(rt: &impl Abort, conn: Connection<OnDisk>) -> Result<Store<OnDisk>, Fail> {
+    assert!(rt; conn.is_autocommit());
+    match Store::create(conn, &STAFF) {
+        Ok(desk) => Ok(desk),
+        Err(Refused { fault, conn: _ }) => Err(Fail::from(fault)),
+    }
+}
+
+/// The path of a file in the folder for what is made by tests.
+fn path_of(rt: &HostRuntime, name: &str) -> Result<String, Fail> {
+    match env::var(rt, "TMPDIR") {
+        Ok(folder) => Ok(format!(in rt.alloc(); "{folder}/{name}")?),
+        Err(_) => Ok(format!(in rt.alloc(); "/tmp/{name}")?),
+    }
+}
+
+/// Removes a database, if it stands.
+fn remove(rt: &HostRuntime, path: &str) -> Result<(), Fail> {
+    for end in ["", "-wal", "-shm"] {
+        let file = format!(in rt.alloc(); "{path}{end}")?;
+        let _ = fs::remove_file(rt, file.as_str());
+    }
+    Ok(())
+}
+
+/// Makes a filled desk in a file, and closes it.
+fn make(rt: &impl Abort, alloc: Global, conn: Connection<OnDisk>) -> Result<(), Fail> {
+    let mut desk = create(rt, conn)?;
+    fill(rt, alloc, &mut desk)?;
+    close(into_connection(desk))?;
+    Ok(())
+}
+
+/// Opens a filled desk in a file, asserts that its reads answer what was put, and closes it.
+fn read_back(rt: &impl Abort, alloc: Global, conn: Connection<OnDisk>) -> Result<(), Fail> {
+    let mut desk = match open_desk(rt, alloc, conn) {
+        Ok(desk) => desk,
+        Err((fault, _)) => return Err(Fail::from(fault)),
+    };
+    assert_filled(rt, alloc, &mut desk)?;
+    close(into_connection(desk))?;
+    Ok(())
+}
+
+/// The file stays, for a script that looks into it.
+#[test]
+fn a_desk_in_a_file_opens_again(rt: HostRuntime) -> Result<(), Fail> {
+    let path = path_of(&rt, "desk-q.sqlite")?;
+    remove(&rt, path.as_str())?;
+    make(&rt, rt.alloc(), connect(&rt, path.as_str())?)?;
+    read_back(&rt, rt.alloc(), connect(&rt, path.as_str())?)
+}
+
+/// The file is the one that DESK_FILE names, where it is set.
+#[test]
+fn opens_a_file_again(rt: HostRuntime) -> Result<(), Fail> {
+    if let Ok(path) = env::var(&rt, "DESK_FILE") {
+        return read_back(&rt, rt.alloc(), connect(&rt, path.as_str())?);
+    }
+    let path = path_of(&rt, "desk-again.sqlite")?;
+    remove(&rt, path.as_str())?;
+    make(&rt, rt.alloc(), connect(&rt, path.as_str())?)?;
+    read_back(&rt, rt.alloc(), connect(&rt, path.as_str())?)?;
+    remove(&rt, path.as_str())
+}

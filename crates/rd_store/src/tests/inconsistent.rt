@@ -1,0 +1,332 @@
+//! Rows that are not those of a desk: each breaks one limit of a filled desk, which is then refused.
+
+use super::{filled, into_connection, number, open_desk, run};
+use crate::OpenFault;
+use sqlite::types::ValueRef;
+use sqlite::{Connection, Error, MemStore};
+use std::alloc::Global;
+use std::process::Abort;
+use std::test::Fail;
+
+/// Counts the rows of each table.
+const ROWS: &str =
+    "SELECT (SELECT count(*) FROM deed) + 10 * (SELECT count(*) FROM image) + 100 * (SELECT count(*) FROM rule) + 1000 * (SELECT count(*) FROM badge) + 10000 * (SELECT count(*) FROM checked)";
+
+fn run_with(
+    conn: &mut Connection<MemStore>,
+    sql: &str,
+    value: ValueRef<'_>,
+) -> Result<usize, Error> {
+    conn.execute(sql, &[value])
+}
+
+fn filled_connection(rt: &impl Abort, alloc: Global) -> Result<Connection<MemStore>, Fail> {
+    Ok(into_connection(filled(rt, alloc)?))
+}
+
+/// Why a database is not opened as a desk; `None` where it is. The rows are there afterwards as before.
+fn opens(
+    rt: &impl Abort,
+    alloc: Global,
+    mut conn: Connection<MemStore>,
+) -> Result<Option<OpenFault>, Fail> {
+    let before = number(&mut conn, ROWS)?;
+    let (answer, mut conn) = match open_desk(rt, alloc, conn) {
+        Ok(desk) => (None, into_connection(desk)),
+        Err((fault, conn)) => (Some(fault), conn),
+    };
+    assert_eq!(rt; number(&mut conn, ROWS)?, before);
+    Ok(answer)
+}
+
+/// What opening a filled desk answers that one statement has changed.
+fn after(rt: &impl Abort, alloc: Global, sql: &str) -> Result<Option<OpenFault>, Fail> {
+    let mut conn = filled_connection(rt, alloc)?;
+    assert_ne!(rt; run(&mut conn, sql)?, 0, "{sql}");
+    opens(rt, alloc, conn)
+}
+
+/// The same, where the statement is given as many zeros as a BLOB.
+fn after_blob(
+    rt: &impl Abort,
+    alloc: Global,
+    sql: &str,
+    count: usize,
+) -> Result<Option<OpenFault>, Fail> {
+    let mut conn = filled_connection(rt, alloc)?;
+    let zeros = vec![in alloc; 0; count]?;
+    assert_ne!(rt;
+        run_with(&mut conn, sql, ValueRef::Blob(zeros.as_slice()))?,
+        0,
+        "{sql}"
+    );
+    opens(rt, alloc, conn)
+}
+
+/// The same, where the statement is given as many letters as a text.
+fn after_text(
+    rt: &impl Abort,
+    alloc: Global,
+    sql: &str,
+    count: usize,
+) -> Result<Option<OpenFault>, Fail> {
+    let mut conn = filled_connection(rt, alloc)?;
+    let letters = vec![in alloc; b'A'; count]?;
+    assert_ne!(rt;
+        run_with(&mut conn, sql, ValueRef::Text(letters.as_slice()))?,
+        0,
+        "{sql}"
+    );
+    opens(rt, alloc, conn)
+}
+
+const INCONSISTENT: Option<OpenFault> = Some(OpenFault::Inconsistent);
+
+#[test]
+fn deeds_out_of_their_limits(rt: HostRuntime) -> Result<(), Fail> {
+    for sql in [
+        "UPDATE deed SET num = 0 WHERE num = 8",
+        "UPDATE deed SET num = -1 WHERE num = 8",
+        "UPDATE deed SET num = 1000000 WHERE num = 8",
+        "INSERT INTO deed VALUES (0, 'C. Heir', 18020)",
+        "UPDATE deed SET donor = '' WHERE num = 8",
+        "UPDATE deed SET donor = CAST(x'411F' AS TEXT) WHERE num = 8",
+        "UPDATE deed SET donor = CAST(x'00' AS TEXT) WHERE num = 8",
+        "UPDATE deed SET donor = CAST(x'FF' AS TEXT) WHERE num = 8",
+        "UPDATE deed SET donor = CAST(x'41C3' AS TEXT) WHERE num = 8",
+        "UPDATE deed SET signed = -719163 WHERE num = 8",
+        "UPDATE deed SET signed = 2932897 WHERE num = 8",
+    ] {
+        assert_eq!(rt; after(&rt, rt.alloc(), sql)?, INCONSISTENT, "{sql}");
+    }
+    let donor = "UPDATE deed SET donor = ?1 WHERE num = 8";
+    assert_eq!(rt; after_text(&rt, rt.alloc(), donor, 1_001)?, INCONSISTENT);
+    assert_eq!(rt; after_text(&rt, rt.alloc(), donor, 1_000)?, None);
+    Ok(())
+}
+
+#[test]
+fn images_out_of_their_limits(rt: HostRuntime) -> Result<(), Fail> {
+    for sql in [
+        "UPDATE image SET acc = 0",
+        "UPDATE image SET acc = -1",
+        "UPDATE image SET acc = 1000000",
+        "UPDATE image SET kind = 0",
+    ] {
+        assert_eq!(rt; after(&rt, rt.alloc(), sql)?, INCONSISTENT, "{sql}");
+    }
+    for (sql, count, wanted) in [
+        ("UPDATE image SET digest = ?1", 31, INCONSISTENT),
+        ("UPDATE image SET digest = ?1", 32, None),
+        ("UPDATE image SET digest = ?1", 33, INCONSISTENT),
+        ("UPDATE image SET bytes = ?1", 0, INCONSISTENT),
+        ("UPDATE image SET bytes = ?1", 174_847, INCONSISTENT),
+        ("UPDATE image SET bytes = ?1", 174_848, None),
+        ("UPDATE image SET bytes = ?1", 174_849, INCONSISTENT),
+        ("UPDATE image SET bytes = ?1", 256_256, INCONSISTENT),
+        ("UPDATE image SET kind = 0, bytes = ?1", 256_256, None),
+        (
+            "UPDATE image SET kind = 0, bytes = ?1",
+            174_848,
+            INCONSISTENT,
+        ),
+    ] {
+        assert_eq!(rt;
+            after_blob(&rt, rt.alloc(), sql, count)?,
+            wanted,
+            "{sql}, {count}"
+        );
+    }
+    Ok(())
+}
+
+#[test]
+fn keys_out_of_their_limits(rt: HostRuntime) -> Result<(), Fail> {
+    for sql in [
+        "UPDATE badge SET audience = 1",
+        "DELETE FROM badge WHERE audience = 2",
+        "DELETE FROM badge",
+    ] {
+        assert_eq!(rt; after(&rt, rt.alloc(), sql)?, INCONSISTENT, "{sql}");
+    }
+    let room = "UPDATE badge SET digest = ?1 WHERE audience = 1";
+    for (count, wanted) in [(31, INCONSISTENT), (32, None), (33, INCONSISTENT)] {
+        assert_eq!(rt;
+            after_blob(&rt, rt.alloc(), room, count)?,
+            wanted,
+            "{count}"
+        );
+    }
+    Ok(())
+}
+
+#[test]
+fn rules_out_of_their_limits(rt: HostRuntime) -> Result<(), Fail> {
+    for sql in [
+        "UPDATE rule SET scope = 0 WHERE rank = 10",
+        "UPDATE rule SET rank = 0 WHERE rank = 10",
+        "UPDATE rule SET rank = -1 WHERE rank = 10",
+        "UPDATE rule SET rank = 10000 WHERE rank = 10",
+        "UPDATE rule SET day_from = -719163 WHERE rank = 10",
+        "UPDATE rule SET day_from = 2932897 WHERE rank = 10",
+        "UPDATE rule SET day_until = -719163 WHERE rank = 10",
+        "UPDATE rule SET day_until = 2932897 WHERE rank = 10",
+    ] {
+        assert_eq!(rt; after(&rt, rt.alloc(), sql)?, INCONSISTENT, "{sql}");
+    }
+    Ok(())
+}
+
+#[test]
+fn rules_of_what_is_not_there(rt: HostRuntime) -> Result<(), Fail> {
+    for sql in [
+        "UPDATE rule SET scope = 9 WHERE rank = 10",
+        "UPDATE rule SET scope = 12 WHERE rank = 10",
+        "UPDATE rule SET band = 0, scope = 99 WHERE rank = 10",
+        "UPDATE rule SET band = 0 WHERE rank = 10",
+        "UPDATE rule SET band = 0, scope = 12, effect = 2 WHERE rank = 10",
+    ] {
+        assert_eq!(rt; after(&rt, rt.alloc(), sql)?, INCONSISTENT, "{sql}");
+    }
+    Ok(())
+}
+
+#[test]
+fn selectors_out_of_their_limits(rt: HostRuntime) -> Result<(), Fail> {
+    for sql in [
+        "UPDATE rule SET number = 1 WHERE rank = 10",
+        "UPDATE rule SET number = -1 WHERE rank = 10",
+        "UPDATE rule SET word = 'x' WHERE rank = 10",
+        "UPDATE rule SET how = 1, number = 10000 WHERE rank = 10",
+        "UPDATE rule SET how = 1, number = -1 WHERE rank = 10",
+        "UPDATE rule SET how = 1, word = 'x' WHERE rank = 10",
+        "UPDATE rule SET how = 2, number = 1 WHERE rank = 10",
+        "UPDATE rule SET how = 2, word = CAST(x'7F' AS TEXT) WHERE rank = 10",
+        "UPDATE rule SET how = 2, word = CAST(x'411F' AS TEXT) WHERE rank = 10",
+        "UPDATE rule SET how = 2, word = CAST(x'C39C' AS TEXT) WHERE rank = 10",
+        "UPDATE rule SET how = 3, number = 16 WHERE rank = 10",
+        "UPDATE rule SET how = 3, word = 'x' WHERE rank = 10",
+        "UPDATE rule SET how = 4, number = 1, word = 'PRG' WHERE rank = 10",
+        "UPDATE rule SET how = 4, word = CAST(x'7F' AS TEXT) WHERE rank = 10",
+    ] {
+        assert_eq!(rt; after(&rt, rt.alloc(), sql)?, INCONSISTENT, "{sql}");
+    }
+    for (sql, count, wanted) in [
+        (
+            "UPDATE rule SET how = 2, word = ?1 WHERE rank = 10",
+            64,
+            None,
+        ),
+        (
+            "UPDATE rule SET how = 2, word = ?1 WHERE rank = 10",
+            65,
+            INCONSISTENT,
+        ),
+        (
+            "UPDATE rule SET how = 4, word = ?1 WHERE rank = 10",
+            16,
+            None,
+        ),
+        (
+            "UPDATE rule SET how = 4, word = ?1 WHERE rank = 10",
+            17,
+            INCONSISTENT,
+        ),
+    ] {
+        assert_eq!(rt;
+            after_text(&rt, rt.alloc(), sql, count)?,
+            wanted,
+            "{sql}, {count}"
+        );
+    }
+    Ok(())
+}
+
+#[test]
+fn checks_out_of_their_limits(rt: HostRuntime) -> Result<(), Fail> {
+    for sql in [
+        "INSERT INTO checked VALUES (99, 18020, 0)",
+        "INSERT INTO checked VALUES (7, 18020, 0)",
+        "INSERT INTO checked VALUES (12, -719163, 0)",
+        "INSERT INTO checked VALUES (12, 2932897, 1)",
+    ] {
+        assert_eq!(rt; after(&rt, rt.alloc(), sql)?, INCONSISTENT, "{sql}");
+    }
+    Ok(())
+}
+
+#[test]
+fn rows_at_their_limits_open(rt: HostRuntime) -> Result<(), Fail> {
+    for sql in [
+        "UPDATE deed SET num = 1, signed = -719162 WHERE num = 8",
+        "UPDATE deed SET num = 999999, signed = 2932896 WHERE num = 8",
+        "UPDATE deed SET donor = CAST(x'207FC39C' AS TEXT) WHERE num = 8",
+        "UPDATE image SET acc = 1",
+        "UPDATE image SET acc = 999999",
+        "DELETE FROM image",
+        "UPDATE badge SET audience = 2",
+        "DELETE FROM badge WHERE audience = 1",
+        "UPDATE rule SET rank = 1, audiences = 1 WHERE rank = 10",
+        "UPDATE rule SET rank = 9999, audiences = 7 WHERE rank = 10",
+        "UPDATE rule SET day_from = -719162, day_until = 2932896",
+        "UPDATE rule SET day_from = 2932896, day_until = -719162",
+        "UPDATE rule SET effect = 1",
+        "UPDATE rule SET effect = 2",
+        "UPDATE rule SET band = 0, scope = 12, effect = 0",
+        "UPDATE rule SET band = 0, scope = 12, effect = 1",
+        "UPDATE rule SET how = 1",
+        "UPDATE rule SET how = 1, number = 9999",
+        "UPDATE rule SET how = 2",
+        "UPDATE rule SET how = 2, word = ' ~'",
+        "UPDATE rule SET how = 3, number = 15",
+        "UPDATE rule SET how = 4",
+        "INSERT INTO checked VALUES (12, -719162, 0), (12, 2932896, 1)",
+    ] {
+        assert_eq!(rt; after(&rt, rt.alloc(), sql)?, None, "{sql}");
+    }
+    Ok(())
+}
+
+/// What no row of a desk's tables can hold.
+const EXCLUDED: [&str; 29] = [
+    "INSERT INTO desk VALUES (2, 0)",
+    "UPDATE desk SET version = NULL",
+    "UPDATE desk SET version = 'x'",
+    "UPDATE deed SET signed = 'x'",
+    "UPDATE deed SET signed = 1.5",
+    "UPDATE deed SET donor = NULL",
+    "UPDATE deed SET donor = x'41'",
+    "DELETE FROM deed WHERE num = 7",
+    "UPDATE deed SET num = 9 WHERE num = 7",
+    "UPDATE image SET kind = 2",
+    "UPDATE image SET kind = -1",
+    "UPDATE image SET deed = 9",
+    "UPDATE image SET digest = 'x'",
+    "UPDATE image SET bytes = 'x'",
+    "UPDATE image SET bytes = NULL",
+    "UPDATE rule SET band = 2",
+    "UPDATE rule SET audiences = 0",
+    "UPDATE rule SET audiences = 8",
+    "UPDATE rule SET how = 5",
+    "UPDATE rule SET effect = 3",
+    "UPDATE rule SET rank = 10",
+    "UPDATE rule SET day_from = 'x'",
+    "UPDATE rule SET word = NULL",
+    "UPDATE badge SET audience = 0",
+    "UPDATE badge SET audience = 3",
+    "UPDATE badge SET digest = 'x'",
+    "UPDATE badge SET digest = x'00'",
+    "INSERT INTO checked VALUES (12, 18020, 2)",
+    "INSERT INTO checked VALUES (12, 18020, 0), (12, 18020, 1)",
+];
+
+#[test]
+fn the_tables_exclude_other_rows(rt: HostRuntime) -> Result<(), Fail> {
+    let mut conn = filled_connection(&rt, rt.alloc())?;
+    for sql in EXCLUDED {
+        assert!(rt; run(&mut conn, sql).is_err(), "{sql}");
+    }
+    assert_eq!(rt; number(&mut conn, ROWS)?, 2_212);
+    assert_eq!(rt; opens(&rt, rt.alloc(), conn)?, None);
+    Ok(())
+}
