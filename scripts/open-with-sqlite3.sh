@@ -1,0 +1,99 @@
+#!/usr/bin/env bash
+# Makes a desk in a file by the store's test, reads it with the sqlite3 shell, and has the store open it
+# again after VACUUM, and after ANALYZE, whose tables it refuses until they are dropped. Wants `rt test` in
+# crates/rd_store, or the store's built tests as an argument.
+set -u
+cd "$(dirname "$0")/.." || exit 1
+tests=${1:-crates/rd_store/out/rd_store_tests}
+work=$(mktemp -d) || exit 1
+trap 'rm -rf "$work"' EXIT
+file=$work/desk-q.sqlite
+
+# step NAME COMMAND..: the command has to succeed
+step() {
+    local name=$1
+    shift
+    if ! "$@" >"$work/told" 2>&1; then
+        echo "FAILED: $name: $(tail -n 3 "$work/told")"
+        exit 1
+    fi
+    echo "$name"
+}
+
+# shows WANTED SQL: the shell has to print these lines
+shows() {
+    sqlite3 -batch -bail "$file" "$2" >"$work/shown" 2>&1 || { cat "$work/shown"; return 1; }
+    diff <(printf '%s\n' "$1") "$work/shown"
+}
+
+# a test by its name, which has to be run and to pass
+passes() {
+    "$tests" "$1" >"$work/test" 2>&1 && grep -q '^test result: ok' "$work/test" && return
+    cat "$work/test"
+    return 1
+}
+
+make_file() {
+    TMPDIR=$work passes tests::files::a_desk_in_a_file_opens_again && [ -s "$file" ]
+}
+
+opens() {
+    DESK_FILE=$file passes tests::files::opens_a_file_again
+}
+
+# the store has to refuse the file with this fault
+refuses() {
+    if DESK_FILE=$file "$tests" tests::files::opens_a_file_again >"$work/test" 2>&1; then
+        echo "it opens"
+        return 1
+    fi
+    grep -q "error: $1\$" "$work/test" && return
+    cat "$work/test"
+    return 1
+}
+
+has_rows() {
+    shows '1|0' 'SELECT id, version FROM desk' &&
+        shows '7|A. Curator|18020
+8|B. Donor|18321' 'SELECT num, donor, signed FROM deed ORDER BY num' &&
+        shows "12|1|7|$(printf 'D1%.0s' {1..32})|174848" \
+            'SELECT acc, kind, deed, hex(digest), length(bytes) FROM image' &&
+        shows "1|7|10|3|NULL|21915|0|0|''|0
+1|7|20|7|NULL|NULL|0|0|''|2" \
+            'SELECT band, scope, rank, audiences, quote(day_from), quote(day_until), how, number, quote(word), effect FROM rule ORDER BY rank' &&
+        shows "$(printf hello | sha256sum | cut -c 1-64 | tr a-f A-F)|1
+$(printf abc | sha256sum | cut -c 1-64 | tr a-f A-F)|2" \
+            'SELECT hex(digest), audience FROM badge ORDER BY audience' &&
+        shows 0 'SELECT count(*) FROM checked' &&
+        shows 0 "SELECT sum(length(replace(hex(bytes), '0', ''))) FROM image" &&
+        shows ok 'PRAGMA integrity_check'
+}
+
+statistics() {
+    shows "$1" "SELECT count(*) > 0 FROM sqlite_schema WHERE name LIKE 'sqlite_stat%'"
+}
+
+analyze() {
+    sqlite3 -batch -bail "$file" ANALYZE && statistics 1
+}
+
+drop_statistics() {
+    local table
+    for table in $(sqlite3 -batch "$file" "SELECT name FROM sqlite_schema WHERE name LIKE 'sqlite_stat%'"); do
+        sqlite3 -batch -bail "$file" "DROP TABLE $table" || return 1
+    done
+    statistics 0
+}
+
+[ -x "$tests" ] || { echo "FAILED: no built tests at $tests"; exit 1; }
+step "the store makes a desk in a file, and opens it again" make_file
+step "sqlite3 shows its rows" has_rows
+step "the store opens it after sqlite3" opens
+step "sqlite3 runs VACUUM" sqlite3 -batch -bail "$file" VACUUM
+step "the store opens it after VACUUM" opens
+step "sqlite3 shows its rows after VACUUM" has_rows
+step "sqlite3 runs ANALYZE, which makes tables of statistics" analyze
+step "the store refuses it with Sql" refuses Sql
+step "sqlite3 drops the tables of statistics" drop_statistics
+step "the store opens it again" opens
+step "sqlite3 shows its rows at the end" has_rows
