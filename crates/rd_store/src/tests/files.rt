@@ -51,12 +51,17 @@ fn make(rt: &impl Abort, alloc: Global, conn: Connection<OnDisk>) -> Result<(), 
     Ok(())
 }
 
+/// The desk in a file.
+fn reopen(rt: &impl Abort, alloc: Global, conn: Connection<OnDisk>) -> Result<Store<OnDisk>, Fail> {
+    match open_desk(rt, alloc, conn) {
+        Ok(desk) => Ok(desk),
+        Err((fault, _)) => Err(Fail::from(fault)),
+    }
+}
+
 /// Opens a filled desk in a file, asserts that its reads answer what was put, and closes it.
 fn read_back(rt: &impl Abort, alloc: Global, conn: Connection<OnDisk>) -> Result<(), Fail> {
-    let mut desk = match open_desk(rt, alloc, conn) {
-        Ok(desk) => desk,
-        Err((fault, _)) => return Err(Fail::from(fault)),
-    };
+    let mut desk = reopen(rt, alloc, conn)?;
     assert_filled(rt, alloc, &mut desk)?;
     close(into_connection(desk))?;
     Ok(())

@@ -1,7 +1,7 @@
 //! Opening a database: which are desks, by their tables and their version, and which are not.
 
 use super::{
-    assert_filled, filled, into_connection, new_connection, new_desk, number, open_desk, run,
+    Desk, assert_filled, filled, into_connection, new_connection, new_desk, number, open_desk, run,
 };
 use crate::OpenFault;
 use sqlite::{Connection, Error, MemStore, Row, params};
@@ -249,13 +249,18 @@ fn a_new_desk_opens(rt: HostRuntime) -> Result<(), Fail> {
     Ok(())
 }
 
+/// The desk whose connection is given back and opened.
+fn reopened(rt: &impl Abort, alloc: Global, desk: Desk) -> Result<Desk, Fail> {
+    match open_desk(rt, alloc, into_connection(desk)) {
+        Ok(desk) => Ok(desk),
+        Err((fault, _)) => Err(Fail::from(fault)),
+    }
+}
+
 #[test]
 fn a_desk_opens_again_with_its_rows(rt: HostRuntime) -> Result<(), Fail> {
     let alloc = rt.alloc();
-    let mut desk = filled(&rt, alloc)?;
-    assert_filled(&rt, alloc, &mut desk)?;
-    let Ok(mut again) = open_desk(&rt, alloc, into_connection(desk)) else {
-        return Err(Fail::new("no desk"));
-    };
+    let desk = filled(&rt, alloc)?;
+    let mut again = reopened(&rt, alloc, desk)?;
     assert_filled(&rt, alloc, &mut again)
 }
