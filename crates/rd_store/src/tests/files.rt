@@ -67,13 +67,17 @@ fn read_back(rt: &impl Abort, alloc: Global, conn: Connection<OnDisk>) -> Result
     Ok(())
 }
 
-/// The file stays, for a script that looks into it.
+/// In the folder that TMPDIR names the file stays, for a script that looks into it.
 #[test]
 fn a_desk_in_a_file_opens_again(rt: HostRuntime) -> Result<(), Fail> {
     let path = path_of(&rt, "desk-q.sqlite")?;
     remove(&rt, path.as_str())?;
     make(&rt, rt.alloc(), connect(&rt, path.as_str())?)?;
-    read_back(&rt, rt.alloc(), connect(&rt, path.as_str())?)
+    read_back(&rt, rt.alloc(), connect(&rt, path.as_str())?)?;
+    if env::var(&rt, "TMPDIR").is_err() {
+        remove(&rt, path.as_str())?;
+    }
+    Ok(())
 }
 
 /// The file is the one that DESK_FILE names, where it is set.
