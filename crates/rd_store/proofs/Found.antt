@@ -117,7 +117,7 @@ keys_found table rows spells picks =
     in_order key_sheet digest_order keys_query [] table rows spells picks (λ _. true) key_sheet.columns (λ digest. Blob digest ∷ []) (λ row is. refl) (λ row is. ap (λ s. (column s 0 ∷ [], s)) is) digests_rise
     ∙ ap (λ m. map key_sheet.columns (entries m)) (retain_all digest_cmp digest_order (map_of key_sheet table))
 
-any_has : (P : Row → Type 0) (rows : List Row) → Any P rows → (row : Row) × Has rows row × P row
+pub any_has : (P : Row → Type 0) (rows : List Row) → Any P rows → (row : Row) × Has rows row × P row
 any_has P rows any = (any.1, at rows any.0 any.1 any.2 any.3, any.4)
   where
     at : (rs : List Row) (k : ℕ) (row : Row) → k < length rs → slice_index_or rs k row ≡ row → Has rs row

@@ -1,5 +1,5 @@
 -- What the tests of the rows that are shown say of the tables.
-use Rattle.std.proofs.Common.{◌≡◌, inl, inr, ℕ, zero, suc, ◌<◌, slice_index_or, pos, List, [], ◌∷◌, map, length, All, Bool, true, false, Option, Some, None, IsSome, refl, sym, ap, subst, ◌∙◌, arith}
+use Rattle.std.proofs.Common.{◌≡◌, inl, inr, ℕ, suc, pos, List, [], ◌∷◌, map, All, Bool, true, false, Option, Some, None, IsSome, refl, sym, ap, subst, ◌∙◌, arith}
 use Rattle.std.specs.Prelude.{MatchBool}
 use Rattle.std.specs.List.{Any}
 use Rattle.std.specs.List.Sorted.{IsPermutation}
@@ -23,9 +23,9 @@ use Rattle.rd_tables.specs.Asked.{asks_of, IsPicked, IsListed}
 use Rattle.rd_tables.specs.Queries.{all_deeds_query, all_images_query, all_rules_query, all_keys_query, all_checks_query, version_query}
 use Rattle.rd_tables.specs.Schemas.{desk_schema}
 use Rattle.rd_tables.specs.Sheets.{Sheet, entry_of, IsSpelled, SpellLawful, map_of, natural}
-use Rattle.rd_tables.proofs.Entries.{IsKeyOrder}
+use Rattle.rd_tables.proofs.Entries.{IsKeyOrder, tie}
 use Rattle.rd_tables.proofs.Lists.{map_map, in_map, from_map}
-use Rattle.rd_tables.proofs.Listed.{to_permuted, show, all_shown, each_shown, shown_each, rowids_apart, have_rowids, apart_by_rowids, tie, row_got, got_row, rows_lawful, lawful_rows}
+use Rattle.rd_tables.proofs.Listed.{to_permuted, show, all_shown, each_shown, shown_each, rowids_apart, have_rowids, apart_by_rowids, row_got, got_row, rows_lawful, lawful_rows}
 use Rattle.rd_tables.proofs.Unique.{same_int, same_blob, agree_one, agree_two, agree_three, one_rule, one_key, one_check}
 use Rattle.rd_store.specs.Cells.{is_number, IsDeedRow, IsImageRow, IsRuleRow, IsKeyRow, IsCheckRow, IsStaffRow}
 use Rattle.rd_store.specs.Codes.{band_code, audience_code, audience_in}
@@ -33,6 +33,7 @@ use Rattle.rd_store.specs.Lawful.{IsDeed, IsKey}
 use Rattle.rd_store.specs.Opened.{AreKeys, IsImageOf, IsRuleOf, IsCheckOf}
 use Rattle.rd_store.specs.Spelled.{deed_sheet, image_sheet, rule_sheet, key_sheet, check_sheet}
 use Rattle.rd_store.specs.State.{Place, Checkup}
+use Rattle.rd_store.proofs.Found.{any_has}
 use Rattle.rd_store.proofs.Columns.{number_spelled}
 use Rattle.rd_store.proofs.Orders.{number_order, place_order, digest_order, checkup_order}
 use Rattle.rd_store.proofs.Shapes.{deed_to, deed_from, image_to, image_from, rule_to, rule_from, key_to, key_from, check_to, check_from}
@@ -183,14 +184,6 @@ module _ (db : Database) (schema : db.schema ≡ desk_schema) (sound : IsDatabas
         let s = any_has IsStaffRow rows any in
         let r = from_map at (db.trees 5) s.0 (to_permuted rows (map at (db.trees 5)) s.0 (IsPermutation-sym _ _ moved) s.1) in
         ((entry_of key_sheet r.0).0, row_got key_sheet digest_order (db.trees 5) lawful.spells r.0 r.1 ∙ ap Some (is_staff (column r.0 2) (subst IsStaffRow r.2 s.2)))
-      where
-        any_has : (P : Row → Type 0) (rs : List Row) → Any P rs → (row : Row) × Has rs row × P row
-        any_has P rs found = (found.1, within rs found.0 found.1 found.2 found.3, found.4)
-          where
-            within : (l : List Row) (k : ℕ) (row : Row) → k < length l → slice_index_or l k row ≡ row → Has l row
-            within [] k row low is = absurd (omega (arith, low))
-            within (r ∷ l) zero row low is = inl (sym is)
-            within (r ∷ l) (suc k) row low is = inr (within l k row (omega (arith, low)) is)
 
     staff_has : AreLawfulKeys → HasStaff → Any IsStaffRow rows
     staff_has lawful staff =

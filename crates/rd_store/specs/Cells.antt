@@ -1,4 +1,5 @@
--- What a row of a table may show, column by column, its rowid first.
+-- Inside: what a row of a table may show, column by column, its rowid first. It shows this exactly where it
+-- spells a lawful entry; the rule itself is IsConsistent.
 use Rattle.std.specs.Prelude.{◌≡◌, ◌⊎◌, ℕ, pos, negsuc, List, codes, Bool, true, false, not, ◌&&◌, ◌||◌, ◌==◌, nat_le, int_lt, length}
 use Rattle.std.specs.List.{list_any}
 use Rattle.sqlite.specs.declared.types.Value.{Value}

@@ -26,7 +26,7 @@ one_found None (Some y) h = let e = length_permutation [] (y ∷ []) h in absurd
 one_found (Some x) None h = let e = length_permutation (x ∷ []) [] h in absurd (omega (arith, e))
 one_found (Some x) (Some y) h = let e = one_permutation x (y ∷ []) h in cc
 
-tie : (o : Ordering) → is_eq o ≡ true → o ≡ Equal
+pub tie : (o : Ordering) → is_eq o ≡ true → o ≡ Equal
 tie Equal h = refl
 tie Less h = absurd cc
 tie Greater h = absurd cc
@@ -113,7 +113,7 @@ module _ {K X : Type 0} (cmp : K → K → Ordering) (order : IsKeyOrder cmp) wh
 
   -- ---- what is found is an entry, and each entry is found
 
-  found_has : (q : K) (v : X) (es : List (K × X)) → find cmp q es ≡ Some v → Has es (q, v)
+  pub found_has : (q : K) (v : X) (es : List (K × X)) → find cmp q es ≡ Some v → Has es (q, v)
   found_has q v [] is = absurd cc
   found_has q v (e ∷ es) is = elim (cases_Bool (eq_by_cmp cmp q e.0)) [
     | inl same ↦

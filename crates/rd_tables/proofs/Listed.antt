@@ -1,5 +1,5 @@
 -- What the rows of a table are where all of them were shown and tested.
-use Rattle.std.proofs.Common.{◌≡◌, inl, inr, ℕ, ◌+◌, ◌<◌, List, [], ◌∷◌, map, filter, length, get_or, All, Bool, true, false, cond, Some, refl, sym, ap, subst, ◌∙◌, arith, true≢false, int_lt, Less, Equal, Ordering, is_eq}
+use Rattle.std.proofs.Common.{◌≡◌, inl, inr, ℕ, ◌+◌, ◌<◌, List, [], ◌∷◌, map, filter, length, get_or, All, Bool, true, false, Some, refl, sym, ap, subst, ◌∙◌, arith, true≢false, int_lt, Less, Ordering, is_eq}
 use Rattle.std.specs.List.{AllByRecursion, IsDistinct}
 use Rattle.std.specs.List.Sorted.{IsPermutation}
 use Rattle.std.specs.Ordering.{eq_by_cmp}
@@ -28,7 +28,7 @@ use Rattle.sqlite_rules.proofs.ListLemmas.{all_has}
 use Rattle.rd_tables.specs.Asked.{asks_of, picked, IsPicked, AreRising, IsListed}
 use Rattle.rd_tables.specs.Sheets.{Sheet, entry_of, IsSpelled, Spells, SpellLawful, HaveRowids, map_of}
 use Rattle.rd_tables.proofs.Lists.{map_map, filter_true, in_map, from_map, one_row}
-use Rattle.rd_tables.proofs.Entries.{IsKeyOrder}
+use Rattle.rd_tables.proofs.Entries.{IsKeyOrder, found_has}
 
 -- ---- what is true of all that is in a list
 
@@ -124,23 +124,9 @@ apart_by_rowids cmp key (row ∷ rows) apart ties = (
 
 -- ---- rows and the entries of the map that they spell
 
-pub tie : (o : Ordering) → is_eq o ≡ true → o ≡ Equal
-tie Equal h = refl
-tie o h = absurd cc
-
 module _ {K X : Type 0} (sheet : Sheet K X) (order : IsKeyOrder sheet.cmp) where
   abbrev same : K → K → Bool
   same = eq_by_cmp sheet.cmp
-
-  found_has : (q : K) (v : X) (es : List (K × X)) → find sheet.cmp q es ≡ Some v → Has es (q, v)
-  found_has q v [] is = absurd cc
-  found_has q v (e ∷ es) is = elim (cases_Bool (same q e.0)) [
-    | inl tied ↦
-        let key : q ≡ e.0 = order.same q e.0 (tie (sheet.cmp q e.0) tied) in
-        let value : e.1 ≡ v = (let it : cond (same q e.0) (Some e.1) (find sheet.cmp q es) ≡ Some v = is in let some = rw tied at it in cc) in
-        inl (λ i. (key i, sym value i))
-    | inr other ↦ inr (found_has q v es (let it : cond (same q e.0) (Some e.1) (find sheet.cmp q es) ≡ Some v = is in rw other at it))
-  ]
 
   key_apart : (k : K) (es : List (K × X)) (q : K) (v : X) → AllByRecursion (λ y. same k y ≡ false) (map (λ (e : K × X). e.0) es) → Has es (q, v) → same k q ≡ false
   key_apart k es q v apart here = all_has (λ y. same k y ≡ false) (map (λ (e : K × X). e.0) es) q apart (in_map (λ (e : K × X). e.0) es (q, v) here)
@@ -161,7 +147,7 @@ module _ {K X : Type 0} (sheet : Sheet K X) (order : IsKeyOrder sheet.cmp) where
 
   -- and each entry is that of a row
   pub got_row : (table : List Row) (key : K) (value : X) → get (map_of sheet table) key ≡ Some value → (row : Row) × Has table row × ((key, value) ≡ entry_of sheet row)
-  got_row table key value is = from_map (entry_of sheet) table (key, value) (found_has key value (map (entry_of sheet) table) (sym (get-from_entries order.total (map (entry_of sheet) table) key) ∙ is))
+  got_row table key value is = from_map (entry_of sheet) table (key, value) (found_has sheet.cmp order key value (map (entry_of sheet) table) (sym (get-from_entries order.total (map (entry_of sheet) table) key) ∙ is))
 
   module _ (P : K × X → Type 0) (table : List Row) where
     pub rows_lawful : SpellLawful sheet P table → (row : Row) → Has table row → IsSpelled sheet row × P (entry_of sheet row)
