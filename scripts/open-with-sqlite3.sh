@@ -7,7 +7,7 @@ cd "$(dirname "$0")/.." || exit 1
 tests=${1:-crates/rd_store/out/rd_store_tests}
 work=$(mktemp -d) || exit 1
 trap 'rm -rf "$work"' EXIT
-file=$work/desk-q.sqlite
+file=$work/desk-0.sqlite
 
 # step NAME COMMAND..: the command has to succeed
 step() {
@@ -34,7 +34,7 @@ passes() {
 }
 
 make_file() {
-    TMPDIR=$work passes tests::files::a_desk_in_a_file_opens_again && [ -s "$file" ]
+    TMPDIR=$work KEEP_DESK=1 passes tests::files::a_desk_in_a_file_opens_again && [ -s "$file" ]
 }
 
 opens() {
@@ -52,12 +52,17 @@ refuses() {
     return 1
 }
 
+# the SHA-256 of the image's bytes, by sha256sum
+image_digest() {
+    sqlite3 -batch -bail "$file" 'SELECT hex(bytes) FROM image' | xxd -r -p | sha256sum | cut -c 1-64
+}
+
 has_rows() {
     shows '1|0' 'SELECT id, version FROM desk' &&
         shows '7|A. Curator|18020
 8|B. Donor|18321' 'SELECT num, donor, signed FROM deed ORDER BY num' &&
-        shows "12|1|7|$(printf 'D1%.0s' {1..32})|174848" \
-            'SELECT acc, kind, deed, hex(digest), length(bytes) FROM image' &&
+        shows '12|1|7|174848' 'SELECT acc, kind, deed, length(bytes) FROM image' &&
+        shows "$(image_digest)" 'SELECT lower(hex(digest)) FROM image' &&
         shows "1|7|10|3|NULL|21915|0|0|''|0
 1|7|20|7|NULL|NULL|0|0|''|2" \
             'SELECT band, scope, rank, audiences, quote(day_from), quote(day_until), how, number, quote(word), effect FROM rule ORDER BY rank' &&
@@ -65,7 +70,6 @@ has_rows() {
 $(printf abc | sha256sum | cut -c 1-64 | tr a-f A-F)|2" \
             'SELECT hex(digest), audience FROM badge ORDER BY audience' &&
         shows 0 'SELECT count(*) FROM checked' &&
-        shows 0 "SELECT sum(length(replace(hex(bytes), '0', ''))) FROM image" &&
         shows ok 'PRAGMA integrity_check'
 }
 

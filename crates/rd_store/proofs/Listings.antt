@@ -12,7 +12,7 @@ use Rattle.rd_tables.proofs.QueryTexts.{all_deeds_asks, all_images_asks, all_rul
 use Rattle.rd_tables.proofs.Reading.{shown_picks}
 use Rattle.rd_store.specs.declared.opening.Listing.{Listing}
 use Rattle.rd_store.specs.declared.opening.Listing.TheVariants.{Deeds, Images, Rules, Keys, Checks}
-use Rattle.rd_store.specs.Opened.{IsSettledAt, StartsWithDesk, listing_text, listing_query, listing_tree}
+use Rattle.rd_store.specs.Opened.{HasDeskFirst, IsSettledAt, StartsWithDesk, listing_text, listing_query, listing_tree}
 
 pub listing_plain : (table : Listing) → IsPlain (understood desk_schema (listing_text table))
 listing_plain Deeds = all_deeds_asks.plain
@@ -29,16 +29,19 @@ listing_picks Keys old new schema rows shown = shown_picks all_keys_asks [] old 
 listing_picks Checks old new schema rows shown = shown_picks all_checks_asks [] old new schema rows shown
 
 -- the desk's own table comes first where it does in a desk's schema
-pub starts : (s : State) (other : Schema) → other ≡ desk_schema → SharesFirstTable s.now.schema other → IsSettledAt s → StartsWithDesk s
-starts s other is shares settled =
+pub desk_first : (schema other : Schema) → other ≡ desk_schema → SharesFirstTable schema other → HasDeskFirst schema
+desk_first schema other is shares =
     let first : shares.first ≡ desk_table 0 = ap (λ (tables : List Table). get_or tables 0 (desk_table 0)) (sym shares.there ∙ ap (λ (o : Schema). o.tables) is) in
-    let tables : s.now.schema.tables ≡ desk_table 0 ∷ shares.more = shares.here ∙ ap (λ f. f ∷ shares.more) first in
-    record {
-      more = shares.more;
-      indexes = s.now.schema.indexes;
-      views = s.now.schema.views;
-      rests = λ is_open. record { schema = λ i. record { tables = tables i; indexes = s.now.schema.indexes; views = s.now.schema.views }; settled = settled.settled is_open; autocommit = settled.autocommit };
-    }
+    let tables : schema.tables ≡ desk_table 0 ∷ shares.more = shares.here ∙ ap (λ f. f ∷ shares.more) first in
+    record { more = shares.more; indexes = schema.indexes; views = schema.views; is = λ i. record { tables = tables i; indexes = schema.indexes; views = schema.views } }
+
+pub starts : (s : State) → HasDeskFirst s.now.schema → IsSettledAt s → StartsWithDesk s
+starts s first settled = record {
+  more = first.more;
+  indexes = first.indexes;
+  views = first.views;
+  rests = λ is_open. record { schema = first.is; settled = settled.settled is_open; autocommit = settled.autocommit };
+}
 
 -- ---- places in a list
 

@@ -12,7 +12,7 @@ use Rattle.rd_store.specs.declared.rows.ImageRow.{ImageRow}
 use Rattle.rd_store.specs.declared.rows.Outcome.{Outcome}
 use Rattle.rd_store.specs.State.{Desk, Place, Terms, Checkup, rule_of, Stands, IsStaff}
 
--- A donor's name: a text of 1 to 1,000 bytes, no character below U+0020.
+-- A donor's name: a text of 1 to 1,000 bytes, none below 20 hex.
 pub record IsDonor (text : List ℕ) : Type 0 where
   pub utf8 : IsUtf8 text
   pub some : 0 < length text

@@ -1,5 +1,5 @@
 -- When a database is that of a desk, and why it is not opened as one.
-use Rattle.std.specs.Prelude.{◌≡◌, ◌↔◌, ℕ, List, true, false, Some, IsSome, IsTrue, Result, Ok, Err, ⊤}
+use Rattle.std.specs.Prelude.{◌≡◌, ◌≢◌, ◌↔◌, ℕ, List, true, false, Some, IsSome, IsTrue, Result, Ok, Err, IfErr, ⊤}
 use Rattle.std.specs.Ordering.{nat_cmp}
 use Rattle.std.specs.FinMap.{FinMap, get}
 use Rattle.sqlite.specs.Tree.{Trees}
@@ -10,6 +10,7 @@ use Rattle.sqlite.specs.Effect.{Database, IsDatabase}
 use Rattle.sqlite.specs.State.{State}
 use Rattle.sqlite.specs.Held.{Held, state}
 use Rattle.sqlite_rules.specs.Lists.{Has}
+use Rattle.sqlite.specs.Schema.{Schema}
 use Rattle.sqlite_schema.specs.declared.schema.Index.{Index}
 use Rattle.sqlite_schema.specs.declared.schema.View.{View}
 use Rattle.rd_policy.specs.Days.{IsDay}
@@ -29,17 +30,24 @@ use Rattle.rd_store.specs.declared.rows.Outcome.{Outcome}
 use Rattle.rd_store.specs.State.{Place, Terms, Checkup, rule_of}
 use Rattle.rd_store.specs.Lawful.{IsDeed, IsImage, IsKey, IsLawful}
 use Rattle.rd_store.specs.Spelled.{SpellDesk, HasVersion, desk_of, deed_sheet, image_sheet, rule_sheet, key_sheet, check_sheet}
-use Rattle.rd_store.specs.Held.{RestsOver, IsOpen}
+use Rattle.rd_store.specs.Held.{RestsOver, IsOpen, IsClean}
 
 -- The rows spell a desk, and it is a lawful one.
 pub record IsConsistent (trees : Trees) : Type 0 where
   pub spelled : SpellDesk trees
   pub lawful : IsLawful (desk_of trees)
 
+-- the desk's own table comes first, as it is declared in each desk
+pub record HasDeskFirst (schema : Schema) : Type 0 where
+  pub more : List Table
+  pub indexes : List Index
+  pub views : List View
+  pub is : schema ≡ starts_with_desk more indexes views
+
 -- what is told of a database by each refusal; why Sql is answered is not told
 abbrev pub Refuses : OpenFault → Database → Type 0
 Refuses NotADesk db = has_desk_columns db.schema ≡ false
-Refuses Version db = (has_desk_columns db.schema ≡ true) × ¬ HasVersion 0 (db.trees 0)
+Refuses Version db = (has_desk_columns db.schema ≡ true) × HasDeskFirst db.schema × ¬ HasVersion 0 (db.trees 0)
 Refuses Inconsistent db = (db.schema ≡ desk_schema) × HasVersion 0 (db.trees 0) × ¬ IsConsistent db.trees
 Refuses Sql db = has_desk_columns db.schema ≡ true
 
@@ -51,6 +59,11 @@ pub record StartsWithDesk (s : State) : Type 0 where
   pub indexes : List Index
   pub views : List View
   pub rests : IsTrue s.is_open → RestsOver (starts_with_desk more indexes views) s
+
+-- after a refusal that is told a connection that was open is open, where the disk has returned what was
+-- written
+abbrev pub RefusesOpen : {S T : Type 0} → Ghosts S → Held S → Held S → Result T OpenFault → Type 0
+RefusesOpen g old new result = IfErr result (λ fault. fault ≢ Sql → IsOpen g old → IsClean g new → IsOpen g new)
 
 -- outside a transaction the last commit is what is seen
 pub record IsSettledAt (s : State) : Type 0 where

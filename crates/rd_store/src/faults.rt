@@ -17,7 +17,7 @@ pub enum StoreFault {
 pub enum CreateFault {
     /// A table `desk` stands.
     Exists,
-    /// Other tables stand, the database failed, or memory was wanting.
+    /// Other tables or views stand, the database failed, or memory was wanting.
     Sql,
 }
 

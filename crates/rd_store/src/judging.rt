@@ -3,7 +3,7 @@ ghost use Rattle.sqlite.specs.Held.{state};
 ghost use Rattle.sqlite.specs.Steps.{over_memory};
 ghost use Rattle.rd_tables.specs.Schemas.{desk_schema, has_desk_columns};
 ghost use Rattle.rd_store.specs.Held.{IsDeskAt, IsOpen, Stays, StaysOpen};
-ghost use Rattle.rd_store.specs.Opened.{IsSettledAt, IsSoundAt, Refuses};
+ghost use Rattle.rd_store.specs.Opened.{IsSettledAt, IsSoundAt, Refuses, RefusesOpen};
 
 use crate::faults::{OpenFault, Refused};
 use crate::opening::check_rows;
@@ -42,6 +42,7 @@ fn judge_tables<S: Alter>(alloc: Global, conn: &mut Connection<S>) -> Result<(),
     ensures no_desk { IfErr result (λ fault. fault ≢ OpenFault.NotADesk) }
     ensures stays { Stays S.Store conn.old conn.new }
     ensures stands { StaysOpen S.Store conn.old conn.new result }
+    ensures refuses { RefusesOpen S.Store conn.old conn.new result }
 {
     let sample = sample(alloc)?;
     if !same_first_table(conn.schema(), sample.schema()) {
@@ -67,6 +68,7 @@ pub(crate) fn judge<S: Alter>(alloc: Global, conn: &mut Connection<S>) -> Result
         (fault ≢ OpenFault.NotADesk) (fault ≡ OpenFault.NotADesk)) }
     ensures stays { Stays S.Store conn.old conn.new }
     ensures stands { StaysOpen S.Store conn.old conn.new result }
+    ensures refuses { RefusesOpen S.Store conn.old conn.new result }
 {
     if !has_desk_columns(conn.schema()) {
         return Err(OpenFault::NotADesk);

@@ -1,7 +1,7 @@
 ghost use Rattle.std.specs.Prelude.{◌↔◌, IsTrue};
 ghost use Rattle.rd_store.specs.Lawful.{IsDonor};
 
-/// Whether a text may be a donor's name: 1 to 1,000 bytes, no character below U+0020.
+/// Whether a text may be a donor's name: it has 1 to 1,000 bytes, none below 20 hex.
 pub fn is_donor(text: &str) -> bool
     ensures { IsTrue result ↔ IsDonor text.now }
 {

@@ -7,7 +7,7 @@ ghost use Rattle.rd_tables.specs.Asked.{AreRising, IsListed};
 ghost use Rattle.rd_tables.specs.Sheets.{HaveRowids, map_of};
 ghost use Rattle.rd_store.specs.Spelled.{HasVersion, HaveOwnRowids, deed_sheet, image_sheet};
 ghost use Rattle.rd_store.specs.Held.{HoldsTables, IsOpen, Stays, StaysOpen};
-ghost use Rattle.rd_store.specs.Opened.{AreKeys, AreNumbers, IsConsistent, IsSoundAt, JudgesRows, LawfulChecks, LawfulDeeds, LawfulGiven, LawfulImages, LawfulKeys, LawfulOthers, LawfulRules, listing_query, listing_text, listing_tree};
+ghost use Rattle.rd_store.specs.Opened.{AreKeys, AreNumbers, IsConsistent, IsSoundAt, JudgesRows, LawfulChecks, LawfulDeeds, LawfulGiven, LawfulImages, LawfulKeys, LawfulOthers, LawfulRules, RefusesOpen, listing_query, listing_text, listing_tree};
 
 use crate::faults::OpenFault;
 use crate::images::read_numbers;
@@ -96,6 +96,7 @@ fn check_deeds<S: Alter>(alloc: Global, conn: &mut Connection<S>) -> Result<Vec<
         AreKeys (map_of deed_sheet ((state S.Store conn.old).now.trees 1)) numbers.items) }
     ensures stays { Stays S.Store conn.old conn.new }
     ensures stands { StaysOpen S.Store conn.old conn.new result }
+    ensures refuses { RefusesOpen S.Store conn.old conn.new result }
     ensures named { IfErr result (λ fault. fault ≢ OpenFault.NotADesk) }
 {
     let rows = read_listing(conn, Listing::Deeds)?;
@@ -120,6 +121,7 @@ fn check_images<S: Alter>(
         AreKeys (map_of image_sheet ((state S.Store conn.old).now.trees 2)) numbers.items) }
     ensures stays { Stays S.Store conn.old conn.new }
     ensures stands { StaysOpen S.Store conn.old conn.new result }
+    ensures refuses { RefusesOpen S.Store conn.old conn.new result }
     ensures named { IfErr result (λ fault. fault ≢ OpenFault.NotADesk) }
 {
     let rows = read_listing(conn, Listing::Images)?;
@@ -144,6 +146,7 @@ fn check_rules<S: Alter>(
     ensures rowids { IsOpen S.Store conn.new → IfOk result (λ done. HaveRowids ((state S.Store conn.old).now.trees 3)) }
     ensures stays { Stays S.Store conn.old conn.new }
     ensures stands { StaysOpen S.Store conn.old conn.new result }
+    ensures refuses { RefusesOpen S.Store conn.old conn.new result }
     ensures named { IfErr result (λ fault. fault ≢ OpenFault.NotADesk) }
 {
     let rows = read_listing(conn, Listing::Rules)?;
@@ -161,6 +164,7 @@ fn check_keys<S: Alter>(conn: &mut Connection<S>) -> Result<(), OpenFault>
     ensures rowids { IsOpen S.Store conn.new → IfOk result (λ done. HaveRowids ((state S.Store conn.old).now.trees 5)) }
     ensures stays { Stays S.Store conn.old conn.new }
     ensures stands { StaysOpen S.Store conn.old conn.new result }
+    ensures refuses { RefusesOpen S.Store conn.old conn.new result }
     ensures named { IfErr result (λ fault. fault ≢ OpenFault.NotADesk) }
 {
     let rows = read_listing(conn, Listing::Keys)?;
@@ -178,6 +182,7 @@ fn check_checks<S: Alter>(conn: &mut Connection<S>, accessions: &[u32]) -> Resul
     ensures rowids { IsOpen S.Store conn.new → IfOk result (λ done. HaveRowids ((state S.Store conn.old).now.trees 7)) }
     ensures stays { Stays S.Store conn.old conn.new }
     ensures stands { StaysOpen S.Store conn.old conn.new result }
+    ensures refuses { RefusesOpen S.Store conn.old conn.new result }
     ensures named { IfErr result (λ fault. fault ≢ OpenFault.NotADesk) }
 {
     let rows = read_listing(conn, Listing::Checks)?;
@@ -198,6 +203,7 @@ fn check_given<S: Alter>(
         AreNumbers (state S.Store conn.old).now.trees numbers.0.items numbers.1.items) }
     ensures stays { Stays S.Store conn.old conn.new }
     ensures stands { StaysOpen S.Store conn.old conn.new result }
+    ensures refuses { RefusesOpen S.Store conn.old conn.new result }
     ensures named { IfErr result (λ fault. fault ≢ OpenFault.NotADesk) }
 {
     let deeds = check_deeds(alloc, conn)?;
@@ -217,6 +223,7 @@ fn check_others<S: Alter>(
     ensures rowids { IsOpen S.Store conn.new → IfOk result (λ done. HaveOwnRowids (state S.Store conn.old).now.trees) }
     ensures stays { Stays S.Store conn.old conn.new }
     ensures stands { StaysOpen S.Store conn.old conn.new result }
+    ensures refuses { RefusesOpen S.Store conn.old conn.new result }
     ensures named { IfErr result (λ fault. fault ≢ OpenFault.NotADesk) }
 {
     check_rules(conn, accessions, deeds)?;
@@ -233,6 +240,7 @@ pub(crate) fn check_rows<S: Alter>(alloc: Global, conn: &mut Connection<S>) -> R
     ensures rowids { IsOpen S.Store conn.new → IfOk result (λ done. HaveOwnRowids (state S.Store conn.old).now.trees) }
     ensures stays { Stays S.Store conn.old conn.new }
     ensures stands { StaysOpen S.Store conn.old conn.new result }
+    ensures refuses { RefusesOpen S.Store conn.old conn.new result }
     ensures named { IfErr result (λ fault. fault ≢ OpenFault.NotADesk) }
 {
     let (deeds, accessions) = check_given(alloc, conn)?;

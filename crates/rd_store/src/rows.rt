@@ -3,9 +3,9 @@ use rd_geometry::{Items, Kind, Text};
 /// A deed.
 #[derive(Debug, Drop)]
 pub struct DeedRow {
-    /// Who gave the disks: 1 to 1,000 bytes, no character below U+0020.
+    /// Who gave the disks: 1 to 1,000 bytes, none below 20 hex.
     pub donor: Text,
-    /// The day on which it was signed, counted from 1970-01-01.
+    /// The day on which it was signed, of the years 1 to 9999, counted from 1970-01-01.
     pub signed: i32,
 }
 

@@ -65,6 +65,7 @@ impl<S: Alter> Store<S> {
         ensures crash_err { IfErr result (λ refused. LeavesOldOrNew S.Store conn refused.conn (new_desk staff.now)) }
         ensures durable { IfOk result (λ store. IsOpen S.Store store → LeavesOnly S.Store store (new_desk staff.now)) }
         ensures stands { IfOk result (λ store. IsOpen S.Store conn → IsClean S.Store store → IsOpen S.Store store) }
+        ensures refuses { IfErr result (λ refused. refused.fault ≢ CreateFault.Sql → IsOpen S.Store conn → IsOpen S.Store refused.conn) }
     {
         if has_desk_table(conn.schema()) {
             return Err(Refused {
@@ -90,8 +91,8 @@ impl<S: Alter> Store<S> {
     /// Opens the desk that a database holds. The connection is outside a transaction.
     ///
     /// It fails with `NotADesk` where no table `desk` with the columns of one stands; then with `Version`
-    /// where that table does not have its one row, or the row says another version; then with
-    /// `Inconsistent` where the rows are not those of a desk; and with `Sql`, also where another table
+    /// where that table comes first and does not have its one row, or the row says another version; then
+    /// with `Inconsistent` where the rows are not those of a desk; and with `Sql`, also where another table
     /// stands, or one is declared otherwise.
     pub fn open(alloc: Global, mut conn: Connection<S>) -> Result<Store<S>, Refused<OpenFault, S>>
         requires outside { conn.in_transaction ≡ false }
@@ -104,6 +105,8 @@ impl<S: Alter> Store<S> {
         ensures untouched_err { IfErr result (λ refused. IsOpen S.Store refused.conn → IsUntouched S.Store conn refused.conn) }
         ensures durable { IfOk result (λ store. IsOpen S.Store store → LeavesOnly S.Store store (desk S.Store conn)) }
         ensures stands { IfOk result (λ store. IsOpen S.Store conn → IsClean S.Store store → IsOpen S.Store store) }
+        ensures refuses { IfErr result (λ refused. refused.fault ≢ OpenFault.Sql →
+            IsOpen S.Store conn → IsClean S.Store refused.conn → IsOpen S.Store refused.conn) }
     {
         let _outside = conn.is_autocommit();
         match judging::judge(alloc, &mut conn) {
@@ -173,8 +176,9 @@ impl<S: Alter> Store<S> {
         keys::audience_of(&mut self.conn, digest)
     }
 
-    /// Puts a deed, in place of one with its number: the number 1 to 999,999, the donor 1 to 1,000 bytes
-    /// with no character below U+0020, the day on which it was signed counted from 1970-01-01.
+    /// Puts a deed, in place of one with its number: the number 1 to 999,999, a donor of 1 to 1,000 bytes,
+    /// none below 20 hex (`is_donor`), and the day on which it was signed, counted from 1970-01-01, of the
+    /// years 1 to 9999.
     ///
     /// It fails with `Sql`.
     pub fn put_deed(&mut self, num: u32, donor: &str, signed: i32) -> Result<(), StoreFault>
@@ -189,8 +193,9 @@ impl<S: Alter> Store<S> {
         }
     }
 
-    /// Puts an image of its kind's length where none stands, with the SHA-256 that was given for it. The
-    /// same kind, deed and digest again are done, and change nothing, whatever the bytes.
+    /// Puts an image of its kind's length where none stands, at an accession, 1 to 999,999, under the deed
+    /// with a number, with the SHA-256 that was given for it. The same kind, deed and digest again are done,
+    /// and change nothing, whatever the bytes.
     ///
     /// It fails with `Missing` where there is no such deed, with `Conflict` where another kind, deed or
     /// digest stands at the accession, and with `Sql`.
@@ -212,7 +217,8 @@ impl<S: Alter> Store<S> {
         images::put_image(&mut self.conn, acc, kind, deed, digest, bytes)
     }
 
-    /// Puts a rule, in place of one of its band, number and rank.
+    /// Puts a rule, in place of one of its band, number and rank. Its values are within their limits
+    /// (`Rule::fits`).
     ///
     /// It fails with `Missing` where there is no such accession or deed, and with `Sql`.
     pub fn put_rule(&mut self, rule: &Rule) -> Result<(), StoreFault>
@@ -225,7 +231,8 @@ impl<S: Alter> Store<S> {
         rules::put_rule(&mut self.conn, rule)
     }
 
-    /// Takes a rule away, if it is there.
+    /// Takes away the takedown of an accession, or the rule of a deed, that has a rank, 1 to 9,999, if it is
+    /// there.
     ///
     /// It fails with `Missing` where there is no such accession or deed, and with `Sql`.
     pub fn drop_rule(&mut self, band: Band, scope: u32, rank: u16) -> Result<(), StoreFault>
@@ -261,8 +268,8 @@ impl<S: Alter> Store<S> {
         keys::drop_key(&mut self.conn, digest)
     }
 
-    /// The rules that decide on the files of an accession: its takedowns by rank, and then the rules of
-    /// its deed by rank; none where it is not there.
+    /// The rules that decide on the files of an accession, 1 to 999,999: its takedowns by rank, and then the
+    /// rules of its deed by rank; none where it is not there.
     ///
     /// It fails with `Sql`.
     pub fn rules_for(&mut self, alloc: Global, acc: u32) -> Result<Vec<Rule>, StoreFault>

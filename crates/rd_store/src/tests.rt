@@ -7,12 +7,13 @@ mod opening;
 mod refused;
 mod rules;
 
-ghost use Rattle.std.specs.Prelude.{◌≡◌, false, IfOk, length, vec_len};
+ghost use Rattle.std.specs.Prelude.{◌≡◌, false, IfOk, length};
 ghost use Rattle.rd_policy.specs.Rules.{IsScope};
 
-use crate::{OpenFault, Refused, Store, StoreFault, is_donor};
+use crate::{ImageRow, OpenFault, Refused, Store, StoreFault, is_donor};
 use rd_geometry::{Kind, NoMemory};
 use rd_policy::{Audience, Audiences, Band, Effect, Rule, Select, is_day, is_scope};
+use rd_rows::cbm::one_program;
 use sqlite::{Alter, Connection, Error, MemStore};
 use std::alloc::Global;
 use std::process::Abort;
@@ -33,10 +34,17 @@ const ROOM: [u8; 32] = [
     0x1b, 0x16, 0x1e, 0x5c, 0x1f, 0xa7, 0x42, 0x5e, 0x73, 0x04, 0x33, 0x62, 0x93, 0x8b, 0x98, 0x24,
 ];
 
-/// What was given as the digest of image 12, and another.
-const DIGEST: [u8; 32] = [0xd1; 32];
+/// The SHA-256 of the 1541 image with one program.
+const DIGEST: [u8; 32] = [
+    0xee, 0x35, 0x28, 0x34, 0xe0, 0x6f, 0x2b, 0x57, 0x2e, 0x65, 0x49, 0x0e, 0xb8, 0x45, 0x93, 0x97,
+    0x24, 0xcc, 0x38, 0x54, 0x2a, 0xed, 0x18, 0xac, 0xdf, 0x81, 0xed, 0xed, 0x76, 0x91, 0x2a, 0xfb,
+];
 
-const OTHER_DIGEST: [u8; 32] = [0x07; 32];
+/// The SHA-256 of the 1541 image with a loop, and of no desk key.
+const OTHER_DIGEST: [u8; 32] = [
+    0x29, 0xbd, 0x47, 0x50, 0x06, 0x27, 0xf9, 0x34, 0xd5, 0x0b, 0xff, 0x93, 0x80, 0xa0, 0xfc, 0x11,
+    0x91, 0x3e, 0x61, 0x55, 0xe4, 0x46, 0xd3, 0x2e, 0xa7, 0x9b, 0x7e, 0xcc, 0x5f, 0x7a, 0x6c, 0x17,
+];
 
 const ALL: Audiences = Audiences {
     public: true,
@@ -82,13 +90,6 @@ fn open_desk<S: Alter>(
         Ok(desk) => Ok(desk),
         Err(Refused { fault, conn }) => Err((fault, conn)),
     }
-}
-
-/// As many bytes as a 1541 disk has, all the same.
-fn bytes(alloc: Global, byte: u8) -> Result<Vec<u8>, NoMemory>
-    ensures { IfOk result (λ bytes. vec_len bytes ≡ 174_848) }
-{
-    Ok(vec![in alloc; byte; 174_848]?)
 }
 
 fn put_deed<S: Alter>(
@@ -181,10 +182,10 @@ fn put_rules<S: Alter>(rt: &impl Abort, desk: &mut Store<S>) -> Result<(), Store
     put_rule(rt, desk, &closed())
 }
 
-/// Puts image 12 under deed 7.
-fn put_zeros<S: Alter>(alloc: Global, desk: &mut Store<S>) -> Result<(), Fail> {
-    let zeros = bytes(alloc, 0)?;
-    put_image(desk, 12, 7, &DIGEST, zeros.as_slice())?;
+/// Puts the image with one program as image 12 under deed 7.
+fn put_program<S: Alter>(alloc: Global, desk: &mut Store<S>) -> Result<(), Fail> {
+    let image = one_program(alloc)?;
+    put_image(desk, 12, 7, &DIGEST, image.as_slice())?;
     Ok(())
 }
 
@@ -192,7 +193,7 @@ fn put_zeros<S: Alter>(alloc: Global, desk: &mut Store<S>) -> Result<(), Fail> {
 fn fill<S: Alter>(rt: &impl Abort, alloc: Global, desk: &mut Store<S>) -> Result<(), Fail> {
     put_deeds(rt, desk)?;
     put_rules(rt, desk)?;
-    put_zeros(alloc, desk)
+    put_program(alloc, desk)
 }
 
 /// A new desk, filled.
@@ -206,7 +207,7 @@ fn filled(rt: &impl Abort, alloc: Global) -> Result<Desk, Fail> {
 fn assert_given<S: Alter>(rt: &impl Abort, alloc: Global, desk: &mut Store<S>) -> Result<(), Fail> {
     assert!(rt; has_deed(desk, 7, "A. Curator", 18_020)?);
     assert!(rt; has_deed(desk, 8, "B. Donor", 18_321)?);
-    assert!(rt; has_image(alloc, desk, 12, 7, &DIGEST, 0)?);
+    assert!(rt; has_program(alloc, desk, &DIGEST)?);
     Ok(())
 }
 
@@ -232,25 +233,41 @@ fn assert_filled<S: Alter>(
     Ok(())
 }
 
-/// Whether a 1541 image of these values stands.
+fn image<S: Alter>(
+    alloc: Global,
+    desk: &mut Store<S>,
+    acc: u32,
+) -> Result<Option<ImageRow>, StoreFault> {
+    desk.image(alloc, acc)
+}
+
+/// Whether a 1541 image with these bytes stands at an accession, under deed 7.
 fn has_image<S: Alter>(
     alloc: Global,
     desk: &mut Store<S>,
     acc: u32,
-    deed: u32,
     digest: &[u8; 32],
-    byte: u8,
-) -> Result<bool, Fail> {
-    let Some(image) = desk.image(alloc, acc)? else {
+    wanted: &[u8],
+) -> Result<bool, StoreFault> {
+    let Some(image) = image(alloc, desk, acc)? else {
         return Ok(false);
     };
-    let wanted = bytes(alloc, byte)?;
     Ok(
         image.kind == Kind::D64
-            && image.deed == deed
+            && image.deed == 7
             && image.digest == *digest
-            && image.bytes.as_slice() == wanted.as_slice(),
+            && image.bytes.as_slice() == wanted,
     )
+}
+
+/// Whether image 12 is the one with one program, with this digest.
+fn has_program<S: Alter>(
+    alloc: Global,
+    desk: &mut Store<S>,
+    digest: &[u8; 32],
+) -> Result<bool, Fail> {
+    let wanted = one_program(alloc)?;
+    Ok(has_image(alloc, desk, 12, digest, wanted.as_slice())?)
 }
 
 /// Whether the deed with a number has these values.
@@ -278,7 +295,7 @@ fn has_rules<S: Alter>(
 }
 
 /// All that rules hold, in words.
-fn told(alloc: Global, rules: &[Rule]) -> Result<String, Fail> {
+fn told(alloc: Global, rules: &[Rule]) -> Result<String, NoMemory> {
     Ok(format!(in alloc; "{rules:?}")?)
 }
 

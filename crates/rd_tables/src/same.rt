@@ -159,7 +159,8 @@ impl Same for Index {
     }
 }
 
-/// Whether the schemas are equal, where neither has a view.
+/// `true` only where the schemas are equal. `false` tells nothing: it is also answered where there is a
+/// view.
 pub fn same_schema(schema: &Schema, other: &Schema) -> bool
     ensures { IsTrue result → schema.now ≡ other.now }
 {
@@ -169,7 +170,7 @@ pub fn same_schema(schema: &Schema, other: &Schema) -> bool
         && all_same(schema.indexes.as_slice(), other.indexes.as_slice())
 }
 
-/// Whether both have a first table, and it is the same.
+/// `true` only where both have a first table, and it is the same. `false` tells nothing.
 pub fn same_first_table(schema: &Schema, other: &Schema) -> bool
     ensures { IsTrue result → SharesFirstTable schema.now other.now }
 {

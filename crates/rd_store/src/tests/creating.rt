@@ -1,8 +1,8 @@
 //! Making a desk, and giving its connection back.
 
 use super::{
-    ROOM, STAFF, audience_of, filled, has_deed, into_connection, new_connection, new_desk, number,
-    put_curator, run,
+    ROOM, STAFF, assert_filled, audience_of, filled, has_deed, into_connection, new_connection,
+    new_desk, number, open_desk, run,
 };
 use crate::{CreateFault, Refused, Store};
 use rd_policy::Audience;
@@ -36,13 +36,13 @@ fn a_new_desk_has_its_staff_key(rt: HostRuntime) -> Result<(), Fail> {
 
 #[test]
 fn a_desk_that_stands_is_kept(rt: HostRuntime) -> Result<(), Fail> {
-    let mut desk = new_desk(rt.alloc())?;
-    put_curator(&rt, &mut desk)?;
-    let (fault, mut conn) = refusal(&rt, into_connection(desk))?;
+    let desk = filled(&rt, rt.alloc())?;
+    let (fault, conn) = refusal(&rt, into_connection(desk))?;
     assert_eq!(rt; fault, CreateFault::Exists);
-    assert_eq!(rt; number(&mut conn, "SELECT count(*) FROM deed")?, 1);
-    assert_eq!(rt; number(&mut conn, "SELECT audience FROM badge")?, 2);
-    Ok(())
+    let Ok(mut again) = open_desk(&rt, rt.alloc(), conn) else {
+        return Err(Fail::new("no desk"));
+    };
+    assert_filled(&rt, rt.alloc(), &mut again)
 }
 
 #[test]

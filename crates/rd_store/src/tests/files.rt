@@ -26,12 +26,24 @@ fn create(rt: &impl Abort, conn: Connection<OnDisk>) -> Result<Store<OnDisk>, Fa
     }
 }
 
-/// The path of a file in the folder for what is made by tests.
-fn path_of(rt: &HostRuntime, name: &str) -> Result<String, Fail> {
+/// The folder for what is made by tests.
+fn folder(rt: &HostRuntime) -> Result<String, Fail> {
     match env::var(rt, "TMPDIR") {
-        Ok(folder) => Ok(format!(in rt.alloc(); "{folder}/{name}")?),
-        Err(_) => Ok(format!(in rt.alloc(); "/tmp/{name}")?),
+        Ok(folder) => Ok(folder),
+        Err(_) => Ok(String::from_str(rt.alloc(), "/tmp")?),
     }
+}
+
+/// The path of a new file in that folder, in which nothing is written yet.
+fn fresh_path(rt: &HostRuntime) -> Result<String, Fail> {
+    let folder = folder(rt)?;
+    for n in 0..1_000 {
+        let path = format!(in rt.alloc(); "{folder}/desk-{n}.sqlite")?;
+        if fs::File::create_new(rt, path.as_str()).is_ok() {
+            return Ok(path);
+        }
+    }
+    Err(Fail::new("no path is free"))
 }
 
 /// Removes a database, if it stands.
@@ -67,14 +79,13 @@ fn read_back(rt: &impl Abort, alloc: Global, conn: Connection<OnDisk>) -> Result
     Ok(())
 }
 
-/// In the folder that TMPDIR names the file stays, for a script that looks into it.
+/// The file stays where KEEP_DESK is set, for a script that looks into it.
 #[test]
 fn a_desk_in_a_file_opens_again(rt: HostRuntime) -> Result<(), Fail> {
-    let path = path_of(&rt, "desk-q.sqlite")?;
-    remove(&rt, path.as_str())?;
+    let path = fresh_path(&rt)?;
     make(&rt, rt.alloc(), connect(&rt, path.as_str())?)?;
     read_back(&rt, rt.alloc(), connect(&rt, path.as_str())?)?;
-    if env::var(&rt, "TMPDIR").is_err() {
+    if env::var(&rt, "KEEP_DESK").is_err() {
         remove(&rt, path.as_str())?;
     }
     Ok(())
@@ -86,8 +97,7 @@ fn opens_a_file_again(rt: HostRuntime) -> Result<(), Fail> {
     if let Ok(path) = env::var(&rt, "DESK_FILE") {
         return read_back(&rt, rt.alloc(), connect(&rt, path.as_str())?);
     }
-    let path = path_of(&rt, "desk-again.sqlite")?;
-    remove(&rt, path.as_str())?;
+    let path = fresh_path(&rt)?;
     make(&rt, rt.alloc(), connect(&rt, path.as_str())?)?;
     read_back(&rt, rt.alloc(), connect(&rt, path.as_str())?)?;
     remove(&rt, path.as_str())

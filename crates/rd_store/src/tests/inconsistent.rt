@@ -1,12 +1,20 @@
 //! Rows that are not those of a desk: each breaks one limit of a filled desk, which is then refused.
 
-use super::{filled, into_connection, number, open_desk, run};
+use super::{DIGEST, filled, has_image, has_program, into_connection, number, open_desk, run};
 use crate::OpenFault;
+use rd_geometry::NoMemory;
+use rd_rows::bytes::put;
+use rd_rows::cbm::one_program;
 use sqlite::types::ValueRef;
 use sqlite::{Connection, Error, MemStore};
 use std::alloc::Global;
 use std::process::Abort;
 use std::test::Fail;
+
+/// What is not opened for its rows.
+const INCONSISTENT: Option<OpenFault> = Some(OpenFault::Inconsistent);
+
+const IMAGE_BYTES: &str = "UPDATE image SET bytes = ?1";
 
 /// Counts the rows of each table.
 const ROWS: &str =
@@ -39,6 +47,18 @@ fn opens(
     Ok(answer)
 }
 
+/// A filled desk, changed by a statement that is given a value.
+fn changed(
+    rt: &impl Abort,
+    alloc: Global,
+    sql: &str,
+    value: ValueRef<'_>,
+) -> Result<Connection<MemStore>, Fail> {
+    let mut conn = filled_connection(rt, alloc)?;
+    assert_ne!(rt; run_with(&mut conn, sql, value)?, 0, "{sql}");
+    Ok(conn)
+}
+
 /// What opening a filled desk answers that one statement has changed.
 fn after(rt: &impl Abort, alloc: Global, sql: &str) -> Result<Option<OpenFault>, Fail> {
     let mut conn = filled_connection(rt, alloc)?;
@@ -53,14 +73,12 @@ fn after_blob(
     sql: &str,
     count: usize,
 ) -> Result<Option<OpenFault>, Fail> {
-    let mut conn = filled_connection(rt, alloc)?;
     let zeros = vec![in alloc; 0; count]?;
-    assert_ne!(rt;
-        run_with(&mut conn, sql, ValueRef::Blob(zeros.as_slice()))?,
-        0,
-        "{sql}"
-    );
-    opens(rt, alloc, conn)
+    opens(
+        rt,
+        alloc,
+        changed(rt, alloc, sql, ValueRef::Blob(zeros.as_slice()))?,
+    )
 }
 
 /// The same, where the statement is given as many letters as a text.
@@ -70,21 +88,25 @@ fn after_text(
     sql: &str,
     count: usize,
 ) -> Result<Option<OpenFault>, Fail> {
-    let mut conn = filled_connection(rt, alloc)?;
     let letters = vec![in alloc; b'A'; count]?;
-    assert_ne!(rt;
-        run_with(&mut conn, sql, ValueRef::Text(letters.as_slice()))?,
-        0,
-        "{sql}"
-    );
-    opens(rt, alloc, conn)
+    opens(
+        rt,
+        alloc,
+        changed(rt, alloc, sql, ValueRef::Text(letters.as_slice()))?,
+    )
 }
 
-const INCONSISTENT: Option<OpenFault> = Some(OpenFault::Inconsistent);
+/// Asserts that a filled desk that one of these statements has changed is not opened.
+fn all_inconsistent(rt: &impl Abort, alloc: Global, statements: &[&str]) -> Result<(), Fail> {
+    for sql in statements {
+        assert_eq!(rt; after(rt, alloc, *sql)?, INCONSISTENT, "{sql}");
+    }
+    Ok(())
+}
 
 #[test]
 fn deeds_out_of_their_limits(rt: HostRuntime) -> Result<(), Fail> {
-    for sql in [
+    let statements = [
         "UPDATE deed SET num = 0 WHERE num = 8",
         "UPDATE deed SET num = -1 WHERE num = 8",
         "UPDATE deed SET num = 1000000 WHERE num = 8",
@@ -96,9 +118,8 @@ fn deeds_out_of_their_limits(rt: HostRuntime) -> Result<(), Fail> {
         "UPDATE deed SET donor = CAST(x'41C3' AS TEXT) WHERE num = 8",
         "UPDATE deed SET signed = -719163 WHERE num = 8",
         "UPDATE deed SET signed = 2932897 WHERE num = 8",
-    ] {
-        assert_eq!(rt; after(&rt, rt.alloc(), sql)?, INCONSISTENT, "{sql}");
-    }
+    ];
+    all_inconsistent(&rt, rt.alloc(), &statements)?;
     let donor = "UPDATE deed SET donor = ?1 WHERE num = 8";
     assert_eq!(rt; after_text(&rt, rt.alloc(), donor, 1_001)?, INCONSISTENT);
     assert_eq!(rt; after_text(&rt, rt.alloc(), donor, 1_000)?, None);
@@ -107,23 +128,22 @@ fn deeds_out_of_their_limits(rt: HostRuntime) -> Result<(), Fail> {
 
 #[test]
 fn images_out_of_their_limits(rt: HostRuntime) -> Result<(), Fail> {
-    for sql in [
+    let statements = [
         "UPDATE image SET acc = 0",
         "UPDATE image SET acc = -1",
         "UPDATE image SET acc = 1000000",
         "UPDATE image SET kind = 0",
-    ] {
-        assert_eq!(rt; after(&rt, rt.alloc(), sql)?, INCONSISTENT, "{sql}");
-    }
+    ];
+    all_inconsistent(&rt, rt.alloc(), &statements)?;
     for (sql, count, wanted) in [
         ("UPDATE image SET digest = ?1", 31, INCONSISTENT),
         ("UPDATE image SET digest = ?1", 32, None),
         ("UPDATE image SET digest = ?1", 33, INCONSISTENT),
-        ("UPDATE image SET bytes = ?1", 0, INCONSISTENT),
-        ("UPDATE image SET bytes = ?1", 174_847, INCONSISTENT),
-        ("UPDATE image SET bytes = ?1", 174_848, None),
-        ("UPDATE image SET bytes = ?1", 174_849, INCONSISTENT),
-        ("UPDATE image SET bytes = ?1", 256_256, INCONSISTENT),
+        (IMAGE_BYTES, 0, INCONSISTENT),
+        (IMAGE_BYTES, 174_847, INCONSISTENT),
+        (IMAGE_BYTES, 174_848, None),
+        (IMAGE_BYTES, 174_849, INCONSISTENT),
+        (IMAGE_BYTES, 256_256, INCONSISTENT),
         ("UPDATE image SET kind = 0, bytes = ?1", 256_256, None),
         (
             "UPDATE image SET kind = 0, bytes = ?1",
@@ -140,15 +160,44 @@ fn images_out_of_their_limits(rt: HostRuntime) -> Result<(), Fail> {
     Ok(())
 }
 
+/// The image with one program, with another byte in it.
+fn other_program(alloc: Global) -> Result<Vec<u8>, NoMemory> {
+    let mut image = one_program(alloc)?;
+    put(&mut image, 86_018, &[0x42]);
+    Ok(image)
+}
+
+#[test]
+fn an_image_with_another_byte_opens(rt: HostRuntime) -> Result<(), Fail> {
+    let alloc = rt.alloc();
+    let bytes = other_program(alloc)?;
+    let conn = changed(&rt, alloc, IMAGE_BYTES, ValueRef::Blob(bytes.as_slice()))?;
+    let Ok(mut desk) = open_desk(&rt, alloc, conn) else {
+        return Err(Fail::new("no desk"));
+    };
+    assert!(rt; has_image(alloc, &mut desk, 12, &DIGEST, bytes.as_slice())?);
+    assert!(rt; !has_program(alloc, &mut desk, &DIGEST)?);
+    Ok(())
+}
+
+#[test]
+fn an_image_without_its_last_byte(rt: HostRuntime) -> Result<(), Fail> {
+    let alloc = rt.alloc();
+    let mut bytes = one_program(alloc)?;
+    bytes.truncate(174_847);
+    let conn = changed(&rt, alloc, IMAGE_BYTES, ValueRef::Blob(bytes.as_slice()))?;
+    assert_eq!(rt; opens(&rt, alloc, conn)?, INCONSISTENT);
+    Ok(())
+}
+
 #[test]
 fn keys_out_of_their_limits(rt: HostRuntime) -> Result<(), Fail> {
-    for sql in [
+    let statements = [
         "UPDATE badge SET audience = 1",
         "DELETE FROM badge WHERE audience = 2",
         "DELETE FROM badge",
-    ] {
-        assert_eq!(rt; after(&rt, rt.alloc(), sql)?, INCONSISTENT, "{sql}");
-    }
+    ];
+    all_inconsistent(&rt, rt.alloc(), &statements)?;
     let room = "UPDATE badge SET digest = ?1 WHERE audience = 1";
     for (count, wanted) in [(31, INCONSISTENT), (32, None), (33, INCONSISTENT)] {
         assert_eq!(rt;
@@ -162,7 +211,7 @@ fn keys_out_of_their_limits(rt: HostRuntime) -> Result<(), Fail> {
 
 #[test]
 fn rules_out_of_their_limits(rt: HostRuntime) -> Result<(), Fail> {
-    for sql in [
+    let statements = [
         "UPDATE rule SET scope = 0 WHERE rank = 10",
         "UPDATE rule SET rank = 0 WHERE rank = 10",
         "UPDATE rule SET rank = -1 WHERE rank = 10",
@@ -171,29 +220,25 @@ fn rules_out_of_their_limits(rt: HostRuntime) -> Result<(), Fail> {
         "UPDATE rule SET day_from = 2932897 WHERE rank = 10",
         "UPDATE rule SET day_until = -719163 WHERE rank = 10",
         "UPDATE rule SET day_until = 2932897 WHERE rank = 10",
-    ] {
-        assert_eq!(rt; after(&rt, rt.alloc(), sql)?, INCONSISTENT, "{sql}");
-    }
-    Ok(())
+    ];
+    all_inconsistent(&rt, rt.alloc(), &statements)
 }
 
 #[test]
 fn rules_of_what_is_not_there(rt: HostRuntime) -> Result<(), Fail> {
-    for sql in [
+    let statements = [
         "UPDATE rule SET scope = 9 WHERE rank = 10",
         "UPDATE rule SET scope = 12 WHERE rank = 10",
         "UPDATE rule SET band = 0, scope = 99 WHERE rank = 10",
         "UPDATE rule SET band = 0 WHERE rank = 10",
         "UPDATE rule SET band = 0, scope = 12, effect = 2 WHERE rank = 10",
-    ] {
-        assert_eq!(rt; after(&rt, rt.alloc(), sql)?, INCONSISTENT, "{sql}");
-    }
-    Ok(())
+    ];
+    all_inconsistent(&rt, rt.alloc(), &statements)
 }
 
 #[test]
 fn selectors_out_of_their_limits(rt: HostRuntime) -> Result<(), Fail> {
-    for sql in [
+    let statements = [
         "UPDATE rule SET number = 1 WHERE rank = 10",
         "UPDATE rule SET number = -1 WHERE rank = 10",
         "UPDATE rule SET word = 'x' WHERE rank = 10",
@@ -208,9 +253,12 @@ fn selectors_out_of_their_limits(rt: HostRuntime) -> Result<(), Fail> {
         "UPDATE rule SET how = 3, word = 'x' WHERE rank = 10",
         "UPDATE rule SET how = 4, number = 1, word = 'PRG' WHERE rank = 10",
         "UPDATE rule SET how = 4, word = CAST(x'7F' AS TEXT) WHERE rank = 10",
-    ] {
-        assert_eq!(rt; after(&rt, rt.alloc(), sql)?, INCONSISTENT, "{sql}");
-    }
+    ];
+    all_inconsistent(&rt, rt.alloc(), &statements)
+}
+
+#[test]
+fn words_are_no_longer_than_their_limits(rt: HostRuntime) -> Result<(), Fail> {
     for (sql, count, wanted) in [
         (
             "UPDATE rule SET how = 2, word = ?1 WHERE rank = 10",
@@ -244,15 +292,13 @@ fn selectors_out_of_their_limits(rt: HostRuntime) -> Result<(), Fail> {
 
 #[test]
 fn checks_out_of_their_limits(rt: HostRuntime) -> Result<(), Fail> {
-    for sql in [
+    let statements = [
         "INSERT INTO checked VALUES (99, 18020, 0)",
         "INSERT INTO checked VALUES (7, 18020, 0)",
         "INSERT INTO checked VALUES (12, -719163, 0)",
         "INSERT INTO checked VALUES (12, 2932897, 1)",
-    ] {
-        assert_eq!(rt; after(&rt, rt.alloc(), sql)?, INCONSISTENT, "{sql}");
-    }
-    Ok(())
+    ];
+    all_inconsistent(&rt, rt.alloc(), &statements)
 }
 
 #[test]

@@ -144,7 +144,7 @@ fn other_versions_are_told(rt: HostRuntime) -> Result<(), Fail> {
 }
 
 #[test]
-fn another_version_may_have_other_tables(rt: HostRuntime) -> Result<(), Fail> {
+fn another_version_may_declare_other_tables(rt: HostRuntime) -> Result<(), Fail> {
     let alloc = rt.alloc();
     for version in [VERSION_1, VERSION_9] {
         let conn = made(alloc, &[DESK, version])?;
@@ -154,21 +154,37 @@ fn another_version_may_have_other_tables(rt: HostRuntime) -> Result<(), Fail> {
         let conn = declared(alloc, "signed", "dated", version)?;
         assert_eq!(rt; refusal(&rt, alloc, conn)?, OpenFault::Version, "{version}");
     }
-    for version in ["UPDATE desk SET version = 1", "UPDATE desk SET version = 9"] {
-        for text in [
-            "CREATE TABLE found (id INTEGER PRIMARY KEY) STRICT",
-            "CREATE VIEW found AS SELECT 1",
-            "CREATE INDEX found ON deed (donor)",
-            "DROP TABLE image",
-        ] {
-            let conn = changed(&rt, alloc, &[version, text])?;
-            assert_eq!(rt;
-                refusal(&rt, alloc, conn)?,
-                OpenFault::Version,
-                "{version}, {text}"
-            );
-        }
+    Ok(())
+}
+
+/// Asserts that a desk to which a statement gives another version is told by it, with other tables too.
+fn tells_version(rt: &impl Abort, alloc: Global, version: &str) -> Result<(), Fail> {
+    for text in [
+        "CREATE TABLE found (id INTEGER PRIMARY KEY) STRICT",
+        "CREATE VIEW found AS SELECT 1",
+        "CREATE INDEX found ON deed (donor)",
+        "DROP TABLE image",
+    ] {
+        let conn = changed(rt, alloc, &[version, text])?;
+        assert_eq!(rt;
+            refusal(rt, alloc, conn)?,
+            OpenFault::Version,
+            "{version}, {text}"
+        );
     }
+    Ok(())
+}
+
+#[test]
+fn another_version_may_lack_tables_and_have_more(rt: HostRuntime) -> Result<(), Fail> {
+    tells_version(&rt, rt.alloc(), "UPDATE desk SET version = 1")?;
+    tells_version(&rt, rt.alloc(), "UPDATE desk SET version = 9")
+}
+
+#[test]
+fn the_table_of_the_version_comes_first(rt: HostRuntime) -> Result<(), Fail> {
+    let conn = made(rt.alloc(), &[DEED, DESK, VERSION_9])?;
+    assert_eq!(rt; refusal(&rt, rt.alloc(), conn)?, OpenFault::Sql);
     Ok(())
 }
 

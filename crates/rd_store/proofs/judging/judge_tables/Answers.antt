@@ -1,11 +1,21 @@
-use Rattle.std.proofs.Common.{refl, subst₂}
+use Rattle.std.proofs.Common.{refl, subst, subst₂}
+use Rattle.std.specs.Prelude.{MatchBool}
 use Rattle.sqlite.specs.Held.{state}
 use Rattle.sqlite.specs.Steps.{over_memory}
 use Rattle.rd_tables.specs.Schemas.{SharesFirstTable}
-use Rattle.rd_store.proofs.Listings.{starts}
+use Rattle.rd_store.specs.Spelled.{HasVersion}
+use Rattle.rd_store.proofs.Listings.{desk_first, starts}
 use Rattle.rd_store.proofs.judging.judge_tables.Goals as goal
 
 pub has_version-requires : goal.has_version-requires
-has_version-requires g c = record {
-  first = starts (state g.S.Store c.args.conn.now) (state over_memory c.in_ok-sample.sample).now.schema c.in_ok-sample.ensures.schema (subst₂ SharesFirstTable c.schema.ensures.value c.schema-2.ensures.value (c.if-not-same_first_table.ensures refl)) c.requires.settled;
-}
+has_version-requires g c =
+    let old = state g.S.Store c.args.conn.now in
+    let first = desk_first old.now.schema (state over_memory c.in_ok-sample.sample).now.schema c.in_ok-sample.ensures.schema (subst₂ SharesFirstTable c.schema.ensures.value c.schema-2.ensures.value (c.if-not-same_first_table.ensures refl)) in
+    record { first = starts old first c.requires.settled }
+
+pub returns-then-not-branch-clause-refused : goal.returns-then-not-branch-clause-refused
+returns-then-not-branch-clause-refused g c is_open =
+    let old = state g.S.Store c.args.conn.now in
+    let first = desk_first old.now.schema (state over_memory c.in_ok-sample.sample).now.schema c.in_ok-sample.ensures.schema (subst₂ SharesFirstTable c.schema.ensures.value c.schema-2.ensures.value (c.if-not-same_first_table.ensures refl)) in
+    let told = subst (λ said. MatchBool said (HasVersion 0 (old.now.trees 0)) (¬ HasVersion 0 (old.now.trees 0))) c.if-not-branch.true (c.in_ok-has_version.ensures.answer is_open) in
+    (c.requires.desk, first, told)
