@@ -1,10 +1,14 @@
 #!/usr/bin/env python3
 """scripts/compare-tools.py PROGRAM [KIND..]: compares desk with cpmtools, cbmconvert and cc1541.
 
-It makes 24 undamaged images of each kind with cpmtools or cc1541. It compares the users and names of CP/M files
-with what cpmls lists, the names and types of 1541 files with what cc1541 lists, the sizes with how many bytes desk
-writes, and these bytes with what cpmcp or cbmconvert gives out. docs/DECISIONS.md explains the four differences that
-are allowed: byte S1, blocks on track 76, the short images of mkfs.cpm, and DEL files."""
+It makes 24 undamaged images of each kind: files of several sizes, users and types, added and deleted with cpmtools or
+cc1541. In some images of 1541 disks it adds a REL file with its side sectors, which neither tool writes.
+
+CP/M: users and names are those that cpmls lists. The bytes of each file are those that the dump has where the entries
+name them (cpm_image.py), and those of cpmcp. 1541: names and types are those that cc1541 lists, in its order, and the
+bytes those of cbmconvert, which has to find no fault. In all of them desk has to tell no fault, and as many bytes as
+it writes. docs/DECISIONS.md explains the four differences that are allowed: byte S1, blocks on track 76, the short
+images of mkfs.cpm, and DEL files."""
 
 import os
 import random
@@ -13,24 +17,33 @@ import subprocess
 import sys
 import tempfile
 
+import cbm_image
+import cpm_image
 import tools
 
 IMAGES = 24
-CPM_SIZE = 256256
 FORMAT = ["-f", "ibm-3740"]
 
 
-def run(*command, check=True):
-    """What a command writes to standard output."""
-    ran = subprocess.run(command, capture_output=True)
-    if check and ran.returncode:
+def run(*command, cwd=None):
+    """What a command, which has to succeed, writes to standard output and to standard error."""
+    ran = subprocess.run(command, capture_output=True, cwd=cwd)
+    if ran.returncode:
         sys.exit(f"{command}: {ran.stderr.decode(errors='replace')}")
-    return ran.stdout
+    return ran.stdout, ran.stderr
+
+
+def fits(*command):
+    """Runs a command that adds a file to a disk, and tells whether the disk had room for it."""
+    ran = subprocess.run(command, capture_output=True)
+    if ran.returncode and b" full" not in ran.stderr:
+        sys.exit(f"{command}: {ran.stderr.decode(errors='replace')}")
+    return ran.returncode == 0
 
 
 def listed(desk, kind, image):
     """The rows of desk's list without the last line, each a list of fields."""
-    lines = run(desk, "list", kind, image).decode().splitlines()
+    lines = run(desk, "list", kind, image)[0].decode().splitlines()
     assert lines[-1] == f"files\t{len(lines) - 1}\tend", lines[-1]
     return [line.split("\t") for line in lines[:-1]]
 
@@ -49,11 +62,11 @@ class Differences:
     """Counts what was compared, and keeps what differs."""
 
     def __init__(self):
-        self.files = 0
+        self.comparisons = 0
         self.found = []
 
     def expect(self, same, what):
-        self.files += 1
+        self.comparisons += 1
         if not same:
             self.found.append(what)
             print("DIFFERS:", what, flush=True)
@@ -65,7 +78,7 @@ class Differences:
 def new_cpm(image):
     """An empty disk, padded to the length of a raw dump."""
     run("mkfs.cpm", *FORMAT, image)
-    write(image, bytes_of(image).ljust(CPM_SIZE, b"\xe5"))
+    write(image, bytes_of(image).ljust(cpm_image.SIZE, b"\xe5"))
 
 
 def cpm_name(random_, n):
@@ -76,58 +89,39 @@ def cpm_name(random_, n):
 
 
 def fill_cpm(random_, image, scratch):
-    """Adds files of several users and sizes, deletes some, adds others, and sets attributes."""
+    """Adds files of several users and sizes, deletes some, adds others, and sets attributes. Where the disk is full
+    in the middle of a file, what was written of it stays there."""
     held = []
     for n in range(random_.choice([3, 12, 40, 70])):
         size = random_.choice([0, 1, 127, 128, 129, 1000, 1024, 5000, 16384, 16385, 40000, 70000])
         write(scratch, random_.randbytes(size))
         name = f"{random_.randint(0, 15)}:{cpm_name(random_, n)}"
-        if subprocess.run(["cpmcp", *FORMAT, image, scratch, name], capture_output=True).returncode == 0:
-            held.append(name)
-        elif name in str(run("cpmls", *FORMAT, image)):
+        if fits("cpmcp", *FORMAT, image, scratch, name):
             held.append(name)
         if len(held) > 2 and random_.random() < 0.2:
             run("cpmrm", *FORMAT, image, held.pop(random_.randrange(len(held))))
         if held and random_.random() < 0.2:
-            run("cpmchattr", *FORMAT, image, random_.choice(["r", "s"]), random_.choice(held), check=False)
+            run("cpmchattr", *FORMAT, image, random_.choice(["r", "s"]), random_.choice(held))
 
 
 def cpmls_names(image):
-    """The files that cpmls lists: user and name in capitals."""
-    names, user = set(), 0
-    for line in run("cpmls", *FORMAT, image).decode().splitlines():
+    """The files that cpmls lists: users and names in capitals."""
+    names, user = [], 0
+    for line in run("cpmls", *FORMAT, image)[0].decode().splitlines():
         if line.endswith(":") and line[:-1].isdigit():
             user = int(line[:-1])
         elif line:
-            names.add((user, line.upper()))
-    return names
+            names.append((user, line.upper()))
+    return sorted(names)
 
 
-def places_of_slots():
-    """The byte at which each slot of a CP/M directory begins."""
-    sectors = [1, 7, 13, 19, 25, 5, 11, 17, 23, 3, 9, 15, 21, 2, 8, 14]
-    return [128 * (2 * 26 + sectors[k // 4] - 1) + 32 * (k % 4) for k in range(64)]
-
-
-def without_s1(image, copy):
-    """Writes a copy whose byte S1 is 0 in each entry."""
-    data = bytearray(bytes_of(image))
-    for place in places_of_slots():
+def without_s1(image):
+    """A copy of an image whose byte S1 is 0 in each entry of a file."""
+    data = bytearray(image)
+    for place in map(cpm_image.slot_place, range(64)):
         if data[place] <= 15:
             data[place + 13] = 0
-    write(copy, bytes(data))
-
-
-def on_track_76(image, user, name):
-    """Whether a block of a file lies on the last track, which libdsk does not read."""
-    data = bytes_of(image)
-    padded = name.partition(".")[0].ljust(8) + name.partition(".")[2].ljust(3)
-    for place in places_of_slots():
-        entry = data[place : place + 32]
-        held = bytes(byte & 127 for byte in entry[1:12]).decode()
-        if entry[0] == int(user) and held == padded and max(entry[16:]) >= 240:
-            return True
-    return False
+    return bytes(data)
 
 
 def cpmcp(image, user, name, target):
@@ -138,29 +132,58 @@ def cpmcp(image, user, name, target):
     return None if copied.returncode else bytes_of(target)
 
 
+def compare_cpm_file(desk, paths, row, number, differences):
+    image, copy, target = paths
+    slot, user, _, size, faults, name = row
+    what = f"{user}:{name} on CP/M image {number}"
+    ours, _ = run(desk, "cat", "cpm8", image, slot)
+    differences.expect(not faults and len(ours) == int(size), f"{what}: faults or size")
+    first, _, kind = name.partition(".")
+    data = bytes_of(image)
+    entries = cpm_image.entries_of(data, int(user), f"{first:8}{kind:3}".encode())
+    differences.expect(ours == cpm_image.bytes_of(data, entries), f"{what}: bytes of the dump")
+    cut, whole = cpmcp(image, user, name, target), cpmcp(copy, user, name, target)
+    if cut is None or whole is None:
+        differences.expect(cpm_image.reaches_last_track(entries), f"{what}: cpmcp does not read it")
+        return
+    differences.expect(not cpm_image.reaches_last_track(entries), f"{what}: cpmcp reads track 76")
+    differences.expect(ours.startswith(cut) and len(ours) - len(cut) < 128, f"{what}: bytes")
+    differences.expect(ours == whole, f"{what}: bytes with S1 of 0")
+
+
 def compare_cpm(desk, number, cwd, differences):
     random_ = random.Random(number)
-    image, copy, target = (os.path.join(cwd, name) for name in ("image", "copy", "target"))
+    paths = image, copy, target = [os.path.join(cwd, name) for name in ("image", "copy", "target")]
     new_cpm(image)
     fill_cpm(random_, image, target)
     rows = listed(desk, "cpm8", image)
-    names = {(int(row[1]), row[5].replace("%25", "%")) for row in rows}
+    names = sorted((int(row[1]), row[5]) for row in rows)
     theirs = cpmls_names(image)
-    differences.expect(names == theirs, f"names on CP/M image {number}: {sorted(names ^ theirs)}")
-    without_s1(image, copy)
-    for slot, user, _, size, faults, name in rows:
-        what = f"{user}:{name} on CP/M image {number}"
-        ours = run(desk, "cat", "cpm8", image, slot, check=False)
-        differences.expect(not faults and len(ours) == int(size), f"{what}: faults or size")
-        cut = cpmcp(image, user, name, target)
-        if cut is None:
-            differences.expect(on_track_76(image, user, name), f"{what}: cpmcp does not read it")
-            continue
-        differences.expect(ours.startswith(cut) and len(ours) - len(cut) < 128, f"{what}: bytes")
-        differences.expect(ours == cpmcp(copy, user, name, target), f"{what}: bytes with S1 of 0")
+    differences.expect(names == theirs, f"names on CP/M image {number}: {names} {theirs}")
+    write(copy, without_s1(bytes_of(image)))
+    for row in rows:
+        compare_cpm_file(desk, paths, row, number, differences)
 
 
 # 1541
+
+
+def cc1541(image, *words):
+    return ["cc1541", "-m", "-q", "-n", "museum", *words, image]
+
+
+def add_rel(random_, image):
+    """Adds a REL file of some records, whose entry cc1541 makes, where the disk has room for one."""
+    room = len(cbm_image.free_blocks(bytes_of(image))) - 6
+    if room < 1:
+        return
+    run(*cc1541(image, "-T", "REL", "-f", "records", "-L"))
+    data = bytearray(bytes_of(image))
+    record = random_.randint(1, 254)
+    blocks = random_.choice([1, 2, 119, 120, 121, 300])
+    size = min(blocks, room) * 254 // record * record
+    cbm_image.put_rel(data, b"RECORDS", record, random_.randbytes(size))
+    write(image, bytes(data))
 
 
 def fill_d64(random_, image, cwd):
@@ -171,24 +194,37 @@ def fill_d64(random_, image, cwd):
         local = os.path.join(cwd, "local")
         write(local, random_.randbytes(size))
         words = ["-T", kind, "-s", str(random_.randint(1, 12)), "-f", f"file{n}", "-w", local]
-        if subprocess.run(["cc1541", "-m", "-q", "-n", "museum", *words, image], capture_output=True).returncode:
+        if not fits(*cc1541(image, *words)):
             break
     if random_.random() < 0.5:
-        run("cc1541", "-m", "-q", "-T", "REL", "-f", "records", "-L", image, check=False)
+        add_rel(random_, image)
     data = bytearray(bytes_of(image))
     if random_.random() < 0.5:
-        data[256 * 358 + 2] = 0
+        data[cbm_image.place(18, 1) + 2] = 0
     write(image, bytes(data))
 
 
 def cc1541_rows(image):
     """The directory as cc1541 prints it: names and types, in order."""
     rows = []
-    for line in run("cc1541", "-m", image).decode(errors="replace").splitlines():
+    for line in run("cc1541", "-m", image)[0].decode(errors="replace").splitlines():
         parts = line.split('"')
         if len(parts) == 3 and parts[0].strip().isdigit() and "\x1b" not in line:
             rows.append((parts[1].strip().upper(), parts[2].strip(" *<").upper()))
     return rows
+
+
+def compare_d64_file(desk, image, row, number, target, differences):
+    slot, _, kind, size, faults, name = row
+    what = f"{name} on 1541 image {number}"
+    differences.expect(not faults, f"{what}: {faults}")
+    if kind not in ("PRG", "SEQ", "USR"):
+        differences.expect(not size, f"{what}: a size of a file that is listed only")
+        return
+    ours, _ = run(desk, "cat", "d64", image, slot)
+    path = os.path.join(target, f"{name}.{kind}".lower())
+    differences.expect(len(ours) == int(size), f"{what}: size")
+    differences.expect(os.path.exists(path) and bytes_of(path) == ours, f"{what}: bytes")
 
 
 def compare_d64(desk, number, cwd, differences):
@@ -205,16 +241,10 @@ def compare_d64(desk, number, cwd, differences):
     differences.expect(names == theirs, f"the directory of 1541 image {number}: {names} {theirs}")
     shutil.rmtree(target, ignore_errors=True)
     os.mkdir(target)
-    subprocess.run(["cbmconvert", "-N", "-d", image], cwd=target, capture_output=True)
-    for slot, _, kind, size, faults, name in rows:
-        what = f"{name} on 1541 image {number}"
-        if kind not in ("PRG", "SEQ", "USR"):
-            differences.expect(not size, f"{what}: a size of a file that is listed only")
-            continue
-        ours = run(desk, "cat", "d64", image, slot, check=False)
-        path = os.path.join(target, f"{name}.{kind}".lower())
-        differences.expect(not faults and len(ours) == int(size), f"{what}: faults or size")
-        differences.expect(os.path.exists(path) and bytes_of(path) == ours, f"{what}: bytes")
+    _, told = run("cbmconvert", "-N", "-d", image, cwd=target)
+    differences.expect(not told, f"cbmconvert on 1541 image {number}: {told.decode(errors='replace')}")
+    for row in rows:
+        compare_d64_file(desk, image, row, number, target, differences)
 
 
 def main():
@@ -227,7 +257,7 @@ def main():
             for number in range(IMAGES):
                 compare[kind](desk, number, cwd, differences)
             print(f"{kind}: {IMAGES} images", flush=True)
-    print(f"{differences.files} comparisons, {len(differences.found)} unexplained differences")
+    print(f"{differences.comparisons} comparisons, {len(differences.found)} unexplained differences")
     sys.exit(1 if differences.found else 0)
 
 

@@ -5,7 +5,7 @@ It shares no code with the program: blocks are placed by counting the sectors of
 """
 import pathlib
 
-SECTORS = {track: 21 if track < 18 else 19 if track < 25 else 18 if track < 31 else 17 for track in range(1, 36)}
+from cbm_image import SECTORS, free_map, padded, parts_of, place, put_chain
 
 GUIDE = """\
 A GUIDE TO THE ROOM
@@ -32,38 +32,18 @@ LINE = b"\x99 \"WELCOME TO THE READING ROOM\"\x00"
 TOUR = b"\x01\x08" + (0x0801 + 4 + len(LINE)).to_bytes(2, "little") + b"\x0a\x00" + LINE + b"\x00\x00"
 
 
-def place(track, sector):
-    """The byte of the image at which a block begins."""
-    return 256 * (sum(SECTORS[t] for t in range(1, track)) + sector)
-
-
-def padded(name):
-    return name.ljust(16, b"\xa0")
-
-
 def put_file(image, free, track, data):
     """Writes the blocks of a file on a track, ten sectors apart, and gives the first and their number."""
-    parts = [data[i : i + 254] for i in range(0, len(data), 254)]
-    sectors, sector = [], 0
+    parts = parts_of(data)
+    blocks, sector = [], 0
     for _ in parts:
         while (track, sector) not in free:
             sector = (sector + 1) % SECTORS[track]
         free.remove((track, sector))
-        sectors.append(sector)
+        blocks.append((track, sector))
         sector = (sector + 10) % SECTORS[track]
-    for here, after, part in zip(sectors, sectors[1:] + [None], parts):
-        link = bytes([track, after]) if after is not None else bytes([0, len(part) + 1])
-        image[place(track, here) : place(track, here) + 2 + len(part)] = link + part
-    return (track, sectors[0]), len(parts)
-
-
-def free_map(free):
-    """The four bytes for each track: how many sectors are free, and a bit for each."""
-    table = b""
-    for track in SECTORS:
-        bits = sum(1 << sector for sector in range(SECTORS[track]) if (track, sector) in free)
-        table += bytes([bin(bits).count("1")]) + bits.to_bytes(3, "little")
-    return table
+    put_chain(image, blocks, parts)
+    return blocks[0], len(parts)
 
 
 def main():

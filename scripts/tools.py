@@ -13,8 +13,17 @@ def arguments(usage):
     return os.path.abspath(sys.argv[1]), sys.argv[2:] or ["cpm8", "d64"]
 
 
-def install(programs, packages):
-    """Installs Debian's packages where a program of theirs is missing."""
-    if not all(map(shutil.which, programs)):
-        subprocess.run(["apt-get", "update", "-qq"], check=True)
-        subprocess.run(["apt-get", "install", "-y", "-qq", "--no-install-recommends", *packages], check=True)
+def missing(needed):
+    """Which of some programs, and of files that are named by their whole paths, are not there."""
+    return [name for name in needed if not (os.path.exists(name) if os.path.isabs(name) else shutil.which(name))]
+
+
+def install(needed, packages):
+    """Installs Debian's packages where a program or file of theirs is missing, and ends the script where it still is."""
+    if not missing(needed):
+        return
+    if os.geteuid() == 0 and shutil.which("apt-get"):
+        subprocess.run(["apt-get", "update", "-qq"])
+        subprocess.run(["apt-get", "install", "-y", "-qq", "--no-install-recommends", *packages])
+    if missing(needed):
+        sys.exit(f"missing: {' '.join(missing(needed))}; run as root: apt-get install {' '.join(packages)}")

@@ -1,0 +1,85 @@
+"""Reads and writes images of Commodore 1541 disks.
+
+It shares no code with the program: blocks are placed by counting the sectors of the tracks.
+"""
+
+SECTORS = {track: 21 if track < 18 else 19 if track < 25 else 18 if track < 31 else 17 for track in range(1, 36)}
+SIDE_ROOM = 120
+
+
+def place(track, sector):
+    """The byte of the image at which a block begins."""
+    return 256 * (sum(SECTORS[t] for t in range(1, track)) + sector)
+
+
+def padded(name):
+    return name.ljust(16, b"\xa0")
+
+
+def parts_of(data):
+    """What each block of a file holds of its bytes."""
+    return [data[i : i + 254] for i in range(0, len(data), 254)]
+
+
+def put_chain(image, blocks, parts):
+    """Writes blocks that link each to the next, and the last to how far it is used."""
+    for here, after, part in zip(blocks, blocks[1:] + [None], parts):
+        link = bytes(after) if after else bytes([0, len(part) + 1])
+        image[place(*here) : place(*here) + 2 + len(part)] = link + part
+
+
+def free_map(free):
+    """The four bytes for each track: how many sectors are free, and a bit for each."""
+    table = b""
+    for track in SECTORS:
+        bits = sum(1 << sector for sector in range(SECTORS[track]) if (track, sector) in free)
+        table += bytes([bin(bits).count("1")]) + bits.to_bytes(3, "little")
+    return table
+
+
+def free_blocks(image):
+    """The blocks that the disk's map marks free, but for those on the directory's track."""
+    table = image[place(18, 0) + 4 : place(18, 0) + 144]
+    bits = {track: int.from_bytes(table[4 * track - 3 : 4 * track], "little") for track in SECTORS}
+    return [(t, s) for t in SECTORS for s in range(SECTORS[t]) if t != 18 and bits[t] >> s & 1]
+
+
+def mark_used(image, blocks):
+    """Marks free blocks as used in the disk's map."""
+    for track, sector in blocks:
+        at = place(18, 0) + 4 * track
+        image[at] -= 1
+        image[at + 1 + sector // 8] &= ~(1 << sector % 8)
+
+
+def entry_place(image, name):
+    """The byte of the image at which the entry of a name begins."""
+    block = (18, 1)
+    while block[0]:
+        for at in range(place(*block), place(*block) + 256, 32):
+            if image[at + 5 : at + 21] == padded(name):
+                return at
+        block = tuple(image[place(*block) : place(*block) + 2])
+    raise KeyError(name)
+
+
+def side_sectors(record, blocks, sides):
+    """What the side sectors of a REL file hold: each its number, the record length, where all of them are, and where
+    up to 120 blocks of the data are."""
+    all_sides = b"".join(map(bytes, sides)).ljust(12, b"\x00")
+    groups = [blocks[i : i + SIDE_ROOM] for i in range(0, len(blocks), SIDE_ROOM)]
+    return [bytes([n, record]) + all_sides + b"".join(map(bytes, group)) for n, group in enumerate(groups)]
+
+
+def put_rel(image, name, record, data):
+    """Gives the entry of a name a REL file of records of a length, with its side sectors, on free blocks."""
+    parts, free = parts_of(data), free_blocks(image)
+    blocks, rest = free[: len(parts)], free[len(parts) :]
+    sides = rest[: -(-len(parts) // SIDE_ROOM)]
+    put_chain(image, blocks, parts)
+    put_chain(image, sides, side_sectors(record, blocks, sides))
+    mark_used(image, blocks + sides)
+    at = entry_place(image, name)
+    image[at + 3 : at + 5] = bytes(blocks[0])
+    image[at + 21 : at + 24] = bytes([*sides[0], record])
+    image[at + 30 : at + 32] = len(blocks + sides).to_bytes(2, "little")
