@@ -133,7 +133,8 @@ fn ask_found<'a>(matches: &ArgMatches<'a>) -> Option<Ask<'a>>
 
 /// Reads the words of a command, which come without the program's name.
 ///
-/// It fails with `Told` where they ask for help or are no command, and with `NoMemory`.
+/// It fails with `Told` where they ask for help or are no command, with `Usage` where the parse gives no
+/// command or not all its operands, and with `NoMemory`.
 pub(crate) fn read_words<'a>(alloc: Global, words: &'a [&'a str]) -> Result<Ask<'a>, Unread>
     ensures read { IfOk result (λ ask. (kind : Kind) (image : List ℕ) (slot : ℕ)
         → AsksCat (map (λ word. word.now) words.entry.now) kind image slot

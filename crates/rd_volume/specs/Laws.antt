@@ -31,7 +31,7 @@ cpm_joined image (n ∷ []) last is =
 cpm_joined image (n ∷ m ∷ sectors) last is =
     ap (λ bytes. cpm_unit image n ++ bytes) (cpm_joined image (m ∷ sectors) last is)
 
--- the pieces of a sound file of a CP/M image total its size
+-- a sound file of a CP/M image is as long as its pieces are together
 pub cpm_total : (image : List ℕ) (found : Found) → IsCpmFile image found → IsSoundFile found
     → found.size ≡ Some (length (contents_of Cpm8 image found))
 cpm_total image found is sound =
@@ -91,7 +91,7 @@ pub cbm_sound : (image blocks : List ℕ) (found : Found) → IsCbmFile image fo
 cbm_sound image blocks found is sound =
     is.sound (record { served = is.class.0 sound.class; no_fault = is.faults.none.0 sound.sound })
 
--- the pieces of a sound file of a 1541 image total its size
+-- a sound file of a 1541 image is as long as its pieces are together
 pub cbm_total : (image : List ℕ) (found : Found) → IsFound D64 image found → IsSoundFile found
     → found.size ≡ Some (length (contents_of D64 image found))
 cbm_total image found is sound =

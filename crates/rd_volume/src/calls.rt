@@ -31,8 +31,8 @@ fn survey_of<'a, V: Volume<'a>>(alloc: Global, disk: &V) -> Result<Items<Found>,
     disk.survey(alloc)
 }
 
-/// The files of an image, by ascending slot. Each fits the image, and the pieces of a sound one total
-/// its size. It fails only where memory is refused.
+/// The files of an image, by ascending slot (CP/M 2.2 Interface Guide; 1541 User's Guide). Each fits the
+/// image, and a sound one is as long as its pieces are together. It fails only where memory is refused.
 pub fn survey(alloc: Global, image: &Image<'_>) -> Result<Items<Found>, NoMemory>
     ensures files { IfOk result (AreFounds (kind_of image.now) (bytes_of image.now)) }
     ensures ascending { IfOk result (AllPairs (λ f g. f.slot < g.slot)) }
@@ -58,8 +58,8 @@ pub fn find(alloc: Global, image: &Image<'_>, slot: u16) -> Result<Option<Found>
     }
 }
 
-/// How the walk along the blocks of an image's directory ends: `Last(0)` for a CP/M disk, which has no
-/// links. It fails only where memory is refused.
+/// How the walk along the blocks of an image's directory, from 18/1 on, ends (1541 User's Guide):
+/// `Last(0)` for a CP/M disk, which has no links. It fails only where memory is refused.
 pub fn directory_end(alloc: Global, image: &Image<'_>) -> Result<End, NoMemory>
     ensures { IfOk result (IsDirectoryEnd (kind_of image.now) (bytes_of image.now)) }
 {
@@ -69,7 +69,8 @@ pub fn directory_end(alloc: Global, image: &Image<'_>) -> Result<End, NoMemory>
     }
 }
 
-/// What an image has, counted. It fails only where memory is refused.
+/// What an image has, counted (CP/M 2.2 Interface Guide; 1541 User's Guide). It fails only where memory
+/// is refused.
 pub fn report(alloc: Global, image: &Image<'_>) -> Result<Report, NoMemory>
     ensures { IfOk result (IsReport (kind_of image.now) (bytes_of image.now)) }
 {
@@ -80,7 +81,7 @@ pub fn report(alloc: Global, image: &Image<'_>) -> Result<Report, NoMemory>
 }
 
 /// The pieces of a sound file of an image, in order: for each unit a slice of the image. Joined they
-/// are the bytes of the file.
+/// are the bytes of the file (CP/M 2.2 Interface Guide; 1541 User's Guide).
 pub fn pieces<'a>(image: &Image<'a>, found: &'a Found) -> Pieces<'a>
     requires sound { IsSoundFile found.now }
     requires fits { Fits (kind_of image.now) found.now }
@@ -94,7 +95,7 @@ pub fn pieces<'a>(image: &Image<'a>, found: &'a Found) -> Pieces<'a>
 }
 
 /// The words of the faults whose bits are set, of a file of an image of a kind, in the order of the
-/// bits. It takes no memory.
+/// bits (this project's rules). A bit for which the kind has no word is left out. It takes no memory.
 pub fn fault_words(kind: Kind, faults: u8) -> FaultWords
     ensures { words_left result ≡ words_of kind faults }
 {

@@ -1,10 +1,11 @@
 use crate::kinds::{room, unit_count};
 use rd_geometry::{Image, Items, Text};
 
-/// A file of an image.
+/// A file of an image (CP/M 2.2 Interface Guide; 1541 User's Guide). How its name and type are printed
+/// is this project's own.
 #[derive(Debug, Drop)]
 pub struct Found {
-    /// Its slot in the directory.
+    /// Its slot in the directory: 0 to 63 on a CP/M disk, 0 to 5,463 on a 1541 disk.
     pub slot: u16,
     /// Its printed name.
     pub name: Text,
@@ -16,11 +17,14 @@ pub struct Found {
     pub served_class: bool,
     /// How many bytes it has, where it is sound.
     pub size: Option<u32>,
-    /// Its faults by bit, in the order of the words of the disk's kind.
+    /// Its faults by bit: on a CP/M disk 0 bad-count, 1 duplicate, 2 gap, 3 short, 4 hole, 5 off-disk,
+    /// 6 crossed; on a 1541 disk 0 not-closed, 1 off-disk, 2 loop, 3 crossed.
     pub faults: u8,
-    /// The units of the disk that hold its bytes, in order, where it is sound.
+    /// The units of the disk that hold its bytes, in order, where it is sound; else none. They are
+    /// logical sectors, 0 to 1,949, on a CP/M disk, and blocks, 0 to 682, on a 1541 disk.
     pub units: Items<u16>,
-    /// How many of its bytes the last unit holds, 0 where it has no units.
+    /// How many of its bytes the last unit holds: 128 on a CP/M disk, 0 to 254 on a 1541 disk; 0 where
+    /// it has no units.
     pub last_len: u16,
 }
 

@@ -1,8 +1,8 @@
 use rd_cbm::{End, MapReport};
 use rd_geometry::Text;
 
-/// What an image has, counted. For a CP/M disk `size_differs` and the counts of `map` are 0,
-/// `directory` is `Last(0)` and `label` is empty.
+/// What an image has, counted (1541 User's Guide, for the block map and the directory's end). For a CP/M
+/// disk `size_differs` and the counts of `map` are 0, `directory` is `Last(0)` and `label` is empty.
 #[derive(Debug, Drop)]
 pub struct Report {
     /// How many files there are.

@@ -43,7 +43,7 @@ pub trait Volume<'a>: Geometry<'a> {
     ghost fitting: { (disk : Self) (found : Found)
         → IsFound (volume_kind disk) (Self.image_bytes disk) found → Fits (volume_kind disk) found };
 
-    /// The pieces of a sound file total its size.
+    /// A sound file is as long as its pieces are together.
     ghost total: { (disk : Self) (found : Found)
         → IsFound (volume_kind disk) (Self.image_bytes disk) found → IsSoundFile found
         → found.size ≡ Some (length (contents_of (volume_kind disk) (Self.image_bytes disk) found)) };

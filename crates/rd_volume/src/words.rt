@@ -18,7 +18,8 @@ const CPM_WORDS: [&str; 7] = [
 /// The words of a 1541 file's faults, from bit 0 on.
 const CBM_WORDS: [&str; 4] = ["not-closed", "off-disk", "loop", "crossed"];
 
-/// The words of a file's faults, in the order of their bits: an iterator that takes no memory.
+/// The words of a file's faults, in the order of their bits: an iterator that takes no memory and leaves
+/// out a bit for which the kind has no word.
 #[derive(Clone, Copy, Debug)]
 pub struct FaultWords {
     kind: Kind,
