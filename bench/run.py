@@ -1,11 +1,12 @@
 #!/usr/bin/env python3
 """bench/run.py PROGRAM [KIND..]: measures `desk cat` and `desk list` beside cpmtools, cbmconvert and a C program that
-does the same work with the same checks (reference.c), all in one run. It wants valgrind and gcc too.
+does the same work with the same checks (reference.c), all in one run. It wants valgrind and gcc too; run as root, it
+installs Debian's packages where one is missing.
 
-It prints ratios of desk over the other program: instructions, which valgrind counts, and the least time of 500 runs.
-Below 1, desk needs less. The programs are timed in turn, round after round, so that what else the machine does meets
-all of them. Images and outputs are in memory, so that the times are those of the programs and not of a disk. Each run
-begins in an empty folder: cbmconvert looks for a free name where its file stands already.
+It prints ratios of desk over the other program: instructions, which valgrind counts, and the least time of 1,000
+runs. Below 1, desk needs less. The programs are timed in turn, round after round, so that what else the machine does
+meets all of them. Images and outputs are in memory, so that the times are those of the programs and not of a disk.
+Each run begins in an empty folder: cbmconvert looks for a free name where its file stands already.
 
 Before it measures a case, it sees that each program ends with status 0 and that what desk, the C program, cpmcp and
 cbmconvert write are the same bytes, and some. The large CP/M file ends at block 239, the last that cpmcp reads whole.
@@ -29,7 +30,7 @@ NEEDED = ["cpmcp", "cbmconvert", "valgrind", "gcc", "/usr/include/stdio.h"]
 PACKAGES = ["cpmtools", "cbmconvert", "valgrind", "gcc", "libc6-dev"]
 MEMORY = "/dev/shm"
 RUNS = 5
-ROUNDS = 100
+ROUNDS = 200
 
 
 def compiled(name, folder):

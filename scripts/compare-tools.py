@@ -8,7 +8,7 @@ CP/M: users and names are those that cpmls lists. The bytes of each file are tho
 name them (cpm_image.py), and those of cpmcp. 1541: names and types are those that cc1541 lists, in its order, and the
 bytes those of cbmconvert, which has to find no fault. In all of them desk has to tell no fault, and as many bytes as
 it writes. docs/DECISIONS.md explains the four differences that are allowed: byte S1, blocks on track 76, the short
-images of mkfs.cpm, and DEL files."""
+images of mkfs.cpm, and DEL files. Run as root, it installs Debian's packages where one is missing."""
 
 import os
 import random

@@ -1,8 +1,8 @@
 #!/usr/bin/env bash
 # Runs each test of refused memory, and the program itself, once for each growth of memory that it
-# asks for, with that growth refused, until a run asks for no more. Wants the crates' built tests and
-# program: `rt test` in crates/rd_policy, crates/rd_store, crates/rd_rows and crates/rd_main, and `rt run` in
-# crates/rd_main.
+# asks for, with that growth refused, until a run asks for no more. Wants gcc with the C library's headers, and
+# the crates' built tests and program: `rt test` in crates/rd_policy, crates/rd_store, crates/rd_rows and
+# crates/rd_main, and `rt run` in crates/rd_main.
 set -u
 cd "$(dirname "$0")/.." || exit 1
 work=$(mktemp -d) || exit 1

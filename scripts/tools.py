@@ -19,7 +19,7 @@ def missing(needed):
 
 
 def install(needed, packages):
-    """Installs Debian's packages where a program or file of theirs is missing, and ends the script where it still is."""
+    """Installs Debian's packages where a program or file of theirs is missing. Ends the script where one still is."""
     if not missing(needed):
         return
     if os.geteuid() == 0 and shutil.which("apt-get"):

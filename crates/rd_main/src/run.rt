@@ -105,9 +105,7 @@ pub fn run<R: Read, W: Write, E: Write, M: Machine>(
     errors: &mut E,
     machine: &mut M,
 ) -> u8
-    // The status is one of four.
     ensures status { result ≤ 3 }
-
     // At 0 a `cat` of standard input has written exactly the bytes of a sound file of its image.
     ensures done { result ≡ 0 → (kind : Kind) (slot : ℕ)
         → AsksCat (map (λ word. word.now) words.entry.now) kind (codes "-") slot
