@@ -22,10 +22,10 @@ def cpm(entries):
     return bytes(image)
 
 
-def whole_file(blocks):
+def whole_file(name, blocks):
     """The entries of one file that has these blocks, all full."""
     parts = [blocks[i : i + 16] for i in range(0, len(blocks), 16)]
-    return [(0, "BIG     DAT", n, 8 * len(part), part) for n, part in enumerate(parts)]
+    return [(0, name, n, 8 * len(part), part) for n, part in enumerate(parts)]
 
 
 def tracks():
@@ -50,14 +50,15 @@ def full_d64():
 
 
 def cases():
-    """For each case its name, its kind, its image, and the name and slot of the file to be read. No CP/M file has a
-    block above 239, since cpmcp reads none of these."""
+    """For each case its name, its kind, its image, and the name and slot of the file to be read. cpmcp reads no block
+    above 239, which ALL.DAT alone has."""
     scattered = [2 + (i * 97) % 238 for i in range(64)]
     many = [(0, f"F{n:02}     DAT", 0, 1, [2 + n]) for n in range(64)]
     return [
         ("one record", "cpm8", cpm([(0, "ONE     DAT", 0, 1, [2])]), "ONE.DAT", 0),
-        ("243,712 bytes", "cpm8", cpm(whole_file(list(range(2, 240)))), "BIG.DAT", 0),
+        ("246,784 bytes", "cpm8", cpm(whole_file("ALL     DAT", list(range(2, 243)))), "ALL.DAT", 0),
+        ("243,712 bytes", "cpm8", cpm(whole_file("BIG     DAT", list(range(2, 240)))), "BIG.DAT", 0),
         ("64 one-record files", "cpm8", cpm(many), "F63.DAT", 63),
-        ("a fragmented file", "cpm8", cpm(whole_file(scattered)[::-1]), "BIG.DAT", 0),
+        ("a fragmented file", "cpm8", cpm(whole_file("BIG     DAT", scattered)[::-1]), "BIG.DAT", 0),
         ("a full D64", "d64", full_d64(), "LONG", 0),
     ]

@@ -9,7 +9,8 @@ meets all of them. Images and outputs are in memory, so that the times are those
 Each run begins in an empty folder: cbmconvert looks for a free name where its file stands already.
 
 Before it measures a case, it sees that each program ends with status 0 and that what desk, the C program, cpmcp and
-cbmconvert write are the same bytes, and some. The large CP/M file ends at block 239, the last that cpmcp reads whole.
+cbmconvert write are the same bytes, and some. cpmcp reads no block above 239: the largest CP/M file is measured beside
+the C program alone, and one that ends at that block beside both.
 
 It fails where desk is not below cpmcp and cpmls in both ratios, or takes more than 2.5 times the instructions of the
 C program."""
@@ -98,6 +99,8 @@ def others(kind, command, path, name):
     if kind == "d64":
         return {"cbmconvert": (["cbmconvert", "-N", "-d", path], f"{name.lower()}.prg")} if command == "cat" else {}
     on = ["-f", "ibm-3740", path]
+    if command == "cat" and name == "ALL.DAT":
+        return {}
     if command == "cat":
         return {"cpmcp": (["cpmcp", *on, f"0:{name}", "copied"], "copied")}
     return {"cpmls": (["cpmls", *on], None), "fsck.cpm": (["fsck.cpm", "-n", *on], None)}
