@@ -1,7 +1,10 @@
 //! Bytes of images of any kind.
 
-ghost use Rattle.std.specs.Prelude.{◌≡◌, ◌<◌, ◌≤◌, ◌+◌, length};
+ghost use Rattle.std.specs.Prelude.{◌≡◌, ◌<◌, ◌≤◌, ◌+◌, length, vec_len, IfOk};
 ghost use Rattle.rd_rows.specs.Written.{padded, written};
+
+use rd_geometry::NoMemory;
+use std::alloc::Global;
 
 /// Writes bytes over those of an image from a place on. Where not all fit, none is written.
 pub fn put(image: &mut [u8], place: usize, bytes: &[u8])
@@ -22,4 +25,19 @@ pub(crate) fn padded<const N: usize>(bytes: &[u8], pad: u8) -> [u8; N]
     let mut array = [pad; N];
     put(&mut array, 0, &bytes[..bytes.len().min(N)]);
     array
+}
+
+/// As many bytes as an array has, which tell a part of an image from every other: its number, and then
+/// what is left of the number when it is divided by 251.
+pub(crate) fn numbered<const N: usize>(number: u16) -> [u8; N] {
+    let mut array = [(number % 251) as u8; N];
+    put(&mut array, 0, &[(number / 256) as u8, (number % 256) as u8]);
+    array
+}
+
+/// So many bytes, which are all 0.
+pub(crate) fn zeroed(alloc: Global, count: usize) -> Result<Vec<u8>, NoMemory>
+    ensures { IfOk result (λ bytes. vec_len bytes ≡ count) }
+{
+    Ok(vec![in alloc; 0; count]?)
 }

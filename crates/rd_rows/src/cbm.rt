@@ -5,7 +5,7 @@ ghost use Rattle.rd_geometry.specs.Blocks.{place_of_block};
 ghost use Rattle.rd_rows.specs.CbmEntries.{place_of_entry, with_entry};
 ghost use Rattle.rd_rows.specs.Written.{written};
 
-use crate::bytes::{padded, put};
+use crate::bytes::{numbered, padded, put, zeroed};
 use rd_geometry::NoMemory;
 use std::alloc::Global;
 
@@ -265,7 +265,47 @@ fn link_blocks(image: &mut [u8])
     }
 }
 
-/// A disk with one program `LONG`, which has all 681 blocks that files can have, in order.
+/// The blocks that files can have, in order: the block at a place of them.
+fn block_at(place: u16) -> u16
+    requires { place < 681 }
+{
+    if place < FREE_MAP { place } else { place + 2 }
+}
+
+/// Writes after the link of each block that files can have the bytes that tell it from the others.
+fn number_blocks(image: &mut [u8])
+    ensures { length image.new ≡ length image.old }
+{
+    for place in 0..681 {
+        let block = block_at(place);
+        put(image, 256 * block as usize + 2, &numbered::<254>(block));
+    }
+}
+
+/// Writes one after the other the bytes of the blocks that files can have.
+fn join_blocks(bytes: &mut [u8])
+    ensures { length bytes.new ≡ length bytes.old }
+{
+    for place in 0..681 {
+        put(
+            bytes,
+            254 * place as usize,
+            &numbered::<254>(block_at(place)),
+        );
+    }
+}
+
+/// The bytes of the program of a full disk.
+pub fn full_file(alloc: Global) -> Result<Vec<u8>, NoMemory>
+    ensures { IfOk result (λ bytes. vec_len bytes ≡ 172974) }
+{
+    let mut bytes = zeroed(alloc, 172_974)?;
+    join_blocks(&mut bytes);
+    Ok(bytes)
+}
+
+/// A disk with one program `LONG`, which has all 681 blocks that files can have, in order, and
+/// bytes that tell each block from the others.
 pub fn full(alloc: Global) -> Result<Vec<u8>, NoMemory>
     ensures { IfOk result (λ image. vec_len image ≡ 174848) }
 {
@@ -278,6 +318,7 @@ pub fn full(alloc: Global) -> Result<Vec<u8>, NoMemory>
     };
     put_cbm_entry(&mut image, DIRECTORY, 0, &file);
     link_blocks(&mut image);
+    number_blocks(&mut image);
     put_block(&mut image, 682, &[0, 0xff]);
     Ok(image)
 }

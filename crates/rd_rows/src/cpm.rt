@@ -1,10 +1,11 @@
 //! CP/M images, written without the code that reads them.
 
 ghost use Rattle.std.specs.Prelude.{◌≡◌, ◌<◌, ◌≤◌, ◌+◌, length, vec_len, IfOk};
+ghost use Rattle.rd_geometry.specs.Places.{place_of_cpm_unit};
 ghost use Rattle.rd_rows.specs.CpmEntries.{entry_bytes, place_of_slot};
 ghost use Rattle.rd_rows.specs.Written.{written};
 
-use crate::bytes::{padded, put};
+use crate::bytes::{numbered, padded, put, zeroed};
 use rd_geometry::NoMemory;
 use std::alloc::Global;
 
@@ -123,4 +124,105 @@ pub fn hello(alloc: Global) -> Result<Vec<u8>, NoMemory>
     put(&mut image, 9_088, &[0x1a; 128]);
     put(&mut image, 9_088, b"HELLO FROM CP/M\r\n");
     Ok(image)
+}
+
+/// The sixteen blocks from 2 to 17.
+const BLOCKS: [u8; 16] = [2, 3, 4, 5, 6, 7, 8, 9, 10, 11, 12, 13, 14, 15, 16, 17];
+
+/// The byte of an image at which a sector begins, counted from 0 after the two system tracks: six sectors
+/// on at each place of a track, going round at 26, and one more from place 13 on.
+fn place_of_sector(n: u16) -> usize
+    requires { n < 1950 }
+    ensures { result ≡ place_of_cpm_unit n }
+{
+    let place = n as usize % 26;
+    128 * (26 * (2 + n as usize / 26) + ((6 * place) % 26 + place / 13))
+}
+
+/// Writes into each record of the blocks 2 to 242 the bytes that tell it from the others.
+fn number_records(image: &mut [u8])
+    ensures { length image.new ≡ length image.old }
+{
+    for record in 0..1928 {
+        put(
+            image,
+            place_of_sector(16 + record),
+            &numbered::<128>(record),
+        );
+    }
+}
+
+/// The block numbers of an extent of a file that has all blocks in order.
+fn blocks_of(extent: u8) -> [u8; 16] {
+    let mut blocks = [0; 16];
+    for place in 0..16u8 {
+        let block = 2 + 16 * u16::from(extent) + u16::from(place);
+        if let Ok(block) = u8::try_from(block) {
+            if block <= 242 {
+                blocks[place as usize] = block;
+            }
+        }
+    }
+    blocks
+}
+
+/// Writes sixteen extents of the file `FILE`, from 15 down to 0, at the slots from 0 on.
+fn put_extents(image: &mut [u8])
+    ensures { length image.new ≡ length image.old }
+{
+    for slot in 0..16u8 {
+        let extent = 15 - slot;
+        let rc = if extent == 15 { 8 } else { 128 };
+        let entry = NewEntry {
+            ex: extent,
+            rc,
+            pointers: &blocks_of(extent),
+            ..FILE
+        };
+        put_entry(image, slot, &entry);
+    }
+}
+
+/// A disk with one file `FILE` of 1,928 records, which has all blocks from 2 to 242 in order; its
+/// sixteen extents are in the slots in descending order.
+pub fn scattered(alloc: Global) -> Result<Vec<u8>, NoMemory>
+    ensures { IfOk result (λ image. vec_len image ≡ 256256) }
+{
+    let mut disk = blank(alloc)?;
+    put_extents(&mut disk);
+    number_records(&mut disk);
+    Ok(disk)
+}
+
+/// A disk with one file `FILE` of 128 records, in the blocks 2 to 17 of its first extent; the second is
+/// empty.
+pub fn two_extents(alloc: Global) -> Result<Vec<u8>, NoMemory>
+    ensures { IfOk result (λ image. vec_len image ≡ 256256) }
+{
+    let full = NewEntry {
+        rc: 128,
+        pointers: &BLOCKS,
+        ..FILE
+    };
+    let mut disk = with_entries(alloc, &[full, NewEntry { ex: 1, ..FILE }])?;
+    number_records(&mut disk);
+    Ok(disk)
+}
+
+/// Writes one after the other the bytes of the records of the blocks from 2 on.
+fn join_records(bytes: &mut [u8])
+    ensures { length bytes.new ≡ length bytes.old }
+{
+    for record in 0..1928 {
+        put(bytes, 128 * record as usize, &numbered::<128>(record));
+    }
+}
+
+/// The bytes of the file of `scattered`, which begin with those of the file of `two_extents`.
+pub fn scattered_file(alloc: Global) -> Result<Vec<u8>, NoMemory>
+    ensures { IfOk result (λ bytes. vec_len bytes ≡ 246784) }
+{
+    let mut bytes = zeroed(alloc, 246_784)?;
+    join_records(&mut bytes);
+    Ok(bytes)
 }

@@ -2,11 +2,11 @@
 
 use super::{is_refused, run_on};
 use rd_rows::cbm::{
-    DIRECTORY, NewCbmEntry, PROGRAM, crossed, formatted, full, looped, mixed, one_program,
-    put_block, put_cbm_entry,
+    DIRECTORY, NewCbmEntry, PROGRAM, crossed, formatted, full, full_file, looped, mixed,
+    one_program, put_block, put_cbm_entry,
 };
-use rd_volume::CbmDisk;
-use std::alloc::{Alloc, AllocGlobal};
+use rd_volume::{CbmDisk, NoMemory};
+use std::alloc::{Alloc, AllocGlobal, Global};
 use std::process::Abort;
 use std::test::Fail;
 
@@ -101,8 +101,8 @@ fn writes_a_program_of_all_blocks(rt: HostRuntime) -> Result<(), Fail> {
         image.as_slice(),
         "0\t\tPRG\t172974\t\tLONG\nfiles\t1\tend\n",
     );
-    let zeros = vec![in rt.alloc(); 0; 172_974]?;
-    assert_writes(&rt, image.as_slice(), "0", zeros.as_slice());
+    let wanted = full_file(rt.alloc())?;
+    assert_writes(&rt, image.as_slice(), "0", wanted.as_slice());
     Ok(())
 }
 
@@ -174,22 +174,33 @@ fn lists_images_of_one_byte(rt: HostRuntime) -> Result<(), Fail> {
     assert_lists_alike(&rt, 0xff, 8, told.as_str(), "off")
 }
 
-#[test]
-fn lists_a_directory_of_all_blocks(rt: HostRuntime) -> Result<(), Fail> {
-    let mut image = vec![in rt.alloc(); 0; SIZE]?;
+/// Writes into each of the eight slots of a block a deleted file with a name of zeros.
+fn put_deleted(image: &mut [u8], block: u16) {
     let deleted = NewCbmEntry {
         type_byte: 0x80,
         first: (0, 0),
         name: &[0; 16],
         ..PROGRAM
     };
+    for slot in 0..8 {
+        put_cbm_entry(image, block, slot, &deleted);
+    }
+}
+
+/// An image whose blocks link to one another in a circle, in order, and hold deleted files.
+fn circle(alloc: Global) -> Result<Vec<u8>, NoMemory> {
+    let mut image = vec![in alloc; 0; SIZE]?;
     for block in 0..683 {
         let (track, sector) = CbmDisk::address((block + 1) % 683);
         put_block(&mut image, block, &[track, sector]);
-        for slot in 0..8 {
-            put_cbm_entry(&mut image, block, slot, &deleted);
-        }
+        put_deleted(&mut image, block);
     }
+    Ok(image)
+}
+
+#[test]
+fn lists_a_directory_of_all_blocks(rt: HostRuntime) -> Result<(), Fail> {
+    let image = circle(rt.alloc())?;
     let ran = run_on(rt.alloc(), &["list", "d64", "-"], image.as_slice());
     assert!(rt; ran.status == 0 && ran.errors.is_empty());
     let first = "0\t\tDEL\t\t\t%00%00%00%00%00%00%00%00%00%00%00%00%00%00%00%00\n";

@@ -1,8 +1,9 @@
 //! What `list` prints of CP/M images, and `cat` of files of many extents.
 
 use super::{is_refused, run_on};
-use rd_rows::bytes::put;
-use rd_rows::cpm::{FILE, NewEntry, blank, filled, hello, put_entry, with_entries};
+use rd_rows::cpm::{
+    FILE, NewEntry, blank, filled, hello, scattered, scattered_file, two_extents, with_entries,
+};
 use std::alloc::{Alloc, AllocGlobal};
 use std::process::Abort;
 use std::test::Fail;
@@ -12,6 +13,14 @@ fn assert_lists<R: Abort + AllocGlobal>(rt: &R, image: &[u8], text: &str) {
     let ran = run_on(rt.alloc(), &["list", "cpm8", "-"], image);
     assert!(rt; ran.status == 0 && ran.errors.is_empty());
     assert_eq!(rt; ran.output.as_slice(), text.as_bytes());
+}
+
+/// `cat` of a slot writes these bytes.
+fn assert_writes<R: Abort + AllocGlobal>(rt: &R, image: &[u8], slot: &str, bytes: &[u8]) {
+    let ran = run_on(rt.alloc(), &["cat", "cpm8", "-", slot], image);
+    assert!(rt; ran.status == 0 && ran.errors.is_empty());
+    assert_eq!(rt; ran.output.len(), bytes.len());
+    assert!(rt; ran.output.as_slice() == bytes);
 }
 
 /// `cat` of a slot is refused in one line.
@@ -75,6 +84,8 @@ fn lists_faults_by_their_words(rt: HostRuntime) -> Result<(), Fail> {
     assert_lists(&rt, image.as_slice(), lines);
     assert_refuses(&rt, image.as_slice(), "0", "desk: faulty hole\n");
     assert_refuses(&rt, image.as_slice(), "1", "desk: faulty off-disk\n");
+    assert_refuses(&rt, image.as_slice(), "2", "desk: faulty crossed\n");
+    assert_writes(&rt, image.as_slice(), "3", &[0xe5; 128]);
     assert_refuses(&rt, image.as_slice(), "9", "desk: no-file\n");
     Ok(())
 }
@@ -213,70 +224,37 @@ fn lists_images_of_one_byte(rt: HostRuntime) -> Result<(), Fail> {
     Ok(())
 }
 
-/// The block numbers of an extent of a file that has all blocks in order.
-fn blocks_of(extent: u8) -> [u8; 16] {
-    let mut blocks = [0; 16];
-    for place in 0..16u8 {
-        let block = 2 + 16 * u16::from(extent) + u16::from(place);
-        if let Ok(block) = u8::try_from(block) {
-            if block <= 242 {
-                blocks[place as usize] = block;
-            }
-        }
-    }
-    blocks
-}
-
 #[test]
 fn writes_extents_in_the_order_of_their_numbers(rt: HostRuntime) -> Result<(), Fail> {
-    let mut image = blank(rt.alloc())?;
-    for slot in 0..16u8 {
-        let extent = 15 - slot;
-        let rc = if extent == 15 { 8 } else { 128 };
-        put_entry(
-            &mut image,
-            slot,
-            &NewEntry {
-                ex: extent,
-                rc,
-                pointers: &blocks_of(extent),
-                ..FILE
-            },
-        );
-    }
-    put(&mut image, 9_088, b"first record of block 2");
-    put(&mut image, 254_336, b"last record of block 242");
+    let image = scattered(rt.alloc())?;
     assert_lists(
         &rt,
         image.as_slice(),
         "0\t0\t\t246784\t\tFILE\nfiles\t1\tend\n",
     );
-    let ran = run_on(rt.alloc(), &["cat", "cpm8", "-", "0"], image.as_slice());
-    assert!(rt; ran.status == 0 && ran.errors.is_empty());
-    assert_eq!(rt; ran.output.len(), 246_784);
-    assert!(rt;
-        ran.output
-            .starts_with(b"first record of block 2".as_slice())
-    );
-    assert_eq!(rt;
-        ran.output.get(246_656..246_680),
-        Some(b"last record of block 242".as_slice())
-    );
+    let wanted = scattered_file(rt.alloc())?;
+    assert_writes(&rt, image.as_slice(), "0", wanted.as_slice());
     Ok(())
 }
 
 #[test]
 fn a_full_extent_ends_where_it_ends(rt: HostRuntime) -> Result<(), Fail> {
-    let full = NewEntry {
-        rc: 128,
-        pointers: &blocks_of(0),
-        ..FILE
-    };
-    let image = with_entries(rt.alloc(), &[full, NewEntry { ex: 1, ..FILE }])?;
-    let ran = run_on(rt.alloc(), &["cat", "cpm8", "-", "0"], image.as_slice());
-    assert!(rt; ran.status == 0 && ran.output.len() == 16_384);
-    let none = with_entries(rt.alloc(), &[FILE])?;
-    let ran = run_on(rt.alloc(), &["cat", "cpm8", "-", "0"], none.as_slice());
-    assert!(rt; ran.status == 0 && ran.output.is_empty() && ran.errors.is_empty());
+    let image = two_extents(rt.alloc())?;
+    assert_lists(
+        &rt,
+        image.as_slice(),
+        "0\t0\t\t16384\t\tFILE\nfiles\t1\tend\n",
+    );
+    let mut wanted = scattered_file(rt.alloc())?;
+    wanted.truncate(16_384);
+    assert_writes(&rt, image.as_slice(), "0", wanted.as_slice());
+    Ok(())
+}
+
+#[test]
+fn a_file_without_records_has_no_bytes(rt: HostRuntime) -> Result<(), Fail> {
+    let image = with_entries(rt.alloc(), &[FILE])?;
+    assert_lists(&rt, image.as_slice(), "0\t0\t\t0\t\tFILE\nfiles\t1\tend\n");
+    assert_writes(&rt, image.as_slice(), "0", &[]);
     Ok(())
 }

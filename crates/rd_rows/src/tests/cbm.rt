@@ -49,8 +49,8 @@ fn a_full_disk_links_all_its_blocks(rt: HostRuntime) -> Result<(), Fail> {
         (5_120, b"\x02\x00"),
         (91_136, b"\x12\x02"),
         (91_904, b"\x12\x03"),
-        (174_336, b"\x23\x10"),
-        (174_592, b"\x00\xff\x00"),
+        (174_336, b"\x23\x10\x02\xa9"),
+        (174_592, b"\x00\xff\x02\xaa\xb4"),
     ];
     assert_has(&rt, full(rt.alloc())?.as_slice(), &links);
     Ok(())

@@ -96,57 +96,29 @@ fn a_record_count_above_128_is_bad(rt: HostRuntime) -> Result<(), Fail> {
     Ok(())
 }
 
-#[test]
-fn files_are_crossed_with_one_another(rt: HostRuntime) -> Result<(), Fail> {
-    for (entries, faults) in [
-        (
-            [
-                file(b"A", 1, b"\x04"),
-                file(b"B", 1, b"\x05"),
-                file(b"C", 1, b"\x06"),
-            ],
-            [0, 0, 0],
-        ),
-        (
-            [
-                file(b"A", 1, b"\x04"),
-                file(b"B", 1, b"\x05"),
-                file(b"C", 1, b"\x04"),
-            ],
-            [CROSSED, 0, CROSSED],
-        ),
-        (
-            [
-                file(b"A", 1, b"\x04"),
-                file(b"B", 1, b"\x05\x06"),
-                file(b"C", 1, b"\x06"),
-            ],
-            [0, CROSSED, CROSSED],
-        ),
-        (
-            [
-                file(b"A", 1, b"\xf3"),
-                file(b"B", 1, b"\x05"),
-                file(b"C", 1, b"\xf3"),
-            ],
-            [OFF_DISK + CROSSED, 0, OFF_DISK + CROSSED],
-        ),
-        (
-            [
-                file(b"H", 9, b"\x02\x00"),
-                file(b"O", 1, b"\xf3"),
-                file(b"X", 1, b"\x01"),
-            ],
-            [HOLE, OFF_DISK, CROSSED],
-        ),
-    ] {
-        let files = files_of(rt.alloc(), with_entries(rt.alloc(), &entries)?.as_slice())?;
-        assert_eq!(rt; files.len(), 3);
-        for (found, wanted) in files.iter().zip(faults) {
-            assert_eq!(rt; found.faults, wanted, "at slot {}", found.slot);
-        }
+/// Three files `A`, `B` and `C` of one record, with these block numbers, have these faults.
+fn assert_crossed<R: Abort + AllocGlobal>(
+    rt: &R,
+    pointers: [&[u8]; 3],
+    faults: [u8; 3],
+) -> Result<(), Fail> {
+    let [a, b, c] = pointers;
+    let entries = [file(b"A", 1, a), file(b"B", 1, b), file(b"C", 1, c)];
+    let files = files_of(rt.alloc(), with_entries(rt.alloc(), &entries)?.as_slice())?;
+    assert_eq!(rt; files.len(), 3);
+    for (found, wanted) in files.iter().zip(faults) {
+        assert_eq!(rt; found.faults, wanted, "at slot {}", found.slot);
     }
     Ok(())
+}
+
+#[test]
+fn files_are_crossed_with_one_another(rt: HostRuntime) -> Result<(), Fail> {
+    assert_crossed(&rt, [b"\x04", b"\x05", b"\x06"], [0, 0, 0])?;
+    assert_crossed(&rt, [b"\x04", b"\x05", b"\x04"], [CROSSED, 0, CROSSED])?;
+    assert_crossed(&rt, [b"\x04", b"\x05\x06", b"\x06"], [0, CROSSED, CROSSED])?;
+    let both = OFF_DISK + CROSSED;
+    assert_crossed(&rt, [b"\xf3", b"\x05", b"\xf3"], [both, 0, both])
 }
 
 #[test]

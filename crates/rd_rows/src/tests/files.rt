@@ -1,5 +1,5 @@
 use super::files_of;
-use crate::cpm::{FILE, NewEntry, blank, filled, hello, put_entry, with_entries};
+use crate::cpm::{FILE, NewEntry, blank, filled, hello, scattered, two_extents, with_entries};
 use std::test::Fail;
 
 #[test]
@@ -21,28 +21,22 @@ fn one_record_is_one_sector(rt: HostRuntime) -> Result<(), Fail> {
 }
 
 #[test]
-fn extents_in_any_slots_are_joined_by_number(rt: HostRuntime) -> Result<(), Fail> {
-    let mut image = blank(rt.alloc())?;
-    for slot in 0..16u8 {
-        let extent = 15 - slot;
-        let mut blocks = [0; 16];
-        for (place, block) in (2..243u16).skip(16 * extent as usize).take(16).enumerate() {
-            if let (Some(pointer), Ok(block)) = (blocks.get_mut(place), u8::try_from(block)) {
-                *pointer = block;
-            }
-        }
-        let rc = if extent == 15 { 8 } else { 128 };
-        put_entry(
-            &mut image,
-            slot,
-            &NewEntry {
-                ex: extent,
-                rc,
-                pointers: &blocks,
-                ..FILE
-            },
-        );
+fn records_are_written_where_the_manual_has_them(rt: HostRuntime) -> Result<(), Fail> {
+    let image = scattered(rt.alloc())?;
+    for (place, bytes) in [
+        (9_088, [0, 0, 0]),
+        (9_856, [0, 1, 1]),
+        (254_336, [7, 135, 170]),
+    ] {
+        let rest = image.get(place..).unwrap_or_default();
+        assert!(rt; rest.starts_with(&bytes), "at {place}");
     }
+    Ok(())
+}
+
+#[test]
+fn extents_in_any_slots_are_joined_by_number(rt: HostRuntime) -> Result<(), Fail> {
+    let image = scattered(rt.alloc())?;
     let files = files_of(rt.alloc(), image.as_slice())?;
     assert_eq!(rt; files.len(), 1);
     let file = files.first().ok_or("a file")?;
@@ -56,16 +50,7 @@ fn extents_in_any_slots_are_joined_by_number(rt: HostRuntime) -> Result<(), Fail
 
 #[test]
 fn a_full_extent_may_have_an_empty_one_after_it(rt: HostRuntime) -> Result<(), Fail> {
-    let blocks = [2, 3, 4, 5, 6, 7, 8, 9, 10, 11, 12, 13, 14, 15, 16, 17];
-    let full = NewEntry {
-        rc: 128,
-        pointers: &blocks,
-        ..FILE
-    };
-    let files = files_of(
-        rt.alloc(),
-        with_entries(rt.alloc(), &[full, NewEntry { ex: 1, ..FILE }])?.as_slice(),
-    )?;
+    let files = files_of(rt.alloc(), two_extents(rt.alloc())?.as_slice())?;
     assert_eq!(rt; files.len(), 1);
     let file = files.first().ok_or("a file")?;
     assert_eq!(rt;
