@@ -9,7 +9,8 @@ use crate::run::run;
 use fakes::{End, Narrow, OneFile, Tape};
 use rd_rows::cpm::{FILE, NewEntry, blank, hello, put_entry};
 use rd_volume::NoMemory;
-use std::alloc::Global;
+use std::alloc::{Alloc, AllocGlobal, Global};
+use std::process::Abort;
 
 /// What a run left behind.
 #[derive(Drop)]
@@ -150,6 +151,12 @@ fn refuses_words_that_are_no_command(rt: HostRuntime) {
     }
     let none = run_on(alloc, &[], image.as_slice());
     assert!(rt; is_usage_fault(&none));
+}
+
+#[test]
+fn refuses_too_few_words(rt: HostRuntime) {
+    let alloc = rt.alloc();
+    let image = hello(alloc).expect(&rt, "memory");
     for words in [
         ["cat", "cpm8"],
         ["list", "cpm8"],
@@ -256,18 +263,22 @@ fn run_narrow(alloc: Global, room: usize, end: End) -> Result<(u8, Narrow, Vec<u
     Ok((status, output, errors))
 }
 
+/// `cat` to an output that ends so writes as many bytes as it has room for, and tells of the device.
+fn assert_front_parts<R: Abort + AllocGlobal>(rt: &R, end: End) -> Result<(), NoMemory> {
+    let wanted = hello_bytes(rt.alloc())?;
+    for room in [0, 1, 100, 127, 128] {
+        let (status, output, errors) = run_narrow(rt.alloc(), room, end)?;
+        assert!(rt; status == 3 && errors.as_slice() == b"desk: device\n".as_slice());
+        assert!(rt; output.taken.len() == room);
+        assert!(rt; wanted.starts_with(output.taken.as_slice()));
+    }
+    Ok(())
+}
+
 #[test]
 fn writes_a_front_part_where_a_write_fails(rt: HostRuntime) {
-    let alloc = rt.alloc();
-    let wanted = hello_bytes(alloc).expect(&rt, "memory");
-    for end in [End::Fails, End::TakesNone] {
-        for room in [0, 1, 100, 127, 128] {
-            let (status, output, errors) = run_narrow(alloc, room, end).expect(&rt, "memory");
-            assert!(rt; status == 3 && errors.as_slice() == b"desk: device\n".as_slice());
-            assert!(rt; output.taken.len() == room);
-            assert!(rt; wanted.starts_with(output.taken.as_slice()));
-        }
-    }
+    assert_front_parts(&rt, End::Fails).expect(&rt, "memory");
+    assert_front_parts(&rt, End::TakesNone).expect(&rt, "memory");
 }
 
 #[test]

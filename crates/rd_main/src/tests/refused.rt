@@ -3,6 +3,7 @@
 
 use super::no_file;
 use crate::run::run;
+use rd_rows::bytes::put;
 use rd_rows::cbm::one_program;
 use rd_rows::cpm::hello;
 use rd_volume::{Kind, NoMemory};
@@ -17,7 +18,8 @@ fn one_file(alloc: Global, kind: Kind) -> Result<Vec<u8>, NoMemory> {
     }
 }
 
-/// Runs words on the image of one file, again where memory was refused, and gives the status.
+/// Runs words on the image of one file, again where memory was refused, and gives the status. A run that
+/// was refused has to leave the output, which is all zeros, as it was.
 fn run_again(alloc: Global, kind: Kind, words: &[&str], output: &mut [u8]) -> Result<u8, Fail> {
     let image = match one_file(alloc, kind) {
         Ok(image) => image,
@@ -39,6 +41,9 @@ fn run_again(alloc: Global, kind: Kind, words: &[&str], output: &mut [u8]) -> Re
     }
     if !errors.starts_with(b"desk: no-memory\n".as_slice()) {
         return Err(Fail::from("another refusal than of memory"));
+    }
+    if !output.iter().all(|byte| *byte == 0) {
+        return Err(Fail::from("bytes before the refusal"));
     }
     let mut told = errors.as_mut_slice();
     let mut room = &mut output[..];
@@ -64,7 +69,9 @@ fn cat_when_memory_is_refused(rt: HostRuntime) -> Result<(), Fail> {
         )?,
         0
     );
-    assert!(rt; output.starts_with(b"HELLO FROM CP/M\r\n\x1a".as_slice()));
+    let mut wanted = [0x1a; 128];
+    put(&mut wanted, 0, b"HELLO FROM CP/M\r\n");
+    assert!(rt; output.as_slice() == wanted.as_slice());
     Ok(())
 }
 
@@ -91,7 +98,9 @@ fn cat_of_a_program_when_memory_is_refused(rt: HostRuntime) -> Result<(), Fail> 
         )?,
         0
     );
-    assert!(rt; output.ends_with(b"ABCDE".as_slice()));
+    let mut wanted = [b'A'; 258];
+    put(&mut wanted, 254, b"BCDE");
+    assert!(rt; output.as_slice() == wanted.as_slice());
     Ok(())
 }
 
