@@ -411,6 +411,10 @@ fn limits_of_numbers(rt: HostRuntime) {
     for (number, fits) in [(0, false), (1, true), (999_999, true), (1_000_000, false)] {
         assert_eq!(rt; is_scope(number), fits, "{number}");
     }
+}
+
+#[test]
+fn limits_of_ranks(rt: HostRuntime) {
     for (rank, fits) in [(0, false), (1, true), (9_999, true), (10_000, false)] {
         assert_eq!(rt; is_rank(rank), fits, "{rank}");
     }
@@ -423,6 +427,11 @@ fn limits_of_rules(rt: HostRuntime) -> Result<(), Fail> {
     assert!(rt; takedown().fits());
     assert!(rt; !Rule { scope: 0, ..open() }.fits());
     assert!(rt; !Rule { rank: 0, ..open() }.fits());
+    Ok(())
+}
+
+#[test]
+fn a_rule_is_for_someone_and_for_days(rt: HostRuntime) -> Result<(), Fail> {
     assert!(rt;
         !Rule {
             audiences: NOBODY,
@@ -452,6 +461,11 @@ fn limits_of_rules(rt: HostRuntime) -> Result<(), Fail> {
         }
         .fits()
     );
+    Ok(())
+}
+
+#[test]
+fn a_takedown_does_not_let_read(rt: HostRuntime) -> Result<(), Fail> {
     assert!(rt;
         !Rule {
             effect: Effect::Read,

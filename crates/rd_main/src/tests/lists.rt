@@ -90,35 +90,53 @@ fn lists_faults_by_their_words(rt: HostRuntime) -> Result<(), Fail> {
     Ok(())
 }
 
+/// `list` prints these lines of a disk with these entries, and `cat` of slot 0 is refused in one line.
+fn assert_faulty<R: Abort + AllocGlobal>(
+    rt: &R,
+    entries: &[NewEntry<'_>],
+    lines: &str,
+    refusal: &str,
+) -> Result<(), Fail> {
+    let image = with_entries(rt.alloc(), entries)?;
+    assert_lists(rt, image.as_slice(), lines);
+    assert_refuses(rt, image.as_slice(), "0", refusal);
+    Ok(())
+}
+
+/// An entry of one record, in block 2.
+const ONE: NewEntry<'static> = NewEntry {
+    rc: 1,
+    pointers: b"\x02",
+    ..FILE
+};
+
+/// An entry of one record, in block 3.
+const OTHER: NewEntry<'static> = NewEntry {
+    pointers: b"\x03",
+    ..ONE
+};
+
 #[test]
-fn tells_each_fault_of_one_file(rt: HostRuntime) -> Result<(), Fail> {
-    let one = NewEntry {
-        rc: 1,
-        pointers: b"\x02",
-        ..FILE
-    };
-    let other = NewEntry {
-        rc: 1,
-        pointers: b"\x03",
-        ..FILE
-    };
-    let twice = with_entries(rt.alloc(), &[one, other])?;
-    assert_refuses(&rt, twice.as_slice(), "0", "desk: faulty duplicate\n");
-    let gap = with_entries(rt.alloc(), &[NewEntry { ex: 2, ..one }])?;
-    assert_refuses(&rt, gap.as_slice(), "0", "desk: faulty gap\n");
-    let full = NewEntry {
+fn tells_of_extents_that_do_not_fit(rt: HostRuntime) -> Result<(), Fail> {
+    let lines = "0\t0\t\t\tduplicate\tFILE\nfiles\t1\tend\n";
+    assert_faulty(&rt, &[ONE, OTHER], lines, "desk: faulty duplicate\n")?;
+    let late = NewEntry { ex: 2, ..ONE };
+    let lines = "0\t0\t\t\tgap\tFILE\nfiles\t1\tend\n";
+    assert_faulty(&rt, &[late], lines, "desk: faulty gap\n")
+}
+
+#[test]
+fn tells_of_record_counts_that_do_not_fit(rt: HostRuntime) -> Result<(), Fail> {
+    let many = NewEntry {
         rc: 129,
         pointers: b"\x02\x03\x04\x05\x06\x07\x08\x09\x0a\x0b\x0c\x0d\x0e\x0f\x10\x11",
         ..FILE
     };
-    let many = with_entries(rt.alloc(), &[full])?;
-    assert_refuses(&rt, many.as_slice(), "0", "desk: faulty bad-count\n");
-    let short = with_entries(
-        rt.alloc(),
-        &[NewEntry { rc: 5, ..one }, NewEntry { ex: 1, ..other }],
-    )?;
-    assert_refuses(&rt, short.as_slice(), "0", "desk: faulty short\n");
-    Ok(())
+    let lines = "0\t0\t\t\tbad-count\tFILE\nfiles\t1\tend\n";
+    assert_faulty(&rt, &[many], lines, "desk: faulty bad-count\n")?;
+    let unfilled = [NewEntry { rc: 5, ..ONE }, NewEntry { ex: 1, ..OTHER }];
+    let lines = "0\t0\t\t\tshort\tFILE\nfiles\t1\tend\n";
+    assert_faulty(&rt, &unfilled, lines, "desk: faulty short\n")
 }
 
 /// The first three lines that `list` prints, which tell of three files `A`, `B` and `C`.
@@ -169,12 +187,7 @@ fn tells_who_shares_a_block(rt: HostRuntime) -> Result<(), Fail> {
 
 #[test]
 fn an_entry_of_user_16_is_no_file(rt: HostRuntime) -> Result<(), Fail> {
-    let one = NewEntry {
-        rc: 1,
-        pointers: b"\x02",
-        ..FILE
-    };
-    let image = with_entries(rt.alloc(), &[one, NewEntry { user: 16, ..one }])?;
+    let image = with_entries(rt.alloc(), &[ONE, NewEntry { user: 16, ..ONE }])?;
     assert_lists(
         &rt,
         image.as_slice(),

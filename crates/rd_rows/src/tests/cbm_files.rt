@@ -20,6 +20,24 @@ fn files_of(alloc: Global, bytes: &[u8]) -> Result<Vec<CbmFile>, Fail> {
     Ok(files(alloc, &cbm_disk(bytes)?)?)
 }
 
+/// Writes these entries into the directory's first block, of which 8 are taken.
+fn put_entries(image: &mut [u8], entries: &[NewCbmEntry<'_>]) {
+    for slot in 0..8 {
+        if let Some(entry) = entries.get(slot as usize) {
+            put_cbm_entry(image, 358, slot, entry);
+        }
+    }
+}
+
+/// Writes these first bytes of blocks.
+fn put_links(image: &mut [u8], links: &[(u16, [u8; 2])]) {
+    for (block, link) in links {
+        if *block < 683 {
+            put_block(image, *block, link);
+        }
+    }
+}
+
 /// The faults of the files of a disk with these entries, of which 8 are taken, and these first bytes of
 /// blocks; and how many blocks each claims.
 fn told(
@@ -28,16 +46,8 @@ fn told(
     links: &[(u16, [u8; 2])],
 ) -> Result<Vec<(u8, u16)>, Fail> {
     let mut image = formatted(alloc)?;
-    for slot in 0..8 {
-        if let Some(entry) = entries.get(slot as usize) {
-            put_cbm_entry(&mut image, 358, slot, entry);
-        }
-    }
-    for (block, link) in links {
-        if *block < 683 {
-            put_block(&mut image, *block, link);
-        }
-    }
+    put_entries(&mut image, entries);
+    put_links(&mut image, links);
     let mut found = Vec::new(alloc);
     for file in files_of(alloc, image.as_slice())? {
         found.push((file.faults, file.claimed))?;
@@ -194,13 +204,23 @@ fn deleted_and_unclosed_files_claim_nothing(rt: HostRuntime) -> Result<(), Fail>
 }
 
 #[test]
-fn files_of_one_byte_are_told(rt: HostRuntime) -> Result<(), Fail> {
+fn an_image_of_zeros_has_no_files(rt: HostRuntime) -> Result<(), Fail> {
     assert!(rt; files_of(rt.alloc(), repeated(rt.alloc(), 0)?.as_slice())?.is_empty());
+    Ok(())
+}
+
+#[test]
+fn files_of_an_image_of_ones_are_told(rt: HostRuntime) -> Result<(), Fail> {
     let ones = files_of(rt.alloc(), repeated(rt.alloc(), 1)?.as_slice())?;
     assert_eq!(rt; ones.len(), 16);
     for file in ones.iter() {
         assert_eq!(rt; (file.class, file.faults, file.claimed), (Class::Seq, 1, 0));
     }
+    Ok(())
+}
+
+#[test]
+fn files_of_an_image_of_ff_are_told(rt: HostRuntime) -> Result<(), Fail> {
     let others = files_of(rt.alloc(), repeated(rt.alloc(), 0xff)?.as_slice())?;
     assert_eq!(rt; others.len(), 8);
     for file in others.iter() {
