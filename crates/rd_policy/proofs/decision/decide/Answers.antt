@@ -1,4 +1,4 @@
-use Rattle.std.proofs.Common.{◌≡◌, inl, subst, w32, to_z, of_z, rules}
+use Rattle.std.proofs.Common.{◌≡◌, inl, subst, w32, to_z, of_z}
 use Rattle.std.proofs.lemmas.Bool.{iff_false}
 use Rattle.std.proofs.lemmas.Int.{to_z-of_z}
 use Rattle.rd_policy.specs.Matches.{Matches}
