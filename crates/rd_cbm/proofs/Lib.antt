@@ -1,5 +1,6 @@
 pub mod Marks
 pub mod WalkLaws
+pub mod OneChain
 pub mod Steps
 pub mod Existence
 pub mod Inside

@@ -13,8 +13,9 @@ use Rattle.rd_cbm.specs.Listing.{AreFiles, Describes, IsFileAt}
 use Rattle.rd_cbm.specs.declared.class.Class.{Class}
 use Rattle.rd_cbm.specs.declared.class.Class.TheVariants.{Del, Seq, Prg, Usr, Rel, Other}
 use Rattle.rd_cbm.specs.declared.listing.CbmFile.{CbmFile}
+use Rattle.rd_cbm.proofs.OneChain.{one_chain}
 use Rattle.rd_volume.specs.CbmFounds.{IsCbmFile, TellsCbm, TellsCbmFiles, bytes_of_chain, is_served, length_of_blocks}
-use Rattle.rd_volume.specs.Directories.{in_blocks, of_blocks, one_chain}
+use Rattle.rd_volume.specs.Directories.{in_blocks, of_blocks}
 use Rattle.rd_volume.specs.Printed.{cbm_type_of, printed}
 use Rattle.rd_volume.specs.Volumes.{AreFounds, IsFound, IsFoundAt}
 use Rattle.rd_volume.specs.declared.found.Found.{Found}

@@ -9,7 +9,8 @@ use Rattle.rd_cbm.specs.Entries.{Way, class_of, entry_at, size_field_of, type_of
 use Rattle.rd_cbm.specs.Files.{AreDirectoryBlocks, Claims}
 use Rattle.rd_cbm.specs.Listing.{AreFiles, Describes}
 use Rattle.rd_cbm.specs.declared.listing.CbmFile.{CbmFile}
-use Rattle.rd_volume.specs.Directories.{in_blocks, of_blocks, one_chain}
+use Rattle.rd_cbm.proofs.OneChain.{one_chain}
+use Rattle.rd_volume.specs.Directories.{in_blocks, of_blocks}
 use Rattle.rd_volume.specs.Reports.{DiffersInSize, HasOtherSize, IsFaultySlot, IsSoundSlot}
 use Rattle.rd_volume.specs.Tallies.{differs_in_size, is_claimant, is_sound}
 use Rattle.rd_volume.specs.Volumes.{IsSlotOfFile}
