@@ -6,3 +6,4 @@ pub mod BitLemmas
 pub mod SectorLemmas
 pub mod FaultLemmas
 pub mod ListingLemmas
+pub mod OneSectors

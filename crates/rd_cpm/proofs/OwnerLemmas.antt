@@ -1,9 +1,8 @@
 -- Each entry of a file has one owner, the slot of its file.
-use Rattle.std.proofs.Common.{◌≡◌, ◌∙◌, ◌<◌, ◌≤◌, ℕ, List, slice_index, arith, refl, sym, subst}
+use Rattle.std.proofs.Common.{◌≡◌, ◌∙◌, ◌<◌, ◌≤◌, ℕ, arith, refl, sym, subst}
 use Rattle.rd_cpm.specs.Entries.{IsOfFile}
 use Rattle.rd_cpm.specs.Files.{Directory, IsEntryOf, IsFileSlot}
-use Rattle.rd_cpm.specs.Owners.{IsOwner, AreOwners}
-use Rattle.rd_cpm.proofs.Tests.{not_above}
+use Rattle.rd_cpm.specs.Owners.{IsOwner}
 
 -- the slot of a file has an entry of it
 pub own_entry : (d : Directory) (k : ℕ) → IsFileSlot d k → IsEntryOf d k k

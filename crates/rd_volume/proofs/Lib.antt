@@ -7,3 +7,7 @@ mod PieceLemmas
 mod CountLemmas
 mod CpmReport
 mod CbmReport
+mod OneFaults
+pub mod OneFound
+pub mod OneSurvey
+pub mod OneContents

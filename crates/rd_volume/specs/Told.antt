@@ -5,6 +5,7 @@ use Rattle.rd_geometry.specs.declared.kind.Kind.TheVariants.{Cpm8, D64}
 use Rattle.rd_volume.specs.Directories.{in_blocks, of_blocks}
 use Rattle.rd_volume.specs.Founds.{IsSoundFile}
 use Rattle.rd_volume.specs.Laws.{cbm_joined, cbm_sound, cpm_joined}
+use Rattle.rd_volume.specs.Reports.{IsSoundSlot}
 use Rattle.rd_volume.specs.Volumes.{AreBytesOf, HasNoFault, IsFound, IsOfServedClass, IsSlotOfFile, contents_of}
 use Rattle.rd_volume.specs.declared.found.Found.{Found}
 
@@ -29,6 +30,21 @@ told_faults Cpm8 image found told = told.faults.sound
 told_faults D64 image found told = (
   λ zero. in_blocks image told.blocks told.are_blocks _ (told.holds.faults.none.0 zero),
   λ none. told.holds.faults.none.1 (of_blocks image told.blocks told.are_blocks _ none),
+)
+
+-- it is sound exactly where the file of its slot is
+pub told_sound : (kind : Kind) (image : List ℕ) (found : Found) → IsFound kind image found
+    → IsSoundFile found ↔ IsSoundSlot kind image found.slot
+told_sound kind image found told = (
+  λ sound. record {
+    file = told_slot kind image found told;
+    class = (told_served kind image found told).0 sound.class;
+    sound = (told_faults kind image found told).0 sound.sound;
+  },
+  λ sound. record {
+    class = (told_served kind image found told).1 sound.class;
+    sound = (told_faults kind image found told).1 sound.sound;
+  },
 )
 
 -- its pieces, joined, are the bytes of the file of its slot, where it is sound

@@ -7,6 +7,7 @@ mod cpm;
 mod disk;
 mod found;
 mod kinds;
+mod laws;
 mod printed;
 mod reports;
 mod slices;
@@ -15,6 +16,9 @@ mod words;
 
 pub use calls::{directory_end, fault_words, find, pieces, report, survey};
 pub use found::Found;
+pub use laws::{
+    each_file_told_is_at_its_slot, each_image_has_one_survey, each_sound_file_has_one_content,
+};
 pub use rd_cbm::{End, MapReport};
 pub use rd_geometry::{CbmDisk, CpmDisk, Geometry, Image, Items, Kind, NoMemory, Text, WrongSize};
 pub use reports::Report;
