@@ -35,8 +35,9 @@ pub fn is_day(day: i32) -> bool
     (FIRST_DAY..=LAST_DAY).contains(&day)
 }
 
-/// Whether a clock may be this many minutes ahead of UTC, or behind it where they are negative.
-fn is_offset(minutes: i32) -> bool
+/// Whether clocks may be this many minutes ahead of UTC, or behind it where they are negative: less than a
+/// day, −1,439 to 1,439. `day_of` takes no other offset.
+pub fn is_offset(minutes: i32) -> bool
     ensures { IsTrue result ↔ IsOffset minutes }
 {
     (-MOST_MINUTES..=MOST_MINUTES).contains(&minutes)

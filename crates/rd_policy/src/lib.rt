@@ -12,7 +12,7 @@ mod verdict;
 
 pub use audience::{Audience, Audiences};
 pub use date::{DateFault, date_read, date_text, one_date};
-pub use day::{OutOfRange, day_of, is_day};
+pub use day::{OutOfRange, day_of, is_day, is_offset};
 pub use decision::{decide, in_order, one_decides};
 pub use limits::{is_rank, is_scope};
 pub use rule::{Band, Effect, Rule};

@@ -4,7 +4,7 @@ ghost use Rattle.rd_policy.specs.Days.{IsDay};
 
 use crate::{
     Audience, Audiences, Band, DateFault, Effect, Label, OutOfRange, Rule, Select, Verdict,
-    date_read, date_text, day_of, decide, in_order, is_day, is_rank, is_scope,
+    date_read, date_text, day_of, decide, in_order, is_day, is_offset, is_rank, is_scope,
 };
 use rd_geometry::{Items, NoMemory, Text};
 use rd_volume::Found;
@@ -182,6 +182,19 @@ fn days_with_a_date(rt: HostRuntime) {
         (2_932_897, false),
     ] {
         assert_eq!(rt; is_day(day), has_date, "{day}");
+    }
+}
+
+#[test]
+fn offsets_of_clocks(rt: HostRuntime) {
+    for (minutes, is_taken) in [
+        (-1_440, false),
+        (-1_439, true),
+        (0, true),
+        (1_439, true),
+        (1_440, false),
+    ] {
+        assert_eq!(rt; is_offset(minutes), is_taken, "{minutes}");
     }
 }
 
