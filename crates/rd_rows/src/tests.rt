@@ -1,14 +1,13 @@
 mod block_map;
-mod blocks;
-mod cbm;
+mod built;
 mod cbm_directory;
 mod cbm_files;
 mod chains;
-mod disk;
+mod cpm_files;
 mod entries;
-mod faults;
-mod files;
+mod geometry;
 mod refused;
+mod sample;
 mod volumes;
 
 ghost use Rattle.std.specs.Prelude.{◌≡◌, ◌<◌, length, vec_len, IfOk};

@@ -1,95 +1,214 @@
-use super::{cbm_disk, circle, repeated};
-use crate::cbm::{PROGRAM, formatted, mixed, put_block, put_cbm_entry};
-use rd_cbm::{End, directory};
+//! What `rd_cbm::directory` tells of a 1541 disk.
+
+use super::cbm_disk;
+use super::sample::{Base, FORMATTED, MIXED, Sample, image_of, units_of};
+use crate::bytes::padded;
+use crate::cbm::PROGRAM;
+use rd_cbm::{CbmEntry, End, directory};
+use std::process::Abort;
 use std::test::Fail;
 
-#[test]
-fn used_entries_are_told_by_slot(rt: HostRuntime) -> Result<(), Fail> {
-    let bytes = mixed(rt.alloc())?;
-    let disk = cbm_disk(bytes.as_slice())?;
-    let found = directory(rt.alloc(), &disk)?;
-    assert_eq!(rt; found.blocks.as_slice(), [358].as_slice());
-    assert_eq!(rt; found.end, End::Last(255));
-    assert_eq!(rt; found.entries.as_slice().len(), 3);
-    let data = found.entries.as_slice().first().ok_or("an entry")?;
-    assert_eq!(rt;
-        (data.slot, data.ty_byte, data.start, data.side),
-        (0, 0x84, (17, 0), (17, 1))
-    );
-    assert_eq!(rt; (data.record_len, data.size_field), (10, 2));
-    assert_eq!(rt;
-        data.name,
-        *b"DATA\xa0\xa0\xa0\xa0\xa0\xa0\xa0\xa0\xa0\xa0\xa0\xa0"
-    );
-    let lost = found.entries.as_slice().last().ok_or("an entry")?;
-    assert_eq!(rt; (lost.slot, lost.ty_byte, lost.start), (2, 2, (17, 2)));
-    Ok(())
+/// What has to be told of an entry.
+#[derive(Clone, Copy)]
+struct Told<'a> {
+    slot: u16,
+    ty_byte: u8,
+    start: (u8, u8),
+    /// The name, which is padded with A0 hex.
+    name: &'a [u8],
+    side: (u8, u8),
+    record_len: u8,
+    size_field: u16,
 }
 
-#[test]
-fn slots_go_on_in_the_next_block(rt: HostRuntime) -> Result<(), Fail> {
-    let mut bytes = formatted(rt.alloc())?;
-    put_block(&mut bytes, 358, &[18, 4]);
-    put_block(&mut bytes, 361, &[0, 255]);
-    put_cbm_entry(&mut bytes, 358, 7, &PROGRAM);
-    put_cbm_entry(&mut bytes, 361, 0, &PROGRAM);
-    put_block(&mut bytes, 361, &[0, 255]);
-    let disk = cbm_disk(bytes.as_slice())?;
-    let found = directory(rt.alloc(), &disk)?;
-    assert_eq!(rt; found.blocks.as_slice(), [358, 361].as_slice());
-    let slots = found.entries.as_slice().iter().map(|entry| entry.slot);
-    for (slot, expected) in slots.zip([7, 8]) {
-        assert_eq!(rt; slot, expected);
-    }
-    assert_eq!(rt; found.entries.as_slice().len(), 2);
-    Ok(())
+/// What is told of the entry of the program `FILE`.
+const FILE: Told<'static> = Told {
+    slot: 0,
+    ty_byte: 0x82,
+    start: (17, 0),
+    name: b"FILE",
+    side: (0, 0),
+    record_len: 0,
+    size_field: 0,
+};
+
+const DATA: Told<'static> = Told {
+    ty_byte: 0x84,
+    name: b"DATA",
+    side: (17, 1),
+    record_len: 10,
+    size_field: 2,
+    ..FILE
+};
+
+const LOST: Told<'static> = Told {
+    slot: 2,
+    ty_byte: 2,
+    start: (17, 2),
+    name: b"LOST",
+    ..FILE
+};
+
+#[derive(Clone, Copy)]
+struct Case {
+    label: &'static str,
+    image: Sample<'static>,
+    /// The runs of its blocks.
+    blocks: &'static [(u16, u16)],
+    end: End,
+    /// How many entries there are.
+    count: usize,
+    /// Places in the list of entries, and what stands there.
+    entries: &'static [(usize, Told<'static>)],
 }
 
-#[test]
-fn the_directory_is_the_chain_of_18_1(rt: HostRuntime) -> Result<(), Fail> {
-    let mut bytes = mixed(rt.alloc())?;
-    put_block(&mut bytes, 357, &[17, 5]);
-    let disk = cbm_disk(bytes.as_slice())?;
-    assert_eq!(rt; directory(rt.alloc(), &disk)?.entries.as_slice().len(), 3);
-    let mut looped = formatted(rt.alloc())?;
-    put_block(&mut looped, 358, &[18, 1]);
-    let disk = cbm_disk(looped.as_slice())?;
-    let found = directory(rt.alloc(), &disk)?;
-    assert!(rt; found.entries.as_slice().is_empty());
-    assert_eq!(rt; found.blocks.as_slice(), [358].as_slice());
-    assert_eq!(rt; found.end, End::Loop);
-    Ok(())
-}
+const USED: Case = Case {
+    label: "used entries are told by slot",
+    image: MIXED,
+    blocks: &[(358, 1)],
+    end: End::Last(255),
+    count: 3,
+    entries: &[(0, DATA), (2, LOST)],
+};
 
-#[test]
-fn directories_of_one_byte_are_told(rt: HostRuntime) -> Result<(), Fail> {
-    let zeros = repeated(rt.alloc(), 0)?;
-    let found = directory(rt.alloc(), &cbm_disk(zeros.as_slice())?)?;
+const CASES: &[Case] = &[
+    USED,
+    Case {
+        label: "slots go on in the next block",
+        image: Sample {
+            entries: &[(358, 7, PROGRAM), (361, 0, PROGRAM)],
+            blocks: &[(358, &[18, 4]), (361, &[0, 255])],
+            ..FORMATTED
+        },
+        blocks: &[(358, 1), (361, 1)],
+        end: End::Last(255),
+        count: 2,
+        entries: &[(0, Told { slot: 7, ..FILE }), (1, Told { slot: 8, ..FILE })],
+    },
+    Case {
+        label: "the link of 18/0 is not followed",
+        image: Sample {
+            blocks: &[(357, &[17, 5])],
+            ..MIXED
+        },
+        ..USED
+    },
+    Case {
+        label: "a directory that loops",
+        image: Sample {
+            blocks: &[(358, &[18, 1])],
+            ..FORMATTED
+        },
+        blocks: &[(358, 1)],
+        end: End::Loop,
+        count: 0,
+        entries: &[],
+    },
+    Case {
+        label: "an image of 00",
+        image: Sample {
+            base: Base::Repeated(0),
+            ..FORMATTED
+        },
+        blocks: &[(358, 1)],
+        end: End::Last(0),
+        count: 0,
+        entries: &[],
+    },
+    Case {
+        label: "an image of 01",
+        image: Sample {
+            base: Base::Repeated(1),
+            ..FORMATTED
+        },
+        blocks: &[(358, 1), (1, 1)],
+        end: End::Loop,
+        count: 16,
+        entries: &[],
+    },
+    Case {
+        label: "an image of FF",
+        image: Sample {
+            base: Base::Repeated(0xff),
+            ..FORMATTED
+        },
+        blocks: &[(358, 1)],
+        end: End::Off,
+        count: 8,
+        entries: &[],
+    },
+    Case {
+        label: "a directory of all blocks",
+        image: Sample {
+            base: Base::Circle([0x80, 0, 0]),
+            ..FORMATTED
+        },
+        blocks: &[(358, 325), (0, 358)],
+        end: End::Loop,
+        count: 5_464,
+        entries: &[(
+            5_463,
+            Told {
+                slot: 5_463,
+                ty_byte: 0x80,
+                start: (0, 0),
+                name: &[0; 16],
+                ..FILE
+            },
+        )],
+    },
+];
+
+/// An entry is told so.
+fn assert_told<R: Abort>(rt: &R, label: &str, entry: &CbmEntry, told: &Told<'_>) {
     assert_eq!(rt;
-        (found.entries.as_slice().len(), found.end),
-        (0, End::Last(0))
+        (entry.slot, entry.ty_byte, entry.start, entry.side),
+        (told.slot, told.ty_byte, told.start, told.side),
+        "{label}"
     );
-    let ones = repeated(rt.alloc(), 1)?;
-    let found = directory(rt.alloc(), &cbm_disk(ones.as_slice())?)?;
     assert_eq!(rt;
-        (found.entries.as_slice().len(), found.end),
-        (16, End::Loop)
+        (entry.name, entry.record_len, entry.size_field),
+        (
+            padded::<16>(told.name, 0xa0),
+            told.record_len,
+            told.size_field
+        ),
+        "{label}: slot {}",
+        told.slot
     );
-    assert_eq!(rt; found.blocks.as_slice(), [358, 1].as_slice());
-    let full = repeated(rt.alloc(), 0xff)?;
-    let found = directory(rt.alloc(), &cbm_disk(full.as_slice())?)?;
-    assert_eq!(rt; (found.entries.as_slice().len(), found.end), (8, End::Off));
-    Ok(())
 }
 
-#[test]
-fn a_directory_may_have_all_blocks(rt: HostRuntime) -> Result<(), Fail> {
-    let bytes = circle(rt.alloc(), &[0x80, 0, 0])?;
+/// A directory is told so.
+fn assert_directory<R: Abort + AllocGlobal>(rt: &R, case: &Case) -> Result<(), Fail> {
+    let bytes = image_of(rt.alloc(), &case.image)?;
     let found = directory(rt.alloc(), &cbm_disk(bytes.as_slice())?)?;
-    assert_eq!(rt; found.blocks.as_slice().len(), 683);
-    assert_eq!(rt; found.end, End::Loop);
-    assert_eq!(rt; found.entries.as_slice().len(), 5_464);
-    let last = found.entries.as_slice().last().ok_or("an entry")?;
-    assert_eq!(rt; last.slot, 5_463);
+    let blocks = units_of(rt.alloc(), case.blocks)?;
+    assert_eq!(rt;
+        (
+            found.blocks.as_slice(),
+            found.end,
+            found.entries.as_slice().len()
+        ),
+        (blocks.as_slice(), case.end, case.count),
+        "{}",
+        case.label
+    );
+    for (place, told) in case.entries {
+        let entry = found.entries.as_slice().get(*place).ok_or(case.label)?;
+        assert_told(rt, case.label, entry, told);
+    }
     Ok(())
+}
+
+/// All these directories are told so.
+fn assert_all<R: Abort + AllocGlobal>(rt: &R, cases: &[Case]) -> Result<(), Fail> {
+    for case in cases {
+        assert_directory(rt, case)?;
+    }
+    Ok(())
+}
+
+#[test]
+fn directories_are_told(rt: HostRuntime) -> Result<(), Fail> {
+    assert_all(&rt, CASES)
 }

@@ -1,11 +1,55 @@
-use super::{cbm_disk, circle, repeated};
-use crate::cbm::{
-    NewCbmEntry, PROGRAM, crossed, formatted, full, looped, mixed, one_program, put_block,
-    put_cbm_entry,
+//! What `rd_cbm::files` tells of the files of a 1541 disk.
+
+use super::cbm_disk;
+use super::sample::{
+    Base, CROSSED, FORMATTED, FULL, LOOPED, MIXED, ONE_PROGRAM, Sample, image_of, units_of,
 };
+use crate::bytes::padded;
+use crate::cbm::{NewCbmEntry, PROGRAM};
 use rd_cbm::{CbmFile, Class, files};
-use std::alloc::Global;
+use std::process::Abort;
 use std::test::Fail;
+
+/// What has to be told of files in slots that follow one another.
+#[derive(Clone, Copy)]
+struct Told<'a> {
+    /// How many files are told so, and the slot of the first.
+    count: usize,
+    slot: u16,
+    class: Class,
+    locked: bool,
+    closed: bool,
+    /// The name, which is padded with A0 hex.
+    name: &'a [u8],
+    faults: u8,
+    /// The runs of its blocks.
+    blocks: &'a [(u16, u16)],
+    last: u8,
+    size_field: u16,
+    claimed: u16,
+}
+
+/// What is told of the program `FILE` at slot 0, where it has no blocks.
+const FILE: Told<'static> = Told {
+    count: 1,
+    slot: 0,
+    class: Class::Prg,
+    locked: false,
+    closed: true,
+    name: b"FILE",
+    faults: 0,
+    blocks: &[],
+    last: 0,
+    size_field: 0,
+    claimed: 0,
+};
+
+/// What is told of it, where it is crossed with another of one block.
+const SHARED: Told<'static> = Told {
+    faults: 8,
+    claimed: 1,
+    ..FILE
+};
 
 /// A closed relative file with its data from 17/0 on and its side sectors from 17/1 on.
 const RELATIVE: NewCbmEntry<'static> = NewCbmEntry {
@@ -15,236 +59,453 @@ const RELATIVE: NewCbmEntry<'static> = NewCbmEntry {
     ..PROGRAM
 };
 
-/// The files of an image, where memory is ample.
-fn files_of(alloc: Global, bytes: &[u8]) -> Result<Vec<CbmFile>, Fail> {
-    Ok(files(alloc, &cbm_disk(bytes)?)?)
+/// What is told of it, where it is sound.
+const RELATIVE_TOLD: Told<'static> = Told {
+    class: Class::Rel,
+    claimed: 2,
+    ..FILE
+};
+
+#[derive(Clone, Copy)]
+struct Case {
+    label: &'static str,
+    image: Sample<'static>,
+    files: &'static [Told<'static>],
 }
 
-/// Writes these entries into the directory's first block, of which 8 are taken.
-fn put_entries(image: &mut [u8], entries: &[NewCbmEntry<'_>]) {
-    for slot in 0..8 {
-        if let Some(entry) = entries.get(slot as usize) {
-            put_cbm_entry(image, 358, slot, entry);
-        }
-    }
-}
+const FILES: &[Case] = &[
+    Case {
+        label: "a sound file is its chain",
+        image: ONE_PROGRAM,
+        files: &[Told {
+            name: b"HELLO",
+            blocks: &[(336, 1), (346, 1)],
+            last: 5,
+            size_field: 2,
+            claimed: 2,
+            ..FILE
+        }],
+    },
+    Case {
+        label: "a file may have 681 blocks",
+        image: FULL,
+        files: &[Told {
+            name: b"LONG",
+            blocks: &[(0, 357), (359, 324)],
+            last: 255,
+            size_field: 681,
+            claimed: 681,
+            ..FILE
+        }],
+    },
+    Case {
+        label: "files that share a block are crossed",
+        image: CROSSED,
+        files: &[
+            Told {
+                name: b"A",
+                size_field: 2,
+                claimed: 2,
+                ..SHARED
+            },
+            Told {
+                slot: 1,
+                name: b"B",
+                size_field: 2,
+                claimed: 2,
+                ..SHARED
+            },
+            Told {
+                slot: 2,
+                name: b"C",
+                blocks: &[(338, 1)],
+                last: 3,
+                size_field: 1,
+                claimed: 1,
+                ..FILE
+            },
+        ],
+    },
+    Case {
+        label: "files of other classes are listed alone",
+        image: MIXED,
+        files: &[
+            Told {
+                name: b"DATA",
+                size_field: 2,
+                ..RELATIVE_TOLD
+            },
+            Told {
+                slot: 1,
+                class: Class::Del,
+                name: b"--------",
+                ..FILE
+            },
+            Told {
+                slot: 2,
+                closed: false,
+                name: b"LOST",
+                faults: 1,
+                ..FILE
+            },
+        ],
+    },
+    Case {
+        label: "a chain that loops",
+        image: LOOPED,
+        files: &[Told {
+            name: b"LOOP",
+            faults: 4,
+            size_field: 3,
+            claimed: 3,
+            ..FILE
+        }],
+    },
+    Case {
+        label: "a chain from 0/0",
+        image: Sample {
+            entries: &[(
+                358,
+                0,
+                NewCbmEntry {
+                    first: (0, 0),
+                    ..PROGRAM
+                },
+            )],
+            ..FORMATTED
+        },
+        files: &[Told { faults: 2, ..FILE }],
+    },
+    Case {
+        label: "a chain that leaves the disk",
+        image: Sample {
+            entries: &[(358, 0, PROGRAM)],
+            blocks: &[(336, &[17, 21])],
+            ..FORMATTED
+        },
+        files: &[Told {
+            faults: 2,
+            claimed: 1,
+            ..FILE
+        }],
+    },
+];
 
-/// Writes these first bytes of blocks.
-fn put_links(image: &mut [u8], links: &[(u16, [u8; 2])]) {
-    for (block, link) in links {
-        if *block < 683 {
-            put_block(image, *block, link);
-        }
-    }
-}
+const CLAIMS: &[Case] = &[
+    Case {
+        label: "side sectors cross a program",
+        image: Sample {
+            entries: &[
+                (358, 0, RELATIVE),
+                (
+                    358,
+                    1,
+                    NewCbmEntry {
+                        first: (17, 1),
+                        ..PROGRAM
+                    },
+                ),
+            ],
+            ..FORMATTED
+        },
+        files: &[
+            Told {
+                faults: 8,
+                ..RELATIVE_TOLD
+            },
+            Told { slot: 1, ..SHARED },
+        ],
+    },
+    Case {
+        label: "side sectors cross the data of their file",
+        image: Sample {
+            entries: &[(358, 0, RELATIVE)],
+            blocks: &[(336, &[17, 1])],
+            ..FORMATTED
+        },
+        files: &[Told {
+            faults: 8,
+            ..RELATIVE_TOLD
+        }],
+    },
+    Case {
+        label: "side sectors from 0/0",
+        image: Sample {
+            entries: &[(
+                358,
+                0,
+                NewCbmEntry {
+                    side: (0, 0),
+                    ..RELATIVE
+                },
+            )],
+            ..FORMATTED
+        },
+        files: &[Told {
+            faults: 2,
+            claimed: 1,
+            ..RELATIVE_TOLD
+        }],
+    },
+    Case {
+        label: "side sectors that loop",
+        image: Sample {
+            entries: &[(358, 0, RELATIVE)],
+            blocks: &[(337, &[17, 1])],
+            ..FORMATTED
+        },
+        files: &[Told {
+            faults: 4,
+            ..RELATIVE_TOLD
+        }],
+    },
+    Case {
+        label: "a chain through 18/0",
+        image: Sample {
+            entries: &[(358, 0, PROGRAM)],
+            blocks: &[(336, &[18, 0]), (357, &[0, 255])],
+            ..FORMATTED
+        },
+        files: &[Told {
+            claimed: 2,
+            ..SHARED
+        }],
+    },
+    Case {
+        label: "a chain from 18/1",
+        image: Sample {
+            entries: &[(
+                358,
+                0,
+                NewCbmEntry {
+                    first: (18, 1),
+                    ..PROGRAM
+                },
+            )],
+            ..FORMATTED
+        },
+        files: &[SHARED],
+    },
+    Case {
+        label: "two files from one block",
+        image: Sample {
+            entries: &[(358, 0, PROGRAM), (358, 1, PROGRAM)],
+            ..FORMATTED
+        },
+        files: &[SHARED, Told { slot: 1, ..SHARED }],
+    },
+    Case {
+        label: "deleted and unclosed files claim nothing",
+        image: Sample {
+            entries: &[
+                (
+                    358,
+                    0,
+                    NewCbmEntry {
+                        type_byte: 0x80,
+                        ..PROGRAM
+                    },
+                ),
+                (
+                    358,
+                    1,
+                    NewCbmEntry {
+                        type_byte: 0x02,
+                        ..PROGRAM
+                    },
+                ),
+                (
+                    358,
+                    2,
+                    NewCbmEntry {
+                        type_byte: 0x85,
+                        ..PROGRAM
+                    },
+                ),
+                (358, 3, PROGRAM),
+            ],
+            ..FORMATTED
+        },
+        files: &[
+            Told {
+                class: Class::Del,
+                ..FILE
+            },
+            Told {
+                slot: 1,
+                closed: false,
+                faults: 1,
+                ..FILE
+            },
+            Told {
+                slot: 2,
+                class: Class::Other,
+                ..FILE
+            },
+            Told {
+                slot: 3,
+                blocks: &[(336, 1)],
+                claimed: 1,
+                ..FILE
+            },
+        ],
+    },
+];
 
-/// The faults of the files of a disk with these entries, of which 8 are taken, and these first bytes of
-/// blocks; and how many blocks each claims.
-fn told(
-    alloc: Global,
-    entries: &[NewCbmEntry<'_>],
-    links: &[(u16, [u8; 2])],
-) -> Result<Vec<(u8, u16)>, Fail> {
-    let mut image = formatted(alloc)?;
-    put_entries(&mut image, entries);
-    put_links(&mut image, links);
-    let mut found = Vec::new(alloc);
-    for file in files_of(alloc, image.as_slice())? {
-        found.push((file.faults, file.claimed))?;
-    }
-    Ok(found)
-}
+const HOSTILE: &[Case] = &[
+    Case {
+        label: "an image of 00",
+        image: Sample {
+            base: Base::Repeated(0),
+            ..FORMATTED
+        },
+        files: &[],
+    },
+    Case {
+        label: "an image of 01",
+        image: Sample {
+            base: Base::Repeated(1),
+            ..FORMATTED
+        },
+        files: &[Told {
+            count: 16,
+            class: Class::Seq,
+            closed: false,
+            name: &[1; 16],
+            faults: 1,
+            size_field: 257,
+            ..FILE
+        }],
+    },
+    Case {
+        label: "an image of FF",
+        image: Sample {
+            base: Base::Repeated(0xff),
+            ..FORMATTED
+        },
+        files: &[Told {
+            count: 8,
+            class: Class::Other,
+            locked: true,
+            name: &[0xff; 16],
+            size_field: 65_535,
+            ..FILE
+        }],
+    },
+    Case {
+        label: "every slot has a deleted file",
+        image: Sample {
+            base: Base::Circle([0x80, 0, 0]),
+            ..FORMATTED
+        },
+        files: &[Told {
+            count: 5_464,
+            class: Class::Del,
+            name: &[0; 16],
+            ..FILE
+        }],
+    },
+    Case {
+        label: "every slot has a program of all blocks",
+        image: Sample {
+            base: Base::Circle([0x82, 1, 0]),
+            ..FORMATTED
+        },
+        files: &[Told {
+            count: 5_464,
+            name: &[0; 16],
+            faults: 12,
+            claimed: 683,
+            ..FILE
+        }],
+    },
+];
 
-#[test]
-fn a_sound_file_is_its_chain(rt: HostRuntime) -> Result<(), Fail> {
-    let bytes = one_program(rt.alloc())?;
-    let all = files_of(rt.alloc(), bytes.as_slice())?;
-    assert_eq!(rt; all.len(), 1);
-    let file = all.first().ok_or("a file")?;
+/// The file at a slot is told so.
+fn assert_told<R: Abort + AllocGlobal>(
+    rt: &R,
+    label: &str,
+    slot: u16,
+    file: &CbmFile,
+    told: &Told<'_>,
+) -> Result<(), Fail> {
+    let blocks = units_of(rt.alloc(), told.blocks)?;
     assert_eq!(rt;
-        (file.slot, file.class, file.locked, file.closed),
-        (0, Class::Prg, false, true)
+        (file.slot, file.class, file.locked, file.closed, file.name),
+        (
+            slot,
+            told.class,
+            told.locked,
+            told.closed,
+            padded::<16>(told.name, 0xa0)
+        ),
+        "{label}"
     );
     assert_eq!(rt;
-        file.name,
-        *b"HELLO\xa0\xa0\xa0\xa0\xa0\xa0\xa0\xa0\xa0\xa0\xa0"
-    );
-    assert_eq!(rt;
-        (file.faults, file.last, file.size_field, file.claimed),
-        (0, 5, 2, 2)
-    );
-    assert_eq!(rt; file.blocks.as_slice(), [336, 346].as_slice());
-    Ok(())
-}
-
-#[test]
-fn a_file_may_have_681_blocks(rt: HostRuntime) -> Result<(), Fail> {
-    let bytes = full(rt.alloc())?;
-    let all = files_of(rt.alloc(), bytes.as_slice())?;
-    let file = all.first().ok_or("a file")?;
-    assert_eq!(rt;
-        (file.faults, file.last, file.size_field, file.claimed),
-        (0, 255, 681, 681)
-    );
-    assert_eq!(rt; file.blocks.as_slice().len(), 681);
-    assert_eq!(rt; file.blocks.as_slice().last(), Some(&682));
-    Ok(())
-}
-
-#[test]
-fn files_that_share_a_block_are_crossed(rt: HostRuntime) -> Result<(), Fail> {
-    let bytes = crossed(rt.alloc())?;
-    let all = files_of(rt.alloc(), bytes.as_slice())?;
-    assert_eq!(rt; all.len(), 3);
-    for (file, expected) in all.iter().zip([(0, 8, 2), (1, 8, 2), (2, 0, 1)]) {
-        assert_eq!(rt; (file.slot, file.faults, file.claimed), expected);
-    }
-    let sound = all.last().ok_or("a file")?;
-    assert_eq!(rt; sound.blocks.as_slice(), [338].as_slice());
-    assert_eq!(rt; sound.last, 3);
-    Ok(())
-}
-
-#[test]
-fn files_of_other_classes_are_listed_alone(rt: HostRuntime) -> Result<(), Fail> {
-    let bytes = mixed(rt.alloc())?;
-    let all = files_of(rt.alloc(), bytes.as_slice())?;
-    let expected = [
-        (0, Class::Rel, true, 0, 2),
-        (1, Class::Del, true, 0, 0),
-        (2, Class::Prg, false, 1, 0),
-    ];
-    assert_eq!(rt; all.len(), 3);
-    for (file, expected) in all.iter().zip(expected) {
-        let told = (
-            file.slot,
-            file.class,
-            file.closed,
+        (
             file.faults,
+            file.last,
+            file.size_field,
             file.claimed,
-        );
-        assert_eq!(rt; told, expected);
-        assert!(rt; file.blocks.as_slice().is_empty());
-        assert_eq!(rt; file.last, 0);
+            file.blocks.as_slice()
+        ),
+        (
+            told.faults,
+            told.last,
+            told.size_field,
+            told.claimed,
+            blocks.as_slice()
+        ),
+        "{label}: slot {slot}"
+    );
+    Ok(())
+}
+
+/// The first of these files are told so; the others are left.
+fn assert_alike<'a, R: Abort + AllocGlobal>(
+    rt: &R,
+    label: &str,
+    files: &'a [CbmFile],
+    told: &Told<'_>,
+) -> Result<&'a [CbmFile], Fail> {
+    let front = files.get(..told.count).ok_or(label)?;
+    for (slot, file) in (told.slot..).zip(front) {
+        assert_told(rt, label, slot, file, told)?;
+    }
+    Ok(files.get(told.count..).ok_or(label)?)
+}
+
+/// The files of a disk are told so.
+fn assert_files<R: Abort + AllocGlobal>(rt: &R, case: &Case) -> Result<(), Fail> {
+    let bytes = image_of(rt.alloc(), &case.image)?;
+    let found = files(rt.alloc(), &cbm_disk(bytes.as_slice())?)?;
+    let mut rest = found.as_slice();
+    for told in case.files {
+        rest = assert_alike(rt, case.label, rest, told)?;
+    }
+    assert!(rt; rest.is_empty(), "{}: more files", case.label);
+    Ok(())
+}
+
+/// The files of all these disks are told so.
+fn assert_all<R: Abort + AllocGlobal>(rt: &R, cases: &[Case]) -> Result<(), Fail> {
+    for case in cases {
+        assert_files(rt, case)?;
     }
     Ok(())
 }
 
 #[test]
-fn a_chain_that_does_not_end_is_a_fault(rt: HostRuntime) -> Result<(), Fail> {
-    let bytes = looped(rt.alloc())?;
-    let all = files_of(rt.alloc(), bytes.as_slice())?;
-    let file = all.first().ok_or("a file")?;
-    assert_eq!(rt; (file.faults, file.claimed, file.last), (4, 3, 0));
-    assert!(rt; file.blocks.as_slice().is_empty());
-    let nowhere = NewCbmEntry {
-        first: (0, 0),
-        ..PROGRAM
-    };
-    assert_eq!(rt;
-        told(rt.alloc(), &[nowhere], &[])?.as_slice(),
-        [(2, 0)].as_slice()
-    );
-    let off = told(rt.alloc(), &[PROGRAM], &[(336, [17, 21])])?;
-    assert_eq!(rt; off.as_slice(), [(2, 1)].as_slice());
-    Ok(())
+fn files_of_1541_disks_are_told(rt: HostRuntime) -> Result<(), Fail> {
+    assert_all(&rt, FILES)
 }
 
 #[test]
-fn side_sectors_are_claimed_too(rt: HostRuntime) -> Result<(), Fail> {
-    let program = NewCbmEntry {
-        first: (17, 1),
-        ..PROGRAM
-    };
-    let with_another = told(rt.alloc(), &[RELATIVE, program], &[])?;
-    assert_eq!(rt; with_another.as_slice(), [(8, 2), (8, 1)].as_slice());
-    let with_itself = told(rt.alloc(), &[RELATIVE], &[(336, [17, 1])])?;
-    assert_eq!(rt; with_itself.as_slice(), [(8, 2)].as_slice());
-    let without = NewCbmEntry {
-        side: (0, 0),
-        ..RELATIVE
-    };
-    assert_eq!(rt;
-        told(rt.alloc(), &[without], &[])?.as_slice(),
-        [(2, 1)].as_slice()
-    );
-    let round = told(rt.alloc(), &[RELATIVE], &[(337, [17, 1])])?;
-    assert_eq!(rt; round.as_slice(), [(4, 2)].as_slice());
-    Ok(())
+fn files_claim_their_blocks(rt: HostRuntime) -> Result<(), Fail> {
+    assert_all(&rt, CLAIMS)
 }
 
 #[test]
-fn the_disk_s_own_blocks_cross_who_claims_them(rt: HostRuntime) -> Result<(), Fail> {
-    let through_map = told(rt.alloc(), &[PROGRAM], &[(336, [18, 0]), (357, [0, 255])])?;
-    assert_eq!(rt; through_map.as_slice(), [(8, 2)].as_slice());
-    let in_directory = NewCbmEntry {
-        first: (18, 1),
-        ..PROGRAM
-    };
-    let through_directory = told(rt.alloc(), &[in_directory], &[])?;
-    assert_eq!(rt; through_directory.as_slice(), [(8, 1)].as_slice());
-    let same_start = told(rt.alloc(), &[PROGRAM, PROGRAM], &[])?;
-    assert_eq!(rt; same_start.as_slice(), [(8, 1), (8, 1)].as_slice());
-    Ok(())
-}
-
-#[test]
-fn deleted_and_unclosed_files_claim_nothing(rt: HostRuntime) -> Result<(), Fail> {
-    let of_type = |type_byte| NewCbmEntry {
-        type_byte,
-        ..PROGRAM
-    };
-    let entries = [of_type(0x80), of_type(0x02), of_type(0x85), PROGRAM];
-    let found = told(rt.alloc(), &entries, &[])?;
-    assert_eq!(rt;
-        found.as_slice(),
-        [(0, 0), (1, 0), (0, 0), (0, 1)].as_slice()
-    );
-    Ok(())
-}
-
-#[test]
-fn an_image_of_zeros_has_no_files(rt: HostRuntime) -> Result<(), Fail> {
-    assert!(rt; files_of(rt.alloc(), repeated(rt.alloc(), 0)?.as_slice())?.is_empty());
-    Ok(())
-}
-
-#[test]
-fn files_of_an_image_of_ones_are_told(rt: HostRuntime) -> Result<(), Fail> {
-    let ones = files_of(rt.alloc(), repeated(rt.alloc(), 1)?.as_slice())?;
-    assert_eq!(rt; ones.len(), 16);
-    for file in ones.iter() {
-        assert_eq!(rt; (file.class, file.faults, file.claimed), (Class::Seq, 1, 0));
-    }
-    Ok(())
-}
-
-#[test]
-fn files_of_an_image_of_ff_are_told(rt: HostRuntime) -> Result<(), Fail> {
-    let others = files_of(rt.alloc(), repeated(rt.alloc(), 0xff)?.as_slice())?;
-    assert_eq!(rt; others.len(), 8);
-    for file in others.iter() {
-        assert_eq!(rt;
-            (file.class, file.locked, file.faults),
-            (Class::Other, true, 0)
-        );
-    }
-    Ok(())
-}
-
-#[test]
-fn every_slot_may_have_a_file(rt: HostRuntime) -> Result<(), Fail> {
-    let deleted = files_of(rt.alloc(), circle(rt.alloc(), &[0x80, 0, 0])?.as_slice())?;
-    assert_eq!(rt; deleted.len(), 5_464);
-    assert_eq!(rt;
-        deleted.last().map(|file| (file.slot, file.class)),
-        Some((5_463, Class::Del))
-    );
-    let programs = files_of(rt.alloc(), circle(rt.alloc(), &[0x82, 1, 0])?.as_slice())?;
-    assert_eq!(rt; programs.len(), 5_464);
-    for file in programs.iter() {
-        assert_eq!(rt; (file.faults, file.claimed), (12, 683));
-        assert!(rt; file.blocks.as_slice().is_empty());
-    }
-    Ok(())
+fn files_of_hostile_images_are_told(rt: HostRuntime) -> Result<(), Fail> {
+    assert_all(&rt, HOSTILE)
 }

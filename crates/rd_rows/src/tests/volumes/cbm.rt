@@ -1,144 +1,216 @@
-use super::{
-    PROGRAM_TOLD, Told, assert_bytes, assert_files, contents, contents_of_disk, survey_of,
-};
-use crate::bytes::put;
-use crate::cbm::{
-    NewCbmEntry, PROGRAM, crossed, formatted, full, full_file, looped, mixed, one_program,
-    put_block, put_cbm_entry,
-};
-use rd_volume::{CbmDisk, End, Image, Kind, directory_end, find};
-use std::test::Fail;
+//! What a survey tells of 1541 disks.
 
-/// The bytes of the program `HELLO`: 254 times `A`, then `BCDE`.
-fn hello_file() -> [u8; 258] {
-    let mut bytes = [b'A'; 258];
-    put(&mut bytes, 254, b"BCDE");
-    bytes
-}
+use super::{Case, Contents, PROGRAM_TOLD, Told};
+use crate::cbm::{NewCbmEntry, PROGRAM};
+use crate::tests::sample::{Base, CROSSED, FORMATTED, FULL, LOOPED, MIXED, ONE_PROGRAM, Sample};
 
-#[test]
-fn a_1541_file_is_told_and_served(rt: HostRuntime) -> Result<(), Fail> {
-    let image = one_program(rt.alloc())?;
-    let all = survey_of(rt.alloc(), Kind::D64, image.as_slice())?;
-    assert_eq!(rt; all.as_slice().len(), 1);
-    let file = all.as_slice().first().ok_or("a file")?;
-    assert_eq!(rt; (file.slot, file.user, file.served_class), (0, None, true));
-    assert_eq!(rt; (file.name.as_str(), file.ty.as_str()), ("HELLO", "PRG"));
-    assert_eq!(rt; (file.size, file.faults, file.last_len), (Some(258), 0, 4));
-    assert_eq!(rt; file.units.as_slice(), [336, 346].as_slice());
-    assert_bytes(&rt, Kind::D64, image.as_slice(), 0, &hello_file())
-}
+pub(super) const FILES: &[Case] = &[
+    Case {
+        label: "a 1541 file is told and served",
+        image: ONE_PROGRAM,
+        files: &[Told {
+            name: b"HELLO",
+            size: Some(258),
+            units: &[(336, 1), (346, 1)],
+            last_len: 4,
+            contents: Contents::Joined(&[&[b'A'; 254], b"BCDE"]),
+            ..PROGRAM_TOLD
+        }],
+    },
+    Case {
+        label: "a last block may have no bytes",
+        image: Sample {
+            blocks: &[(346, &[0, 1])],
+            ..ONE_PROGRAM
+        },
+        files: &[Told {
+            name: b"HELLO",
+            size: Some(254),
+            units: &[(336, 1), (346, 1)],
+            contents: Contents::Joined(&[&[b'A'; 254]]),
+            ..PROGRAM_TOLD
+        }],
+    },
+    Case {
+        label: "names of 1541 files are printed",
+        image: Sample {
+            entries: &[(
+                358,
+                0,
+                NewCbmEntry {
+                    name: b"HI\xa0\"",
+                    ..PROGRAM
+                },
+            )],
+            ..FORMATTED
+        },
+        files: &[Told {
+            name: b"HI%A0\"",
+            size: Some(0),
+            units: &[(336, 1)],
+            contents: Contents::Joined(&[]),
+            ..PROGRAM_TOLD
+        }],
+    },
+];
 
-#[test]
-fn a_last_block_may_have_no_bytes(rt: HostRuntime) -> Result<(), Fail> {
-    let mut image = one_program(rt.alloc())?;
-    put_block(&mut image, 346, &[0, 1]);
-    let told = Told {
-        name: b"HELLO",
-        size: Some(254),
-        ..PROGRAM_TOLD
-    };
-    assert_files(&rt, Kind::D64, image.as_slice(), &[told])?;
-    assert_bytes(&rt, Kind::D64, image.as_slice(), 0, &[b'A'; 254])
-}
+pub(super) const FAULTY: &[Case] = &[
+    Case {
+        label: "files of other types",
+        image: MIXED,
+        files: &[
+            Told {
+                ty: b"REL",
+                name: b"DATA",
+                served: false,
+                ..PROGRAM_TOLD
+            },
+            Told {
+                slot: 1,
+                ty: b"DEL",
+                name: b"--------",
+                served: false,
+                ..PROGRAM_TOLD
+            },
+            Told {
+                slot: 2,
+                name: b"LOST",
+                faults: 1,
+                ..PROGRAM_TOLD
+            },
+        ],
+    },
+    Case {
+        label: "programs that share a block are told",
+        image: CROSSED,
+        files: &[
+            Told {
+                name: b"A",
+                faults: 8,
+                ..PROGRAM_TOLD
+            },
+            Told {
+                slot: 1,
+                name: b"B",
+                faults: 8,
+                ..PROGRAM_TOLD
+            },
+            Told {
+                slot: 2,
+                name: b"C",
+                size: Some(2),
+                units: &[(338, 1)],
+                last_len: 2,
+                contents: Contents::Joined(&[b"XY"]),
+                ..PROGRAM_TOLD
+            },
+        ],
+    },
+    Case {
+        label: "a program of all blocks is told and served",
+        image: FULL,
+        files: &[Told {
+            name: b"LONG",
+            size: Some(172_974),
+            units: &[(0, 357), (359, 324)],
+            last_len: 254,
+            contents: Contents::Full,
+            ..PROGRAM_TOLD
+        }],
+    },
+    Case {
+        label: "a chain that loops has no size",
+        image: LOOPED,
+        files: &[Told {
+            name: b"LOOP",
+            faults: 4,
+            ..PROGRAM_TOLD
+        }],
+    },
+    Case {
+        label: "a directory that loops has no files",
+        image: Sample {
+            blocks: &[(358, &[18, 1])],
+            ..FORMATTED
+        },
+        files: &[],
+    },
+];
 
-#[test]
-fn names_of_1541_files_are_printed(rt: HostRuntime) -> Result<(), Fail> {
-    let mut image = formatted(rt.alloc())?;
-    let quoted = NewCbmEntry {
-        name: b"HI\xa0\"",
-        ..PROGRAM
-    };
-    put_cbm_entry(&mut image, 358, 0, &quoted);
-    let told = Told {
-        name: b"HI%A0\"",
-        size: Some(0),
-        ..PROGRAM_TOLD
-    };
-    assert_files(&rt, Kind::D64, image.as_slice(), &[told])
-}
-
-#[test]
-fn files_of_1541_disks_are_told(rt: HostRuntime) -> Result<(), Fail> {
-    let image = mixed(rt.alloc())?;
-    let all = survey_of(rt.alloc(), Kind::D64, image.as_slice())?;
-    let expected = [("REL", false, 0), ("DEL", false, 0), ("PRG", true, 1)];
-    assert_eq!(rt; all.as_slice().len(), 3);
-    for (file, expected) in all.as_slice().iter().zip(expected) {
-        assert_eq!(rt;
-            (file.ty.as_str(), file.served_class, file.faults),
-            expected
-        );
-        assert!(rt; file.size.is_none() && file.units.as_slice().is_empty() && !file.sound());
-    }
-    Ok(())
-}
-
-#[test]
-fn programs_that_share_a_block_are_told(rt: HostRuntime) -> Result<(), Fail> {
-    let image = crossed(rt.alloc())?;
-    let shared = Told {
-        name: b"A",
-        faults: 8,
-        ..PROGRAM_TOLD
-    };
-    let other = Told {
-        slot: 1,
-        name: b"B",
-        ..shared
-    };
-    let sound = Told {
-        slot: 2,
-        name: b"C",
-        size: Some(2),
-        ..PROGRAM_TOLD
-    };
-    assert_files(&rt, Kind::D64, image.as_slice(), &[shared, other, sound])?;
-    assert_bytes(&rt, Kind::D64, image.as_slice(), 2, b"XY")
-}
-
-#[test]
-fn a_program_of_all_blocks_is_told_and_served(rt: HostRuntime) -> Result<(), Fail> {
-    let image = full(rt.alloc())?;
-    let told = Told {
-        name: b"LONG",
-        size: Some(172_974),
-        ..PROGRAM_TOLD
-    };
-    assert_files(&rt, Kind::D64, image.as_slice(), &[told])?;
-    let expected = full_file(rt.alloc())?;
-    assert_bytes(&rt, Kind::D64, image.as_slice(), 0, expected.as_slice())
-}
-
-#[test]
-fn a_chain_that_loops_has_no_size(rt: HostRuntime) -> Result<(), Fail> {
-    let image = looped(rt.alloc())?;
-    let told = Told {
-        name: b"LOOP",
-        faults: 4,
-        ..PROGRAM_TOLD
-    };
-    assert_files(&rt, Kind::D64, image.as_slice(), &[told])
-}
-
-#[test]
-fn a_directory_that_loops_has_no_files(rt: HostRuntime) -> Result<(), Fail> {
-    let mut bytes = formatted(rt.alloc())?;
-    put_block(&mut bytes, 358, &[18, 1]);
-    assert_files(&rt, Kind::D64, bytes.as_slice(), &[])?;
-    let image = Image::new(Kind::D64, bytes.as_slice())?;
-    assert_eq!(rt; directory_end(rt.alloc(), &image)?, End::Loop);
-    Ok(())
-}
-
-#[test]
-fn a_1541_disk_lends_the_pieces_of_its_files(rt: HostRuntime) -> Result<(), Fail> {
-    let bytes = one_program(rt.alloc())?;
-    let image = Image::new(Kind::D64, bytes.as_slice())?;
-    let disk = CbmDisk::of(&image).ok_or("a 1541 disk")?;
-    let file = find(rt.alloc(), &image, 0)?.ok_or("a file")?;
-    let joined = contents(rt.alloc(), &image, &file)?;
-    let lent = contents_of_disk(rt.alloc(), &image, &disk, &file)?;
-    assert_eq!(rt; (lent.len(), lent.as_slice()), (258, joined.as_slice()));
-    Ok(())
-}
+pub(super) const HOSTILE: &[Case] = &[
+    Case {
+        label: "an image of 00",
+        image: Sample {
+            base: Base::Repeated(0),
+            ..FORMATTED
+        },
+        files: &[],
+    },
+    Case {
+        label: "an image of 01",
+        image: Sample {
+            base: Base::Repeated(1),
+            ..FORMATTED
+        },
+        files: &[Told {
+            count: 16,
+            ty: b"SEQ",
+            name: b"%01%01%01%01%01%01%01%01%01%01%01%01%01%01%01%01",
+            faults: 1,
+            ..PROGRAM_TOLD
+        }],
+    },
+    Case {
+        label: "an image of FF",
+        image: Sample {
+            base: Base::Repeated(0xff),
+            ..FORMATTED
+        },
+        files: &[Told {
+            count: 8,
+            ty: b"OTHER",
+            name: b"%FF%FF%FF%FF%FF%FF%FF%FF%FF%FF%FF%FF%FF%FF%FF%FF",
+            served: false,
+            ..PROGRAM_TOLD
+        }],
+    },
+    Case {
+        label: "a directory of all blocks",
+        image: Sample {
+            base: Base::Circle([0x80, 0, 0]),
+            ..FORMATTED
+        },
+        files: &[Told {
+            count: 5_464,
+            ty: b"DEL",
+            name: b"%00%00%00%00%00%00%00%00%00%00%00%00%00%00%00%00",
+            served: false,
+            ..PROGRAM_TOLD
+        }],
+    },
+    Case {
+        label: "a directory of all blocks with a free slot",
+        image: Sample {
+            base: Base::Circle([0x80, 0, 0]),
+            blocks: &[(0, &[1, 1, 0])],
+            ..FORMATTED
+        },
+        files: &[
+            Told {
+                count: 2_600,
+                ty: b"DEL",
+                name: b"%00%00%00%00%00%00%00%00%00%00%00%00%00%00%00%00",
+                served: false,
+                ..PROGRAM_TOLD
+            },
+            Told {
+                count: 2_863,
+                slot: 2_601,
+                ty: b"DEL",
+                name: b"%00%00%00%00%00%00%00%00%00%00%00%00%00%00%00%00",
+                served: false,
+                ..PROGRAM_TOLD
+            },
+        ],
+    },
+];

@@ -1,49 +1,83 @@
-use crate::cbm::crossed;
-use crate::cpm::{FILE, NewEntry, with_entries};
-use rd_volume::{Image, Kind, find};
-use std::alloc::Global;
+//! What `find` tells of the file at a slot.
+
+use crate::cpm::{FILE, NewEntry};
+use crate::tests::sample::{BLANK, Base, CROSSED, Sample, image_of, kind_of};
+use rd_volume::{Image, find};
 use std::process::Abort;
 use std::test::Fail;
 
-/// The slot, the name and the faults of the file at a slot, where there is one.
-fn told_at(
-    alloc: Global,
-    image: &Image<'_>,
-    slot: u16,
-    name: &str,
-) -> Result<Option<(u16, bool, u8)>, Fail> {
-    Ok(find(alloc, image, slot)?.map(|file| (file.slot, file.name.as_str() == name, file.faults)))
+/// A slot of an image, and the name and the faults of the file that has it.
+#[derive(Clone, Copy)]
+struct Case {
+    label: &'static str,
+    image: Sample<'static>,
+    slots: &'static [(u16, Option<(&'static str, u8)>)],
 }
 
-/// No file has these slots.
-fn assert_no_files<R: Abort + AllocGlobal>(
+const CASES: &[Case] = &[
+    Case {
+        label: "a 1541 file is found by its slot",
+        image: CROSSED,
+        slots: &[
+            (0, Some(("A", 8))),
+            (1, Some(("B", 8))),
+            (2, Some(("C", 0))),
+            (3, None),
+            (7, None),
+            (8, None),
+            (5_464, None),
+            (65_535, None),
+        ],
+    },
+    Case {
+        label: "a CP/M file is found by its slot",
+        image: Sample {
+            base: Base::WithEntries(&[FILE, NewEntry { user: 16, ..FILE }, FILE]),
+            ..BLANK
+        },
+        slots: &[
+            (0, Some(("FILE", 2))),
+            (1, None),
+            (2, None),
+            (63, None),
+            (64, None),
+            (256, None),
+            (65_535, None),
+        ],
+    },
+];
+
+/// The file at a slot is told so.
+fn assert_found<R: Abort + AllocGlobal>(
     rt: &R,
+    label: &str,
     image: &Image<'_>,
-    slots: &[u16],
+    slot: u16,
+    wanted: Option<(&str, u8)>,
 ) -> Result<(), Fail> {
-    for slot in slots {
-        assert_eq!(rt; told_at(rt.alloc(), image, *slot, "")?, None, "at {slot}");
+    let found = find(rt.alloc(), image, slot)?;
+    let told = found
+        .as_ref()
+        .map(|file| (file.slot, file.name.as_str(), file.faults));
+    let wanted = wanted.map(|(name, faults)| (slot, name, faults));
+    assert_eq!(rt; told, wanted, "{label}: slot {slot}");
+    Ok(())
+}
+
+/// The slots of an image have these files.
+fn assert_slots<R: Abort + AllocGlobal>(rt: &R, case: &Case) -> Result<(), Fail> {
+    let bytes = image_of(rt.alloc(), &case.image)?;
+    let image = Image::new(kind_of(case.image.base), bytes.as_slice())?;
+    for (slot, wanted) in case.slots {
+        assert_found(rt, case.label, &image, *slot, *wanted)?;
     }
     Ok(())
 }
 
 #[test]
-fn a_1541_file_is_found_by_its_slot(rt: HostRuntime) -> Result<(), Fail> {
-    let bytes = crossed(rt.alloc())?;
-    let image = Image::new(Kind::D64, bytes.as_slice())?;
-    for (slot, name, faults) in [(0, "A", 8), (1, "B", 8), (2, "C", 0)] {
-        assert_eq!(rt;
-            told_at(rt.alloc(), &image, slot, name)?,
-            Some((slot, true, faults))
-        );
+fn files_are_found_by_their_slots(rt: HostRuntime) -> Result<(), Fail> {
+    for case in CASES {
+        assert_slots(&rt, case)?;
     }
-    assert_no_files(&rt, &image, &[3, 7, 8, 5_464, 65_535])
-}
-
-#[test]
-fn a_cpm_file_is_found_by_its_slot(rt: HostRuntime) -> Result<(), Fail> {
-    let bytes = with_entries(rt.alloc(), &[FILE, NewEntry { user: 16, ..FILE }, FILE])?;
-    let image = Image::new(Kind::Cpm8, bytes.as_slice())?;
-    assert_eq!(rt; told_at(rt.alloc(), &image, 0, "FILE")?, Some((0, true, 2)));
-    assert_no_files(&rt, &image, &[1, 2, 63, 64, 256, 65_535])
+    Ok(())
 }

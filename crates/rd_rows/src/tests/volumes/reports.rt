@@ -1,123 +1,191 @@
-use crate::cbm::{looped, one_program};
-use crate::cpm::{filled, hello};
-use crate::tests::repeated;
-use rd_volume::{End, Image, Kind, directory_end, report};
+//! What a report tells of an image, and the call that tells how its directory ends.
+
+use crate::tests::sample::{
+    BLANK, Base, FORMATTED, HELLO, LOOPED, ONE_PROGRAM, Sample, image_of, kind_of,
+};
+use rd_volume::{End, Image, MapReport, directory_end, report};
 use std::process::Abort;
 use std::test::Fail;
 
 /// What a report has to tell.
 #[derive(Clone, Copy)]
-struct Counts<'a> {
+struct Case {
+    label: &'static str,
+    image: Sample<'static>,
     /// How many files there are, are sound, have a fault, and differ in size.
     files: (u16, u16, u16, u16),
     /// How many counts are wrong, blocks in use are free, and blocks not in use are not.
     map: (u16, u16, u16),
     directory: End,
-    label: &'a [u8],
+    /// The label of the disk.
+    name: &'static [u8],
 }
 
-/// What a report has to tell of a CP/M disk with no file.
-const NO_FILE: Counts<'static> = Counts {
+/// A blank CP/M disk.
+const NO_FILE: Case = Case {
+    label: "a blank disk",
+    image: BLANK,
     files: (0, 0, 0, 0),
     map: (0, 0, 0),
     directory: End::Last(0),
-    label: b"",
+    name: b"",
 };
 
-/// The report of an image, and the call that tells how its directory ends, tell this.
-fn assert_reports<R: Abort + AllocGlobal>(
-    rt: &R,
-    kind: Kind,
-    bytes: &[u8],
-    expected: &Counts<'_>,
-) -> Result<(), Fail> {
-    let image = Image::new(kind, bytes)?;
-    let told = report(rt.alloc(), &image)?;
-    let files = (told.files, told.served, told.faulty, told.size_differs);
-    assert_eq!(rt; files, expected.files);
-    let map = (
-        told.map.wrong_counts,
-        told.map.claimed_free,
-        told.map.unclaimed_used,
-    );
-    assert_eq!(rt; map, expected.map);
-    assert_eq!(rt; told.directory, expected.directory);
-    assert_eq!(rt; told.label.as_str().as_bytes(), expected.label);
-    assert_eq!(rt; directory_end(rt.alloc(), &image)?, expected.directory);
-    Ok(())
-}
-
-#[test]
-fn a_1541_image_is_reported(rt: HostRuntime) -> Result<(), Fail> {
-    let sound = Counts {
+const DISKS: &[Case] = &[
+    NO_FILE,
+    Case {
+        label: "one program",
+        image: ONE_PROGRAM,
         files: (1, 1, 0, 0),
         map: (0, 2, 0),
         directory: End::Last(255),
-        label: b"MUSEUM",
-    };
-    let one = one_program(rt.alloc())?;
-    assert_reports(&rt, Kind::D64, one.as_slice(), &sound)?;
-    let faulty = Counts {
+        name: b"MUSEUM",
+    },
+    Case {
+        label: "a looped program",
+        image: LOOPED,
         files: (1, 0, 1, 0),
         map: (0, 3, 0),
-        ..sound
-    };
-    let other = looped(rt.alloc())?;
-    assert_reports(&rt, Kind::D64, other.as_slice(), &faulty)
-}
-
-#[test]
-fn a_cpm_image_is_reported(rt: HostRuntime) -> Result<(), Fail> {
-    let expected = Counts {
+        directory: End::Last(255),
+        name: b"MUSEUM",
+    },
+    Case {
+        label: "a directory that loops",
+        image: Sample {
+            blocks: &[(358, &[18, 1])],
+            ..FORMATTED
+        },
+        directory: End::Loop,
+        name: b"MUSEUM",
+        ..NO_FILE
+    },
+    Case {
+        label: "a CP/M file",
+        image: HELLO,
         files: (1, 1, 0, 0),
         ..NO_FILE
+    },
+];
+
+const HOSTILE: &[Case] = &[
+    Case {
+        label: "a CP/M image of 00",
+        image: Sample {
+            base: Base::Filled(0),
+            ..BLANK
+        },
+        files: (1, 0, 1, 0),
+        ..NO_FILE
+    },
+    Case {
+        label: "a CP/M image of 01",
+        image: Sample {
+            base: Base::Filled(1),
+            ..BLANK
+        },
+        files: (1, 0, 1, 0),
+        ..NO_FILE
+    },
+    Case {
+        label: "a CP/M image of FF",
+        image: Sample {
+            base: Base::Filled(0xff),
+            ..BLANK
+        },
+        ..NO_FILE
+    },
+    Case {
+        label: "a 1541 image of 00",
+        image: Sample {
+            base: Base::Repeated(0),
+            ..FORMATTED
+        },
+        map: (0, 0, 681),
+        name: b"%00%00%00%00%00%00%00%00%00%00%00%00%00%00%00%00",
+        ..NO_FILE
+    },
+    Case {
+        label: "a 1541 image of 01",
+        image: Sample {
+            base: Base::Repeated(1),
+            ..FORMATTED
+        },
+        files: (16, 0, 16, 0),
+        map: (35, 1, 576),
+        directory: End::Loop,
+        name: b"%01%01%01%01%01%01%01%01%01%01%01%01%01%01%01%01",
+    },
+    Case {
+        label: "a 1541 image of FF",
+        image: Sample {
+            base: Base::Repeated(0xff),
+            ..FORMATTED
+        },
+        files: (8, 0, 0, 0),
+        map: (35, 2, 0),
+        directory: End::Off,
+        name: b"%FF%FF%FF%FF%FF%FF%FF%FF%FF%FF%FF%FF%FF%FF%FF%FF",
+    },
+    Case {
+        label: "a directory of all blocks",
+        image: Sample {
+            base: Base::Circle([0x80, 0, 0]),
+            ..FORMATTED
+        },
+        files: (5_464, 0, 0, 0),
+        map: (4, 4, 0),
+        directory: End::Loop,
+        name: b"%00%00%00%00%00%00%00%00%00%00%00%00%00%00%00%00",
+    },
+];
+
+/// An image is reported so.
+fn assert_report<R: Abort + AllocGlobal>(rt: &R, case: &Case) -> Result<(), Fail> {
+    let bytes = image_of(rt.alloc(), &case.image)?;
+    let image = Image::new(kind_of(case.image.base), bytes.as_slice())?;
+    let told = report(rt.alloc(), &image)?;
+    let (wrong_counts, claimed_free, unclaimed_used) = case.map;
+    let map = MapReport {
+        wrong_counts,
+        claimed_free,
+        unclaimed_used,
     };
-    let bytes = hello(rt.alloc())?;
-    assert_reports(&rt, Kind::Cpm8, bytes.as_slice(), &expected)
+    assert_eq!(rt;
+        (
+            (told.files, told.served, told.faulty, told.size_differs),
+            told.map,
+            told.directory
+        ),
+        (case.files, map, case.directory),
+        "{}",
+        case.label
+    );
+    assert_eq!(rt;
+        (
+            told.label.as_str().as_bytes(),
+            directory_end(rt.alloc(), &image)?
+        ),
+        (case.name, case.directory),
+        "{}",
+        case.label
+    );
+    Ok(())
 }
 
-#[test]
-fn cpm_images_of_one_byte_are_reported(rt: HostRuntime) -> Result<(), Fail> {
-    let faulty = (1, 0, 1, 0);
-    for (byte, files) in [(0, faulty), (1, faulty), (0xff, (0, 0, 0, 0))] {
-        let bytes = filled(rt.alloc(), byte)?;
-        let expected = Counts { files, ..NO_FILE };
-        assert_reports(&rt, Kind::Cpm8, bytes.as_slice(), &expected)?;
+/// All these images are reported so.
+fn assert_all<R: Abort + AllocGlobal>(rt: &R, cases: &[Case]) -> Result<(), Fail> {
+    for case in cases {
+        assert_report(rt, case)?;
     }
     Ok(())
 }
 
-/// The report of a 1541 image of one byte tells this.
-fn assert_reports_repeated<R: Abort + AllocGlobal>(
-    rt: &R,
-    byte: u8,
-    expected: &Counts<'_>,
-) -> Result<(), Fail> {
-    let bytes = repeated(rt.alloc(), byte)?;
-    assert_reports(rt, Kind::D64, bytes.as_slice(), expected)
+#[test]
+fn images_are_reported(rt: HostRuntime) -> Result<(), Fail> {
+    assert_all(&rt, DISKS)
 }
 
 #[test]
-fn cbm_images_of_one_byte_are_reported(rt: HostRuntime) -> Result<(), Fail> {
-    let zeros = Counts {
-        files: (0, 0, 0, 0),
-        map: (0, 0, 681),
-        directory: End::Last(0),
-        label: b"%00%00%00%00%00%00%00%00%00%00%00%00%00%00%00%00",
-    };
-    assert_reports_repeated(&rt, 0, &zeros)?;
-    let ones = Counts {
-        files: (16, 0, 16, 0),
-        map: (35, 1, 576),
-        directory: End::Loop,
-        label: b"%01%01%01%01%01%01%01%01%01%01%01%01%01%01%01%01",
-    };
-    assert_reports_repeated(&rt, 1, &ones)?;
-    let pads = Counts {
-        files: (8, 0, 0, 0),
-        map: (35, 2, 0),
-        directory: End::Off,
-        label: b"%FF%FF%FF%FF%FF%FF%FF%FF%FF%FF%FF%FF%FF%FF%FF%FF",
-    };
-    assert_reports_repeated(&rt, 0xff, &pads)
+fn hostile_images_are_reported(rt: HostRuntime) -> Result<(), Fail> {
+    assert_all(&rt, HOSTILE)
 }
