@@ -6,18 +6,18 @@ mod keys;
 mod opening;
 mod refused;
 mod rules;
+mod steps;
 
-ghost use Rattle.std.specs.Prelude.{◌≡◌, false, IfOk, length};
-ghost use Rattle.rd_policy.specs.Rules.{IsScope};
+ghost use Rattle.std.specs.Prelude.{◌≡◌, false, IfOk};
 
-use crate::{ImageRow, OpenFault, Refused, Store, StoreFault, is_donor};
-use rd_geometry::{Kind, NoMemory};
-use rd_policy::{Audience, Audiences, Band, Effect, Rule, Select, is_day, is_scope};
-use rd_rows::cbm::one_program;
+use crate::{OpenFault, Refused, Store, StoreFault, is_donor};
+use rd_geometry::NoMemory;
+use rd_policy::{Audience, Audiences, Rule, is_day, is_scope};
 use sqlite::{Alter, Connection, Error, MemStore};
 use std::alloc::Global;
 use std::process::Abort;
 use std::test::Fail;
+use steps::{Call, DONE, Digest, Given, Named, Picture, Question, Step, assert_steps};
 
 /// A desk in memory.
 type Desk = Store<MemStore>;
@@ -50,6 +50,12 @@ const ALL: Audiences = Audiences {
     public: true,
     room: true,
     staff: true,
+};
+
+const ROOM_ALONE: Audiences = Audiences {
+    public: false,
+    room: true,
+    staff: false,
 };
 
 const NOT_STAFF: Audiences = Audiences {
@@ -105,95 +111,48 @@ fn put_deed<S: Alter>(
     desk.put_deed(num, donor, signed)
 }
 
-fn put_curator<S: Alter>(rt: &impl Abort, desk: &mut Store<S>) -> Result<(), StoreFault> {
-    put_deed(rt, desk, 7, "A. Curator", 18_020)
-}
-
-fn put_image<S: Alter>(
-    desk: &mut Store<S>,
-    acc: u32,
-    deed: u32,
-    digest: &[u8; 32],
-    bytes: &[u8],
-) -> Result<(), StoreFault>
-    requires scope { IsScope acc }
-    requires sized { length bytes.now ≡ 174_848 }
-{
-    desk.put_image(acc, Kind::D64, deed, digest, bytes)
-}
-
-fn put_room_key<S: Alter>(desk: &mut Store<S>, digest: &[u8; 32]) -> Result<(), StoreFault> {
-    desk.put_key(digest, Audience::Room)
-}
-
 fn put_rule<S: Alter>(rt: &impl Abort, desk: &mut Store<S>, rule: &Rule) -> Result<(), StoreFault> {
     assert!(rt; rule.fits());
     desk.put_rule(rule)
 }
 
-/// A rule of deed 7 for everyone, without days.
-fn rule(rank: u16, select: Select, effect: Effect) -> Rule {
-    Rule {
-        band: Band::Deed,
-        scope: 7,
-        rank,
-        audiences: ALL,
-        from: None,
-        until: None,
-        select,
-        effect,
-    }
-}
-
-/// The rule of rank 10 of deed 7: closed to all but the staff until 2030.
-fn closed() -> Rule {
-    Rule {
-        audiences: NOT_STAFF,
-        until: Some(21_915),
-        ..rule(10, Select::All, Effect::Deny)
-    }
-}
-
-/// The rule of rank 20 of deed 7: open to everyone.
-fn open() -> Rule {
-    rule(20, Select::All, Effect::Read)
-}
-
-/// The takedown of rank 1 of an accession: the file at slot 0, for all but the staff.
-fn takedown(acc: u32) -> Rule {
-    Rule {
-        band: Band::Takedown,
-        scope: acc,
-        audiences: NOT_STAFF,
-        ..rule(1, Select::Slot(0), Effect::Deny)
-    }
-}
-
-/// Puts deeds 7 and 8, and a key for the room.
-fn put_deeds<S: Alter>(rt: &impl Abort, desk: &mut Store<S>) -> Result<(), StoreFault> {
-    put_curator(rt, desk)?;
-    put_deed(rt, desk, 8, "B. Donor", 18_321)?;
-    put_room_key(desk, &ROOM)
-}
-
-/// Puts two rules of deed 7.
-fn put_rules<S: Alter>(rt: &impl Abort, desk: &mut Store<S>) -> Result<(), StoreFault> {
-    put_rule(rt, desk, &open())?;
-    put_rule(rt, desk, &closed())
-}
-
-/// Puts the image with one program as image 12 under deed 7.
-fn put_program<S: Alter>(alloc: Global, desk: &mut Store<S>) -> Result<(), Fail> {
-    let image = one_program(alloc)?;
-    put_image(desk, 12, 7, &DIGEST, image.as_slice())?;
-    Ok(())
-}
+/// The image with one program, under deed 7.
+const PROGRAM: Given = (Picture::Program, 7, Digest::Program);
 
 /// Puts deeds 7 and 8, a key for the room, two rules of deed 7, and image 12 under it.
+const FILL: &[Step<'static>] = &[
+    Step::Does(Call::PutDeed(7, "A. Curator", 18_020), DONE),
+    Step::Does(Call::PutDeed(8, "B. Donor", 18_321), DONE),
+    Step::Does(Call::PutRoomKey(Digest::Room), DONE),
+    Step::Does(Call::PutRule(Named::Open, 7), DONE),
+    Step::Does(Call::PutRule(Named::Closed, 7), DONE),
+    Step::Does(Call::PutImage(12, PROGRAM), DONE),
+];
+
+/// Asks for all that `FILL` puts.
+const FILLED: &[Step<'static>] = &[
+    Step::Tells(Question::Deed(7, Some(("A. Curator", 18_020)))),
+    Step::Tells(Question::Deed(8, Some(("B. Donor", 18_321)))),
+    Step::Tells(Question::Image(12, Some(PROGRAM))),
+    Step::Tells(Question::AudienceOf(Digest::Staff, Some(Audience::Staff))),
+    Step::Tells(Question::AudienceOf(Digest::Room, Some(Audience::Room))),
+    Step::Tells(Question::AudienceOf(Digest::Other, None)),
+    Step::Tells(Question::RulesFor(12, &[(Named::Closed, 7), (Named::Open, 7)])),
+    Step::Tells(Question::Accessions(&[12])),
+];
+
+/// Puts what `FILL` puts.
 fn fill<S: Alter>(rt: &impl Abort, alloc: Global, desk: &mut Store<S>) -> Result<(), Fail> {
-    put_deeds(rt, desk)?;
-    put_rules(rt, desk)?;
-    put_program(alloc, desk)
+    assert_steps(rt, alloc, desk, "what is put", FILL)
+}
+
+/// All reads of a desk answer what `FILL` puts.
+fn assert_filled<S: Alter>(
+    rt: &impl Abort,
+    alloc: Global,
+    desk: &mut Store<S>,
+) -> Result<(), Fail> {
+    assert_steps(rt, alloc, desk, "what was put", FILLED)
 }
 
 /// A new desk, filled.
@@ -201,113 +160,6 @@ fn filled(rt: &impl Abort, alloc: Global) -> Result<Desk, Fail> {
     let mut desk = new_desk(alloc)?;
     fill(rt, alloc, &mut desk)?;
     Ok(desk)
-}
-
-/// Asserts that the deeds and the image are those that `fill` put.
-fn assert_given<S: Alter>(rt: &impl Abort, alloc: Global, desk: &mut Store<S>) -> Result<(), Fail> {
-    assert!(rt; has_deed(desk, 7, "A. Curator", 18_020)?);
-    assert!(rt; has_deed(desk, 8, "B. Donor", 18_321)?);
-    assert!(rt; has_program(alloc, desk, &DIGEST)?);
-    Ok(())
-}
-
-/// Asserts that the desk keys are that of the staff and the one that `fill` put.
-fn assert_keys<S: Alter>(rt: &impl Abort, desk: &mut Store<S>) -> Result<(), Fail> {
-    assert_eq!(rt; audience_of(desk, &STAFF)?, Some(Audience::Staff));
-    assert_eq!(rt; audience_of(desk, &ROOM)?, Some(Audience::Room));
-    assert_eq!(rt; audience_of(desk, &OTHER_DIGEST)?, None);
-    Ok(())
-}
-
-/// Asserts that all reads of a desk answer what `fill` put.
-fn assert_filled<S: Alter>(
-    rt: &impl Abort,
-    alloc: Global,
-    desk: &mut Store<S>,
-) -> Result<(), Fail> {
-    assert_given(rt, alloc, desk)?;
-    assert_keys(rt, desk)?;
-    assert!(rt; has_rules(alloc, desk, 12, &[closed(), open()])?);
-    let found = accessions(alloc, desk)?;
-    assert_eq!(rt; found.as_slice(), [12].as_slice());
-    Ok(())
-}
-
-fn image<S: Alter>(
-    alloc: Global,
-    desk: &mut Store<S>,
-    acc: u32,
-) -> Result<Option<ImageRow>, StoreFault> {
-    desk.image(alloc, acc)
-}
-
-/// Whether a 1541 image with these bytes stands at an accession, under deed 7.
-fn has_image<S: Alter>(
-    alloc: Global,
-    desk: &mut Store<S>,
-    acc: u32,
-    digest: &[u8; 32],
-    wanted: &[u8],
-) -> Result<bool, StoreFault> {
-    let Some(image) = image(alloc, desk, acc)? else {
-        return Ok(false);
-    };
-    Ok(
-        image.kind == Kind::D64
-            && image.deed == 7
-            && image.digest == *digest
-            && image.bytes.as_slice() == wanted,
-    )
-}
-
-/// Whether image 12 is the one with one program, with this digest.
-fn has_program<S: Alter>(
-    alloc: Global,
-    desk: &mut Store<S>,
-    digest: &[u8; 32],
-) -> Result<bool, Fail> {
-    let wanted = one_program(alloc)?;
-    Ok(has_image(alloc, desk, 12, digest, wanted.as_slice())?)
-}
-
-/// Whether the deed with a number has these values.
-fn has_deed<S: Alter>(
-    desk: &mut Store<S>,
-    num: u32,
-    donor: &str,
-    signed: i32,
-) -> Result<bool, StoreFault> {
-    match desk.deed(num)? {
-        Some(deed) => Ok(deed.donor.as_str() == donor && deed.signed == signed),
-        None => Ok(false),
-    }
-}
-
-/// Whether these are the rules for an accession, in this order.
-fn has_rules<S: Alter>(
-    alloc: Global,
-    desk: &mut Store<S>,
-    acc: u32,
-    wanted: &[Rule],
-) -> Result<bool, Fail> {
-    let found = desk.rules_for(alloc, acc)?;
-    Ok(told(alloc, found.as_slice())?.as_str() == told(alloc, wanted)?.as_str())
-}
-
-/// All that rules hold, in words.
-fn told(alloc: Global, rules: &[Rule]) -> Result<String, NoMemory> {
-    Ok(format!(in alloc; "{rules:?}")?)
-}
-
-fn audience_of<S: Alter>(
-    desk: &mut Store<S>,
-    digest: &[u8; 32],
-) -> Result<Option<Audience>, StoreFault> {
-    desk.audience_of(digest)
-}
-
-fn accessions<S: Alter>(alloc: Global, desk: &mut Store<S>) -> Result<Vec<u32>, StoreFault> {
-    desk.accessions(alloc)
 }
 
 /// The number that a query tells.
@@ -319,10 +171,21 @@ fn run(conn: &mut Connection<MemStore>, sql: &str) -> Result<usize, Error> {
     conn.execute(sql, &[])
 }
 
+/// Texts, and whether each may be a donor's name.
+const DONORS: &[(&str, bool)] = &[
+    ("A. Curator", true),
+    (" ", true),
+    ("", false),
+    ("A. Curator\n", false),
+];
+
+fn assert_donors(rt: &impl Abort, cases: &[(&str, bool)]) {
+    for (text, is_one) in cases {
+        assert_eq!(rt; is_donor(*text), *is_one, "{text:?}");
+    }
+}
+
 #[test]
 fn donors_have_names(rt: HostRuntime) {
-    assert!(rt; is_donor("A. Curator"));
-    assert!(rt; is_donor(" "));
-    assert!(rt; !is_donor(""));
-    assert!(rt; !is_donor("A. Curator\n"));
+    assert_donors(&rt, DONORS);
 }

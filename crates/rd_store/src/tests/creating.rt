@@ -1,12 +1,11 @@
 //! Making a desk, and giving its connection back.
 
-use super::{
-    ROOM, STAFF, assert_filled, audience_of, filled, has_deed, into_connection, new_connection,
-    new_desk, number, open_desk, run,
-};
+use super::steps::{Case, Digest, Question, Start, Step, assert_cases, started};
+use super::{ROOM, assert_filled, filled, into_connection, new_connection, number, open_desk, run};
 use crate::{CreateFault, Refused, Store};
 use rd_policy::Audience;
 use sqlite::{Connection, MemStore};
+use std::alloc::Global;
 use std::process::Abort;
 use std::test::Fail;
 
@@ -22,16 +21,49 @@ fn refusal(
     }
 }
 
+const NEW: &[Case] = &[Case {
+    label: "a new desk has its staff key",
+    start: Start::New,
+    steps: &[
+        Step::Tells(Question::AudienceOf(Digest::Staff, Some(Audience::Staff))),
+        Step::Tells(Question::AudienceOf(Digest::Room, None)),
+        Step::Tells(Question::Deed(7, None)),
+    ],
+}];
+
 #[test]
 fn a_new_desk_has_its_staff_key(rt: HostRuntime) -> Result<(), Fail> {
-    let mut desk = new_desk(rt.alloc())?;
-    assert_eq!(rt; audience_of(&mut desk, &STAFF)?, Some(Audience::Staff));
-    assert_eq!(rt; audience_of(&mut desk, &ROOM)?, None);
-    assert!(rt; !has_deed(&mut desk, 7, "A. Curator", 18_020)?);
-    let mut conn = into_connection(desk);
-    assert_eq!(rt; number(&mut conn, "SELECT version FROM desk")?, 0);
-    assert_eq!(rt; number(&mut conn, "SELECT count(*) FROM badge")?, 1);
+    assert_cases(&rt, rt.alloc(), NEW)
+}
+
+/// Questions of the connection of a desk that is given back, and what each tells.
+const ROWS: &[(Start, &str, i64)] = &[
+    (Start::New, "SELECT version FROM desk", 0),
+    (Start::New, "SELECT count(*) FROM badge", 1),
+    (Start::Filled, "SELECT count(*) FROM rule", 2),
+    (
+        Start::Filled,
+        "SELECT signed FROM deed WHERE donor = 'B. Donor'",
+        18_321,
+    ),
+    (
+        Start::Filled,
+        "SELECT length(bytes) FROM image WHERE acc = 12",
+        174_848,
+    ),
+];
+
+fn assert_rows(rt: &impl Abort, alloc: Global, cases: &[(Start, &str, i64)]) -> Result<(), Fail> {
+    for (start, sql, wanted) in cases {
+        let mut conn = into_connection(started(rt, alloc, *start)?);
+        assert_eq!(rt; number(&mut conn, *sql)?, *wanted, "{sql}");
+    }
     Ok(())
+}
+
+#[test]
+fn the_connection_has_the_rows(rt: HostRuntime) -> Result<(), Fail> {
+    assert_rows(&rt, rt.alloc(), ROWS)
 }
 
 #[test]
@@ -45,48 +77,33 @@ fn a_desk_that_stands_is_kept(rt: HostRuntime) -> Result<(), Fail> {
     assert_filled(&rt, rt.alloc(), &mut again)
 }
 
-#[test]
-fn a_desk_in_capital_letters_stands(rt: HostRuntime) -> Result<(), Fail> {
-    let mut conn = new_connection(rt.alloc())?;
-    run(&mut conn, "CREATE TABLE Desk (a INTEGER) STRICT")?;
-    let (fault, _) = refusal(&rt, conn)?;
-    assert_eq!(rt; fault, CreateFault::Exists);
-    Ok(())
-}
-
-#[test]
-fn no_desk_beside_other_tables(rt: HostRuntime) -> Result<(), Fail> {
-    for other in [
+/// What stands in a database, and why no desk is made beside it.
+const OTHERS: &[(&str, CreateFault)] = &[
+    ("CREATE TABLE Desk (a INTEGER) STRICT", CreateFault::Exists),
+    (
         "CREATE TABLE note (id INTEGER PRIMARY KEY) STRICT",
-        "CREATE VIEW one AS SELECT 1",
-    ] {
-        let mut conn = new_connection(rt.alloc())?;
-        run(&mut conn, other)?;
-        let (fault, mut conn) = refusal(&rt, conn)?;
-        assert_eq!(rt; fault, CreateFault::Sql, "{other}");
-        assert_eq!(rt;
-            number(&mut conn, "SELECT count(*) FROM sqlite_master")?,
-            1,
-            "{other}"
-        );
+        CreateFault::Sql,
+    ),
+    ("CREATE VIEW one AS SELECT 1", CreateFault::Sql),
+];
+
+/// No desk is made beside what a statement makes, which stands alone afterwards.
+fn assert_refused(
+    rt: &impl Abort,
+    alloc: Global,
+    cases: &[(&str, CreateFault)],
+) -> Result<(), Fail> {
+    for (sql, wanted) in cases {
+        let mut conn = new_connection(alloc)?;
+        run(&mut conn, *sql)?;
+        let (fault, mut conn) = refusal(rt, conn)?;
+        let count = number(&mut conn, "SELECT count(*) FROM sqlite_master")?;
+        assert_eq!(rt; (fault, count), (*wanted, 1), "{sql}");
     }
     Ok(())
 }
 
 #[test]
-fn the_connection_has_the_rows(rt: HostRuntime) -> Result<(), Fail> {
-    let mut conn = into_connection(filled(&rt, rt.alloc())?);
-    assert_eq!(rt; number(&mut conn, "SELECT count(*) FROM rule")?, 2);
-    assert_eq!(rt;
-        number(
-            &mut conn,
-            "SELECT signed FROM deed WHERE donor = 'B. Donor'"
-        )?,
-        18_321
-    );
-    assert_eq!(rt;
-        number(&mut conn, "SELECT length(bytes) FROM image WHERE acc = 12")?,
-        174_848
-    );
-    Ok(())
+fn no_desk_beside_other_tables(rt: HostRuntime) -> Result<(), Fail> {
+    assert_refused(&rt, rt.alloc(), OTHERS)
 }

@@ -1,103 +1,156 @@
 //! Deeds and images.
 
-ghost use Rattle.std.specs.Prelude.{◌≡◌, length};
-
-use super::{
-    DIGEST, Desk, OTHER_DIGEST, accessions, filled, has_deed, has_image, has_program, image,
-    new_desk, put_curator, put_deed, put_image,
+use super::PROGRAM;
+use super::steps::{
+    CONFLICT, Call, Case, DONE, Digest, MISSING, Picture, Question, Start, Step, assert_cases,
 };
-use crate::StoreFault;
-use rd_geometry::Kind;
-use rd_rows::cbm::{looped, one_program};
-use rd_rows::cpm::hello;
 use std::test::Fail;
 
-fn put_cpm(desk: &mut Desk, bytes: &[u8]) -> Result<(), StoreFault>
-    requires { length bytes.now ≡ 256_256 }
-{
-    desk.put_image(12, Kind::Cpm8, 7, &DIGEST, bytes)
+const DEEDS: &[Case] = &[
+    Case {
+        label: "a deed is replaced",
+        start: Start::Filled,
+        steps: &[
+            Step::Tells(Question::Deed(7, Some(("A. Curator", 18_020)))),
+            Step::Does(Call::PutDeed(7, "C. Heir, \u{dc}lm", -719_162), DONE),
+            Step::Tells(Question::Deed(7, Some(("C. Heir, \u{dc}lm", -719_162)))),
+            Step::Tells(Question::Deed(8, Some(("B. Donor", 18_321)))),
+            Step::Tells(Question::Image(12, Some(PROGRAM))),
+        ],
+    },
+    Case {
+        label: "deeds have the numbers from 1 to 999,999",
+        start: Start::New,
+        steps: &[
+            Step::Tells(Question::Deed(1, None)),
+            Step::Tells(Question::Deed(999_999, None)),
+            Step::Does(Call::PutDeed(1, "A. Curator", 2_932_896), DONE),
+            Step::Does(Call::PutDeed(999_999, "B. Donor", 0), DONE),
+            Step::Tells(Question::Deed(1, Some(("A. Curator", 2_932_896)))),
+            Step::Tells(Question::Deed(999_999, Some(("B. Donor", 0)))),
+        ],
+    },
+    Case {
+        label: "no deed has another number",
+        start: Start::Filled,
+        steps: &[
+            Step::Tells(Question::Deed(0, None)),
+            Step::Tells(Question::Deed(9, None)),
+            Step::Tells(Question::Deed(1_000_000, None)),
+            Step::Tells(Question::Deed(4_294_967_295, None)),
+        ],
+    },
+];
+
+const IMAGES: &[Case] = &[
+    Case {
+        label: "the same image again",
+        start: Start::Filled,
+        steps: &[
+            Step::Does(Call::PutImage(12, PROGRAM), DONE),
+            Step::Does(
+                Call::PutImage(12, (Picture::Looped, 7, Digest::Program)),
+                DONE,
+            ),
+            Step::Tells(Question::Image(12, Some(PROGRAM))),
+        ],
+    },
+    Case {
+        label: "another image at an accession",
+        start: Start::Filled,
+        steps: &[
+            Step::Does(
+                Call::PutImage(12, (Picture::Looped, 7, Digest::Other)),
+                CONFLICT,
+            ),
+            Step::Does(
+                Call::PutImage(12, (Picture::Looped, 8, Digest::Program)),
+                CONFLICT,
+            ),
+            Step::Does(
+                Call::PutImage(12, (Picture::Hello, 7, Digest::Program)),
+                CONFLICT,
+            ),
+            Step::Tells(Question::Image(12, Some(PROGRAM))),
+        ],
+    },
+    Case {
+        label: "an image without a deed",
+        start: Start::Filled,
+        steps: &[
+            Step::Does(
+                Call::PutImage(13, (Picture::Looped, 9, Digest::Program)),
+                MISSING,
+            ),
+            Step::Does(
+                Call::PutImage(12, (Picture::Looped, 9, Digest::Program)),
+                MISSING,
+            ),
+            Step::Tells(Question::Image(12, Some(PROGRAM))),
+            Step::Tells(Question::Image(13, None)),
+        ],
+    },
+    Case {
+        label: "accessions ascend",
+        start: Start::New,
+        steps: &[
+            Step::Tells(Question::Accessions(&[])),
+            Step::Does(Call::PutDeed(7, "A. Curator", 18_020), DONE),
+            Step::Does(
+                Call::PutImage(13, (Picture::Looped, 7, Digest::Other)),
+                DONE,
+            ),
+            Step::Does(
+                Call::PutImage(999_999, (Picture::Looped, 7, Digest::Program)),
+                DONE,
+            ),
+            Step::Does(
+                Call::PutImage(12, (Picture::Looped, 7, Digest::Program)),
+                DONE,
+            ),
+            Step::Tells(Question::Accessions(&[12, 13, 999_999])),
+            Step::Tells(Question::Image(13, Some((Picture::Looped, 7, Digest::Other)))),
+        ],
+    },
+    Case {
+        label: "images have the numbers from 1 to 999,999, and so have their deeds",
+        start: Start::New,
+        steps: &[
+            Step::Tells(Question::Image(1, None)),
+            Step::Tells(Question::Image(999_999, None)),
+            Step::Does(Call::PutDeed(1, "A. Curator", 18_020), DONE),
+            Step::Does(Call::PutDeed(999_999, "B. Donor", 18_321), DONE),
+            Step::Does(
+                Call::PutImage(1, (Picture::Hello, 999_999, Digest::Other)),
+                DONE,
+            ),
+            Step::Does(
+                Call::PutImage(999_999, (Picture::Program, 1, Digest::Program)),
+                DONE,
+            ),
+            Step::Tells(Question::Image(1, Some((Picture::Hello, 999_999, Digest::Other)))),
+            Step::Tells(Question::Image(999_999, Some((Picture::Program, 1, Digest::Program)))),
+            Step::Tells(Question::Accessions(&[1, 999_999])),
+        ],
+    },
+    Case {
+        label: "no image has another number",
+        start: Start::Filled,
+        steps: &[
+            Step::Tells(Question::Image(0, None)),
+            Step::Tells(Question::Image(99, None)),
+            Step::Tells(Question::Image(1_000_000, None)),
+            Step::Tells(Question::Image(4_294_967_295, None)),
+        ],
+    },
+];
+
+#[test]
+fn deeds_are_kept(rt: HostRuntime) -> Result<(), Fail> {
+    assert_cases(&rt, rt.alloc(), DEEDS)
 }
 
 #[test]
-fn a_deed_is_replaced(rt: HostRuntime) -> Result<(), Fail> {
-    let mut desk = filled(&rt, rt.alloc())?;
-    assert!(rt; has_deed(&mut desk, 7, "A. Curator", 18_020)?);
-    put_deed(&rt, &mut desk, 7, "C. Heir, \u{dc}lm", -719_162)?;
-    assert!(rt; has_deed(&mut desk, 7, "C. Heir, \u{dc}lm", -719_162)?);
-    assert!(rt; has_deed(&mut desk, 8, "B. Donor", 18_321)?);
-    assert!(rt; has_program(rt.alloc(), &mut desk, &DIGEST)?);
-    Ok(())
-}
-
-#[test]
-fn the_same_image_again(rt: HostRuntime) -> Result<(), Fail> {
-    let alloc = rt.alloc();
-    let mut desk = filled(&rt, alloc)?;
-    let same = one_program(alloc)?;
-    assert_eq!(rt;
-        put_image(&mut desk, 12, 7, &DIGEST, same.as_slice()),
-        Ok(())
-    );
-    let other = looped(alloc)?;
-    assert_eq!(rt;
-        put_image(&mut desk, 12, 7, &DIGEST, other.as_slice()),
-        Ok(())
-    );
-    assert!(rt; has_program(alloc, &mut desk, &DIGEST)?);
-    Ok(())
-}
-
-#[test]
-fn another_image_at_an_accession(rt: HostRuntime) -> Result<(), Fail> {
-    let alloc = rt.alloc();
-    let mut desk = filled(&rt, alloc)?;
-    let other = looped(alloc)?;
-    let conflict = Err(StoreFault::Conflict);
-    assert_eq!(rt;
-        put_image(&mut desk, 12, 7, &OTHER_DIGEST, other.as_slice()),
-        conflict
-    );
-    assert_eq!(rt;
-        put_image(&mut desk, 12, 8, &DIGEST, other.as_slice()),
-        conflict
-    );
-    let cpm = hello(alloc)?;
-    assert_eq!(rt; put_cpm(&mut desk, cpm.as_slice()), conflict);
-    assert!(rt; has_program(alloc, &mut desk, &DIGEST)?);
-    Ok(())
-}
-
-#[test]
-fn an_image_without_a_deed(rt: HostRuntime) -> Result<(), Fail> {
-    let alloc = rt.alloc();
-    let mut desk = filled(&rt, alloc)?;
-    let other = looped(alloc)?;
-    let missing = Err(StoreFault::Missing);
-    assert_eq!(rt;
-        put_image(&mut desk, 13, 9, &DIGEST, other.as_slice()),
-        missing
-    );
-    assert_eq!(rt;
-        put_image(&mut desk, 12, 9, &DIGEST, other.as_slice()),
-        missing
-    );
-    assert!(rt; has_program(alloc, &mut desk, &DIGEST)?);
-    assert!(rt; image(alloc, &mut desk, 13)?.is_none());
-    Ok(())
-}
-
-#[test]
-fn accessions_ascend(rt: HostRuntime) -> Result<(), Fail> {
-    let alloc = rt.alloc();
-    let mut desk = new_desk(alloc)?;
-    assert!(rt; accessions(alloc, &mut desk)?.is_empty());
-    put_curator(&rt, &mut desk)?;
-    let other = looped(alloc)?;
-    put_image(&mut desk, 13, 7, &OTHER_DIGEST, other.as_slice())?;
-    put_image(&mut desk, 999_999, 7, &DIGEST, other.as_slice())?;
-    put_image(&mut desk, 12, 7, &DIGEST, other.as_slice())?;
-    let found = accessions(alloc, &mut desk)?;
-    assert_eq!(rt; found.as_slice(), [12, 13, 999_999].as_slice());
-    assert!(rt; has_image(alloc, &mut desk, 13, &OTHER_DIGEST, other.as_slice())?);
-    Ok(())
+fn images_are_kept(rt: HostRuntime) -> Result<(), Fail> {
+    assert_cases(&rt, rt.alloc(), IMAGES)
 }

@@ -1,6 +1,7 @@
 //! Rows that are not those of a desk: each breaks one limit of a filled desk, which is then refused.
 
-use super::{DIGEST, filled, has_image, has_program, into_connection, number, open_desk, run};
+use super::steps::{image, is_given};
+use super::{PROGRAM, filled, into_connection, number, open_desk, run};
 use crate::OpenFault;
 use rd_geometry::NoMemory;
 use rd_rows::bytes::put;
@@ -96,68 +97,219 @@ fn after_text(
     )
 }
 
-/// Asserts that a filled desk that one of these statements has changed is not opened.
-fn all_inconsistent(rt: &impl Abort, alloc: Global, statements: &[&str]) -> Result<(), Fail> {
+/// What opening a filled desk answers that one of these statements has changed.
+fn assert_after(
+    rt: &impl Abort,
+    alloc: Global,
+    statements: &[&str],
+    wanted: Option<OpenFault>,
+) -> Result<(), Fail> {
     for sql in statements {
-        assert_eq!(rt; after(rt, alloc, *sql)?, INCONSISTENT, "{sql}");
+        assert_eq!(rt; after(rt, alloc, *sql)?, wanted, "{sql}");
     }
     Ok(())
 }
 
-#[test]
-fn deeds_out_of_their_limits(rt: HostRuntime) -> Result<(), Fail> {
-    let statements = [
-        "UPDATE deed SET num = 0 WHERE num = 8",
-        "UPDATE deed SET num = -1 WHERE num = 8",
-        "UPDATE deed SET num = 1000000 WHERE num = 8",
-        "INSERT INTO deed VALUES (0, 'C. Heir', 18020)",
-        "UPDATE deed SET donor = '' WHERE num = 8",
-        "UPDATE deed SET donor = CAST(x'411F' AS TEXT) WHERE num = 8",
-        "UPDATE deed SET donor = CAST(x'00' AS TEXT) WHERE num = 8",
-        "UPDATE deed SET donor = CAST(x'FF' AS TEXT) WHERE num = 8",
-        "UPDATE deed SET donor = CAST(x'41C3' AS TEXT) WHERE num = 8",
-        "UPDATE deed SET signed = -719163 WHERE num = 8",
-        "UPDATE deed SET signed = 2932897 WHERE num = 8",
-    ];
-    all_inconsistent(&rt, rt.alloc(), &statements)?;
-    let donor = "UPDATE deed SET donor = ?1 WHERE num = 8";
-    assert_eq!(rt; after_text(&rt, rt.alloc(), donor, 1_001)?, INCONSISTENT);
-    assert_eq!(rt; after_text(&rt, rt.alloc(), donor, 1_000)?, None);
-    Ok(())
-}
+/// Statements that are given so many bytes, and why a filled desk is not opened afterwards; `None` where it
+/// is.
+type Sized = (&'static str, usize, Option<OpenFault>);
 
-#[test]
-fn images_out_of_their_limits(rt: HostRuntime) -> Result<(), Fail> {
-    let statements = [
-        "UPDATE image SET acc = 0",
-        "UPDATE image SET acc = -1",
-        "UPDATE image SET acc = 1000000",
-        "UPDATE image SET kind = 0",
-    ];
-    all_inconsistent(&rt, rt.alloc(), &statements)?;
-    for (sql, count, wanted) in [
-        ("UPDATE image SET digest = ?1", 31, INCONSISTENT),
-        ("UPDATE image SET digest = ?1", 32, None),
-        ("UPDATE image SET digest = ?1", 33, INCONSISTENT),
-        (IMAGE_BYTES, 0, INCONSISTENT),
-        (IMAGE_BYTES, 174_847, INCONSISTENT),
-        (IMAGE_BYTES, 174_848, None),
-        (IMAGE_BYTES, 174_849, INCONSISTENT),
-        (IMAGE_BYTES, 256_256, INCONSISTENT),
-        ("UPDATE image SET kind = 0, bytes = ?1", 256_256, None),
-        (
-            "UPDATE image SET kind = 0, bytes = ?1",
-            174_848,
-            INCONSISTENT,
-        ),
-    ] {
+fn assert_blobs(rt: &impl Abort, alloc: Global, cases: &[Sized]) -> Result<(), Fail> {
+    for (sql, count, wanted) in cases {
         assert_eq!(rt;
-            after_blob(&rt, rt.alloc(), sql, count)?,
-            wanted,
+            after_blob(rt, alloc, *sql, *count)?,
+            *wanted,
             "{sql}, {count}"
         );
     }
     Ok(())
+}
+
+fn assert_texts(rt: &impl Abort, alloc: Global, cases: &[Sized]) -> Result<(), Fail> {
+    for (sql, count, wanted) in cases {
+        assert_eq!(rt;
+            after_text(rt, alloc, *sql, *count)?,
+            *wanted,
+            "{sql}, {count}"
+        );
+    }
+    Ok(())
+}
+
+/// Deeds out of their limits.
+const DEEDS: &[&str] = &[
+    "UPDATE deed SET num = 0 WHERE num = 8",
+    "UPDATE deed SET num = -1 WHERE num = 8",
+    "UPDATE deed SET num = 1000000 WHERE num = 8",
+    "INSERT INTO deed VALUES (0, 'C. Heir', 18020)",
+    "UPDATE deed SET donor = '' WHERE num = 8",
+    "UPDATE deed SET donor = CAST(x'411F' AS TEXT) WHERE num = 8",
+    "UPDATE deed SET donor = CAST(x'00' AS TEXT) WHERE num = 8",
+    "UPDATE deed SET donor = CAST(x'FF' AS TEXT) WHERE num = 8",
+    "UPDATE deed SET donor = CAST(x'41C3' AS TEXT) WHERE num = 8",
+    "UPDATE deed SET signed = -719163 WHERE num = 8",
+    "UPDATE deed SET signed = 2932897 WHERE num = 8",
+];
+
+/// Images out of their limits.
+const IMAGES: &[&str] = &[
+    "UPDATE image SET acc = 0",
+    "UPDATE image SET acc = -1",
+    "UPDATE image SET acc = 1000000",
+    "UPDATE image SET kind = 0",
+];
+
+/// Keys out of their limits, and desks without one for the staff.
+const KEYS: &[&str] = &[
+    "UPDATE badge SET audience = 1",
+    "DELETE FROM badge WHERE audience = 2",
+    "DELETE FROM badge",
+];
+
+/// Rules out of their limits.
+const RULES: &[&str] = &[
+    "UPDATE rule SET scope = 0 WHERE rank = 10",
+    "UPDATE rule SET rank = 0 WHERE rank = 10",
+    "UPDATE rule SET rank = -1 WHERE rank = 10",
+    "UPDATE rule SET rank = 10000 WHERE rank = 10",
+    "UPDATE rule SET day_from = -719163 WHERE rank = 10",
+    "UPDATE rule SET day_from = 2932897 WHERE rank = 10",
+    "UPDATE rule SET day_until = -719163 WHERE rank = 10",
+    "UPDATE rule SET day_until = 2932897 WHERE rank = 10",
+];
+
+/// Rules of what is not there.
+const OF_NOTHING: &[&str] = &[
+    "UPDATE rule SET scope = 9 WHERE rank = 10",
+    "UPDATE rule SET scope = 12 WHERE rank = 10",
+    "UPDATE rule SET band = 0, scope = 99 WHERE rank = 10",
+    "UPDATE rule SET band = 0 WHERE rank = 10",
+    "UPDATE rule SET band = 0, scope = 12, effect = 2 WHERE rank = 10",
+];
+
+/// Selectors out of their limits.
+const SELECTORS: &[&str] = &[
+    "UPDATE rule SET number = 1 WHERE rank = 10",
+    "UPDATE rule SET number = -1 WHERE rank = 10",
+    "UPDATE rule SET word = 'x' WHERE rank = 10",
+    "UPDATE rule SET how = 1, number = 10000 WHERE rank = 10",
+    "UPDATE rule SET how = 1, number = -1 WHERE rank = 10",
+    "UPDATE rule SET how = 1, word = 'x' WHERE rank = 10",
+    "UPDATE rule SET how = 2, number = 1 WHERE rank = 10",
+    "UPDATE rule SET how = 2, word = CAST(x'7F' AS TEXT) WHERE rank = 10",
+    "UPDATE rule SET how = 2, word = CAST(x'411F' AS TEXT) WHERE rank = 10",
+    "UPDATE rule SET how = 2, word = CAST(x'C39C' AS TEXT) WHERE rank = 10",
+    "UPDATE rule SET how = 3, number = 16 WHERE rank = 10",
+    "UPDATE rule SET how = 3, word = 'x' WHERE rank = 10",
+    "UPDATE rule SET how = 4, number = 1, word = 'PRG' WHERE rank = 10",
+    "UPDATE rule SET how = 4, word = CAST(x'7F' AS TEXT) WHERE rank = 10",
+];
+
+/// Checks out of their limits, and of what is not there.
+const CHECKS: &[&str] = &[
+    "INSERT INTO checked VALUES (99, 18020, 0)",
+    "INSERT INTO checked VALUES (7, 18020, 0)",
+    "INSERT INTO checked VALUES (12, -719163, 0)",
+    "INSERT INTO checked VALUES (12, 2932897, 1)",
+];
+
+/// Rows of deeds, images and keys at their limits.
+const AT_LIMITS: &[&str] = &[
+    "UPDATE deed SET num = 1, signed = -719162 WHERE num = 8",
+    "UPDATE deed SET num = 999999, signed = 2932896 WHERE num = 8",
+    "UPDATE deed SET donor = CAST(x'207FC39C' AS TEXT) WHERE num = 8",
+    "UPDATE image SET acc = 1",
+    "UPDATE image SET acc = 999999",
+    "DELETE FROM image",
+    "UPDATE badge SET audience = 2",
+    "DELETE FROM badge WHERE audience = 1",
+];
+
+/// Rules and checks at their limits.
+const RULES_AT_LIMITS: &[&str] = &[
+    "UPDATE rule SET rank = 1, audiences = 1 WHERE rank = 10",
+    "UPDATE rule SET rank = 9999, audiences = 7 WHERE rank = 10",
+    "UPDATE rule SET day_from = -719162, day_until = 2932896",
+    "UPDATE rule SET day_from = 2932896, day_until = -719162",
+    "UPDATE rule SET effect = 1",
+    "UPDATE rule SET effect = 2",
+    "UPDATE rule SET band = 0, scope = 12, effect = 0",
+    "UPDATE rule SET band = 0, scope = 12, effect = 1",
+    "UPDATE rule SET how = 1",
+    "UPDATE rule SET how = 1, number = 9999",
+    "UPDATE rule SET how = 2",
+    "UPDATE rule SET how = 2, word = ' ~'",
+    "UPDATE rule SET how = 3, number = 15",
+    "UPDATE rule SET how = 4",
+    "INSERT INTO checked VALUES (12, -719162, 0), (12, 2932896, 1)",
+];
+
+/// Images and keys by the length of what they hold.
+const BLOBS: &[Sized] = &[
+    ("UPDATE image SET digest = ?1", 31, INCONSISTENT),
+    ("UPDATE image SET digest = ?1", 32, None),
+    ("UPDATE image SET digest = ?1", 33, INCONSISTENT),
+    (ROOM_DIGEST, 31, INCONSISTENT),
+    (ROOM_DIGEST, 32, None),
+    (ROOM_DIGEST, 33, INCONSISTENT),
+];
+
+const IMAGE_BLOBS: &[Sized] = &[
+    (IMAGE_BYTES, 0, INCONSISTENT),
+    (IMAGE_BYTES, 174_847, INCONSISTENT),
+    (IMAGE_BYTES, 174_848, None),
+    (IMAGE_BYTES, 174_849, INCONSISTENT),
+    (IMAGE_BYTES, 256_256, INCONSISTENT),
+    (CPM_BYTES, 256_256, None),
+    (CPM_BYTES, 174_848, INCONSISTENT),
+];
+
+/// Texts by their length.
+const TEXTS: &[Sized] = &[
+    (DONOR, 1_001, INCONSISTENT),
+    (DONOR, 1_000, None),
+    (PREFIX, 64, None),
+    (PREFIX, 65, INCONSISTENT),
+    (KIND, 16, None),
+    (KIND, 17, INCONSISTENT),
+];
+
+const CPM_BYTES: &str = "UPDATE image SET kind = 0, bytes = ?1";
+
+const ROOM_DIGEST: &str = "UPDATE badge SET digest = ?1 WHERE audience = 1";
+
+const DONOR: &str = "UPDATE deed SET donor = ?1 WHERE num = 8";
+
+const PREFIX: &str = "UPDATE rule SET how = 2, word = ?1 WHERE rank = 10";
+
+const KIND: &str = "UPDATE rule SET how = 4, word = ?1 WHERE rank = 10";
+
+#[test]
+fn deeds_images_and_keys_out_of_their_limits(rt: HostRuntime) -> Result<(), Fail> {
+    assert_after(&rt, rt.alloc(), DEEDS, INCONSISTENT)?;
+    assert_after(&rt, rt.alloc(), IMAGES, INCONSISTENT)?;
+    assert_after(&rt, rt.alloc(), KEYS, INCONSISTENT)
+}
+
+#[test]
+fn rules_and_checks_out_of_their_limits(rt: HostRuntime) -> Result<(), Fail> {
+    assert_after(&rt, rt.alloc(), RULES, INCONSISTENT)?;
+    assert_after(&rt, rt.alloc(), OF_NOTHING, INCONSISTENT)?;
+    assert_after(&rt, rt.alloc(), SELECTORS, INCONSISTENT)?;
+    assert_after(&rt, rt.alloc(), CHECKS, INCONSISTENT)
+}
+
+#[test]
+fn rows_at_their_limits_open(rt: HostRuntime) -> Result<(), Fail> {
+    assert_after(&rt, rt.alloc(), AT_LIMITS, None)?;
+    assert_after(&rt, rt.alloc(), RULES_AT_LIMITS, None)
+}
+
+#[test]
+fn bytes_and_texts_have_their_lengths(rt: HostRuntime) -> Result<(), Fail> {
+    assert_blobs(&rt, rt.alloc(), BLOBS)?;
+    assert_blobs(&rt, rt.alloc(), IMAGE_BLOBS)?;
+    assert_texts(&rt, rt.alloc(), TEXTS)
 }
 
 /// The image with one program, with another byte in it.
@@ -175,8 +327,8 @@ fn an_image_with_another_byte_opens(rt: HostRuntime) -> Result<(), Fail> {
     let Ok(mut desk) = open_desk(&rt, alloc, conn) else {
         return Err(Fail::new("no desk"));
     };
-    assert!(rt; has_image(alloc, &mut desk, 12, &DIGEST, bytes.as_slice())?);
-    assert!(rt; !has_program(alloc, &mut desk, &DIGEST)?);
+    let row = image(alloc, &mut desk, 12)?.ok_or("an image")?;
+    assert!(rt; is_given(&row, PROGRAM, bytes.as_slice()));
     Ok(())
 }
 
@@ -190,151 +342,8 @@ fn an_image_without_its_last_byte(rt: HostRuntime) -> Result<(), Fail> {
     Ok(())
 }
 
-#[test]
-fn keys_out_of_their_limits(rt: HostRuntime) -> Result<(), Fail> {
-    let statements = [
-        "UPDATE badge SET audience = 1",
-        "DELETE FROM badge WHERE audience = 2",
-        "DELETE FROM badge",
-    ];
-    all_inconsistent(&rt, rt.alloc(), &statements)?;
-    let room = "UPDATE badge SET digest = ?1 WHERE audience = 1";
-    for (count, wanted) in [(31, INCONSISTENT), (32, None), (33, INCONSISTENT)] {
-        assert_eq!(rt;
-            after_blob(&rt, rt.alloc(), room, count)?,
-            wanted,
-            "{count}"
-        );
-    }
-    Ok(())
-}
-
-#[test]
-fn rules_out_of_their_limits(rt: HostRuntime) -> Result<(), Fail> {
-    let statements = [
-        "UPDATE rule SET scope = 0 WHERE rank = 10",
-        "UPDATE rule SET rank = 0 WHERE rank = 10",
-        "UPDATE rule SET rank = -1 WHERE rank = 10",
-        "UPDATE rule SET rank = 10000 WHERE rank = 10",
-        "UPDATE rule SET day_from = -719163 WHERE rank = 10",
-        "UPDATE rule SET day_from = 2932897 WHERE rank = 10",
-        "UPDATE rule SET day_until = -719163 WHERE rank = 10",
-        "UPDATE rule SET day_until = 2932897 WHERE rank = 10",
-    ];
-    all_inconsistent(&rt, rt.alloc(), &statements)
-}
-
-#[test]
-fn rules_of_what_is_not_there(rt: HostRuntime) -> Result<(), Fail> {
-    let statements = [
-        "UPDATE rule SET scope = 9 WHERE rank = 10",
-        "UPDATE rule SET scope = 12 WHERE rank = 10",
-        "UPDATE rule SET band = 0, scope = 99 WHERE rank = 10",
-        "UPDATE rule SET band = 0 WHERE rank = 10",
-        "UPDATE rule SET band = 0, scope = 12, effect = 2 WHERE rank = 10",
-    ];
-    all_inconsistent(&rt, rt.alloc(), &statements)
-}
-
-#[test]
-fn selectors_out_of_their_limits(rt: HostRuntime) -> Result<(), Fail> {
-    let statements = [
-        "UPDATE rule SET number = 1 WHERE rank = 10",
-        "UPDATE rule SET number = -1 WHERE rank = 10",
-        "UPDATE rule SET word = 'x' WHERE rank = 10",
-        "UPDATE rule SET how = 1, number = 10000 WHERE rank = 10",
-        "UPDATE rule SET how = 1, number = -1 WHERE rank = 10",
-        "UPDATE rule SET how = 1, word = 'x' WHERE rank = 10",
-        "UPDATE rule SET how = 2, number = 1 WHERE rank = 10",
-        "UPDATE rule SET how = 2, word = CAST(x'7F' AS TEXT) WHERE rank = 10",
-        "UPDATE rule SET how = 2, word = CAST(x'411F' AS TEXT) WHERE rank = 10",
-        "UPDATE rule SET how = 2, word = CAST(x'C39C' AS TEXT) WHERE rank = 10",
-        "UPDATE rule SET how = 3, number = 16 WHERE rank = 10",
-        "UPDATE rule SET how = 3, word = 'x' WHERE rank = 10",
-        "UPDATE rule SET how = 4, number = 1, word = 'PRG' WHERE rank = 10",
-        "UPDATE rule SET how = 4, word = CAST(x'7F' AS TEXT) WHERE rank = 10",
-    ];
-    all_inconsistent(&rt, rt.alloc(), &statements)
-}
-
-#[test]
-fn words_are_no_longer_than_their_limits(rt: HostRuntime) -> Result<(), Fail> {
-    for (sql, count, wanted) in [
-        (
-            "UPDATE rule SET how = 2, word = ?1 WHERE rank = 10",
-            64,
-            None,
-        ),
-        (
-            "UPDATE rule SET how = 2, word = ?1 WHERE rank = 10",
-            65,
-            INCONSISTENT,
-        ),
-        (
-            "UPDATE rule SET how = 4, word = ?1 WHERE rank = 10",
-            16,
-            None,
-        ),
-        (
-            "UPDATE rule SET how = 4, word = ?1 WHERE rank = 10",
-            17,
-            INCONSISTENT,
-        ),
-    ] {
-        assert_eq!(rt;
-            after_text(&rt, rt.alloc(), sql, count)?,
-            wanted,
-            "{sql}, {count}"
-        );
-    }
-    Ok(())
-}
-
-#[test]
-fn checks_out_of_their_limits(rt: HostRuntime) -> Result<(), Fail> {
-    let statements = [
-        "INSERT INTO checked VALUES (99, 18020, 0)",
-        "INSERT INTO checked VALUES (7, 18020, 0)",
-        "INSERT INTO checked VALUES (12, -719163, 0)",
-        "INSERT INTO checked VALUES (12, 2932897, 1)",
-    ];
-    all_inconsistent(&rt, rt.alloc(), &statements)
-}
-
-#[test]
-fn rows_at_their_limits_open(rt: HostRuntime) -> Result<(), Fail> {
-    for sql in [
-        "UPDATE deed SET num = 1, signed = -719162 WHERE num = 8",
-        "UPDATE deed SET num = 999999, signed = 2932896 WHERE num = 8",
-        "UPDATE deed SET donor = CAST(x'207FC39C' AS TEXT) WHERE num = 8",
-        "UPDATE image SET acc = 1",
-        "UPDATE image SET acc = 999999",
-        "DELETE FROM image",
-        "UPDATE badge SET audience = 2",
-        "DELETE FROM badge WHERE audience = 1",
-        "UPDATE rule SET rank = 1, audiences = 1 WHERE rank = 10",
-        "UPDATE rule SET rank = 9999, audiences = 7 WHERE rank = 10",
-        "UPDATE rule SET day_from = -719162, day_until = 2932896",
-        "UPDATE rule SET day_from = 2932896, day_until = -719162",
-        "UPDATE rule SET effect = 1",
-        "UPDATE rule SET effect = 2",
-        "UPDATE rule SET band = 0, scope = 12, effect = 0",
-        "UPDATE rule SET band = 0, scope = 12, effect = 1",
-        "UPDATE rule SET how = 1",
-        "UPDATE rule SET how = 1, number = 9999",
-        "UPDATE rule SET how = 2",
-        "UPDATE rule SET how = 2, word = ' ~'",
-        "UPDATE rule SET how = 3, number = 15",
-        "UPDATE rule SET how = 4",
-        "INSERT INTO checked VALUES (12, -719162, 0), (12, 2932896, 1)",
-    ] {
-        assert_eq!(rt; after(&rt, rt.alloc(), sql)?, None, "{sql}");
-    }
-    Ok(())
-}
-
 /// What no row of a desk's tables can hold.
-const EXCLUDED: [&str; 29] = [
+const EXCLUDED: &[&str] = &[
     "INSERT INTO desk VALUES (2, 0)",
     "UPDATE desk SET version = NULL",
     "UPDATE desk SET version = 'x'",
@@ -350,6 +359,10 @@ const EXCLUDED: [&str; 29] = [
     "UPDATE image SET digest = 'x'",
     "UPDATE image SET bytes = 'x'",
     "UPDATE image SET bytes = NULL",
+];
+
+/// What no row of its rules, keys and checks can hold.
+const RULES_EXCLUDED: &[&str] = &[
     "UPDATE rule SET band = 2",
     "UPDATE rule SET audiences = 0",
     "UPDATE rule SET audiences = 8",
@@ -366,12 +379,18 @@ const EXCLUDED: [&str; 29] = [
     "INSERT INTO checked VALUES (12, 18020, 0), (12, 18020, 1)",
 ];
 
+/// The tables refuse each of these statements.
+fn assert_excluded(rt: &impl Abort, conn: &mut Connection<MemStore>, statements: &[&str]) {
+    for sql in statements {
+        assert!(rt; run(conn, *sql).is_err(), "{sql}");
+    }
+}
+
 #[test]
 fn the_tables_exclude_other_rows(rt: HostRuntime) -> Result<(), Fail> {
     let mut conn = filled_connection(&rt, rt.alloc())?;
-    for sql in EXCLUDED {
-        assert!(rt; run(&mut conn, sql).is_err(), "{sql}");
-    }
+    assert_excluded(&rt, &mut conn, EXCLUDED);
+    assert_excluded(&rt, &mut conn, RULES_EXCLUDED);
     assert_eq!(rt; number(&mut conn, ROWS)?, 2_212);
     assert_eq!(rt; opens(&rt, rt.alloc(), conn)?, None);
     Ok(())

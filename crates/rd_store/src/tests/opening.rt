@@ -16,29 +16,28 @@ const DESK: &str =
 const DEED: &str =
     "CREATE TABLE deed (num INTEGER PRIMARY KEY, donor TEXT NOT NULL, signed INTEGER NOT NULL) STRICT";
 
+/// Counts what a database declares.
+const TABLES: &str = "SELECT count(*) FROM sqlite_master";
+
 const VERSION_0: &str = "INSERT INTO desk (id, version) VALUES (1, 0)";
 
 const VERSION_1: &str = "INSERT INTO desk (id, version) VALUES (1, 1)";
 
 const VERSION_9: &str = "INSERT INTO desk (id, version) VALUES (1, 9)";
 
-/// Why a database is not opened as a desk. Its tables stand afterwards as before.
-fn refusal(
+/// Why a database is not opened as a desk; `None` where it is. As many tables stand afterwards as before.
+fn answer(
     rt: &impl Abort,
     alloc: Global,
     mut conn: Connection<MemStore>,
-) -> Result<OpenFault, Fail> {
-    let before = number(&mut conn, "SELECT count(*) FROM sqlite_master")?;
-    match open_desk(rt, alloc, conn) {
-        Ok(_) => Err(Fail::new("a desk")),
-        Err((fault, mut conn)) => {
-            assert_eq!(rt;
-                number(&mut conn, "SELECT count(*) FROM sqlite_master")?,
-                before
-            );
-            Ok(fault)
-        }
-    }
+) -> Result<Option<OpenFault>, Fail> {
+    let before = number(&mut conn, TABLES)?;
+    let (answer, mut conn) = match open_desk(rt, alloc, conn) {
+        Ok(desk) => (None, into_connection(desk)),
+        Err((fault, conn)) => (Some(fault), conn),
+    };
+    assert_eq!(rt; number(&mut conn, TABLES)?, before);
+    Ok(answer)
 }
 
 /// A database made by these statements.
@@ -92,174 +91,225 @@ fn declared(
     Ok(conn)
 }
 
-#[test]
-fn a_database_without_tables_is_no_desk(rt: HostRuntime) -> Result<(), Fail> {
-    let conn = new_connection(rt.alloc())?;
-    assert_eq!(rt; refusal(&rt, rt.alloc(), conn)?, OpenFault::NotADesk);
-    Ok(())
-}
+/// Statements that make a database, and why it is not opened as a desk.
+type Made = (&'static [&'static str], OpenFault);
 
-#[test]
-fn other_columns_are_no_desk(rt: HostRuntime) -> Result<(), Fail> {
-    let alloc = rt.alloc();
-    for text in [
-        "CREATE TABLE desk (id INTEGER PRIMARY KEY CHECK (id = 1)) STRICT",
-        "CREATE TABLE desk (id INTEGER PRIMARY KEY CHECK (id = 1), version INTEGER NOT NULL, more INTEGER) STRICT",
-        "CREATE TABLE desk (id INTEGER PRIMARY KEY CHECK (id = 1), edition INTEGER NOT NULL) STRICT",
-        "CREATE TABLE desk (num INTEGER PRIMARY KEY CHECK (num = 1), version INTEGER NOT NULL) STRICT",
-        "CREATE TABLE desk (version INTEGER NOT NULL, id INTEGER PRIMARY KEY CHECK (id = 1)) STRICT",
-        "CREATE TABLE desks (id INTEGER PRIMARY KEY CHECK (id = 1), version INTEGER NOT NULL) STRICT",
-        "CREATE VIEW desk AS SELECT 1 AS id, 0 AS version",
-        DEED,
-    ] {
-        let conn = made(alloc, &[text])?;
-        assert_eq!(rt; refusal(&rt, alloc, conn)?, OpenFault::NotADesk, "{text}");
+const NO_DESKS: &[Made] = &[
+    (&[], OpenFault::NotADesk),
+    (
+        &["CREATE TABLE desk (id INTEGER PRIMARY KEY CHECK (id = 1)) STRICT"],
+        OpenFault::NotADesk,
+    ),
+    (
+        &[
+            "CREATE TABLE desk (id INTEGER PRIMARY KEY CHECK (id = 1), version INTEGER NOT NULL, more INTEGER) STRICT",
+        ],
+        OpenFault::NotADesk,
+    ),
+    (
+        &[
+            "CREATE TABLE desk (id INTEGER PRIMARY KEY CHECK (id = 1), edition INTEGER NOT NULL) STRICT",
+        ],
+        OpenFault::NotADesk,
+    ),
+    (
+        &[
+            "CREATE TABLE desk (num INTEGER PRIMARY KEY CHECK (num = 1), version INTEGER NOT NULL) STRICT",
+        ],
+        OpenFault::NotADesk,
+    ),
+    (
+        &[
+            "CREATE TABLE desk (version INTEGER NOT NULL, id INTEGER PRIMARY KEY CHECK (id = 1)) STRICT",
+        ],
+        OpenFault::NotADesk,
+    ),
+    (
+        &[
+            "CREATE TABLE desks (id INTEGER PRIMARY KEY CHECK (id = 1), version INTEGER NOT NULL) STRICT",
+        ],
+        OpenFault::NotADesk,
+    ),
+    (
+        &["CREATE VIEW desk AS SELECT 1 AS id, 0 AS version"],
+        OpenFault::NotADesk,
+    ),
+    (&[DEED], OpenFault::NotADesk),
+];
+
+/// The same, where the table of the version stands.
+const PARTS: &[Made] = &[
+    (&[DESK], OpenFault::Version),
+    (&[DESK, VERSION_1], OpenFault::Version),
+    (&[DESK, DEED, VERSION_1], OpenFault::Version),
+    (&[DESK, VERSION_9], OpenFault::Version),
+    (&[DESK, DEED, VERSION_9], OpenFault::Version),
+    (&[DEED, DESK, VERSION_9], OpenFault::Sql),
+    (&[DESK, VERSION_0], OpenFault::Sql),
+    (&[DESK, DEED, VERSION_0], OpenFault::Sql),
+];
+
+fn assert_made(rt: &impl Abort, alloc: Global, cases: &[Made]) -> Result<(), Fail> {
+    for (texts, fault) in cases {
+        let conn = made(alloc, *texts)?;
+        assert_eq!(rt; answer(rt, alloc, conn)?, Some(*fault), "{texts:?}");
     }
     Ok(())
 }
 
 #[test]
-fn a_desk_without_its_row_has_no_version(rt: HostRuntime) -> Result<(), Fail> {
-    let alloc = rt.alloc();
-    let alone = made(alloc, &[DESK])?;
-    assert_eq!(rt; refusal(&rt, alloc, alone)?, OpenFault::Version);
-    let whole = changed(&rt, alloc, &["DELETE FROM desk"])?;
-    assert_eq!(rt; refusal(&rt, alloc, whole)?, OpenFault::Version);
+fn other_databases_are_no_desk(rt: HostRuntime) -> Result<(), Fail> {
+    assert_made(&rt, rt.alloc(), NO_DESKS)
+}
+
+#[test]
+fn parts_of_a_desk_are_told_by_their_version(rt: HostRuntime) -> Result<(), Fail> {
+    assert_made(&rt, rt.alloc(), PARTS)
+}
+
+/// Statements that change a filled desk, after which it is told by its version.
+const VERSIONS: &[&[&str]] = &[
+    &["DELETE FROM desk"],
+    &["UPDATE desk SET version = 9"],
+    &["UPDATE desk SET version = 1"],
+    &["UPDATE desk SET version = -1"],
+    &["UPDATE desk SET version = 9223372036854775807"],
+    &[SET_VERSION_1, MORE_TABLE],
+    &[SET_VERSION_1, MORE_VIEW],
+    &[SET_VERSION_1, MORE_INDEX],
+    &[SET_VERSION_1, LESS_IMAGE],
+    &[SET_VERSION_9, MORE_TABLE],
+    &[SET_VERSION_9, MORE_VIEW],
+    &[SET_VERSION_9, MORE_INDEX],
+    &[SET_VERSION_9, LESS_IMAGE],
+];
+
+const SET_VERSION_1: &str = "UPDATE desk SET version = 1";
+
+const SET_VERSION_9: &str = "UPDATE desk SET version = 9";
+
+const MORE_TABLE: &str = "CREATE TABLE found (id INTEGER PRIMARY KEY) STRICT";
+
+const MORE_VIEW: &str = "CREATE VIEW found AS SELECT 1";
+
+const MORE_INDEX: &str = "CREATE INDEX found ON deed (donor)";
+
+const LESS_IMAGE: &str = "DROP TABLE image";
+
+/// Statements that change a filled desk, after which it has other tables.
+const OTHER_TABLES: &[&[&str]] = &[
+    &[LESS_IMAGE],
+    &["DROP TABLE rule"],
+    &["DROP TABLE badge"],
+    &["DROP TABLE checked"],
+    &[MORE_TABLE],
+    &[MORE_VIEW],
+    &[MORE_INDEX],
+];
+
+fn assert_changed(
+    rt: &impl Abort,
+    alloc: Global,
+    cases: &[&[&str]],
+    fault: OpenFault,
+) -> Result<(), Fail> {
+    for texts in cases {
+        let conn = changed(rt, alloc, *texts)?;
+        assert_eq!(rt; answer(rt, alloc, conn)?, Some(fault), "{texts:?}");
+    }
     Ok(())
 }
 
 #[test]
 fn other_versions_are_told(rt: HostRuntime) -> Result<(), Fail> {
-    let alloc = rt.alloc();
-    for text in [
-        "UPDATE desk SET version = 9",
-        "UPDATE desk SET version = 1",
-        "UPDATE desk SET version = -1",
-        "UPDATE desk SET version = 9223372036854775807",
-    ] {
-        let conn = changed(&rt, alloc, &[text])?;
-        assert_eq!(rt; refusal(&rt, alloc, conn)?, OpenFault::Version, "{text}");
-    }
-    Ok(())
+    assert_changed(&rt, rt.alloc(), VERSIONS, OpenFault::Version)
 }
 
 #[test]
-fn another_version_may_declare_other_tables(rt: HostRuntime) -> Result<(), Fail> {
-    let alloc = rt.alloc();
-    for version in [VERSION_1, VERSION_9] {
-        let conn = made(alloc, &[DESK, version])?;
-        assert_eq!(rt; refusal(&rt, alloc, conn)?, OpenFault::Version, "{version}");
-        let conn = made(alloc, &[DESK, DEED, version])?;
-        assert_eq!(rt; refusal(&rt, alloc, conn)?, OpenFault::Version, "{version}");
-        let conn = declared(alloc, "signed", "dated", version)?;
-        assert_eq!(rt; refusal(&rt, alloc, conn)?, OpenFault::Version, "{version}");
-    }
-    Ok(())
+fn a_desk_of_this_version_has_its_tables_alone(rt: HostRuntime) -> Result<(), Fail> {
+    assert_changed(&rt, rt.alloc(), OTHER_TABLES, OpenFault::Sql)
 }
 
-/// Asserts that a desk to which a statement gives another version is told by it, with other tables too.
-fn tells_version(rt: &impl Abort, alloc: Global, version: &str) -> Result<(), Fail> {
-    for text in [
-        "CREATE TABLE found (id INTEGER PRIMARY KEY) STRICT",
-        "CREATE VIEW found AS SELECT 1",
-        "CREATE INDEX found ON deed (donor)",
-        "DROP TABLE image",
-    ] {
-        let conn = changed(rt, alloc, &[version, text])?;
+/// A part of the declarations of a desk's tables, what stands in its place, the version, and why that is
+/// not opened; `None` where it is.
+type Declared = (&'static str, &'static str, &'static str, Option<OpenFault>);
+
+const DECLARED: &[Declared] = &[
+    ("signed", "signed", VERSION_0, None),
+    ("signed", "dated", VERSION_1, Some(OpenFault::Version)),
+    ("signed", "dated", VERSION_9, Some(OpenFault::Version)),
+    ("signed", "dated", VERSION_0, OTHERWISE),
+    ("donor TEXT", "donor BLOB", VERSION_0, OTHERWISE),
+    (
+        "signed INTEGER NOT NULL)",
+        "signed INTEGER NOT NULL, note TEXT)",
+        VERSION_0,
+        OTHERWISE,
+    ),
+    (" CHECK (id = 1)", "", VERSION_0, OTHERWISE),
+    ("version INTEGER", "version TEXT", VERSION_0, OTHERWISE),
+];
+
+const DECLARED_ON: &[Declared] = &[
+    (" REFERENCES deed (num)", "", VERSION_0, OTHERWISE),
+    ("CHECK (kind BETWEEN 0 AND 1)", "", VERSION_0, OTHERWISE),
+    (
+        "audiences BETWEEN 1 AND 7",
+        "audiences BETWEEN 1 AND 15",
+        VERSION_0,
+        OTHERWISE,
+    ),
+    (
+        "day_from INTEGER",
+        "day_from INTEGER NOT NULL",
+        VERSION_0,
+        OTHERWISE,
+    ),
+    (
+        "PRIMARY KEY (band, scope, rank)",
+        "PRIMARY KEY (band, rank, scope)",
+        VERSION_0,
+        OTHERWISE,
+    ),
+    (
+        "digest BLOB NOT NULL PRIMARY KEY",
+        "digest BLOB NOT NULL",
+        VERSION_0,
+        OTHERWISE,
+    ),
+    (
+        "CREATE TABLE checked",
+        "CREATE TABLE found",
+        VERSION_0,
+        OTHERWISE,
+    ),
+];
+
+/// Why tables that are declared otherwise are no desk's.
+const OTHERWISE: Option<OpenFault> = Some(OpenFault::Sql);
+
+fn assert_declared(rt: &impl Abort, alloc: Global, cases: &[Declared]) -> Result<(), Fail> {
+    for (part, other, version, wanted) in cases {
+        let conn = declared(alloc, *part, *other, *version)?;
         assert_eq!(rt;
-            refusal(rt, alloc, conn)?,
-            OpenFault::Version,
-            "{version}, {text}"
+            answer(rt, alloc, conn)?,
+            *wanted,
+            "{part}: {other}, {version}"
         );
     }
     Ok(())
 }
 
 #[test]
-fn another_version_may_lack_tables_and_have_more(rt: HostRuntime) -> Result<(), Fail> {
-    tells_version(&rt, rt.alloc(), "UPDATE desk SET version = 1")?;
-    tells_version(&rt, rt.alloc(), "UPDATE desk SET version = 9")
-}
-
-#[test]
-fn the_table_of_the_version_comes_first(rt: HostRuntime) -> Result<(), Fail> {
-    let conn = made(rt.alloc(), &[DEED, DESK, VERSION_9])?;
-    assert_eq!(rt; refusal(&rt, rt.alloc(), conn)?, OpenFault::Sql);
-    Ok(())
-}
-
-#[test]
-fn a_desk_of_this_version_has_all_its_tables(rt: HostRuntime) -> Result<(), Fail> {
-    let alloc = rt.alloc();
-    let conn = made(alloc, &[DESK, VERSION_0])?;
-    assert_eq!(rt; refusal(&rt, alloc, conn)?, OpenFault::Sql);
-    let conn = made(alloc, &[DESK, DEED, VERSION_0])?;
-    assert_eq!(rt; refusal(&rt, alloc, conn)?, OpenFault::Sql);
-    for text in [
-        "DROP TABLE image",
-        "DROP TABLE rule",
-        "DROP TABLE badge",
-        "DROP TABLE checked",
-    ] {
-        let conn = changed(&rt, alloc, &[text])?;
-        assert_eq!(rt; refusal(&rt, alloc, conn)?, OpenFault::Sql, "{text}");
-    }
-    Ok(())
-}
-
-#[test]
-fn a_desk_of_this_version_has_nothing_else(rt: HostRuntime) -> Result<(), Fail> {
-    let alloc = rt.alloc();
-    for text in [
-        "CREATE TABLE found (id INTEGER PRIMARY KEY) STRICT",
-        "CREATE VIEW found AS SELECT 1",
-        "CREATE INDEX found ON deed (donor)",
-    ] {
-        let conn = changed(&rt, alloc, &[text])?;
-        assert_eq!(rt; refusal(&rt, alloc, conn)?, OpenFault::Sql, "{text}");
-    }
-    Ok(())
-}
-
-#[test]
 fn tables_declared_otherwise_are_refused(rt: HostRuntime) -> Result<(), Fail> {
-    let alloc = rt.alloc();
-    let same = declared(alloc, "signed", "signed", VERSION_0)?;
-    assert!(rt; open_desk(&rt, alloc, same).is_ok());
-    for (part, other) in [
-        ("signed", "dated"),
-        ("donor TEXT", "donor BLOB"),
-        (
-            "signed INTEGER NOT NULL)",
-            "signed INTEGER NOT NULL, note TEXT)",
-        ),
-        (" CHECK (id = 1)", ""),
-        ("version INTEGER", "version TEXT"),
-        (" REFERENCES deed (num)", ""),
-        ("CHECK (kind BETWEEN 0 AND 1)", ""),
-        ("audiences BETWEEN 1 AND 7", "audiences BETWEEN 1 AND 15"),
-        ("day_from INTEGER", "day_from INTEGER NOT NULL"),
-        (
-            "PRIMARY KEY (band, scope, rank)",
-            "PRIMARY KEY (band, rank, scope)",
-        ),
-        ("digest BLOB NOT NULL PRIMARY KEY", "digest BLOB NOT NULL"),
-        ("CREATE TABLE checked", "CREATE TABLE found"),
-    ] {
-        let conn = declared(alloc, part, other, VERSION_0)?;
-        assert_eq!(rt; refusal(&rt, alloc, conn)?, OpenFault::Sql, "{part}");
-    }
-    Ok(())
+    assert_declared(&rt, rt.alloc(), DECLARED)?;
+    assert_declared(&rt, rt.alloc(), DECLARED_ON)
 }
 
 #[test]
 fn a_new_desk_opens(rt: HostRuntime) -> Result<(), Fail> {
-    let alloc = rt.alloc();
-    let conn = into_connection(new_desk(alloc)?);
-    let Ok(desk) = open_desk(&rt, alloc, conn) else {
-        return Err(Fail::new("no desk"));
-    };
-    let mut conn = into_connection(desk);
+    let desk = new_desk(rt.alloc())?;
+    let mut conn = into_connection(reopened(&rt, rt.alloc(), desk)?);
     assert_eq!(rt; number(&mut conn, "SELECT count(*) FROM badge")?, 1);
     assert_eq!(rt; number(&mut conn, "SELECT count(*) FROM deed")?, 0);
     Ok(())

@@ -1,109 +1,144 @@
 //! Rules of deeds and takedowns.
 
-use super::{ALL, Desk, NOT_STAFF, closed, filled, has_rules, open, put_rule, rule, takedown};
-use crate::StoreFault;
-use rd_geometry::{NoMemory, Text};
-use rd_policy::{Audiences, Band, Effect, Rule, Select};
-use std::alloc::Global;
+use super::steps::{
+    Call, Case, DONE, Digest, MISSING, Named, Picture, Question, Start, Step, assert_cases,
+};
+use rd_policy::Band;
 use std::test::Fail;
 
-fn drop_rule(desk: &mut Desk, band: Band, scope: u32, rank: u16) -> Result<(), StoreFault> {
-    desk.drop_rule(band, scope, rank)
-}
+const ORDERS: &[Case] = &[
+    Case {
+        label: "takedowns come first",
+        start: Start::Filled,
+        steps: &[
+            Step::Tells(Question::RulesFor(12, &[(Named::Closed, 7), (Named::Open, 7)])),
+            Step::Does(Call::PutRule(Named::Takedown, 12), DONE),
+            Step::Tells(Question::RulesFor(
+                12,
+                &[(Named::Takedown, 12), (Named::Closed, 7), (Named::Open, 7)],
+            )),
+            Step::Tells(Question::RulesFor(99, &[])),
+        ],
+    },
+    Case {
+        label: "a rule is replaced",
+        start: Start::Filled,
+        steps: &[
+            Step::Does(Call::PutRule(Named::Listed, 7), DONE),
+            Step::Tells(Question::RulesFor(12, &[(Named::Listed, 7), (Named::Open, 7)])),
+        ],
+    },
+    Case {
+        label: "a rule goes",
+        start: Start::Filled,
+        steps: &[
+            Step::Does(Call::DropRule(Band::Deed, 7, 30), DONE),
+            Step::Does(Call::DropRule(Band::Takedown, 12, 10), DONE),
+            Step::Does(Call::DropRule(Band::Deed, 8, 10), DONE),
+            Step::Tells(Question::RulesFor(12, &[(Named::Closed, 7), (Named::Open, 7)])),
+            Step::Does(Call::DropRule(Band::Deed, 7, 10), DONE),
+            Step::Tells(Question::RulesFor(12, &[(Named::Open, 7)])),
+        ],
+    },
+    Case {
+        label: "rules of what is missing",
+        start: Start::Filled,
+        steps: &[
+            Step::Does(Call::PutRule(Named::Takedown, 99), MISSING),
+            Step::Does(Call::PutRule(Named::Open, 9), MISSING),
+            Step::Does(Call::DropRule(Band::Deed, 9, 10), MISSING),
+            Step::Does(Call::DropRule(Band::Takedown, 7, 10), MISSING),
+            Step::Tells(Question::RulesFor(12, &[(Named::Closed, 7), (Named::Open, 7)])),
+        ],
+    },
+];
+
+const SELECTORS: &[Case] = &[Case {
+    label: "every selector comes back",
+    start: Start::Filled,
+    steps: &[
+        Step::Does(Call::DropRule(Band::Deed, 7, 10), DONE),
+        Step::Does(Call::DropRule(Band::Deed, 7, 20), DONE),
+        Step::Does(Call::PutRule(Named::BySlot, 7), DONE),
+        Step::Does(Call::PutRule(Named::ByPrefix, 7), DONE),
+        Step::Does(Call::PutRule(Named::ByUser, 7), DONE),
+        Step::Does(Call::PutRule(Named::ByKind, 7), DONE),
+        Step::Does(Call::PutRule(Named::ByDays, 7), DONE),
+        Step::Tells(Question::RulesFor(
+            12,
+            &[
+                (Named::BySlot, 7),
+                (Named::ByPrefix, 7),
+                (Named::ByUser, 7),
+                (Named::ByKind, 7),
+                (Named::ByDays, 7),
+            ],
+        )),
+    ],
+}];
+
+const NUMBERS: &[Case] = &[
+    Case {
+        label: "rules are of the numbers from 1 to 999,999",
+        start: Start::New,
+        steps: &[
+            Step::Does(Call::PutDeed(1, "A. Curator", 18_020), DONE),
+            Step::Does(Call::PutDeed(999_999, "B. Donor", 18_321), DONE),
+            Step::Does(Call::PutImage(1, (Picture::Looped, 1, Digest::Other)), DONE),
+            Step::Does(
+                Call::PutImage(999_999, (Picture::Looped, 999_999, Digest::Other)),
+                DONE,
+            ),
+            Step::Tells(Question::RulesFor(1, &[])),
+            Step::Tells(Question::RulesFor(999_999, &[])),
+            Step::Does(Call::PutRule(Named::Closed, 1), DONE),
+            Step::Does(Call::PutRule(Named::Takedown, 1), DONE),
+            Step::Does(Call::PutRule(Named::Open, 999_999), DONE),
+            Step::Does(Call::PutRule(Named::LastTakedown, 999_999), DONE),
+            Step::Tells(Question::RulesFor(1, &[(Named::Takedown, 1), (Named::Closed, 1)])),
+            Step::Tells(Question::RulesFor(
+                999_999,
+                &[(Named::LastTakedown, 999_999), (Named::Open, 999_999)],
+            )),
+            Step::Does(Call::DropRule(Band::Takedown, 1, 1), DONE),
+            Step::Does(Call::DropRule(Band::Deed, 1, 10), DONE),
+            Step::Does(Call::DropRule(Band::Takedown, 999_999, 9_999), DONE),
+            Step::Does(Call::DropRule(Band::Deed, 999_999, 20), DONE),
+            Step::Tells(Question::RulesFor(1, &[])),
+            Step::Tells(Question::RulesFor(999_999, &[])),
+        ],
+    },
+    Case {
+        label: "the first and the last number are missing",
+        start: Start::Filled,
+        steps: &[
+            Step::Does(Call::PutRule(Named::Closed, 1), MISSING),
+            Step::Does(Call::PutRule(Named::Takedown, 1), MISSING),
+            Step::Does(Call::PutRule(Named::Open, 999_999), MISSING),
+            Step::Does(Call::PutRule(Named::LastTakedown, 999_999), MISSING),
+            Step::Does(Call::DropRule(Band::Deed, 1, 10), MISSING),
+            Step::Does(Call::DropRule(Band::Takedown, 1, 1), MISSING),
+            Step::Does(Call::DropRule(Band::Deed, 999_999, 20), MISSING),
+            Step::Does(Call::DropRule(Band::Takedown, 999_999, 1), MISSING),
+            Step::Tells(Question::RulesFor(0, &[])),
+            Step::Tells(Question::RulesFor(1, &[])),
+            Step::Tells(Question::RulesFor(999_999, &[])),
+            Step::Tells(Question::RulesFor(4_294_967_295, &[])),
+        ],
+    },
+];
 
 #[test]
-fn takedowns_come_first(rt: HostRuntime) -> Result<(), Fail> {
-    let mut desk = filled(&rt, rt.alloc())?;
-    assert!(rt; has_rules(rt.alloc(), &mut desk, 12, &[closed(), open()])?);
-    put_rule(&rt, &mut desk, &takedown(12))?;
-    assert!(rt; has_rules(rt.alloc(), &mut desk, 12, &[takedown(12), closed(), open()])?);
-    assert!(rt; has_rules(rt.alloc(), &mut desk, 99, &[])?);
-    Ok(())
-}
-
-#[test]
-fn a_rule_is_replaced(rt: HostRuntime) -> Result<(), Fail> {
-    let mut desk = filled(&rt, rt.alloc())?;
-    let listed = rule(10, Select::User(2), Effect::List);
-    put_rule(&rt, &mut desk, &listed)?;
-    assert!(rt; has_rules(rt.alloc(), &mut desk, 12, &[listed, open()])?);
-    Ok(())
-}
-
-#[test]
-fn a_rule_goes(rt: HostRuntime) -> Result<(), Fail> {
-    let mut desk = filled(&rt, rt.alloc())?;
-    assert_eq!(rt; drop_rule(&mut desk, Band::Deed, 7, 30), Ok(()));
-    assert_eq!(rt; drop_rule(&mut desk, Band::Takedown, 12, 10), Ok(()));
-    assert_eq!(rt; drop_rule(&mut desk, Band::Deed, 8, 10), Ok(()));
-    assert!(rt; has_rules(rt.alloc(), &mut desk, 12, &[closed(), open()])?);
-    assert_eq!(rt; drop_rule(&mut desk, Band::Deed, 7, 10), Ok(()));
-    assert!(rt; has_rules(rt.alloc(), &mut desk, 12, &[open()])?);
-    Ok(())
-}
-
-#[test]
-fn rules_of_what_is_missing(rt: HostRuntime) -> Result<(), Fail> {
-    let mut desk = filled(&rt, rt.alloc())?;
-    let missing = Err(StoreFault::Missing);
-    assert_eq!(rt; put_rule(&rt, &mut desk, &takedown(99)), missing);
-    assert_eq!(rt;
-        put_rule(&rt, &mut desk, &Rule { scope: 9, ..open() }),
-        missing
-    );
-    assert_eq!(rt; drop_rule(&mut desk, Band::Deed, 9, 10), missing);
-    assert_eq!(rt; drop_rule(&mut desk, Band::Takedown, 7, 10), missing);
-    assert!(rt; has_rules(rt.alloc(), &mut desk, 12, &[closed(), open()])?);
-    Ok(())
-}
-
-fn text(alloc: Global, text: &str) -> Result<Text, NoMemory> {
-    Ok(Text::of(String::from_str(alloc, text)?))
-}
-
-/// Rules of deed 7 by rank, with each kind of selector and effect.
-fn one_of_each(alloc: Global) -> Result<[Rule; 5], NoMemory> {
-    let room = Audiences {
-        room: true,
-        public: false,
-        staff: false,
-    };
-    Ok([
-        Rule {
-            from: Some(-719_162),
-            ..rule(1, Select::Slot(9_999), Effect::Deny)
-        },
-        Rule {
-            audiences: room,
-            ..rule(2, Select::Prefix(text(alloc, "HE")?), Effect::List)
-        },
-        Rule {
-            until: Some(2_932_896),
-            ..rule(3, Select::User(15), Effect::Read)
-        },
-        Rule {
-            audiences: NOT_STAFF,
-            ..rule(4, Select::Kind(text(alloc, "")?), Effect::Deny)
-        },
-        Rule {
-            audiences: ALL,
-            from: Some(-1),
-            until: Some(0),
-            ..rule(9_999, Select::All, Effect::Read)
-        },
-    ])
+fn rules_come_in_order(rt: HostRuntime) -> Result<(), Fail> {
+    assert_cases(&rt, rt.alloc(), ORDERS)
 }
 
 #[test]
 fn every_selector_comes_back(rt: HostRuntime) -> Result<(), Fail> {
-    let alloc = rt.alloc();
-    let mut desk = filled(&rt, alloc)?;
-    drop_rule(&mut desk, Band::Deed, 7, 10)?;
-    drop_rule(&mut desk, Band::Deed, 7, 20)?;
-    let rules = one_of_each(alloc)?;
-    for rule in rules.as_slice() {
-        put_rule(&rt, &mut desk, rule)?;
-    }
-    assert!(rt; has_rules(alloc, &mut desk, 12, rules.as_slice())?);
-    Ok(())
+    assert_cases(&rt, rt.alloc(), SELECTORS)
+}
+
+#[test]
+fn rules_are_of_all_numbers(rt: HostRuntime) -> Result<(), Fail> {
+    assert_cases(&rt, rt.alloc(), NUMBERS)
 }
