@@ -1,5 +1,5 @@
 -- The chains by which the file at a slot claims blocks, as the code reads them.
-use Rattle.std.proofs.Common.{◌≡◌, ◌≢◌, ◌∙◌, ◌⊎◌, inl, inr, ◌↔◌, ◌*◌, ◌<◌, ◌≤◌, ℕ, Bool, true, false, IsTrue, List, [], ◌∷◌, length, slice_index_or, replicate, All, AllPairs, Contains, Option, Some, arith, refl, sym, ap, subst}
+use Rattle.std.proofs.Common.{◌≡◌, ◌≢◌, ◌∙◌, inl, inr, ◌↔◌, ◌*◌, ◌<◌, ◌≤◌, ℕ, Bool, true, false, IsTrue, List, [], ◌∷◌, length, slice_index_or, replicate, All, AllPairs, Contains, Option, Some, arith, refl, sym, ap, subst}
 use Rattle.std.proofs.lemmas.List.{get_or-replicate, get_or_default}
 use Rattle.rd_geometry.specs.Blocks.{CBM_BLOCKS, index_of}
 use Rattle.rd_geometry.proofs.Zones.{second_zone}
@@ -51,8 +51,8 @@ own_chain image blocks slot way start type chain inside read starts is b = (
 
 -- a chain is read where it is claimed
 pub chain_claimed : (image : List ℕ) (start : Option ℕ) (t : Bool) (chain : Chain) → t ≡ true → IsChain (link_of image) start chain.blocks
-    → EndsBy (link_of image) start chain.end → All (λ b. b < CBM_BLOCKS) chain.blocks → IsClaimChain image start (IsTrue t) chain
-chain_claimed image start t chain set blocks ends inside = record {
+    → EndsBy (link_of image) start chain.end → All (λ b. b < CBM_BLOCKS) chain.blocks → length chain.blocks ≤ CBM_BLOCKS → IsClaimChain image start (IsTrue t) chain
+chain_claimed image start t chain set blocks ends inside few = record {
   decided = inl set;
   blocks = λ _. blocks;
   ends = λ _. ends;
@@ -60,6 +60,7 @@ chain_claimed image start t chain set blocks ends inside = record {
   none_end = λ unset. absurd (unset set);
   on_disk = inside;
   distinct = blocks.once;
+  few = few;
 }
 
 clash : {A : Type 0} (t : Bool) → t ≡ true → t ≡ false → A
@@ -75,6 +76,7 @@ chain_unclaimed image start t chain unset none ends = record {
   none_end = λ _. ends;
   on_disk = subst (All (λ b. b < CBM_BLOCKS)) (sym none) (λ k d inside. absurd (let low : k < 0 = inside in omega arith));
   distinct = subst (AllPairs (λ m n. m ≢ n)) (sym none) (λ i j d before inside. absurd (let low : j < 0 = inside in omega arith));
+  few = let none : length chain.blocks ≡ 0 = ap length none in omega arith;
 }
 
 -- what is claimed by a test is claimed by the fact that it tests
@@ -87,6 +89,7 @@ by_test image start t chain test is = record {
   none_end = λ unclaimed. is.none_end (λ set. unclaimed (test.0 set));
   on_disk = is.on_disk;
   distinct = is.distinct;
+  few = is.few;
 }
 
 -- flags that are all clear
@@ -120,23 +123,13 @@ flags_start H blocks unused unshared used shared used_now shared_now unused_is u
       | inr both ↦ clash (slice_index_or unused b false) both.0 (unset_at unused b unused_is low)
     ]
 
--- the blocks used after two lists are added to none are those of the lists
-pub used_by_two : (one two : List ℕ) (unused unshared used shared used_now shared_now : List Bool) → unused ≡ replicate CBM_BLOCKS false
-    → AreAdded unused unshared one used shared → AreAdded used shared two used_now shared_now → All (λ b. b < CBM_BLOCKS) one → All (λ b. b < CBM_BLOCKS) two
-    → (n : ℕ) → ((n < CBM_BLOCKS) × IsTrue (slice_index_or used_now n false)) ↔ (Contains one n ⊎ Contains two n)
-used_by_two one two unused unshared used shared used_now shared_now unused_is first second one_low two_low n = (
-  λ both. elim ((second.once n both.0).0 both.1) [
-    | inl before ↦ elim ((first.once n both.0).0 before) [
-      | inl never ↦ clash (slice_index_or unused n false) never (unset_at unused n unused_is both.0)
-      | inr there ↦ inl there
-    ]
-    | inr there ↦ inr there
+-- the blocks used after a list is added to none are those of the list
+pub used_by_one : (blocks : List ℕ) (unused unshared used shared : List Bool) → unused ≡ replicate CBM_BLOCKS false → AreAdded unused unshared blocks used shared
+    → (b : ℕ) → b < CBM_BLOCKS → IsTrue (slice_index_or used b false) ↔ Contains blocks b
+used_by_one blocks unused unshared used shared unused_is added b low = (
+  λ t. elim ((added.once b low).0 t) [
+    | inl never ↦ clash (slice_index_or unused b false) never (unset_at unused b unused_is low)
+    | inr there ↦ there
   ],
-  λ either. elim either [
-    | inl there ↦ (let low : n < CBM_BLOCKS = low_of one one_low there in (low, (second.once n low).1 (inl ((first.once n low).1 (inr there)))))
-    | inr there ↦ (let low : n < CBM_BLOCKS = low_of two two_low there in (low, (second.once n low).1 (inr there)))
-  ],
+  λ there. (added.once b low).1 (inr there),
 )
-  where
-    low_of : (list : List ℕ) → All (λ b. b < CBM_BLOCKS) list → Contains list n → n < CBM_BLOCKS
-    low_of list all there = subst (λ b. b < CBM_BLOCKS) there.2 (all there.0 n there.1)

@@ -8,6 +8,7 @@ pub mod EntryLemmas
 pub mod UseLemmas
 pub mod ClaimLemmas
 pub mod CountLemmas
+pub mod TwoChains
 pub mod BitLemmas
 pub mod Tests
 pub mod FileLemmas

@@ -22,13 +22,13 @@ pub record AreAddedTo (used shared : List Bool) (blocks : List ℕ) (n : ℕ) (u
   pub twice : (b : ℕ) → b < CBM_BLOCKS
       → IsTrue (slice_index_or shared_now b false) ↔ (IsTrue (slice_index_or shared b false) ⊎ (IsTrue (slice_index_or used b false) × IsAmong blocks n b))
 
-among_none : (blocks : List ℕ) (b : ℕ) → IsAmong blocks 0 b → ⊥
+pub among_none : (blocks : List ℕ) (b : ℕ) → IsAmong blocks 0 b → ⊥
 among_none blocks b among = absurd (let low : among.place < 0 = among.before in omega arith)
 
-among_later : (blocks : List ℕ) (n b : ℕ) → IsAmong blocks n b → IsAmong blocks (n + 1) b
+pub among_later : (blocks : List ℕ) (n b : ℕ) → IsAmong blocks n b → IsAmong blocks (n + 1) b
 among_later blocks n b among = record { place = among.place; before = let low : among.place < n = among.before in omega arith; is = among.is }
 
-among_cases : (blocks : List ℕ) (n b : ℕ) → IsAmong blocks (n + 1) b → IsAmong blocks n b ⊎ (slice_index blocks n ≡ b)
+pub among_cases : (blocks : List ℕ) (n b : ℕ) → IsAmong blocks (n + 1) b → IsAmong blocks n b ⊎ (slice_index blocks n ≡ b)
 among_cases blocks n b among = elim (cases_eq among.place n) [
   | inl last ↦ inr (ap (slice_index blocks) (sym last) ∙ among.is)
   | inr other ↦ inl (record { place = among.place; before = let low : among.place < n + 1 = among.before in omega arith; is = among.is })
@@ -120,10 +120,10 @@ added_more used shared blocks n v used_now shared_now are is v_low new = record 
 pub not_among : (blocks : List ℕ) (n : ℕ) → AllPairs (λ m n. m ≢ n) blocks → n < length blocks → IsAmong blocks n (slice_index blocks n) → ⊥
 not_among blocks n once inside among = once among.place n 0 among.before inside among.is
 
-among_all : (blocks : List ℕ) (b : ℕ) → IsAmong blocks (length blocks) b → Contains blocks b
+pub among_all : (blocks : List ℕ) (b : ℕ) → IsAmong blocks (length blocks) b → Contains blocks b
 among_all blocks b among = (among.place, among.before, get_or_default blocks among.place b 0 among.before ∙ among.is)
 
-all_among : (blocks : List ℕ) (b : ℕ) → Contains blocks b → IsAmong blocks (length blocks) b
+pub all_among : (blocks : List ℕ) (b : ℕ) → Contains blocks b → IsAmong blocks (length blocks) b
 all_among blocks b there = record { place = there.0; before = there.1; is = get_or_default blocks there.0 0 b there.1 ∙ there.2 }
 
 -- all blocks of the list are added

@@ -1,5 +1,5 @@
 -- Which blocks are in use, as the pass over the slots notes it.
-use Rattle.std.specs.Prelude.{◌≡◌, ◌≢◌, ℕ, ◌<◌, ◌⊎◌, ◌↔◌, IsTrue, IsBitSet, List, [], Bool, true, false, Option, All, AllPairs, Contains, length, slice_set, if◌then◌else◌}
+use Rattle.std.specs.Prelude.{◌≡◌, ◌≢◌, ℕ, ◌<◌, ◌≤◌, ◌⊎◌, ◌↔◌, IsTrue, IsBitSet, List, [], Bool, true, false, Option, All, AllPairs, Contains, length, slice_set, if◌then◌else◌}
 use Rattle.std.specs.List.{slice_index_or}
 use Rattle.rd_geometry.specs.Blocks.{CBM_BLOCKS}
 use Rattle.rd_cbm.specs.declared.chains.Chain.{Chain}
@@ -19,6 +19,7 @@ pub record IsClaimChain (image : List ℕ) (start : Option ℕ) (Claiming : Type
   pub none_end : ¬ Claiming → chain.end ≡ end.Last 0
   pub on_disk : All (λ block. block < CBM_BLOCKS) chain.blocks
   pub distinct : AllPairs (λ m n. m ≢ n) chain.blocks
+  pub few : length chain.blocks ≤ CBM_BLOCKS
 
 -- the flags of shared blocks after one more use of a block
 abbrev pub shared_after : List Bool → List Bool → ℕ → List Bool

@@ -1,12 +1,10 @@
-ghost use Rattle.std.specs.Prelude.{◌≡◌, ◌≢◌, ◌⊎◌, ◌↔◌, ◌<◌, All, AllPairs, Contains, IsTrue, false, if◌then◌else◌};
-ghost use Rattle.std.specs.List.{slice_index_or};
+ghost use Rattle.std.specs.Prelude.{◌≡◌, ◌≢◌, ◌⊎◌, ◌↔◌, ◌<◌, ◌≤◌, All, AllPairs, Contains, IsTrue, if◌then◌else◌, length};
 ghost use Rattle.rd_geometry.specs.Blocks.{CBM_BLOCKS};
 ghost use Rattle.rd_cbm.specs.Counts.{IsCount};
 ghost use Rattle.rd_cbm.specs.Marked.{AreTold, SomeShared};
 
 use crate::chains::{Chain, End};
 use crate::claims::{Uses, is_closed};
-use crate::walk::BLOCKS;
 
 /// Whether the walk along a chain goes off the disk.
 fn goes_off(chain: &Chain) -> bool
@@ -86,13 +84,21 @@ pub(crate) fn faults_of(uses: &Uses, ty_byte: u8, contents: &Chain, sides: &Chai
         + weight(either_has_shared(uses, contents, sides), 8)
 }
 
-/// How many flags are set.
-fn count(flags: &[bool; BLOCKS]) -> u16
-    ensures { IsCount (λ n. (n < CBM_BLOCKS) × IsTrue (slice_index_or flags.now n false)) result }
+/// How many blocks there are on two chains that both have blocks, each counted once.
+fn count_both(contents: &[u16], sides: &[u16]) -> u16
+    requires contents_on_disk { All (λ block. block < CBM_BLOCKS) contents.now }
+    requires contents_once { AllPairs (λ m n. m ≢ n) contents.now }
+    requires sides_on_disk { All (λ block. block < CBM_BLOCKS) sides.now }
+    requires sides_once { AllPairs (λ m n. m ≢ n) sides.now }
+    requires contents_few { length contents.now ≤ CBM_BLOCKS }
+    requires sides_few { length sides.now ≤ CBM_BLOCKS }
+    ensures { IsCount (λ block. Contains contents.now block ⊎ Contains sides.now block) result }
 {
-    let mut count = 0;
-    for n in 0..BLOCKS {
-        if !flags[n] {
+    let mut own = Uses::none();
+    own.add_all(contents);
+    let mut count = contents.len() as u16;
+    for block in sides {
+        if own.used[*block as usize] {
             continue;
         }
         count += 1;
@@ -106,10 +112,12 @@ pub(crate) fn count_claimed(contents: &[u16], sides: &[u16]) -> u16
     requires contents_once { AllPairs (λ m n. m ≢ n) contents.now }
     requires sides_on_disk { All (λ block. block < CBM_BLOCKS) sides.now }
     requires sides_once { AllPairs (λ m n. m ≢ n) sides.now }
+    requires contents_few { length contents.now ≤ CBM_BLOCKS }
+    requires sides_few { length sides.now ≤ CBM_BLOCKS }
     ensures { IsCount (λ block. Contains contents.now block ⊎ Contains sides.now block) result }
 {
-    let mut own = Uses::none();
-    own.add_all(contents);
-    own.add_all(sides);
-    count(&own.used)
+    if sides.is_empty() {
+        return contents.len() as u16;
+    }
+    count_both(contents, sides)
 }

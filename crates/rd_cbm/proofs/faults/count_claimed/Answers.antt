@@ -1,7 +1,6 @@
-use Rattle.rd_cbm.proofs.ClaimLemmas.{used_by_two}
-use Rattle.rd_cbm.proofs.CountLemmas.{count_as}
+use Rattle.std.proofs.Common.{◌∙◌, eqb-true, length, sym}
+use Rattle.rd_cbm.proofs.TwoChains.{count_one}
 use Rattle.rd_cbm.proofs.faults.count_claimed.Goals as goal
 
-pub returns : goal.returns
-returns c = count_as _ _ _ c.count.ensures
-    (used_by_two _ _ _ _ _ _ _ _ c.none-own.ensures.used c.add_all.ensures c.add_all-2.ensures c.requires.contents_on_disk c.requires.sides_on_disk)
+pub returns-then-is_empty : goal.returns-then-is_empty
+returns-then-is_empty c = count_one c.args.contents.now c.args.sides.now c.requires.contents_once (eqb-true (length c.args.sides.now) 0 (sym c.is_empty.ensures ∙ c.if-is_empty.true))
