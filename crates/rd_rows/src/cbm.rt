@@ -60,15 +60,19 @@ pub fn put_block(image: &mut [u8], block: u16, bytes: &[u8])
     put(image, 256 * block as usize, bytes);
 }
 
-/// Writes an entry at a slot, 0 to 7, of a block of the directory, where the image is long enough
-/// for the slot. Bytes 0 and 1 and bytes 24 to 29 of the slot stay.
+/// Writes an entry at a slot, 0 to 7, of a block of the directory. Bytes 0 and 1 and bytes 24 to 29 of
+/// the slot stay. Where the image is too short for the slot, nothing is written.
 pub fn put_cbm_entry(image: &mut [u8], block: u16, slot: u8, entry: &NewCbmEntry<'_>)
     requires { slot < 8 }
     ensures value { place_of_entry block slot + 32 ≤ length image.old
         → image.new ≡ with_entry image.old (place_of_entry block slot) entry.now }
+    ensures kept { length image.old < place_of_entry block slot + 32 → image.new ≡ image.old }
     ensures sized { length image.new ≡ length image.old }
 {
     let place = 256 * block as usize + 32 * slot as usize;
+    if image.len() < place + 32 {
+        return;
+    }
     put(
         image,
         place + 2,

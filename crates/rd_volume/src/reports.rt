@@ -11,7 +11,7 @@ pub struct Report {
     pub served: u16,
     /// How many of them have a fault.
     pub faulty: u16,
-    /// How many claim other than as many blocks as their entry tells.
+    /// How many of those that claim blocks claim other than as many as their entry tells.
     pub size_differs: u16,
     /// How the block map differs from the blocks in use.
     pub map: MapReport,
