@@ -1,9 +1,12 @@
 -- What the getters of `clap` read of the operands of a command.
-use Rattle.std.proofs.Common.{◌≡◌, ◌≢◌, ◌∙◌, ℕ, List, Option, Some, None, Result, option_map, IfSome, IfNone, IfOk, IfErr, sym, ap, subst, true, inl, inr, codes, arith, refl, slice_index}
+use Rattle.std.proofs.Common.{◌≡◌, ◌≢◌, ◌∙◌, ◌⊎◌, ℕ, List, [], Ok, Err, OnOk, Option, Some, None, Result, option_map, IfSome, IfNone, IfOk, IfErr, sym, ap, subst, true, inl, inr, codes, arith, refl, slice_index}
 use Rattle.std.specs.Prelude.{IsSomeAnd, ok_or}
 use Rattle.std.specs.Str.Parse.{ExplainsUnsignedError, HasUnsignedDigitsIfOk, ParsesUnsigned}
 use Rattle.std.specs.declared.num.ParseIntError.{ParseIntError}
-use Rattle.clap.specs.Words.{App, HasMatchesOf, Row, Text, first_of, first_value, is_simple, rows_of, subcommand_of, subcommand_name_of, subcommand_rows_of, takes}
+use Rattle.clap.specs.Words.{App, HasKind, HasMatchesOf, Row, Text, fault_of, first_of, first_value, is_simple, is_simple_and_free, rows_of, subcommand_of, subcommand_name_of, subcommand_rows_of, takes}
+use Rattle.clap.specs.Values.{kind_of}
+use Rattle.clap.specs.declared.error.Error.{Error}
+use Rattle.clap.specs.declared.error.kind.ErrorKind.TheVariants.{OutOfMemory}
 use Rattle.clap.specs.declared.parser.matches.ArgMatches.{ArgMatches}
 use Rattle.clap.specs.Matches.{ReadsOne}
 use Rattle.clap.specs.declared.parser.matches.ArgMatches.TheViews.{out-ArgMatches, out-SubCommand}
@@ -16,11 +19,12 @@ use Rattle.clap.specs.declared.parser.matches.Found.{Found}
 use Rattle.clap.proofs.WalkLemmas.{first_value-rows}
 use Rattle.rd_geometry.specs.declared.kind.Kind.{Kind}
 use Rattle.rd_geometry.specs.Kinds.{word_of}
-use Rattle.rd_main.specs.Asks.{EntersCat, EntersList, IsFileAsk, IsFilesAsk}
-use Rattle.rd_main.specs.CommandLine.{IsDeskApp}
+use Rattle.rd_main.specs.Asks.{EntersCat, EntersList, IsFaultOf, IsFileAsk, IsFilesAsk, IsHelp}
+use Rattle.rd_main.specs.CommandLine.{AsksForHelp, HasFault, IsDeskApp, IsTaken, NameList, desk_app}
 use Rattle.rd_main.specs.Words.{AsksCat, AsksList, IsCommand, IsSlotText}
 use Rattle.rd_main.specs.declared.words.Ask.{Ask}
 use Rattle.rd_main.specs.declared.words.Unread.{Unread}
+use Rattle.rd_main.specs.declared.words.Unread.TheVariants.{NoMemory, Told, Usage}
 use Rattle.rd_main.proofs.CatLine.{gives_cat, simple, takes_cat}
 use Rattle.rd_main.proofs.ListLine.{gives_list, takes_list}
 use Rattle.rd_main.proofs.Texts.{same_kind}
@@ -71,6 +75,38 @@ pub ask_read : (o : Option Ask) (fault : Unread) (r : Result Ask Unread) (words 
     → IfOk r (λ ask. (kind : Kind) (image : Text) (slot : ℕ) → AsksCat words kind image slot → IsFileAsk kind image slot ask)
 ask_read (Some ask) fault r words is given = subst (λ x. IfOk x (λ a. (kind : Kind) (image : Text) (slot : ℕ) → AsksCat words kind image slot → IsFileAsk kind image slot a)) (sym is) given.file
 ask_read None fault r words is given = subst (λ x. IfOk x (λ a. (kind : Kind) (image : Text) (slot : ℕ) → AsksCat words kind image slot → IsFileAsk kind image slot a)) (sym is) tt
+
+pub ask_listed : (o : Option Ask) (fault : Unread) (r : Result Ask Unread) (words : List Text) → r ≡ ok_or o fault → GivesAsk words o
+    → IfOk r (λ ask. (kind : Kind) (image : Text) → AsksList words kind image → IsFilesAsk kind image ask)
+ask_listed (Some ask) fault r words is given = subst (λ x. IfOk x (λ a. (kind : Kind) (image : Text) → AsksList words kind image → IsFilesAsk kind image a)) (sym is) given.files
+ask_listed None fault r words is given = subst (λ x. IfOk x (λ a. (kind : Kind) (image : Text) → AsksList words kind image → IsFilesAsk kind image a)) (sym is) tt
+
+free : (kinds others : NameList) → is_simple_and_free (desk_app kinds others) ≡ true
+free kinds others = refl
+
+-- where a parse of the words succeeds, they have no fault
+pub words_taken : {T E : Type 0} (r : Result T E) (app : App) (words : List Text) → IsDeskApp app → (is_simple_and_free app ≡ true → fault_of app words ≡ [])
+    → OnOk r (IsTaken words)
+words_taken (Ok value) app words desk none = record { app = app; is_desk = desk; no_fault = none (ap is_simple_and_free desk.is ∙ free desk.cat_kinds desk.list_kinds) }
+words_taken (Err error) app words desk none = tt
+
+-- where it fails, they have a fault of the error's kind
+pub words_at_fault : (app : App) (words : List Text) (error : Error) (unread : Unread) → IsDeskApp app
+    → (is_simple_and_free app ≡ true → HasKind (fault_of app words) error) → (kind_of error ≡ OutOfMemory → unread ≡ NoMemory)
+    → (unread ≡ NoMemory) ⊎ (unread ≡ Told error) → IsFaultOf words unread
+words_at_fault app words error unread desk has memory told = elim told [
+  | inl none ↦ subst (IsFaultOf words) (sym none) tt
+  | inr is ↦ elim (has (ap is_simple_and_free desk.is ∙ free desk.cat_kinds desk.list_kinds)) [
+    | inl out ↦ subst (IsFaultOf words) (sym (memory out)) tt
+    | inr among ↦ subst (IsFaultOf words) (sym is) (record { app = app; is_desk = desk; fault = among })
+  ]
+]
+
+-- what is told of the words is help only where they ask for it
+pub help_asked : (words : List Text) (unread : Unread) → IsHelp unread → IsFaultOf words unread → AsksForHelp words
+help_asked words (Told error) help fault = subst (HasFault words) help fault
+help_asked words Usage help fault = absurd help
+help_asked words NoMemory help fault = absurd help
 
 -- a command is found
 no_command : (words : List Text) → GivesAsk words None → IsCommand words → ⊥

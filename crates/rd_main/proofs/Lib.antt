@@ -4,6 +4,9 @@ pub mod CatLine
 pub mod ListLine
 pub mod Asked
 pub mod Written
+pub mod ReadUpTo
+pub mod ToldLine
+pub mod ListWritten
 pub mod Served
 pub mod Ran
 pub mod WordsWritten

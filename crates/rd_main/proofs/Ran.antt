@@ -1,10 +1,16 @@
 -- What a run of a command has done, by the file that it asked for.
-use Rattle.std.proofs.Common.{◌≡◌, ℕ, List, Option, Some, None, IfSome, inl, inr, subst, arith}
+use Rattle.std.proofs.Common.{◌≡◌, ◌≢◌, ℕ, List, Option, Some, None, IfSome, inl, inr, subst, sym, arith}
 use Rattle.std.specs.Io.KnownBytes.{Keeps}
 use Rattle.rd_geometry.specs.declared.kind.Kind.{Kind}
-use Rattle.rd_main.specs.Asks.{AsksFile}
+use Rattle.rd_main.specs.Asks.{AsksFile, IsFileAsk, IsFilesAsk, kind_asked}
 use Rattle.rd_main.specs.Cat.{HasNoSoundFile, IsCut, Refuses}
+use Rattle.rd_main.specs.Output.{AppendsPart}
+use Rattle.rd_main.specs.Printed.{refusal_line}
 use Rattle.rd_main.specs.Refusals.{status_of}
+use Rattle.rd_main.specs.Told.{Tells}
+use Rattle.rd_main.specs.Words.{AsksCat, AsksList, AsksOfKind}
+use Rattle.rd_main.specs.declared.words.Ask.{Ask}
+use Rattle.rd_main.specs.declared.words.Ask.TheVariants.{File, Files}
 use Rattle.rd_main.specs.declared.refusal.Refusal.{Refusal}
 use Rattle.rd_main.specs.declared.refusal.Refusal.TheVariants.{Usage, Device, NoMemory, WrongSize, NoFile, ListedOnly, Faulty}
 use Rattle.rd_main.specs.declared.words.FileAsk.{FileAsk}
@@ -26,7 +32,7 @@ no_sound_file NoMemory kind slot image old new status refused = absurd (omega ar
 no_sound_file WrongSize kind slot image old new status refused = inl refused.1
 no_sound_file NoFile kind slot image old new status refused = inr (inl refused.1)
 no_sound_file ListedOnly kind slot image old new status refused = inr (inr (inl refused.1))
-no_sound_file (Faulty of_kind faults) kind slot image old new status refused = inr (inr (inr refused.1))
+no_sound_file (Faulty of_kind faults) kind slot image old new status refused = inr (inr (inr refused.1.file))
 
 -- a refusal with the status 3 has written no more than a part
 pub is_cut : (refusal : Refusal) (kind : Kind) (slot : ℕ) (image : List ℕ) (old new : Option (List ℕ)) → status_of refusal ≡ 3
@@ -43,3 +49,31 @@ is_cut (Faulty of_kind faults) kind slot image old new status refused = inl refu
 pub kept_is_cut : (known : Option (List ℕ)) (kind : Kind) (slot : ℕ) (old new : Option (List ℕ)) → Keeps old new → IfSome known (λ image. IsCut kind slot image old new)
 kept_is_cut (Some image) kind slot old new kept = inl kept
 kept_is_cut None kind slot old new kept = tt
+
+-- a refusal that is told
+pub tells : (P : Refusal → Type 0) (refusal : Refusal) (status : ℕ) (old new : Option (List ℕ)) → P refusal → status ≡ status_of refusal
+    → AppendsPart old new (refusal_line refusal) → Tells P status old new
+tells P refusal status old new why is line = record { refusal = refusal; why = why; has_status = sym is; line = line }
+
+-- no refusal has the status 0
+pub not_done : (refusal : Refusal) → status_of refusal ≢ 0
+not_done Usage = λ is. omega arith
+not_done Device = λ is. omega arith
+not_done NoMemory = λ is. omega arith
+not_done WrongSize = λ is. omega arith
+not_done NoFile = λ is. omega arith
+not_done ListedOnly = λ is. omega arith
+not_done (Faulty kind faults) = λ is. omega arith
+
+-- the kind that words ask for is that of what was read of them
+pub same_kind_asked : (words : List (List ℕ)) (ask : Ask) (kind : Kind) → ((kind : Kind) (image : List ℕ) (slot : ℕ) → AsksCat words kind image slot → IsFileAsk kind image slot ask)
+    → ((kind : Kind) (image : List ℕ) → AsksList words kind image → IsFilesAsk kind image ask) → AsksOfKind words kind → kind_asked ask ≡ kind
+same_kind_asked words (File ask) kind read listed (inl cat) = (read kind cat.0 cat.1 cat.2).kind_is
+same_kind_asked words (File ask) kind read listed (inr list) = absurd (listed kind list.0 list.1)
+same_kind_asked words (Files ask) kind read listed (inl cat) = absurd (read kind cat.0 cat.1 cat.2)
+same_kind_asked words (Files ask) kind read listed (inr list) = (listed kind list.0 list.1).kind_is
+
+-- nothing is refused where nothing is known
+pub of_all : {P : List ℕ → Type 0} (known : Option (List ℕ)) → ((bytes : List ℕ) → P bytes) → IfSome known P
+of_all (Some bytes) f = f bytes
+of_all None f = tt

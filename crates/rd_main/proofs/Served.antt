@@ -1,12 +1,13 @@
 -- The file that `cat` finds and writes, in the words of its contract.
-use Rattle.std.proofs.Common.{◌≡◌, ◌≢◌, inr, ℕ, List, IsTrue, None, Option, Result, Some, Ok, Err, OnOk, IfErr, OnErr, length, subst, sym}
+use Rattle.std.proofs.Common.{◌≡◌, ◌≢◌, inr, ℕ, List, IsTrue, None, Option, Result, Some, Ok, Err, OnOk, IfErr, OnErr, length, refl, subst, sym}
 use Rattle.std.specs.Io.KnownBytes.{Appends}
 use Rattle.rd_geometry.specs.Kinds.{size_of}
 use Rattle.rd_geometry.specs.declared.kind.Kind.{Kind}
+use Rattle.rd_geometry.specs.declared.kind.Kind.TheVariants.{Cpm8, D64}
 use Rattle.rd_volume.specs.Volumes.{AreBytesOf, IsFound, IsFoundAt, IsSlotOfFile}
 use Rattle.rd_volume.specs.declared.found.Found.{Found}
 use Rattle.rd_volume.specs.Told.{told_faults, told_served, told_slot}
-use Rattle.rd_main.specs.Cat.{HasFaultyFile, IsCat, IsListedOnly, Refuses, Serves, ServesPart}
+use Rattle.rd_main.specs.Cat.{AreFaultsOf, HasFaultyFile, IsCat, IsFaultyBy, IsListedOnly, Refuses, Serves, ServesPart}
 use Rattle.rd_main.specs.Output.{AppendsPart}
 use Rattle.rd_main.specs.declared.refusal.Refusal.{Refusal}
 use Rattle.rd_main.specs.declared.refusal.Refusal.TheVariants.{Device}
@@ -46,7 +47,7 @@ listed_only kind slot image file has other =
     })
 
 -- one of that class whose faults are told is faulty
-pub faulty_file : (kind : Kind) (slot : ℕ) (image : List ℕ) (file : Found) → HasFound kind image slot file → IsTrue file.served_class → file.faults ≢ 0
+faulty_file : (kind : Kind) (slot : ℕ) (image : List ℕ) (file : Found) → HasFound kind image slot file → IsTrue file.served_class → file.faults ≢ 0
     → HasFaultyFile kind slot image
 faulty_file kind slot image file has served some =
     subst (λ s. HasFaultyFile kind s image) has.at (record {
@@ -55,6 +56,20 @@ faulty_file kind slot image file has served some =
       served = (told_served kind image file has.told).0 served;
       faulty = λ none. some ((told_faults kind image file has.told).1 none);
     })
+
+-- the faults that are told of a file are those of the file at its slot
+told_bits : (kind : Kind) (image : List ℕ) (file : Found) → IsFound kind image file → AreFaultsOf kind image file.slot file.faults
+told_bits Cpm8 image file told = told.faults
+told_bits D64 image file told = record { blocks = told.blocks; are_blocks = told.are_blocks; holds = told.holds.faults }
+
+-- so it is faulty by these
+pub faulty_by : (kind : Kind) (slot : ℕ) (image : List ℕ) (file : Found) → HasFound kind image slot file → IsTrue file.served_class → file.faults ≢ 0
+    → IsFaultyBy kind slot image kind file.faults
+faulty_by kind slot image file has served some = record {
+  file = faulty_file kind slot image file has served some;
+  same_kind = refl;
+  are_faults = subst (λ s. AreFaultsOf kind image s file.faults) has.at (told_bits kind image file has.told);
+}
 
 -- the bytes of a file that is found, of that class and with no fault
 pub is_cat : (kind : Kind) (slot : ℕ) (image out : List ℕ) (file : Found) → HasFound kind image slot file → IsTrue file.served_class → file.faults ≡ 0

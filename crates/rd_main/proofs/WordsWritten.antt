@@ -2,13 +2,9 @@
 use Rattle.std.proofs.Common.{◌≡◌, ◌∙◌, ◌++◌, ℕ, List, [], ◌∷◌, ap, append-nil, append_assoc, sym}
 use Rattle.std.proofs.Output.{has_written_append, has_written_of_eq, has_written_to_eq, writes_in_calls_nil}
 use Rattle.std.specs.Fmt.{HasWritten, IsPlainFormatter}
-use Rattle.std.specs.Prelude.{codes, flat_map}
+use Rattle.std.specs.Prelude.{codes}
 use Rattle.std.specs.declared.fmt.Formatter.{Formatter}
-use Rattle.rd_main.specs.Printed.{joined}
-
--- words, each after a blank
-abbrev pub blanked : List (List ℕ) → List ℕ
-blanked words = flat_map (λ word. codes " " ++ word) words
+use Rattle.rd_main.specs.Printed.{blanked, joined}
 
 module _ {W : Type 0} (took : W → List ℕ → W → Type 0) where
   -- g is f after a text that, with the words that are left, is the whole

@@ -1,10 +1,10 @@
 -- What writers have gained.
-use Rattle.std.proofs.Common.{◌≡◌, ◌∙◌, ℕ, ◌+◌, ◌-◌, ◌≤◌, List, [], ◌∷◌, ◌++◌, Option, Some, None, Result, Ok, Err, OnErr, append-nil, append_assoc, drop, length, length-drop, take, subst, sym, ap, arith}
+use Rattle.std.proofs.Common.{◌≡◌, ◌∙◌, ℕ, ◌+◌, ◌-◌, ◌≤◌, List, [], ◌∷◌, ◌++◌, Option, Some, None, Result, Ok, Err, OnErr, OnOk, append-nil, append_assoc, drop, length, length-drop, take, subst, sym, ap, arith}
 use Rattle.std.specs.List.{concat}
 use Rattle.std.proofs.lemmas.List.{take-append-drop, take_all}
 use Rattle.std.proofs.lemmas.List.Folds.{concat-append}
 use Rattle.std.specs.Io.KnownBytes.{Appends, Keeps}
-use Rattle.std.proofs.KnownBytes.{Appends-kept, Appends-trans, Keeps-trans}
+use Rattle.std.proofs.KnownBytes.{Appends-kept, Appends-trans, Keeps-refl, Keeps-trans}
 use lib.Seq.{take-add}
 use Rattle.rd_main.specs.Output.{AppendsPart}
 
@@ -59,3 +59,41 @@ on_err (Err error) fact = fact
 -- all that was written is a part of it
 pub whole_part : (old mid new : Option (List ℕ)) (bytes : List ℕ) → Appends old mid bytes → Keeps mid new → AppendsPart old new bytes
 whole_part old mid new bytes gained kept = record { part = bytes; rest = []; whole = sym (append-nil bytes); gained = Appends-kept old mid new bytes gained kept }
+
+-- what is written of a front part is written of the whole
+pub part_of : (old new : Option (List ℕ)) (whole front rest : List ℕ) → whole ≡ front ++ rest → AppendsPart old new front → AppendsPart old new whole
+part_of old new whole front rest is part = record {
+  part = part.part;
+  rest = part.rest ++ rest;
+  whole = is ∙ ap (λ l. l ++ rest) part.whole ∙ append_assoc part.part part.rest rest;
+  gained = part.gained;
+}
+
+-- after bytes that were written, a part of those that follow is a part of the whole
+pub part_after : (old mid new : Option (List ℕ)) (whole front more rest : List ℕ) → whole ≡ front ++ (more ++ rest) → Appends old mid front → AppendsPart mid new more
+    → AppendsPart old new whole
+part_after old mid new whole front more rest is written part = record {
+  part = front ++ part.part;
+  rest = part.rest ++ rest;
+  whole = is ∙ ap (λ l. front ++ (l ++ rest)) part.whole ∙ simp append_assoc;
+  gained = Appends-trans old mid new front part.part written part.gained;
+}
+
+-- so where the last write fails
+pub on_err_after : {T E : Type 0} (r : Result T E) (old mid new : Option (List ℕ)) (whole front more : List ℕ) → whole ≡ front ++ more → Appends old mid front
+    → OnErr r (AppendsPart mid new more) → OnErr r (AppendsPart old new whole)
+on_err_after (Ok value) old mid new whole front more is written part = tt
+on_err_after (Err error) old mid new whole front more is written part =
+    part_after old mid new whole front more [] (is ∙ ap (λ l. front ++ l) (sym (append-nil more))) written part
+
+-- and where it does not
+pub on_ok_after : {T E : Type 0} (r : Result T E) (old mid new : Option (List ℕ)) (whole front more : List ℕ) → whole ≡ front ++ more → Appends old mid front
+    → OnOk r (Appends mid new more) → OnOk r (Appends old new whole)
+on_ok_after (Ok value) old mid new whole front more is written last = subst (Appends old new) (sym is) (Appends-trans old mid new front more written last)
+on_ok_after (Err error) old mid new whole front more is written last = tt
+
+-- whether a write failed or not, a part is written
+pub part_either : {T E : Type 0} (r : Result T E) (old new : Option (List ℕ)) (bytes : List ℕ) → OnOk r (Appends old new bytes) → OnErr r (AppendsPart old new bytes)
+    → AppendsPart old new bytes
+part_either (Ok value) old new bytes done cut = whole_part old new new bytes done (Keeps-refl new)
+part_either (Err error) old new bytes done cut = cut

@@ -1,12 +1,17 @@
 -- What is read of the words of a command.
 use Rattle.std.specs.Prelude.{◌≡◌, ℕ, List, Option, Some, codes}
+use Rattle.clap.specs.Values.{kind_of}
 use Rattle.clap.specs.Words.{Row, Text, first_of, one_of}
+use Rattle.clap.specs.declared.error.kind.ErrorKind.TheVariants.{DisplayHelp}
 use Rattle.rd_geometry.specs.declared.kind.Kind.{Kind}
 use Rattle.rd_geometry.specs.Kinds.{word_of}
 use Rattle.rd_main.specs.declared.words.Ask.{Ask}
 use Rattle.rd_main.specs.declared.words.Ask.TheVariants.{File, Files}
 use Rattle.rd_main.specs.declared.words.FileAsk.{FileAsk}
 use Rattle.rd_main.specs.declared.words.ImageAsk.{ImageAsk}
+use Rattle.rd_main.specs.declared.words.Unread.{Unread}
+use Rattle.rd_main.specs.declared.words.Unread.TheVariants.{Told, Usage, NoMemory}
+use Rattle.rd_main.specs.CommandLine.{HasFault}
 use Rattle.rd_main.specs.Words.{IsSlotText}
 
 -- the file at the slot of the image of the kind is asked for
@@ -29,6 +34,23 @@ IsFileAsk kind image slot (Files ask) = ⊥
 abbrev pub IsFilesAsk : Kind → List ℕ → Ask → Type 0
 IsFilesAsk kind image (File ask) = ⊥
 IsFilesAsk kind image (Files ask) = AsksFiles ask kind image
+
+-- the kind of the image that is asked for
+abbrev pub kind_asked : Ask → Kind
+kind_asked (File ask) = ask.kind
+kind_asked (Files ask) = ask.kind
+
+-- what is told of the words is help
+abbrev pub IsHelp : Unread → Type 0
+IsHelp (Told error) = kind_of error ≡ DisplayHelp
+IsHelp Usage = ⊥
+IsHelp NoMemory = ⊥
+
+-- what is told of the words is a fault that `clap` finds in them
+abbrev pub IsFaultOf : List Text → Unread → Type 0
+IsFaultOf words (Told error) = HasFault words (kind_of error)
+IsFaultOf words Usage = Unit {0}
+IsFaultOf words NoMemory = Unit {0}
 
 -- the operands that `clap` found for `cat`
 pub record AreCatRows (rows : List Row) (kind : Kind) (image : List ℕ) (slot : ℕ) : Type 0 where

@@ -3,6 +3,11 @@ use Rattle.std.specs.Prelude.{◌≡◌, ◌≢◌, ◌⊎◌, ℕ, List, Option
 use Rattle.std.specs.Io.KnownBytes.{Appends, Keeps}
 use Rattle.rd_geometry.specs.Kinds.{size_of}
 use Rattle.rd_geometry.specs.declared.kind.Kind.{Kind}
+use Rattle.rd_geometry.specs.declared.kind.Kind.TheVariants.{Cpm8, D64}
+use Rattle.rd_cbm.specs.Faults as cbm_fault
+use Rattle.rd_cpm.specs.Entries.{slot_of}
+use Rattle.rd_cpm.specs.Faults as cpm_fault
+use Rattle.rd_volume.specs.Directories.{OfDirectory}
 use Rattle.rd_volume.specs.Volumes.{AreBytesOf, HasNoFault, IsOfServedClass, IsSlotOfFile}
 use Rattle.rd_main.specs.Output.{AppendsPart}
 use Rattle.rd_main.specs.declared.refusal.Refusal.{Refusal}
@@ -56,6 +61,18 @@ pub record HasFaultyFile (kind : Kind) (slot : ℕ) (image : List ℕ) : Type 0 
   pub served : IsOfServedClass kind image slot
   pub faulty : ¬ HasNoFault kind image slot
 
+-- the faults of the file at the slot, by bit
+abbrev pub AreFaultsOf : Kind → List ℕ → ℕ → ℕ → Type 0
+AreFaultsOf Cpm8 image slot faults = cpm_fault.AreFaults (slot_of image) slot faults
+AreFaultsOf D64 image slot faults = OfDirectory image (λ blocks. cbm_fault.AreFaults image blocks slot faults)
+
+-- The slot is that of a faulty file of an image of the kind, and the faults that are told, of a file of
+-- an image of a kind, are those of this file.
+pub record IsFaultyBy (kind : Kind) (slot : ℕ) (image : List ℕ) (of_kind : Kind) (faults : ℕ) : Type 0 where
+  pub file : HasFaultyFile kind slot image
+  pub same_kind : of_kind ≡ kind
+  pub are_faults : AreFaultsOf kind image slot faults
+
 -- The bytes are no image of the kind, no file of it has the slot, or that file is not of the class that
 -- is served or has a fault.
 abbrev pub HasNoSoundFile : Kind → ℕ → List ℕ → Type 0
@@ -72,4 +89,4 @@ Refuses WrongSize kind slot image old new = Keeps old new × (length image ≢ s
 Refuses NoFile kind slot image old new = Keeps old new × HasNoFile kind slot image
 Refuses ListedOnly kind slot image old new = Keeps old new × IsListedOnly kind slot image
 Refuses (Faulty of_kind faults) kind slot image old new =
-    Keeps old new × HasFaultyFile kind slot image
+    Keeps old new × IsFaultyBy kind slot image of_kind faults

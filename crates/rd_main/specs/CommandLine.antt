@@ -2,7 +2,9 @@
 use Rattle.std.specs.Prelude.{◌≡◌, List, [], ◌∷◌, Some, codes, map, pos, true}
 use Rattle.std.specs.Borrow.{Bor}
 use Rattle.clap.specs.Simple.{on_top}
-use Rattle.clap.specs.Words.{App, Rule, Shape, Text, new_app, new_rule, with_rule, with_subcommand}
+use Rattle.clap.specs.Words.{App, IsAmong, Rule, Shape, Text, fault_of, new_app, new_rule, with_rule, with_subcommand}
+use Rattle.clap.specs.declared.error.kind.ErrorKind.{ErrorKind}
+use Rattle.clap.specs.declared.error.kind.ErrorKind.TheVariants.{DisplayHelp}
 use Rattle.clap.specs.declared.builder.value_parser.ValueParser.{ValueParser}
 use Rattle.clap.specs.declared.builder.value_parser.ValueParser.TheVariants.{Names, Signed}
 
@@ -74,3 +76,19 @@ pub record IsDeskApp (app : App) : Type 0 where
   pub cat_names : AreKindNames cat_kinds
   pub list_names : AreKindNames list_kinds
   pub is : app ≡ desk_app cat_kinds list_kinds
+
+-- `clap` finds no fault in the words: they are a command of the program
+pub record IsTaken (words : List Text) : Type 0 where
+  pub app : App
+  pub is_desk : IsDeskApp app
+  pub no_fault : fault_of app words ≡ []
+
+-- `clap` finds a fault of a kind in the words; a call for help is one
+pub record HasFault (words : List Text) (kind : ErrorKind) : Type 0 where
+  pub app : App
+  pub is_desk : IsDeskApp app
+  pub fault : IsAmong kind (fault_of app words)
+
+-- the words ask for help
+abbrev pub AsksForHelp : List Text → Type 0
+AsksForHelp words = HasFault words DisplayHelp

@@ -3,5 +3,8 @@ pub mod CommandLine
 pub mod Asks
 pub mod Refusals
 pub mod Output
+pub mod Input
 pub mod Cat
 pub mod Printed
+pub mod Listed
+pub mod Told

@@ -1,6 +1,8 @@
-ghost use Rattle.std.specs.Prelude.{◌≡◌, ◌≢◌, IfErr, IfSome, OnOk, codes};
+ghost use Rattle.std.specs.Prelude.{◌≡◌, ◌≢◌, ◌+◌, IfErr, IfSome, OnOk, codes};
 ghost use Rattle.std.specs.Io.KnownBytes.{Keeps};
 ghost use Rattle.rd_main.specs.Cat.{Refuses, Serves};
+ghost use Rattle.rd_geometry.specs.Kinds.{size_of};
+ghost use Rattle.rd_main.specs.Input.{ReadsUpTo};
 ghost use Rattle.rd_main.specs.Refusals.{status_of};
 
 use crate::machine::Machine;
@@ -61,6 +63,8 @@ pub(crate) fn cat<R: Read, W: Write, M: Machine>(
     ensures refused { ask.entry.image.now ≡ codes "-"
         → IfErr result (λ refusal. IfSome (R.remaining input.old) (λ image. Refuses refusal
         ask.entry.kind ask.entry.slot image (W.contents output.old) (W.contents output.new))) }
+    ensures limit { ReadsUpTo (size_of ask.entry.kind + 1)
+        (R.remaining input.old) (R.remaining input.new) }
 {
     let bytes = read_image(alloc, ask.kind, ask.image, input, machine)?;
     cat_image(alloc, ask.kind, ask.slot, bytes.as_slice(), output)

@@ -1,22 +1,29 @@
-ghost use Rattle.std.specs.Prelude.{◌↔◌, ◌≡◌};
+ghost use Rattle.std.specs.Prelude.{◌↔◌, ◌≡◌, IfErr, IfOk, OnOk};
+ghost use Rattle.std.specs.Io.KnownBytes.{Keeps};
 ghost use Rattle.std.specs.IoError.{error_kind};
 ghost use Rattle.std.specs.declared.io.ErrorKind.TheVariants.{OutOfMemory};
+ghost use Rattle.std.specs.Process.{exit_status};
+ghost use Rattle.rd_main.specs.Output.{AppendsPart};
+ghost use Rattle.rd_main.specs.Printed.{refusal_line};
+ghost use Rattle.rd_main.specs.Refusals.{status_of};
 ghost use Rattle.rd_main.specs.declared.machine.MachineFault.TheVariants as machine_fault;
 ghost use Rattle.rd_main.specs.declared.refusal.Refusal.TheVariants as refusal;
 
 use crate::input::read_front;
 use crate::machine::{Machine, MachineFault};
 use crate::refusal::Refusal;
-use crate::run::{run, tell_refusal};
+use crate::run::run;
+use crate::tell::tell_refusal;
 use rd_volume::Kind;
 use std::alloc::{AllocError, Global};
-use std::io::{BufWriter, ErrorKind};
+use std::io::{BufWriter, ErrorKind, Write};
+use std::process::ExitCode;
 use std::{env, fs, io};
 
 /// The machine that the program runs on.
 #[derive(Drop)]
-struct Host<'a> {
-    rt: &'a HostRuntime,
+pub(crate) struct Host<'a> {
+    pub(crate) rt: &'a HostRuntime,
 }
 
 impl From<io::Error> for MachineFault {
@@ -91,10 +98,23 @@ fn run_here(rt: &HostRuntime) -> Result<u8, Refusal> {
     ))
 }
 
-/// Runs the program in the process, tells why where it cannot run, and gives its exit status.
-pub(crate) fn start(rt: &HostRuntime) -> u8 {
-    match run_here(rt) {
+/// The exit status of the process: the status of `run` where it ran, and else that of the refusal, which
+/// is told.
+fn exit_code<E: Write>(ran: Result<u8, Refusal>, errors: &mut E) -> ExitCode
+    ensures ran { IfOk ran (λ status. exit_status result ≡ status) }
+    ensures silent { OnOk ran (Keeps (E.contents errors.old) (E.contents errors.new)) }
+    ensures refused { IfErr ran (λ refused. exit_status result ≡ status_of refused) }
+    ensures told { IfErr ran (λ refused.
+        AppendsPart (E.contents errors.old) (E.contents errors.new) (refusal_line refused)) }
+{
+    let status = match ran {
         Ok(status) => status,
-        Err(refusal) => tell_refusal(refusal, &mut rt.stderr()),
-    }
+        Err(refused) => tell_refusal(refused, errors),
+    };
+    ExitCode::from(status)
+}
+
+/// Runs the program in the process, tells why where it cannot run, and gives its exit status.
+pub(crate) fn start(rt: &HostRuntime) -> ExitCode {
+    exit_code(run_here(rt), &mut rt.stderr())
 }

@@ -1,6 +1,7 @@
 ghost use Rattle.std.specs.Prelude.{◌≡◌, ◌<◌, IfErr, IfOk, IfSome, OnErr, OnOk, length, take, ◌++◌};
 ghost use Rattle.std.specs.Io.{ReadsAtMost};
 ghost use Rattle.std.specs.Io.KnownBytes.{Consumes, IsAtEnd, ReadConsumes};
+ghost use Rattle.rd_main.specs.Input.{ReadsUpTo};
 ghost use Rattle.rd_main.specs.Refusals.{status_of};
 
 use crate::refusal::Refusal;
@@ -43,6 +44,7 @@ fn read_part<R: Read>(input: &mut R, part: &mut [u8], bytes: &mut Vec<u8>) -> Re
     ensures end { IfOk result (λ count. count ≡ 0 → 0 < length part.new
         → IsAtEnd (R.remaining input.new)) }
     ensures refused { IfErr result (λ refusal. status_of refusal ≡ 3) }
+    ensures limit { ReadsUpTo (length part.new) (R.remaining input.old) (R.remaining input.new) }
 {
     let count = read_some(input, part)?;
     bytes.extend_from_slice(&part[..count])?;
@@ -63,6 +65,7 @@ pub(crate) fn read_front<R: Read>(
     ensures taken { IfOk result (λ bytes.
         Consumes (R.remaining input.old) (R.remaining input.new) bytes.items) }
     ensures refused { IfErr result (λ refusal. status_of refusal ≡ 3) }
+    ensures limit { ReadsUpTo limit (R.remaining input.old) (R.remaining input.new) }
 {
     let mut bytes = Vec::with_capacity(alloc, limit)?;
     let mut part = [0; PART];

@@ -1,33 +1,25 @@
-ghost use Rattle.std.specs.Prelude.{◌≡◌, ◌≢◌, IfErr};
-ghost use Rattle.std.specs.Io.KnownBytes.{Keeps};
+ghost use Rattle.std.specs.Prelude.{◌≡◌, ◌≢◌, ◌+◌, IfErr, IfOk, IfSome, OnErr, OnOk, codes, string_bytes};
+ghost use Rattle.std.specs.Io.KnownBytes.{Appends, Keeps};
+ghost use Rattle.rd_geometry.specs.Kinds.{size_of};
+ghost use Rattle.rd_main.specs.Input.{ReadsUpTo};
+ghost use Rattle.rd_main.specs.Listed as spec;
+ghost use Rattle.rd_main.specs.Listed.{Lists, RefusesList};
 ghost use Rattle.rd_main.specs.Refusals.{status_of};
 
 use crate::machine::Machine;
-use crate::output::flush;
+use crate::output::write_whole;
 use crate::printed::Line;
 use crate::refusal::Refusal;
 use crate::source::read_image;
 use crate::words::ImageAsk;
 use rd_volume::{End, Found, Image, Kind, directory_end, survey};
-use std::alloc::Global;
+use std::alloc::{AllocError, Global};
 use std::io::{Read, Write};
 
-/// Writes a line for each file of an image of a kind.
-///
-/// It fails with `Device` where a write failed.
-fn write_lines<W: Write>(kind: Kind, files: &[Found], output: &mut W) -> Result<(), Refusal>
-    ensures { IfErr result (λ refusal. refusal ≡ Refusal.Device) }
-{
-    for file in files {
-        if writeln!(output, "{}", Line(kind, file)).is_err() {
-            return Err(Refusal::Device);
-        }
-    }
-    Ok(())
-}
-
 /// The word that tells how a directory ends.
-fn end_word(end: End) -> &'static str {
+fn end_word(end: End) -> &'static str
+    ensures { result.now ≡ spec.end_word end }
+{
     match end {
         End::Last(_) => "end",
         End::Loop => "loop",
@@ -35,25 +27,40 @@ fn end_word(end: End) -> &'static str {
     }
 }
 
-/// Writes a line for each file of an image of a kind, and one that counts them and tells how the
-/// directory ends.
-///
-/// It fails with `Device` where a write or the flush failed.
-fn write_list<W: Write>(
-    kind: Kind,
-    files: &[Found],
-    end: End,
-    output: &mut W,
-) -> Result<(), Refusal>
-    ensures { IfErr result (λ refusal. refusal ≡ Refusal.Device) }
+/// A line for each file of an image of a kind, and one that counts them and tells how the directory
+/// ends. It fails where a growth of memory was refused.
+fn list_text(alloc: Global, kind: Kind, files: &[Found], end: End) -> Result<String, AllocError>
+    ensures { IfOk result (λ text. string_bytes text ≡ spec.list_text kind files.now end) }
 {
-    write_lines(kind, files, output)?;
+    let mut text = String::new(alloc);
+    for file in files {
+        write!(text, "{}", Line(kind, file))?;
+    }
     let count = files.len();
     let end = end_word(end);
-    if write!(output, "files\t{count}\t{end}\n").is_err() {
-        return Err(Refusal::Device);
-    }
-    flush(output)
+    write!(text, "files\t{count}\t{end}\n")?;
+    Ok(text)
+}
+
+/// Writes the list of the files of the image of a kind that the bytes are, and flushes the output.
+///
+/// It fails with `WrongSize`, with `NoMemory`, and with `Device` where a write or the flush failed.
+fn list_image<W: Write>(
+    alloc: Global,
+    kind: Kind,
+    bytes: &[u8],
+    output: &mut W,
+) -> Result<(), Refusal>
+    ensures done { OnOk result
+        (Lists kind bytes.now (W.contents output.old) (W.contents output.new)) }
+    ensures refused { IfErr result (λ refusal.
+        RefusesList refusal kind bytes.now (W.contents output.old) (W.contents output.new)) }
+{
+    let image = Image::new(kind, bytes)?;
+    let files = survey(alloc, &image)?;
+    let end = directory_end(alloc, &image)?;
+    let text = list_text(alloc, kind, files.as_slice(), end)?;
+    write_whole(output, text.as_bytes())
 }
 
 /// Writes the list of the files of the image that is asked for. Standard input is read no further
@@ -61,7 +68,7 @@ fn write_list<W: Write>(
 ///
 /// It fails with `Device` or `NoMemory` where the image cannot be read, with `WrongSize`, with
 /// `NoMemory`, and with `Device` where a write failed. Nothing is written before a refusal of the
-/// image.
+/// image or of memory.
 pub(crate) fn list<R: Read, W: Write, M: Machine>(
     alloc: Global,
     ask: ImageAsk,
@@ -72,10 +79,15 @@ pub(crate) fn list<R: Read, W: Write, M: Machine>(
     ensures never { IfErr result (λ refusal. status_of refusal ≢ 2) }
     ensures kept { IfErr result (λ refusal. status_of refusal ≡ 1
         → Keeps (W.contents output.old) (W.contents output.new)) }
+    ensures done { ask.entry.image.now ≡ codes "-"
+        → OnOk result (IfSome (R.remaining input.old) (λ image. Lists
+        ask.entry.kind image (W.contents output.old) (W.contents output.new))) }
+    ensures refused { ask.entry.image.now ≡ codes "-"
+        → IfErr result (λ refusal. IfSome (R.remaining input.old) (λ image. RefusesList refusal
+        ask.entry.kind image (W.contents output.old) (W.contents output.new))) }
+    ensures limit { ReadsUpTo (size_of ask.entry.kind + 1)
+        (R.remaining input.old) (R.remaining input.new) }
 {
     let bytes = read_image(alloc, ask.kind, ask.image, input, machine)?;
-    let image = Image::new(ask.kind, bytes.as_slice())?;
-    let files = survey(alloc, &image)?;
-    let end = directory_end(alloc, &image)?;
-    write_list(ask.kind, files.as_slice(), end, output)
+    list_image(alloc, ask.kind, bytes.as_slice(), output)
 }

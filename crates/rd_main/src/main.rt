@@ -12,6 +12,7 @@ mod printed;
 mod refusal;
 mod run;
 mod source;
+mod tell;
 #[cfg(test)]
 mod tests;
 mod words;
@@ -19,5 +20,5 @@ mod words;
 use std::process::ExitCode;
 
 fn main(rt: HostRuntime) -> ExitCode {
-    ExitCode::from(host::start(&rt))
+    host::start(&rt)
 }

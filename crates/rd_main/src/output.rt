@@ -35,7 +35,7 @@ fn write_some<W: Write>(output: &mut W, bytes: &[u8]) -> Result<usize, Refusal>
 /// Writes bytes.
 ///
 /// It fails with `Device` where a write failed or took no byte: then a front part was written.
-fn write_bytes<W: Write>(output: &mut W, bytes: &[u8]) -> Result<(), Refusal>
+pub(crate) fn write_bytes<W: Write>(output: &mut W, bytes: &[u8]) -> Result<(), Refusal>
     ensures done { OnOk result (Appends (W.contents output.old) (W.contents output.new) bytes.now) }
     ensures cut { OnErr result
         (AppendsPart (W.contents output.old) (W.contents output.new) bytes.now) }
@@ -73,6 +73,20 @@ pub(crate) fn flush<W: Write>(output: &mut W) -> Result<(), Refusal>
         Ok(()) => Ok(()),
         Err(_) => Err(Refusal::Device),
     }
+}
+
+/// Writes bytes and flushes the output.
+///
+/// It fails with `Device` where a write failed or took no byte, or the flush failed: then a front
+/// part was written.
+pub(crate) fn write_whole<W: Write>(output: &mut W, bytes: &[u8]) -> Result<(), Refusal>
+    ensures done { OnOk result (Appends (W.contents output.old) (W.contents output.new) bytes.now) }
+    ensures cut { OnErr result
+        (AppendsPart (W.contents output.old) (W.contents output.new) bytes.now) }
+    ensures device { IfErr result (λ refusal. refusal ≡ Refusal.Device) }
+{
+    write_bytes(output, bytes)?;
+    flush(output)
 }
 
 /// Writes the pieces of a file, one after another, and flushes the output.

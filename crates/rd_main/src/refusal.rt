@@ -1,12 +1,9 @@
-ghost use Rattle.std.specs.Prelude.{◌≡◌, Some};
-ghost use Rattle.rd_main.specs.Printed.{refusal_text};
+ghost use Rattle.std.specs.Prelude.{◌≡◌};
 ghost use Rattle.rd_main.specs.Refusals.{name_of, status_of};
 ghost use Rattle.rd_main.specs.declared.refusal.Refusal.TheVariants as refusal;
 
-use crate::printed::Joined;
-use rd_volume::{Kind, NoMemory, WrongSize, fault_words};
+use rd_volume::{Kind, NoMemory, WrongSize};
 use std::alloc::AllocError;
-use std::fmt;
 
 /// Why a command ends without what was asked for.
 #[derive(Clone, Copy, Debug, PartialEq, Eq)]
@@ -52,22 +49,6 @@ impl Refusal {
             Refusal::ListedOnly | Refusal::Faulty(_, _) => 1,
             Refusal::Usage => 2,
             Refusal::Device | Refusal::NoMemory => 3,
-        }
-    }
-}
-
-impl fmt::Display for Refusal {
-    ghost output = { λ refusal. Some (refusal_text refusal) };
-
-    /// The name, and the words of the faults where there are any.
-    fn fmt<W: fmt::Write>(&self, f: &mut fmt::Formatter<W>) -> fmt::Result {
-        let name = self.name();
-        match self {
-            Refusal::Faulty(kind, faults) => {
-                let faults = Joined(fault_words(*kind, *faults));
-                write!(f, "{name} {faults}")
-            }
-            _ => write!(f, "{name}"),
         }
     }
 }

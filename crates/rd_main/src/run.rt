@@ -1,69 +1,25 @@
-ghost use Rattle.std.specs.Prelude.{◌≡◌, ◌≢◌, ◌≤◌, IfErr, IfSome, List, OnOk, codes, map, ℕ};
+ghost use Rattle.std.specs.Prelude.{◌≡◌, ◌≢◌, ◌⊎◌, ◌≤◌, ◌+◌, ⊤, IfErr, IfSome, List, OnOk, codes, map, ℕ};
 ghost use Rattle.std.specs.Io.KnownBytes.{Keeps};
-ghost use Rattle.clap.specs.Values.{kind_of};
-ghost use Rattle.clap.specs.declared.error.Error.{Error};
-ghost use Rattle.clap.specs.declared.error.kind.ErrorKind.TheVariants.{DisplayHelp, DisplayVersion};
+ghost use Rattle.rd_geometry.specs.Kinds.{size_of};
 ghost use Rattle.rd_geometry.specs.declared.kind.Kind.{Kind};
-ghost use Rattle.rd_main.specs.Asks.{IsFileAsk};
+ghost use Rattle.rd_geometry.specs.declared.kind.Kind.TheVariants as kinds;
+ghost use Rattle.rd_main.specs.Asks.{IsFileAsk, IsFilesAsk, kind_asked};
 ghost use Rattle.rd_main.specs.Cat.{HasNoSoundFile, IsCut, Refuses, Serves};
+ghost use Rattle.rd_main.specs.CommandLine.{AsksForHelp, IsTaken};
+ghost use Rattle.rd_main.specs.Input.{ReadsUpTo};
+ghost use Rattle.rd_main.specs.Listed.{Lists, RefusesList};
 ghost use Rattle.rd_main.specs.Refusals.{status_of};
-ghost use Rattle.rd_main.specs.Words.{AsksCat, IsCommand};
-ghost use Rattle.rd_main.specs.declared.words.Unread.TheVariants as Unread;
+ghost use Rattle.rd_main.specs.Told.{Tells};
+ghost use Rattle.rd_main.specs.Words.{AsksCat, AsksList, AsksOfKind, IsCommand};
 
 use crate::cat::cat;
 use crate::list::list;
 use crate::machine::Machine;
-use crate::output::flush;
 use crate::refusal::Refusal;
-use crate::words::{Ask, Unread, read_words};
-use clap::Error;
+use crate::tell::{tell_refusal, tell_unread};
+use crate::words::{Ask, read_words};
 use std::alloc::Global;
 use std::io::{Read, Write};
-
-/// Tells a refusal in one line, and gives its status. A write that fails is ignored.
-pub(crate) fn tell_refusal<E: Write>(refused: Refusal, errors: &mut E) -> u8
-    ensures { result ≡ status_of refused }
-{
-    let _ = writeln!(errors, "desk: {refused}");
-    refused.status()
-}
-
-/// Writes the help that was asked for.
-///
-/// It fails with `Device` where a write failed.
-fn tell_help<W: Write>(help: &Error, output: &mut W) -> Result<(), Refusal>
-    ensures { IfErr result (λ refused. refused ≡ Refusal.Device) }
-{
-    if write!(output, "{help}").is_err() {
-        return Err(Refusal::Device);
-    }
-    flush(output)
-}
-
-/// Tells why words ask for no file, and gives the status: 0 where help was asked for and written,
-/// 2 where the words are no command, else 3.
-fn tell_unread<W: Write, E: Write>(unread: Unread, output: &mut W, errors: &mut E) -> u8
-    ensures status { result ≤ 3 }
-    ensures not_refused { result ≢ 1 }
-    ensures usage { result ≡ 2 → Keeps (W.contents output.old) (W.contents output.new) }
-    ensures mistake { (error : Error) → unread ≡ Unread.Told error → kind_of error ≢ DisplayHelp
-        → kind_of error ≢ DisplayVersion → result ≡ 2 }
-    ensures memory { unread ≡ Unread.NoMemory
-        → (result ≡ 3) × Keeps (W.contents output.old) (W.contents output.new) }
-{
-    match unread {
-        Unread::NoMemory => tell_refusal(Refusal::NoMemory, errors),
-        Unread::Usage => tell_refusal(Refusal::Usage, errors),
-        Unread::Told(error) if error.use_stderr() => {
-            let _ = write!(errors, "{error}");
-            2
-        }
-        Unread::Told(help) => match tell_help(&help, output) {
-            Ok(()) => 0,
-            Err(refused) => tell_refusal(refused, errors),
-        },
-    }
-}
 
 /// Does what is asked for.
 ///
@@ -84,6 +40,14 @@ fn perform<R: Read, W: Write, M: Machine>(
     ensures refused { (kind : Kind) (slot : ℕ) → IsFileAsk kind (codes "-") slot ask.entry
         → IfErr result (λ refusal. IfSome (R.remaining input.old) (λ image.
         Refuses refusal kind slot image (W.contents output.old) (W.contents output.new))) }
+    ensures listed { (kind : Kind) → IsFilesAsk kind (codes "-") ask.entry
+        → OnOk result (IfSome (R.remaining input.old) (λ image.
+        Lists kind image (W.contents output.old) (W.contents output.new))) }
+    ensures list_refused { (kind : Kind) → IsFilesAsk kind (codes "-") ask.entry
+        → IfErr result (λ refusal. IfSome (R.remaining input.old) (λ image.
+        RefusesList refusal kind image (W.contents output.old) (W.contents output.new))) }
+    ensures limit { ReadsUpTo (size_of (kind_asked ask.entry) + 1)
+        (R.remaining input.old) (R.remaining input.new) }
 {
     match ask {
         Ask::File(ask) => cat(alloc, ask, input, output, machine),
@@ -106,6 +70,18 @@ pub fn run<R: Read, W: Write, E: Write, M: Machine>(
     machine: &mut M,
 ) -> u8
     ensures status { result ≤ 3 }
+    // At 0 and 1 the words are a command; at 0 they may ask for help too.
+    ensures command { result ≡ 0 → IsTaken (map (λ word. word.now) words.entry.now)
+        ⊎ AsksForHelp (map (λ word. word.now) words.entry.now) }
+    ensures refused_command { result ≡ 1 → IsTaken (map (λ word. word.now) words.entry.now) }
+    // At 0 nothing is told; at 1 and 3 no more than the line of a refusal with this status.
+    ensures silent { result ≡ 0 → Keeps (E.contents errors.old) (E.contents errors.new) }
+    ensures told { (result ≡ 1) ⊎ (result ≡ 3)
+        → Tells (λ _. ⊤) result (E.contents errors.old) (E.contents errors.new) }
+    // No more is read than one byte past an image: of the largest kind, and of the kind asked for.
+    ensures limit { ReadsUpTo (size_of kinds.Cpm8 + 1) (R.remaining input.old) (R.remaining input.new) }
+    ensures limit_of_kind { (kind : Kind) → AsksOfKind (map (λ word. word.now) words.entry.now) kind
+        → ReadsUpTo (size_of kind + 1) (R.remaining input.old) (R.remaining input.new) }
     // At 0 a `cat` of standard input has written exactly the bytes of a sound file of its image.
     ensures done { result ≡ 0 → (kind : Kind) (slot : ℕ)
         → AsksCat (map (λ word. word.now) words.entry.now) kind (codes "-") slot
@@ -117,6 +93,25 @@ pub fn run<R: Read, W: Write, E: Write, M: Machine>(
     ensures no_sound_file { result ≡ 1 → (kind : Kind) (slot : ℕ)
         → AsksCat (map (λ word. word.now) words.entry.now) kind (codes "-") slot
         → IfSome (R.remaining input.old) (HasNoSoundFile kind slot) }
+
+    // Not at 0, the refusal of a `cat` of standard input is told by the first name that is due.
+    ensures told_why { result ≢ 0 → (kind : Kind) (slot : ℕ)
+        → AsksCat (map (λ word. word.now) words.entry.now) kind (codes "-") slot
+        → IfSome (R.remaining input.old) (λ image. Tells (λ refusal.
+        Refuses refusal kind slot image (W.contents output.old) (W.contents output.new))
+        result (E.contents errors.old) (E.contents errors.new)) }
+
+    // A `list` of standard input: at 0 it has written exactly the list of its image, and not at 0 its
+    // refusal is told.
+    ensures listed { result ≡ 0 → (kind : Kind)
+        → AsksList (map (λ word. word.now) words.entry.now) kind (codes "-")
+        → IfSome (R.remaining input.old) (λ image.
+        Lists kind image (W.contents output.old) (W.contents output.new)) }
+    ensures list_told { result ≢ 0 → (kind : Kind)
+        → AsksList (map (λ word. word.now) words.entry.now) kind (codes "-")
+        → IfSome (R.remaining input.old) (λ image. Tells (λ refusal.
+        RefusesList refusal kind image (W.contents output.old) (W.contents output.new))
+        result (E.contents errors.old) (E.contents errors.new)) }
 
     // At 2 nothing is written, and the words are no command.
     ensures usage { result ≡ 2 → ¬ IsCommand (map (λ word. word.now) words.entry.now) }

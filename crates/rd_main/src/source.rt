@@ -1,5 +1,6 @@
 ghost use Rattle.std.specs.Prelude.{◌≡◌, ◌+◌, IfErr, IfOk, IfSome, List, codes, take, ℕ};
 ghost use Rattle.rd_geometry.specs.Kinds.{size_of};
+ghost use Rattle.rd_main.specs.Input.{ReadsUpTo};
 ghost use Rattle.rd_main.specs.Refusals.{status_of};
 
 use crate::input::read_front;
@@ -23,6 +24,7 @@ pub(crate) fn read_image<R: Read, M: Machine>(
     ensures front { path.now ≡ codes "-" → IfOk result (λ bytes.
         IfSome (R.remaining input.old) (λ all. bytes.items ≡ take (size_of kind + 1) all)) }
     ensures refused { IfErr result (λ refusal. status_of refusal ≡ 3) }
+    ensures limit { ReadsUpTo (size_of kind + 1) (R.remaining input.old) (R.remaining input.new) }
 {
     if path == "-" {
         return read_front(alloc, kind.size() + 1, input);

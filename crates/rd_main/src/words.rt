@@ -1,9 +1,10 @@
-ghost use Rattle.std.specs.Prelude.{◌≡◌, IfErr, IfOk, IsSomeAnd, List, codes, map, ℕ};
+ghost use Rattle.std.specs.Prelude.{◌≡◌, ◌⊎◌, IfErr, IfOk, IsSomeAnd, List, OnOk, codes, map, ℕ};
 ghost use Rattle.clap.specs.Words.{first_of, found_of, kind_of, one_of, rows_of};
 ghost use Rattle.clap.specs.Words.{subcommand_rows_of};
 ghost use Rattle.clap.specs.declared.error.kind.ErrorKind.TheVariants.{OutOfMemory};
 ghost use Rattle.rd_geometry.specs.Kinds.{word_of};
-ghost use Rattle.rd_main.specs.Asks.{AreCatRows, AreListRows, AsksFile, AsksFiles, EntersCat, EntersList, IsFileAsk, IsFilesAsk};
+ghost use Rattle.rd_main.specs.Asks.{AreCatRows, AreListRows, AsksFile, AsksFiles, EntersCat, EntersList, IsFaultOf, IsFileAsk, IsFilesAsk};
+ghost use Rattle.rd_main.specs.CommandLine.{IsTaken};
 ghost use Rattle.rd_main.specs.Words.{AsksCat, AsksList, IsCommand, IsSlotText};
 ghost use Rattle.rd_main.specs.declared.words.Unread.TheVariants as Unread;
 
@@ -62,7 +63,8 @@ impl From<AllocError> for Unread {
 }
 
 impl From<Error> for Unread {
-    ghost from_gives = { λ error unread. kind_of error ≡ OutOfMemory → unread ≡ Unread.NoMemory };
+    ghost from_gives = { λ error unread. (kind_of error ≡ OutOfMemory → unread ≡ Unread.NoMemory)
+        × ((unread ≡ Unread.NoMemory) ⊎ (unread ≡ Unread.Told error)) };
 
     fn from(error: Error) -> Unread {
         if error.kind() == ErrorKind::OutOfMemory {
@@ -139,6 +141,11 @@ pub(crate) fn read_words<'a>(alloc: Global, words: &'a [&'a str]) -> Result<Ask<
     ensures read { IfOk result (λ ask. (kind : Kind) (image : List ℕ) (slot : ℕ)
         → AsksCat (map (λ word. word.now) words.entry.now) kind image slot
         → IsFileAsk kind image slot ask) }
+    ensures listed { IfOk result (λ ask. (kind : Kind) (image : List ℕ)
+        → AsksList (map (λ word. word.now) words.entry.now) kind image
+        → IsFilesAsk kind image ask) }
+    ensures taken { OnOk result (IsTaken (map (λ word. word.now) words.entry.now)) }
+    ensures told { IfErr result (IsFaultOf (map (λ word. word.now) words.entry.now)) }
     ensures unread { IfErr result (λ fault. IsCommand (map (λ word. word.now) words.entry.now)
         → fault ≡ Unread.NoMemory) }
 {

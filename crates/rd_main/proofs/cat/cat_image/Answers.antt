@@ -1,6 +1,6 @@
 use Rattle.std.proofs.Common.{refl, rules, true}
 use Rattle.std.proofs.KnownBytes.{Keeps-refl}
-use Rattle.rd_main.proofs.Served.{absent, cut, faulty_file, found_file, image_bytes, is_cat, listed_only, served}
+use Rattle.rd_main.proofs.Served.{absent, cut, faulty_by, found_file, image_bytes, is_cat, listed_only, served}
 use Rattle.rd_main.proofs.cat.cat_image.Goals as goal
 
 pub returns-in_default-clause-refused : goal.returns-in_default-clause-refused
@@ -22,7 +22,7 @@ pub returns-then-file-ne0-clause-refused : goal.returns-then-file-ne0-clause-ref
 returns-then-file-ne0-clause-refused g c =
     let has = found_file c.args.kind _ c.args.bytes.now _ c.args.slot _ c.in-Some.file (c.in_ok-image.ensures.taken.0 (refl {a = true}))
     c.in_ok-image.ensures.kind c.in_ok-image.ensures.bytes c.in-Some.is c.in_ok-file.ensures.file in
-    (Keeps-refl _, faulty_file c.args.kind c.args.slot c.args.bytes.now c.in-Some.file has (search rules) (search rules))
+    (Keeps-refl _, faulty_by c.args.kind c.args.slot c.args.bytes.now c.in-Some.file has (search rules) (search rules))
 
 pub returns-clause-done : goal.returns-clause-done
 returns-clause-done g c =

@@ -1,6 +1,7 @@
 use Rattle.std.proofs.Common.{IfErr, IfSome, OnOk, codes, subst}
-use Rattle.rd_main.specs.Asks.{AsksFile, IsFileAsk}
+use Rattle.rd_main.specs.Asks.{AsksFile, AsksFiles, IsFileAsk, IsFilesAsk}
 use Rattle.rd_main.specs.Cat.{Refuses, Serves}
+use Rattle.rd_main.specs.Listed.{Lists, RefusesList}
 use Rattle.rd_main.proofs.Ran.{as_asked}
 use Rattle.rd_main.proofs.run.perform.Goals as goal
 
@@ -21,3 +22,21 @@ returns-in-Files-clause-done g c = λ kind slot asked. absurd (subst (IsFileAsk 
 
 pub returns-in-Files-clause-refused : goal.returns-in-Files-clause-refused
 returns-in-Files-clause-refused g c = λ kind slot asked. absurd (subst (IsFileAsk kind (codes "-") slot) c.in-Files.is asked)
+
+pub returns-in-File-clause-listed : goal.returns-in-File-clause-listed
+returns-in-File-clause-listed g c = λ kind asked. absurd (subst (IsFilesAsk kind (codes "-")) c.in-File.is asked)
+
+pub returns-in-File-clause-list_refused : goal.returns-in-File-clause-list_refused
+returns-in-File-clause-list_refused g c = λ kind asked. absurd (subst (IsFilesAsk kind (codes "-")) c.in-File.is asked)
+
+pub returns-in-Files-clause-listed : goal.returns-in-Files-clause-listed
+returns-in-Files-clause-listed g c = λ kind asked.
+    let asks : AsksFiles c.in-Files.ask kind (codes "-") = subst (IsFilesAsk kind (codes "-")) c.in-Files.is asked in
+    subst (λ k. OnOk c.list.result (IfSome (g.R.Read.remaining c.args.input.now) (λ image. Lists k image (g.W.Write.contents c.args.output.now) (g.W.Write.contents c.list.new.output))))
+    asks.kind_is (c.list.ensures.done asks.image_is)
+
+pub returns-in-Files-clause-list_refused : goal.returns-in-Files-clause-list_refused
+returns-in-Files-clause-list_refused g c = λ kind asked.
+    let asks : AsksFiles c.in-Files.ask kind (codes "-") = subst (IsFilesAsk kind (codes "-")) c.in-Files.is asked in
+    subst (λ k. IfErr c.list.result (λ refusal. IfSome (g.R.Read.remaining c.args.input.now) (λ image. RefusesList refusal k image (g.W.Write.contents c.args.output.now) (g.W.Write.contents c.list.new.output))))
+    asks.kind_is (c.list.ensures.refused asks.image_is)
