@@ -1,5 +1,6 @@
 //! What the program says and writes.
 mod d64;
+mod edges;
 mod fakes;
 mod lists;
 mod refused;

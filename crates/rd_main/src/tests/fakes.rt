@@ -68,6 +68,30 @@ impl Write for Narrow {
     }
 }
 
+/// A writer that ends so at its first write, and takes all of each other.
+#[derive(Drop)]
+pub(crate) struct Stumbling {
+    pub(crate) first: Option<End>,
+    pub(crate) taken: Vec<u8>,
+}
+
+impl Write for Stumbling {
+    fn write(&mut self, buf: &[u8]) -> io::Result<usize> {
+        match self.first.take() {
+            Some(End::Fails) => Err(io::Error::from(ErrorKind::Other)),
+            Some(End::TakesNone) => Ok(0),
+            None => {
+                self.taken.extend_from_slice(buf)?;
+                Ok(buf.len())
+            }
+        }
+    }
+
+    fn flush(&mut self) -> io::Result<()> {
+        Ok(())
+    }
+}
+
 /// A machine with one file, or with none to give.
 #[derive(Drop)]
 pub(crate) struct OneFile<'a> {

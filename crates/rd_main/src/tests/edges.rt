@@ -1,0 +1,145 @@
+//! Writers that fail once, files of a length too many or too few, and files of the real machine.
+
+use super::fakes::{End, OneFile, Stumbling};
+use super::{Ran, is_refused, no_file, run_with};
+use crate::host::Host;
+use crate::machine::{Machine, MachineFault};
+use crate::run::run;
+use rd_rows::cpm::hello;
+use std::alloc::{Alloc, Global};
+use std::test::Fail;
+use std::{env, fs};
+
+/// A run whose output does not take the first write, and would take all others.
+struct Stumble {
+    label: &'static str,
+    words: &'static [&'static str],
+    first: End,
+}
+
+const STUMBLES: [Stumble; 6] = [
+    Stumble {
+        label: "list, the first write fails",
+        words: &["list", "cpm8", "-"],
+        first: End::Fails,
+    },
+    Stumble {
+        label: "list, the first write takes no byte",
+        words: &["list", "cpm8", "-"],
+        first: End::TakesNone,
+    },
+    Stumble {
+        label: "cat, the first write fails",
+        words: &["cat", "cpm8", "-", "0"],
+        first: End::Fails,
+    },
+    Stumble {
+        label: "cat, the first write takes no byte",
+        words: &["cat", "cpm8", "-", "0"],
+        first: End::TakesNone,
+    },
+    Stumble {
+        label: "help, the first write fails",
+        words: &["--help"],
+        first: End::Fails,
+    },
+    Stumble {
+        label: "help, the first write takes no byte",
+        words: &["list", "--help"],
+        first: End::TakesNone,
+    },
+];
+
+/// What a run on an image left behind whose output stumbles.
+fn run_stumbling(alloc: Global, case: &Stumble, mut image: &[u8]) -> Ran {
+    let mut output = Stumbling {
+        first: Some(case.first),
+        taken: Vec::new(alloc),
+    };
+    let mut errors = Vec::new(alloc);
+    let status = run(
+        alloc,
+        case.words,
+        &mut image,
+        &mut output,
+        &mut errors,
+        &mut no_file(),
+    );
+    Ran {
+        status,
+        output: output.taken,
+        errors,
+    }
+}
+
+#[test]
+fn a_write_that_fails_ends_the_run(rt: HostRuntime) -> Result<(), Fail> {
+    let image = hello(rt.alloc())?;
+    for case in &STUMBLES {
+        let ran = run_stumbling(rt.alloc(), case, image.as_slice());
+        assert!(rt; is_refused(&ran, 3, "desk: device\n"), "{}", case.label);
+    }
+    Ok(())
+}
+
+/// The lengths next to that of a CP/M image.
+const LENGTHS: [usize; 2] = [256_255, 256_257];
+
+#[test]
+fn a_file_of_another_length_is_refused(rt: HostRuntime) -> Result<(), Fail> {
+    let alloc = rt.alloc();
+    let mut image = hello(alloc)?;
+    for length in LENGTHS {
+        image.resize(length, 0xe5)?;
+        let mut machine = OneFile {
+            path: "disk.img",
+            bytes: Ok(image.as_slice()),
+        };
+        let cat = run_with(alloc, &["cat", "cpm8", "disk.img", "0"], &[], &mut machine);
+        assert!(rt; is_refused(&cat, 1, "desk: wrong-size\n"), "{length}");
+        let list = run_with(alloc, &["list", "cpm8", "disk.img"], &[], &mut machine);
+        assert!(rt; is_refused(&list, 1, "desk: wrong-size\n"), "{length}");
+    }
+    Ok(())
+}
+
+/// What the real machine gives of a path: so many bytes, or a fault.
+const PATHS: [(&str, Result<usize, MachineFault>); 3] = [
+    ("/", Err(MachineFault::Failed)),
+    ("/no-such-file", Err(MachineFault::Failed)),
+    ("/dev/zero", Ok(256_257)),
+];
+
+#[test]
+fn the_machine_reads_no_folder_and_no_more_than_an_image(rt: HostRuntime) {
+    let mut host = Host { rt: &rt };
+    for (path, wanted) in PATHS {
+        let given = host.read_file(rt.alloc(), path);
+        assert!(rt; given.map(|bytes| bytes.len()) == wanted, "{path}");
+    }
+}
+
+/// The path of a new file in the folder for what tests make, which is empty.
+fn fresh_path(rt: &HostRuntime) -> Result<String, Fail> {
+    let folder = match env::var(rt, "TMPDIR") {
+        Ok(folder) => folder,
+        Err(_) => String::from_str(rt.alloc(), "/tmp")?,
+    };
+    for n in 0..1_000 {
+        let path = format!(in rt.alloc(); "{folder}/desk-image-{n}")?;
+        if fs::File::create_new(rt, path.as_str()).is_ok() {
+            return Ok(path);
+        }
+    }
+    Err(Fail::from("no new file can be made"))
+}
+
+#[test]
+fn the_machine_reads_a_file(rt: HostRuntime) -> Result<(), Fail> {
+    let path = fresh_path(&rt)?;
+    fs::write(&rt, path.as_str(), b"BYTES")?;
+    let given = Host { rt: &rt }.read_file(rt.alloc(), path.as_str());
+    fs::remove_file(&rt, path.as_str())?;
+    assert!(rt; given.is_ok_and(|bytes| bytes.as_slice() == b"BYTES".as_slice()));
+    Ok(())
+}
