@@ -49,6 +49,26 @@ def full_d64():
     return bytes(image)
 
 
+def crowded_d64():
+    """A 1541 image whose directory is full: 144 programs of four blocks, each block far from the one before it."""
+    image = bytearray((7 * n + n // 256) % 251 for n in range(174848))
+    free = [n for n, (track, _) in enumerate(BLOCKS) if track != 18]
+    scattered = [free[i * 131 % len(free)] for i in range(4 * 144)]
+    directory = [BLOCKS.index((18, sector)) for sector in range(1, 19)]
+    image[256 * 357 : 256 * 358] = full_d64()[256 * 357 : 256 * 358]
+    for n, after in zip(directory, directory[1:] + [None]):
+        link = bytes(BLOCKS[after]) if after is not None else b"\x00\xff"
+        image[256 * n : 256 * n + 256] = link + bytes(254)
+    for slot in range(144):
+        chain = scattered[4 * slot : 4 * slot + 4]
+        for n, after in zip(chain, chain[1:] + [None]):
+            image[256 * n : 256 * n + 2] = bytes(BLOCKS[after]) if after is not None else b"\x00\x80"
+        entry = b"\x82" + bytes(BLOCKS[chain[0]]) + (b"FILE%03d" % slot).ljust(16, b"\xa0")
+        at = 256 * directory[slot // 8] + 32 * (slot % 8) + 2
+        image[at : at + 30] = entry + bytes(9) + (4).to_bytes(2, "little")
+    return bytes(image)
+
+
 def cases():
     """For each case its name, its kind, its image, and the name and slot of the file to be read. cpmcp reads no block
     above 239, which ALL.DAT alone has."""
@@ -61,4 +81,5 @@ def cases():
         ("64 one-record files", "cpm8", cpm(many), "F63.DAT", 63),
         ("a fragmented file", "cpm8", cpm(whole_file("BIG     DAT", scattered)[::-1]), "BIG.DAT", 0),
         ("a full D64", "d64", full_d64(), "LONG", 0),
+        ("144 files of a D64", "d64", crowded_d64(), "FILE143", 143),
     ]

@@ -1,7 +1,7 @@
 #!/usr/bin/env python3
-"""bench/run.py PROGRAM [KIND..]: measures `desk cat` and `desk list` beside cpmtools, cbmconvert and a C program that
-does the same work with the same checks (reference.c), all in one run. It wants valgrind and gcc too; run as root, it
-installs Debian's packages where one is missing.
+"""bench/run.py PROGRAM [KIND..]: measures `desk cat` and `desk list` beside cpmtools, cbmconvert, cc1541 and a C
+program that does the same work with the same checks (reference.c), all in one run. It wants valgrind and gcc too; run
+as root, it installs Debian's packages where one is missing.
 
 It prints ratios of desk over the other program: instructions, which valgrind counts, and the least time of 1,000
 runs. Below 1, desk needs less. The programs are timed in turn, round after round, so that what else the machine does
@@ -12,8 +12,8 @@ Before it measures a case, it sees that each program ends with status 0 and that
 cbmconvert write are the same bytes, and some. cpmcp reads no block above 239: the largest CP/M file is measured beside
 the C program alone, and one that ends at that block beside both.
 
-It fails where desk is not below cpmcp and cpmls in both ratios, or takes more than 2.5 times the instructions of the
-C program."""
+It fails where desk is not below cpmcp and cpmls in both ratios, or not below cc1541 in instructions, or takes more than
+2.5 times those of the C program."""
 
 import os
 import shutil
@@ -27,8 +27,8 @@ HERE = os.path.dirname(os.path.abspath(__file__))
 sys.path.insert(0, os.path.join(HERE, "..", "scripts"))
 import tools
 
-NEEDED = ["cpmcp", "cbmconvert", "valgrind", "gcc", "/usr/include/stdio.h"]
-PACKAGES = ["cpmtools", "cbmconvert", "valgrind", "gcc", "libc6-dev"]
+NEEDED = ["cpmcp", "cbmconvert", "cc1541", "valgrind", "gcc", "/usr/include/stdio.h"]
+PACKAGES = ["cpmtools", "cbmconvert", "cc1541", "valgrind", "gcc", "libc6-dev"]
 MEMORY = "/dev/shm"
 RUNS = 5
 ROUNDS = 200
@@ -96,8 +96,10 @@ class Bench:
 def others(kind, command, path, name):
     """The programs that do the same work as a command of desk, by their names: their words, and the file that they
     write a file's bytes to."""
+    if kind == "d64" and command == "list":
+        return {"cc1541": (["cc1541", "-m", path], None)}
     if kind == "d64":
-        return {"cbmconvert": (["cbmconvert", "-N", "-d", path], f"{name.lower()}.prg")} if command == "cat" else {}
+        return {"cbmconvert": (["cbmconvert", "-N", "-d", path], f"{name.lower()}.prg")}
     on = ["-f", "ibm-3740", path]
     if command == "cat" and name == "ALL.DAT":
         return {}
@@ -121,6 +123,8 @@ def missed_by(who, ratio, time_ratio):
     """Whether ratios over a program miss what is owed."""
     if who in ("cpmcp", "cpmls"):
         return max(ratio, time_ratio) >= 1
+    if who == "cc1541":
+        return ratio >= 1
     return who == "C program" and ratio > 2.5
 
 
