@@ -35,6 +35,7 @@ fn write_some<W: Write>(output: &mut W, bytes: &[u8]) -> Result<usize, Refusal>
 /// Writes bytes.
 ///
 /// It fails with `Device` where a write failed or took no byte: then a front part was written.
+#[inline(always)]
 pub(crate) fn write_bytes<W: Write>(output: &mut W, bytes: &[u8]) -> Result<(), Refusal>
     ensures done { OnOk result (Appends (W.contents output.old) (W.contents output.new) bytes.now) }
     ensures cut { OnErr result

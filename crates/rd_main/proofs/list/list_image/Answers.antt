@@ -1,7 +1,7 @@
-use Rattle.std.proofs.Common.{◌≡◌, List, refl, rules, subst, sym, true}
+use Rattle.std.proofs.Common.{◌≡◌, refl, subst, sym, true}
 use Rattle.rd_geometry.specs.Images.{bytes_of, kind_of}
 use Rattle.rd_volume.specs.Volumes.{AreFounds}
-use Rattle.rd_main.specs.Listed.{IsList, list_text}
+use Rattle.rd_main.specs.Listed.{list_text}
 use Rattle.rd_main.proofs.ListWritten.{is_list, list_cut, listed}
 use Rattle.rd_main.proofs.list.list_image.Goals as goal
 

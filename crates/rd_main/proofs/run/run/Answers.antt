@@ -1,4 +1,4 @@
-use Rattle.std.proofs.Common.{◌≡◌, ◌≢◌, ◌∙◌, ◌+◌, ℕ, List, arith, codes, inl, inr, map, refl, subst, sym}
+use Rattle.std.proofs.Common.{◌≡◌, ◌∙◌, ◌+◌, arith, codes, inl, inr, map, subst, sym}
 use Rattle.std.specs.Prelude.{⊤}
 use Rattle.rd_geometry.specs.Kinds.{size_of}
 use Rattle.rd_main.specs.Asks.{kind_asked}

@@ -1,4 +1,4 @@
-use Rattle.std.proofs.Common.{◌≡◌, ◌∙◌, ◌++◌, ℕ, List, append_assoc, codes, refl, sym}
+use Rattle.std.proofs.Common.{◌∙◌, ◌++◌, ℕ, List, append_assoc, codes, refl, sym}
 use Rattle.std.proofs.KnownBytes.{Appends-trans}
 use Rattle.rd_main.specs.Printed.{blanked, line_feed, words_after}
 use Rattle.rd_main.specs.Refusals.{name_of}
