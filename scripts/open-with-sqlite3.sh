@@ -1,7 +1,8 @@
 #!/usr/bin/env bash
 # Makes a desk in a file by the store's test, reads it with the sqlite3 shell, and has the store open it
-# again after VACUUM, and after ANALYZE, whose tables it refuses until they are dropped. Wants `rt test` in
-# crates/rd_store, or the store's built tests as an argument.
+# again after VACUUM, and after ANALYZE, whose tables it refuses until they are dropped. Then tables, views
+# and triggers named desk: what the store answers where it is to open them, and to make a desk beside them.
+# Wants `rt test` in crates/rd_store, or the store's built tests as an argument.
 set -u
 cd "$(dirname "$0")/.." || exit 1
 tests=${1:-crates/rd_store/out/rd_store_tests}
@@ -41,16 +42,35 @@ opens() {
     DESK_FILE=$file passes tests::files::opens_a_file_again
 }
 
-# the store has to refuse the file with this fault
+# the store has to refuse to open the file with this fault
 refuses() {
-    if DESK_FILE=$file "$tests" tests::files::opens_a_file_again >"$work/test" 2>&1; then
-        echo "it opens"
+    fails_with opens_a_file_again "$1"
+}
+
+# and to make a desk in it
+makes_none() {
+    fails_with makes_a_desk_in_a_file "$1"
+}
+
+# the test of this name fails on the file with this fault
+fails_with() {
+    if DESK_FILE=$file "$tests" "tests::files::$1" >"$work/test" 2>&1; then
+        echo "it is not refused"
         return 1
     fi
-    grep -q "error: $1\$" "$work/test" && return
+    grep -q "error: $2\$" "$work/test" && return
     cat "$work/test"
     return 1
 }
+
+# a new file with what these statements make
+made() {
+    file=$work/made.sqlite
+    rm -f "$file" "$file-wal" "$file-shm"
+    sqlite3 -batch -bail "$file" "$1"
+}
+
+trigger='AFTER UPDATE ON %s BEGIN SELECT 1; END'
 
 # the SHA-256 of the image's bytes, by sha256sum
 image_digest() {
@@ -101,3 +121,17 @@ step "the store refuses it with Sql" refuses Sql
 step "sqlite3 drops the tables of statistics" drop_statistics
 step "the store opens it again" opens
 step "sqlite3 shows its rows at the end" has_rows
+step "sqlite3 puts a trigger on the table desk" sqlite3 -batch -bail "$file" "CREATE TRIGGER noted $(printf "$trigger" desk)"
+step "the store refuses it with Sql, for its columns cannot be told" refuses Sql
+step "no desk is made: Exists" makes_none Exists
+step "sqlite3 drops the trigger" sqlite3 -batch -bail "$file" 'DROP TRIGGER noted'
+step "the store opens it without the trigger" opens
+step "a table desk with a trigger and another column" made "CREATE TABLE desk (name TEXT) STRICT; CREATE TRIGGER noted $(printf "$trigger" desk)"
+step "the store refuses that with Sql too" refuses Sql
+step "no desk is made beside it: Exists" makes_none Exists
+step "a view desk" made 'CREATE TABLE museum (id INTEGER PRIMARY KEY) STRICT; CREATE VIEW desk AS SELECT id FROM museum'
+step "which is no desk: NotADesk" refuses NotADesk
+step "no desk is made beside it: Sql" makes_none Sql
+step "a trigger desk" made "CREATE TABLE museum (id INTEGER PRIMARY KEY) STRICT; CREATE TRIGGER desk $(printf "$trigger" museum)"
+step "which is no desk either: NotADesk" refuses NotADesk
+step "no desk is made beside it either: Sql" makes_none Sql

@@ -17,6 +17,7 @@ use Rattle.sqlite.proofs.StateLemmas.{survives_then}
 use Rattle.rd_tables.proofs.Running.{IsWrite, Makes, inside_keeps, ran}
 use Rattle.rd_store.specs.Held.{Moves, IsOpen, IsClean}
 use Rattle.rd_store.specs.Created.{IsAt, Turns}
+use Rattle.rd_store.proofs.Laws.{lasts_of}
 
 -- ---- one statement
 
@@ -78,11 +79,10 @@ module _ {S : Type 0} (g : Ghosts S) (clean_at : (h : Held S) → IsOpen g h →
   -- a last step undoes all
   pub undoes : {U Y V Z : Type 0} (q : Result U Y) → Moves g (begun old) mid Before After q → (IsClean g last → IsRolledBack (state g mid) (state g last)) → Survives (state g mid) (state g last) (λ _. ⊥) → (r : Result V Z) → IsErr r → Turns g old last After r
   undoes q inside undone ended r failed = record {
-    was_open = was;
+    lasts = lasts_of g old last (λ _. ⊥) all was;
     ok = λ is_open. never r failed;
     err = λ is_open. on r (now is_open);
-    clean = λ clean. omega (arith, all.clean, clean);
-    stands = λ was clean. never_open r failed;
+    ends_open = λ clean. never_open r failed;
     crash = λ was clean left may. elim (all.crash clean left may) [ inl before ↦ inl before | inr none ↦ absurd none ];
   }
     where
@@ -124,9 +124,6 @@ module _ {S : Type 0} (g : Ghosts S) (clean_at : (h : Held S) → IsOpen g h →
     early : IsClean g last → IsClean g mid
     early clean = omega (arith, all.clean)
 
-    first : IsClean g mid → IsClean g old
-    first clean = omega (arith, inside.quiet.clean)
-
     -- the transaction as it is committed
     whole : IsClean g mid → IsOpen g old → IsOpen g mid × IsTrue mid.in_transaction × After (state g mid).now
     whole clean was = inside.ok clean was refl (start was).holds
@@ -160,11 +157,10 @@ module _ {S : Type 0} (g : Ghosts S) (clean_at : (h : Held S) → IsOpen g h →
 
     pub commits : (r : Result (Unit {0}) Error) → (IsClean g last → Done r) → (IsClean g last → IfErr r (FailsToCommit (state g mid) (state g last))) → Turns g old last After r
     commits r done failed = record {
-      was_open = λ is_open. open_in r (at is_open);
+      lasts = lasts_of g old last (λ trees. trees ≡ (state g mid).now.trees) total (λ is_open. open_in r (at is_open));
       ok = λ is_open. ok r (at is_open);
       err = λ is_open. err r (at is_open);
-      clean = λ clean. first (early clean);
-      stands = λ was clean. opens r (done clean);
+      ends_open = λ clean. opens r (done clean);
       crash = λ was clean left may. elim (total.crash clean left may) [ inl before ↦ inl before | inr is ↦ inr ((state g mid).now, (whole (early clean) was).2, is) ];
     }
       where

@@ -1,8 +1,9 @@
 -- The commands keep a desk lawful.
-use Rattle.std.proofs.Common.{◌≡◌, ◌≢◌, ◌⊎◌, inl, inr, ℕ, List, Bool, true, false, cond, Option, Some, None, IsSome, refl, sym, ap, subst, ◌∙◌, Ordering, Less, Equal, Greater, is_eq, true≢false, nat_cmp}
+use Rattle.std.proofs.Common.{◌≡◌, ◌≢◌, ◌⊎◌, inl, inr, ℕ, ℤ, List, Bool, true, false, cond, Option, Some, None, IsSome, refl, sym, ap, subst, ◌∙◌, Ordering, Less, Equal, Greater, is_eq, true≢false, nat_cmp}
 use Rattle.std.specs.Ordering.{eq_by_cmp}
 use Rattle.std.specs.FinMap.{FinMap, get, insert, remove, get-insert, get-remove}
 use Rattle.std.proofs.lemmas.Bool.{cases_Bool}
+use Rattle.rd_policy.specs.Days.{IsDay}
 use Rattle.rd_policy.specs.Rules.{IsRule}
 use Rattle.rd_policy.specs.declared.audience.Audience.{Audience}
 use Rattle.rd_policy.specs.declared.audience.Audience.TheVariants.{Staff}
@@ -11,9 +12,10 @@ use Rattle.rd_policy.specs.declared.rule.Band.TheVariants.{Takedown, Deed}
 use Rattle.rd_tables.proofs.Entries.{IsKeyOrder, get_inserted}
 use Rattle.rd_store.specs.declared.rows.DeedRow.{DeedRow}
 use Rattle.rd_store.specs.declared.rows.ImageRow.{ImageRow}
-use Rattle.rd_store.specs.State.{Desk, Place, Terms, rule_of, place_cmp, digest_cmp, put_or_kept, Stands, IsStaff, HasOtherStaff, with_deed, with_image, with_rule, without_rule, with_key, without_key}
+use Rattle.rd_store.specs.declared.rows.Outcome.{Outcome}
+use Rattle.rd_store.specs.State.{Desk, Place, Terms, Checkup, rule_of, place_cmp, digest_cmp, checkup_cmp, put_or_kept, Stands, IsStaff, HasOtherStaff, with_deed, with_image, with_rule, without_rule, with_check, with_key, without_key}
 use Rattle.rd_store.specs.Lawful.{IsLawful, IsDeed, IsImage, IsKey}
-use Rattle.rd_store.proofs.Orders.{number_order, place_order, digest_order}
+use Rattle.rd_store.proofs.Orders.{number_order, place_order, checkup_order, digest_order}
 
 -- ---- maps
 
@@ -128,6 +130,21 @@ lawful_no_rule place desk lawful = record {
   keys = lawful.keys;
   staff = lawful.staff;
   checks = lawful.checks;
+}
+
+-- ---- checks
+
+pub lawful_check : (acc : ℕ) (day : ℤ) (outcome : Outcome) (desk : Desk) → IsDay day → IsSome (get desk.images acc) → IsLawful desk → IsLawful (with_check acc day outcome desk)
+lawful_check acc day outcome desk is stands lawful = record {
+  deeds = lawful.deeds;
+  images = lawful.images;
+  rules = lawful.rules;
+  keys = lawful.keys;
+  staff = lawful.staff;
+  checks = λ checkup o found. elim (found_after checkup_cmp checkup_order desk.checks (record { acc = acc; day = day }) outcome checkup o found) [
+    | inl new ↦ subst (λ (c : Checkup). IsDay c.day × IsSome (get desk.images c.acc)) (sym new.0) (is, stands)
+    | inr was ↦ lawful.checks checkup o was
+  ];
 }
 
 -- ---- desk keys

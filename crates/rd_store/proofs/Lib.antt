@@ -13,3 +13,5 @@ pub mod Shapes
 pub mod Verdicts
 pub mod Sequels
 pub mod Listings
+pub mod RulesFor
+pub mod Searching

@@ -1,5 +1,5 @@
 -- What the statements make of a database of a desk.
-use Rattle.std.proofs.Common.{◌≡◌, ◌==◌, ℕ, pos, List, filter, Bool, true, false, not, ◌&&◌, None, refl, sym, ap, subst, ◌∙◌, IsTrue, Equal, nat_cmp, int_cmp, arith}
+use Rattle.std.proofs.Common.{◌≡◌, ◌==◌, ℕ, ℤ, pos, List, filter, Bool, true, false, not, ◌&&◌, None, refl, sym, ap, subst, ◌∙◌, IsTrue, Equal, nat_cmp, int_cmp, arith}
 use Rattle.std.specs.List.{AllByRecursion}
 use Rattle.std.specs.Ordering.{eq_by_cmp}
 use Rattle.std.specs.FinMap.{FinMap, get, insert, remove}
@@ -22,23 +22,24 @@ use Rattle.sqlite_value.specs.Keys.{first_key}
 use Rattle.rd_policy.specs.declared.audience.Audience.{Audience}
 use Rattle.rd_tables.specs.Schemas.{desk_schema}
 use Rattle.rd_tables.specs.Sheets.{Sheet, Spells, IsSpelled, HaveRowids, entry_of, map_of}
-use Rattle.rd_tables.specs.Statements.{put_deed_text, put_deed, put_image_text, put_image, put_rule_text, put_rule, drop_rule_text, drop_rule, put_key_text, put_key, drop_key_text, drop_key}
+use Rattle.rd_tables.specs.Statements.{put_deed_text, put_deed, put_image_text, put_image, put_rule_text, put_rule, drop_rule_text, drop_rule, put_key_text, put_key, drop_key_text, drop_key, put_check_text, put_check, drop_check_text, drop_check}
 use Rattle.rd_tables.proofs.Lists.{and_true, one_row}
-use Rattle.rd_tables.proofs.Values.{equal_numbers, equal_blobs}
+use Rattle.rd_tables.proofs.Values.{equal_numbers, equal_integers, equal_blobs}
 use Rattle.rd_tables.proofs.Entries.{insert_removed}
 use Rattle.rd_tables.proofs.Changed.{spells_put, map_put, none_at, map_left, spells_left, none_left}
 use Rattle.rd_tables.proofs.Removed.{rowids_left, rowids_put}
 use Rattle.rd_tables.proofs.Running.{Makes}
 use Rattle.rd_tables.proofs.Setting.{Sets, is_index_tree, not_taken}
-use Rattle.rd_tables.proofs.StatementTexts.{put_deed_writes, put_image_writes, put_rule_writes, drop_rule_writes, put_key_writes, drop_key_writes}
-use Rattle.rd_tables.proofs.Statements.{deed_params, deed_row, has_number, by_rowid, puts_deed, image_params, image_row, puts_image, place_params, has_place, drops_rule, rule_row, puts_rule, digest_params, has_digest, drops_key, key_params, key_row, puts_key}
+use Rattle.rd_tables.proofs.StatementTexts.{put_deed_writes, put_image_writes, put_rule_writes, drop_rule_writes, put_key_writes, drop_key_writes, put_check_writes, drop_check_writes}
+use Rattle.rd_tables.proofs.Statements.{deed_params, deed_row, has_number, by_rowid, puts_deed, image_params, image_row, puts_image, place_params, has_place, drops_rule, rule_row, puts_rule, digest_params, has_digest, drops_key, key_params, key_row, puts_key, checkup_params, has_checkup, drops_check, check_params, check_row, puts_check}
 use Rattle.rd_store.specs.declared.rows.DeedRow.{DeedRow}
 use Rattle.rd_store.specs.declared.rows.ImageRow.{ImageRow}
-use Rattle.rd_store.specs.Codes.{kind_code, band_code, audiences_code, audience_code, effect_code, how, number, word}
-use Rattle.rd_store.specs.State.{Desk, Place, Terms, place_cmp, digest_cmp, put_or_kept, with_deed, with_image, with_rule, without_rule, with_key, without_key}
+use Rattle.rd_store.specs.declared.rows.Outcome.{Outcome}
+use Rattle.rd_store.specs.Codes.{kind_code, band_code, audiences_code, audience_code, effect_code, outcome_code, how, number, word}
+use Rattle.rd_store.specs.State.{Desk, Place, Terms, Checkup, place_cmp, digest_cmp, checkup_cmp, put_or_kept, with_deed, with_image, with_rule, without_rule, with_check, without_check, with_key, without_key}
 use Rattle.rd_store.specs.Spelled.{HaveOwnRowids, deed_sheet, image_sheet, rule_sheet, key_sheet, check_sheet, HasVersion}
 use Rattle.rd_store.specs.Held.{IsOf}
-use Rattle.rd_store.proofs.Orders.{number_order, place_order, digest_order, kind_back, audience_back, rule_back}
+use Rattle.rd_store.proofs.Orders.{number_order, place_order, digest_order, checkup_order, kind_back, audience_back, outcome_back, rule_back}
 
 -- ---- one table is set, and the others stay
 
@@ -111,6 +112,13 @@ module _ (desk : Desk) (db after : Database) (rows : List Row) (of : IsOf desk d
       whole (record desk { keys = m }) after h.schema (version_stays (at 0 refl refl)) (deeds_stay (at 1 refl refl)) (images_stay (at 2 refl refl)) (rules_stay (at 3 refl refl)) (set key_sheet 5 db after rows h spells m are)
       (checks_stay (at 7 refl refl))
       (record { rules = subst HaveRowids (sym (at 3 refl refl)) of.rowids.rules; keys = subst HaveRowids (sym h.now) rowids; checks = subst HaveRowids (sym (at 7 refl refl)) of.rowids.checks }) sound
+
+  of_checks : Sets 7 db after rows → Spells check_sheet rows → HaveRowids rows → (m : FinMap checkup_cmp Outcome) → map_of check_sheet rows ≡ m → IsOf (record desk { checks = m }) after
+  of_checks h spells rowids m are =
+      let at = λ (t : ℕ) (other : (t == 7) ≡ false) (table : is_index_tree t ≡ false). h.stays t other table in
+      whole (record desk { checks = m }) after h.schema (version_stays (at 0 refl refl)) (deeds_stay (at 1 refl refl)) (images_stay (at 2 refl refl)) (rules_stay (at 3 refl refl)) (keys_stay (at 5 refl refl))
+      (set check_sheet 7 db after rows h spells m are)
+      (record { rules = subst HaveRowids (sym (at 3 refl refl)) of.rowids.rules; keys = subst HaveRowids (sym (at 5 refl refl)) of.rowids.keys; checks = subst HaveRowids (sym h.now) rowids }) sound
 
 pub of_schema : (desk : Desk) (db : Database) → IsOf desk db → db.schema ≡ desk_schema
 of_schema desk db of = of.schema
@@ -246,3 +254,39 @@ module _ (digest : List ℕ) where
         let are = map_put key_sheet digest_order new rows of.rows.keys is none h.0 ∙ ap (λ (e : List ℕ × Audience). insert (map_of key_sheet rows) e.0 e.1) read
         ∙ ap (λ (d : Desk). insert d.keys digest audience) of.is in
         of_keys desk db after (put_row new rows) of sound h.1 put (rowids_put new rows refl h.0 of.rowids.keys) (insert desk.keys digest audience) are
+
+-- ---- checks
+
+module _ (acc : ℕ) (day : ℤ) where
+  abbrev checkup : Checkup
+  checkup = record { acc = acc; day = day }
+
+  checked : (row : Row) → IsSpelled check_sheet row → has_checkup acc day row ≡ eq_by_cmp checkup_cmp checkup (entry_of check_sheet row).0
+  checked row is =
+      let key = (entry_of check_sheet row).0 in
+      ap (λ s. is_true (binary (Compare Eq Binary) (column s 0) (Int (pos acc))) && (is_true (binary (Compare Eq Binary) (column s 1) (Int day)) && true)) is
+      ∙ rw (equal_numbers key.acc acc, equal_integers key.day day, and_true) (grind (arith, nat_tests))
+
+  pub makes_no_check : (desk : Desk) → Makes desk_schema drop_check_text drop_check drop_check_writes (checkup_params acc day) (IsOf desk) (IsOf (without_check acc day desk))
+  makes_no_check desk limit db after tally of does sound =
+      let rows = db.trees 7 in
+      let h = drops_check acc day (statement_of drop_check_text (understood desk_schema drop_check_text)) limit db after tally of.schema of.rowids.checks does in
+      let left = spells_left check_sheet checkup_order checkup (has_checkup acc day) rows of.rows.checks checked in
+      let are = map_left check_sheet checkup_order checkup (has_checkup acc day) rows of.rows.checks checked ∙ ap (λ (d : Desk). remove d.checks checkup) of.is in
+      of_checks desk db after (filter (λ row. not (has_checkup acc day row)) rows) of sound h left (rowids_left (λ row. not (has_checkup acc day row)) rows of.rowids.checks) (remove desk.checks checkup) are
+
+  module _ (outcome : Outcome) where
+    pub makes_check : (desk : Desk) → get desk.checks checkup ≡ None
+        → Makes desk_schema put_check_text put_check put_check_writes (check_params acc day (outcome_code outcome)) (IsOf desk) (IsOf (with_check acc day outcome desk))
+    makes_check desk free limit db after tally of does sound =
+        let rows = db.trees 7 in
+        let new = check_row acc day (outcome_code outcome) rows in
+        let h = puts_check acc day (outcome_code outcome) (statement_of put_check_text (understood desk_schema put_check_text)) limit db after tally of.schema does in
+        let read : entry_of check_sheet new ≡ (checkup, outcome) = λ i. (checkup, outcome_back outcome i) in
+        let is : IsSpelled check_sheet new = sym (ap check_sheet.columns read) in
+        let none = subst (λ (e : Checkup × Outcome). AllByRecursion (λ row. eq_by_cmp checkup_cmp e.0 (entry_of check_sheet row).0 ≡ false) rows) (sym read)
+        (none_at check_sheet checkup_order checkup rows (ap (λ (d : Desk). get d.checks checkup) of.is ∙ free)) in
+        let put = spells_put check_sheet checkup_order new rows of.rows.checks is none h.0 in
+        let are = map_put check_sheet checkup_order new rows of.rows.checks is none h.0 ∙ ap (λ (e : Checkup × Outcome). insert (map_of check_sheet rows) e.0 e.1) read
+        ∙ ap (λ (d : Desk). insert d.checks checkup outcome) of.is in
+        of_checks desk db after (put_row new rows) of sound h.1 put (rowids_put new rows refl h.0 of.rowids.checks) (insert desk.checks checkup outcome) are

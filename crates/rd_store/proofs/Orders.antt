@@ -17,7 +17,9 @@ use Rattle.rd_policy.specs.declared.rule.Effect.TheVariants.{Deny, List as Liste
 use Rattle.rd_policy.specs.declared.select.Select.{Select}
 use Rattle.rd_policy.specs.declared.select.Select.TheVariants.{All, Slot, Prefix, User, Kind as OfKind}
 use Rattle.rd_tables.proofs.Entries.{IsKeyOrder}
-use Rattle.rd_store.specs.Codes.{kind_code, kind_in, band_code, band_in, effect_code, effect_in, audiences_code, audiences_in, audience_code, audience_in, how, number, word, select_in, day_in}
+use Rattle.rd_store.specs.declared.rows.Outcome.{Outcome}
+use Rattle.rd_store.specs.declared.rows.Outcome.TheVariants.{Sound, Changed}
+use Rattle.rd_store.specs.Codes.{kind_code, kind_in, band_code, band_in, effect_code, effect_in, audiences_code, audiences_in, audience_code, audience_in, outcome_code, outcome_in, how, number, word, select_in, day_in}
 use Rattle.rd_store.specs.State.{Place, Terms, Checkup, place_cmp, digest_cmp, checkup_cmp}
 use Rattle.rd_store.specs.Spelled.{key_sheet, rule_sheet}
 
@@ -27,7 +29,7 @@ number_order = record { total = nat_cmp_total; same = nat_cmp-IsAntisymmetric }
 pub digest_order : IsKeyOrder digest_cmp
 digest_order = record { total = nat_list_cmp_total; same = slice_cmp-IsAntisymmetric nat_cmp-IsAntisymmetric }
 
-same_band : (a b : Band) → band_code a ≡ band_code b → a ≡ b
+pub same_band : (a b : Band) → band_code a ≡ band_code b → a ≡ b
 same_band Takedown Takedown e = refl
 same_band Takedown Deed e = absurd (omega (arith, e))
 same_band Deed Takedown e = absurd (omega (arith, e))
@@ -65,6 +67,10 @@ pub audience_back : (audience : Audience) → audience_in (audience_code audienc
 audience_back Public = refl
 audience_back Room = refl
 audience_back Staff = refl
+
+pub outcome_back : (outcome : Outcome) → outcome_in (outcome_code outcome) ≡ outcome
+outcome_back Sound = refl
+outcome_back Changed = refl
 
 band_back : (band : Band) → band_in (band_code band) ≡ band
 band_back Takedown = refl

@@ -1,5 +1,5 @@
 -- What a query leaves of a connection.
-use Rattle.std.proofs.Common.{◌≡◌, inl, inr, ℕ, List, IsTrue, sym, ◌∙◌, arith}
+use Rattle.std.proofs.Common.{◌≡◌, inl, inr, ℕ, List, IsTrue, sym, ◌∙◌}
 use Rattle.sqlite.specs.Order.{Row}
 use Rattle.sqlite.specs.Store.{Ghosts}
 use Rattle.sqlite.specs.Schema.{Schema}
@@ -10,7 +10,7 @@ use Rattle.sqlite.specs.Held.{Held, state}
 use Rattle.sqlite.proofs.Callers.{IsPlain}
 use Rattle.rd_tables.proofs.Reading.{query_fails, shown_was_open, shown_unchanged, read_survives}
 use Rattle.rd_store.specs.Held.{RestsOver, Stays, IsOpen, IsClean}
-use Rattle.rd_store.proofs.Laws.{Laws, clean_at}
+use Rattle.rd_store.proofs.Laws.{Laws, clean_at, lasts_of}
 
 -- the connection was open, and shows what it did
 pub record Same (old new : State) : Type 0 where
@@ -30,12 +30,11 @@ module _ {S : Type 0} {over : Schema} (g : Ghosts S) (laws : Laws g) (text : Lis
     (survives : Survives (state g old) (state g new) (CommitsShowing text params (state g old))) where
   stays : (IsOpen g new → Same (state g old) (state g new)) → Stays g old new
   stays same = record {
-    was_open = λ is_open. (same is_open).was_open;
+    lasts = lasts_of g old new (CommitsShowing text params (state g old)) survives (λ is_open. (same is_open).was_open);
     now = λ is_open. (same is_open).now;
     committed = λ is_open. (same is_open).committed;
     autocommit = λ is_open. let at = same is_open in at.autocommit ∙ (held at.was_open).autocommit;
-    clean = λ clean. omega (arith, survives.clean, clean);
-    quiet = λ was clean. read_survives text params (state g old) (state g new) (held was).schema plain survives;
+    quiet = λ was clean left may. elim ((read_survives text params (state g old) (state g new) (held was).schema plain survives).crash clean left may) [ inl before ↦ before | inr none ↦ absurd none ];
   }
 
   pub shown_stays : (rows : List Row) → (IsClean g new → Shown text params (state g old) (state g new) rows) → Stays g old new
@@ -43,9 +42,6 @@ module _ {S : Type 0} {over : Schema} (g : Ghosts S) (laws : Laws g) (text : Lis
       let h = shown (clean_at g laws new is_open) in
       let tables = held (shown_was_open text params (state g old) (state g new) rows h) in
       unchanged (state g old) (state g new) (shown_unchanged text params (state g old) (state g new) tables.schema plain rows h))
-
-  pub shown_open : (rows : List Row) → IsOpen g old → Shown text params (state g old) (state g new) rows → IsOpen g new
-  shown_open rows was h = (shown_unchanged text params (state g old) (state g new) (held was).schema plain rows h).0.is_open
 
   pub failed_stays : (e : Error) → (IsClean g new → FailsToQuery text params (state g old) (state g new) e) → Stays g old new
   failed_stays e fails = stays (λ is_open. elim (query_fails (state g old) (state g new) text params e (fails (clean_at g laws new is_open))) [

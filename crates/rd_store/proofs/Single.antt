@@ -1,5 +1,5 @@
 -- A call that is one statement outside a transaction, from what the statement makes of a desk.
-use Rattle.std.proofs.Common.{◌≡◌, inl, inr, ℕ, List, false, Result, Ok, Err, is_ok, true≢false, OnOk, OnErr, IsErr, sym, ap, subst, ◌∙◌, IsTrue, arith}
+use Rattle.std.proofs.Common.{◌≡◌, inl, inr, ℕ, List, false, Result, Ok, Err, is_ok, true≢false, OnOk, OnErr, IsErr, sym, ap, subst, ◌∙◌, IsTrue}
 use Rattle.sqlite.specs.Order.{Row}
 use Rattle.sqlite.specs.Store.{Ghosts}
 use Rattle.sqlite.specs.Command.{Command}
@@ -8,12 +8,12 @@ use Rattle.sqlite.specs.declared.error.Error.{Error}
 use Rattle.sqlite.specs.State.{State, Executes, Survives, CommitsBy}
 use Rattle.sqlite.specs.Held.{Held, state}
 use Rattle.rd_tables.specs.Schemas.{desk_schema}
-use Rattle.rd_tables.proofs.Running.{IsWrite, Makes, write_fails, was_open, ran, committed}
+use Rattle.rd_tables.proofs.Running.{IsWrite, Makes, write_fails, was_open, done_was_open, ran, committed}
 use Rattle.rd_store.specs.State.{Desk}
 use Rattle.rd_store.specs.Lawful.{IsLawful}
 use Rattle.rd_store.specs.Spelled.{desk_of}
 use Rattle.rd_store.specs.Held.{IsOf, Holds, IsDeskAt, HoldsDesk, Changes, IsOpen, IsClean, desk}
-use Rattle.rd_store.proofs.Laws.{Laws, clean_at, leaves_only, left_is}
+use Rattle.rd_store.proofs.Laws.{Laws, clean_at, lasts_of, leaves_only, left_is}
 
 -- ---- a connection that rests on a database of a desk
 
@@ -38,7 +38,7 @@ failed text params old new e at is_open h = elim (write_fails text params old ne
 
 -- ---- one statement
 
-module _ {S : Type 0} (g : Ghosts S) (laws : Laws g) (text : List ℕ) (command : Command) (write : IsWrite desk_schema text command) (params : Row) (after : Desk) (old new : Held S) (holds : HoldsDesk (state g old))
+module _ {S : Type 0} (g : Ghosts S) (laws : Laws g) (text : List ℕ) (command : Command) (write : IsWrite desk_schema text command) (params : Row) (after : Desk) (old new : Held S) (outside : old.in_transaction ≡ false) (holds : HoldsDesk (state g old))
     (makes : IsOpen g old → Makes desk_schema text command write params (IsOf (desk g old)) (IsOf after)) (lawful : IsOpen g old → IsLawful (desk g old) → IsLawful after) where
   Now : Result ℕ Error → Type 0
   Now (Ok count) = desk g new ≡ after
@@ -62,9 +62,9 @@ module _ {S : Type 0} (g : Ghosts S) (laws : Laws g) (text : List ℕ) (command 
       let h = runs (clean_at g laws new is_open) in
       rested q is_open (was_open text params (state g old) (state g new) q h is_open) h
 
-  opens : (q : Result ℕ Error) → IsOpen g old → Executes text params (state g old) (state g new) q → OnOk q (IsOpen g new)
-  opens (Ok count) was h = (wrote count was h).0
-  opens (Err e) was h = tt
+  opens : (q : Result ℕ Error) → Executes text params (state g old) (state g new) q → OnOk q (IsOpen g new)
+  opens (Ok count) h = (wrote count (done_was_open text params (state g old) (state g new) count outside h) h).0
+  opens (Err e) h = tt
 
   done : (q : Result ℕ Error) → Now q → OnOk q (desk g new ≡ after)
   unfolding Now
@@ -80,11 +80,10 @@ module _ {S : Type 0} (g : Ghosts S) (laws : Laws g) (text : List ℕ) (command 
   single r runs survives = (
     λ is_open. (now r runs is_open).0,
     record {
-      was_open = λ is_open. was_open text params (state g old) (state g new) r (runs (clean_at g laws new is_open)) is_open;
+      lasts = lasts_of g old new (CommitsBy text params (state g old)) survives (λ is_open. was_open text params (state g old) (state g new) r (runs (clean_at g laws new is_open)) is_open);
       ok = λ is_open. done r (now r runs is_open).1;
       err = λ is_open. left_as r (now r runs is_open).1;
-      clean = λ clean. omega (arith, survives.clean, clean);
-      stands = λ was clean. opens r was (runs clean);
+      ends_open = λ clean. opens r (runs clean);
       crash = λ was clean left may. elim (survives.crash clean left may) [
         | inl before ↦ inl (leaves_only g laws old holds was left before)
         | inr commits ↦
@@ -98,11 +97,11 @@ module _ {S : Type 0} (g : Ghosts S) (laws : Laws g) (text : List ℕ) (command 
 
 -- the same of a result that tells less
 pub told : {S T X Y Z : Type 0} (g : Ghosts S) (old new : Held S) (after : Desk) (r : Result T X) (q : Result Y Z) → is_ok r ≡ is_ok q → Changes g old new after r → Changes g old new after q
-told g old new after (Ok a) (Ok b) e h = record { was_open = h.was_open; clean = h.clean; stands = h.stands; ok = h.ok; err = h.err; crash = h.crash; durable = h.durable }
-told g old new after (Err a) (Err b) e h = record { was_open = h.was_open; clean = h.clean; stands = h.stands; ok = h.ok; err = h.err; crash = h.crash; durable = h.durable }
+told g old new after (Ok a) (Ok b) e h = record { lasts = h.lasts; ends_open = h.ends_open; ok = h.ok; err = h.err; crash = h.crash; durable = h.durable }
+told g old new after (Err a) (Err b) e h = record { lasts = h.lasts; ends_open = h.ends_open; ok = h.ok; err = h.err; crash = h.crash; durable = h.durable }
 told g old new after (Ok a) (Err b) e h = absurd (true≢false e)
 told g old new after (Err a) (Ok b) e h = absurd (true≢false (sym e))
 
 pub told_err : {S T U X Y : Type 0} (g : Ghosts S) (old new : Held S) (after : Desk) (e : X) (q : Result U Y) → IsErr q → Changes {T = T} g old new after (Err e) → Changes g old new after q
-told_err g old new after e (Err b) is h = record { was_open = h.was_open; clean = h.clean; stands = h.stands; ok = h.ok; err = h.err; crash = h.crash; durable = h.durable }
+told_err g old new after e (Err b) is h = record { lasts = h.lasts; ends_open = h.ends_open; ok = h.ok; err = h.err; crash = h.crash; durable = h.durable }
 told_err g old new after e (Ok b) is h = absurd (true≢false (sym is))

@@ -25,20 +25,19 @@ module _ {S : Type 0} (g : Ghosts S) (old new : Held S) (holds : HoldsDesk (stat
     rested : {T X : Type 0} (r : Result T X) → Turns g old new (IsOf after) r → IsOpen g new → IsDeskAt (state g new) × Ended r
     rested (Ok value) turns is_open =
         let at = turns.ok is_open in
-        (rests_on after (state g new) (record { of = at.holds; lawful = lawful (turns.was_open is_open) (holds (turns.was_open is_open)).holds.lawful }) at.settled at.autocommit, at.holds.is)
+        (rests_on after (state g new) (record { of = at.holds; lawful = lawful (turns.lasts.was_open is_open) (holds (turns.lasts.was_open is_open)).holds.lawful }) at.settled at.autocommit, at.holds.is)
     rested (Err e) turns is_open =
         let at = turns.err is_open in
-        (rests_as (state g old) (state g new) (holds (turns.was_open is_open)) at.holds at.settled at.autocommit, ap (λ (db : Database). desk_of db.trees) at.holds)
+        (rests_as (state g old) (state g new) (holds (turns.lasts.was_open is_open)) at.holds at.settled at.autocommit, ap (λ (db : Database). desk_of db.trees) at.holds)
 
     pub changes : {T X : Type 0} (r : Result T X) → Turns g old new (IsOf after) r → HoldsDesk (state g new) × Changes g old new after r
     changes {T} {X} r turns = (
       λ is_open. (rested r turns is_open).0,
       record {
-        was_open = turns.was_open;
+        lasts = turns.lasts;
         ok = λ is_open. ok r (rested r turns is_open).1;
         err = λ is_open. err r (rested r turns is_open).1;
-        clean = turns.clean;
-        stands = turns.stands;
+        ends_open = turns.ends_open;
         crash = λ was clean left may. elim (turns.crash was clean left may) [
           | inl before ↦ inl (leaves_only g laws old holds was left before)
           | inr made ↦ inr (left_is after made.0 left (record { of = made.1; lawful = lawful was (holds was).holds.lawful }) made.2)

@@ -1,5 +1,5 @@
 -- A new desk, and what becomes of the database in which it is made.
-use Rattle.std.specs.Prelude.{◌≡◌, ◌⊎◌, ℕ, false, List, [], Result, OnOk, OnErr}
+use Rattle.std.specs.Prelude.{◌≡◌, ◌⊎◌, ℕ, false, List, [], Result, OnOk, OnErr, MatchBool}
 use Rattle.std.specs.List.{AllByRecursion}
 use Rattle.std.specs.FinMap.{from_entries}
 use Rattle.sqlite.specs.Tree.{Trees}
@@ -8,9 +8,12 @@ use Rattle.sqlite.specs.Effect.{Database, IsDatabase}
 use Rattle.sqlite.specs.State.{State}
 use Rattle.sqlite.specs.Held.{Held, state}
 use Rattle.rd_policy.specs.declared.audience.Audience.TheVariants.{Staff}
+use Rattle.rd_tables.specs.Schemas.{IsBlank, has_desk}
 use Rattle.rd_tables.specs.Statements.{schema_after}
+use Rattle.rd_store.specs.declared.faults.CreateFault.{CreateFault}
+use Rattle.rd_store.specs.declared.faults.CreateFault.TheVariants.{Exists, Sql}
 use Rattle.rd_store.specs.State.{Desk, with_key}
-use Rattle.rd_store.specs.Held.{IsOpen, IsClean, IsLeft}
+use Rattle.rd_store.specs.Held.{IsOpen, IsClean, IsLeft, Lasts, LeavesOnly, LeavesOpen, desk as desk_at}
 
 -- nothing at all
 abbrev pub empty_desk : Desk
@@ -31,6 +34,24 @@ pub record IsUntouched {S : Type 0} (g : Ghosts S) (old new : Held S) : Type 0 w
 abbrev pub LeavesOldOrNew : {S : Type 0} → Ghosts S → Held S → Held S → Desk → Type 0
 LeavesOldOrNew g old new desk = IsOpen g old → IsClean g new → (left : Trees) → g.recovers new.store left → g.recovers old.store left ⊎ IsLeft desk left
 
+-- A desk was made, where no table stood, with this one staff key.
+pub record IsCreated {S : Type 0} (g : Ghosts S) (old new : Held S) (staff : List ℕ) : Type 0 where
+  pub lasts : Lasts g old new
+  pub blank : IsBlank old.schema
+  pub is : IsOpen g new → desk_at g new ≡ new_desk staff
+  pub ends_open : IsClean g new → IsOpen g new
+  pub crash : LeavesOldOrNew g old new (new_desk staff)
+  pub durable : IsOpen g new → LeavesOnly g new (new_desk staff)
+
+-- No desk was made: Exists exactly where a table `desk` stands, and then nothing was done. Where the
+-- connection is open, its database is as it was.
+pub record IsNotCreated {S : Type 0} (g : Ghosts S) (old new : Held S) (staff : List ℕ) (fault : CreateFault) : Type 0 where
+  pub lasts : Lasts g old new
+  pub exists : MatchBool (has_desk old.schema) (fault ≡ Exists) (fault ≡ Sql)
+  pub same : fault ≡ Exists → new ≡ old
+  pub untouched : IsOpen g new → IsUntouched g old new
+  pub crash : LeavesOldOrNew g old new (new_desk staff)
+
 -- ---- inside
 
 -- So many of the tables are made, all empty.
@@ -48,9 +69,8 @@ pub record IsAt (P : Database → Type 0) (s : State) : Type 0 where
 -- A transaction: after Ok a database of which After holds is there and committed, and after an error the
 -- old one.
 pub record Turns {S T X : Type 0} (g : Ghosts S) (old new : Held S) (After : Database → Type 0) (result : Result T X) : Type 0 where
-  pub was_open : IsOpen g new → IsOpen g old
+  pub lasts : Lasts g old new
   pub ok : IsOpen g new → OnOk result (IsAt After (state g new))
   pub err : IsOpen g new → OnErr result (IsAt (λ db. db ≡ (state g old).now) (state g new))
-  pub clean : IsClean g new → IsClean g old
-  pub stands : IsOpen g old → IsClean g new → OnOk result (IsOpen g new)
+  pub ends_open : LeavesOpen g new result
   pub crash : IsOpen g old → IsClean g new → (left : Trees) → g.recovers new.store left → g.recovers old.store left ⊎ ((db : Database) × After db × (left ≡ db.trees))

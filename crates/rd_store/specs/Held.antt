@@ -1,5 +1,6 @@
 -- What a store holds, what a call makes of it, and what a crash leaves.
-use Rattle.std.specs.Prelude.{◌≡◌, ◌⊎◌, false, IsTrue, Result, Ok, Err, OnOk, OnErr, ⊤}
+use Rattle.std.specs.Prelude.{◌≡◌, ◌⊎◌, ◌≤◌, false, IsTrue, Result, Ok, Err, OnOk, OnErr, IfOk, IfErr, ⊤}
+use Rattle.sqlite_disk.specs.Disk.{MoreFaults}
 use Rattle.sqlite.specs.Tree.{Trees}
 use Rattle.sqlite.specs.Store.{Ghosts}
 use Rattle.sqlite.specs.Schema.{Schema}
@@ -66,38 +67,60 @@ module _ {S : Type 0} (g : Ghosts S) (h : Held S) where
   abbrev pub LeavesOnly : Desk → Type 0
   LeavesOnly d = (left : Trees) → g.recovers h.store left → IsLeft d left
 
--- after Ok a connection that was open is open, where the disk has returned what was written
-abbrev pub StaysOpen : {S T X : Type 0} → Ghosts S → Held S → Held S → Result T X → Type 0
-StaysOpen g old new result = IsOpen g old → IsClean g new → OnOk result (IsOpen g new)
+-- What every call does to its connection, whatever it answers. Only a connection that was open is open, and
+-- only a disk that was clean is clean. No fault of the disk is forgotten, and where the disk is clean only a
+-- fault of it shuts the connection. The limit of steps stays.
+pub record Lasts {S : Type 0} (g : Ghosts S) (old new : Held S) : Type 0 where
+  pub was_open : IsOpen g new → IsOpen g old
+  pub clean : IsClean g new → IsClean g old
+  pub faults : (state g old).faults ≤ (state g new).faults
+  pub closes : IsOpen g old → IsClean g new → IsOpen g new ⊎ MoreFaults (state g old).faults (state g new).faults
+  pub limit : (state g new).step_limit ≡ (state g old).step_limit
+
+-- After Ok the connection is open, where the disk has returned what was written.
+abbrev pub LeavesOpen : {S T X : Type 0} → Ghosts S → Held S → Result T X → Type 0
+LeavesOpen g new result = IsClean g new → OnOk result (IsOpen g new)
+
+-- a crash leaves what it left before
+abbrev pub LeavesOld : {S : Type 0} → Ghosts S → Held S → Held S → Type 0
+LeavesOld g old new = IsOpen g old → IsClean g new → (left : Trees) → g.recovers new.store left → g.recovers old.store left
+
+-- A connection at rest. While it is open, its tables are those of a desk, the desk is a lawful one, and a
+-- crash leaves that desk and nothing else.
+pub record Rests {S : Type 0} (g : Ghosts S) (h : Held S) : Type 0 where
+  pub tables : IsOpen g h → (state g h).now.schema ≡ desk_schema
+  pub lawful : IsOpen g h → IsLawful (desk g h)
+  pub leaves : IsOpen g h → LeavesOnly g h (desk g h)
 
 -- A call that changes the desk to this one, in one transaction. Where the connection is open at the end,
 -- the desk is the new one after Ok and the old one after an error, and a crash leaves it and nothing else.
 -- Where it was open, and the disk has returned what was written, a crash leaves one of the two.
 pub record Changes {S T X : Type 0} (g : Ghosts S) (old new : Held S) (after : Desk) (result : Result T X) : Type 0 where
-  pub was_open : IsOpen g new → IsOpen g old
+  pub lasts : Lasts g old new
   pub ok : IsOpen g new → OnOk result (desk g new ≡ after)
   pub err : IsOpen g new → OnErr result (desk g new ≡ desk g old)
-  pub clean : IsClean g new → IsClean g old
-  pub stands : StaysOpen g old new result
+  pub ends_open : LeavesOpen g new result
   pub crash : IsOpen g old → IsClean g new → (left : Trees) → g.recovers new.store left → IsLeft (desk g old) left ⊎ IsLeft after left
   pub durable : IsOpen g new → LeavesOnly g new (desk g new)
 
--- A call that reads. Where the connection is open at the end, the desk is as it was. Where it was open at
--- the beginning, and the disk has returned what was written, a crash at the end leaves that desk and
--- nothing else.
-pub record Keeps {S : Type 0} (g : Ghosts S) (old new : Held S) : Type 0 where
-  pub was_open : IsOpen g new → IsOpen g old
+-- A call that reads, and answers this of the desk, or Sql. Where the connection is open at the end, the desk
+-- is as it was, and a crash leaves it and nothing else; so it does where the connection was open at the
+-- beginning, and the disk has returned what was written.
+pub record Reads {S T : Type 0} (g : Ghosts S) (old new : Held S) (result : Result T StoreFault) (Answers : T → Type 0) : Type 0 where
+  pub lasts : Lasts g old new
+  pub answer : IsOpen g new → IfOk result Answers
+  pub ends_open : LeavesOpen g new result
   pub same : IsOpen g new → desk g new ≡ desk g old
-  pub clean : IsClean g new → IsClean g old
   pub crash : IsOpen g old → IsClean g new → LeavesOnly g new (desk g old)
+  pub durable : IsOpen g new → LeavesOnly g new (desk g new)
+  pub fault : IfErr result (λ fault. fault ≡ Sql)
 
--- Why a call is refused: Missing exactly where something is not there, then Conflict exactly where
--- something conflicts. Sql is answered at any time; why is not told.
-abbrev pub Judges : {T : Type 0} → Type 0 → Type 0 → Result T StoreFault → Type 0
-Judges IsThere Conflicts (Ok value) = IsThere × ¬ Conflicts
-Judges IsThere Conflicts (Err Missing) = ¬ IsThere
-Judges IsThere Conflicts (Err Conflict) = IsThere × Conflicts
-Judges IsThere Conflicts (Err Sql) = ⊤
+-- Missing exactly where something is not there, then Conflict exactly where something conflicts.
+abbrev pub IsJudged : {T : Type 0} → Type 0 → Type 0 → Result T StoreFault → Type 0
+IsJudged IsThere Conflicts (Ok value) = IsThere × ¬ Conflicts
+IsJudged IsThere Conflicts (Err Missing) = ¬ IsThere
+IsJudged IsThere Conflicts (Err Conflict) = IsThere × Conflicts
+IsJudged IsThere Conflicts (Err Sql) = ⊤
 
 -- an answer of the desk, and not of the database
 abbrev pub IsAnswered : {T : Type 0} → Result T StoreFault → Type 0 → Type 0
@@ -106,20 +129,28 @@ IsAnswered (Err Missing) P = P
 IsAnswered (Err Conflict) P = P
 IsAnswered (Err Sql) P = ⊤
 
--- after such an answer a connection that was open is open, where the disk has returned what was written
-abbrev pub AnswersOpen : {S T : Type 0} → Ghosts S → Held S → Held S → Result T StoreFault → Type 0
-AnswersOpen g old new result = IsOpen g old → IsClean g new → IsAnswered result (IsOpen g new)
+-- Why a call is refused, where the connection is open at the end; and after such an answer it is open, where
+-- the disk has returned what was written. Sql is answered at any time; why is not told.
+pub record Judges {S T : Type 0} (g : Ghosts S) (new : Held S) (result : Result T StoreFault) (IsThere Conflicts : Type 0) : Type 0 where
+  pub told : IsOpen g new → IsJudged IsThere Conflicts result
+  pub ends_open : IsClean g new → IsAnswered result (IsOpen g new)
 
 -- ---- inside
 
 -- A query. Where the connection is open at the end, it shows what it did.
 pub record Stays {S : Type 0} (g : Ghosts S) (old new : Held S) : Type 0 where
-  pub was_open : IsOpen g new → IsOpen g old
+  pub lasts : Lasts g old new
   pub now : IsOpen g new → (state g new).now ≡ (state g old).now
   pub committed : IsOpen g new → (state g new).committed ≡ (state g old).committed
   pub autocommit : IsOpen g new → (state g new).in_transaction ≡ false
-  pub clean : IsClean g new → IsClean g old
-  pub quiet : IsOpen g old → IsClean g new → Survives (state g old) (state g new) (λ _. ⊥)
+  pub quiet : LeavesOld g old new
+
+-- A query, and what it answers, or one error.
+pub record Asks {S T X : Type 0} (g : Ghosts S) (old new : Held S) (result : Result T X) (only : X) (Answers : T → Type 0) : Type 0 where
+  pub stays : Stays g old new
+  pub answer : IsOpen g new → IfOk result Answers
+  pub ends_open : LeavesOpen g new result
+  pub fault : IfErr result (λ fault. fault ≡ only)
 
 -- A call inside a transaction, from a database of which Before holds. Nothing is committed, and after Ok
 -- the transaction goes on, with a database of which After holds.

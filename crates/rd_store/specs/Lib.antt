@@ -7,3 +7,4 @@ pub mod Shown
 pub mod Created
 pub mod Cells
 pub mod Opened
+pub mod RulesFor

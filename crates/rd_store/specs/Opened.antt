@@ -1,5 +1,5 @@
 -- When a database is that of a desk, and why it is not opened as one.
-use Rattle.std.specs.Prelude.{◌≡◌, ◌≢◌, ◌↔◌, ℕ, List, true, false, Some, IsSome, IsTrue, Result, Ok, Err, IfErr, ⊤}
+use Rattle.std.specs.Prelude.{◌≡◌, ◌≢◌, ◌↔◌, ℕ, List, true, false, Some, IsSome, IsTrue, Result, Ok, Err, IfErr, OnOk, MatchBool, ⊤}
 use Rattle.std.specs.Ordering.{nat_cmp}
 use Rattle.std.specs.FinMap.{FinMap, get}
 use Rattle.sqlite.specs.Tree.{Trees}
@@ -19,7 +19,7 @@ use Rattle.rd_policy.specs.declared.audience.Audience.TheVariants.{Staff}
 use Rattle.rd_policy.specs.declared.rule.Band.{Band}
 use Rattle.rd_policy.specs.declared.rule.Band.TheVariants.{Takedown, Deed}
 use Rattle.rd_tables.specs.Queries as ask
-use Rattle.rd_tables.specs.Schemas.{desk_schema, has_desk_columns, starts_with_desk}
+use Rattle.rd_tables.specs.Schemas.{desk_schema, has_desk_columns, has_foreign_desk, may_be_desk, starts_with_desk}
 use Rattle.rd_tables.specs.Sheets.{SpellLawful, map_of}
 use Rattle.rd_store.specs.declared.faults.OpenFault.{OpenFault}
 use Rattle.rd_store.specs.declared.faults.OpenFault.TheVariants.{NotADesk, Version, Inconsistent, Sql}
@@ -30,7 +30,8 @@ use Rattle.rd_store.specs.declared.rows.Outcome.{Outcome}
 use Rattle.rd_store.specs.State.{Place, Terms, Checkup, rule_of}
 use Rattle.rd_store.specs.Lawful.{IsDeed, IsImage, IsKey, IsLawful}
 use Rattle.rd_store.specs.Spelled.{SpellDesk, HasVersion, desk_of, deed_sheet, image_sheet, rule_sheet, key_sheet, check_sheet}
-use Rattle.rd_store.specs.Held.{RestsOver, IsOpen, IsClean}
+use Rattle.rd_store.specs.Created.{IsUntouched}
+use Rattle.rd_store.specs.Held.{RestsOver, IsDeskAt, IsOpen, IsClean, Lasts, LeavesOld, LeavesOnly, LeavesOpen, Stays, desk as desk_at}
 
 -- The rows spell a desk, and it is a lawful one.
 pub record IsConsistent (trees : Trees) : Type 0 where
@@ -46,10 +47,38 @@ pub record HasDeskFirst (schema : Schema) : Type 0 where
 
 -- what is told of a database by each refusal; why Sql is answered is not told
 abbrev pub Refuses : OpenFault → Database → Type 0
-Refuses NotADesk db = has_desk_columns db.schema ≡ false
+Refuses NotADesk db = may_be_desk db.schema ≡ false
 Refuses Version db = (has_desk_columns db.schema ≡ true) × HasDeskFirst db.schema × ¬ HasVersion 0 (db.trees 0)
 Refuses Inconsistent db = (db.schema ≡ desk_schema) × HasVersion 0 (db.trees 0) × ¬ IsConsistent db.trees
-Refuses Sql db = has_desk_columns db.schema ≡ true
+Refuses Sql db = may_be_desk db.schema ≡ true
+
+-- A desk was opened: a table `desk` with its columns stands, and where the connection is open, all tables are
+-- those of a desk and its rows too. The database is as it was.
+pub record IsOpened {S : Type 0} (g : Ghosts S) (old new : Held S) : Type 0 where
+  pub lasts : Lasts g old new
+  pub named : has_desk_columns old.schema ≡ true
+  pub plain : has_foreign_desk old.schema ≡ false
+  pub tables : IsOpen g new → (state g old).now.schema ≡ desk_schema
+  pub consistent : IsOpen g new → IsConsistent (state g old).now.trees
+  pub is : IsOpen g new → desk_at g new ≡ desk_at g old
+  pub untouched : IsOpen g new → IsUntouched g old new
+  pub ends_open : IsClean g new → IsOpen g new
+  pub crash : LeavesOld g old new
+  pub durable : IsOpen g new → LeavesOnly g new (desk_at g old)
+
+-- No desk was opened: NotADesk exactly where no table `desk` with its columns stands, nor one whose columns
+-- are not told, and then nothing was done; where there is one whose columns are not told it is Sql. After Version
+-- and Inconsistent the connection is open, where the disk has returned what was written. Where it is open, its
+-- database is as it was.
+pub record IsNotOpened {S : Type 0} (g : Ghosts S) (old new : Held S) (fault : OpenFault) : Type 0 where
+  pub lasts : Lasts g old new
+  pub no_desk : MatchBool (may_be_desk old.schema) (fault ≢ NotADesk) (fault ≡ NotADesk)
+  pub foreign : has_foreign_desk old.schema ≡ true → fault ≡ Sql
+  pub refused : IsOpen g new → Refuses fault (state g old).now
+  pub same : fault ≡ NotADesk → new ≡ old
+  pub untouched : IsOpen g new → IsUntouched g old new
+  pub ends_open : fault ≢ NotADesk → fault ≢ Sql → IsClean g new → IsOpen g new
+  pub crash : LeavesOld g old new
 
 -- ---- inside
 
@@ -60,10 +89,9 @@ pub record StartsWithDesk (s : State) : Type 0 where
   pub views : List View
   pub rests : IsTrue s.is_open → RestsOver (starts_with_desk more indexes views) s
 
--- after a refusal that is told a connection that was open is open, where the disk has returned what was
--- written
-abbrev pub RefusesOpen : {S T : Type 0} → Ghosts S → Held S → Held S → Result T OpenFault → Type 0
-RefusesOpen g old new result = IfErr result (λ fault. fault ≢ Sql → IsOpen g old → IsClean g new → IsOpen g new)
+-- after a refusal that is told the connection is open, where the disk has returned what was written
+abbrev pub RefusesOpen : {S T : Type 0} → Ghosts S → Held S → Result T OpenFault → Type 0
+RefusesOpen g new result = IfErr result (λ fault. fault ≢ NotADesk → fault ≢ Sql → IsClean g new → IsOpen g new)
 
 -- outside a transaction the last commit is what is seen
 pub record IsSettledAt (s : State) : Type 0 where
@@ -86,9 +114,21 @@ abbrev pub Judged : {T : Type 0} → Type 0 → Result T OpenFault → Type 0
 Judged P (Ok value) = P
 Judged P (Err fault) = Denied P fault
 
--- where the connection is open, of the rows that it showed
-abbrev pub JudgesRows : {S T : Type 0} → Ghosts S → Held S → Held S → (Trees → Type 0) → Result T OpenFault → Type 0
-JudgesRows g old new P result = IsOpen g new → Judged (P (state g old).now.trees) result
+-- A test of the rows that a connection shows: after Ok this holds of them, and after Inconsistent it does not.
+pub record Tests {S T : Type 0} (g : Ghosts S) (old new : Held S) (result : Result T OpenFault) (P : Trees → Type 0) : Type 0 where
+  pub stays : Stays g old new
+  pub judges : IsOpen g new → Judged (P (state g old).now.trees) result
+  pub ends_open : LeavesOpen g new result
+  pub refuses : RefusesOpen g new result
+  pub named : IfErr result (λ fault. fault ≢ NotADesk)
+
+-- A test of a database: after Ok it is that of a desk, and each refusal says why it is none.
+pub record TestsDesk {S T : Type 0} (g : Ghosts S) (old new : Held S) (result : Result T OpenFault) : Type 0 where
+  pub stays : Stays g old new
+  pub desk : IsOpen g new → OnOk result (IsDeskAt (state g old))
+  pub refused : IsOpen g new → IfErr result (λ fault. Refuses fault (state g old).now)
+  pub ends_open : LeavesOpen g new result
+  pub refuses : RefusesOpen g new result
 
 -- the numbers are the keys of the map
 abbrev pub AreKeys : {X : Type 0} → FinMap nat_cmp X → List ℕ → Type 0

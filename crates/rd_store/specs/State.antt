@@ -133,6 +133,13 @@ with_rule place terms desk = record desk { rules = insert desk.rules place terms
 abbrev pub without_rule : Place → Desk → Desk
 without_rule place desk = record desk { rules = remove desk.rules place }
 
+abbrev pub with_check : ℕ → ℤ → Outcome → Desk → Desk
+with_check acc day outcome desk = record desk { checks = insert desk.checks (record { acc = acc; day = day }) outcome }
+
+-- a check goes only where another is put in its place
+abbrev pub without_check : ℕ → ℤ → Desk → Desk
+without_check acc day desk = record desk { checks = remove desk.checks (record { acc = acc; day = day }) }
+
 abbrev pub with_key : List ℕ → Audience → Desk → Desk
 with_key digest audience desk = record desk { keys = insert desk.keys digest audience }
 

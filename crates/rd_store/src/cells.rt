@@ -1,6 +1,8 @@
-ghost use Rattle.std.specs.Prelude.{◌≡◌, MatchBool, MatchOption, pos};
+ghost use Rattle.std.specs.Prelude.{◌≡◌, false, MatchBool, MatchOption, pos};
+ghost use Rattle.std.specs.List.Sorted.{IsNonDecreasing};
 ghost use Rattle.sqlite.specs.declared.types.Value.TheVariants.{Int, Text};
 ghost use Rattle.sqlite.specs.Order.{column};
+ghost use Rattle.sqlite_trees.specs.View.{is_int};
 ghost use Rattle.rd_store.specs.Cells.{IsDonorAt, IsWordAt, is_day, is_digest, is_number, is_one_of, is_some_day, blob_name};
 
 use crate::limits::is_donor;
@@ -17,11 +19,35 @@ pub(crate) fn has_number(row: &Row, at: usize, low: u32, high: u32) -> bool
     }
 }
 
-/// Whether a column has one of these numbers.
+/// Whether an ascending list has a number.
+fn is_among(number: i64, numbers: &[u32]) -> bool
+    requires { IsNonDecreasing numbers.now }
+    ensures { result ≡ is_one_of numbers.now (Int number) }
+{
+    numbers
+        .binary_search_by_key(&number, |one| i64::from(*one))
+        .is_ok()
+}
+
+/// The whole number in a column, `None` where it has none.
+fn int_at(row: &Row, at: usize) -> Option<i64>
+    ensures { MatchOption result (is_int (column row.now at) ≡ false) (λ number. column row.now at ≡ Int number) }
+{
+    match row.get_ref(at) {
+        Ok(ValueRef::Int(number)) => Some(number),
+        _ => None,
+    }
+}
+
+/// Whether a column has one of these numbers, which ascend.
 pub(crate) fn has_one_of(row: &Row, at: usize, numbers: &[u32]) -> bool
+    requires { IsNonDecreasing numbers.now }
     ensures { result ≡ is_one_of numbers.now (column row.now at) }
 {
-    numbers.iter().any(|one| has_number(row, at, *one, *one))
+    match int_at(row, at) {
+        Some(number) => is_among(number, numbers),
+        None => false,
+    }
 }
 
 /// Whether a column has a day from 0001-01-01 to 9999-12-31.

@@ -1,6 +1,7 @@
 ghost use Rattle.std.specs.Prelude.{◌≡◌};
-ghost use Rattle.rd_store.specs.Codes.{kind_code, band_code, effect_code, audiences_code, audience_code, how as how_of, number as number_of, word as word_of};
+ghost use Rattle.rd_store.specs.Codes.{kind_code, band_code, effect_code, audiences_code, audience_code, outcome_code, how as how_of, number as number_of, word as word_of};
 
+use crate::rows::Outcome;
 use rd_geometry::Kind;
 use rd_policy::{Audience, Audiences, Band, Effect, Select};
 
@@ -53,6 +54,16 @@ pub(crate) fn of_audience(audience: Audience) -> u32
         Audience::Public => 0,
         Audience::Room => 1,
         Audience::Staff => 2,
+    }
+}
+
+/// The number of an outcome in the tables.
+pub(crate) fn of_outcome(outcome: Outcome) -> u32
+    ensures { result ≡ outcome_code outcome }
+{
+    match outcome {
+        Outcome::Sound => 0,
+        Outcome::Changed => 1,
     }
 }
 

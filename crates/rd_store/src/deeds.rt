@@ -1,8 +1,8 @@
-ghost use Rattle.std.specs.Prelude.{◌≡◌, IfOk, IfErr, map};
+ghost use Rattle.std.specs.Prelude.{◌≡◌, IfOk, IfErr, map, false};
 ghost use Rattle.std.specs.FinMap.{get};
 ghost use Rattle.std.specs.Option.{option_to_list};
 ghost use Rattle.sqlite.specs.Held.{state};
-ghost use Rattle.rd_store.specs.Held.{Changes, HoldsDesk, IsOpen, Stays, StaysOpen, desk};
+ghost use Rattle.rd_store.specs.Held.{Asks, Changes, HoldsDesk, desk};
 ghost use Rattle.rd_store.specs.Lawful.{IsDeed};
 ghost use Rattle.rd_store.specs.Shown.{deed_shown};
 ghost use Rattle.rd_store.specs.State.{with_deed};
@@ -18,12 +18,9 @@ use sqlite::{Alter, Connection, Error, Row, params};
 /// The rows for the deed with a number.
 fn deed_rows<S: Alter>(conn: &mut Connection<S>, num: u32) -> Result<Vec<Row>, StoreFault>
     requires holds { HoldsDesk (state S.Store conn.old) }
-    ensures rows { IsOpen S.Store conn.new → IfOk result (λ rows.
+    ensures asks { Asks S.Store conn.old conn.new result StoreFault.Sql (λ rows.
         rows.items ≡ map deed_shown (option_to_list (get (desk S.Store conn.old).deeds num))) }
-    ensures stays { Stays S.Store conn.old conn.new }
-    ensures stands { StaysOpen S.Store conn.old conn.new result }
     ensures kept { HoldsDesk (state S.Store conn.new) }
-    ensures fault { IfErr result (λ fault. fault ≡ StoreFault.Sql) }
 {
     let key = num.to_sql();
     read_all(
@@ -49,12 +46,9 @@ pub(crate) fn deed<S: Alter>(
     num: u32,
 ) -> Result<Option<DeedRow>, StoreFault>
     requires holds { HoldsDesk (state S.Store conn.old) }
-    ensures answer { IsOpen S.Store conn.new → IfOk result (λ found.
+    ensures asks { Asks S.Store conn.old conn.new result StoreFault.Sql (λ found.
         found ≡ get (desk S.Store conn.old).deeds num) }
-    ensures stays { Stays S.Store conn.old conn.new }
-    ensures stands { StaysOpen S.Store conn.old conn.new result }
     ensures kept { HoldsDesk (state S.Store conn.new) }
-    ensures fault { IfErr result (λ fault. fault ≡ StoreFault.Sql) }
 {
     let rows = deed_rows(conn, num)?;
     match rows.first() {
@@ -70,6 +64,7 @@ pub(crate) fn insert_deed<S: Alter>(
     donor: &str,
     signed: i32,
 ) -> Result<usize, Error>
+    requires mode { conn.old.in_transaction ≡ false }
     requires holds { HoldsDesk (state S.Store conn.old) }
     requires deed { IsDeed num (record { donor = donor.now; signed = signed }) }
     ensures kept { HoldsDesk (state S.Store conn.new) }

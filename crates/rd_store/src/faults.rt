@@ -1,7 +1,8 @@
 use sqlite::{Alter, Connection};
 
-/// Why a call of the store is refused. All is then as it was, where the connection is still open; where a
-/// fault of the disk has shut it, opening again finds the desk before or after the call.
+/// Why a call of the store is refused. All is then as it was, where the connection is still open. Where a
+/// fault of the disk has shut a connection that was open, and the disk has returned what was written, opening
+/// again finds the desk before or after the call.
 #[derive(Clone, Copy, Debug, PartialEq, Eq, Hash)]
 pub enum StoreFault {
     /// The database failed, or memory was wanting.
@@ -15,7 +16,8 @@ pub enum StoreFault {
 /// Why no desk is made.
 #[derive(Clone, Copy, Debug, PartialEq, Eq, Hash)]
 pub enum CreateFault {
-    /// A table `desk` stands.
+    /// A table `desk` stands, also one whose columns SQL does not tell, for something on it that is not
+    /// understood, as a trigger.
     Exists,
     /// Other tables or views stand, the database failed, or memory was wanting.
     Sql,
@@ -24,7 +26,7 @@ pub enum CreateFault {
 /// Why a database is not opened as a desk.
 #[derive(Clone, Copy, Debug, PartialEq, Eq, Hash)]
 pub enum OpenFault {
-    /// No table `desk` with the columns of one stands.
+    /// No table `desk` with the columns of one stands, nor one whose columns SQL does not tell, which is `Sql`.
     NotADesk,
     /// The table `desk` does not have its one row, or the row says another version.
     Version,

@@ -1,16 +1,17 @@
-ghost use Rattle.std.specs.Prelude.{◌≡◌, IfOk, IfErr, IsSome, None, map, option_map};
+ghost use Rattle.std.specs.Prelude.{◌≡◌, IfOk, IfErr, IsSome, None, map, option_map, false};
 ghost use Rattle.std.specs.FinMap.{get, keys};
 ghost use Rattle.std.specs.Option.{option_to_list};
 ghost use Rattle.sqlite.specs.Held.{state};
 ghost use Rattle.sqlite.specs.Order.{column};
 ghost use Rattle.rd_tables.specs.Sheets.{natural};
-ghost use Rattle.rd_store.specs.Held.{AnswersOpen, Changes, HoldsDesk, IsOpen, Judges, Stays, StaysOpen, desk};
+ghost use Rattle.rd_store.specs.Held.{Asks, Changes, HoldsDesk, IsOpen, Judges, desk};
 ghost use Rattle.rd_store.specs.Lawful.{IsImage};
 ghost use Rattle.rd_store.specs.Shown.{accession_shown, image_shown, heading_of, heading_shown};
 ghost use Rattle.rd_store.specs.State.{HasOtherImage, with_image};
 
 use crate::decode::{bytes_at, digest_at, kind, number_at};
 use crate::faults::StoreFault;
+use crate::outside::outside;
 use crate::read::read_all;
 use crate::rows::ImageRow;
 use crate::{codes, deeds};
@@ -30,12 +31,9 @@ pub(crate) struct Heading {
 /// The rows for the image of an accession.
 fn image_rows<S: Alter>(conn: &mut Connection<S>, acc: u32) -> Result<Vec<Row>, StoreFault>
     requires holds { HoldsDesk (state S.Store conn.old) }
-    ensures rows { IsOpen S.Store conn.new → IfOk result (λ rows.
+    ensures asks { Asks S.Store conn.old conn.new result StoreFault.Sql (λ rows.
         rows.items ≡ map image_shown (option_to_list (get (desk S.Store conn.old).images acc))) }
-    ensures stays { Stays S.Store conn.old conn.new }
-    ensures stands { StaysOpen S.Store conn.old conn.new result }
     ensures kept { HoldsDesk (state S.Store conn.new) }
-    ensures fault { IfErr result (λ fault. fault ≡ StoreFault.Sql) }
 {
     let key = acc.to_sql();
     read_all(
@@ -69,12 +67,9 @@ pub(crate) fn image<S: Alter>(
     acc: u32,
 ) -> Result<Option<ImageRow>, StoreFault>
     requires holds { HoldsDesk (state S.Store conn.old) }
-    ensures answer { IsOpen S.Store conn.new → IfOk result (λ found.
+    ensures asks { Asks S.Store conn.old conn.new result StoreFault.Sql (λ found.
         found ≡ get (desk S.Store conn.old).images acc) }
-    ensures stays { Stays S.Store conn.old conn.new }
-    ensures stands { StaysOpen S.Store conn.old conn.new result }
     ensures kept { HoldsDesk (state S.Store conn.new) }
-    ensures fault { IfErr result (λ fault. fault ≡ StoreFault.Sql) }
 {
     let rows = image_rows(conn, acc)?;
     match rows.first() {
@@ -86,12 +81,9 @@ pub(crate) fn image<S: Alter>(
 /// The rows for the image of an accession without its bytes.
 fn heading_rows<S: Alter>(conn: &mut Connection<S>, acc: u32) -> Result<Vec<Row>, StoreFault>
     requires holds { HoldsDesk (state S.Store conn.old) }
-    ensures rows { IsOpen S.Store conn.new → IfOk result (λ rows.
+    ensures asks { Asks S.Store conn.old conn.new result StoreFault.Sql (λ rows.
         rows.items ≡ map heading_shown (option_to_list (get (desk S.Store conn.old).images acc))) }
-    ensures stays { Stays S.Store conn.old conn.new }
-    ensures stands { StaysOpen S.Store conn.old conn.new result }
     ensures kept { HoldsDesk (state S.Store conn.new) }
-    ensures fault { IfErr result (λ fault. fault ≡ StoreFault.Sql) }
 {
     let key = acc.to_sql();
     read_all(
@@ -118,12 +110,9 @@ pub(crate) fn heading_at<S: Alter>(
     acc: u32,
 ) -> Result<Option<Heading>, StoreFault>
     requires holds { HoldsDesk (state S.Store conn.old) }
-    ensures answer { IsOpen S.Store conn.new → IfOk result (λ found.
+    ensures asks { Asks S.Store conn.old conn.new result StoreFault.Sql (λ found.
         found ≡ option_map heading_of (get (desk S.Store conn.old).images acc)) }
-    ensures stays { Stays S.Store conn.old conn.new }
-    ensures stands { StaysOpen S.Store conn.old conn.new result }
     ensures kept { HoldsDesk (state S.Store conn.new) }
-    ensures fault { IfErr result (λ fault. fault ≡ StoreFault.Sql) }
 {
     let rows = heading_rows(conn, acc)?;
     match rows.first() {
@@ -135,12 +124,9 @@ pub(crate) fn heading_at<S: Alter>(
 /// The rows for all accessions.
 fn accession_rows<S: Alter>(conn: &mut Connection<S>) -> Result<Vec<Row>, StoreFault>
     requires holds { HoldsDesk (state S.Store conn.old) }
-    ensures rows { IsOpen S.Store conn.new → IfOk result (λ rows.
+    ensures asks { Asks S.Store conn.old conn.new result StoreFault.Sql (λ rows.
         rows.items ≡ map accession_shown (keys (desk S.Store conn.old).images)) }
-    ensures stays { Stays S.Store conn.old conn.new }
-    ensures stands { StaysOpen S.Store conn.old conn.new result }
     ensures kept { HoldsDesk (state S.Store conn.new) }
-    ensures fault { IfErr result (λ fault. fault ≡ StoreFault.Sql) }
 {
     read_all(conn, "SELECT acc FROM image ORDER BY acc", &[])
 }
@@ -167,12 +153,9 @@ pub(crate) fn accessions<S: Alter>(
     conn: &mut Connection<S>,
 ) -> Result<Vec<u32>, StoreFault>
     requires holds { HoldsDesk (state S.Store conn.old) }
-    ensures answer { IsOpen S.Store conn.new → IfOk result (λ numbers.
+    ensures asks { Asks S.Store conn.old conn.new result StoreFault.Sql (λ numbers.
         numbers.items ≡ keys (desk S.Store conn.old).images) }
-    ensures stays { Stays S.Store conn.old conn.new }
-    ensures stands { StaysOpen S.Store conn.old conn.new result }
     ensures kept { HoldsDesk (state S.Store conn.new) }
-    ensures fault { IfErr result (λ fault. fault ≡ StoreFault.Sql) }
 {
     let rows = accession_rows(conn)?;
     read_numbers(alloc, &rows)
@@ -187,6 +170,7 @@ pub(crate) fn insert_image<S: Alter>(
     digest: &[u8; 32],
     bytes: &[u8],
 ) -> Result<usize, Error>
+    requires mode { conn.old.in_transaction ≡ false }
     requires holds { HoldsDesk (state S.Store conn.old) }
     requires image { IsImage acc (record { kind = kind; deed = deed; digest = digest.now; bytes = bytes.now }) }
     requires deed { IsOpen S.Store conn.old → IsSome (get (desk S.Store conn.old).deeds deed) }
@@ -217,9 +201,8 @@ pub(crate) fn put_image<S: Alter>(
     ensures kept { HoldsDesk (state S.Store conn.new) }
     ensures changes { Changes S.Store conn.old conn.new
         (with_image acc (record { kind = kind; deed = deed; digest = digest.now; bytes = bytes.now }) (desk S.Store conn.old)) result }
-    ensures judges { IsOpen S.Store conn.new → Judges (IsSome (get (desk S.Store conn.old).deeds deed))
-        (HasOtherImage (desk S.Store conn.old) acc (record { kind = kind; deed = deed; digest = digest.now; bytes = bytes.now })) result }
-    ensures open { AnswersOpen S.Store conn.old conn.new result }
+    ensures judges { Judges S.Store conn.new result (IsSome (get (desk S.Store conn.old).deeds deed))
+        (HasOtherImage (desk S.Store conn.old) acc (record { kind = kind; deed = deed; digest = digest.now; bytes = bytes.now })) }
 {
     if deeds::deed(conn, deed)?.is_none() {
         return Err(StoreFault::Missing);
@@ -232,9 +215,12 @@ pub(crate) fn put_image<S: Alter>(
                 Err(StoreFault::Conflict)
             }
         }
-        None => match insert_image(conn, acc, kind, deed, digest, bytes) {
-            Ok(_) => Ok(()),
-            Err(_) => Err(StoreFault::Sql),
-        },
+        None => {
+            outside(conn)?;
+            match insert_image(conn, acc, kind, deed, digest, bytes) {
+                Ok(_) => Ok(()),
+                Err(_) => Err(StoreFault::Sql),
+            }
+        }
     }
 }

@@ -1,15 +1,14 @@
-ghost use Rattle.std.specs.Prelude.{◌≡◌, ◌≢◌, true, IfOk, IfErr, MatchBool};
+ghost use Rattle.std.specs.Prelude.{◌≡◌, ◌≢◌, true, false, IfOk, IfErr, MatchBool};
 ghost use Rattle.sqlite.specs.Held.{state};
 ghost use Rattle.sqlite.specs.Steps.{over_memory};
-ghost use Rattle.rd_tables.specs.Schemas.{desk_schema, has_desk_columns};
-ghost use Rattle.rd_store.specs.Held.{IsDeskAt, IsOpen, Stays, StaysOpen};
-ghost use Rattle.rd_store.specs.Opened.{IsSettledAt, IsSoundAt, Refuses, RefusesOpen};
+ghost use Rattle.rd_tables.specs.Schemas.{desk_schema, has_desk_columns, has_foreign_desk, may_be_desk};
+ghost use Rattle.rd_store.specs.Opened.{IsSettledAt, IsSoundAt, TestsDesk};
 
 use crate::faults::{OpenFault, Refused};
 use crate::opening::check_rows;
 use crate::store::Store;
 use crate::version::has_version;
-use rd_tables::{has_desk_columns, same_first_table, same_schema};
+use rd_tables::{has_desk_columns, has_foreign_desk, same_first_table, same_schema};
 use sqlite::{Alter, Connection, MemStore};
 use std::alloc::Global;
 
@@ -37,12 +36,8 @@ fn judge_tables<S: Alter>(alloc: Global, conn: &mut Connection<S>) -> Result<(),
     requires settled { IsSettledAt (state S.Store conn.old) }
     requires sound { IsSoundAt (state S.Store conn.old) }
     requires desk { has_desk_columns (state S.Store conn.old).now.schema ≡ true }
-    ensures desk { IsOpen S.Store conn.new → IfOk result (λ done. IsDeskAt (state S.Store conn.old)) }
-    ensures refused { IsOpen S.Store conn.new → IfErr result (λ fault. Refuses fault (state S.Store conn.old).now) }
+    ensures tests { TestsDesk S.Store conn.old conn.new result }
     ensures no_desk { IfErr result (λ fault. fault ≢ OpenFault.NotADesk) }
-    ensures stays { Stays S.Store conn.old conn.new }
-    ensures stands { StaysOpen S.Store conn.old conn.new result }
-    ensures refuses { RefusesOpen S.Store conn.old conn.new result }
 {
     let sample = sample(alloc)?;
     if !same_first_table(conn.schema(), sample.schema()) {
@@ -61,15 +56,17 @@ fn judge_tables<S: Alter>(alloc: Global, conn: &mut Connection<S>) -> Result<(),
 pub(crate) fn judge<S: Alter>(alloc: Global, conn: &mut Connection<S>) -> Result<(), OpenFault>
     requires settled { IsSettledAt (state S.Store conn.old) }
     requires sound { IsSoundAt (state S.Store conn.old) }
-    ensures desk { IsOpen S.Store conn.new → IfOk result (λ done. IsDeskAt (state S.Store conn.old)) }
-    ensures refused { IsOpen S.Store conn.new → IfErr result (λ fault. Refuses fault (state S.Store conn.old).now) }
+    ensures tests { TestsDesk S.Store conn.old conn.new result }
     ensures named { IfOk result (λ done. has_desk_columns (state S.Store conn.old).now.schema ≡ true) }
-    ensures no_desk { IfErr result (λ fault. MatchBool (has_desk_columns (state S.Store conn.old).now.schema)
+    ensures plain { IfOk result (λ done. has_foreign_desk (state S.Store conn.old).now.schema ≡ false) }
+    ensures foreign { IfErr result (λ fault. has_foreign_desk (state S.Store conn.old).now.schema ≡ true → fault ≡ OpenFault.Sql) }
+    ensures no_desk { IfErr result (λ fault. MatchBool (may_be_desk (state S.Store conn.old).now.schema)
         (fault ≢ OpenFault.NotADesk) (fault ≡ OpenFault.NotADesk)) }
-    ensures stays { Stays S.Store conn.old conn.new }
-    ensures stands { StaysOpen S.Store conn.old conn.new result }
-    ensures refuses { RefusesOpen S.Store conn.old conn.new result }
+    ensures same { IfErr result (λ fault. fault ≡ OpenFault.NotADesk → conn.new ≡ conn.old) }
 {
+    if has_foreign_desk(conn.schema()) {
+        return Err(OpenFault::Sql);
+    }
     if !has_desk_columns(conn.schema()) {
         return Err(OpenFault::NotADesk);
     }

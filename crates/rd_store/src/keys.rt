@@ -3,7 +3,7 @@ ghost use Rattle.std.specs.List.{Any};
 ghost use Rattle.std.specs.FinMap.{entries, get};
 ghost use Rattle.std.specs.Option.{option_to_list};
 ghost use Rattle.sqlite.specs.Held.{state};
-ghost use Rattle.rd_store.specs.Held.{AnswersOpen, Changes, HoldsDesk, IsOf, IsOpen, Judges, Moves, Stays, StaysOpen, desk};
+ghost use Rattle.rd_store.specs.Held.{Asks, Changes, HoldsDesk, IsOf, IsOpen, Judges, Moves, desk};
 ghost use Rattle.rd_store.specs.Lawful.{IsKey};
 ghost use Rattle.rd_store.specs.Shown.{ShowsOther, audience_shown};
 ghost use Rattle.rd_store.specs.Spelled.{key_sheet};
@@ -12,6 +12,7 @@ ghost use Rattle.rd_store.specs.State.{HasOtherStaff, IsLastStaff, with_key, wit
 use crate::codes;
 use crate::decode::{audience, digest_at, number_at};
 use crate::faults::StoreFault;
+use crate::outside::outside;
 use crate::read::read_all;
 use rd_policy::Audience;
 use sqlite::types::ToSql;
@@ -23,12 +24,9 @@ fn audience_rows<S: Alter>(
     digest: &[u8; 32],
 ) -> Result<Vec<Row>, StoreFault>
     requires holds { HoldsDesk (state S.Store conn.old) }
-    ensures rows { IsOpen S.Store conn.new → IfOk result (λ rows.
+    ensures asks { Asks S.Store conn.old conn.new result StoreFault.Sql (λ rows.
         rows.items ≡ map audience_shown (option_to_list (get (desk S.Store conn.old).keys digest.now))) }
-    ensures stays { Stays S.Store conn.old conn.new }
-    ensures stands { StaysOpen S.Store conn.old conn.new result }
     ensures kept { HoldsDesk (state S.Store conn.new) }
-    ensures fault { IfErr result (λ fault. fault ≡ StoreFault.Sql) }
 {
     let key = digest.as_slice().to_sql();
     read_all(conn, "SELECT audience FROM badge WHERE digest = ?1", &[key])
@@ -48,12 +46,9 @@ pub(crate) fn audience_of<S: Alter>(
     digest: &[u8; 32],
 ) -> Result<Option<Audience>, StoreFault>
     requires holds { HoldsDesk (state S.Store conn.old) }
-    ensures answer { IsOpen S.Store conn.new → IfOk result (λ found.
+    ensures asks { Asks S.Store conn.old conn.new result StoreFault.Sql (λ found.
         found ≡ get (desk S.Store conn.old).keys digest.now) }
-    ensures stays { Stays S.Store conn.old conn.new }
-    ensures stands { StaysOpen S.Store conn.old conn.new result }
     ensures kept { HoldsDesk (state S.Store conn.new) }
-    ensures fault { IfErr result (λ fault. fault ≡ StoreFault.Sql) }
 {
     let rows = audience_rows(conn, digest)?;
     match rows.first() {
@@ -65,12 +60,9 @@ pub(crate) fn audience_of<S: Alter>(
 /// The rows for all desk keys.
 fn key_rows<S: Alter>(conn: &mut Connection<S>) -> Result<Vec<Row>, StoreFault>
     requires holds { HoldsDesk (state S.Store conn.old) }
-    ensures rows { IsOpen S.Store conn.new → IfOk result (λ rows.
+    ensures asks { Asks S.Store conn.old conn.new result StoreFault.Sql (λ rows.
         rows.items ≡ map key_sheet.columns (entries (desk S.Store conn.old).keys)) }
-    ensures stays { Stays S.Store conn.old conn.new }
-    ensures stands { StaysOpen S.Store conn.old conn.new result }
     ensures kept { HoldsDesk (state S.Store conn.new) }
-    ensures fault { IfErr result (λ fault. fault ≡ StoreFault.Sql) }
 {
     read_all(
         conn,
@@ -109,12 +101,9 @@ pub(crate) fn has_other_staff<S: Alter>(
     digest: &[u8; 32],
 ) -> Result<bool, StoreFault>
     requires holds { HoldsDesk (state S.Store conn.old) }
-    ensures other { IsOpen S.Store conn.new → IfOk result (λ other. MatchBool other
+    ensures asks { Asks S.Store conn.old conn.new result StoreFault.Sql (λ other. MatchBool other
         (HasOtherStaff (desk S.Store conn.old) digest.now) (¬ HasOtherStaff (desk S.Store conn.old) digest.now)) }
-    ensures stays { Stays S.Store conn.old conn.new }
-    ensures stands { StaysOpen S.Store conn.old conn.new result }
     ensures kept { HoldsDesk (state S.Store conn.new) }
-    ensures fault { IfErr result (λ fault. fault ≡ StoreFault.Sql) }
 {
     let rows = key_rows(conn)?;
     show_other(&rows, digest)
@@ -125,6 +114,7 @@ pub(crate) fn delete_key<S: Alter>(
     conn: &mut Connection<S>,
     digest: &[u8; 32],
 ) -> Result<usize, Error>
+    requires mode { conn.old.in_transaction ≡ false }
     requires holds { HoldsDesk (state S.Store conn.old) }
     requires other { IsOpen S.Store conn.old → HasOtherStaff (desk S.Store conn.old) digest.now }
     ensures kept { HoldsDesk (state S.Store conn.new) }
@@ -191,16 +181,14 @@ pub(crate) fn put_key<S: Alter>(
     requires key { IsKey digest.now audience }
     ensures kept { HoldsDesk (state S.Store conn.new) }
     ensures changes { Changes S.Store conn.old conn.new (with_key digest.now audience (desk S.Store conn.old)) result }
-    ensures judges { IsOpen S.Store conn.new → Judges ⊤
-        ((audience ≢ Audience.Staff) × IsLastStaff (desk S.Store conn.old) digest.now) result }
-    ensures open { AnswersOpen S.Store conn.old conn.new result }
+    ensures judges { Judges S.Store conn.new result ⊤
+        ((audience ≢ Audience.Staff) × IsLastStaff (desk S.Store conn.old) digest.now) }
+    ensures fault { IfErr result (λ fault. fault ≢ StoreFault.Missing) }
 {
     if audience != Audience::Staff && !has_other_staff(conn, digest)? {
         return Err(StoreFault::Conflict);
     }
-    if !conn.is_autocommit() {
-        return Err(StoreFault::Sql);
-    }
+    outside(conn)?;
     match write_key(conn, digest, audience) {
         Ok(()) => Ok(()),
         Err(_) => Err(StoreFault::Sql),
@@ -215,12 +203,13 @@ pub(crate) fn drop_key<S: Alter>(
     requires holds { HoldsDesk (state S.Store conn.old) }
     ensures kept { HoldsDesk (state S.Store conn.new) }
     ensures changes { Changes S.Store conn.old conn.new (without_key digest.now (desk S.Store conn.old)) result }
-    ensures judges { IsOpen S.Store conn.new → Judges ⊤ (IsLastStaff (desk S.Store conn.old) digest.now) result }
-    ensures open { AnswersOpen S.Store conn.old conn.new result }
+    ensures judges { Judges S.Store conn.new result ⊤ (IsLastStaff (desk S.Store conn.old) digest.now) }
+    ensures fault { IfErr result (λ fault. fault ≢ StoreFault.Missing) }
 {
     if !has_other_staff(conn, digest)? {
         return Err(StoreFault::Conflict);
     }
+    outside(conn)?;
     match delete_key(conn, digest) {
         Ok(_) => Ok(()),
         Err(_) => Err(StoreFault::Sql),

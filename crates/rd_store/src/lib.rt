@@ -3,6 +3,7 @@
 #![tactic(auto)]
 
 mod cells;
+mod checks;
 mod codes;
 mod create;
 mod decode;
@@ -13,8 +14,10 @@ mod judging;
 mod keys;
 mod limits;
 mod opening;
+mod outside;
 mod read;
 mod rows;
+mod rule_laws;
 mod rules;
 mod store;
 mod tested;
@@ -25,4 +28,5 @@ mod version;
 pub use faults::{CreateFault, OpenFault, Refused, StoreFault};
 pub use limits::is_donor;
 pub use rows::{DeedRow, ImageRow, Outcome};
+pub use rule_laws::{rules_are_in_order, rules_are_those};
 pub use store::{Store, memory_stays_open};

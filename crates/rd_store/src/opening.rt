@@ -1,4 +1,5 @@
-ghost use Rattle.std.specs.Prelude.{◌≡◌, ◌≢◌, IfOk, IfErr, IsTrue, MatchBool, int_lt, true};
+ghost use Rattle.std.specs.Prelude.{◌≡◌, IfOk, IsTrue, MatchBool, int_lt, true};
+ghost use Rattle.std.specs.List.Sorted.{IsNonDecreasing};
 ghost use Rattle.sqlite.specs.Held.{state};
 ghost use Rattle.sqlite.specs.Order.{column};
 ghost use Rattle.sqlite_rules.specs.Edit.{id_in};
@@ -6,8 +7,8 @@ ghost use Rattle.sqlite_trees.specs.View.{is_int};
 ghost use Rattle.rd_tables.specs.Asked.{AreRising, IsListed};
 ghost use Rattle.rd_tables.specs.Sheets.{HaveRowids, map_of};
 ghost use Rattle.rd_store.specs.Spelled.{HasVersion, HaveOwnRowids, deed_sheet, image_sheet};
-ghost use Rattle.rd_store.specs.Held.{HoldsTables, IsOpen, Stays, StaysOpen};
-ghost use Rattle.rd_store.specs.Opened.{AreKeys, AreNumbers, IsConsistent, IsSoundAt, JudgesRows, LawfulChecks, LawfulDeeds, LawfulGiven, LawfulImages, LawfulKeys, LawfulOthers, LawfulRules, RefusesOpen, listing_query, listing_text, listing_tree};
+ghost use Rattle.rd_store.specs.Held.{Asks, HoldsTables, IsOpen};
+ghost use Rattle.rd_store.specs.Opened.{AreKeys, AreNumbers, IsConsistent, IsSoundAt, LawfulChecks, LawfulDeeds, LawfulGiven, LawfulImages, LawfulKeys, LawfulOthers, LawfulRules, Tests, listing_query, listing_text, listing_tree};
 
 use crate::faults::OpenFault;
 use crate::images::read_numbers;
@@ -76,11 +77,9 @@ fn are_rising(rows: &[Row]) -> bool
 /// All rows of a table.
 fn read_listing<S: Alter>(conn: &mut Connection<S>, table: Listing) -> Result<Vec<Row>, OpenFault>
     requires tables { HoldsTables (state S.Store conn.old) }
-    ensures rows { IsOpen S.Store conn.new → IfOk result (λ rows.
+    ensures asks { Asks S.Store conn.old conn.new result OpenFault.Sql (λ rows.
         IsListed (listing_query table) ((state S.Store conn.old).now.trees (listing_tree table)) rows.items) }
-    ensures stays { Stays S.Store conn.old conn.new }
-    ensures stands { StaysOpen S.Store conn.old conn.new result }
-    ensures fault { IfErr result (λ fault. fault ≡ OpenFault.Sql) }
+    ensures rising { IfOk result (λ rows. AreRising rows.items) }
 {
     match read_all(conn, listing_text(table), &[]) {
         Ok(rows) if are_rising(&rows) => Ok(rows),
@@ -91,13 +90,10 @@ fn read_listing<S: Alter>(conn: &mut Connection<S>, table: Listing) -> Result<Ve
 /// The numbers of the deeds, if their rows are those of a desk.
 fn check_deeds<S: Alter>(alloc: Global, conn: &mut Connection<S>) -> Result<Vec<u32>, OpenFault>
     requires tables { HoldsTables (state S.Store conn.old) }
-    ensures judges { JudgesRows S.Store conn.old conn.new LawfulDeeds result }
+    ensures tests { Tests S.Store conn.old conn.new result LawfulDeeds }
     ensures numbers { IsOpen S.Store conn.new → IfOk result (λ numbers.
         AreKeys (map_of deed_sheet ((state S.Store conn.old).now.trees 1)) numbers.items) }
-    ensures stays { Stays S.Store conn.old conn.new }
-    ensures stands { StaysOpen S.Store conn.old conn.new result }
-    ensures refuses { RefusesOpen S.Store conn.old conn.new result }
-    ensures named { IfErr result (λ fault. fault ≢ OpenFault.NotADesk) }
+    ensures ascending { IfOk result (λ numbers. IsNonDecreasing numbers.items) }
 {
     let rows = read_listing(conn, Listing::Deeds)?;
     if !are_deeds(&rows) {
@@ -116,13 +112,11 @@ fn check_images<S: Alter>(
     deeds: &[u32],
 ) -> Result<Vec<u32>, OpenFault>
     requires tables { HoldsTables (state S.Store conn.old) }
-    ensures judges { JudgesRows S.Store conn.old conn.new (LawfulImages deeds.now) result }
+    requires deeds { IsNonDecreasing deeds.now }
+    ensures tests { Tests S.Store conn.old conn.new result (LawfulImages deeds.now) }
     ensures numbers { IsOpen S.Store conn.new → IfOk result (λ numbers.
         AreKeys (map_of image_sheet ((state S.Store conn.old).now.trees 2)) numbers.items) }
-    ensures stays { Stays S.Store conn.old conn.new }
-    ensures stands { StaysOpen S.Store conn.old conn.new result }
-    ensures refuses { RefusesOpen S.Store conn.old conn.new result }
-    ensures named { IfErr result (λ fault. fault ≢ OpenFault.NotADesk) }
+    ensures ascending { IfOk result (λ numbers. IsNonDecreasing numbers.items) }
 {
     let rows = read_listing(conn, Listing::Images)?;
     if !are_images(&rows, deeds) {
@@ -141,13 +135,11 @@ fn check_rules<S: Alter>(
     deeds: &[u32],
 ) -> Result<(), OpenFault>
     requires tables { HoldsTables (state S.Store conn.old) }
+    requires accessions { IsNonDecreasing accessions.now }
+    requires deeds { IsNonDecreasing deeds.now }
     requires sound { IsSoundAt (state S.Store conn.old) }
-    ensures judges { JudgesRows S.Store conn.old conn.new (LawfulRules accessions.now deeds.now) result }
+    ensures tests { Tests S.Store conn.old conn.new result (LawfulRules accessions.now deeds.now) }
     ensures rowids { IsOpen S.Store conn.new → IfOk result (λ done. HaveRowids ((state S.Store conn.old).now.trees 3)) }
-    ensures stays { Stays S.Store conn.old conn.new }
-    ensures stands { StaysOpen S.Store conn.old conn.new result }
-    ensures refuses { RefusesOpen S.Store conn.old conn.new result }
-    ensures named { IfErr result (λ fault. fault ≢ OpenFault.NotADesk) }
 {
     let rows = read_listing(conn, Listing::Rules)?;
     if !are_rules(&rows, accessions, deeds) {
@@ -160,12 +152,8 @@ fn check_rules<S: Alter>(
 fn check_keys<S: Alter>(conn: &mut Connection<S>) -> Result<(), OpenFault>
     requires tables { HoldsTables (state S.Store conn.old) }
     requires sound { IsSoundAt (state S.Store conn.old) }
-    ensures judges { JudgesRows S.Store conn.old conn.new LawfulKeys result }
+    ensures tests { Tests S.Store conn.old conn.new result LawfulKeys }
     ensures rowids { IsOpen S.Store conn.new → IfOk result (λ done. HaveRowids ((state S.Store conn.old).now.trees 5)) }
-    ensures stays { Stays S.Store conn.old conn.new }
-    ensures stands { StaysOpen S.Store conn.old conn.new result }
-    ensures refuses { RefusesOpen S.Store conn.old conn.new result }
-    ensures named { IfErr result (λ fault. fault ≢ OpenFault.NotADesk) }
 {
     let rows = read_listing(conn, Listing::Keys)?;
     if !are_keys(&rows) {
@@ -177,13 +165,10 @@ fn check_keys<S: Alter>(conn: &mut Connection<S>) -> Result<(), OpenFault>
 /// Whether the rows of the checks are those of a desk with these accessions.
 fn check_checks<S: Alter>(conn: &mut Connection<S>, accessions: &[u32]) -> Result<(), OpenFault>
     requires tables { HoldsTables (state S.Store conn.old) }
+    requires accessions { IsNonDecreasing accessions.now }
     requires sound { IsSoundAt (state S.Store conn.old) }
-    ensures judges { JudgesRows S.Store conn.old conn.new (LawfulChecks accessions.now) result }
+    ensures tests { Tests S.Store conn.old conn.new result (LawfulChecks accessions.now) }
     ensures rowids { IsOpen S.Store conn.new → IfOk result (λ done. HaveRowids ((state S.Store conn.old).now.trees 7)) }
-    ensures stays { Stays S.Store conn.old conn.new }
-    ensures stands { StaysOpen S.Store conn.old conn.new result }
-    ensures refuses { RefusesOpen S.Store conn.old conn.new result }
-    ensures named { IfErr result (λ fault. fault ≢ OpenFault.NotADesk) }
 {
     let rows = read_listing(conn, Listing::Checks)?;
     if !are_checks(&rows, accessions) {
@@ -198,13 +183,10 @@ fn check_given<S: Alter>(
     conn: &mut Connection<S>,
 ) -> Result<(Vec<u32>, Vec<u32>), OpenFault>
     requires tables { HoldsTables (state S.Store conn.old) }
-    ensures judges { JudgesRows S.Store conn.old conn.new LawfulGiven result }
+    ensures tests { Tests S.Store conn.old conn.new result LawfulGiven }
     ensures numbers { IsOpen S.Store conn.new → IfOk result (λ numbers.
         AreNumbers (state S.Store conn.old).now.trees numbers.0.items numbers.1.items) }
-    ensures stays { Stays S.Store conn.old conn.new }
-    ensures stands { StaysOpen S.Store conn.old conn.new result }
-    ensures refuses { RefusesOpen S.Store conn.old conn.new result }
-    ensures named { IfErr result (λ fault. fault ≢ OpenFault.NotADesk) }
+    ensures ascending { IfOk result (λ numbers. IsNonDecreasing numbers.0.items × IsNonDecreasing numbers.1.items) }
 {
     let deeds = check_deeds(alloc, conn)?;
     let accessions = check_images(alloc, conn, &deeds)?;
@@ -218,13 +200,11 @@ fn check_others<S: Alter>(
     deeds: &[u32],
 ) -> Result<(), OpenFault>
     requires tables { HoldsTables (state S.Store conn.old) }
+    requires accessions { IsNonDecreasing accessions.now }
+    requires deeds { IsNonDecreasing deeds.now }
     requires sound { IsSoundAt (state S.Store conn.old) }
-    ensures judges { JudgesRows S.Store conn.old conn.new (LawfulOthers accessions.now deeds.now) result }
+    ensures tests { Tests S.Store conn.old conn.new result (LawfulOthers accessions.now deeds.now) }
     ensures rowids { IsOpen S.Store conn.new → IfOk result (λ done. HaveOwnRowids (state S.Store conn.old).now.trees) }
-    ensures stays { Stays S.Store conn.old conn.new }
-    ensures stands { StaysOpen S.Store conn.old conn.new result }
-    ensures refuses { RefusesOpen S.Store conn.old conn.new result }
-    ensures named { IfErr result (λ fault. fault ≢ OpenFault.NotADesk) }
 {
     check_rules(conn, accessions, deeds)?;
     check_keys(conn)?;
@@ -236,12 +216,8 @@ pub(crate) fn check_rows<S: Alter>(alloc: Global, conn: &mut Connection<S>) -> R
     requires tables { HoldsTables (state S.Store conn.old) }
     requires sound { IsSoundAt (state S.Store conn.old) }
     requires version { IsOpen S.Store conn.old → HasVersion 0 ((state S.Store conn.old).now.trees 0) }
-    ensures judges { JudgesRows S.Store conn.old conn.new IsConsistent result }
+    ensures tests { Tests S.Store conn.old conn.new result IsConsistent }
     ensures rowids { IsOpen S.Store conn.new → IfOk result (λ done. HaveOwnRowids (state S.Store conn.old).now.trees) }
-    ensures stays { Stays S.Store conn.old conn.new }
-    ensures stands { StaysOpen S.Store conn.old conn.new result }
-    ensures refuses { RefusesOpen S.Store conn.old conn.new result }
-    ensures named { IfErr result (λ fault. fault ≢ OpenFault.NotADesk) }
 {
     let (deeds, accessions) = check_given(alloc, conn)?;
     check_others(conn, &accessions, &deeds)

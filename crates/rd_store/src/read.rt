@@ -1,11 +1,11 @@
-ghost use Rattle.std.specs.Prelude.{◌≡◌, IfOk, IfErr};
+ghost use Rattle.std.specs.Prelude.{};
 ghost use Rattle.sqlite.specs.Given.{IsPlain};
 ghost use Rattle.sqlite.specs.Held.{state};
 ghost use Rattle.sqlite.specs.Listing.{understood};
 ghost use Rattle.sqlite.specs.State.{Shown};
 ghost use Rattle.sqlite.specs.Values.{bound};
 ghost use Rattle.rd_tables.specs.Schemas.{desk_schema};
-ghost use Rattle.rd_store.specs.Held.{HoldsTables, IsOpen, Stays, StaysOpen};
+ghost use Rattle.rd_store.specs.Held.{Asks, HoldsTables};
 
 use crate::faults::StoreFault;
 use sqlite::types::ValueRef;
@@ -19,11 +19,8 @@ pub(crate) fn read_all<S: Alter>(
 ) -> Result<Vec<Row>, StoreFault>
     requires tables { HoldsTables (state S.Store conn.old) }
     requires plain { IsPlain (understood desk_schema sql.now) }
-    ensures rows { IsOpen S.Store conn.new → IfOk result (λ rows.
+    ensures asks { Asks S.Store conn.old conn.new result StoreFault.Sql (λ rows.
         Shown sql.now (bound params.now) (state S.Store conn.old) (state S.Store conn.new) rows.items) }
-    ensures stays { Stays S.Store conn.old conn.new }
-    ensures stands { StaysOpen S.Store conn.old conn.new result }
-    ensures fault { IfErr result (λ fault. fault ≡ StoreFault.Sql) }
 {
     match conn.query_all(sql, params) {
         Ok(rows) => Ok(rows),

@@ -1,17 +1,18 @@
-ghost use Rattle.std.specs.Prelude.{◌≡◌, ◌++◌, false, IfOk, IfErr, MatchBool, None, map};
+ghost use Rattle.std.specs.Prelude.{◌≡◌, ◌++◌, false, IfOk, IfErr, MatchBool, None, map, ◌≢◌};
 ghost use Rattle.std.specs.FinMap.{entries, get, retain_keys};
 ghost use Rattle.sqlite.specs.Held.{state};
 ghost use Rattle.sqlite.specs.Order.{column};
 ghost use Rattle.sqlite_value.specs.Order.{bytes};
 ghost use Rattle.rd_tables.specs.Sheets.{natural};
 ghost use Rattle.rd_store.specs.Codes.{is_at, select_in};
-ghost use Rattle.rd_store.specs.Held.{AnswersOpen, Changes, HoldsDesk, IsOf, IsOpen, Judges, Moves, Stays, StaysOpen, desk};
+ghost use Rattle.rd_store.specs.Held.{Asks, Changes, HoldsDesk, IsOf, IsOpen, Judges, Moves, desk};
 ghost use Rattle.rd_store.specs.Spelled.{rule_sheet};
 ghost use Rattle.rd_policy.specs.Rules.{IsRule};
 ghost use Rattle.rd_store.specs.State.{Stands, place_of, rule_of, rules_at, rules_for as rules_for_accession, terms_of, with_rule, without_rule};
 
 use crate::decode::{audiences, band, effect, number_at, select, some_day_at, text_at};
 use crate::faults::StoreFault;
+use crate::outside::outside;
 use crate::read::read_all;
 use crate::{codes, deeds, images};
 use rd_policy::{Band, Rule, Select};
@@ -26,12 +27,9 @@ fn rule_rows<S: Alter>(
     scope: u32,
 ) -> Result<Vec<Row>, StoreFault>
     requires holds { HoldsDesk (state S.Store conn.old) }
-    ensures rows { IsOpen S.Store conn.new → IfOk result (λ rows.
+    ensures asks { Asks S.Store conn.old conn.new result StoreFault.Sql (λ rows.
         rows.items ≡ map rule_sheet.columns (entries (retain_keys (desk S.Store conn.old).rules (λ place. is_at band scope place.band place.scope)))) }
-    ensures stays { Stays S.Store conn.old conn.new }
-    ensures stands { StaysOpen S.Store conn.old conn.new result }
     ensures kept { HoldsDesk (state S.Store conn.new) }
-    ensures fault { IfErr result (λ fault. fault ≡ StoreFault.Sql) }
 {
     let first = codes::of_band(band).to_sql();
     let second = scope.to_sql();
@@ -110,12 +108,9 @@ pub(crate) fn rules_of<S: Alter>(
     scope: u32,
 ) -> Result<Vec<Rule>, StoreFault>
     requires holds { HoldsDesk (state S.Store conn.old) }
-    ensures answer { IsOpen S.Store conn.new → IfOk result (λ rules.
+    ensures asks { Asks S.Store conn.old conn.new result StoreFault.Sql (λ rules.
         rules.items ≡ rules_at (desk S.Store conn.old) band scope) }
-    ensures stays { Stays S.Store conn.old conn.new }
-    ensures stands { StaysOpen S.Store conn.old conn.new result }
     ensures kept { HoldsDesk (state S.Store conn.new) }
-    ensures fault { IfErr result (λ fault. fault ≡ StoreFault.Sql) }
 {
     let rows = rule_rows(conn, band, scope)?;
     read_rules(alloc, &rows)
@@ -128,6 +123,7 @@ pub(crate) fn delete_rule<S: Alter>(
     scope: u32,
     rank: u16,
 ) -> Result<usize, Error>
+    requires mode { conn.old.in_transaction ≡ false }
     requires holds { HoldsDesk (state S.Store conn.old) }
     ensures kept { HoldsDesk (state S.Store conn.new) }
     ensures changes { Changes S.Store conn.old conn.new
@@ -195,12 +191,9 @@ pub(crate) fn write_rule<S: Alter>(conn: &mut Connection<S>, rule: &Rule) -> Res
 /// Whether the accession or the deed of a rule stands.
 fn stands<S: Alter>(conn: &mut Connection<S>, band: Band, scope: u32) -> Result<bool, StoreFault>
     requires holds { HoldsDesk (state S.Store conn.old) }
-    ensures stand { IsOpen S.Store conn.new → IfOk result (λ stand. MatchBool stand
+    ensures asks { Asks S.Store conn.old conn.new result StoreFault.Sql (λ stand. MatchBool stand
         (Stands (desk S.Store conn.old) band scope) (¬ Stands (desk S.Store conn.old) band scope)) }
-    ensures stays { Stays S.Store conn.old conn.new }
-    ensures stands { StaysOpen S.Store conn.old conn.new result }
     ensures kept { HoldsDesk (state S.Store conn.new) }
-    ensures fault { IfErr result (λ fault. fault ≡ StoreFault.Sql) }
 {
     match band {
         Band::Takedown => Ok(images::heading_at(conn, scope)?.is_some()),
@@ -215,15 +208,13 @@ pub(crate) fn put_rule<S: Alter>(conn: &mut Connection<S>, rule: &Rule) -> Resul
     ensures kept { HoldsDesk (state S.Store conn.new) }
     ensures changes { Changes S.Store conn.old conn.new
         (with_rule (place_of rule.now) (terms_of rule.now) (desk S.Store conn.old)) result }
-    ensures judges { IsOpen S.Store conn.new → Judges (Stands (desk S.Store conn.old) rule.now.band rule.now.scope) ⊥ result }
-    ensures open { AnswersOpen S.Store conn.old conn.new result }
+    ensures judges { Judges S.Store conn.new result (Stands (desk S.Store conn.old) rule.now.band rule.now.scope) ⊥ }
+    ensures fault { IfErr result (λ fault. fault ≢ StoreFault.Conflict) }
 {
     if !stands(conn, rule.band, rule.scope)? {
         return Err(StoreFault::Missing);
     }
-    if !conn.is_autocommit() {
-        return Err(StoreFault::Sql);
-    }
+    outside(conn)?;
     match write_rule(conn, rule) {
         Ok(()) => Ok(()),
         Err(_) => Err(StoreFault::Sql),
@@ -241,12 +232,13 @@ pub(crate) fn drop_rule<S: Alter>(
     ensures kept { HoldsDesk (state S.Store conn.new) }
     ensures changes { Changes S.Store conn.old conn.new
         (without_rule (record { band = band; scope = scope; rank = rank }) (desk S.Store conn.old)) result }
-    ensures judges { IsOpen S.Store conn.new → Judges (Stands (desk S.Store conn.old) band scope) ⊥ result }
-    ensures open { AnswersOpen S.Store conn.old conn.new result }
+    ensures judges { Judges S.Store conn.new result (Stands (desk S.Store conn.old) band scope) ⊥ }
+    ensures fault { IfErr result (λ fault. fault ≢ StoreFault.Conflict) }
 {
     if !stands(conn, band, scope)? {
         return Err(StoreFault::Missing);
     }
+    outside(conn)?;
     match delete_rule(conn, band, scope, rank) {
         Ok(_) => Ok(()),
         Err(_) => Err(StoreFault::Sql),
@@ -254,19 +246,16 @@ pub(crate) fn drop_rule<S: Alter>(
 }
 
 /// The takedowns of an accession and the rules of a deed.
-fn rules_of_both<S: Alter>(
+pub(crate) fn rules_of_both<S: Alter>(
     alloc: Global,
     conn: &mut Connection<S>,
     acc: u32,
     deed: u32,
 ) -> Result<Vec<Rule>, StoreFault>
     requires holds { HoldsDesk (state S.Store conn.old) }
-    ensures answer { IsOpen S.Store conn.new → IfOk result (λ rules.
+    ensures asks { Asks S.Store conn.old conn.new result StoreFault.Sql (λ rules.
         rules.items ≡ rules_at (desk S.Store conn.old) Band.Takedown acc ++ rules_at (desk S.Store conn.old) Band.Deed deed) }
-    ensures stays { Stays S.Store conn.old conn.new }
-    ensures stands { StaysOpen S.Store conn.old conn.new result }
     ensures kept { HoldsDesk (state S.Store conn.new) }
-    ensures fault { IfErr result (λ fault. fault ≡ StoreFault.Sql) }
 {
     let mut rules = rules_of(alloc, conn, Band::Takedown, acc)?;
     let mut more = rules_of(alloc, conn, Band::Deed, deed)?;
@@ -283,12 +272,9 @@ pub(crate) fn rules_for<S: Alter>(
     acc: u32,
 ) -> Result<Vec<Rule>, StoreFault>
     requires holds { HoldsDesk (state S.Store conn.old) }
-    ensures answer { IsOpen S.Store conn.new → IfOk result (λ rules.
+    ensures asks { Asks S.Store conn.old conn.new result StoreFault.Sql (λ rules.
         rules.items ≡ rules_for_accession (desk S.Store conn.old) acc) }
-    ensures stays { Stays S.Store conn.old conn.new }
-    ensures stands { StaysOpen S.Store conn.old conn.new result }
     ensures kept { HoldsDesk (state S.Store conn.new) }
-    ensures fault { IfErr result (λ fault. fault ≡ StoreFault.Sql) }
 {
     match images::heading_at(conn, acc)? {
         Some(heading) => rules_of_both(alloc, conn, acc, heading.deed),

@@ -1,19 +1,21 @@
-ghost use Rattle.std.specs.Prelude.{◌≡◌, ◌≢◌, ⊤, true, false, IfOk, IfErr, IsSome, MatchBool};
+ghost use Rattle.std.specs.Prelude.{◌≡◌, ◌≢◌, ◌++◌, ⊤, false, IfOk, IfErr, IsSome};
 ghost use Rattle.std.specs.FinMap.{get, keys};
 ghost use Rattle.sqlite.specs.Held.{Held, state};
 ghost use Rattle.sqlite_trees.specs.declared.memory.MemStore.{MemStore};
+ghost use Rattle.rd_policy.specs.Days.{IsDay};
 ghost use Rattle.rd_policy.specs.Rules.{IsRule};
-ghost use Rattle.rd_store.specs.Created.{IsUntouched, LeavesOldOrNew, new_desk};
+ghost use Rattle.rd_policy.specs.Verdicts.{AreInOrder};
+ghost use Rattle.rd_store.specs.Created.{IsCreated, IsNotCreated};
 ghost use Rattle.sqlite.specs.Steps.{over_memory};
-ghost use Rattle.rd_store.specs.Held.{AnswersOpen, Changes, HoldsDesk, IsClean, IsOpen, Judges, Keeps, LeavesOnly, StaysOpen, desk};
-ghost use Rattle.rd_tables.specs.Schemas.{IsBlank, has_desk, has_desk_columns};
-ghost use Rattle.rd_store.specs.Opened.{IsConsistent, Refuses};
+ghost use Rattle.rd_store.specs.Held.{Changes, HoldsDesk, IsClean, IsOpen, Judges, Reads, Rests, desk};
+ghost use Rattle.rd_store.specs.Opened.{IsNotOpened, IsOpened};
 ghost use Rattle.rd_store.specs.Lawful.{IsDeed, IsImage, IsKey};
-ghost use Rattle.rd_store.specs.State.{HasOtherImage, IsLastStaff, Stands, place_of, rules_for, terms_of, with_deed, with_image, with_key, with_rule, without_key, without_rule};
+ghost use Rattle.rd_store.specs.State.{HasOtherImage, IsLastStaff, Stands, place_of, rules_at, rules_for, terms_of, with_check, with_deed, with_image, with_key, with_rule, without_key, without_rule};
 
 use crate::faults::{CreateFault, OpenFault, Refused, StoreFault};
-use crate::rows::{DeedRow, ImageRow};
-use crate::{create, deeds, images, judging, keys, rules};
+use crate::outside::outside;
+use crate::rows::{DeedRow, ImageRow, Outcome};
+use crate::{checks, create, deeds, images, judging, keys, rules};
 use rd_geometry::Kind;
 use rd_policy::{Audience, Band, Rule};
 use rd_tables::{has_desk as has_desk_table, is_blank};
@@ -22,6 +24,7 @@ use std::alloc::Global;
 use std::marker::Model;
 
 /// The tables of a desk over a connection: deeds, images, rules, desk keys and checks.
+#[derive(Drop)]
 pub struct Store<S: Alter> {
     conn: Connection<S>,
 }
@@ -39,12 +42,6 @@ impl<S: Alter> Model for Store<S> {
     ghost invariant = { λ store. HoldsDesk (state S.Store store.conn) };
 }
 
-impl<S: Alter + Drop> Drop for Store<S> {
-    fn drop(self) {
-        let Store { conn: _ } = self;
-    }
-}
-
 impl<S: Alter> Store<S> {
     /// Makes a desk with one staff key, given by its SHA-256, in a database without tables. The connection
     /// is outside a transaction.
@@ -56,16 +53,8 @@ impl<S: Alter> Store<S> {
         staff: &[u8; 32],
     ) -> Result<Store<S>, Refused<CreateFault, S>>
         requires outside { conn.in_transaction ≡ false }
-        ensures desk { IfOk result (λ store. IsOpen S.Store store → desk S.Store store ≡ new_desk staff.now) }
-        ensures blank { IfOk result (λ store. IsBlank conn.schema) }
-        ensures exists { IfErr result (λ refused. MatchBool (has_desk conn.schema)
-            (refused.fault ≡ CreateFault.Exists) (refused.fault ≡ CreateFault.Sql)) }
-        ensures untouched { IfErr result (λ refused. IsOpen S.Store refused.conn → IsUntouched S.Store conn refused.conn) }
-        ensures crash_ok { IfOk result (λ store. LeavesOldOrNew S.Store conn store (new_desk staff.now)) }
-        ensures crash_err { IfErr result (λ refused. LeavesOldOrNew S.Store conn refused.conn (new_desk staff.now)) }
-        ensures durable { IfOk result (λ store. IsOpen S.Store store → LeavesOnly S.Store store (new_desk staff.now)) }
-        ensures stands { IfOk result (λ store. IsOpen S.Store conn → IsClean S.Store store → IsOpen S.Store store) }
-        ensures refuses { IfErr result (λ refused. refused.fault ≢ CreateFault.Sql → IsOpen S.Store conn → IsOpen S.Store refused.conn) }
+        ensures created { IfOk result (λ store. IsCreated S.Store conn store staff.now) }
+        ensures refused { IfErr result (λ refused. IsNotCreated S.Store conn refused.conn staff.now refused.fault) }
     {
         if has_desk_table(conn.schema()) {
             return Err(Refused {
@@ -93,20 +82,12 @@ impl<S: Alter> Store<S> {
     /// It fails with `NotADesk` where no table `desk` with the columns of one stands; then with `Version`
     /// where that table comes first and does not have its one row, or the row says another version; then
     /// with `Inconsistent` where the rows are not those of a desk; and with `Sql`, also where another table
-    /// stands, or one is declared otherwise.
+    /// stands, where one is declared otherwise, and where the columns of a table `desk` are not told, since
+    /// SQL keeps it as it is for something on it that is not understood, as a trigger.
     pub fn open(alloc: Global, mut conn: Connection<S>) -> Result<Store<S>, Refused<OpenFault, S>>
         requires outside { conn.in_transaction ≡ false }
-        ensures desk { IfOk result (λ store. IsOpen S.Store store → IsConsistent (state S.Store conn).now.trees × (desk S.Store store ≡ desk S.Store conn)) }
-        ensures refused { IfErr result (λ refused. IsOpen S.Store refused.conn → Refuses refused.fault (state S.Store conn).now) }
-        ensures named { IfOk result (λ store. has_desk_columns conn.schema ≡ true) }
-        ensures no_desk { IfErr result (λ refused. MatchBool (has_desk_columns conn.schema)
-            (refused.fault ≢ OpenFault.NotADesk) (refused.fault ≡ OpenFault.NotADesk)) }
-        ensures untouched_ok { IfOk result (λ store. IsOpen S.Store store → IsUntouched S.Store conn store) }
-        ensures untouched_err { IfErr result (λ refused. IsOpen S.Store refused.conn → IsUntouched S.Store conn refused.conn) }
-        ensures durable { IfOk result (λ store. IsOpen S.Store store → LeavesOnly S.Store store (desk S.Store conn)) }
-        ensures stands { IfOk result (λ store. IsOpen S.Store conn → IsClean S.Store store → IsOpen S.Store store) }
-        ensures refuses { IfErr result (λ refused. refused.fault ≢ OpenFault.Sql →
-            IsOpen S.Store conn → IsClean S.Store refused.conn → IsOpen S.Store refused.conn) }
+        ensures opened { IfOk result (λ store. IsOpened S.Store conn store) }
+        ensures refused { IfErr result (λ refused. IsNotOpened S.Store conn refused.conn refused.fault) }
     {
         let _outside = conn.is_autocommit();
         match judging::judge(alloc, &mut conn) {
@@ -124,15 +105,20 @@ impl<S: Alter> Store<S> {
         conn
     }
 
+    /// Does nothing, and tells what holds between two calls: while the connection is open, its tables are
+    /// those of a desk, the desk is a lawful one, and a crash leaves that desk and nothing else.
+    pub fn rests(&self)
+        ensures { Rests S.Store self.now }
+    {
+        let _ = &self.conn;
+    }
+
     /// The deed with a number, 1 to 999,999; `None` where there is none.
     ///
     /// It fails with `Sql`.
     pub fn deed(&mut self, num: u32) -> Result<Option<DeedRow>, StoreFault>
-        ensures answer { IsOpen S.Store self.new → IfOk result (λ found.
+        ensures reads { Reads S.Store self.old self.new result (λ found.
             found ≡ get (desk S.Store self.old).deeds num) }
-        ensures keeps { Keeps S.Store self.old self.new }
-        ensures stands { StaysOpen S.Store self.old self.new result }
-        ensures fault { IfErr result (λ fault. fault ≡ StoreFault.Sql) }
     {
         deeds::deed(&mut self.conn, num)
     }
@@ -141,11 +127,8 @@ impl<S: Alter> Store<S> {
     ///
     /// It fails with `Sql`.
     pub fn image(&mut self, alloc: Global, acc: u32) -> Result<Option<ImageRow>, StoreFault>
-        ensures answer { IsOpen S.Store self.new → IfOk result (λ found.
+        ensures reads { Reads S.Store self.old self.new result (λ found.
             found ≡ get (desk S.Store self.old).images acc) }
-        ensures keeps { Keeps S.Store self.old self.new }
-        ensures stands { StaysOpen S.Store self.old self.new result }
-        ensures fault { IfErr result (λ fault. fault ≡ StoreFault.Sql) }
     {
         images::image(alloc, &mut self.conn, acc)
     }
@@ -154,11 +137,8 @@ impl<S: Alter> Store<S> {
     ///
     /// It fails with `Sql`.
     pub fn accessions(&mut self, alloc: Global) -> Result<Vec<u32>, StoreFault>
-        ensures answer { IsOpen S.Store self.new → IfOk result (λ numbers.
+        ensures reads { Reads S.Store self.old self.new result (λ numbers.
             numbers.items ≡ keys (desk S.Store self.old).images) }
-        ensures keeps { Keeps S.Store self.old self.new }
-        ensures stands { StaysOpen S.Store self.old self.new result }
-        ensures fault { IfErr result (λ fault. fault ≡ StoreFault.Sql) }
     {
         images::accessions(alloc, &mut self.conn)
     }
@@ -167,11 +147,8 @@ impl<S: Alter> Store<S> {
     ///
     /// It fails with `Sql`.
     pub fn audience_of(&mut self, digest: &[u8; 32]) -> Result<Option<Audience>, StoreFault>
-        ensures answer { IsOpen S.Store self.new → IfOk result (λ found.
+        ensures reads { Reads S.Store self.old self.new result (λ found.
             found ≡ get (desk S.Store self.old).keys digest.now) }
-        ensures keeps { Keeps S.Store self.old self.new }
-        ensures stands { StaysOpen S.Store self.old self.new result }
-        ensures fault { IfErr result (λ fault. fault ≡ StoreFault.Sql) }
     {
         keys::audience_of(&mut self.conn, digest)
     }
@@ -187,6 +164,7 @@ impl<S: Alter> Store<S> {
             (with_deed num (record { donor = donor.now; signed = signed }) (desk S.Store self.old)) result }
         ensures fault { IfErr result (λ fault. fault ≡ StoreFault.Sql) }
     {
+        outside(&self.conn)?;
         match deeds::insert_deed(&mut self.conn, num, donor, signed) {
             Ok(_) => Ok(()),
             Err(_) => Err(StoreFault::Sql),
@@ -210,9 +188,8 @@ impl<S: Alter> Store<S> {
         requires image { IsImage acc (record { kind = kind; deed = deed; digest = digest.now; bytes = bytes.now }) }
         ensures changes { Changes S.Store self.old self.new
             (with_image acc (record { kind = kind; deed = deed; digest = digest.now; bytes = bytes.now }) (desk S.Store self.old)) result }
-        ensures judges { IsOpen S.Store self.new → Judges (IsSome (get (desk S.Store self.old).deeds deed))
-            (HasOtherImage (desk S.Store self.old) acc (record { kind = kind; deed = deed; digest = digest.now; bytes = bytes.now })) result }
-        ensures open { AnswersOpen S.Store self.old self.new result }
+        ensures judges { Judges S.Store self.new result (IsSome (get (desk S.Store self.old).deeds deed))
+            (HasOtherImage (desk S.Store self.old) acc (record { kind = kind; deed = deed; digest = digest.now; bytes = bytes.now })) }
     {
         images::put_image(&mut self.conn, acc, kind, deed, digest, bytes)
     }
@@ -225,8 +202,8 @@ impl<S: Alter> Store<S> {
         requires rule { IsRule rule.now }
         ensures changes { Changes S.Store self.old self.new
             (with_rule (place_of rule.now) (terms_of rule.now) (desk S.Store self.old)) result }
-        ensures judges { IsOpen S.Store self.new → Judges (Stands (desk S.Store self.old) rule.now.band rule.now.scope) ⊥ result }
-        ensures open { AnswersOpen S.Store self.old self.new result }
+        ensures judges { Judges S.Store self.new result (Stands (desk S.Store self.old) rule.now.band rule.now.scope) ⊥ }
+        ensures fault { IfErr result (λ fault. fault ≢ StoreFault.Conflict) }
     {
         rules::put_rule(&mut self.conn, rule)
     }
@@ -238,8 +215,8 @@ impl<S: Alter> Store<S> {
     pub fn drop_rule(&mut self, band: Band, scope: u32, rank: u16) -> Result<(), StoreFault>
         ensures changes { Changes S.Store self.old self.new
             (without_rule (record { band = band; scope = scope; rank = rank }) (desk S.Store self.old)) result }
-        ensures judges { IsOpen S.Store self.new → Judges (Stands (desk S.Store self.old) band scope) ⊥ result }
-        ensures open { AnswersOpen S.Store self.old self.new result }
+        ensures judges { Judges S.Store self.new result (Stands (desk S.Store self.old) band scope) ⊥ }
+        ensures fault { IfErr result (λ fault. fault ≢ StoreFault.Conflict) }
     {
         rules::drop_rule(&mut self.conn, band, scope, rank)
     }
@@ -250,9 +227,9 @@ impl<S: Alter> Store<S> {
     pub fn put_key(&mut self, digest: &[u8; 32], audience: Audience) -> Result<(), StoreFault>
         requires key { IsKey digest.now audience }
         ensures changes { Changes S.Store self.old self.new (with_key digest.now audience (desk S.Store self.old)) result }
-        ensures judges { IsOpen S.Store self.new → Judges ⊤
-            ((audience ≢ Audience.Staff) × IsLastStaff (desk S.Store self.old) digest.now) result }
-        ensures open { AnswersOpen S.Store self.old self.new result }
+        ensures judges { Judges S.Store self.new result ⊤
+            ((audience ≢ Audience.Staff) × IsLastStaff (desk S.Store self.old) digest.now) }
+        ensures fault { IfErr result (λ fault. fault ≢ StoreFault.Missing) }
     {
         keys::put_key(&mut self.conn, digest, audience)
     }
@@ -262,10 +239,23 @@ impl<S: Alter> Store<S> {
     /// It fails with `Conflict` where it is the last staff key, and with `Sql`.
     pub fn drop_key(&mut self, digest: &[u8; 32]) -> Result<(), StoreFault>
         ensures changes { Changes S.Store self.old self.new (without_key digest.now (desk S.Store self.old)) result }
-        ensures judges { IsOpen S.Store self.new → Judges ⊤ (IsLastStaff (desk S.Store self.old) digest.now) result }
-        ensures open { AnswersOpen S.Store self.old self.new result }
+        ensures judges { Judges S.Store self.new result ⊤ (IsLastStaff (desk S.Store self.old) digest.now) }
+        ensures fault { IfErr result (λ fault. fault ≢ StoreFault.Missing) }
     {
         keys::drop_key(&mut self.conn, digest)
+    }
+
+    /// Puts what a check of an accession, 1 to 999,999, found on a day of the years 1 to 9999 (`is_day`),
+    /// counted from 1970-01-01, in place of what one found on that day.
+    ///
+    /// It fails with `Missing` where there is no such accession, and with `Sql`.
+    pub fn put_check(&mut self, acc: u32, day: i32, outcome: Outcome) -> Result<(), StoreFault>
+        requires day { IsDay day }
+        ensures changes { Changes S.Store self.old self.new (with_check acc day outcome (desk S.Store self.old)) result }
+        ensures judges { Judges S.Store self.new result (IsSome (get (desk S.Store self.old).images acc)) ⊥ }
+        ensures fault { IfErr result (λ fault. fault ≢ StoreFault.Conflict) }
+    {
+        checks::put_check(&mut self.conn, acc, day, outcome)
     }
 
     /// The rules that decide on the files of an accession, 1 to 999,999: its takedowns by rank, and then the
@@ -273,13 +263,29 @@ impl<S: Alter> Store<S> {
     ///
     /// It fails with `Sql`.
     pub fn rules_for(&mut self, alloc: Global, acc: u32) -> Result<Vec<Rule>, StoreFault>
-        ensures answer { IsOpen S.Store self.new → IfOk result (λ rules.
+        ensures reads { Reads S.Store self.old self.new result (λ rules.
             rules.items ≡ rules_for (desk S.Store self.old) acc) }
-        ensures keeps { Keeps S.Store self.old self.new }
-        ensures stands { StaysOpen S.Store self.old self.new result }
-        ensures fault { IfErr result (λ fault. fault ≡ StoreFault.Sql) }
+        ensures order { IsOpen S.Store self.new → IfOk result (λ rules. AreInOrder rules.items) }
     {
         rules::rules_for(alloc, &mut self.conn, acc)
+    }
+
+    /// The rules that decide on the files of an accession whose deed is known, both numbers 1 to 999,999:
+    /// its takedowns by rank, and then the rules of the deed by rank. Whether the accession is there, and of
+    /// that deed, is not looked up.
+    ///
+    /// It fails with `Sql`.
+    pub fn rules_under(
+        &mut self,
+        alloc: Global,
+        acc: u32,
+        deed: u32,
+    ) -> Result<Vec<Rule>, StoreFault>
+        ensures reads { Reads S.Store self.old self.new result (λ rules.
+            rules.items ≡ rules_at (desk S.Store self.old) Band.Takedown acc ++ rules_at (desk S.Store self.old) Band.Deed deed) }
+        ensures order { IsOpen S.Store self.new → IfOk result (λ rules. AreInOrder rules.items) }
+    {
+        rules::rules_of_both(alloc, &mut self.conn, acc, deed)
     }
 }
 

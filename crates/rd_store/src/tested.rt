@@ -1,4 +1,5 @@
 ghost use Rattle.std.specs.Prelude.{◌≡◌, ◌↔◌, All, Any, MatchBool};
+ghost use Rattle.std.specs.List.Sorted.{IsNonDecreasing};
 ghost use Rattle.sqlite.specs.Order.{column};
 ghost use Rattle.rd_store.specs.Cells.{HasParts, IsCheckRow, IsDeedRow, IsImageRow, IsKeyRow, IsRuleRow, IsSelectAt, IsStaffRow, is_band, is_size_of};
 
@@ -22,8 +23,9 @@ fn has_size(row: &Row) -> bool
         || has_number(row, 1, 1, 1) && has_number(row, 4, 174_848, 174_848)
 }
 
-/// Whether a row shows an image of one of these deeds.
+/// Whether a row shows an image of one of these deeds, which ascend.
 pub(crate) fn is_image(row: &Row, deeds: &[u32]) -> bool
+    requires { IsNonDecreasing deeds.now }
     ensures { MatchBool result (IsImageRow deeds.now row.now) (¬ IsImageRow deeds.now row.now) }
 {
     has_number(row, 0, 1, 999_999)
@@ -35,6 +37,8 @@ pub(crate) fn is_image(row: &Row, deeds: &[u32]) -> bool
 
 /// Whether a row shows a rule for one of these accessions or deeds, and an effect that it may have.
 fn has_band(row: &Row, accessions: &[u32], deeds: &[u32]) -> bool
+    requires accessions { IsNonDecreasing accessions.now }
+    requires deeds { IsNonDecreasing deeds.now }
     ensures { result ≡ is_band accessions.now deeds.now (column row.now 1) (column row.now 2) (column row.now 10) }
 {
     has_number(row, 1, 0, 0) && has_one_of(row, 2, accessions) && has_number(row, 10, 0, 1)
@@ -64,6 +68,8 @@ fn has_select(row: &Row) -> bool
 
 /// Whether a row shows a rule for one of these accessions or deeds.
 pub(crate) fn is_rule(row: &Row, accessions: &[u32], deeds: &[u32]) -> bool
+    requires accessions { IsNonDecreasing accessions.now }
+    requires deeds { IsNonDecreasing deeds.now }
     ensures { MatchBool result (IsRuleRow accessions.now deeds.now row.now) (¬ IsRuleRow accessions.now deeds.now row.now) }
 {
     has_band(row, accessions, deeds)
@@ -84,6 +90,7 @@ pub(crate) fn is_key(row: &Row) -> bool
 
 /// Whether a row shows what a check found of one of these accessions.
 pub(crate) fn is_check(row: &Row, accessions: &[u32]) -> bool
+    requires { IsNonDecreasing accessions.now }
     ensures { MatchBool result (IsCheckRow accessions.now row.now) (¬ IsCheckRow accessions.now row.now) }
 {
     has_one_of(row, 1, accessions) && has_day(row, 2) && has_number(row, 3, 0, 1)
@@ -105,6 +112,7 @@ pub(crate) fn are_deeds(rows: &[Row]) -> bool
 
 /// Whether each row shows an image of one of these deeds.
 pub(crate) fn are_images(rows: &[Row], deeds: &[u32]) -> bool
+    requires { IsNonDecreasing deeds.now }
     ensures { MatchBool result (All (IsImageRow deeds.now) rows.now) (¬ All (IsImageRow deeds.now) rows.now) }
 {
     rows.iter().all(|row| is_image(row, deeds))
@@ -112,6 +120,8 @@ pub(crate) fn are_images(rows: &[Row], deeds: &[u32]) -> bool
 
 /// Whether each row shows a rule.
 pub(crate) fn are_rules(rows: &[Row], accessions: &[u32], deeds: &[u32]) -> bool
+    requires accessions { IsNonDecreasing accessions.now }
+    requires deeds { IsNonDecreasing deeds.now }
     ensures { MatchBool result (All (IsRuleRow accessions.now deeds.now) rows.now) (¬ All (IsRuleRow accessions.now deeds.now) rows.now) }
 {
     rows.iter().all(|row| is_rule(row, accessions, deeds))
@@ -126,6 +136,7 @@ pub(crate) fn are_keys(rows: &[Row]) -> bool
 
 /// Whether each row shows a check.
 pub(crate) fn are_checks(rows: &[Row], accessions: &[u32]) -> bool
+    requires { IsNonDecreasing accessions.now }
     ensures { MatchBool result (All (IsCheckRow accessions.now) rows.now) (¬ All (IsCheckRow accessions.now) rows.now) }
 {
     rows.iter().all(|row| is_check(row, accessions))

@@ -1,3 +1,4 @@
+mod checks;
 mod creating;
 mod files;
 mod images;
@@ -10,7 +11,7 @@ mod steps;
 
 ghost use Rattle.std.specs.Prelude.{◌≡◌, false, IfOk};
 
-use crate::{OpenFault, Refused, Store, StoreFault, is_donor};
+use crate::{OpenFault, Outcome, Refused, Store, StoreFault, is_donor};
 use rd_geometry::NoMemory;
 use rd_policy::{Audience, Audiences, Rule, is_day, is_scope};
 use sqlite::{Alter, Connection, Error, MemStore};
@@ -114,6 +115,17 @@ fn put_deed<S: Alter>(
 fn put_rule<S: Alter>(rt: &impl Abort, desk: &mut Store<S>, rule: &Rule) -> Result<(), StoreFault> {
     assert!(rt; rule.fits());
     desk.put_rule(rule)
+}
+
+fn put_check<S: Alter>(
+    rt: &impl Abort,
+    desk: &mut Store<S>,
+    acc: u32,
+    day: i32,
+    outcome: Outcome,
+) -> Result<(), StoreFault> {
+    assert!(rt; is_day(day));
+    desk.put_check(acc, day, outcome)
 }
 
 /// The image with one program, under deed 7.

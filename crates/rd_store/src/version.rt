@@ -1,10 +1,10 @@
-ghost use Rattle.std.specs.Prelude.{◌≡◌, [], ◌∷◌, IfOk, IfErr, MatchBool, map, pos};
+ghost use Rattle.std.specs.Prelude.{◌≡◌, [], ◌∷◌, MatchBool, map, pos};
 ghost use Rattle.sqlite.specs.Held.{state};
 ghost use Rattle.sqlite.specs.Order.{column};
 ghost use Rattle.sqlite.specs.declared.types.Value.TheVariants.{Int};
 ghost use Rattle.rd_tables.specs.Asked.{IsPicked};
 ghost use Rattle.rd_tables.specs.Queries.{version_query};
-ghost use Rattle.rd_store.specs.Held.{IsOpen, Stays, StaysOpen};
+ghost use Rattle.rd_store.specs.Held.{Asks};
 ghost use Rattle.rd_store.specs.Opened.{StartsWithDesk};
 ghost use Rattle.rd_store.specs.Spelled.{HasVersion};
 
@@ -15,11 +15,8 @@ use sqlite::{Alter, Connection, Row};
 /// The rows of the table `desk`, whatever other tables stand.
 fn version_rows<S: Alter>(conn: &mut Connection<S>) -> Result<Vec<Row>, OpenFault>
     requires first { StartsWithDesk (state S.Store conn.old) }
-    ensures rows { IsOpen S.Store conn.new → IfOk result (λ rows.
+    ensures asks { Asks S.Store conn.old conn.new result OpenFault.Sql (λ rows.
         IsPicked version_query [] ((state S.Store conn.old).now.trees 0) rows.items) }
-    ensures stays { Stays S.Store conn.old conn.new }
-    ensures stands { StaysOpen S.Store conn.old conn.new result }
-    ensures fault { IfErr result (λ fault. fault ≡ OpenFault.Sql) }
 {
     match conn.query_all("SELECT version FROM desk", &[]) {
         Ok(rows) => Ok(rows),
@@ -41,11 +38,8 @@ fn is_version(rows: &[Row]) -> bool
 /// Whether the table `desk` has its one row, which says version 0.
 pub(crate) fn has_version<S: Alter>(conn: &mut Connection<S>) -> Result<bool, OpenFault>
     requires first { StartsWithDesk (state S.Store conn.old) }
-    ensures answer { IsOpen S.Store conn.new → IfOk result (λ said.
+    ensures asks { Asks S.Store conn.old conn.new result OpenFault.Sql (λ said.
         MatchBool said (HasVersion 0 ((state S.Store conn.old).now.trees 0)) (¬ HasVersion 0 ((state S.Store conn.old).now.trees 0))) }
-    ensures stays { Stays S.Store conn.old conn.new }
-    ensures stands { StaysOpen S.Store conn.old conn.new result }
-    ensures fault { IfErr result (λ fault. fault ≡ OpenFault.Sql) }
 {
     let rows = version_rows(conn)?;
     Ok(is_version(&rows))

@@ -37,6 +37,14 @@ pub shown_was_open : (text : List ℕ) (params : Row) (old new : State) (rows : 
 unfolding Shown
 shown_was_open text params old new rows h = rows_were_open old new text h.0 _ rows h.0.returning h.2
 
+rows_are_open : (old new : State) (text : List ℕ) (c : Compiled) (params : Row) (rows : List Row) (returning : Option Returning) → ShowsRows old new text c params rows returning → IsTrue new.is_open
+rows_are_open old new text c params rows None h = h.3.0.is_open
+rows_are_open old new text c params rows (Some what) h = h.1.shown.is_open
+
+pub shown_is_open : (text : List ℕ) (params : Row) (old new : State) (rows : List Row) → Shown text params old new rows → IsTrue new.is_open
+unfolding Shown
+shown_is_open text params old new rows h = rows_are_open old new text h.0 _ rows h.0.returning h.2
+
 rows_unchanged : (old new : State) (text : List ℕ) (c : Compiled) (params : Row) (rows : List Row) (returning : Option Returning) → returning ≡ None → ShowsRows old new text c params rows returning → IsUnchanged old new
 rows_unchanged old new text c params rows None none h = h.3
 rows_unchanged old new text c params rows (Some what) none h = absurd cc

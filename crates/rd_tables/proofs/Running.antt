@@ -1,5 +1,5 @@
 -- What a statement that writes does to a connection.
-use Rattle.std.proofs.Common.{◌≡◌, ◌⊎◌, inl, inr, ℕ, List, append-nil, false, Option, None, Result, Ok, Err, sym, ap, subst, subst₂, ◌∙◌, IsTrue}
+use Rattle.std.proofs.Common.{◌≡◌, ◌⊎◌, inl, inr, ℕ, List, append-nil, false, true≢false, Option, None, Result, Ok, Err, sym, ap, subst, subst₂, ◌∙◌, IsTrue}
 use Rattle.std.proofs.lemmas.Bool.{cases_Bool}
 use Rattle.sqlite.specs.Order.{Row}
 use Rattle.sqlite.specs.Tree.{Trees}
@@ -30,35 +30,43 @@ write_fails text params old new e (inr h) = elim (cases_Bool (shows_rows false h
   | inr runs ↦ elim (rw runs at h.2) [ inl refused ↦ inl refused.1 | inr failed ↦ inr failed.3 ]
 ]
 
--- a connection that is open after a command was open before
-ran_open : (old new : State) (returning : Option Returning) (command : Command) (text : List ℕ) (params : Row) (count : ℕ) → Runs old new returning command text params count → IsTrue new.is_open → IsTrue old.is_open
-ran_open old new r (Select q names) text params count h is_open = absurd h
-ran_open old new r (Insert at from) text params count h is_open = h.shown.was_open
-ran_open old new r (InsertOr at how from clauses) text params count h is_open = h.shown.was_open
-ran_open old new r (Update at q) text params count h is_open = h.shown.was_open
-ran_open old new r (Delete at q) text params count h is_open = h.shown.was_open
-ran_open old new r CreateTable text params count h is_open = h.shown.was_open
-ran_open old new r (CreateIndex at) text params count h is_open = h.shown.was_open
-ran_open old new r (DropTable at) text params count h is_open = h.shown.was_open
-ran_open old new r (DropIndex at) text params count h is_open = h.shown.was_open
-ran_open old new r Begin text params count h is_open = h.1.was_open
-ran_open old new r Commit text params count h is_open = h.1.was_open
-ran_open old new r Rollback text params count h is_open = h.1.was_open is_open
-ran_open old new r (Savepoint name) text params count h is_open = h.0.0.was_open
-ran_open old new r (Release name) text params count h is_open = elim h.2 [ inl commits ↦ commits.1.0.was_open | inr drops ↦ drops.1.0.was_open ]
-ran_open old new r (RollbackTo name) text params count h is_open = h.2.2.was_open
-ran_open old new r (Rows values width names) text params count h is_open = h.0.0.was_open
-ran_open old new r Nothing text params count h is_open = h.0.0.was_open
-ran_open old new r CreateView text params count h is_open = h.shown.was_open
-ran_open old new r (DropView at) text params count h is_open = h.shown.was_open
+-- A connection was open before a command that ran, if so it was before one that rolled back.
+ran_open : (old new : State) (returning : Option Returning) (command : Command) (text : List ℕ) (params : Row) (count : ℕ) → (IsTrue old.in_transaction → IsRolledBack old new → IsTrue old.is_open) → Runs old new returning command text params count → IsTrue old.is_open
+ran_open old new r (Select q names) text params count back h = absurd h
+ran_open old new r (Insert at from) text params count back h = h.shown.was_open
+ran_open old new r (InsertOr at how from clauses) text params count back h = h.shown.was_open
+ran_open old new r (Update at q) text params count back h = h.shown.was_open
+ran_open old new r (Delete at q) text params count back h = h.shown.was_open
+ran_open old new r CreateTable text params count back h = h.shown.was_open
+ran_open old new r (CreateIndex at) text params count back h = h.shown.was_open
+ran_open old new r (DropTable at) text params count back h = h.shown.was_open
+ran_open old new r (DropIndex at) text params count back h = h.shown.was_open
+ran_open old new r Begin text params count back h = h.1.was_open
+ran_open old new r Commit text params count back h = h.1.was_open
+ran_open old new r Rollback text params count back h = back h.0 h.1
+ran_open old new r (Savepoint name) text params count back h = h.0.0.was_open
+ran_open old new r (Release name) text params count back h = elim h.2 [ inl commits ↦ commits.1.0.was_open | inr drops ↦ drops.1.0.was_open ]
+ran_open old new r (RollbackTo name) text params count back h = h.2.2.was_open
+ran_open old new r (Rows values width names) text params count back h = h.0.0.was_open
+ran_open old new r Nothing text params count back h = h.0.0.was_open
+ran_open old new r CreateView text params count back h = h.shown.was_open
+ran_open old new r (DropView at) text params count back h = h.shown.was_open
 
 pub was_open : (text : List ℕ) (params : Row) (old new : State) (r : Result ℕ Error) → Executes text params old new r → IsTrue new.is_open → IsTrue old.is_open
 unfolding ExecutesIn
 was_open text params old new (Ok count) h is_open = elim (cases_Bool (shows_rows false h.0)) [
   | inl shows ↦ absurd (let e = (rw shows at h.2).0 in cc)
-  | inr runs ↦ ran_open old new h.0.returning h.0.command _ _ count (rw runs at h.2) is_open
+  | inr runs ↦ ran_open old new h.0.returning h.0.command _ _ count (λ inside back. back.was_open is_open) (rw runs at h.2)
 ]
 was_open text params old new (Err e) h is_open = elim (write_fails text params old new e h) [ inl same ↦ same.0.was_open | inr back ↦ back.was_open is_open ]
+
+-- what is done outside a transaction, is done to an open connection
+pub done_was_open : (text : List ℕ) (params : Row) (old new : State) (count : ℕ) → old.in_transaction ≡ false → Executes text params old new (Ok count) → IsTrue old.is_open
+unfolding ExecutesIn
+done_was_open text params old new count outside h = elim (cases_Bool (shows_rows false h.0)) [
+  | inl shows ↦ absurd (let e = (rw shows at h.2).0 in cc)
+  | inr runs ↦ ran_open old new h.0.returning h.0.command _ _ count (λ inside back. absurd (true≢false (sym inside ∙ outside))) (rw runs at h.2)
+]
 
 -- nothing was committed
 keeps_commit : (old new : State) → IsUnchanged old new ⊎ IsRolledBack old new → KeepsCommit old new

@@ -20,8 +20,8 @@ use Rattle.sqlite_schema.specs.Rules.{agree}
 use Rattle.sqlite_value.specs.Keys.{plain, first_key}
 use Rattle.sqlite_rules.specs.Keys.{AreConflicts}
 use Rattle.rd_tables.specs.Sheets.{HaveRowids}
-use Rattle.rd_tables.specs.Schemas.{desk_schema, desk_table, deed_table, image_table, rule_table, badge_table}
-use Rattle.rd_tables.specs.Statements.{put_version, put_deed, put_image, put_rule, drop_rule, by_place, put_key, drop_key, by_digest}
+use Rattle.rd_tables.specs.Schemas.{desk_schema, desk_table, deed_table, image_table, rule_table, badge_table, checked_table}
+use Rattle.rd_tables.specs.Statements.{put_version, put_deed, put_image, put_rule, drop_rule, by_place, put_key, drop_key, by_digest, put_check, drop_check, by_checkup}
 use Rattle.rd_tables.proofs.Lists.{and_true, or_false}
 use Rattle.rd_tables.proofs.Values.{cast_int, cast_null, cast_or_null, equal_int}
 use Rattle.rd_tables.proofs.Removed.{Picks, removed_rows}
@@ -192,3 +192,39 @@ module _ (digest : List ℕ) where
         let is : with_rowid Chosen rows (cast_row (badge_table 5) (Null ∷ key_params)) ≡ key_row rows = rw (cast_null, cast_int (pos audience)) refl in
         let it = inserts task (λ olds. refl) (λ olds row. refl) refl terms 3 (Null ∷ key_params) db.trees done.0 refl done.1 (key_row rows) is in
         (it.0, sets_rows 5 db after done.0.trees (put_row (key_row rows) rows) it.1 end)
+
+-- ---- checks
+
+module _ (acc : ℕ) (day : ℤ) where
+  abbrev pub checkup_params : Row
+  checkup_params = Int (pos acc) ∷ Int day ∷ []
+
+  abbrev pub has_checkup : Row → Bool
+  has_checkup row = list_all (holds (checkup_params ∷ row ∷ [])) by_checkup
+
+  pub drops_check : (statement : List ℕ) (limit : Option ℕ) (db after : Database) (tally : Tally) → db.schema ≡ desk_schema → HaveRowids (db.trees 7) → Runs statement limit checkup_params drop_check db after tally → TakesOut 7 db after has_checkup
+  drops_check statement limit db after tally schema rowids h =
+      let task = task_on limit (checked_table 7) checkup_params in
+      let done = went (over_desk statement limit checkup_params drop_check db after tally schema h) in
+      let end = concluded task plain_mode done.0 (tally, after) done.2 in
+      let it = deletes 7 by_checkup checkup_params (λ trees. refl) task (λ olds. refl) refl refl db.trees done.0 done.1 in
+      let left = removed_rows has_checkup (db.trees 7) it.0 rowids it.1 in
+      sets_rows 7 db after done.0.trees _ (subst (λ rows. SetsRows desk_schema 7 db.trees done.0.trees rows) left it.2) end
+
+  module _ (outcome : ℕ) where
+    abbrev pub check_params : Row
+    check_params = Int (pos acc) ∷ Int day ∷ Int (pos outcome) ∷ []
+
+    abbrev pub check_row : List Row → Row
+    check_row rows = Int (next_rowid rows) ∷ check_params
+
+    pub puts_check : (statement : List ℕ) (limit : Option ℕ) (db after : Database) (tally : Tally) → db.schema ≡ desk_schema → Runs statement limit check_params put_check db after tally → PutsIn 7 db after check_row
+    puts_check statement limit db after tally schema h =
+        let task = task_on limit (checked_table 7) check_params in
+        let done = went (over_desk statement limit check_params put_check db after tally schema h) in
+        let end = concluded task plain_mode done.0 (tally, after) done.2 in
+        let rows = db.trees 7 in
+        let terms : List Term = lit Null ∷ col 0 0 ∷ col 0 1 ∷ col 0 2 ∷ [] in
+        let is : with_rowid Chosen rows (cast_row (checked_table 7) (Null ∷ check_params)) ≡ check_row rows = rw (cast_null, cast_int (pos acc), cast_int day, cast_int (pos outcome)) refl in
+        let it = inserts task (λ olds. refl) (λ olds row. refl) refl terms 4 (Null ∷ check_params) db.trees done.0 refl done.1 (check_row rows) is in
+        (it.0, sets_rows 7 db after done.0.trees (put_row (check_row rows) rows) it.1 end)

@@ -1,8 +1,8 @@
 -- How columns take values, and when a parameter equals a column.
-use Rattle.std.proofs.Common.{◌≡◌, ℕ, ℤ, pos, List, Bool, true, false, cond, Option, Some, None, refl, sym, ap, ◌∙◌, arith, nat_cmp, is_eq}
+use Rattle.std.proofs.Common.{◌≡◌, ℕ, ℤ, pos, List, Bool, true, false, cond, Option, Some, None, refl, sym, ap, ◌∙◌, arith, nat_cmp, int_cmp, is_eq}
 use Rattle.std.specs.Ordering.{eq_by_cmp}
 use Rattle.std.specs.Cmp.Lexicographic.{slice_cmp}
-use Rattle.std.proofs.lemmas.Cmp.{nat_list_cmp_total, eq_by_cmp_equiv}
+use Rattle.std.proofs.lemmas.Cmp.{int_cmp_total, nat_list_cmp_total, eq_by_cmp_equiv}
 use Rattle.std.proofs.lemmas.Bool.Decides.{nat_tests}
 use Rattle.sqlite.specs.declared.types.Value.{Value}
 use Rattle.sqlite.specs.declared.types.Value.TheVariants.{Null, Int, Real, Text, Blob}
@@ -45,6 +45,10 @@ truth_kept false = refl
 pub equal_numbers : (a b : ℕ) → is_true (binary (Compare Eq Binary) (Int (pos a)) (Int (pos b))) ≡ eq_by_cmp nat_cmp b a
 unfolding binary
 equal_numbers a b = truth_kept _ ∙ ap is_eq (value_cmp-Int (pos a) (pos b)) ∙ grind (arith, nat_tests)
+
+pub equal_integers : (a b : ℤ) → is_true (binary (Compare Eq Binary) (Int a) (Int b)) ≡ eq_by_cmp int_cmp b a
+unfolding binary
+equal_integers a b = truth_kept _ ∙ ap is_eq (value_cmp-Int a b) ∙ (eq_by_cmp_equiv int_cmp_total).symm a b
 
 pub equal_blobs : (a b : List ℕ) → is_true (binary (Compare Eq Binary) (Blob a) (Blob b)) ≡ eq_by_cmp (slice_cmp nat_cmp) b a
 unfolding binary

@@ -1,6 +1,6 @@
 -- The tables of the desk as SQL understands their declarations. A column's place is one more than its
 -- number, since the rowid stands first; a tree is where the rows of a table or of its index lie.
-use Rattle.std.specs.Prelude.{◌≡◌, ℕ, Bool, true, false, List, [], ◌∷◌, Option, Some, None, ◌&&◌, codes, pos}
+use Rattle.std.specs.Prelude.{◌≡◌, ℕ, Bool, true, false, List, [], ◌∷◌, Option, Some, None, ◌&&◌, ◌||◌, not, codes, option_map, pos, unwrap_or}
 use Rattle.std.specs.List.{list_any}
 use Rattle.sqlite.specs.Collation.TheVariants.{Binary}
 use Rattle.sqlite.specs.declared.types.Value.TheVariants.{Null, Int}
@@ -120,9 +120,17 @@ desk_schema = record {
 abbrev pub starts_with_desk : List Table → List Index → List View → Schema
 starts_with_desk more indexes views = record { tables = desk_table 0 ∷ more; indexes = indexes; views = views }
 
+-- a table `desk` that is kept as it is, since something on it is not understood, as a trigger
+abbrev pub is_foreign_desk : View → Bool
+is_foreign_desk view = unwrap_or (option_map (λ owner. same_name owner (codes "desk")) view.foreign) false && same_name view.name (codes "desk") && not view.binds
+
+-- such a table stands; its columns are not told
+abbrev pub has_foreign_desk : Schema → Bool
+has_foreign_desk schema = list_any is_foreign_desk schema.views
+
 -- a table `desk` stands, in small or capital letters
 abbrev pub has_desk : Schema → Bool
-has_desk schema = list_any (λ table. same_name table.name (codes "desk")) schema.tables
+has_desk schema = list_any (λ table. same_name table.name (codes "desk")) schema.tables || has_foreign_desk schema
 
 -- the columns of a `desk`, in small or capital letters
 abbrev pub are_desk_columns : List Column → Bool
@@ -132,6 +140,10 @@ are_desk_columns _ = false
 -- a table `desk` of exactly these columns stands
 abbrev pub has_desk_columns : Schema → Bool
 has_desk_columns schema = list_any (λ table. same_name table.name (codes "desk") && are_desk_columns table.columns) schema.tables
+
+-- a table `desk` of these columns stands, or one whose columns are not told
+abbrev pub may_be_desk : Schema → Bool
+may_be_desk schema = has_desk_columns schema || has_foreign_desk schema
 
 -- Both have a first table, and it is the same.
 pub record SharesFirstTable (schema other : Schema) : Type 0 where

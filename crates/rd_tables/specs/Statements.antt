@@ -99,3 +99,18 @@ by_digest = equals 1 0 ∷ []
 
 abbrev pub drop_key : Command
 drop_key = Delete 4 (record { lets = []; body = rowids_of 5 by_digest })
+
+abbrev pub put_check_text : List ℕ
+put_check_text = codes "INSERT INTO checked (acc, day, outcome) VALUES (?1, ?2, ?3)"
+
+abbrev pub put_check : Command
+put_check = Insert 5 (Values (lit Null ∷ col 0 0 ∷ col 0 1 ∷ col 0 2 ∷ []) 4)
+
+abbrev pub drop_check_text : List ℕ
+drop_check_text = codes "DELETE FROM checked WHERE acc = ?1 AND day = ?2"
+
+abbrev pub by_checkup : List Term
+by_checkup = equals 1 0 ∷ equals 2 1 ∷ []
+
+abbrev pub drop_check : Command
+drop_check = Delete 5 (record { lets = []; body = rowids_of 7 by_checkup })

@@ -7,4 +7,4 @@ mod same;
 mod schema;
 
 pub use same::{same_first_table, same_schema};
-pub use schema::{has_desk, has_desk_columns, is_blank};
+pub use schema::{has_desk, has_desk_columns, has_foreign_desk, is_blank};

@@ -1,8 +1,30 @@
 ghost use Rattle.std.specs.Prelude.{◌≡◌, MatchBool};
-ghost use Rattle.rd_tables.specs.Schemas.{IsBlank, are_desk_columns, has_desk, has_desk_columns};
+ghost use Rattle.rd_tables.specs.Schemas.{IsBlank, are_desk_columns, has_desk, has_desk_columns, has_foreign_desk, is_foreign_desk};
 
 use sqlite_schema::names::same_name;
-use sqlite_schema::schema::{Column, Schema};
+use sqlite_schema::schema::{Column, Schema, View};
+
+/// Whether this is a table `desk` that is kept as it is, since something on it is not understood.
+fn is_foreign_desk(view: &View) -> bool
+    ensures { result ≡ is_foreign_desk view.now }
+{
+    match &view.foreign {
+        Some(owner) => {
+            same_name(owner.as_slice(), b"desk")
+                && same_name(view.name.as_slice(), b"desk")
+                && !view.binds
+        }
+        None => false,
+    }
+}
+
+/// Whether a table `desk` stands that is kept as it is, since something on it is not understood, as a
+/// trigger. Its columns are not told.
+pub fn has_foreign_desk(schema: &Schema) -> bool
+    ensures { result ≡ has_foreign_desk schema.now }
+{
+    schema.views.as_slice().iter().any(is_foreign_desk)
+}
 
 /// Whether a table `desk` stands, in small or capital letters.
 pub fn has_desk(schema: &Schema) -> bool
@@ -13,7 +35,7 @@ pub fn has_desk(schema: &Schema) -> bool
             return true;
         }
     }
-    false
+    has_foreign_desk(schema)
 }
 
 /// Whether the columns are `id` and `version`.

@@ -2,7 +2,7 @@
 
 use super::{STAFF, assert_filled, fill, into_connection, open_desk};
 use crate::{Refused, Store};
-use sqlite::{Connection, Error, File, FileStore};
+use sqlite::{Alter, Connection, Error, File, FileStore};
 use std::alloc::Global;
 use std::process::Abort;
 use std::test::Fail;
@@ -55,11 +55,19 @@ fn remove(rt: &HostRuntime, path: &str) -> Result<(), Fail> {
     Ok(())
 }
 
+/// The connection of a desk that is filled.
+fn filled<S: Alter + Drop>(
+    rt: &impl Abort,
+    alloc: Global,
+    mut desk: Store<S>,
+) -> Result<Connection<S>, Fail> {
+    fill(rt, alloc, &mut desk)?;
+    Ok(into_connection(desk))
+}
+
 /// Makes a filled desk in a file, and closes it.
 fn make(rt: &impl Abort, alloc: Global, conn: Connection<OnDisk>) -> Result<(), Fail> {
-    let mut desk = create(rt, conn)?;
-    fill(rt, alloc, &mut desk)?;
-    close(into_connection(desk))?;
+    close(filled(rt, alloc, create(rt, conn)?)?)?;
     Ok(())
 }
 
@@ -71,11 +79,19 @@ fn reopen(rt: &impl Abort, alloc: Global, conn: Connection<OnDisk>) -> Result<St
     }
 }
 
+/// The connection of a filled desk, whose reads answer what was put.
+fn read<S: Alter + Drop>(
+    rt: &impl Abort,
+    alloc: Global,
+    mut desk: Store<S>,
+) -> Result<Connection<S>, Fail> {
+    assert_filled(rt, alloc, &mut desk)?;
+    Ok(into_connection(desk))
+}
+
 /// Opens a filled desk in a file, asserts that its reads answer what was put, and closes it.
 fn read_back(rt: &impl Abort, alloc: Global, conn: Connection<OnDisk>) -> Result<(), Fail> {
-    let mut desk = reopen(rt, alloc, conn)?;
-    assert_filled(rt, alloc, &mut desk)?;
-    close(into_connection(desk))?;
+    close(read(rt, alloc, reopen(rt, alloc, conn)?)?)?;
     Ok(())
 }
 
@@ -100,5 +116,23 @@ fn opens_a_file_again(rt: HostRuntime) -> Result<(), Fail> {
     let path = fresh_path(&rt)?;
     make(&rt, rt.alloc(), connect(&rt, path.as_str())?)?;
     read_back(&rt, rt.alloc(), connect(&rt, path.as_str())?)?;
+    remove(&rt, path.as_str())
+}
+
+/// Makes a desk in a file, and closes it.
+fn make_new(rt: &impl Abort, conn: Connection<OnDisk>) -> Result<(), Fail> {
+    let desk = create(rt, conn)?;
+    close(into_connection(desk))?;
+    Ok(())
+}
+
+/// The file is the one that DESK_FILE names, where it is set.
+#[test]
+fn makes_a_desk_in_a_file(rt: HostRuntime) -> Result<(), Fail> {
+    if let Ok(path) = env::var(&rt, "DESK_FILE") {
+        return make_new(&rt, connect(&rt, path.as_str())?);
+    }
+    let path = fresh_path(&rt)?;
+    make_new(&rt, connect(&rt, path.as_str())?)?;
     remove(&rt, path.as_str())
 }

@@ -38,13 +38,14 @@ fn opens(
     rt: &impl Abort,
     alloc: Global,
     mut conn: Connection<MemStore>,
+    label: &str,
 ) -> Result<Option<OpenFault>, Fail> {
     let before = number(&mut conn, ROWS)?;
     let (answer, mut conn) = match open_desk(rt, alloc, conn) {
         Ok(desk) => (None, into_connection(desk)),
         Err((fault, conn)) => (Some(fault), conn),
     };
-    assert_eq!(rt; number(&mut conn, ROWS)?, before);
+    assert_eq!(rt; number(&mut conn, ROWS)?, before, "{label}");
     Ok(answer)
 }
 
@@ -64,7 +65,7 @@ fn changed(
 fn after(rt: &impl Abort, alloc: Global, sql: &str) -> Result<Option<OpenFault>, Fail> {
     let mut conn = filled_connection(rt, alloc)?;
     assert_ne!(rt; run(&mut conn, sql)?, 0, "{sql}");
-    opens(rt, alloc, conn)
+    opens(rt, alloc, conn, sql)
 }
 
 /// The same, where the statement is given as many zeros as a BLOB.
@@ -79,6 +80,7 @@ fn after_blob(
         rt,
         alloc,
         changed(rt, alloc, sql, ValueRef::Blob(zeros.as_slice()))?,
+        sql,
     )
 }
 
@@ -94,6 +96,7 @@ fn after_text(
         rt,
         alloc,
         changed(rt, alloc, sql, ValueRef::Text(letters.as_slice()))?,
+        sql,
     )
 }
 
@@ -329,6 +332,7 @@ fn an_image_with_another_byte_opens(rt: HostRuntime) -> Result<(), Fail> {
     };
     let row = image(alloc, &mut desk, 12)?.ok_or("an image")?;
     assert!(rt; is_given(&row, PROGRAM, bytes.as_slice()));
+    assert!(rt; bytes.as_slice() != one_program(alloc)?.as_slice());
     Ok(())
 }
 
@@ -338,7 +342,7 @@ fn an_image_without_its_last_byte(rt: HostRuntime) -> Result<(), Fail> {
     let mut bytes = one_program(alloc)?;
     bytes.truncate(174_847);
     let conn = changed(&rt, alloc, IMAGE_BYTES, ValueRef::Blob(bytes.as_slice()))?;
-    assert_eq!(rt; opens(&rt, alloc, conn)?, INCONSISTENT);
+    assert_eq!(rt; opens(&rt, alloc, conn, "a shorter image")?, INCONSISTENT);
     Ok(())
 }
 
@@ -392,6 +396,6 @@ fn the_tables_exclude_other_rows(rt: HostRuntime) -> Result<(), Fail> {
     assert_excluded(&rt, &mut conn, EXCLUDED);
     assert_excluded(&rt, &mut conn, RULES_EXCLUDED);
     assert_eq!(rt; number(&mut conn, ROWS)?, 2_212);
-    assert_eq!(rt; opens(&rt, rt.alloc(), conn)?, None);
+    assert_eq!(rt; opens(&rt, rt.alloc(), conn, "all excluded")?, None);
     Ok(())
 }

@@ -30,13 +30,14 @@ fn answer(
     rt: &impl Abort,
     alloc: Global,
     mut conn: Connection<MemStore>,
+    label: &str,
 ) -> Result<Option<OpenFault>, Fail> {
     let before = number(&mut conn, TABLES)?;
     let (answer, mut conn) = match open_desk(rt, alloc, conn) {
         Ok(desk) => (None, into_connection(desk)),
         Err((fault, conn)) => (Some(fault), conn),
     };
-    assert_eq!(rt; number(&mut conn, TABLES)?, before);
+    assert_eq!(rt; number(&mut conn, TABLES)?, before, "{label}");
     Ok(answer)
 }
 
@@ -152,7 +153,12 @@ const PARTS: &[Made] = &[
 fn assert_made(rt: &impl Abort, alloc: Global, cases: &[Made]) -> Result<(), Fail> {
     for (texts, fault) in cases {
         let conn = made(alloc, *texts)?;
-        assert_eq!(rt; answer(rt, alloc, conn)?, Some(*fault), "{texts:?}");
+        let label = format!(in alloc; "{texts:?}")?;
+        assert_eq!(rt;
+            answer(rt, alloc, conn, label.as_str())?,
+            Some(*fault),
+            "{label}"
+        );
     }
     Ok(())
 }
@@ -215,7 +221,12 @@ fn assert_changed(
 ) -> Result<(), Fail> {
     for texts in cases {
         let conn = changed(rt, alloc, *texts)?;
-        assert_eq!(rt; answer(rt, alloc, conn)?, Some(fault), "{texts:?}");
+        let label = format!(in alloc; "{texts:?}")?;
+        assert_eq!(rt;
+            answer(rt, alloc, conn, label.as_str())?,
+            Some(fault),
+            "{label}"
+        );
     }
     Ok(())
 }
@@ -292,7 +303,7 @@ fn assert_declared(rt: &impl Abort, alloc: Global, cases: &[Declared]) -> Result
     for (part, other, version, wanted) in cases {
         let conn = declared(alloc, *part, *other, *version)?;
         assert_eq!(rt;
-            answer(rt, alloc, conn)?,
+            answer(rt, alloc, conn, *other)?,
             *wanted,
             "{part}: {other}, {version}"
         );

@@ -2,11 +2,11 @@
 //! answers `Sql` has changed nothing. It is made again, and must then answer as ever.
 
 use super::steps::{Call, DONE, Digest, Named, Question, Step, answer, assert_steps, tells_so};
-use super::{Desk, PROGRAM, STAFF, into_connection, new_connection, open_desk};
-use crate::{OpenFault, Refused, Store, StoreFault};
+use super::{Desk, PROGRAM, STAFF, into_connection, new_connection, number, open_desk, put_check};
+use crate::{OpenFault, Outcome, Refused, Store, StoreFault};
 use rd_geometry::NoMemory;
 use rd_policy::Audience;
-use sqlite::{Connection, MemStore};
+use sqlite::{Connection, Error, MemStore};
 use std::alloc::Global;
 use std::process::Abort;
 use std::test::Fail;
@@ -164,4 +164,43 @@ fn opening_when_memory_is_refused(rt: HostRuntime) -> Result<(), Fail> {
     assert_again(&rt, alloc, &mut desk, PUT_SMALL)?;
     let mut desk = open_again(&rt, alloc, into_connection(desk))?;
     assert_again(&rt, alloc, &mut desk, SMALL)
+}
+
+/// What was found of image 12 on day 18,021, by its number in the tables.
+fn outcome_again(conn: &mut Connection<MemStore>) -> Result<i64, Error> {
+    let sql = "SELECT outcome FROM checked WHERE acc = 12 AND day = 18021";
+    match number(conn, sql) {
+        Ok(code) => Ok(code),
+        Err(_) => number(conn, sql),
+    }
+}
+
+/// Asserts that the first outcome of the check still stands, and puts the second one.
+fn check_again(rt: &impl Abort, alloc: Global, desk: Desk) -> Result<Desk, Fail> {
+    let mut conn = into_connection(desk);
+    assert_eq!(rt; outcome_again(&mut conn)?, 0);
+    let mut desk = open_again(rt, alloc, conn)?;
+    put_check(rt, &mut desk, 12, 18_021, Outcome::Changed)?;
+    Ok(desk)
+}
+
+/// Puts an image and what a check of it found.
+const CHECKED: &[Step<'static>] = &[
+    PUT_IMAGE,
+    Step::Does(Call::PutCheck(12, 18_021, Outcome::Sound), DONE),
+];
+
+#[test]
+fn checks_when_memory_is_refused(rt: HostRuntime) -> Result<(), Fail> {
+    let alloc = rt.alloc();
+    let mut desk = desk_again(&rt, alloc)?;
+    assert_again(&rt, alloc, &mut desk, CHECKED)?;
+    let second = put_check(&rt, &mut desk, 12, 18_021, Outcome::Changed);
+    if second.is_err() {
+        assert_eq!(rt; second, Err(StoreFault::Sql));
+        desk = check_again(&rt, alloc, desk)?;
+    }
+    let mut conn = into_connection(desk);
+    assert_eq!(rt; outcome_again(&mut conn)?, 1);
+    Ok(())
 }

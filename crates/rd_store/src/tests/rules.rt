@@ -21,6 +21,22 @@ const ORDERS: &[Case] = &[
         ],
     },
     Case {
+        label: "the deed is given",
+        start: Start::Filled,
+        steps: &[
+            Step::Does(Call::PutRule(Named::Takedown, 12), DONE),
+            Step::Tells(Question::RulesUnder(
+                12,
+                7,
+                &[(Named::Takedown, 12), (Named::Closed, 7), (Named::Open, 7)],
+            )),
+            Step::Tells(Question::RulesUnder(12, 8, &[(Named::Takedown, 12)])),
+            Step::Tells(Question::RulesUnder(99, 7, &[(Named::Closed, 7), (Named::Open, 7)])),
+            Step::Tells(Question::RulesUnder(1, 999_999, &[])),
+            Step::Tells(Question::RulesUnder(999_999, 1, &[])),
+        ],
+    },
+    Case {
         label: "a rule is replaced",
         start: Start::Filled,
         steps: &[

@@ -2,9 +2,9 @@
 
 use super::{
     ALL, DIGEST, Desk, NOT_STAFF, OTHER_DIGEST, ROOM, ROOM_ALONE, STAFF, filled, new_desk,
-    put_deed, put_rule,
+    put_check, put_deed, put_rule,
 };
-use crate::{DeedRow, ImageRow, Store, StoreFault};
+use crate::{DeedRow, ImageRow, Outcome, Store, StoreFault};
 use rd_geometry::{Kind, NoMemory, Text};
 use rd_policy::{Audience, Band, Effect, Rule, Select, is_scope};
 use rd_rows::cbm::{looped, one_program};
@@ -79,6 +79,7 @@ pub(super) enum Call<'a> {
     PutRoomKey(Digest),
     PutStaffKey(Digest),
     DropKey(Digest),
+    PutCheck(u32, i32, Outcome),
 }
 
 /// A question, with its argument and then what it has to tell.
@@ -89,6 +90,8 @@ pub(super) enum Question<'a> {
     Accessions(&'a [u32]),
     AudienceOf(Digest, Option<Audience>),
     RulesFor(u32, &'a [Ruled]),
+    /// Of an accession and a deed.
+    RulesUnder(u32, u32, &'a [Ruled]),
 }
 
 /// A call with its answer, or a question with what it has to tell.
@@ -284,6 +287,7 @@ pub(super) fn answer<S: Alter>(
         Call::PutRoomKey(digest) => put_room_key(desk, digest_of(digest)),
         Call::PutStaffKey(digest) => put_staff_key(desk, digest_of(digest)),
         Call::DropKey(digest) => drop_key(desk, digest_of(digest)),
+        Call::PutCheck(acc, day, outcome) => put_check(rt, desk, acc, day, outcome),
     })
 }
 
@@ -381,13 +385,21 @@ fn rules_for<S: Alter>(
     desk.rules_for(alloc, acc)
 }
 
-fn has_rules<S: Alter>(
+fn rules_under<S: Alter>(
     alloc: Global,
     desk: &mut Store<S>,
     acc: u32,
+    deed: u32,
+) -> Result<Vec<Rule>, StoreFault> {
+    desk.rules_under(alloc, acc, deed)
+}
+
+fn has_rules(
+    alloc: Global,
+    found: Result<Vec<Rule>, StoreFault>,
     wanted: &[Ruled],
 ) -> Result<Result<bool, StoreFault>, NoMemory> {
-    match rules_for(alloc, desk, acc) {
+    match found {
         Ok(found) => Ok(Ok(are_rules(alloc, found.as_slice(), wanted)?)),
         Err(fault) => Ok(Err(fault)),
     }
@@ -404,7 +416,10 @@ pub(super) fn tells_so<S: Alter>(
         Question::Image(acc, wanted) => has_image(alloc, desk, acc, wanted)?,
         Question::Accessions(wanted) => has_accessions(alloc, desk, wanted),
         Question::AudienceOf(digest, wanted) => has_audience(desk, digest, wanted),
-        Question::RulesFor(acc, wanted) => has_rules(alloc, desk, acc, wanted)?,
+        Question::RulesFor(acc, wanted) => has_rules(alloc, rules_for(alloc, desk, acc), wanted)?,
+        Question::RulesUnder(acc, deed, wanted) => {
+            has_rules(alloc, rules_under(alloc, desk, acc, deed), wanted)?
+        }
     })
 }
 

@@ -27,6 +27,6 @@ returns g c =
     rw (c.params-to_sql.ensures, c.params-to_sql-2.ensures, c.params-to_sql-3.ensures, is) at c.execute.ensures.runs in
     let survives : Survives (state g.S.Store old) (state g.S.Store new) (CommitsBy put_deed_text params (state g.S.Store old)) =
     rw (c.params-to_sql.ensures, c.params-to_sql-2.ensures, c.params-to_sql-3.ensures, is) at c.execute.ensures.survives in
-    let all = single g.S.Store laws put_deed_text put_deed put_deed_writes params (with_deed num deed (desk g.S.Store old)) old new c.requires.holds (λ was. makes_deed num deed (desk g.S.Store old)) (λ was. lawful_deed num deed (desk g.S.Store old) c.requires.deed)
+    let all = single g.S.Store laws put_deed_text put_deed put_deed_writes params (with_deed num deed (desk g.S.Store old)) old new c.requires.mode c.requires.holds (λ was. makes_deed num deed (desk g.S.Store old)) (λ was. lawful_deed num deed (desk g.S.Store old) c.requires.deed)
     c.execute.result runs survives in
     record { kept = all.0; changes = all.1 }

@@ -13,15 +13,20 @@ read_all-requires-clause-tables g c = holds_tables (state g.S.Store c.args.conn.
 pub read_all-requires-clause-plain : goal.read_all-requires-clause-plain
 read_all-requires-clause-plain g c = accessions_asks.plain
 
-pub returns-clause-rows : goal.returns-clause-rows
-returns-clause-rows g c is_open =
-    let old = state g.S.Store c.args.conn.now in
-    let new = state g.S.Store c.read_all.new.conn in
-    let params = [] in
-    let shown = c.read_all.ensures.rows is_open in
-    IfOk-weaker c.read_all.result _ _ (λ rows h.
-    let at = c.requires.holds (shown_was_open _ params old new rows.items h) in
-    accessions_found _ rows.items at.holds.of.rows.images (shown_picks accessions_asks params old new at.tables.schema rows.items h)) shown
+pub returns-clause-asks : goal.returns-clause-asks
+returns-clause-asks g c = record {
+  stays = c.read_all.ensures.asks.stays;
+  ends_open = c.read_all.ensures.asks.ends_open;
+  fault = c.read_all.ensures.asks.fault;
+  answer = λ is_open.
+      let old = state g.S.Store c.args.conn.now in
+      let new = state g.S.Store c.read_all.new.conn in
+      let params = [] in
+      let shown = c.read_all.ensures.asks.answer is_open in
+      IfOk-weaker c.read_all.result _ _ (λ rows h.
+      let at = c.requires.holds (shown_was_open _ params old new rows.items h) in
+      accessions_found _ rows.items at.holds.of.rows.images (shown_picks accessions_asks params old new at.tables.schema rows.items h)) shown;
+}
 
 pub returns-clause-kept : goal.returns-clause-kept
-returns-clause-kept g c = stays_desk g.S.Store c.args.conn.now c.read_all.new.conn c.read_all.ensures.stays c.requires.holds
+returns-clause-kept g c = stays_desk g.S.Store c.args.conn.now c.read_all.new.conn c.read_all.ensures.asks.stays c.requires.holds

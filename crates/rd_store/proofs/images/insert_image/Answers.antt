@@ -25,6 +25,6 @@ returns g c =
     rw (c.params-to_sql.ensures, c.params-to_sql-2.ensures, c.params-to_sql-3.ensures, c.params-to_sql-4.ensures, c.params-to_sql-5.ensures, c.of_kind-code.ensures, c.as_slice-sum.ensures) at c.execute.ensures.runs in
     let survives : Survives (state g.S.Store old) (state g.S.Store new) (CommitsBy put_image_text params (state g.S.Store old)) =
     rw (c.params-to_sql.ensures, c.params-to_sql-2.ensures, c.params-to_sql-3.ensures, c.params-to_sql-4.ensures, c.params-to_sql-5.ensures, c.of_kind-code.ensures, c.as_slice-sum.ensures) at c.execute.ensures.survives in
-    let all = single g.S.Store laws put_image_text put_image put_image_writes params (with_image acc image (desk g.S.Store old)) old new c.requires.holds (λ was. makes_image acc image (desk g.S.Store old) (c.requires.free was))
+    let all = single g.S.Store laws put_image_text put_image put_image_writes params (with_image acc image (desk g.S.Store old)) old new c.requires.mode c.requires.holds (λ was. makes_image acc image (desk g.S.Store old) (c.requires.free was))
     (λ was. lawful_image acc image (desk g.S.Store old) c.requires.image (c.requires.deed was)) c.execute.result runs survives in
     record { kept = all.0; changes = all.1 }

@@ -25,8 +25,8 @@ returns-in_err-heading-clause-changes g c =
     let image : ImageRow = record { kind = c.args.kind; deed = c.args.deed; digest = c.args.digest.now; bytes = c.args.bytes.now } in
     let old = c.args.conn.now in
     let new = c.heading_at.new.conn in
-    let stays : Stays g.S.Store old new = stays_then g.S.Store old c.deed.new.conn new c.deed.ensures.stays c.in_ok-deed.ensures.stands c.heading_at.ensures.stays in
-    stays_changes g.S.Store laws old new c.requires.holds stays (with_image c.args.acc image (desk g.S.Store old)) c.from_residual-in_err-heading.result (λ o. on_err _ _ c.from_residual-in_err-heading.ensures.0) (λ was clean. on_err _ _ c.from_residual-in_err-heading.ensures.0)
+    let stays : Stays g.S.Store old new = stays_then g.S.Store old c.deed.new.conn new c.deed.ensures.asks.stays c.in_ok-deed.ensures.asks.ends_open c.heading_at.ensures.asks.stays in
+    stays_changes g.S.Store old new stays laws c.requires.holds (with_image c.args.acc image (desk g.S.Store old)) c.from_residual-in_err-heading.result (λ o. on_err _ _ c.from_residual-in_err-heading.ensures.0) (λ clean. on_err _ _ c.from_residual-in_err-heading.ensures.0)
 
 pub returns-then-eq-2-clause-changes : goal.returns-then-eq-2-clause-changes
 returns-then-eq-2-clause-changes g c =
@@ -37,9 +37,9 @@ returns-then-eq-2-clause-changes g c =
     let mid = c.deed.new.conn in
     let new = c.heading_at.new.conn in
     let heading = c.in-Some.heading in
-    let stays : Stays g.S.Store old new = stays_then g.S.Store old mid new c.deed.ensures.stays c.in_ok-deed.ensures.stands c.heading_at.ensures.stays in
-    let same : IsOpen g.S.Store mid → desk g.S.Store mid ≡ desk g.S.Store old = λ o. ap (λ (db : Database). desk_of db.trees) (c.deed.ensures.stays.now o) in
+    let stays : Stays g.S.Store old new = stays_then g.S.Store old mid new c.deed.ensures.asks.stays c.in_ok-deed.ensures.asks.ends_open c.heading_at.ensures.asks.stays in
+    let same : IsOpen g.S.Store mid → desk g.S.Store mid ≡ desk g.S.Store old = λ o. ap (λ (db : Database). desk_of db.trees) (c.deed.ensures.asks.stays.now o) in
     let found : IsOpen g.S.Store new → Some heading ≡ option_map heading_of (get (desk g.S.Store old).images acc) =
-    λ o. subst (λ (d : Desk). Some heading ≡ option_map heading_of (get d.images acc)) (same (c.heading_at.ensures.stays.was_open o)) (sym c.in-Some.is ∙ c.in_ok-heading.ensures.answer o) in
-    stays_changes g.S.Store laws old new c.requires.holds stays (with_image acc image (desk g.S.Store old)) (Ok tt) (λ o. kept_image (desk g.S.Store old) acc image (get (desk g.S.Store old).images acc) heading (found o))
-    (λ was clean. c.in_ok-heading.ensures.stands (c.in_ok-deed.ensures.stands was (c.heading_at.ensures.stays.clean clean)) clean)
+    λ o. subst (λ (d : Desk). Some heading ≡ option_map heading_of (get d.images acc)) (same (c.heading_at.ensures.asks.stays.lasts.was_open o)) (sym c.in-Some.is ∙ c.in_ok-heading.ensures.asks.answer o) in
+    stays_changes g.S.Store old new stays laws c.requires.holds (with_image acc image (desk g.S.Store old)) (Ok tt) (λ o. kept_image (desk g.S.Store old) acc image (get (desk g.S.Store old).images acc) heading (found o))
+    c.in_ok-heading.ensures.asks.ends_open

@@ -22,6 +22,6 @@ returns g c =
     rw (c.params-to_sql.ensures, c.as_slice-sum.ensures) at c.execute.ensures.runs in
     let survives : Survives (state g.S.Store old) (state g.S.Store new) (CommitsBy drop_key_text params (state g.S.Store old)) =
     rw (c.params-to_sql.ensures, c.as_slice-sum.ensures) at c.execute.ensures.survives in
-    let all = single g.S.Store laws drop_key_text drop_key drop_key_writes params (without_key digest (desk g.S.Store old)) old new c.requires.holds (λ was. makes_no_key digest (desk g.S.Store old))
+    let all = single g.S.Store laws drop_key_text drop_key drop_key_writes params (without_key digest (desk g.S.Store old)) old new c.requires.mode c.requires.holds (λ was. makes_no_key digest (desk g.S.Store old))
     (λ was lawful. lawful_no_key digest (desk g.S.Store old) lawful (c.requires.other was)) c.execute.result runs survives in
     record { kept = all.0; changes = all.1 }

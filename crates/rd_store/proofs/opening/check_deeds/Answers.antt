@@ -1,4 +1,4 @@
-use Rattle.std.proofs.Common.{◌∙◌, All, map, ap, sym, subst}
+use Rattle.std.proofs.Common.{rules, ◌∙◌, All, map, ap, sym, subst}
 use Rattle.sqlite.specs.Order.{column}
 use Rattle.rd_tables.specs.Sheets.{map_of, natural}
 use Rattle.rd_store.specs.Cells.{IsDeedRow}
@@ -7,17 +7,35 @@ use Rattle.rd_store.specs.Spelled.{deed_sheet}
 use Rattle.rd_store.proofs.Verdicts.{deeds_told, deed_numbers}
 use Rattle.rd_store.proofs.opening.check_deeds.Goals as goal
 use Rattle.std.specs.Prelude.{true, false}
+use Rattle.std.specs.List.Sorted.{IsNonDecreasing}
+use Rattle.rd_store.proofs.Searching.{numbers_ascend}
 
-pub returns-then-not-are_deeds-clause-judges : goal.returns-then-not-are_deeds-clause-judges
-returns-then-not-are_deeds-clause-judges g c is_open =
-    deeds_told _ _ (c.in_ok-rows.ensures.rows is_open) false (subst (λ rows. ¬ All IsDeedRow rows) c.deref.ensures.value c.if-not-are_deeds.ensures)
+pub returns-then-not-are_deeds-clause-tests : goal.returns-then-not-are_deeds-clause-tests
+returns-then-not-are_deeds-clause-tests g c = record {
+  stays = c.read_listing.ensures.asks.stays;
+  ends_open = search rules;
+  refuses = search rules;
+  named = search rules;
+  judges = λ is_open.
+      deeds_told _ _ (c.in_ok-rows.ensures.asks.answer is_open) false (subst (λ rows. ¬ All IsDeedRow rows) c.deref.ensures.value c.if-not-are_deeds.ensures);
+}
 
-pub returns-in-Ok-clause-judges : goal.returns-in-Ok-clause-judges
-returns-in-Ok-clause-judges g c is_open =
-    deeds_told _ _ (c.in_ok-rows.ensures.rows is_open) true (subst (All IsDeedRow) c.deref.ensures.value c.if-not-are_deeds.ensures)
+pub returns-in-Ok-clause-tests : goal.returns-in-Ok-clause-tests
+returns-in-Ok-clause-tests g c = record {
+  stays = c.read_listing.ensures.asks.stays;
+  ends_open = search rules;
+  refuses = search rules;
+  named = search rules;
+  judges = λ is_open.
+      deeds_told _ _ (c.in_ok-rows.ensures.asks.answer is_open) true (subst (All IsDeedRow) c.deref.ensures.value c.if-not-are_deeds.ensures);
+}
 
 pub returns-in-Ok-clause-numbers : goal.returns-in-Ok-clause-numbers
 returns-in-Ok-clause-numbers g c is_open =
-    let listed = c.in_ok-rows.ensures.rows is_open in
+    let listed = c.in_ok-rows.ensures.asks.answer is_open in
     let lawful = deeds_told _ _ listed true (subst (All IsDeedRow) c.deref.ensures.value c.if-not-are_deeds.ensures) in
     subst (AreKeys (map_of deed_sheet _)) (sym (c.in-Ok.ensures.numbers ∙ ap (map (λ row. natural (column row 0))) c.deref-2.ensures.value)) (deed_numbers _ _ listed lawful)
+
+pub returns-in-Ok-clause-ascending : goal.returns-in-Ok-clause-ascending
+returns-in-Ok-clause-ascending g c =
+    subst IsNonDecreasing (sym (c.in-Ok.ensures.numbers ∙ ap (map (λ row. natural (column row 0))) c.deref-2.ensures.value)) (numbers_ascend _ c.in_ok-rows.ensures.rising)

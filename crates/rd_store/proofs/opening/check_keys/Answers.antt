@@ -1,4 +1,4 @@
-use Rattle.std.proofs.Common.{List, All, subst}
+use Rattle.std.proofs.Common.{rules, List, All, subst}
 use Rattle.std.specs.Prelude.{true, false}
 use Rattle.std.specs.List.{Any}
 use Rattle.sqlite.specs.Held.{state}
@@ -8,15 +8,27 @@ use Rattle.rd_store.specs.Cells.{IsKeyRow, IsStaffRow}
 use Rattle.rd_store.proofs.Verdicts.{staff_told}
 use Rattle.rd_store.proofs.opening.check_keys.Goals as goal
 
-pub returns-clause-judges : goal.returns-clause-judges
-returns-clause-judges g c is_open =
-    let was = c.read_listing.ensures.stays.was_open is_open in
-    staff_told (state g.S.Store c.args.conn.now).now (c.requires.tables was).schema (c.requires.sound was) _ (c.in_ok-rows.ensures.rows is_open) true (subst (λ (rows : List Row). All IsKeyRow rows × Any IsStaffRow rows) c.deref.ensures.value c.if-not-are_keys.ensures)
+pub returns-clause-tests : goal.returns-clause-tests
+returns-clause-tests g c = record {
+  stays = c.read_listing.ensures.asks.stays;
+  ends_open = search rules;
+  refuses = search rules;
+  named = search rules;
+  judges = λ is_open.
+      let was = c.read_listing.ensures.asks.stays.lasts.was_open is_open in
+      staff_told (state g.S.Store c.args.conn.now).now (c.requires.tables was).schema (c.requires.sound was) _ (c.in_ok-rows.ensures.asks.answer is_open) true (subst (λ (rows : List Row). All IsKeyRow rows × Any IsStaffRow rows) c.deref.ensures.value c.if-not-are_keys.ensures);
+}
 
 pub returns-clause-rowids : goal.returns-clause-rowids
-returns-clause-rowids g c is_open = have_rowids 5 _ _ _ _ (c.in_ok-rows.ensures.rows is_open)
+returns-clause-rowids g c is_open = have_rowids 5 _ _ _ _ (c.in_ok-rows.ensures.asks.answer is_open)
 
-pub returns-then-not-are_keys-clause-judges : goal.returns-then-not-are_keys-clause-judges
-returns-then-not-are_keys-clause-judges g c is_open =
-    let was = c.read_listing.ensures.stays.was_open is_open in
-    staff_told (state g.S.Store c.args.conn.now).now (c.requires.tables was).schema (c.requires.sound was) _ (c.in_ok-rows.ensures.rows is_open) false (subst (λ (rows : List Row). ¬ (All IsKeyRow rows × Any IsStaffRow rows)) c.deref.ensures.value c.if-not-are_keys.ensures)
+pub returns-then-not-are_keys-clause-tests : goal.returns-then-not-are_keys-clause-tests
+returns-then-not-are_keys-clause-tests g c = record {
+  stays = c.read_listing.ensures.asks.stays;
+  ends_open = search rules;
+  refuses = search rules;
+  named = search rules;
+  judges = λ is_open.
+      let was = c.read_listing.ensures.asks.stays.lasts.was_open is_open in
+      staff_told (state g.S.Store c.args.conn.now).now (c.requires.tables was).schema (c.requires.sound was) _ (c.in_ok-rows.ensures.asks.answer is_open) false (subst (λ (rows : List Row). ¬ (All IsKeyRow rows × Any IsStaffRow rows)) c.deref.ensures.value c.if-not-are_keys.ensures);
+}

@@ -1,4 +1,4 @@
-use Rattle.std.proofs.Common.{List, All, subst}
+use Rattle.std.proofs.Common.{rules, List, All, subst}
 use Rattle.std.specs.Prelude.{true, false}
 use Rattle.sqlite.specs.Held.{state}
 use Rattle.sqlite.specs.Order.{Row}
@@ -7,15 +7,27 @@ use Rattle.rd_store.specs.Cells.{IsRuleRow}
 use Rattle.rd_store.proofs.Verdicts.{rules_told}
 use Rattle.rd_store.proofs.opening.check_rules.Goals as goal
 
-pub returns-clause-judges : goal.returns-clause-judges
-returns-clause-judges g c is_open =
-    let was = c.read_listing.ensures.stays.was_open is_open in
-    rules_told (state g.S.Store c.args.conn.now).now (c.requires.tables was).schema (c.requires.sound was) _ c.args.accessions.now c.args.deeds.now (c.in_ok-rows.ensures.rows is_open) true (subst (λ (rows : List Row). All (IsRuleRow c.args.accessions.now c.args.deeds.now) rows) c.deref.ensures.value c.if-not-are_rules.ensures)
+pub returns-clause-tests : goal.returns-clause-tests
+returns-clause-tests g c = record {
+  stays = c.read_listing.ensures.asks.stays;
+  ends_open = search rules;
+  refuses = search rules;
+  named = search rules;
+  judges = λ is_open.
+      let was = c.read_listing.ensures.asks.stays.lasts.was_open is_open in
+      rules_told (state g.S.Store c.args.conn.now).now (c.requires.tables was).schema (c.requires.sound was) _ c.args.accessions.now c.args.deeds.now (c.in_ok-rows.ensures.asks.answer is_open) true (subst (λ (rows : List Row). All (IsRuleRow c.args.accessions.now c.args.deeds.now) rows) c.deref.ensures.value c.if-not-are_rules.ensures);
+}
 
 pub returns-clause-rowids : goal.returns-clause-rowids
-returns-clause-rowids g c is_open = have_rowids 3 _ _ _ _ (c.in_ok-rows.ensures.rows is_open)
+returns-clause-rowids g c is_open = have_rowids 3 _ _ _ _ (c.in_ok-rows.ensures.asks.answer is_open)
 
-pub returns-then-not-are_rules-clause-judges : goal.returns-then-not-are_rules-clause-judges
-returns-then-not-are_rules-clause-judges g c is_open =
-    let was = c.read_listing.ensures.stays.was_open is_open in
-    rules_told (state g.S.Store c.args.conn.now).now (c.requires.tables was).schema (c.requires.sound was) _ c.args.accessions.now c.args.deeds.now (c.in_ok-rows.ensures.rows is_open) false (subst (λ (rows : List Row). ¬ (All (IsRuleRow c.args.accessions.now c.args.deeds.now) rows)) c.deref.ensures.value c.if-not-are_rules.ensures)
+pub returns-then-not-are_rules-clause-tests : goal.returns-then-not-are_rules-clause-tests
+returns-then-not-are_rules-clause-tests g c = record {
+  stays = c.read_listing.ensures.asks.stays;
+  ends_open = search rules;
+  refuses = search rules;
+  named = search rules;
+  judges = λ is_open.
+      let was = c.read_listing.ensures.asks.stays.lasts.was_open is_open in
+      rules_told (state g.S.Store c.args.conn.now).now (c.requires.tables was).schema (c.requires.sound was) _ c.args.accessions.now c.args.deeds.now (c.in_ok-rows.ensures.asks.answer is_open) false (subst (λ (rows : List Row). ¬ (All (IsRuleRow c.args.accessions.now c.args.deeds.now) rows)) c.deref.ensures.value c.if-not-are_rules.ensures);
+}

@@ -1,4 +1,4 @@
-use Rattle.std.proofs.Common.{[], refl, sym, subst}
+use Rattle.std.proofs.Common.{rules, [], refl, sym, subst}
 use Rattle.sqlite.specs.Held.{state}
 use Rattle.sqlite.specs.Listing.{understood}
 use Rattle.sqlite.specs.State.{Shown}
@@ -13,12 +13,20 @@ use Rattle.rd_store.proofs.opening.read_listing.Goals as goal
 pub read_all-requires-clause-plain : goal.read_all-requires-clause-plain
 read_all-requires-clause-plain g c = subst (λ text. IsPlain (understood desk_schema text)) (sym c.listing_text.ensures) (listing_plain c.args.table)
 
-pub returns-in-Ok-clause-rows : goal.returns-in-Ok-clause-rows
-returns-in-Ok-clause-rows g c is_open =
-    let old = state g.S.Store c.args.conn.now in
-    let new = state g.S.Store c.read_all.new.conn in
-    let shown = subst (λ text. Shown text [] old new c.in-Ok.rows.items) c.listing_text.ensures (c.in-Ok.ensures.rows is_open) in
-    record {
-      picks = listing_picks c.args.table old new (c.requires.tables (shown_was_open (listing_text c.args.table) [] old new c.in-Ok.rows.items shown)).schema c.in-Ok.rows.items shown;
-      rising = subst AreRising c.deref.ensures.value (c.if-are_rising.ensures refl);
-    }
+pub returns-in-Ok-clause-asks : goal.returns-in-Ok-clause-asks
+returns-in-Ok-clause-asks g c = record {
+  stays = c.read_all.ensures.asks.stays;
+  ends_open = search rules;
+  fault = tt;
+  answer = λ is_open.
+      let old = state g.S.Store c.args.conn.now in
+      let new = state g.S.Store c.read_all.new.conn in
+      let shown = subst (λ text. Shown text [] old new c.in-Ok.rows.items) c.listing_text.ensures (c.in-Ok.ensures.asks.answer is_open) in
+      record {
+        picks = listing_picks c.args.table old new (c.requires.tables (shown_was_open (listing_text c.args.table) [] old new c.in-Ok.rows.items shown)).schema c.in-Ok.rows.items shown;
+        rising = subst AreRising c.deref.ensures.value (c.if-are_rising.ensures refl);
+      };
+}
+
+pub returns-in-Ok-clause-rising : goal.returns-in-Ok-clause-rising
+returns-in-Ok-clause-rising g c = subst AreRising c.deref.ensures.value (c.if-are_rising.ensures refl)

@@ -23,6 +23,6 @@ returns g c =
     rw (c.params-to_sql.ensures, c.params-to_sql-2.ensures, c.params-to_sql-3.ensures, c.of_band-code.ensures, c.from-number.ensures) at c.execute.ensures.runs in
     let survives : Survives (state g.S.Store old) (state g.S.Store new) (CommitsBy drop_rule_text params (state g.S.Store old)) =
     rw (c.params-to_sql.ensures, c.params-to_sql-2.ensures, c.params-to_sql-3.ensures, c.of_band-code.ensures, c.from-number.ensures) at c.execute.ensures.survives in
-    let all = single g.S.Store laws drop_rule_text drop_rule drop_rule_writes params (without_rule place (desk g.S.Store old)) old new c.requires.holds (λ was. makes_no_rule place (desk g.S.Store old)) (λ was. lawful_no_rule place (desk g.S.Store old))
+    let all = single g.S.Store laws drop_rule_text drop_rule drop_rule_writes params (without_rule place (desk g.S.Store old)) old new c.requires.mode c.requires.holds (λ was. makes_no_rule place (desk g.S.Store old)) (λ was. lawful_no_rule place (desk g.S.Store old))
     c.execute.result runs survives in
     record { kept = all.0; changes = all.1 }

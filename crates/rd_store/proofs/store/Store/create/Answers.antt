@@ -1,4 +1,6 @@
-use Rattle.std.proofs.Common.{◌≡◌, length}
+use Rattle.std.proofs.Common.{◌≡◌, length, rules}
+use Rattle.rd_store.specs.Held.{HoldsDesk}
+use Rattle.sqlite.specs.Held.{state}
 use Rattle.rd_store.proofs.Laws.{Laws}
 use Rattle.rd_store.proofs.Creating.{rests_new, made_or_old, only_new}
 use Rattle.rd_store.proofs.store.Store.create.Goals as goal
@@ -9,20 +11,30 @@ invariant_of-result g c is_open =
     let long : length c.args.staff.now ≡ 32 = c.told-staff in
     rests_new g.S.Store laws c.args.conn c.write_desk.new.conn c.args.staff.now long (c.in-Ok.ensures.turns.ok is_open)
 
-pub returns-in-Ok-clause-crash_ok : goal.returns-in-Ok-clause-crash_ok
-returns-in-Ok-clause-crash_ok g c =
+pub returns-in-Ok-clause-created : goal.returns-in-Ok-clause-created
+returns-in-Ok-clause-created g c =
     let laws : Laws g.S.Store = record { settles = g.met.S.Store.settled; shuts = g.met.S.Store.shut_if_dirty } in
     let long : length c.args.staff.now ≡ 32 = c.told-staff in
-    made_or_old g.S.Store laws c.args.conn c.write_desk.new.conn c.args.staff.now long _ c.in-Ok.ensures.turns
+    let turns = c.in-Ok.ensures.turns in
+    let holds : HoldsDesk (state g.S.Store c.write_desk.new.conn) = λ o. rests_new g.S.Store laws c.args.conn c.write_desk.new.conn c.args.staff.now long (turns.ok o) in
+    record {
+      lasts = turns.lasts;
+      blank = search rules;
+      is = λ o. (turns.ok o).holds.is;
+      ends_open = turns.ends_open;
+      crash = made_or_old g.S.Store laws c.args.conn c.write_desk.new.conn c.args.staff.now long _ turns;
+      durable = only_new g.S.Store laws c.args.conn c.write_desk.new.conn c.args.staff.now long holds (λ o. (turns.ok o).holds.is);
+    }
 
-pub returns-in-Ok-clause-durable : goal.returns-in-Ok-clause-durable
-returns-in-Ok-clause-durable g c is_open =
+pub returns-in-Err-clause-refused : goal.returns-in-Err-clause-refused
+returns-in-Err-clause-refused g c =
     let laws : Laws g.S.Store = record { settles = g.met.S.Store.settled; shuts = g.met.S.Store.shut_if_dirty } in
     let long : length c.args.staff.now ≡ 32 = c.told-staff in
-    only_new g.S.Store laws c.args.conn c.write_desk.new.conn c.args.staff.now long (λ o. rests_new g.S.Store laws c.args.conn c.write_desk.new.conn c.args.staff.now long (c.in-Ok.ensures.turns.ok o)) (λ o. (c.in-Ok.ensures.turns.ok o).holds.is) is_open
-
-pub returns-in-Err-clause-crash_err : goal.returns-in-Err-clause-crash_err
-returns-in-Err-clause-crash_err g c =
-    let laws : Laws g.S.Store = record { settles = g.met.S.Store.settled; shuts = g.met.S.Store.shut_if_dirty } in
-    let long : length c.args.staff.now ≡ 32 = c.told-staff in
-    made_or_old g.S.Store laws c.args.conn c.write_desk.new.conn c.args.staff.now long _ c.in-Err.ensures.turns
+    let turns = c.in-Err.ensures.turns in
+    record {
+      lasts = turns.lasts;
+      exists = search rules;
+      same = search rules;
+      untouched = search rules;
+      crash = made_or_old g.S.Store laws c.args.conn c.write_desk.new.conn c.args.staff.now long _ turns;
+    }

@@ -1,13 +1,40 @@
-use Rattle.std.proofs.Common.{ap, subst}
+use Rattle.std.proofs.Common.{ap, subst, rules}
 use Rattle.sqlite.specs.Effect.{Database}
 use Rattle.rd_store.specs.Held.{LeavesOnly}
 use Rattle.rd_store.specs.Spelled.{desk_of}
 use Rattle.rd_store.proofs.Laws.{Laws, leaves_only, stays_desk}
 use Rattle.rd_store.proofs.store.Store.open.Goals as goal
 
-pub returns-in-Ok-clause-durable : goal.returns-in-Ok-clause-durable
-returns-in-Ok-clause-durable g c is_open =
+pub returns-in-Ok-clause-opened : goal.returns-in-Ok-clause-opened
+returns-in-Ok-clause-opened g c =
     let laws : Laws g.S.Store = record { settles = g.met.S.Store.settled; shuts = g.met.S.Store.shut_if_dirty } in
-    let stays = c.judge.ensures.stays in
-    let holds = stays_desk g.S.Store c.args.conn c.judge.new.conn stays (λ was. c.in-Ok.ensures.desk is_open) in
-    subst (LeavesOnly g.S.Store c.judge.new.conn) (ap (λ (db : Database). desk_of db.trees) (stays.now is_open)) (leaves_only g.S.Store laws c.judge.new.conn holds is_open)
+    let tests = c.in-Ok.ensures.tests in
+    let stays = tests.stays in
+    record {
+      lasts = stays.lasts;
+      named = c.in-Ok.ensures.named;
+      plain = c.in-Ok.ensures.plain;
+      tables = λ is_open. (tests.desk is_open).tables.schema;
+      consistent = search rules;
+      is = λ is_open. ap (λ (db : Database). desk_of db.trees) (stays.now is_open);
+      untouched = search rules;
+      ends_open = tests.ends_open;
+      crash = stays.quiet;
+      durable = λ is_open.
+          let holds = stays_desk g.S.Store c.args.conn c.judge.new.conn stays (λ was. tests.desk is_open) in
+          subst (LeavesOnly g.S.Store c.judge.new.conn) (ap (λ (db : Database). desk_of db.trees) (stays.now is_open)) (leaves_only g.S.Store laws c.judge.new.conn holds is_open);
+    }
+
+pub returns-in-Err-clause-refused : goal.returns-in-Err-clause-refused
+returns-in-Err-clause-refused g c =
+    let tests = c.in-Err.ensures.tests in
+    record {
+      lasts = tests.stays.lasts;
+      no_desk = c.in-Err.ensures.no_desk;
+      foreign = c.in-Err.ensures.foreign;
+      refused = tests.refused;
+      same = c.in-Err.ensures.same;
+      untouched = search rules;
+      ends_open = tests.refuses;
+      crash = tests.stays.quiet;
+    }

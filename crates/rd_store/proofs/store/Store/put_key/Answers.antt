@@ -1,10 +1,10 @@
 use Rattle.std.specs.Prelude.{⊤}
 use Rattle.std.proofs.Common.{◌≢◌, subst}
 use Rattle.rd_policy.specs.declared.audience.Audience.TheVariants.{Staff}
-use Rattle.rd_store.specs.Held.{IsOpen, Judges, desk}
+use Rattle.rd_store.specs.Held.{Judges, desk}
 use Rattle.rd_store.specs.State.{IsLastStaff}
 use Rattle.rd_store.proofs.store.Store.put_key.Goals as goal
 
 pub returns-clause-judges : goal.returns-clause-judges
 returns-clause-judges g c =
-    subst (λ o. IsOpen g.S.Store c.put_key.new.conn → Judges ⊤ ((c.args.audience ≢ Staff) × IsLastStaff (desk g.S.Store o) c.args.digest.now) c.put_key.result) c.self.view_is c.put_key.ensures.judges
+    subst (λ o. Judges g.S.Store c.put_key.new.conn c.put_key.result ⊤ ((c.args.audience ≢ Staff) × IsLastStaff (desk g.S.Store o) c.args.digest.now)) c.self.view_is c.put_key.ensures.judges

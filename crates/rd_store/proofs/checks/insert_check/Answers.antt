@@ -1,0 +1,27 @@
+use Rattle.std.proofs.Common.{IsTrue, w32}
+use Rattle.std.proofs.lemmas.Int.{to_z-of_z}
+use Rattle.sqlite.specs.State.{ExecutesInside}
+use Rattle.sqlite.specs.Held.{state}
+use Rattle.rd_tables.specs.Schemas.{desk_schema}
+use Rattle.rd_tables.specs.Statements.{put_check_text, put_check}
+use Rattle.rd_tables.proofs.Statements.{check_params}
+use Rattle.rd_tables.proofs.StatementTexts.{put_check_writes}
+use Rattle.rd_store.specs.Codes.{outcome_code}
+use Rattle.rd_store.specs.Held.{IsOf, IsClean}
+use Rattle.rd_store.specs.State.{with_check}
+use Rattle.rd_store.proofs.Inside.{moves}
+use Rattle.rd_store.proofs.Making.{makes_check, of_schema}
+use Rattle.rd_store.proofs.checks.insert_check.Goals as goal
+
+pub returns-clause-moves : goal.returns-clause-moves
+returns-clause-moves g c before free =
+    let acc = c.args.acc in
+    let day = c.args.day in
+    let outcome = c.args.outcome in
+    let params = check_params acc day (outcome_code outcome) in
+    let old = c.args.tx.now.conn.now in
+    let new = c.execute.new.self.conn.now in
+    let is = to_z-of_z w32 day c.ranges.day in
+    let runs : IsClean g.S.Store new → IsTrue old.in_transaction → ExecutesInside 0 put_check_text params (state g.S.Store old) (state g.S.Store new) c.execute.result =
+    rw (c.params-to_sql.ensures, c.params-to_sql-2.ensures, c.params-to_sql-3.ensures, is, c.of_outcome-code.ensures) at c.execute.ensures.runs in
+    moves desk_schema put_check_text put_check put_check_writes params (IsOf before) (IsOf (with_check acc day outcome before)) (of_schema before) (makes_check acc day outcome before free) g.S.Store old new c.execute.result c.execute.ensures.ended runs c.execute.ensures.survives
