@@ -113,7 +113,7 @@ pub fn run<R: Read, W: Write, E: Write, M: Machine>(
         RefusesList refusal kind image (W.contents output.old) (W.contents output.new))
         result (E.contents errors.old) (E.contents errors.new)) }
 
-    // At 2 nothing is written, and the words are no command.
+    // At 2 nothing is written, and the words are none of the plain forms of a command.
     ensures usage { result ≡ 2 → ¬ IsCommand (map (λ word. word.now) words.entry.now) }
     ensures usage_keeps { result ≡ 2 → Keeps (W.contents output.old) (W.contents output.new) }
 
