@@ -20,13 +20,14 @@ ends() {
     shift 3
     "$@" >"$work/stdout" 2>"$work/stderr"
     status=$?
+    rm -f "$work/told"
     case $told in
     '') : >"$work/told" ;;
     '*') [ -s "$work/stderr" ] && cp "$work/stderr" "$work/told" ;;
     *) printf '%s\n' "$told" >"$work/told" ;;
     esac
     if [ "$written" = '*' ]; then
-        written=$work/nothing
+        written=$work/missing
         [ -s "$work/stdout" ] && written=$work/stdout
     fi
     if [ "$status" -eq "$wanted" ] && cmp -s "$work/told" "$work/stderr" && cmp -s "$written" "$work/stdout"; then

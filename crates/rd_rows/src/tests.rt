@@ -19,11 +19,11 @@ use rd_geometry::{CbmDisk, CpmDisk, Image, Kind, NoMemory};
 use std::alloc::Global;
 use std::test::Fail;
 
-/// The files of a CP/M image, where memory is ample.
-fn files_of(alloc: Global, bytes: &[u8]) -> Result<Vec<CpmFile>, Fail> {
+/// The files of the CP/M image of a case, where memory is ample.
+fn files_of(alloc: Global, label: &str, bytes: &[u8]) -> Result<Vec<CpmFile>, Fail> {
     let image = Image::new(Kind::Cpm8, bytes)?;
     let disk = CpmDisk::of(&image).ok_or("a CP/M disk")?;
-    Ok(files(alloc, &disk)?)
+    Ok(files(alloc, &disk).ok().ok_or(label)?)
 }
 
 /// The disk of a 1541 image.

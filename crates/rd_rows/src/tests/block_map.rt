@@ -92,7 +92,8 @@ fn assert_map<R: Abort + AllocGlobal>(rt: &R, case: &Case) -> Result<(), Fail> {
         claimed_free,
         unclaimed_used,
     };
-    let told = block_map(rt.alloc(), &cbm_disk(bytes.as_slice())?)?;
+    let disk = cbm_disk(bytes.as_slice())?;
+    let told = block_map(rt.alloc(), &disk).ok().ok_or(case.label)?;
     assert_eq!(rt; told, wanted, "{}", case.label);
     Ok(())
 }

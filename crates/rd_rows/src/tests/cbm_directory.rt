@@ -181,7 +181,8 @@ fn assert_told<R: Abort>(rt: &R, label: &str, entry: &CbmEntry, told: &Told<'_>)
 /// A directory is told so.
 fn assert_directory<R: Abort + AllocGlobal>(rt: &R, case: &Case) -> Result<(), Fail> {
     let bytes = image_of(rt.alloc(), &case.image)?;
-    let found = directory(rt.alloc(), &cbm_disk(bytes.as_slice())?)?;
+    let disk = cbm_disk(bytes.as_slice())?;
+    let found = directory(rt.alloc(), &disk).ok().ok_or(case.label)?;
     let blocks = units_of(rt.alloc(), case.blocks)?;
     assert_eq!(rt;
         (

@@ -3,6 +3,7 @@
 use super::cbm_disk;
 use super::sample::{FORMATTED, FULL, LOOPED, ONE_PROGRAM, Sample, image_of, units_of};
 use rd_cbm::{End, Link, chain, link};
+use rd_geometry::CbmDisk;
 use std::process::Abort;
 use std::test::Fail;
 
@@ -28,14 +29,18 @@ const LINKS: &[(u16, Link)] = &[
     (346, Link::Last(5)),
 ];
 
+/// These blocks of a disk lead there.
+fn assert_links(rt: &impl Abort, disk: &CbmDisk<'_>, cases: &[(u16, Link)]) {
+    for (block, leads) in cases {
+        assert!(rt; *block < 683);
+        assert_eq!(rt; link(disk, *block), *leads, "of block {block}");
+    }
+}
+
 #[test]
 fn links_are_the_first_two_bytes_of_a_block(rt: HostRuntime) -> Result<(), Fail> {
     let bytes = image_of(rt.alloc(), &LINKED)?;
-    let disk = cbm_disk(bytes.as_slice())?;
-    for (block, leads) in LINKS {
-        assert!(rt; *block < 683);
-        assert_eq!(rt; link(&disk, *block), *leads, "of block {block}");
-    }
+    assert_links(&rt, &cbm_disk(bytes.as_slice())?, LINKS);
     Ok(())
 }
 
@@ -157,7 +162,8 @@ const ALL_BLOCKS: &[Case] = &[
 /// A chain has these blocks and this end.
 fn assert_chain<R: Abort + AllocGlobal>(rt: &R, case: &Case) -> Result<(), Fail> {
     let bytes = image_of(rt.alloc(), &case.image)?;
-    let found = chain(rt.alloc(), &cbm_disk(bytes.as_slice())?, case.start)?;
+    let disk = cbm_disk(bytes.as_slice())?;
+    let found = chain(rt.alloc(), &disk, case.start).ok().ok_or(case.label)?;
     let blocks = units_of(rt.alloc(), case.blocks)?;
     assert_eq!(rt;
         (found.blocks.as_slice(), found.end),

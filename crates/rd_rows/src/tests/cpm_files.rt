@@ -599,7 +599,8 @@ fn assert_told<R: Abort + AllocGlobal>(
 
 /// The files of a disk are told so.
 fn assert_files<R: Abort + AllocGlobal>(rt: &R, case: &Case) -> Result<(), Fail> {
-    let files = files_of(rt.alloc(), image_of(rt.alloc(), &case.image)?.as_slice())?;
+    let image = image_of(rt.alloc(), &case.image)?;
+    let files = files_of(rt.alloc(), case.label, image.as_slice())?;
     assert_eq!(rt; files.len(), case.files.len(), "{}", case.label);
     for (file, told) in files.iter().zip(case.files) {
         assert_told(rt, case.label, file, told)?;

@@ -16,14 +16,19 @@ const WORDS: &[(&str, Option<Kind>)] = &[
     (" cpm8", None),
 ];
 
-#[test]
-fn kinds_have_words(rt: HostRuntime) {
-    for (word, kind) in WORDS {
+/// These words have these kinds, and these kinds these words.
+fn assert_words(rt: &impl Abort, cases: &[(&str, Option<Kind>)]) {
+    for (word, kind) in cases {
         assert_eq!(rt; Kind::from_word(*word), *kind, "of {word:?}");
         if let Some(kind) = kind {
             assert_eq!(rt; kind.word(), *word);
         }
     }
+}
+
+#[test]
+fn kinds_have_words(rt: HostRuntime) {
+    assert_words(&rt, WORDS);
     assert_eq!(rt; Kind::Cpm8.size(), 256_256);
 }
 
@@ -154,9 +159,9 @@ const BLOCKS: &[(u8, u8, Option<u16>)] = &[
     (255, 255, None),
 ];
 
-#[test]
-fn blocks_are_counted_by_track_then_sector(rt: HostRuntime) {
-    for (track, sector, index) in BLOCKS {
+/// These tracks and sectors name these blocks, and these blocks have these tracks and sectors.
+fn assert_blocks(rt: &impl Abort, cases: &[(u8, u8, Option<u16>)]) {
+    for (track, sector, index) in cases {
         assert_eq!(rt;
             CbmDisk::index(*track, *sector),
             *index,
@@ -167,6 +172,11 @@ fn blocks_are_counted_by_track_then_sector(rt: HostRuntime) {
             assert_eq!(rt; CbmDisk::address(*index), (*track, *sector), "of {index}");
         }
     }
+}
+
+#[test]
+fn blocks_are_counted_by_track_then_sector(rt: HostRuntime) {
+    assert_blocks(&rt, BLOCKS);
 }
 
 #[test]

@@ -223,7 +223,7 @@ fn assert_alike<'a, R: Abort + AllocGlobal>(
 fn assert_survey<R: Abort + AllocGlobal>(rt: &R, case: &Case) -> Result<(), Fail> {
     let bytes = image_of(rt.alloc(), &case.image)?;
     let image = Image::new(kind_of(case.image.base), bytes.as_slice())?;
-    let all = survey(rt.alloc(), &image)?;
+    let all = survey(rt.alloc(), &image).ok().ok_or(case.label)?;
     let mut rest = all.as_slice();
     for told in case.files {
         rest = assert_alike(rt, case.label, &image, rest, told)?;

@@ -55,7 +55,7 @@ fn assert_found<R: Abort + AllocGlobal>(
     slot: u16,
     wanted: Option<(&str, u8)>,
 ) -> Result<(), Fail> {
-    let found = find(rt.alloc(), image, slot)?;
+    let found = find(rt.alloc(), image, slot).ok().ok_or(label)?;
     let told = found
         .as_ref()
         .map(|file| (file.slot, file.name.as_str(), file.faults));
