@@ -1,0 +1,9 @@
+-- The bytes of a body.
+use Rattle.std.specs.Prelude.{ℕ, List}
+use Rattle.rd_desk.specs.declared.body.Inner.{Inner}
+use Rattle.rd_desk.specs.declared.body.Inner.TheVariants.{Fixed, Written, File}
+
+abbrev pub bytes_of : Inner → List ℕ
+bytes_of (Fixed text) = text.now
+bytes_of (Written text) = text
+bytes_of (File bytes) = bytes

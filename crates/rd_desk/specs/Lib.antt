@@ -1,0 +1,5 @@
+pub mod Requests
+pub mod Refusals
+pub mod Bodies
+pub mod BodyPieces
+pub mod Texts

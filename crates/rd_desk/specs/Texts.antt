@@ -1,0 +1,122 @@
+-- The text of each reply: JSON without blanks, each object's keys in the order of their bytes.
+use Rattle.std.specs.Prelude.{ℕ, List, Option, Some, None, codes, map, true}
+use Rattle.serde_json.specs.Data.{Data, null, boolean, number, unsigned, string, array, object, Members, no_members, member}
+use Rattle.serde_json.specs.View.{items_of}
+use Rattle.serde_json.specs.Written.{compact_text}
+use Rattle.rd_geometry.specs.Kinds.{word_of}
+use Rattle.rd_geometry.specs.declared.kind.Kind.{Kind}
+use Rattle.rd_policy.specs.Verdicts.{label_text}
+use Rattle.rd_policy.specs.declared.rule.Effect.{Effect}
+use Rattle.rd_policy.specs.declared.rule.Effect.TheVariants as effect
+use Rattle.rd_volume.specs.Words.{words_of}
+use Rattle.rd_volume.specs.declared.found.Found.{Found}
+use Rattle.rd_desk.specs.Refusals.{name_of, status_of}
+use Rattle.rd_desk.specs.declared.refusal.Refusal.{Refusal}
+use Rattle.rd_desk.specs.declared.refusal.Refusal.TheVariants.{UnknownKey, StaffOnly, BadBody, NoAccession, NoFile, NoDeed, Denied, ListedOnly, Faulty, WrongSize, DigestDiffers, Conflict}
+use Rattle.rd_desk.specs.declared.said.Form.TheVariants.{Json, Octets}
+use Rattle.rd_desk.specs.declared.said.ImageLine.{ImageLine}
+use Rattle.rd_desk.specs.declared.said.Line.{Line}
+use Rattle.rd_desk.specs.declared.said.Listing.{Listing}
+use Rattle.rd_desk.specs.declared.said.Reply.{Reply}
+use Rattle.rd_desk.specs.declared.said.Said.{Said}
+use Rattle.rd_desk.specs.declared.said.Said.TheVariants.{Refused, Done, Images, Listed, File}
+
+-- ---- values
+
+abbrev pub natural : ℕ → Data
+natural n = number (unsigned n)
+
+-- a number, or null where there is none
+abbrev pub natural_or_null : Option ℕ → Data
+natural_or_null None = null
+natural_or_null (Some n) = natural n
+
+abbrev pub texts : List (List ℕ) → Data
+texts words = array (items_of (map (λ word. string word) words))
+
+-- ---- refusals
+
+abbrev pub rule_member : List ℕ → Members
+rule_member rule = member (codes "rule") (string rule) no_members
+
+-- what is told of a refusal beside its name: the rule by which it is, or the faults
+abbrev pub detail_of : Refusal → Members
+detail_of UnknownKey = rule_member (codes "K0")
+detail_of StaffOnly = rule_member (codes "S0")
+detail_of BadBody = no_members
+detail_of NoAccession = no_members
+detail_of NoFile = no_members
+detail_of NoDeed = no_members
+detail_of (Denied label) = rule_member (label_text label)
+detail_of ListedOnly = no_members
+detail_of (Faulty kind faults) = member (codes "faults") (texts (words_of kind faults)) no_members
+detail_of WrongSize = no_members
+detail_of DigestDiffers = no_members
+detail_of Conflict = no_members
+
+abbrev pub error_data : List ℕ → Members → Data
+error_data name detail = object (member (codes "error") (string name) detail)
+
+-- ---- what is listed
+
+abbrev pub effect_word : Effect → List ℕ
+effect_word effect.Deny = codes "deny"
+effect_word effect.List = codes "list"
+effect_word effect.Read = codes "read"
+
+-- a file, with the word of an effect, its faults and the label of a rule
+abbrev pub file_data : List ℕ → Data → List ℕ → Found → Data
+file_data effect faults rule file =
+    object
+    (member (codes "effect") (string effect)
+    (member (codes "faults") faults
+    (member (codes "name") (string file.name)
+    (member (codes "rule") (string rule)
+    (member (codes "size") (natural_or_null file.size)
+    (member (codes "slot") (natural file.slot)
+    (member (codes "type") (string file.ty)
+    (member (codes "user") (natural_or_null file.user) no_members))))))))
+
+-- a file of an image of a kind
+abbrev pub line_data : Kind → Line → Data
+line_data kind line =
+    file_data (effect_word line.verdict.effect) (texts (words_of kind line.file.faults)) (label_text line.verdict.label) line.file
+
+abbrev pub listing_data : Listing → Data
+listing_data listing =
+    object
+    (member (codes "accession") (natural listing.accession)
+    (member (codes "deed") (natural listing.deed)
+    (member (codes "files") (array (items_of (map (line_data listing.kind) listing.files)))
+    (member (codes "kind") (string (word_of listing.kind)) no_members))))
+
+abbrev pub image_data : ImageLine → Data
+image_data line =
+    object
+    (member (codes "accession") (natural line.accession)
+    (member (codes "deed") (natural line.deed)
+    (member (codes "files") (natural line.files)
+    (member (codes "kind") (string (word_of line.kind)) no_members))))
+
+abbrev pub images_data : List ImageLine → Data
+images_data lines = object (member (codes "images") (array (items_of (map image_data lines))) no_members)
+
+abbrev pub DONE : Data
+DONE = object (member (codes "done") (boolean true) no_members)
+
+-- ---- replies
+
+abbrev pub in_json : ℕ → Data → Reply
+in_json status said = record { status = status; form = Json; body = compact_text said }
+
+-- the reply that says it
+abbrev pub reply_of : Said → Reply
+reply_of (Refused refusal) = in_json (status_of refusal) (error_data (name_of refusal) (detail_of refusal))
+reply_of Done = in_json 200 DONE
+reply_of (Images lines) = in_json 200 (images_data lines)
+reply_of (Listed listing) = in_json 200 (listing_data listing)
+reply_of (File bytes) = record { status = 200; form = Octets; body = bytes }
+
+-- the reply where the database fails, or memory is wanting
+abbrev pub UNAVAILABLE : Reply
+UNAVAILABLE = in_json 503 (error_data (codes "unavailable") no_members)

@@ -1,0 +1,227 @@
+//! What is said, as a reply: texts of JSON, and the bytes of files.
+
+ghost use Rattle.std.specs.Prelude.{◌≡◌, false, IfOk, map};
+ghost use Rattle.serde_json.specs.Data.{array, no_members, string};
+ghost use Rattle.serde_json.specs.View.{items_of, view};
+ghost use Rattle.serde_json.specs.Written.{has_float};
+ghost use Rattle.rd_volume.specs.Words.{words_of};
+ghost use Rattle.rd_desk.specs.Refusals.{name_of};
+ghost use Rattle.rd_desk.specs.Texts.{DONE, UNAVAILABLE, detail_of, effect_word, error_data, file_data, image_data, images_data, in_json, line_data, listing_data, natural_or_null, reply_of, rule_member, texts};
+
+use crate::body::Body;
+use crate::refusal::Refusal;
+use crate::said::{Form, ImageLine, Line, Listing, Reply, Said};
+use rd_geometry::{Kind, NoMemory, Text};
+use rd_policy::Effect;
+use rd_volume::{Found, fault_words};
+use serde_json::{Value, json};
+use std::alloc::{AllocError, Global};
+
+/// The word of an effect.
+fn effect_name(effect: Effect) -> &'static str
+    ensures { result.now ≡ effect_word effect }
+{
+    match effect {
+        Effect::Deny => "deny",
+        Effect::List => "list",
+        Effect::Read => "read",
+    }
+}
+
+fn text_value(alloc: Global, text: &str) -> Result<Value, AllocError>
+    ensures { IfOk result (λ value. view value ≡ string text.now) }
+{
+    Ok(Value::String(String::from_str(alloc, text)?))
+}
+
+fn number_or_null(number: Option<u32>) -> Value
+    ensures { view result ≡ natural_or_null number }
+{
+    match number {
+        Some(number) => Value::from(number),
+        None => Value::Null,
+    }
+}
+
+/// The words of the faults whose bits are set, in the order of the bits.
+fn fault_values(alloc: Global, kind: Kind, faults: u8) -> Result<Value, AllocError>
+    ensures { IfOk result (λ value. view value ≡ texts (words_of kind faults)) }
+{
+    let mut list = Vec::new(alloc);
+    for word in fault_words(kind, faults) {
+        list.push(text_value(alloc, word)?)?;
+    }
+    Ok(Value::Array(list))
+}
+
+/// An error that has nothing beside its name.
+fn plain_error(alloc: Global, name: &str) -> Result<Value, AllocError>
+    ensures { IfOk result (λ value. view value ≡ error_data name.now no_members) }
+{
+    json!(in alloc; {"error": name})
+}
+
+/// An error, and the label of the rule by which it is.
+fn ruled_error(alloc: Global, name: &str, rule: &str) -> Result<Value, AllocError>
+    ensures { IfOk result (λ value. view value ≡ error_data name.now (rule_member rule.now)) }
+{
+    json!(in alloc; {"error": name, "rule": rule})
+}
+
+fn refusal_value(alloc: Global, refusal: Refusal) -> Result<Value, AllocError>
+    ensures { IfOk result (λ value. view value ≡ error_data (name_of refusal) (detail_of refusal)) }
+{
+    let name = refusal.name();
+    match refusal {
+        Refusal::UnknownKey => ruled_error(alloc, name, "K0"),
+        Refusal::StaffOnly => ruled_error(alloc, name, "S0"),
+        Refusal::Denied(label) => ruled_error(alloc, name, label.to_string(alloc)?.as_str()),
+        Refusal::Faulty(kind, faults) => {
+            json!(in alloc; {"error": name, "faults": fault_values(alloc, kind, faults)?})
+        }
+        Refusal::BadBody
+        | Refusal::NoAccession
+        | Refusal::NoFile
+        | Refusal::NoDeed
+        | Refusal::ListedOnly
+        | Refusal::WrongSize
+        | Refusal::DigestDiffers
+        | Refusal::Conflict => plain_error(alloc, name),
+    }
+}
+
+/// A file, with the word of an effect, the words of its faults and the label of a rule.
+fn file_value(
+    alloc: Global,
+    effect: &str,
+    faults: Value,
+    rule: &str,
+    file: &Found,
+) -> Result<Value, AllocError>
+    ensures { IfOk result (λ value. view value ≡ file_data effect.now (view faults) rule.now file.now) }
+{
+    json!(in alloc; {
+        "effect": effect,
+        "faults": faults,
+        "name": file.name.as_str(),
+        "rule": rule,
+        "size": number_or_null(file.size),
+        "slot": file.slot,
+        "type": file.ty.as_str(),
+        "user": number_or_null(file.user.map(u32::from))
+    })
+}
+
+/// A file of an image of a kind.
+fn line_value(alloc: Global, kind: Kind, line: &Line) -> Result<Value, AllocError>
+    ensures { IfOk result (λ value. view value ≡ line_data kind line.now) }
+{
+    let effect = effect_name(line.verdict.effect);
+    let faults = fault_values(alloc, kind, line.file.faults)?;
+    let rule = line.verdict.label.to_string(alloc)?;
+    file_value(alloc, effect, faults, rule.as_str(), &line.file)
+}
+
+fn line_values(alloc: Global, kind: Kind, lines: &[Line]) -> Result<Value, AllocError>
+    ensures { IfOk result (λ value. view value ≡ array (items_of (map (line_data kind) lines.now))) }
+{
+    let mut list = Vec::new(alloc);
+    for line in lines {
+        list.push(line_value(alloc, kind, line)?)?;
+    }
+    Ok(Value::Array(list))
+}
+
+fn listing_value(alloc: Global, listing: &Listing) -> Result<Value, AllocError>
+    ensures { IfOk result (λ value. view value ≡ listing_data listing.now) }
+{
+    json!(in alloc; {
+        "accession": listing.accession,
+        "deed": listing.deed,
+        "files": line_values(alloc, listing.kind, listing.files.as_slice())?,
+        "kind": listing.kind.word()
+    })
+}
+
+fn image_value(alloc: Global, line: &ImageLine) -> Result<Value, AllocError>
+    ensures { IfOk result (λ value. view value ≡ image_data line.now) }
+{
+    json!(in alloc; {
+        "accession": line.accession,
+        "deed": line.deed,
+        "files": line.files as u64,
+        "kind": line.kind.word()
+    })
+}
+
+fn image_values(alloc: Global, lines: &[ImageLine]) -> Result<Value, AllocError>
+    ensures { IfOk result (λ value. view value ≡ array (items_of (map image_data lines.now))) }
+{
+    let mut list = Vec::new(alloc);
+    for line in lines {
+        list.push(image_value(alloc, line)?)?;
+    }
+    Ok(Value::Array(list))
+}
+
+fn images_value(alloc: Global, lines: &[ImageLine]) -> Result<Value, AllocError>
+    ensures { IfOk result (λ value. view value ≡ images_data lines.now) }
+{
+    json!(in alloc; {"images": image_values(alloc, lines)?})
+}
+
+fn json_reply(alloc: Global, status: u16, value: &Value) -> Result<Reply, NoMemory>
+    requires { has_float (view value.now) ≡ false }
+    ensures { IfOk result (λ reply. reply ≡ in_json status (view value.now)) }
+{
+    let text = Text::of(value.to_string(alloc)?);
+    Ok(Reply {
+        status,
+        form: Form::Json,
+        body: Body::text(text),
+    })
+}
+
+fn fixed_reply(status: u16, text: &'static str) -> Reply
+    ensures { result ≡ record { status = status; form = Form.Json; body = text.entry.now } }
+{
+    Reply {
+        status,
+        form: Form::Json,
+        body: Body::fixed(text),
+    }
+}
+
+/// The reply to a command that is done. It takes no memory.
+pub(crate) fn done() -> Reply
+    ensures { result ≡ in_json 200 DONE }
+{
+    fixed_reply(200, "{\"done\":true}")
+}
+
+/// The reply where the database fails or memory is wanting. It takes no memory.
+pub(crate) fn unavailable() -> Reply
+    ensures { result ≡ UNAVAILABLE }
+{
+    fixed_reply(503, "{\"error\":\"unavailable\"}")
+}
+
+/// The reply that says what is said. It fails only where memory is refused, and not for a command that
+/// is done or for the bytes of a file, which take none.
+pub(crate) fn reply_to(alloc: Global, said: Said) -> Result<Reply, NoMemory>
+    ensures { IfOk result (λ reply. reply ≡ reply_of said) }
+{
+    match said {
+        Said::Refused(refusal) => {
+            json_reply(alloc, refusal.status(), &refusal_value(alloc, refusal)?)
+        }
+        Said::Done => Ok(done()),
+        Said::Images(lines) => json_reply(alloc, 200, &images_value(alloc, lines.as_slice())?),
+        Said::Listed(listing) => json_reply(alloc, 200, &listing_value(alloc, &listing)?),
+        Said::File(bytes) => Ok(Reply {
+            status: 200,
+            form: Form::Octets,
+            body: Body::file(bytes),
+        }),
+    }
+}

@@ -1,0 +1,116 @@
+ghost use Rattle.std.specs.Prelude.{◌↔◌, IsTrue};
+
+use rd_geometry::{Items, Kind, Text};
+use rd_policy::{Audience, Band, Rule, is_day, is_rank, is_scope};
+use rd_store::is_donor;
+
+/// What is asked, and by whom.
+#[derive(Drop)]
+pub struct Request {
+    /// The SHA-256 of the caller's desk key; `None` where the caller shows none, and so is the public.
+    pub badge: Option<[u8; 32]>,
+    /// What is asked.
+    pub what: What,
+}
+
+/// What is asked: a question, which anyone may put, or a command, which is for the staff. `Images`,
+/// `Listing` and `Bytes` are questions, all others commands.
+#[derive(Drop)]
+pub enum What {
+    /// Of which accessions the caller may see files, and of how many.
+    Images,
+    /// Which files of an accession, 1 to 999,999, the caller may see.
+    Listing(u32),
+    /// The bytes of a file: of an accession, 1 to 999,999, the file at a slot, 0 to 9,999.
+    Bytes(u32, u16),
+    /// To take in an image.
+    PutImage {
+        /// The number of its accession, 1 to 999,999.
+        acc: u32,
+        /// Its kind.
+        kind: Kind,
+        /// The number of its deed, 1 to 999,999.
+        deed: u32,
+        /// What the SHA-256 of its bytes has to be.
+        digest: [u8; 32],
+        /// Its bytes, as many as they may be.
+        bytes: Items<u8>,
+    },
+    /// To put a deed in the place of what stands at its number.
+    PutDeed {
+        /// Its number, 1 to 999,999.
+        num: u32,
+        /// Who gave the disks: 1 to 1,000 bytes, none below 20 hex.
+        donor: Text,
+        /// The day on which it was signed, of the years 1 to 9999, counted from 1970-01-01.
+        signed: i32,
+    },
+    /// To put a rule, whose values fit, in the place of what stands at its band, scope and rank.
+    PutRule(Rule),
+    /// To take a rule away.
+    DropRule {
+        /// Where it comes from.
+        band: Band,
+        /// The number of its accession or deed, 1 to 999,999.
+        scope: u32,
+        /// Its rank, 1 to 9,999.
+        rank: u16,
+    },
+    /// To give a desk key to an audience.
+    PutKey {
+        /// The SHA-256 of the key.
+        digest: [u8; 32],
+        /// The reading room or the staff: the public has no key.
+        audience: Audience,
+    },
+    /// To take a desk key away.
+    DropKey {
+        /// The SHA-256 of the key.
+        digest: [u8; 32],
+    },
+    /// A command whose body is not one that can be read.
+    Unread,
+}
+
+impl What {
+    ghost use Rattle.rd_desk.specs.Requests.{IsCommand};
+
+    /// Whether it is a command, which is for the staff.
+    pub(crate) fn is_command(&self) -> bool
+        ensures { IsTrue result ↔ IsCommand self.now }
+    {
+        match self {
+            What::Images | What::Listing(_) | What::Bytes(_, _) => false,
+            What::PutImage { .. }
+            | What::PutDeed { .. }
+            | What::PutRule(_)
+            | What::DropRule { .. }
+            | What::PutKey { .. }
+            | What::DropKey { .. }
+            | What::Unread => true,
+        }
+    }
+}
+
+impl Request {
+    ghost use Rattle.rd_desk.specs.Requests.{IsRequest};
+
+    /// Whether each value of what is asked is within the limits that its field names. The bytes of an
+    /// image have none.
+    pub fn fits(&self) -> bool
+        ensures { IsTrue result ↔ IsRequest self.now.what }
+    {
+        match &self.what {
+            What::Images | What::DropKey { .. } | What::Unread => true,
+            What::Listing(acc) => is_scope(*acc),
+            What::Bytes(acc, slot) => is_scope(*acc) && *slot <= 9_999,
+            What::PutImage { acc, deed, .. } => is_scope(*acc) && is_scope(*deed),
+            What::PutDeed { num, donor, signed } => {
+                is_scope(*num) && is_donor(donor.as_str()) && is_day(*signed)
+            }
+            What::PutRule(rule) => rule.fits(),
+            What::DropRule { scope, rank, .. } => is_scope(*scope) && is_rank(*rank),
+            What::PutKey { audience, .. } => *audience != Audience::Public,
+        }
+    }
+}

@@ -1,0 +1,81 @@
+use crate::body::Body;
+use crate::refusal::Refusal;
+use rd_geometry::{Items, Kind};
+use rd_policy::Verdict;
+use rd_volume::Found;
+
+/// What is replied to a request.
+#[derive(Drop)]
+pub struct Reply {
+    /// The status, as HTTP counts it.
+    pub status: u16,
+    /// What the body is.
+    pub form: Form,
+    /// The body.
+    pub body: Body,
+}
+
+/// What a body is.
+#[derive(Clone, Copy, Debug, PartialEq, Eq)]
+pub enum Form {
+    /// A text of JSON.
+    Json,
+    /// A table as CSV.
+    Csv,
+    /// The bytes of a file.
+    Octets,
+}
+
+/// What a reply says, before it is written.
+#[derive(Drop)]
+pub enum Said {
+    /// The request is refused.
+    Refused(Refusal),
+    /// The command is done.
+    Done,
+    /// The accessions of which the caller may see files, by ascending number.
+    Images(Items<ImageLine>),
+    /// The files of an accession that the caller may see.
+    Listed(Listing),
+    /// The bytes of a file.
+    File(Items<u8>),
+}
+
+/// An accession of which the caller may see files.
+#[derive(Drop)]
+pub struct ImageLine {
+    /// Its number, 1 to 999,999.
+    pub accession: u32,
+    /// The number of its deed, 1 to 999,999.
+    pub deed: u32,
+    /// The kind of its image.
+    pub kind: Kind,
+    /// How many of its files the caller may see, at least one.
+    pub files: usize,
+}
+
+/// An accession, and those of its files that the caller may see.
+#[derive(Drop)]
+pub struct Listing {
+    /// Its number, 1 to 999,999.
+    pub accession: u32,
+    /// The number of its deed, 1 to 999,999.
+    pub deed: u32,
+    /// The kind of its image.
+    pub kind: Kind,
+    /// The files, by ascending slot.
+    pub files: Items<Line>,
+}
+
+/// A file that the caller may see.
+#[derive(Drop)]
+pub struct Line {
+    /// The file.
+    pub file: Found,
+    /// What the rules say of it.
+    pub verdict: Verdict,
+}
+
+/// There is no telling what is replied: the database failed, or memory was wanting.
+#[derive(Clone, Copy)]
+pub(crate) struct Unavailable;
