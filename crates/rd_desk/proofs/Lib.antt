@@ -1,1 +1,15 @@
 pub mod Floats
+pub mod Passes
+pub mod Numbers
+pub mod Selecting
+pub mod Reading
+pub mod Accepting
+pub mod Again
+pub mod Ascending
+pub mod Crashes
+pub mod Maps
+pub mod OneAnswer
+pub mod Stepping
+pub mod Telling
+pub mod Responding
+pub mod Serving

@@ -3,3 +3,9 @@ pub mod Refusals
 pub mod Bodies
 pub mod BodyPieces
 pub mod Texts
+pub mod Judged
+pub mod Replies
+pub mod Laws
+pub mod Calls
+pub mod Queries
+pub mod Served

@@ -1,13 +1,21 @@
 //! The desk: what is asked of the museum, and what it replies.
 #![tactic(auto)]
 
+mod asking;
 mod body;
+mod commands;
+mod desk;
+mod files;
 mod json;
+mod laws;
+mod queries;
 mod refusal;
 mod request;
 mod said;
 
 pub use body::{Body, BodyPieces};
+pub use desk::{Desk, answer_in_memory};
+pub use laws::{answers_step, one_reply, same_again};
 pub use rd_geometry::{Items, Kind, NoMemory, Text};
 pub use refusal::Refusal;
 pub use request::{Request, What};

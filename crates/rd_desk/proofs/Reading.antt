@@ -1,0 +1,180 @@
+-- What is said of a file is what is said to the request for it.
+use Rattle.std.proofs.Common.{◌≡◌, ◌≢◌, ◌<◌, ℕ, ℤ, List, Option, Some, None, Result, Ok, Err, IfOk, Contains, IsSomeAnd, IfSome, true, false, arith, refl, sym, ap, subst, ◌∙◌}
+use Rattle.std.specs.FinMap.{get}
+use Rattle.rd_policy.specs.Verdicts.{IsVerdict}
+use Rattle.rd_policy.specs.declared.audience.Audience.{Audience}
+use Rattle.rd_policy.specs.declared.rule.Rule.{Rule}
+use Rattle.rd_policy.specs.declared.verdict.Verdict.{Verdict}
+use Rattle.rd_volume.specs.Told.{told_slot}
+use Rattle.rd_volume.specs.Volumes.{IsFound, IsFoundAt, IsSlotOfFile}
+use Rattle.rd_volume.specs.declared.found.Found.{Found}
+use Rattle.rd_store.specs.State.{Desk, rules_for}
+use Rattle.rd_store.specs.declared.rows.ImageRow.{ImageRow}
+use Rattle.rd_desk.specs.Calls.{IsHolding}
+use Rattle.rd_desk.specs.Judged.{IsAccepted, IsJudgedFile, IsRefused, JudgedFile, Holds, PassesTo, audience_of}
+use Rattle.rd_desk.specs.Queries.{IsAtSlot, IsRead}
+use Rattle.rd_desk.specs.Replies.{IsAnswered}
+use Rattle.rd_desk.specs.declared.asking.Holding.{Holding}
+use Rattle.rd_desk.specs.declared.refusal.Refusal.{Refusal}
+use Rattle.rd_desk.specs.declared.refusal.Refusal.TheVariants.{UnknownKey, StaffOnly, BadBody, NoAccession, NoFile, NoDeed, Denied, ListedOnly, Faulty, WrongSize, DigestDiffers, Conflict}
+use Rattle.rd_desk.specs.declared.request.Request.{Request}
+use Rattle.rd_desk.specs.declared.request.What.TheVariants.{Bytes, Images}
+use Rattle.rd_desk.specs.declared.said.Said.{Said}
+use Rattle.rd_desk.specs.declared.said.Said.TheVariants.{Refused, Done, Images as Told, Listed, File}
+use Rattle.rd_desk.proofs.Passes.{to_6, to_7, to_8, to_9, to_10, to_11, to_12, to_13, to_14, to_15, to_16, accepted}
+
+pub if_ok : {T X : Type 0} → (r : Result T X) → (P Q : T → Type 0) → ((value : T) → P value → Q value) → IfOk r P → IfOk r Q
+if_ok (Ok value) P Q then h = then value h
+if_ok (Err fault) P Q then h = tt
+
+-- what is held of an accession that stands
+pub held_some : (desk : Desk) (acc : ℕ) (found : Option Holding) (holding : Holding) → found ≡ Some holding → IsHolding desk acc found
+    → (get desk.images acc ≡ Some holding.image) × (holding.rules ≡ rules_for desk acc)
+held_some desk acc found holding is held = subst (IsHolding desk acc) is held
+
+-- the file that is found at a slot, with the verdict on it
+pub at_slot : (holding : Holding) (audience : Audience) (day : ℤ) (slot : ℕ) (rules : List Rule) (answer : Option Found) (file : Found) (verdict : Verdict)
+    → rules ≡ holding.rules → answer ≡ Some file → IsFoundAt holding.image.kind holding.image.bytes slot answer
+    → IsVerdict (Contains rules) audience day file verdict → IsAtSlot holding audience day slot file verdict
+at_slot holding audience day slot rules answer file verdict rules_are is at decided = record {
+  told = subst (λ a. IfSome a (IsFound holding.image.kind holding.image.bytes)) is at.told;
+  at_slot = subst (λ a. IfSome a (λ found. found.slot ≡ slot)) is at.same_slot;
+  decided = subst (λ r. IsVerdict (Contains r) audience day file verdict) rules_are decided;
+}
+
+first_of : Option (ℕ × ℕ) → ℕ
+first_of None = 0
+first_of (Some pair) = pair.0
+
+second_of : Option (ℕ × ℕ) → ℕ
+second_of None = 0
+second_of (Some pair) = pair.1
+
+same_pair : (a b c d : ℕ) → (let one : Option (ℕ × ℕ) = Some (a, b) in let other : Option (ℕ × ℕ) = Some (c, d) in one ≡ other) → (a ≡ c) × (b ≡ d)
+unfolding first_of second_of
+same_pair a b c d is = (ap first_of is, ap second_of is)
+
+module _ (desk : Desk) (day : ℤ) (badge : Option (List ℕ)) (audience : Audience) (acc slot : ℕ) (holding : Holding) (caller : audience_of desk badge ≡ Some audience) (standing : get desk.images acc ≡ Some holding.image) (rules_are : holding.rules ≡ rules_for desk acc) where
+  abbrev request : Request
+  request = record { badge = badge; what = Bytes acc slot }
+
+  abbrev Passes : Option JudgedFile → ℕ → Type 0
+  Passes = PassesTo desk request
+
+  before_9 : (file : Option JudgedFile) → Passes file 9
+  before_9 file =
+      to_9 desk request file (to_8 desk request file (to_7 desk request file (to_6 desk request file audience caller) (λ none. absurd none)) (λ is. cc))
+      (λ none. let h : get desk.images acc ≡ None = none in cc)
+
+  there : (file : Found) → IsFound holding.image.kind holding.image.bytes file → file.slot ≡ slot → IsSlotOfFile holding.image.kind holding.image.bytes slot
+  there file told at = subst (IsSlotOfFile holding.image.kind holding.image.bytes) at (told_slot holding.image.kind holding.image.bytes file told)
+
+  -- a file that is told is there
+  before_11 : (judged : Option JudgedFile) (file : Found) → IsFound holding.image.kind holding.image.bytes file → file.slot ≡ slot → Passes judged 11
+  before_11 judged file told at =
+      to_11 desk request judged
+      (to_10 desk request judged (before_9 judged)
+      (λ none. subst (λ o. IsSomeAnd o (λ image. IsSlotOfFile image.kind image.bytes slot → ⊥)) standing none (there file told at)))
+      (λ none. none)
+
+  module _ (file : Found) (verdict : Verdict) (is : IsAtSlot holding audience day slot file verdict) where
+    abbrev judged : JudgedFile
+    judged = record { kind = holding.image.kind; file = file; verdict = verdict }
+
+    is_judged : IsJudgedFile desk day request judged
+    is_judged = record {
+      accession = acc;
+      image = holding.image;
+      audience = audience;
+      asked = ap (λ s. Some (acc, s)) (sym is.at_slot);
+      caller = caller;
+      standing = standing;
+      of_kind = refl;
+      told = is.told;
+      decided = subst (λ r. IsVerdict (Contains r) audience day file verdict) rules_are is.decided;
+    }
+
+    before_verdict : Passes (Some judged) 11
+    before_verdict = before_11 (Some judged) file is.told is.at_slot
+
+    given : (refusal : Refusal) → IsRefused desk request (Some judged) refusal → IsAnswered desk day request (Refused refusal) desk
+    given refusal refused = (record { file = Some judged; asked = is_judged; refused = refused }, refl)
+
+  same_image : (one other : ImageRow) → get desk.images acc ≡ Some one → get desk.images acc ≡ Some other → one ≡ other
+  same_image one other a b = cc
+
+  none_asked : (IsSlotOfFile holding.image.kind holding.image.bytes slot → ⊥) → (judged : JudgedFile) → IsJudgedFile desk day request judged → ⊥
+  none_asked none judged asked =
+      let both = same_pair acc slot asked.accession judged.file.slot asked.asked in
+      let at : judged.file.slot ≡ slot = sym both.1 in
+      let standing_there : get desk.images acc ≡ Some asked.image = subst (λ n. get desk.images n ≡ Some asked.image) (sym both.0) asked.standing in
+      let same : asked.image ≡ holding.image = same_image asked.image holding.image standing_there standing in
+      none (there judged.file (subst (λ (i : ImageRow). IsFound i.kind i.bytes judged.file) same asked.told) at)
+
+  -- what is said of the file is what is said to the request
+  pub read_answered : (said : Said) → IsRead holding audience day slot said → IsAnswered desk day (record { badge = badge; what = Bytes acc slot }) said desk
+  read_answered (Refused NoFile) none = (
+    record {
+      file = None;
+      asked = none_asked none;
+      refused = record {
+        holds = subst (λ o. IsSomeAnd o (λ image. IsSlotOfFile image.kind image.bytes slot → ⊥)) (sym standing) none;
+        lowest = before_9 None;
+      };
+    },
+    refl,
+  )
+  read_answered (Refused (Denied label)) (file, verdict, is, denied) =
+      given file verdict is (Denied label) (record { holds = denied; lowest = before_verdict file verdict is })
+  read_answered (Refused ListedOnly) (file, verdict, is, (read, other)) =
+      given file verdict is ListedOnly (record {
+        holds = other;
+        lowest = to_12 desk request (Some (judged file verdict is)) (before_verdict file verdict is) (λ label h. h.0 read);
+      })
+  read_answered (Refused (Faulty kind faults)) (file, verdict, is, (read, served, faulty, kind_is, faults_are)) =
+      let asked = Some (judged file verdict is) in
+      given file verdict is (Faulty kind faults) (record {
+        holds = (faulty, sym kind_is, sym faults_are);
+        lowest = to_13 desk request asked (to_12 desk request asked (before_verdict file verdict is) (λ label h. h.0 read)) (λ h. let e : file.served_class ≡ false = h in cc);
+      })
+  read_answered (File bytes) (file, verdict, is, (read, sound, are)) =
+      let asked = Some (judged file verdict is) in
+      record {
+        file = asked;
+        audience = audience;
+        asked = is_judged file verdict is;
+        caller = caller;
+        accepted = accepted desk request asked
+            (to_16 desk request asked (to_15 desk request asked (to_14 desk request asked
+            (to_13 desk request asked (to_12 desk request asked (before_verdict file verdict is) (λ label h. h.0 read))
+            (λ h. let e : file.served_class ≡ false = h in let s : file.served_class ≡ true = sound.class in cc))
+            (λ kind faults h. h.0 sound.sound)) (λ none. none)) (λ none. none)) (λ none. none);
+        tells = (read, record { image = holding.image; standing = standing; are = are });
+        after = refl;
+      }
+  read_answered (Refused UnknownKey) none = absurd none
+  read_answered (Refused StaffOnly) none = absurd none
+  read_answered (Refused BadBody) none = absurd none
+  read_answered (Refused NoAccession) none = absurd none
+  read_answered (Refused NoDeed) none = absurd none
+  read_answered (Refused WrongSize) none = absurd none
+  read_answered (Refused DigestDiffers) none = absurd none
+  read_answered (Refused Conflict) none = absurd none
+  read_answered Done none = absurd none
+  read_answered (Told lines) none = absurd none
+  read_answered (Listed listing) none = absurd none
+
+-- nothing stands in the way of a caller who is known and asks for the accessions
+pub images_accepted : (desk : Desk) (badge : Option (List ℕ)) (audience : Audience) → audience_of desk badge ≡ Some audience → IsAccepted desk (record { badge = badge; what = Images }) None
+images_accepted desk badge audience known UnknownKey h = cc
+images_accepted desk badge audience known StaffOnly h = h.0
+images_accepted desk badge audience known BadBody h = cc
+images_accepted desk badge audience known NoAccession h = h
+images_accepted desk badge audience known NoFile h = h
+images_accepted desk badge audience known NoDeed h = h
+images_accepted desk badge audience known (Denied label) h = h
+images_accepted desk badge audience known ListedOnly h = h
+images_accepted desk badge audience known (Faulty kind faults) h = h
+images_accepted desk badge audience known WrongSize h = h
+images_accepted desk badge audience known DigestDiffers h = h
+images_accepted desk badge audience known Conflict h = h

@@ -1,0 +1,117 @@
+-- Calls one after the other, and what they say of a request.
+use Rattle.std.proofs.Common.{◌≡◌, ◌⊎◌, inl, inr, ℕ, ℤ, List, Option, Some, None, Result, Ok, Err, IfOk, refl, sym, subst, ap, ◌∙◌}
+use Rattle.sqlite.specs.Store.{Ghosts}
+use Rattle.sqlite.specs.Tree.{Trees}
+use Rattle.sqlite.specs.Held.{Held}
+use Rattle.rd_policy.specs.declared.audience.Audience.TheVariants.{Staff}
+use Rattle.rd_store.specs.Held.{IsClean, IsLeft, IsOpen, LeavesOnly, Rests, desk}
+use Rattle.rd_store.specs.Lawful.{IsLawful}
+use Rattle.rd_store.specs.State.{Desk}
+use Rattle.rd_store.proofs.Laws.{lasts_still, lasts_then}
+use Rattle.rd_desk.specs.Calls.{Carries, IsCarriedOut, IsResponse, Keeps, LeavesStep, Looks, Responds}
+use Rattle.rd_desk.specs.Judged.{Holds, IsAccepted, IsAsked, IsJudgedFile, JudgedFile, audience_of}
+use Rattle.rd_desk.specs.Replies.{IsAnswered, IsStep, carried_out}
+use Rattle.rd_desk.specs.Requests.{IsCommand}
+use Rattle.rd_desk.specs.declared.refusal.Refusal.TheVariants.{DigestDiffers}
+use Rattle.rd_desk.specs.declared.request.Request.{Request}
+use Rattle.rd_desk.specs.declared.request.What.{What}
+use Rattle.rd_desk.specs.declared.request.What.TheVariants.{Images, Unread}
+use Rattle.rd_desk.specs.declared.said.Said.{Said}
+use Rattle.rd_desk.specs.declared.said.Said.TheVariants as said
+use Rattle.rd_desk.proofs.Accepting.{no_file}
+use Rattle.rd_desk.proofs.Crashes.{left_accepted}
+
+-- a command asks for no file
+pub nothing_asked : (old : Desk) (day : ℤ) (request : Request) → IsCommand request.what → IsAsked old day request None
+nothing_asked old day request command judged asked = let none = no_file request.what command in let some = asked.asked in cc
+
+-- what is carried out, or why it is refused, is what is answered
+response : {X : Type 0} (old : Desk) (day : ℤ) (request : Request) (result : Result Said X) (new : Desk) → IsCommand request.what → audience_of old request.badge ≡ Some Staff
+    → IsCarriedOut old request result new → IsResponse old day request result new
+response old day request (Ok (said.Refused refusal)) new command staff (refused, same) =
+    (record { file = None; asked = nothing_asked old day request command; refused = refused }, same)
+response old day request (Ok said.Done) new command staff (accepted, after) = record {
+  file = None;
+  audience = Staff;
+  asked = nothing_asked old day request command;
+  caller = staff;
+  accepted = accepted;
+  tells = command;
+  after = after;
+}
+response old day request (Ok (said.Images lines)) new command staff none = absurd none
+response old day request (Ok (said.Listed listing)) new command staff none = absurd none
+response old day request (Ok (said.File bytes)) new command staff none = absurd none
+response old day request (Err fault) new command staff same = same
+
+is_unread : (what : What) → (what ≡ Unread) ⊎ (what ≡ Unread → ⊥)
+is_unread Unread = inl refl
+is_unread other = inr (λ is. cc)
+
+-- a lawful desk that a crash left of a command is the one before it, or the one after the step
+left_step : (old : Desk) (day : ℤ) (request : Request) (left : Trees) → IsCommand request.what → audience_of old request.badge ≡ Some Staff → IsLawful old
+    → IsLeft old left ⊎ ((Holds old request None DigestDiffers → ⊥) × IsLeft (carried_out request.what old) left)
+    → IsLeft old left ⊎ ((after : Desk) × IsStep old day request after × IsLeft after left)
+left_step old day request left command staff lawful (inl same) = inl same
+left_step old day request left command staff lawful (inr (digest, after)) = elim (is_unread request.what) [
+  | inl unread ↦ inl (subst (λ d. IsLeft d left) (ap (λ w. carried_out w old) unread) after)
+  | inr read ↦ elim (left_accepted old request command read staff digest lawful after.lawful) [
+    | inl same ↦ inl (subst (λ d. IsLeft d left) same after)
+    | inr accepted ↦ inr (
+      carried_out request.what old,
+      inl (record { file = None; asked = nothing_asked old day request command; accepted = accepted }, refl),
+      after,
+    )
+  ]
+]
+
+module _ {S : Type 0} (g : Ghosts S) where
+  -- a call that is not made
+  pub keeps_still : (h : Held S) → Rests g h → Keeps g h h
+  keeps_still h rests = record { lasts = lasts_still g h; same = λ o. refl; crash = λ was clean. rests.leaves was; durable = rests.leaves }
+
+  -- one reading call after another
+  pub keeps_then : (a b c : Held S) → Keeps g a b → (IsClean g b → IsOpen g b) → Keeps g b c → Keeps g a c
+  keeps_then a b c one opens two = record {
+    lasts = lasts_then g a b c one.lasts two.lasts;
+    same = λ o. two.same o ∙ one.same (two.lasts.was_open o);
+    crash = λ was clean.
+        let mid = opens (two.lasts.clean clean) in
+        subst (LeavesOnly g c) (one.same mid) (two.crash mid clean);
+    durable = two.durable;
+  }
+
+  module _ {X : Type 0} (day : ℤ) (request : Request) (result : Result Said X) where
+    answered : (old new : Desk) (r : Result Said X) → new ≡ old → IfOk r (λ answer. IsAnswered old day request answer old) → IsResponse old day request r new
+    answered old new (Ok answer) same told = subst (IsAnswered old day request answer) (sym same) told
+    answered old new (Err fault) same told = same
+
+    -- a query, as a request
+    pub looks_respond : (a b : Held S) → Looks g a b result (λ answer. IsAnswered (desk g a) day request answer (desk g a)) → Responds g a b day request result
+    looks_respond a b looks = record {
+      lasts = looks.keeps.lasts;
+      judged = λ o. answered (desk g a) (desk g b) result (looks.keeps.same o) (looks.answer o);
+      crash = λ was clean left may. inl (looks.keeps.crash was clean left may);
+      durable = looks.keeps.durable;
+    }
+
+    -- a command of the staff, as a request
+    pub carries_respond : (a b : Held S) → IsCommand request.what → (IsOpen g a → audience_of (desk g a) request.badge ≡ Some Staff) → Rests g a
+        → Carries g a b request result → Responds g a b day request result
+    carries_respond a b command staff rests carries = record {
+      lasts = carries.lasts;
+      judged = λ o. let was = carries.lasts.was_open o in response (desk g a) day request result (desk g b) command (staff was) (carries.judged o);
+      crash = λ was clean left may. left_step (desk g a) day request left command (staff was) (rests.lawful was) (carries.crash was clean left may);
+      durable = carries.durable;
+    }
+
+    -- a request after reading calls
+    pub keeps_respond : (a b c : Held S) → Keeps g a b → (IsClean g b → IsOpen g b) → Responds g b c day request result → Responds g a c day request result
+    keeps_respond a b c keeps opens responds = record {
+      lasts = lasts_then g a b c keeps.lasts responds.lasts;
+      judged = λ o. subst (λ d. IsResponse d day request result (desk g c)) (keeps.same (responds.lasts.was_open o)) (responds.judged o);
+      crash = λ was clean left may.
+          let mid = opens (responds.lasts.clean clean) in
+          subst (λ d. IsLeft d left ⊎ ((after : Desk) × IsStep d day request after × IsLeft after left)) (keeps.same mid) (responds.crash mid clean left may);
+      durable = responds.durable;
+    }

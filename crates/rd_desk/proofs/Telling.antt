@@ -1,0 +1,38 @@
+-- What is said to each request.
+use Rattle.std.proofs.Common.{◌≡◌, ℕ, ℤ, List, Option, IsSomeAnd, refl}
+use Rattle.rd_policy.specs.declared.audience.Audience.{Audience}
+use Rattle.rd_policy.specs.declared.rule.Effect.TheVariants.{Read}
+use Rattle.rd_store.specs.State.{Desk}
+use Rattle.rd_desk.specs.Judged.{JudgedFile}
+use Rattle.rd_desk.specs.Replies.{AreFileBytes, AreImageLines, IsListing, Tells}
+use Rattle.rd_desk.specs.Requests.{IsCommand}
+use Rattle.rd_desk.specs.declared.request.What.{What}
+use Rattle.rd_desk.specs.declared.request.What.TheVariants.{Images, Listing, Bytes}
+use Rattle.rd_desk.specs.declared.said.ImageLine.{ImageLine}
+use Rattle.rd_desk.specs.declared.said.Listing.{Listing as Lines}
+use Rattle.rd_desk.specs.declared.said.Said.{Said}
+use Rattle.rd_desk.specs.declared.said.Said.TheVariants as said
+
+module _ (desk : Desk) (audience : Audience) (day : ℤ) (file : Option JudgedFile) where
+  abbrev Told : Said → What → Type 0
+  Told answer what = Tells desk audience day file answer what
+
+  pub told_done : (answer : Said) (what : What) → IsCommand what → Told answer what → answer ≡ said.Done
+  told_done said.Done what command told = refl
+  told_done (said.Images lines) Images command told = absurd command
+  told_done (said.Listed listing) (Listing acc) command told = absurd command
+  told_done (said.File bytes) (Bytes acc slot) command told = absurd command
+  told_done other what command told = absurd told
+
+  pub told_images : (answer : Said) → Told answer Images → (lines : List ImageLine) × (answer ≡ said.Images lines) × AreImageLines desk audience day lines
+  told_images (said.Images lines) told = (lines, refl, told)
+  told_images other told = absurd told
+
+  pub told_listing : (acc : ℕ) (answer : Said) → Told answer (Listing acc) → (listing : Lines) × (answer ≡ said.Listed listing) × IsListing desk audience day acc listing
+  told_listing acc (said.Listed listing) told = (listing, refl, told)
+  told_listing acc other told = absurd told
+
+  pub told_bytes : (acc slot : ℕ) (answer : Said) → Told answer (Bytes acc slot)
+      → (bytes : List ℕ) × (answer ≡ said.File bytes) × IsSomeAnd file (λ judged. judged.verdict.effect ≡ Read) × AreFileBytes desk acc slot bytes
+  told_bytes acc slot (said.File bytes) told = (bytes, refl, told.0, told.1)
+  told_bytes acc slot other told = absurd told

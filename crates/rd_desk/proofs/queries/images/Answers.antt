@@ -1,0 +1,30 @@
+use Rattle.std.proofs.Common.{◌∙◌, None, ap, refl, rules, subst}
+use Rattle.rd_store.specs.Held.{desk}
+use Rattle.rd_desk.specs.Queries.{AreLinesOfEach}
+use Rattle.rd_desk.proofs.Reading.{images_accepted}
+use Rattle.rd_desk.proofs.Selecting.{image_lines_are}
+use Rattle.rd_desk.proofs.queries.images.Goals as goal
+
+pub returns : goal.returns
+returns g c = record {
+  keeps = search rules;
+  answer = λ o.
+      let d = desk g.S.Store c.args.store.now in
+      let audience = c.args.caller.now.audience in
+      let day = c.args.caller.now.day in
+      let mid = c.image_lines.ensures.keeps.lasts.was_open o in
+      let known = c.requires.known (c.accessions.ensures.looks.keeps.lasts.was_open mid) in
+      let lines = c.in_ok-image_lines.field-0 in
+      let of = subst (λ e. AreLinesOfEach e audience day c.as_slice.result.now lines) (c.accessions.ensures.looks.keeps.same mid) (c.in_ok-image_lines.ensures.answer o) in
+      let each = subst (λ accs. AreLinesOfEach d audience day accs lines) (c.as_slice.ensures.value ∙ c.in_ok-accessions.ensures.looks.answer mid) of in
+      record {
+        file = None;
+        audience = audience;
+        asked = λ judged asked. let is = asked.asked in cc;
+        caller = known;
+        accepted = images_accepted d c.args.badge.now audience known;
+        tells = image_lines_are d audience day lines each;
+        after = refl;
+      };
+  ends_open = search rules;
+}

@@ -1,0 +1,5 @@
+use Rattle.rd_desk.specs.Queries.{AreLinesOf}
+use Rattle.rd_desk.proofs.queries.listed.Given as goal
+
+abbrev pub invariant-loop-file : goal.invariant-loop-file
+invariant-loop-file l = AreLinesOf l.rules l.caller.audience l.caller.day l.yielded l.lines.items

@@ -1,0 +1,83 @@
+-- What the calls inside the desk say of the store.
+use Rattle.std.specs.Prelude.{◌≡◌, ◌≢◌, ◌⊎◌, ℕ, ℤ, List, Option, Some, None, Result, Ok, Err, OnOk, IfOk, MatchOption}
+use Rattle.std.specs.FinMap.{get}
+use Rattle.sqlite.specs.Store.{Ghosts}
+use Rattle.sqlite.specs.Tree.{Trees}
+use Rattle.sqlite.specs.Held.{Held}
+use Rattle.rd_policy.specs.declared.rule.Band.{Band}
+use Rattle.rd_policy.specs.declared.rule.Band.TheVariants.{Takedown, Deed}
+use Rattle.rd_store.specs.Held.{IsClean, IsLeft, IsOpen, Lasts, LeavesOnly, LeavesOpen, desk}
+use Rattle.rd_store.specs.State.{Desk, rules_for}
+use Rattle.rd_desk.specs.Judged.{Holds, IsAccepted, IsRefused}
+use Rattle.rd_desk.specs.Replies.{IsAnswered, IsStep, carried_out}
+use Rattle.rd_desk.specs.declared.asking.Holding.{Holding}
+use Rattle.rd_desk.specs.declared.refusal.Refusal.{Refusal}
+use Rattle.rd_desk.specs.declared.refusal.Refusal.TheVariants.{NoAccession, NoDeed, DigestDiffers}
+use Rattle.rd_desk.specs.declared.request.Request.{Request}
+use Rattle.rd_desk.specs.Texts.{UNAVAILABLE, reply_of}
+use Rattle.rd_desk.specs.declared.said.Reply.{Reply}
+use Rattle.rd_desk.specs.declared.said.Said.{Said}
+use Rattle.rd_desk.specs.declared.said.Said.TheVariants.{Refused, Done}
+
+-- Calls that read: the desk stays, and a crash leaves it.
+pub record Keeps {S : Type 0} (g : Ghosts S) (old new : Held S) : Type 0 where
+  pub lasts : Lasts g old new
+  pub same : IsOpen g new → desk g new ≡ desk g old
+  pub crash : IsOpen g old → IsClean g new → LeavesOnly g new (desk g old)
+  pub durable : IsOpen g new → LeavesOnly g new (desk g new)
+
+-- A call that reads, and answers this of the desk.
+pub record Looks {S T X : Type 0} (g : Ghosts S) (old new : Held S) (result : Result T X) (Answers : T → Type 0) : Type 0 where
+  pub keeps : Keeps g old new
+  pub answer : IsOpen g new → IfOk result Answers
+  pub ends_open : LeavesOpen g new result
+
+-- the image of an accession and the rules for its files, or that it does not stand
+abbrev pub IsHolding : Desk → ℕ → Option Holding → Type 0
+IsHolding desk acc found = MatchOption found (get desk.images acc ≡ None)
+    (λ holding. (get desk.images acc ≡ Some holding.image) × (holding.rules ≡ rules_for desk acc))
+
+-- what is missing where the accession of a takedown, or the deed of a rule, does not stand
+abbrev pub missing_of : Band → Refusal
+missing_of Takedown = NoAccession
+missing_of Deed = NoDeed
+
+-- the command is accepted and carried out; or it is refused, or the store failed, and the desk stays
+abbrev pub IsCarriedOut : {X : Type 0} → Desk → Request → Result Said X → Desk → Type 0
+IsCarriedOut old request (Ok Done) new = IsAccepted old request None × (new ≡ carried_out request.what old)
+IsCarriedOut old request (Ok (Refused refusal)) new = IsRefused old request None refusal × (new ≡ old)
+IsCarriedOut old request (Ok other) new = ⊥
+IsCarriedOut old request (Err fault) new = new ≡ old
+
+-- A command, in at most one transaction.
+pub record Carries {S X : Type 0} (g : Ghosts S) (old new : Held S) (request : Request) (result : Result Said X) : Type 0 where
+  pub lasts : Lasts g old new
+  pub judged : IsOpen g new → IsCarriedOut (desk g old) request result (desk g new)
+  pub stays_open : IsOpen g old → LeavesOpen g new result
+  pub crash : IsOpen g old → IsClean g new → (left : Trees) → g.recovers new.store left
+      → IsLeft (desk g old) left
+      ⊎ ((¬ Holds (desk g old) request None DigestDiffers) × IsLeft (carried_out request.what (desk g old)) left)
+  pub durable : IsOpen g new → LeavesOnly g new (desk g new)
+
+-- what is answered, or the desk as it was
+abbrev pub IsResponse : {X : Type 0} → Desk → ℤ → Request → Result Said X → Desk → Type 0
+IsResponse old day request (Ok answer) new = IsAnswered old day request answer new
+IsResponse old day request (Err fault) new = new ≡ old
+
+-- A crash leaves the desk, or the one after the step.
+abbrev pub LeavesStep : {S : Type 0} → Ghosts S → Held S → Held S → ℤ → Request → Type 0
+LeavesStep g old new day request = (left : Trees) → g.recovers new.store left
+    → IsLeft (desk g old) left ⊎ ((after : Desk) × IsStep (desk g old) day request after × IsLeft after left)
+
+-- A request, in at most one transaction.
+pub record Responds {S X : Type 0} (g : Ghosts S) (old new : Held S) (day : ℤ) (request : Request) (result : Result Said X) : Type 0 where
+  pub lasts : Lasts g old new
+  pub judged : IsOpen g new → IsResponse (desk g old) day request result (desk g new)
+  pub crash : IsOpen g old → IsClean g new → LeavesStep g old new day request
+  pub durable : IsOpen g new → LeavesOnly g new (desk g new)
+
+-- the reply tells what is said; where it is not told, or there is no memory for it, that it is unavailable,
+-- but never of a command that is done
+abbrev pub IsWritten : {X : Type 0} → Result Said X → Reply → Type 0
+IsWritten (Ok answer) reply = (reply ≡ reply_of answer) ⊎ ((reply ≡ UNAVAILABLE) × (answer ≢ Done))
+IsWritten (Err fault) reply = reply ≡ UNAVAILABLE

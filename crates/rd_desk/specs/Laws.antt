@@ -1,0 +1,26 @@
+-- Laws of replies.
+use Rattle.std.specs.Prelude.{◌≡◌, ℤ}
+use Rattle.rd_store.specs.State.{Desk}
+use Rattle.rd_desk.specs.Judged.{audience_of}
+use Rattle.rd_desk.specs.Replies.{IsReply, IsStep}
+use Rattle.rd_desk.specs.Requests.{IsCommand}
+use Rattle.rd_desk.specs.declared.request.Request.{Request}
+use Rattle.rd_desk.specs.declared.said.Reply.{Reply}
+
+-- a request on a day has one reply and one desk after it
+abbrev pub OneReply : Type 0
+OneReply = (desk : Desk) (day : ℤ) (request : Request) (one other : Reply) (after later : Desk)
+    → IsReply desk day request one after → IsReply desk day request other later
+    → (one ≡ other) × (after ≡ later)
+
+-- the desk after an answered request is the one that the step says
+abbrev pub AnswersStep : Type 0
+AnswersStep = (old : Desk) (day : ℤ) (request : Request) (reply : Reply) (new : Desk)
+    → IsReply old day request reply new → IsStep old day request new
+
+-- a command that leaves its caller's key as it is, asked again on the same day of the desk that it left, has
+-- the same reply and leaves that desk
+abbrev pub SameAgain : Type 0
+SameAgain = (old : Desk) (day : ℤ) (request : Request) (reply : Reply) (new : Desk)
+    → IsCommand request.what → audience_of new request.badge ≡ audience_of old request.badge
+    → IsReply old day request reply new → IsReply new day request reply new

@@ -1,0 +1,131 @@
+-- What is said to a request, and what becomes of the desk.
+use Rattle.std.specs.Prelude.{◌≡◌, ◌≢◌, ◌<◌, ◌⊎◌, ℕ, ℤ, List, Option, Some, All, AllPairs, Contains, IsSomeAnd, length}
+use Rattle.std.specs.FinMap.{get}
+use Rattle.rd_policy.specs.Verdicts.{IsVerdict}
+use Rattle.rd_policy.specs.declared.audience.Audience.{Audience}
+use Rattle.rd_policy.specs.declared.rule.Effect.TheVariants.{Deny, Read}
+use Rattle.rd_policy.specs.declared.rule.Rule.{Rule}
+use Rattle.rd_volume.specs.Volumes.{AreBytesOf, IsFound}
+use Rattle.rd_store.specs.State.{Desk, place_of, rules_for, terms_of, with_deed, with_image, with_key, with_rule, without_key, without_rule}
+use Rattle.rd_store.specs.declared.rows.ImageRow.{ImageRow}
+use Rattle.rd_desk.specs.Judged.{IsAccepted, IsAcceptedOn, IsAsked, IsRefusedOn, JudgedFile, audience_of}
+use Rattle.rd_desk.specs.Requests.{IsCommand}
+use Rattle.rd_desk.specs.Texts.{UNAVAILABLE, reply_of}
+use Rattle.rd_desk.specs.declared.refusal.Refusal.{Refusal}
+use Rattle.rd_desk.specs.declared.request.Request.{Request}
+use Rattle.rd_desk.specs.declared.request.What.{What}
+use Rattle.rd_desk.specs.declared.request.What.TheVariants.{Images, Listing, Bytes, PutImage, PutDeed, PutRule, DropRule, PutKey, DropKey}
+use Rattle.rd_desk.specs.declared.said.ImageLine.{ImageLine}
+use Rattle.rd_desk.specs.declared.said.Line.{Line}
+use Rattle.rd_desk.specs.declared.said.Listing.{Listing as Lines}
+use Rattle.rd_desk.specs.declared.said.Reply.{Reply}
+use Rattle.rd_desk.specs.declared.said.Said.{Said}
+use Rattle.rd_desk.specs.declared.said.Said.TheVariants as said
+
+-- ---- what is listed
+
+-- A file of an image as it is listed: told as it is, with the verdict of the rules on it, which is not to deny.
+pub record IsLine (image : ImageRow) (rules : List Rule) (audience : Audience) (day : ℤ) (line : Line) : Type 0 where
+  pub told : IsFound image.kind image.bytes line.file
+  pub decided : IsVerdict (Contains rules) audience day line.file line.verdict
+  pub shown : line.verdict.effect ≢ Deny
+
+-- The files of an image that are listed, by slot: each of these is one, and none is left out.
+pub record AreLines (image : ImageRow) (rules : List Rule) (audience : Audience) (day : ℤ) (lines : List Line) : Type 0 where
+  pub each : All (IsLine image rules audience day) lines
+  pub ascending : AllPairs (λ one other. one.file.slot < other.file.slot) lines
+  pub complete : (line : Line) → IsLine image rules audience day line → Contains lines line
+
+-- An accession as it is told: it stands, and as many of its files are listed, at least one.
+pub record IsImageLine (desk : Desk) (audience : Audience) (day : ℤ) (line : ImageLine) : Type 0 where
+  pub image : ImageRow
+  pub lines : List Line
+  pub standing : get desk.images line.accession ≡ Some image
+  pub deed : line.deed ≡ image.deed
+  pub kind : line.kind ≡ image.kind
+  pub listed : AreLines image (rules_for desk line.accession) audience day lines
+  pub count : line.files ≡ length lines
+  pub some : line.files ≢ 0
+
+-- The accessions of which a file is listed, ascending: each of these is one, and none is left out.
+pub record AreImageLines (desk : Desk) (audience : Audience) (day : ℤ) (lines : List ImageLine) : Type 0 where
+  pub each : All (IsImageLine desk audience day) lines
+  pub ascending : AllPairs (λ one other. one.accession < other.accession) lines
+  pub complete : (line : ImageLine) → IsImageLine desk audience day line → Contains lines line
+
+-- ---- what is said
+
+-- The accession that is asked for, as it is listed.
+pub record IsListing (desk : Desk) (audience : Audience) (day : ℤ) (acc : ℕ) (listing : Lines) : Type 0 where
+  pub image : ImageRow
+  pub standing : get desk.images acc ≡ Some image
+  pub accession : listing.accession ≡ acc
+  pub deed : listing.deed ≡ image.deed
+  pub kind : listing.kind ≡ image.kind
+  pub listed : AreLines image (rules_for desk acc) audience day listing.files
+
+-- The bytes of the file at a slot of an accession.
+pub record AreFileBytes (desk : Desk) (acc slot : ℕ) (bytes : List ℕ) : Type 0 where
+  pub image : ImageRow
+  pub standing : get desk.images acc ≡ Some image
+  pub are : AreBytesOf image.kind image.bytes slot bytes
+
+-- what is said to a request that is accepted; a file is served only where the verdict on it is to read
+abbrev pub Tells : Desk → Audience → ℤ → Option JudgedFile → Said → What → Type 0
+Tells desk audience day file said.Done what = IsCommand what
+Tells desk audience day file (said.Images lines) Images = AreImageLines desk audience day lines
+Tells desk audience day file (said.Listed listing) (Listing acc) = IsListing desk audience day acc listing
+Tells desk audience day file (said.File bytes) (Bytes acc slot) =
+    IsSomeAnd file (λ judged. judged.verdict.effect ≡ Read) × AreFileBytes desk acc slot bytes
+Tells desk audience day file answer what = ⊥
+
+-- ---- what becomes of the desk
+
+-- what an accepted request makes of the desk
+abbrev pub carried_out : What → Desk → Desk
+carried_out (PutImage acc kind deed digest bytes) desk =
+    with_image acc (record { kind = kind; deed = deed; digest = digest; bytes = bytes }) desk
+carried_out (PutDeed num donor signed) desk = with_deed num (record { donor = donor; signed = signed }) desk
+carried_out (PutRule rule) desk = with_rule (place_of rule) (terms_of rule) desk
+carried_out (DropRule band scope rank) desk = without_rule (record { band = band; scope = scope; rank = rank }) desk
+carried_out (PutKey digest audience) desk = with_key digest audience desk
+carried_out (DropKey digest) desk = without_key digest desk
+carried_out other desk = desk
+
+-- the desk after a request on a day: an accepted one is carried out, and a refused one changes nothing
+abbrev pub IsStep : Desk → ℤ → Request → Desk → Type 0
+IsStep old day request new =
+    (IsAcceptedOn old day request × (new ≡ carried_out request.what old))
+    ⊎ (((refusal : Refusal) × IsRefusedOn old day request refusal) × (new ≡ old))
+
+-- ---- answers
+
+-- The request is accepted and carried out, and this is said.
+pub record IsDone (old : Desk) (day : ℤ) (request : Request) (answer : Said) (new : Desk) : Type 0 where
+  pub file : Option JudgedFile
+  pub audience : Audience
+  pub asked : IsAsked old day request file
+  pub caller : audience_of old request.badge ≡ Some audience
+  pub accepted : IsAccepted old request file
+  pub tells : Tells old audience day file answer request.what
+  pub after : new ≡ carried_out request.what old
+
+-- what is said to a request on a day, and the desk after it
+abbrev pub IsAnswered : Desk → ℤ → Request → Said → Desk → Type 0
+IsAnswered old day request (said.Refused refusal) new = IsRefusedOn old day request refusal × (new ≡ old)
+IsAnswered old day request answer new = IsDone old day request answer new
+
+-- The reply to a request on a day, and the desk after it.
+pub record IsReply (old : Desk) (day : ℤ) (request : Request) (reply : Reply) (new : Desk) : Type 0 where
+  pub answer : Said
+  pub answered : IsAnswered old day request answer new
+  pub written : reply ≡ reply_of answer
+
+-- The store or memory failed, and the desk is as it was.
+pub record IsUnavailable (old : Desk) (reply : Reply) (new : Desk) : Type 0 where
+  pub written : reply ≡ UNAVAILABLE
+  pub after : new ≡ old
+
+-- a request is answered; or it is unavailable, and counts as none
+abbrev pub Answers : Desk → ℤ → Request → Reply → Desk → Type 0
+Answers old day request reply new = IsReply old day request reply new ⊎ IsUnavailable old reply new

@@ -1,0 +1,38 @@
+-- What a desk says of its store after a request.
+use Rattle.std.specs.Prelude.{◌≡◌, ◌≢◌, ◌⊎◌, ℕ, ℤ, List, None}
+use Rattle.sqlite.specs.Store.{Ghosts}
+use Rattle.sqlite.specs.Held.{Held}
+use Rattle.rd_store.specs.Held.{IsClean, IsOpen, Lasts, LeavesOnly, desk}
+use Rattle.rd_store.specs.State.{IsStaff}
+use Rattle.rd_desk.specs.Calls.{LeavesStep}
+use Rattle.rd_desk.specs.Judged.{audience_of}
+use Rattle.rd_desk.specs.Replies.{Answers, IsReply}
+use Rattle.rd_desk.specs.Requests.{IsCommand}
+use Rattle.rd_desk.specs.Texts.{UNAVAILABLE, reply_of}
+use Rattle.rd_desk.specs.declared.refusal.Refusal.TheVariants.{StaffOnly}
+use Rattle.rd_desk.specs.declared.request.Request.{Request}
+use Rattle.rd_desk.specs.declared.said.Reply.{Reply}
+use Rattle.rd_desk.specs.declared.said.Said.TheVariants.{Refused}
+
+-- A command of a caller without a badge: the reply is that it is for the staff, and the store is not touched.
+pub record IsTurnedAway {S : Type 0} (old new : Held S) (request : Request) (reply : Reply) : Type 0 where
+  pub nobody : request.badge ≡ None
+  pub command : IsCommand request.what
+  pub told : reply ≡ reply_of (Refused StaffOnly)
+  pub same : new ≡ old
+
+-- A request on a day, and its reply. Where the connection is open at the end, the request is answered or
+-- unavailable, a crash leaves the desk and nothing else, a staff key stands, and a command that left its
+-- caller's key as it was would be answered so again. Where the disk has returned what was written, the
+-- connection is open after each reply but that it is unavailable; and where it was open, a crash leaves the
+-- desk before the request or the one after it.
+pub record Serves {S : Type 0} (g : Ghosts S) (old new : Held S) (day : ℤ) (request : Request) (reply : Reply) : Type 0 where
+  pub lasts : Lasts g old new
+  pub answers : IsOpen g new → Answers (desk g old) day request reply (desk g new)
+  pub ends_open : IsClean g new → reply ≢ UNAVAILABLE → IsOpen g new ⊎ IsTurnedAway old new request reply
+  pub crash : IsOpen g old → IsClean g new → LeavesStep g old new day request
+  pub durable : IsOpen g new → LeavesOnly g new (desk g new)
+  pub staffed : IsOpen g new → (digest : List ℕ) × IsStaff (desk g new) digest
+  pub again : IsOpen g new → reply ≢ UNAVAILABLE → IsCommand request.what
+      → audience_of (desk g new) request.badge ≡ audience_of (desk g old) request.badge
+      → IsReply (desk g new) day request reply (desk g new)

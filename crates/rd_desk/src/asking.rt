@@ -1,0 +1,114 @@
+//! What the desk asks of its store: each call fails with `Unavailable` where the store or memory fails.
+
+ghost use Rattle.std.specs.Prelude.{◌≡◌, ◌++◌, IfOk, IfSome, is_some};
+ghost use Rattle.std.specs.FinMap.{get, keys};
+ghost use Rattle.rd_policy.specs.Verdicts.{AreInOrder};
+ghost use Rattle.rd_store.specs.Held.{desk};
+ghost use Rattle.rd_store.specs.State.{rules_at};
+ghost use Rattle.rd_desk.specs.Calls.{IsHolding, Looks};
+
+use crate::said::Unavailable;
+use rd_geometry::{Items, NoMemory};
+use rd_policy::{Audience, Band, Rule, in_order};
+use rd_store::{ImageRow, Store, StoreFault};
+use sqlite::Alter;
+use std::alloc::{AllocError, Global};
+
+/// An accession: its image, and the rules for its files in order.
+#[derive(Drop)]
+pub(crate) struct Holding {
+    pub image: ImageRow,
+    pub rules: Items<Rule>,
+}
+
+impl From<StoreFault> for Unavailable {
+    fn from(_: StoreFault) -> Unavailable {
+        Unavailable
+    }
+}
+
+impl From<NoMemory> for Unavailable {
+    fn from(_: NoMemory) -> Unavailable {
+        Unavailable
+    }
+}
+
+impl From<AllocError> for Unavailable {
+    fn from(_: AllocError) -> Unavailable {
+        Unavailable
+    }
+}
+
+/// The audience of the desk key with a digest; `None` where there is no such key.
+pub(crate) fn audience<S: Alter>(
+    store: &mut Store<S>,
+    digest: &[u8; 32],
+) -> Result<Option<Audience>, Unavailable>
+    ensures looks { Looks S.Store store.old store.new result (λ found. found ≡ get (desk S.Store store.old).keys digest.now) }
+{
+    Ok(store.audience_of(digest)?)
+}
+
+/// Whether a deed stands.
+pub(crate) fn has_deed<S: Alter>(store: &mut Store<S>, num: u32) -> Result<bool, Unavailable>
+    ensures looks { Looks S.Store store.old store.new result (λ found. found ≡ is_some (get (desk S.Store store.old).deeds num)) }
+{
+    Ok(store.deed(num)?.is_some())
+}
+
+/// All accessions, ascending.
+pub(crate) fn accessions<S: Alter>(
+    store: &mut Store<S>,
+    alloc: Global,
+) -> Result<Vec<u32>, Unavailable>
+    ensures looks { Looks S.Store store.old store.new result (λ found. found.items ≡ keys (desk S.Store store.old).images) }
+{
+    Ok(store.accessions(alloc)?)
+}
+
+/// The image of an accession; `None` where the accession does not stand.
+fn image<S: Alter>(
+    store: &mut Store<S>,
+    alloc: Global,
+    acc: u32,
+) -> Result<Option<ImageRow>, Unavailable>
+    ensures looks { Looks S.Store store.old store.new result (λ found. found ≡ get (desk S.Store store.old).images acc) }
+{
+    Ok(store.image(alloc, acc)?)
+}
+
+/// The takedowns of an accession and then the rules of its deed, in order.
+fn rules<S: Alter>(
+    store: &mut Store<S>,
+    alloc: Global,
+    acc: u32,
+    deed: u32,
+) -> Result<Items<Rule>, Unavailable>
+    ensures looks { Looks S.Store store.old store.new result (λ rules.
+        rules ≡ rules_at (desk S.Store store.old) Band.Takedown acc ++ rules_at (desk S.Store store.old) Band.Deed deed) }
+    ensures order { IfOk result AreInOrder }
+{
+    let rules = store.rules_under(alloc, acc, deed)?;
+    if in_order(&rules) {
+        Ok(Items::of(rules))
+    } else {
+        Err(Unavailable)
+    }
+}
+
+/// The image of an accession and the rules for its files, in order; `None` where the accession does not
+/// stand.
+pub(crate) fn look_up<S: Alter>(
+    store: &mut Store<S>,
+    alloc: Global,
+    acc: u32,
+) -> Result<Option<Holding>, Unavailable>
+    ensures looks { Looks S.Store store.old store.new result (IsHolding (desk S.Store store.old) acc) }
+    ensures order { IfOk result (λ found. IfSome found (λ holding. AreInOrder holding.rules)) }
+{
+    let Some(image) = image(store, alloc, acc)? else {
+        return Ok(None);
+    };
+    let rules = rules(store, alloc, acc, image.deed)?;
+    Ok(Some(Holding { image, rules }))
+}

@@ -1,0 +1,214 @@
+//! Commands of the staff, each in at most one transaction. Their caller knows that the staff asks, and each
+//! answers what it says only where its transaction is done.
+
+ghost use Rattle.std.specs.Prelude.{◌≡◌, ◌≢◌, ◌↔◌, Some, IsSome, IsTrue, length};
+ghost use Rattle.std.specs.FinMap.{get};
+ghost use Rattle.sha2.specs.Sha256.{sha256};
+ghost use Rattle.rd_geometry.specs.Kinds.{size_of};
+ghost use Rattle.rd_policy.specs.Rules.{IsRule, IsScope};
+ghost use Rattle.rd_store.specs.Held.{IsOpen, desk};
+ghost use Rattle.rd_store.specs.Lawful.{IsDeed};
+ghost use Rattle.rd_desk.specs.Calls.{Carries, missing_of};
+ghost use Rattle.rd_desk.specs.Judged.{audience_of};
+ghost use Rattle.rd_desk.specs.Requests.{IsCommand, IsRequest};
+
+use crate::asking::has_deed;
+use crate::refusal::Refusal;
+use crate::request::{Request, What};
+use crate::said::{Said, Unavailable};
+use rd_geometry::{Items, Kind, Text};
+use rd_policy::{Audience, Band, Rule};
+use rd_store::{Store, StoreFault};
+use sha2::{Digest, Sha256};
+use sqlite::Alter;
+
+/// What is missing where the accession of a takedown, or the deed of a rule, does not stand.
+fn missing(band: Band) -> Refusal
+    ensures { result ≡ missing_of band }
+{
+    match band {
+        Band::Takedown => Refusal::NoAccession,
+        Band::Deed => Refusal::NoDeed,
+    }
+}
+
+/// Puts a deed.
+fn put_deed<S: Alter>(
+    store: &mut Store<S>,
+    badge: &Option<[u8; 32]>,
+    num: u32,
+    donor: &Text,
+    signed: i32,
+) -> Result<Said, Unavailable>
+    requires known { IsOpen S.Store store.old → audience_of (desk S.Store store.old) badge.now ≡ Some Audience.Staff }
+    requires deed { IsDeed num (record { donor = donor.now; signed = signed }) }
+    ensures { Carries S.Store store.old store.new (record { badge = badge.now; what = What.PutDeed num donor.now signed }) result }
+{
+    store.put_deed(num, donor.as_str(), signed)?;
+    Ok(Said::Done)
+}
+
+/// Puts a rule.
+fn put_rule<S: Alter>(
+    store: &mut Store<S>,
+    badge: &Option<[u8; 32]>,
+    rule: &Rule,
+) -> Result<Said, Unavailable>
+    requires known { IsOpen S.Store store.old → audience_of (desk S.Store store.old) badge.now ≡ Some Audience.Staff }
+    requires rule { IsRule rule.now }
+    ensures { Carries S.Store store.old store.new (record { badge = badge.now; what = What.PutRule rule.now }) result }
+{
+    match store.put_rule(rule) {
+        Ok(()) => Ok(Said::Done),
+        Err(StoreFault::Missing) => Ok(Said::Refused(missing(rule.band))),
+        Err(StoreFault::Conflict | StoreFault::Sql) => Err(Unavailable),
+    }
+}
+
+/// Takes a rule away.
+fn drop_rule<S: Alter>(
+    store: &mut Store<S>,
+    badge: &Option<[u8; 32]>,
+    band: Band,
+    scope: u32,
+    rank: u16,
+) -> Result<Said, Unavailable>
+    requires known { IsOpen S.Store store.old → audience_of (desk S.Store store.old) badge.now ≡ Some Audience.Staff }
+    ensures { Carries S.Store store.old store.new (record { badge = badge.now; what = What.DropRule band scope rank }) result }
+{
+    match store.drop_rule(band, scope, rank) {
+        Ok(()) => Ok(Said::Done),
+        Err(StoreFault::Missing) => Ok(Said::Refused(missing(band))),
+        Err(StoreFault::Conflict | StoreFault::Sql) => Err(Unavailable),
+    }
+}
+
+/// Puts a desk key.
+fn put_key<S: Alter>(
+    store: &mut Store<S>,
+    badge: &Option<[u8; 32]>,
+    digest: &[u8; 32],
+    audience: Audience,
+) -> Result<Said, Unavailable>
+    requires known { IsOpen S.Store store.old → audience_of (desk S.Store store.old) badge.now ≡ Some Audience.Staff }
+    requires key { audience ≢ Audience.Public }
+    ensures { Carries S.Store store.old store.new (record { badge = badge.now; what = What.PutKey digest.now audience }) result }
+{
+    match store.put_key(digest, audience) {
+        Ok(()) => Ok(Said::Done),
+        Err(StoreFault::Conflict) => Ok(Said::Refused(Refusal::Conflict)),
+        Err(StoreFault::Missing | StoreFault::Sql) => Err(Unavailable),
+    }
+}
+
+/// Takes a desk key away.
+fn drop_key<S: Alter>(
+    store: &mut Store<S>,
+    badge: &Option<[u8; 32]>,
+    digest: &[u8; 32],
+) -> Result<Said, Unavailable>
+    requires known { IsOpen S.Store store.old → audience_of (desk S.Store store.old) badge.now ≡ Some Audience.Staff }
+    ensures { Carries S.Store store.old store.new (record { badge = badge.now; what = What.DropKey digest.now }) result }
+{
+    match store.drop_key(digest) {
+        Ok(()) => Ok(Said::Done),
+        Err(StoreFault::Conflict) => Ok(Said::Refused(Refusal::Conflict)),
+        Err(StoreFault::Missing | StoreFault::Sql) => Err(Unavailable),
+    }
+}
+
+/// Whether bytes have this SHA-256.
+fn has_digest(bytes: &[u8], digest: &[u8; 32]) -> bool
+    ensures { IsTrue result ↔ (sha256 bytes.now ≡ digest.now) }
+{
+    Sha256::digest(bytes) == *digest
+}
+
+/// Puts an image that has its kind's length and its SHA-256, under a deed that stands.
+fn commit_image<S: Alter>(
+    store: &mut Store<S>,
+    badge: &Option<[u8; 32]>,
+    acc: u32,
+    kind: Kind,
+    deed: u32,
+    digest: &[u8; 32],
+    bytes: &Items<u8>,
+) -> Result<Said, Unavailable>
+    requires known { IsOpen S.Store store.old → audience_of (desk S.Store store.old) badge.now ≡ Some Audience.Staff }
+    requires deed { IsOpen S.Store store.old → IsSome (get (desk S.Store store.old).deeds deed) }
+    requires scope { IsScope acc }
+    requires sized { length bytes.now ≡ size_of kind }
+    requires same { sha256 bytes.now ≡ digest.now }
+    ensures { Carries S.Store store.old store.new (record { badge = badge.now; what = What.PutImage acc kind deed digest.now bytes.now }) result }
+{
+    match store.put_image(acc, kind, deed, digest, bytes.as_slice()) {
+        Ok(()) => Ok(Said::Done),
+        Err(StoreFault::Conflict) => Ok(Said::Refused(Refusal::Conflict)),
+        Err(StoreFault::Missing | StoreFault::Sql) => Err(Unavailable),
+    }
+}
+
+/// Puts an image. Its bytes are digested once.
+fn put_image<S: Alter>(
+    store: &mut Store<S>,
+    badge: &Option<[u8; 32]>,
+    acc: u32,
+    kind: Kind,
+    deed: u32,
+    digest: &[u8; 32],
+    bytes: &Items<u8>,
+) -> Result<Said, Unavailable>
+    requires known { IsOpen S.Store store.old → audience_of (desk S.Store store.old) badge.now ≡ Some Audience.Staff }
+    requires scope { IsScope acc }
+    ensures { Carries S.Store store.old store.new (record { badge = badge.now; what = What.PutImage acc kind deed digest.now bytes.now }) result }
+{
+    if !has_deed(store, deed)? {
+        return Ok(Said::Refused(Refusal::NoDeed));
+    }
+    if bytes.as_slice().len() != kind.size() {
+        return Ok(Said::Refused(Refusal::WrongSize));
+    }
+    if !has_digest(bytes.as_slice(), digest) {
+        return Ok(Said::Refused(Refusal::DigestDiffers));
+    }
+    commit_image(store, badge, acc, kind, deed, digest, bytes)
+}
+
+/// A command whose body could not be read is refused.
+fn unread<S: Alter>(store: &mut Store<S>, badge: &Option<[u8; 32]>) -> Result<Said, Unavailable>
+    requires known { IsOpen S.Store store.old → audience_of (desk S.Store store.old) badge.now ≡ Some Audience.Staff }
+    ensures { Carries S.Store store.old store.new (record { badge = badge.now; what = What.Unread }) result }
+{
+    let _ = badge;
+    store.rests();
+    Ok(Said::Refused(Refusal::BadBody))
+}
+
+/// Carries out a command.
+pub(crate) fn command<S: Alter>(
+    store: &mut Store<S>,
+    request: &Request,
+) -> Result<Said, Unavailable>
+    requires known { IsOpen S.Store store.old → audience_of (desk S.Store store.old) request.now.badge ≡ Some Audience.Staff }
+    requires fits { IsRequest request.now.what }
+    requires command { IsCommand request.now.what }
+    ensures { Carries S.Store store.old store.new request.now result }
+{
+    let badge = &request.badge;
+    match &request.what {
+        What::PutImage {
+            acc,
+            kind,
+            deed,
+            digest,
+            bytes,
+        } => put_image(store, badge, *acc, *kind, *deed, digest, bytes),
+        What::PutDeed { num, donor, signed } => put_deed(store, badge, *num, donor, *signed),
+        What::PutRule(rule) => put_rule(store, badge, rule),
+        What::DropRule { band, scope, rank } => drop_rule(store, badge, *band, *scope, *rank),
+        What::PutKey { digest, audience } => put_key(store, badge, digest, *audience),
+        What::DropKey { digest } => drop_key(store, badge, digest),
+        What::Unread => unread(store, badge),
+        What::Images | What::Listing(_) | What::Bytes(_, _) => unreachable!(),
+    }
+}

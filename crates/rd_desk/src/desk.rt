@@ -1,0 +1,223 @@
+//! The desk: who sees what, by which rule, and what becomes of the tables.
+
+ghost use Rattle.std.specs.Prelude.{◌≡◌, ◌↔◌, Ok, IsOk, IfOk, Some, None};
+ghost use Rattle.sqlite.specs.Steps.{over_memory};
+ghost use Rattle.rd_policy.specs.Days.{HasDay, IsOffset, day_number};
+ghost use Rattle.rd_store.specs.Held.{IsClean, IsOpen, LeavesOpen, desk, desk as tables};
+ghost use Rattle.rd_desk.specs.Calls.{IsWritten, Responds};
+ghost use Rattle.rd_desk.specs.Judged.{audience_of};
+ghost use Rattle.rd_desk.specs.Replies.{Answers};
+ghost use Rattle.rd_desk.specs.Requests.{IsCommand, IsRequest};
+ghost use Rattle.rd_desk.specs.Served.{Serves};
+
+use crate::asking::audience;
+use crate::commands::command;
+use crate::json;
+use crate::queries::{Caller, query};
+use crate::refusal::Refusal;
+use crate::request::Request;
+use crate::said::{Reply, Said, Unavailable};
+use rd_policy::{Audience, OutOfRange, day_of, is_offset};
+use rd_store::{Store, memory_stays_open};
+use sqlite::{Alter, MemStore};
+use std::alloc::Global;
+
+/// What is said to a caller who is known.
+fn respond<S: Alter>(
+    store: &mut Store<S>,
+    alloc: Global,
+    caller: &Caller,
+    request: &Request,
+) -> Result<Said, Unavailable>
+    requires known { IsOpen S.Store store.old → audience_of (desk S.Store store.old) request.now.badge ≡ Some caller.now.audience }
+    requires fits { IsRequest request.now.what }
+    ensures responds { Responds S.Store store.old store.new caller.now.day request.now result }
+    ensures ends_open { (IsClean S.Store store.old → IsOpen S.Store store.old) → LeavesOpen S.Store store.new result }
+{
+    if !request.what.is_command() {
+        return query(store, alloc, caller, request);
+    }
+    store.rests();
+    if caller.audience != Audience::Staff {
+        return Ok(Said::Refused(Refusal::StaffOnly));
+    }
+    command(store, request)
+}
+
+/// What is said to a caller with a badge.
+fn respond_to_badge<S: Alter>(
+    store: &mut Store<S>,
+    alloc: Global,
+    day: i32,
+    request: &Request,
+    badge: &[u8; 32],
+) -> Result<Said, Unavailable>
+    requires badge { request.now.badge ≡ Some badge.now }
+    requires fits { IsRequest request.now.what }
+    ensures responds { Responds S.Store store.old store.new day request.now result }
+    ensures ends_open { LeavesOpen S.Store store.new result }
+{
+    let Some(audience) = audience(store, badge)? else {
+        return Ok(Said::Refused(Refusal::UnknownKey));
+    };
+    respond(store, alloc, &Caller { audience, day }, request)
+}
+
+/// What is said to a caller without a badge. The public gives no commands, and where it is asked for one the
+/// store is not touched.
+fn respond_to_public<S: Alter>(
+    store: &mut Store<S>,
+    alloc: Global,
+    day: i32,
+    request: &Request,
+) -> Result<Said, Unavailable>
+    requires nobody { request.now.badge ≡ None }
+    ensures responds { Responds S.Store store.old store.new day request.now result }
+    ensures ends_open { ¬ IsCommand request.now.what → LeavesOpen S.Store store.new result }
+    ensures turned_away { IsCommand request.now.what → (result ≡ Ok (Said.Refused Refusal.StaffOnly)) × (store.new ≡ store.old) }
+{
+    if request.what.is_command() {
+        store.rests();
+        return Ok(Said::Refused(Refusal::StaffOnly));
+    }
+    let audience = Audience::Public;
+    query(store, alloc, &Caller { audience, day }, request)
+}
+
+/// What is said as a reply; where it was not told, or there is no memory for it, that it is unavailable.
+fn reply_with(alloc: Global, said: Result<Said, Unavailable>) -> Reply
+    ensures { IsWritten said result }
+{
+    match said {
+        Ok(Said::Done) => json::done(),
+        Ok(said) => match json::reply_to(alloc, said) {
+            Ok(reply) => reply,
+            Err(_) => json::unavailable(),
+        },
+        Err(_) => json::unavailable(),
+    }
+}
+
+/// The reply to a caller with a badge.
+fn reply_to_badge<S: Alter>(
+    store: &mut Store<S>,
+    alloc: Global,
+    day: i32,
+    request: &Request,
+    badge: &[u8; 32],
+) -> Reply
+    requires badge { request.now.badge ≡ Some badge.now }
+    requires fits { IsRequest request.now.what }
+    ensures serves { Serves S.Store store.old store.new day request.now result }
+{
+    let said = respond_to_badge(store, alloc, day, request, badge);
+    store.rests();
+    reply_with(alloc, said)
+}
+
+/// The reply to a caller without a badge.
+fn reply_to_public<S: Alter>(
+    store: &mut Store<S>,
+    alloc: Global,
+    day: i32,
+    request: &Request,
+) -> Reply
+    requires nobody { request.now.badge ≡ None }
+    ensures serves { Serves S.Store store.old store.new day request.now result }
+{
+    let said = respond_to_public(store, alloc, day, request);
+    store.rests();
+    reply_with(alloc, said)
+}
+
+/// The reply to a request on a day.
+fn reply_on<S: Alter>(store: &mut Store<S>, alloc: Global, day: i32, request: &Request) -> Reply
+    requires fits { IsRequest request.now.what }
+    ensures serves { Serves S.Store store.old store.new day request.now result }
+{
+    match &request.badge {
+        Some(badge) => reply_to_badge(store, alloc, day, request, badge),
+        None => reply_to_public(store, alloc, day, request),
+    }
+}
+
+/// The desk over its store, whose clocks are some minutes ahead of UTC.
+pub struct Desk<S: Alter> {
+    store: Store<S>,
+    offset_minutes: i32,
+}
+
+impl<S: Alter + Drop> Desk<S> {
+    /// A desk over a store, whose clocks are this many minutes ahead of UTC, −1,439 to 1,439. The store is
+    /// not touched.
+    ///
+    /// It fails with `OutOfRange` exactly where the offset is none of those, and drops the store.
+    pub fn new(store: Store<S>, offset_minutes: i32) -> Result<Desk<S>, OutOfRange>
+        ensures taken { IsOk result ↔ IsOffset offset_minutes }
+        ensures store { IfOk result (λ desk. desk.store ≡ store) }
+        ensures offset { IfOk result (λ desk. desk.offset_minutes ≡ offset_minutes) }
+    {
+        if !is_offset(offset_minutes) {
+            return Err(OutOfRange);
+        }
+        Ok(Desk {
+            store,
+            offset_minutes,
+        })
+    }
+}
+
+impl<S: Alter> Desk<S> {
+    /// The day of a moment, in seconds since 1970-01-01T00:00:00 UTC, counted from 1970-01-01.
+    ///
+    /// It fails with `OutOfRange` exactly where it is not a day of the years 1 to 9999.
+    pub fn day(&self, seconds: i64) -> Result<i32, OutOfRange>
+        ensures taken { IsOk result ↔ HasDay seconds self.now.offset_minutes }
+        ensures day { IfOk result (λ day. day ≡ day_number seconds self.now.offset_minutes) }
+    {
+        day_of(seconds, self.offset_minutes)
+    }
+
+    /// Gives the store back, with the state that it has.
+    pub fn into_store(self) -> Store<S>
+        ensures { result ≡ self.store }
+    {
+        let Desk {
+            store,
+            offset_minutes: _,
+        } = self;
+        store
+    }
+
+    /// The reply to a request whose values are within their limits (`Request::fits`), at a moment in seconds
+    /// since 1970-01-01T00:00:00 UTC that has a day (`Desk::day`). A command is done whole or not at all, and
+    /// a reply with status 503 follows no change.
+    pub fn answer(&mut self, alloc: Global, seconds: i64, request: &Request) -> Reply
+        requires moment { HasDay seconds self.old.offset_minutes }
+        requires fits { IsRequest request.now.what }
+        ensures serves { Serves S.Store self.old.store self.new.store (day_number seconds self.old.offset_minutes) request.now result }
+        ensures offset { self.new.offset_minutes ≡ self.old.offset_minutes }
+    {
+        match self.day(seconds) {
+            Ok(day) => reply_on(&mut self.store, alloc, day, request),
+            Err(_) => unreachable!(),
+        }
+    }
+}
+
+/// `Desk::answer` of a desk in memory, where no disk can fail: the request is answered, or unavailable.
+pub fn answer_in_memory(
+    desk: &mut Desk<MemStore>,
+    alloc: Global,
+    seconds: i64,
+    request: &Request,
+) -> Reply
+    requires moment { HasDay seconds desk.old.offset_minutes }
+    requires fits { IsRequest request.now.what }
+    ensures answers { Answers (tables over_memory desk.old.store) (day_number seconds desk.old.offset_minutes) request.now result (tables over_memory desk.new.store) }
+    ensures serves { Serves over_memory desk.old.store desk.new.store (day_number seconds desk.old.offset_minutes) request.now result }
+    ensures offset { desk.new.offset_minutes ≡ desk.old.offset_minutes }
+{
+    memory_stays_open();
+    desk.answer(alloc, seconds, request)
+}

@@ -1,0 +1,221 @@
+//! What a caller may see and read.
+
+ghost use Rattle.std.specs.Prelude.{◌≡◌, Contains, IfOk, Some};
+ghost use Rattle.rd_policy.specs.Verdicts.{AreInOrder, IsVerdict};
+ghost use Rattle.rd_store.specs.Held.{IsClean, IsOpen, desk};
+ghost use Rattle.rd_desk.specs.Calls.{Looks};
+ghost use Rattle.rd_desk.specs.Judged.{audience_of};
+ghost use Rattle.rd_desk.specs.Queries.{AreLinesOf, AreLinesOfEach, IsCounted, IsRead};
+ghost use Rattle.rd_desk.specs.Replies.{AreLines, IsAnswered};
+ghost use Rattle.rd_desk.specs.Requests.{IsCommand};
+
+use crate::asking::{Holding, accessions, look_up};
+use crate::files::{contents, file_at, files};
+use crate::refusal::Refusal;
+use crate::request::{Request, What};
+use crate::said::{ImageLine, Line, Listing, Said, Unavailable};
+use rd_geometry::Items;
+use rd_policy::{Audience, Effect, Rule, Verdict, decide};
+use rd_store::Store;
+use rd_volume::Found;
+use sqlite::Alter;
+use std::alloc::Global;
+
+/// Who asks, and on which day.
+#[derive(Clone, Copy)]
+pub(crate) struct Caller {
+    pub audience: Audience,
+    pub day: i32,
+}
+
+/// What the rules say of a file to a caller.
+fn judge(rules: &[Rule], caller: &Caller, file: &Found) -> Verdict
+    requires { AreInOrder rules.now }
+    ensures { IsVerdict (Contains rules.now) caller.now.audience caller.now.day file.now result }
+{
+    decide(rules, caller.audience, caller.day, file)
+}
+
+/// What is said of the file at a slot of an accession. The verdict comes before the class and the faults.
+fn read(alloc: Global, holding: &Holding, caller: &Caller, slot: u16) -> Result<Said, Unavailable>
+    requires order { AreInOrder holding.now.rules }
+    ensures { IfOk result (IsRead holding.now caller.now.audience caller.now.day slot) }
+{
+    let Some(file) = file_at(alloc, &holding.image, slot)? else {
+        return Ok(Said::Refused(Refusal::NoFile));
+    };
+    let verdict = judge(holding.rules.as_slice(), caller, &file);
+    if verdict.effect != Effect::Read {
+        return Ok(Said::Refused(Refusal::Denied(verdict.label)));
+    }
+    if !file.served_class {
+        return Ok(Said::Refused(Refusal::ListedOnly));
+    }
+    if file.faults != 0 {
+        return Ok(Said::Refused(Refusal::Faulty(holding.image.kind, file.faults)));
+    }
+    Ok(Said::File(contents(alloc, &holding.image, &file)?))
+}
+
+/// The bytes of the file at a slot of an accession.
+fn bytes<S: Alter>(
+    store: &mut Store<S>,
+    alloc: Global,
+    caller: &Caller,
+    badge: &Option<[u8; 32]>,
+    acc: u32,
+    slot: u16,
+) -> Result<Said, Unavailable>
+    requires known { IsOpen S.Store store.old → audience_of (desk S.Store store.old) badge.now ≡ Some caller.now.audience }
+    ensures { Looks S.Store store.old store.new result (λ said.
+        IsAnswered (desk S.Store store.old) caller.now.day (record { badge = badge.now; what = What.Bytes acc slot }) said (desk S.Store store.old)) }
+{
+    let _ = badge;
+    match look_up(store, alloc, acc)? {
+        Some(holding) => read(alloc, &holding, caller, slot),
+        None => Ok(Said::Refused(Refusal::NoAccession)),
+    }
+}
+
+/// Of these files those that are listed, each with the verdict on it.
+fn listed(
+    alloc: Global,
+    rules: &[Rule],
+    caller: &Caller,
+    files: Items<Found>,
+) -> Result<Items<Line>, Unavailable>
+    requires order { AreInOrder rules.now }
+    ensures { IfOk result (AreLinesOf rules.now caller.now.audience caller.now.day files) }
+{
+    let mut lines = Vec::new(alloc);
+    for file in files.into_vec() {
+        let verdict = judge(rules, caller, &file);
+        if verdict.effect != Effect::Deny {
+            let Ok(()) = lines.push(Line { file, verdict }) else {
+                return Err(Unavailable);
+            };
+        }
+    }
+    Ok(Items::of(lines))
+}
+
+/// The files of an accession that are listed.
+fn lines(alloc: Global, holding: &Holding, caller: &Caller) -> Result<Items<Line>, Unavailable>
+    requires order { AreInOrder holding.now.rules }
+    ensures { IfOk result (AreLines holding.now.image holding.now.rules caller.now.audience caller.now.day) }
+{
+    let files = files(alloc, &holding.image)?;
+    listed(alloc, holding.rules.as_slice(), caller, files)
+}
+
+/// The accession that is asked for, with its files that are listed.
+fn listing<S: Alter>(
+    store: &mut Store<S>,
+    alloc: Global,
+    caller: &Caller,
+    badge: &Option<[u8; 32]>,
+    acc: u32,
+) -> Result<Said, Unavailable>
+    requires known { IsOpen S.Store store.old → audience_of (desk S.Store store.old) badge.now ≡ Some caller.now.audience }
+    ensures { Looks S.Store store.old store.new result (λ said.
+        IsAnswered (desk S.Store store.old) caller.now.day (record { badge = badge.now; what = What.Listing acc }) said (desk S.Store store.old)) }
+{
+    let _ = badge;
+    let Some(holding) = look_up(store, alloc, acc)? else {
+        return Ok(Said::Refused(Refusal::NoAccession));
+    };
+    let files = lines(alloc, &holding, caller)?;
+    Ok(Said::Listed(Listing {
+        accession: acc,
+        deed: holding.image.deed,
+        kind: holding.image.kind,
+        files,
+    }))
+}
+
+/// How many files of an accession that stands are listed, beside what else is told of it.
+fn image_line<S: Alter>(
+    store: &mut Store<S>,
+    alloc: Global,
+    caller: &Caller,
+    acc: u32,
+) -> Result<ImageLine, Unavailable>
+    ensures { Looks S.Store store.old store.new result (IsCounted (desk S.Store store.old) caller.now.audience caller.now.day acc) }
+{
+    let Some(holding) = look_up(store, alloc, acc)? else {
+        return Err(Unavailable);
+    };
+    let files = lines(alloc, &holding, caller)?;
+    Ok(ImageLine {
+        accession: acc,
+        deed: holding.image.deed,
+        kind: holding.image.kind,
+        files: files.as_slice().len(),
+    })
+}
+
+/// Of these accessions those of which a file is listed.
+fn image_lines<S: Alter>(
+    store: &mut Store<S>,
+    alloc: Global,
+    caller: &Caller,
+    accessions: &[u32],
+) -> Result<Items<ImageLine>, Unavailable>
+    requires awake { IsClean S.Store store.old → IsOpen S.Store store.old }
+    ensures { Looks S.Store store.old store.new result (AreLinesOfEach (desk S.Store store.old) caller.now.audience caller.now.day accessions.now) }
+{
+    let mut lines = Vec::new(alloc);
+    store.rests();
+    for acc in accessions {
+        let line = image_line(store, alloc, caller, *acc)?;
+        if line.files > 0 {
+            let Ok(()) = lines.push(line) else {
+                return Err(Unavailable);
+            };
+        }
+    }
+    Ok(Items::of(lines))
+}
+
+/// The accessions of which a file is listed.
+fn images<S: Alter>(
+    store: &mut Store<S>,
+    alloc: Global,
+    caller: &Caller,
+    badge: &Option<[u8; 32]>,
+) -> Result<Said, Unavailable>
+    requires known { IsOpen S.Store store.old → audience_of (desk S.Store store.old) badge.now ≡ Some caller.now.audience }
+    ensures { Looks S.Store store.old store.new result (λ said.
+        IsAnswered (desk S.Store store.old) caller.now.day (record { badge = badge.now; what = What.Images }) said (desk S.Store store.old)) }
+{
+    let _ = badge;
+    let accessions = accessions(store, alloc)?;
+    Ok(Said::Images(image_lines(store, alloc, caller, accessions.as_slice())?))
+}
+
+/// What is said to a query.
+pub(crate) fn query<S: Alter>(
+    store: &mut Store<S>,
+    alloc: Global,
+    caller: &Caller,
+    request: &Request,
+) -> Result<Said, Unavailable>
+    requires known { IsOpen S.Store store.old → audience_of (desk S.Store store.old) request.now.badge ≡ Some caller.now.audience }
+    requires query { ¬ IsCommand request.now.what }
+    ensures { Looks S.Store store.old store.new result (λ said.
+        IsAnswered (desk S.Store store.old) caller.now.day request.now said (desk S.Store store.old)) }
+{
+    let badge = &request.badge;
+    match &request.what {
+        What::Images => images(store, alloc, caller, badge),
+        What::Listing(acc) => listing(store, alloc, caller, badge, *acc),
+        What::Bytes(acc, slot) => bytes(store, alloc, caller, badge, *acc, *slot),
+        What::PutImage { .. }
+        | What::PutDeed { .. }
+        | What::PutRule(_)
+        | What::DropRule { .. }
+        | What::PutKey { .. }
+        | What::DropKey { .. }
+        | What::Unread => unreachable!(),
+    }
+}
