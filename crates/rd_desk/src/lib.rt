@@ -12,6 +12,8 @@ mod queries;
 mod refusal;
 mod request;
 mod said;
+#[cfg(test)]
+mod tests;
 
 pub use body::{Body, BodyPieces};
 pub use desk::{Desk, answer_in_memory};
