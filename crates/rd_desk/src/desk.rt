@@ -142,6 +142,7 @@ fn reply_on<S: Alter>(store: &mut Store<S>, alloc: Global, day: i32, request: &R
 }
 
 /// The desk over its store, whose clocks are some minutes ahead of UTC.
+#[derive(Drop)]
 pub struct Desk<S: Alter> {
     store: Store<S>,
     offset_minutes: i32,

@@ -1,2 +1,10 @@
+mod cases;
+mod done;
 mod limits;
+mod refusals;
+mod refused;
+mod requests;
+mod rows;
+mod rules;
+mod state;
 mod texts;

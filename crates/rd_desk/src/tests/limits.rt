@@ -1,158 +1,500 @@
-//! The limits of what may be asked, each from inside and from outside.
+//! Which requests, offsets and moments are within their limits.
 
-use crate::{Request, What};
-use rd_geometry::{Items, Kind, NoMemory, Text};
-use rd_policy::{Audience, Audiences, Band, Effect, Rule, Select};
+use super::requests::{
+    Ask, Files, NewImage, NewRule, PUBLIC, Picture, digest_of, digest_of_picture, request_of,
+};
+use super::state::{
+    AFTER, BEFORE, CLOSED, OPEN, OPENING, PROGRAM, STAFF_DIGEST, TAKEDOWN, create, new_connection,
+};
+use crate::{Desk, Request, What};
+use rd_geometry::{NoMemory, Text};
+use rd_policy::{Audience, Audiences, Band, Effect, OutOfRange};
+use rd_store::Store;
+use sqlite::MemStore;
 use std::alloc::Global;
 use std::process::Abort;
 use std::test::Fail;
 
-/// What is asked, with those of its values that have limits.
-#[derive(Clone, Copy, Debug)]
-enum Asked<'a> {
-    Images,
-    Listing(u32),
-    Bytes(u32, u16),
-    /// An image, by its accession and deed.
-    PutImage(u32, u32),
-    /// A deed by its number, its donor's name, which is a text so many times, and its day.
-    PutDeed(u32, (&'a str, usize), i32),
-    /// A rule by its band, scope, rank and effect.
-    PutRule(Band, u32, u16, Effect),
-    /// A rule of a deed, by its number and rank.
-    DropRule(u32, u16),
-    PutKey(Audience),
-    DropKey,
-    Unread,
-}
+const NOBODY_AT_ALL: Audiences = Audiences {
+    public: false,
+    room: false,
+    staff: false,
+};
 
-/// A donor's name.
-const CURATOR: (&str, usize) = ("A. Curator", 1);
+const SIXTEEN: &str = "ABCDEFGHIJKLMNOP";
 
-const CASES: &[(Asked<'static>, bool)] = &[
-    (Asked::Images, true),
-    (Asked::Listing(0), false),
-    (Asked::Listing(1), true),
-    (Asked::Listing(999_999), true),
-    (Asked::Listing(1_000_000), false),
-    (Asked::Bytes(1, 0), true),
-    (Asked::Bytes(999_999, 9_999), true),
-    (Asked::Bytes(1, 10_000), false),
-    (Asked::Bytes(0, 0), false),
-    (Asked::Bytes(1_000_000, 0), false),
-    (Asked::PutImage(1, 1), true),
-    (Asked::PutImage(999_999, 999_999), true),
-    (Asked::PutImage(0, 1), false),
-    (Asked::PutImage(1, 0), false),
-    (Asked::PutImage(1_000_000, 1), false),
-    (Asked::PutImage(1, 1_000_000), false),
-    (Asked::PutDeed(8, CURATOR, 18_020), true),
-    (Asked::PutDeed(1, (" ", 1), -719_162), true),
-    (Asked::PutDeed(999_999, ("A", 1_000), 2_932_896), true),
-    (Asked::PutDeed(0, CURATOR, 0), false),
-    (Asked::PutDeed(1_000_000, CURATOR, 0), false),
-    (Asked::PutDeed(8, ("", 1), 0), false),
-    (Asked::PutDeed(8, ("A", 1_001), 0), false),
-    (Asked::PutDeed(8, ("\u{1f}", 1), 0), false),
-    (Asked::PutDeed(8, CURATOR, -719_163), false),
-    (Asked::PutDeed(8, CURATOR, 2_932_897), false),
-    (Asked::PutRule(Band::Deed, 1, 1, Effect::Read), true),
-    (
-        Asked::PutRule(Band::Takedown, 999_999, 9_999, Effect::List),
-        true,
-    ),
-    (Asked::PutRule(Band::Takedown, 12, 1, Effect::Read), false),
-    (Asked::PutRule(Band::Deed, 7, 0, Effect::Read), false),
-    (Asked::PutRule(Band::Deed, 7, 10_000, Effect::Read), false),
-    (Asked::PutRule(Band::Deed, 0, 1, Effect::Read), false),
-    (
-        Asked::PutRule(Band::Deed, 1_000_000, 1, Effect::Read),
-        false,
-    ),
-    (Asked::DropRule(1, 1), true),
-    (Asked::DropRule(999_999, 9_999), true),
-    (Asked::DropRule(0, 1), false),
-    (Asked::DropRule(1_000_000, 1), false),
-    (Asked::DropRule(1, 0), false),
-    (Asked::DropRule(1, 10_000), false),
-    (Asked::PutKey(Audience::Public), false),
-    (Asked::PutKey(Audience::Room), true),
-    (Asked::PutKey(Audience::Staff), true),
-    (Asked::DropKey, true),
-    (Asked::Unread, true),
+const SEVENTEEN: &str = "ABCDEFGHIJKLMNOPQ";
+
+const SIXTY_FOUR: &str = "ABCDEFGHIJKLMNOPABCDEFGHIJKLMNOPABCDEFGHIJKLMNOPABCDEFGHIJKLMNOP";
+
+const SIXTY_FIVE: &str = "ABCDEFGHIJKLMNOPABCDEFGHIJKLMNOPABCDEFGHIJKLMNOPABCDEFGHIJKLMNOPQ";
+
+/// What is asked, and whether its values are within their limits.
+type Limit = (&'static str, Ask, bool);
+
+const QUESTIONS: &[Limit] = &[
+    ("images", Ask::Images, true),
+    ("listing of 0", Ask::Listing(0), false),
+    ("listing of 1", Ask::Listing(1), true),
+    ("listing of 999,999", Ask::Listing(999_999), true),
+    ("listing of 1,000,000", Ask::Listing(1_000_000), false),
+    ("bytes of 0", Ask::Bytes(0, 0), false),
+    ("bytes of 1,000,000", Ask::Bytes(1_000_000, 0), false),
+    ("slot 9,999", Ask::Bytes(999_999, 9_999), true),
+    ("slot 10,000", Ask::Bytes(12, 10_000), false),
+    ("unread", Ask::Unread, true),
 ];
 
-fn rule(band: Band, scope: u32, rank: u16, effect: Effect) -> Rule {
-    Rule {
-        band,
-        scope,
-        rank,
-        audiences: Audiences {
-            public: true,
-            room: false,
-            staff: false,
-        },
-        from: None,
-        until: None,
-        select: Select::All,
-        effect,
-    }
+const COMMANDS: &[Limit] = &[
+    ("image", Ask::PutImage(PROGRAM), true),
+    (
+        "image of another size",
+        Ask::PutImage(NewImage {
+            bytes: Picture::Cut,
+            ..PROGRAM
+        }),
+        true,
+    ),
+    (
+        "image 0",
+        Ask::PutImage(NewImage { acc: 0, ..PROGRAM }),
+        false,
+    ),
+    (
+        "image 1,000,000",
+        Ask::PutImage(NewImage {
+            acc: 1_000_000,
+            ..PROGRAM
+        }),
+        false,
+    ),
+    (
+        "image under deed 0",
+        Ask::PutImage(NewImage { deed: 0, ..PROGRAM }),
+        false,
+    ),
+    (
+        "image under deed 1,000,000",
+        Ask::PutImage(NewImage {
+            deed: 1_000_000,
+            ..PROGRAM
+        }),
+        false,
+    ),
+    ("deed 8", Ask::PutDeed(8, "B. Donor", 18_321), true),
+    ("deed 0", Ask::PutDeed(0, "B. Donor", 18_321), false),
+    (
+        "deed 1,000,000",
+        Ask::PutDeed(1_000_000, "B. Donor", 18_321),
+        false,
+    ),
+    ("no donor", Ask::PutDeed(8, "", 18_321), false),
+    (
+        "donor of two lines",
+        Ask::PutDeed(8, "B.\nDonor", 18_321),
+        false,
+    ),
+    (
+        "donor with a DEL",
+        Ask::PutDeed(8, "B.\u{7f}\u{dc}", 18_321),
+        true,
+    ),
+    (
+        "signed on the first day",
+        Ask::PutDeed(8, "B. Donor", -719_162),
+        true,
+    ),
+    (
+        "signed on the day before",
+        Ask::PutDeed(8, "B. Donor", -719_163),
+        false,
+    ),
+    (
+        "signed on the last day",
+        Ask::PutDeed(8, "B. Donor", 2_932_896),
+        true,
+    ),
+    (
+        "signed on the day after",
+        Ask::PutDeed(8, "B. Donor", 2_932_897),
+        false,
+    ),
+    (
+        "rank 9,999 dropped",
+        Ask::DropRule(Band::Deed, 999_999, 9_999),
+        true,
+    ),
+    ("rank 0 dropped", Ask::DropRule(Band::Deed, 7, 0), false),
+    (
+        "rank 10,000 dropped",
+        Ask::DropRule(Band::Takedown, 12, 10_000),
+        false,
+    ),
+    (
+        "rule of deed 0 dropped",
+        Ask::DropRule(Band::Deed, 0, 1),
+        false,
+    ),
+    (
+        "takedown of 1,000,000 dropped",
+        Ask::DropRule(Band::Takedown, 1_000_000, 1),
+        false,
+    ),
+    (
+        "key of the room",
+        Ask::PutKey("hello", Audience::Room),
+        true,
+    ),
+    (
+        "key of the staff",
+        Ask::PutKey("hello", Audience::Staff),
+        true,
+    ),
+    (
+        "key of the public",
+        Ask::PutKey("hello", Audience::Public),
+        false,
+    ),
+    ("key dropped", Ask::DropKey("hello"), true),
+];
+
+const RULES: &[Limit] = &[
+    ("takedown", Ask::PutRule(TAKEDOWN), true),
+    (
+        "takedown that lists",
+        Ask::PutRule(NewRule {
+            effect: Effect::List,
+            ..TAKEDOWN
+        }),
+        true,
+    ),
+    (
+        "takedown that lets read",
+        Ask::PutRule(NewRule {
+            effect: Effect::Read,
+            ..TAKEDOWN
+        }),
+        false,
+    ),
+    (
+        "takedown of rank 0",
+        Ask::PutRule(NewRule {
+            rank: 0,
+            ..TAKEDOWN
+        }),
+        false,
+    ),
+    (
+        "rule of rank 9,999",
+        Ask::PutRule(NewRule {
+            rank: 9_999,
+            ..OPEN
+        }),
+        true,
+    ),
+    (
+        "rule of rank 10,000",
+        Ask::PutRule(NewRule {
+            rank: 10_000,
+            ..OPEN
+        }),
+        false,
+    ),
+    (
+        "rule of deed 0",
+        Ask::PutRule(NewRule { scope: 0, ..OPEN }),
+        false,
+    ),
+    (
+        "rule of deed 1,000,000",
+        Ask::PutRule(NewRule {
+            scope: 1_000_000,
+            ..OPEN
+        }),
+        false,
+    ),
+    (
+        "rule for nobody",
+        Ask::PutRule(NewRule {
+            audiences: NOBODY_AT_ALL,
+            ..OPEN
+        }),
+        false,
+    ),
+    (
+        "from the first day",
+        Ask::PutRule(NewRule {
+            from: Some(-719_162),
+            ..OPEN
+        }),
+        true,
+    ),
+    (
+        "from the day before",
+        Ask::PutRule(NewRule {
+            from: Some(-719_163),
+            ..OPEN
+        }),
+        false,
+    ),
+    (
+        "until the last day",
+        Ask::PutRule(NewRule {
+            until: Some(2_932_896),
+            ..OPEN
+        }),
+        true,
+    ),
+    (
+        "until the day after",
+        Ask::PutRule(NewRule {
+            until: Some(2_932_897),
+            ..OPEN
+        }),
+        false,
+    ),
+    (
+        "end before beginning",
+        Ask::PutRule(NewRule {
+            from: Some(OPENING + 1),
+            ..CLOSED
+        }),
+        true,
+    ),
+    (
+        "slot 9,999",
+        Ask::PutRule(NewRule {
+            files: Files::Slot(9_999),
+            ..OPEN
+        }),
+        true,
+    ),
+    (
+        "slot 10,000",
+        Ask::PutRule(NewRule {
+            files: Files::Slot(10_000),
+            ..OPEN
+        }),
+        false,
+    ),
+    (
+        "user 15",
+        Ask::PutRule(NewRule {
+            files: Files::User(15),
+            ..OPEN
+        }),
+        true,
+    ),
+    (
+        "user 16",
+        Ask::PutRule(NewRule {
+            files: Files::User(16),
+            ..OPEN
+        }),
+        false,
+    ),
+    (
+        "empty prefix",
+        Ask::PutRule(NewRule {
+            files: Files::Prefix(""),
+            ..OPEN
+        }),
+        true,
+    ),
+    (
+        "prefix of 64",
+        Ask::PutRule(NewRule {
+            files: Files::Prefix(SIXTY_FOUR),
+            ..OPEN
+        }),
+        true,
+    ),
+    (
+        "prefix of 65",
+        Ask::PutRule(NewRule {
+            files: Files::Prefix(SIXTY_FIVE),
+            ..OPEN
+        }),
+        false,
+    ),
+    (
+        "prefix with a tab",
+        Ask::PutRule(NewRule {
+            files: Files::Prefix("A\t"),
+            ..OPEN
+        }),
+        false,
+    ),
+    (
+        "prefix with a DEL",
+        Ask::PutRule(NewRule {
+            files: Files::Prefix("\u{7f}"),
+            ..OPEN
+        }),
+        false,
+    ),
+    (
+        "empty type",
+        Ask::PutRule(NewRule {
+            files: Files::Kind(""),
+            ..OPEN
+        }),
+        true,
+    ),
+    (
+        "type of 16",
+        Ask::PutRule(NewRule {
+            files: Files::Kind(SIXTEEN),
+            ..OPEN
+        }),
+        true,
+    ),
+    (
+        "type of 17",
+        Ask::PutRule(NewRule {
+            files: Files::Kind(SEVENTEEN),
+            ..OPEN
+        }),
+        false,
+    ),
+];
+
+fn fits(alloc: Global, ask: Ask) -> Result<bool, NoMemory> {
+    Ok(request_of(alloc, PUBLIC, ask)?.fits())
 }
 
-/// A CP/M image without bytes.
-fn image(alloc: Global, acc: u32, deed: u32) -> What {
-    What::PutImage {
-        acc,
-        kind: Kind::Cpm8,
-        deed,
-        digest: [0; 32],
-        bytes: Items::of(Vec::new(alloc)),
-    }
-}
-
-fn what(alloc: Global, asked: Asked<'_>) -> Result<What, NoMemory> {
-    Ok(match asked {
-        Asked::Images => What::Images,
-        Asked::Listing(acc) => What::Listing(acc),
-        Asked::Bytes(acc, slot) => What::Bytes(acc, slot),
-        Asked::PutImage(acc, deed) => image(alloc, acc, deed),
-        Asked::PutDeed(num, (text, times), signed) => What::PutDeed {
-            num,
-            donor: Text::of(text.repeat(alloc, times)?),
-            signed,
-        },
-        Asked::PutRule(band, scope, rank, effect) => What::PutRule(rule(band, scope, rank, effect)),
-        Asked::DropRule(scope, rank) => What::DropRule {
-            band: Band::Deed,
-            scope,
-            rank,
-        },
-        Asked::PutKey(audience) => What::PutKey {
-            digest: [0; 32],
-            audience,
-        },
-        Asked::DropKey => What::DropKey { digest: [0; 32] },
-        Asked::Unread => What::Unread,
-    })
-}
-
-fn assert_limits(
-    rt: &impl Abort,
-    alloc: Global,
-    cases: &[(Asked<'_>, bool)],
-) -> Result<(), NoMemory> {
-    for (asked, fits) in cases {
-        let request = Request {
-            badge: None,
-            what: what(alloc, *asked)?,
-        };
-        assert_eq!(rt; request.fits(), *fits, "{asked:?}");
+fn assert_limits(rt: &impl Abort, alloc: Global, cases: &[Limit]) -> Result<(), Fail> {
+    for (label, ask, wanted) in cases {
+        assert_eq!(rt; fits(alloc, *ask)?, *wanted, "{label}");
     }
     Ok(())
 }
 
 #[test]
-fn limits(rt: HostRuntime) -> Result<(), Fail> {
-    assert_limits(&rt, rt.alloc(), CASES)?;
+fn requests_fit(rt: HostRuntime) -> Result<(), Fail> {
+    assert_limits(&rt, rt.alloc(), QUESTIONS)?;
+    assert_limits(&rt, rt.alloc(), COMMANDS)?;
+    assert_limits(&rt, rt.alloc(), RULES)
+}
+
+/// Donors by the number of their bytes, and whether each is within the limits.
+const DONORS: &[(usize, bool)] = &[(1, true), (1_000, true), (1_001, false)];
+
+fn has_donor(alloc: Global, count: usize) -> Result<bool, NoMemory> {
+    let donor = Text::of("D".repeat(alloc, count)?);
+    let what = What::PutDeed {
+        num: 8,
+        donor,
+        signed: 0,
+    };
+    Ok(Request { badge: None, what }.fits())
+}
+
+fn assert_donors(rt: &impl Abort, alloc: Global, cases: &[(usize, bool)]) -> Result<(), Fail> {
+    for (count, wanted) in cases {
+        assert_eq!(rt; has_donor(alloc, *count)?, *wanted, "{count} bytes");
+    }
+    Ok(())
+}
+
+#[test]
+fn donors_have_a_thousand_bytes_at_most(rt: HostRuntime) -> Result<(), Fail> {
+    assert_donors(&rt, rt.alloc(), DONORS)
+}
+
+/// An offset in minutes, and the days of moments by it; `None` where no desk has that offset.
+type Clock = (i32, Option<&'static [(i64, Result<i32, OutOfRange>)]>);
+
+const NO_DAY: Result<i32, OutOfRange> = Err(OutOfRange);
+
+const CLOCKS: &[Clock] = &[
+    (1_440, None),
+    (-1_440, None),
+    (i32::MAX, None),
+    (i32::MIN, None),
+    (
+        60,
+        Some(&[
+            (BEFORE, Ok(21_914)),
+            (AFTER, Ok(21_915)),
+            (i64::MAX, NO_DAY),
+            (i64::MIN, NO_DAY),
+        ]),
+    ),
+    (0, Some(&[(AFTER, Ok(21_914)), (-1, Ok(-1)), (0, Ok(0))])),
+    (
+        1_439,
+        Some(&[
+            (59, Ok(0)),
+            (60, Ok(1)),
+            (-62_135_683_140, Ok(-719_162)),
+            (-62_135_683_141, NO_DAY),
+        ]),
+    ),
+    (
+        -1_439,
+        Some(&[
+            (86_339, Ok(-1)),
+            (86_340, Ok(0)),
+            (253_402_387_139, Ok(2_932_896)),
+            (253_402_387_140, NO_DAY),
+        ]),
+    ),
+];
+
+fn new_store(rt: &impl Abort, alloc: Global) -> Result<Store<MemStore>, Fail> {
+    match create(rt, new_connection(alloc)?) {
+        Ok(store) => Ok(store),
+        Err(_) => Err(Fail::new("no store")),
+    }
+}
+
+fn assert_days(rt: &impl Abort, desk: &Desk<MemStore>, days: &[(i64, Result<i32, OutOfRange>)]) {
+    for (seconds, wanted) in days {
+        assert_eq!(rt; desk.day(*seconds), *wanted, "at {seconds}");
+    }
+}
+
+fn assert_clock(rt: &impl Abort, alloc: Global, (offset, days): Clock) -> Result<(), Fail> {
+    let answer = Desk::new(new_store(rt, alloc)?, offset);
+    assert_eq!(rt; answer.is_ok(), days.is_some(), "offset {offset}");
+    if let (Ok(desk), Some(days)) = (answer, days) {
+        assert_days(rt, &desk, days);
+    }
+    Ok(())
+}
+
+fn assert_clocks(rt: &impl Abort, alloc: Global, cases: &[Clock]) -> Result<(), Fail> {
+    for case in cases {
+        assert_clock(rt, alloc, *case)?;
+    }
+    Ok(())
+}
+
+#[test]
+fn clocks_have_days(rt: HostRuntime) -> Result<(), Fail> {
+    assert_clocks(&rt, rt.alloc(), CLOCKS)
+}
+
+/// The SHA-256 of `hello`.
+const ROOM_DIGEST: [u8; 32] = [
+    0x2c, 0xf2, 0x4d, 0xba, 0x5f, 0xb0, 0xa3, 0x0e, 0x26, 0xe8, 0x3b, 0x2a, 0xc5, 0xb9, 0xe2, 0x9e,
+    0x1b, 0x16, 0x1e, 0x5c, 0x1f, 0xa7, 0x42, 0x5e, 0x73, 0x04, 0x33, 0x62, 0x93, 0x8b, 0x98, 0x24,
+];
+
+/// The SHA-256 of the disk with the program `HELLO`.
+const PROGRAM_DIGEST: [u8; 32] = [
+    0xee, 0x35, 0x28, 0x34, 0xe0, 0x6f, 0x2b, 0x57, 0x2e, 0x65, 0x49, 0x0e, 0xb8, 0x45, 0x93, 0x97,
+    0x24, 0xcc, 0x38, 0x54, 0x2a, 0xed, 0x18, 0xac, 0xdf, 0x81, 0xed, 0xed, 0x76, 0x91, 0x2a, 0xfb,
+];
+
+#[test]
+fn digests_are_those_of_other_programs(rt: HostRuntime) -> Result<(), Fail> {
+    assert_eq!(rt; digest_of(b"abc"), STAFF_DIGEST);
+    assert_eq!(rt; digest_of(b"hello"), ROOM_DIGEST);
+    assert_eq!(rt;
+        digest_of_picture(rt.alloc(), Picture::Program)?,
+        PROGRAM_DIGEST
+    );
     Ok(())
 }

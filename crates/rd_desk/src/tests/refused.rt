@@ -1,0 +1,272 @@
+//! Requests that a script makes under an allocator that refuses one growth. Where that gives the reply of a
+//! desk that is unavailable, nothing has changed, and the same request again, with memory, gets the usual one.
+
+use super::cases::{
+    ALL_OF_12, BAD_BODY, DONE, HELLO, ONE_IMAGE, STAFF_ONLY, Told, UNAVAILABLE, UNKNOWN_KEY,
+    UNTIL_2030, Visit, Wanted, told, wanted_of,
+};
+use super::requests::{Ask, Key, PUBLIC, ROOM, STAFF, request_of};
+use super::state::{
+    AFTER, BEFORE, CLOSED, Memory, OPEN, PROGRAM, TAKEDOWN, answer, create, desk_over,
+    into_connection, new_connection, open, tables_of,
+};
+use crate::{Reply, Request};
+use rd_geometry::NoMemory;
+use rd_policy::{Audience, Band};
+use rd_store::Store;
+use sqlite::{Connection, MemStore};
+use std::alloc::Global;
+use std::process::Abort;
+use std::test::Fail;
+
+/// A visit of a desk that is given what some commands put, and visits of it afterwards.
+#[derive(Clone, Copy)]
+struct Plan {
+    given: &'static [Ask],
+    visit: Visit,
+    then: &'static [Visit],
+}
+
+fn connection_again(alloc: Global) -> Result<Connection<MemStore>, NoMemory> {
+    match new_connection(alloc) {
+        Ok(conn) => Ok(conn),
+        Err(NoMemory) => new_connection(alloc),
+    }
+}
+
+fn store_again(rt: &impl Abort, conn: Connection<MemStore>) -> Result<Store<MemStore>, Fail> {
+    match create(rt, conn) {
+        Ok(store) => Ok(store),
+        Err(conn) => match create(rt, conn) {
+            Ok(store) => Ok(store),
+            Err(_) => Err(Fail::new("no store")),
+        },
+    }
+}
+
+fn request_again(alloc: Global, key: Key, ask: Ask) -> Result<Request, NoMemory> {
+    match request_of(alloc, key, ask) {
+        Ok(request) => Ok(request),
+        Err(NoMemory) => request_of(alloc, key, ask),
+    }
+}
+
+fn told_again(alloc: Global, reply: &Reply) -> Result<Told, NoMemory> {
+    match told(alloc, reply) {
+        Ok(told) => Ok(told),
+        Err(NoMemory) => told(alloc, reply),
+    }
+}
+
+fn wanted_again(alloc: Global, wanted: Wanted) -> Result<Told, NoMemory> {
+    match wanted_of(alloc, wanted) {
+        Ok(wanted) => Ok(wanted),
+        Err(NoMemory) => wanted_of(alloc, wanted),
+    }
+}
+
+/// A desk with one staff key, which has these commands done.
+fn made(rt: &impl Abort, alloc: Global, commands: &[Ask]) -> Result<Memory, Fail> {
+    let mut desk = desk_over(store_again(rt, connection_again(alloc)?)?)?;
+    for command in commands {
+        let visit = (STAFF, AFTER, *command, DONE);
+        assert_reply(rt, alloc, &mut desk, visit)?;
+    }
+    Ok(desk)
+}
+
+fn assert_told(rt: &impl Abort, alloc: Global, reply: &Reply, wanted: Wanted) -> Result<(), Fail> {
+    assert_eq!(rt; told_again(alloc, reply)?, wanted_again(alloc, wanted)?);
+    Ok(())
+}
+
+/// A visit gets the reply that is wanted, at the second time where the desk is unavailable at the first.
+fn assert_reply(
+    rt: &impl Abort,
+    alloc: Global,
+    desk: &mut Memory,
+    (key, seconds, ask, wanted): Visit,
+) -> Result<(), Fail> {
+    let request = request_again(alloc, key, ask)?;
+    let mut reply = answer(rt, alloc, desk, seconds, &request);
+    if reply.status == 503 {
+        reply = answer(rt, alloc, desk, seconds, &request);
+    }
+    assert_told(rt, alloc, &reply, wanted)
+}
+
+/// A desk that was unavailable has the tables of one that has these commands done.
+fn assert_unchanged(
+    rt: &impl Abort,
+    alloc: Global,
+    desk: Memory,
+    commands: &[Ask],
+) -> Result<Memory, Fail> {
+    let mut conn = into_connection(desk);
+    let mut kept = into_connection(made(rt, alloc, commands)?);
+    assert_eq!(rt; tables_of(alloc, &mut conn)?, tables_of(alloc, &mut kept)?);
+    match open(rt, alloc, conn) {
+        Ok(store) => desk_over(store),
+        Err(_) => Err(Fail::new("not opened")),
+    }
+}
+
+/// The first visit of a plan gets the reply that is wanted, or that of a desk that is unavailable and
+/// changes nothing.
+fn assert_first(
+    rt: &impl Abort,
+    alloc: Global,
+    mut desk: Memory,
+    plan: &Plan,
+) -> Result<Memory, Fail> {
+    let (key, seconds, ask, wanted) = plan.visit;
+    let request = request_again(alloc, key, ask)?;
+    let reply = answer(rt, alloc, &mut desk, seconds, &request);
+    if reply.status != 503 {
+        assert_told(rt, alloc, &reply, wanted)?;
+        return Ok(desk);
+    }
+    assert_told(rt, alloc, &reply, UNAVAILABLE)?;
+    let mut desk = assert_unchanged(rt, alloc, desk, plan.given)?;
+    assert_reply(rt, alloc, &mut desk, plan.visit)?;
+    Ok(desk)
+}
+
+fn assert_plan(rt: &impl Abort, alloc: Global, plan: &Plan) -> Result<(), Fail> {
+    let desk = made(rt, alloc, plan.given)?;
+    let mut desk = assert_first(rt, alloc, desk, plan)?;
+    for visit in plan.then {
+        assert_reply(rt, alloc, &mut desk, *visit)?;
+    }
+    Ok(())
+}
+
+const DEED: Ask = Ask::PutDeed(7, "A. Curator", 18_020);
+
+const HELD: &[Ask] = &[DEED, Ask::PutRule(OPEN), Ask::PutImage(PROGRAM)];
+
+const IMAGES: Plan = Plan {
+    given: HELD,
+    visit: (PUBLIC, AFTER, Ask::Images, ONE_IMAGE),
+    then: &[],
+};
+
+#[test]
+fn images_when_memory_is_refused(rt: HostRuntime) -> Result<(), Fail> {
+    assert_plan(&rt, rt.alloc(), &IMAGES)
+}
+
+const LISTING: Plan = Plan {
+    given: HELD,
+    visit: (PUBLIC, AFTER, Ask::Listing(12), ALL_OF_12),
+    then: &[],
+};
+
+#[test]
+fn a_listing_when_memory_is_refused(rt: HostRuntime) -> Result<(), Fail> {
+    assert_plan(&rt, rt.alloc(), &LISTING)
+}
+
+const BYTES: Plan = Plan {
+    given: HELD,
+    visit: (PUBLIC, AFTER, Ask::Bytes(12, 0), HELLO),
+    then: &[],
+};
+
+#[test]
+fn bytes_when_memory_is_refused(rt: HostRuntime) -> Result<(), Fail> {
+    assert_plan(&rt, rt.alloc(), &BYTES)
+}
+
+const DENIAL: Plan = Plan {
+    given: &[DEED, Ask::PutRule(CLOSED), Ask::PutImage(PROGRAM)],
+    visit: (PUBLIC, BEFORE, Ask::Bytes(12, 0), UNTIL_2030),
+    then: &[],
+};
+
+#[test]
+fn a_denial_when_memory_is_refused(rt: HostRuntime) -> Result<(), Fail> {
+    assert_plan(&rt, rt.alloc(), &DENIAL)
+}
+
+const PUT_IMAGE: Plan = Plan {
+    given: &[DEED, Ask::PutRule(OPEN)],
+    visit: (STAFF, AFTER, Ask::PutImage(PROGRAM), DONE),
+    then: &[(PUBLIC, AFTER, Ask::Bytes(12, 0), HELLO)],
+};
+
+#[test]
+fn an_image_when_memory_is_refused(rt: HostRuntime) -> Result<(), Fail> {
+    assert_plan(&rt, rt.alloc(), &PUT_IMAGE)
+}
+
+const PUT_DEED: Plan = Plan {
+    given: &[],
+    visit: (STAFF, AFTER, DEED, DONE),
+    then: &[(STAFF, AFTER, Ask::PutRule(OPEN), DONE)],
+};
+
+#[test]
+fn a_deed_when_memory_is_refused(rt: HostRuntime) -> Result<(), Fail> {
+    assert_plan(&rt, rt.alloc(), &PUT_DEED)
+}
+
+const PUT_RULE: Plan = Plan {
+    given: HELD,
+    visit: (STAFF, AFTER, Ask::PutRule(CLOSED), DONE),
+    then: &[(PUBLIC, BEFORE, Ask::Bytes(12, 0), UNTIL_2030)],
+};
+
+#[test]
+fn a_rule_when_memory_is_refused(rt: HostRuntime) -> Result<(), Fail> {
+    assert_plan(&rt, rt.alloc(), &PUT_RULE)
+}
+
+const DROP_RULE: Plan = Plan {
+    given: &[
+        DEED,
+        Ask::PutRule(OPEN),
+        Ask::PutImage(PROGRAM),
+        Ask::PutRule(TAKEDOWN),
+    ],
+    visit: (STAFF, AFTER, Ask::DropRule(Band::Takedown, 12, 1), DONE),
+    then: &[(PUBLIC, AFTER, Ask::Bytes(12, 0), HELLO)],
+};
+
+#[test]
+fn a_rule_dropped_when_memory_is_refused(rt: HostRuntime) -> Result<(), Fail> {
+    assert_plan(&rt, rt.alloc(), &DROP_RULE)
+}
+
+const PUT_KEY: Plan = Plan {
+    given: &[],
+    visit: (STAFF, AFTER, Ask::PutKey("hello", Audience::Room), DONE),
+    then: &[(ROOM, AFTER, Ask::Unread, STAFF_ONLY)],
+};
+
+#[test]
+fn a_key_when_memory_is_refused(rt: HostRuntime) -> Result<(), Fail> {
+    assert_plan(&rt, rt.alloc(), &PUT_KEY)
+}
+
+const DROP_KEY: Plan = Plan {
+    given: &[Ask::PutKey("hello", Audience::Room)],
+    visit: (STAFF, AFTER, Ask::DropKey("hello"), DONE),
+    then: &[(ROOM, AFTER, Ask::Unread, UNKNOWN_KEY)],
+};
+
+#[test]
+fn a_key_dropped_when_memory_is_refused(rt: HostRuntime) -> Result<(), Fail> {
+    assert_plan(&rt, rt.alloc(), &DROP_KEY)
+}
+
+const UNREAD: Plan = Plan {
+    given: &[],
+    visit: (STAFF, AFTER, Ask::Unread, BAD_BODY),
+    then: &[],
+};
+
+#[test]
+fn a_body_that_was_not_read_when_memory_is_refused(rt: HostRuntime) -> Result<(), Fail> {
+    assert_plan(&rt, rt.alloc(), &UNREAD)
+}

@@ -1,0 +1,341 @@
+//! What a desk answers of its images and files.
+
+use super::cases::{
+    ALL_OF_12, Case, HELLO, LOOPED, NO_ACCESSION, NO_FILE, NO_IMAGES, NO_RULE, NONE_OF_12,
+    ONE_IMAGE, RECORD, TAKEN_DOWN, Tables, UNTIL_2030, Visit, Wanted, assert_cases, assert_visits,
+};
+use super::requests::{ALL, Ask, Files, NewImage, NewRule, PUBLIC, Picture, ROOM, STAFF};
+use super::state::{AFTER, BEFORE, PROGRAM, TAKEDOWN, desk_with, reopened};
+use rd_geometry::Kind;
+use rd_policy::{Band, Effect};
+use std::test::Fail;
+
+/// The program under deed 8, which has no rule.
+const UNRULED: NewImage = NewImage {
+    acc: 13,
+    deed: 8,
+    ..PROGRAM
+};
+
+const LOOP_14: NewImage = NewImage {
+    acc: 14,
+    bytes: Picture::Looped,
+    digest: Picture::Looped,
+    ..PROGRAM
+};
+
+const HELLO_15: NewImage = NewImage {
+    acc: 15,
+    kind: Kind::Cpm8,
+    bytes: Picture::Hello,
+    digest: Picture::Hello,
+    ..PROGRAM
+};
+
+const MIXED_16: NewImage = NewImage {
+    acc: 16,
+    bytes: Picture::Mixed,
+    digest: Picture::Mixed,
+    ..PROGRAM
+};
+
+const CROSSED_17: NewImage = NewImage {
+    acc: 17,
+    bytes: Picture::Crossed,
+    digest: Picture::Crossed,
+    ..PROGRAM
+};
+
+/// What an opened desk answers too.
+const OPENING: &[Visit] = &[
+    (PUBLIC, BEFORE, Ask::Bytes(12, 0), UNTIL_2030),
+    (PUBLIC, AFTER, Ask::Bytes(12, 0), HELLO),
+    (PUBLIC, BEFORE, Ask::Images, NO_IMAGES),
+    (PUBLIC, AFTER, Ask::Images, ONE_IMAGE),
+    (PUBLIC, AFTER, Ask::Listing(12), ALL_OF_12),
+    (PUBLIC, BEFORE, Ask::Listing(12), NONE_OF_12),
+];
+
+const AUDIENCES: &[Case] = &[
+    Case {
+        label: "a deed that opens in 2030",
+        before: &[],
+        visits: OPENING,
+        tables: Tables::Same,
+    },
+    Case {
+        label: "the reading room and the staff",
+        before: &[],
+        visits: &[
+            (ROOM, BEFORE, Ask::Bytes(12, 0), UNTIL_2030),
+            (STAFF, BEFORE, Ask::Bytes(12, 0), HELLO),
+            (ROOM, AFTER, Ask::Bytes(12, 0), HELLO),
+            (STAFF, AFTER, Ask::Bytes(12, 0), HELLO),
+            (ROOM, BEFORE, Ask::Images, NO_IMAGES),
+            (STAFF, BEFORE, Ask::Images, ONE_IMAGE),
+            (ROOM, AFTER, Ask::Images, ONE_IMAGE),
+            (ROOM, BEFORE, Ask::Listing(12), NONE_OF_12),
+            (STAFF, BEFORE, Ask::Listing(12), ALL_OF_12),
+            (ROOM, AFTER, Ask::Listing(12), ALL_OF_12),
+        ],
+        tables: Tables::Same,
+    },
+    Case {
+        label: "a takedown for all but the staff",
+        before: &[Ask::PutRule(TAKEDOWN)],
+        visits: &[
+            (PUBLIC, AFTER, Ask::Bytes(12, 0), TAKEN_DOWN),
+            (ROOM, AFTER, Ask::Bytes(12, 0), TAKEN_DOWN),
+            (STAFF, AFTER, Ask::Bytes(12, 0), HELLO),
+            (PUBLIC, BEFORE, Ask::Bytes(12, 0), TAKEN_DOWN),
+            (ROOM, AFTER, Ask::Listing(12), NONE_OF_12),
+            (STAFF, AFTER, Ask::Listing(12), ALL_OF_12),
+            (PUBLIC, AFTER, Ask::Images, NO_IMAGES),
+            (STAFF, AFTER, Ask::Images, ONE_IMAGE),
+        ],
+        tables: Tables::Same,
+    },
+    Case {
+        label: "a deed without rules",
+        before: &[Ask::PutImage(UNRULED)],
+        visits: &[
+            (PUBLIC, AFTER, Ask::Bytes(13, 0), NO_RULE),
+            (ROOM, AFTER, Ask::Bytes(13, 0), NO_RULE),
+            (STAFF, AFTER, Ask::Bytes(13, 0), NO_RULE),
+            (STAFF, AFTER, Ask::Listing(13), NONE_OF_13),
+            (PUBLIC, AFTER, Ask::Images, ONE_IMAGE),
+            (STAFF, AFTER, Ask::Images, ONE_IMAGE),
+        ],
+        tables: Tables::Same,
+    },
+];
+
+const NONE_OF_13: Wanted = Wanted::Json(
+    200,
+    r#"{"accession":13,"deed":8,"files":[],"kind":"d64"}"#,
+);
+
+/// Takes down the second file of accession 17 for all but the staff.
+const SECOND_OF_17: NewRule = NewRule {
+    scope: 17,
+    files: Files::Slot(1),
+    ..TAKEDOWN
+};
+
+/// Lists the files of accession 13 to everyone.
+const LISTED_13: NewRule = NewRule {
+    scope: 13,
+    audiences: ALL,
+    files: Files::All,
+    effect: Effect::List,
+    ..TAKEDOWN
+};
+
+const DISKS: &[Case] = &[
+    Case {
+        label: "a chain without an end",
+        before: &[Ask::PutImage(LOOP_14)],
+        visits: &[
+            (PUBLIC, AFTER, Ask::Bytes(14, 0), LOOPED),
+            (PUBLIC, BEFORE, Ask::Bytes(14, 0), UNTIL_2030),
+            (STAFF, BEFORE, Ask::Bytes(14, 0), LOOPED),
+            (PUBLIC, AFTER, Ask::Bytes(14, 1), NO_FILE),
+            (PUBLIC, AFTER, Ask::Listing(99), NO_ACCESSION),
+            (PUBLIC, AFTER, Ask::Listing(14), ALL_OF_14),
+            (PUBLIC, AFTER, Ask::Images, BOTH_IMAGES),
+        ],
+        tables: Tables::Same,
+    },
+    Case {
+        label: "a CP/M disk",
+        before: &[Ask::PutImage(HELLO_15)],
+        visits: &[
+            (PUBLIC, AFTER, Ask::Listing(15), ALL_OF_15),
+            (PUBLIC, AFTER, Ask::Bytes(15, 0), RECORD),
+            (PUBLIC, AFTER, Ask::Bytes(15, 1), NO_FILE),
+        ],
+        tables: Tables::Same,
+    },
+    Case {
+        label: "files that are not served",
+        before: &[Ask::PutImage(MIXED_16)],
+        visits: &[(ROOM, AFTER, Ask::Listing(16), ALL_OF_16)],
+        tables: Tables::Same,
+    },
+    Case {
+        label: "files that share a block, and one of which is taken down",
+        before: &[Ask::PutImage(CROSSED_17), Ask::PutRule(SECOND_OF_17)],
+        visits: &[
+            (PUBLIC, AFTER, Ask::Listing(17), TWO_OF_17),
+            (STAFF, AFTER, Ask::Listing(17), ALL_OF_17),
+            (PUBLIC, AFTER, Ask::Images, TWO_FILES_OF_17),
+            (STAFF, AFTER, Ask::Images, THREE_FILES_OF_17),
+            (PUBLIC, AFTER, Ask::Bytes(17, 2), Wanted::File(&[("XY", 1)])),
+        ],
+        tables: Tables::Same,
+    },
+];
+
+const ALL_OF_14: Wanted = Wanted::Json(
+    200,
+    r#"{"accession":14,"deed":7,"files":[{"effect":"read","faults":["loop"],"name":"LOOP","rule":"R7.20","size":null,"slot":0,"type":"PRG","user":null}],"kind":"d64"}"#,
+);
+
+const ALL_OF_15: Wanted = Wanted::Json(
+    200,
+    r#"{"accession":15,"deed":7,"files":[{"effect":"read","faults":[],"name":"HELLO.TXT","rule":"R7.20","size":128,"slot":0,"type":"TXT","user":0}],"kind":"cpm8"}"#,
+);
+
+const ALL_OF_16: Wanted = Wanted::Json(
+    200,
+    r#"{"accession":16,"deed":7,"files":[{"effect":"read","faults":[],"name":"DATA","rule":"R7.20","size":null,"slot":0,"type":"REL","user":null},{"effect":"read","faults":[],"name":"--------","rule":"R7.20","size":null,"slot":1,"type":"DEL","user":null},{"effect":"read","faults":["not-closed"],"name":"LOST","rule":"R7.20","size":null,"slot":2,"type":"PRG","user":null}],"kind":"d64"}"#,
+);
+
+const TWO_OF_17: Wanted = Wanted::Json(
+    200,
+    r#"{"accession":17,"deed":7,"files":[{"effect":"read","faults":["crossed"],"name":"A","rule":"R7.20","size":null,"slot":0,"type":"PRG","user":null},{"effect":"read","faults":[],"name":"C","rule":"R7.20","size":2,"slot":2,"type":"PRG","user":null}],"kind":"d64"}"#,
+);
+
+const ALL_OF_17: Wanted = Wanted::Json(
+    200,
+    r#"{"accession":17,"deed":7,"files":[{"effect":"read","faults":["crossed"],"name":"A","rule":"R7.20","size":null,"slot":0,"type":"PRG","user":null},{"effect":"read","faults":["crossed"],"name":"B","rule":"R7.20","size":null,"slot":1,"type":"PRG","user":null},{"effect":"read","faults":[],"name":"C","rule":"R7.20","size":2,"slot":2,"type":"PRG","user":null}],"kind":"d64"}"#,
+);
+
+const BOTH_IMAGES: Wanted = Wanted::Json(
+    200,
+    r#"{"images":[{"accession":12,"deed":7,"files":1,"kind":"d64"},{"accession":14,"deed":7,"files":1,"kind":"d64"}]}"#,
+);
+
+const TWO_FILES_OF_17: Wanted = Wanted::Json(
+    200,
+    r#"{"images":[{"accession":12,"deed":7,"files":1,"kind":"d64"},{"accession":17,"deed":7,"files":2,"kind":"d64"}]}"#,
+);
+
+const THREE_FILES_OF_17: Wanted = Wanted::Json(
+    200,
+    r#"{"images":[{"accession":12,"deed":7,"files":1,"kind":"d64"},{"accession":17,"deed":7,"files":3,"kind":"d64"}]}"#,
+);
+
+const QUOTED_18: NewImage = NewImage {
+    acc: 18,
+    bytes: Picture::Quoted,
+    digest: Picture::Quoted,
+    ..PROGRAM
+};
+
+const ONES_19: NewImage = NewImage {
+    acc: 19,
+    kind: Kind::Cpm8,
+    bytes: Picture::Ones,
+    digest: Picture::Ones,
+    ..PROGRAM
+};
+
+const FIRST: NewImage = NewImage {
+    acc: 1,
+    kind: Kind::Cpm8,
+    bytes: Picture::Hello,
+    digest: Picture::Hello,
+    ..PROGRAM
+};
+
+const LAST: NewImage = NewImage {
+    acc: 999_999,
+    ..PROGRAM
+};
+
+const TEXTS: &[Case] = &[
+    Case {
+        label: "names that JSON quotes",
+        before: &[Ask::PutImage(QUOTED_18)],
+        visits: &[
+            (PUBLIC, AFTER, Ask::Listing(18), ALL_OF_18),
+            (PUBLIC, AFTER, Ask::Bytes(18, 0), Wanted::File(&[])),
+        ],
+        tables: Tables::Same,
+    },
+    Case {
+        label: "a file with several faults",
+        before: &[Ask::PutImage(ONES_19)],
+        visits: &[
+            (PUBLIC, AFTER, Ask::Listing(19), ALL_OF_19),
+            (PUBLIC, AFTER, Ask::Bytes(19, 0), ALL_FAULTS_OF_19),
+        ],
+        tables: Tables::Same,
+    },
+    Case {
+        label: "images by accession",
+        before: &[Ask::PutImage(LAST), Ask::PutImage(FIRST)],
+        visits: &[
+            (PUBLIC, AFTER, Ask::Images, FIRST_AND_LAST),
+            (PUBLIC, AFTER, Ask::Bytes(999_999, 0), HELLO),
+            (PUBLIC, AFTER, Ask::Bytes(1, 0), RECORD),
+        ],
+        tables: Tables::Same,
+    },
+    Case {
+        label: "a takedown that lists where the deed has no rule",
+        before: &[Ask::PutImage(UNRULED), Ask::PutRule(LISTED_13)],
+        visits: &[
+            (PUBLIC, AFTER, Ask::Listing(13), ONE_OF_13),
+            (PUBLIC, AFTER, Ask::Bytes(13, 0), LISTED_BY_TAKEDOWN),
+            (PUBLIC, BEFORE, Ask::Images, IMAGE_13),
+        ],
+        tables: Tables::Same,
+    },
+];
+
+const ALL_OF_18: Wanted = Wanted::Json(
+    200,
+    r#"{"accession":18,"deed":7,"files":[{"effect":"read","faults":[],"name":"HI%A0\"","rule":"R7.20","size":0,"slot":0,"type":"PRG","user":null},{"effect":"read","faults":[],"name":"A\\B","rule":"R7.20","size":0,"slot":1,"type":"PRG","user":null}],"kind":"d64"}"#,
+);
+
+const ALL_OF_19: Wanted = Wanted::Json(
+    200,
+    r#"{"accession":19,"deed":7,"files":[{"effect":"read","faults":["duplicate","gap","crossed"],"name":"%01%01%01%01%01%01%01%01.%01%01%01","rule":"R7.20","size":null,"slot":0,"type":"%01%01%01","user":1}],"kind":"cpm8"}"#,
+);
+
+const ALL_FAULTS_OF_19: Wanted = Wanted::Json(
+    422,
+    r#"{"error":"faulty","faults":["duplicate","gap","crossed"]}"#,
+);
+
+const FIRST_AND_LAST: Wanted = Wanted::Json(
+    200,
+    r#"{"images":[{"accession":1,"deed":7,"files":1,"kind":"cpm8"},{"accession":12,"deed":7,"files":1,"kind":"d64"},{"accession":999999,"deed":7,"files":1,"kind":"d64"}]}"#,
+);
+
+const ONE_OF_13: Wanted = Wanted::Json(
+    200,
+    r#"{"accession":13,"deed":8,"files":[{"effect":"list","faults":[],"name":"HELLO","rule":"T13.1","size":258,"slot":0,"type":"PRG","user":null}],"kind":"d64"}"#,
+);
+
+const LISTED_BY_TAKEDOWN: Wanted = Wanted::Json(403, r#"{"error":"denied","rule":"T13.1"}"#);
+
+const IMAGE_13: Wanted = Wanted::Json(
+    200,
+    r#"{"images":[{"accession":13,"deed":8,"files":1,"kind":"d64"}]}"#,
+);
+
+#[test]
+fn each_audience_sees_what_the_rules_let_it(rt: HostRuntime) -> Result<(), Fail> {
+    assert_cases(&rt, rt.alloc(), AUDIENCES)
+}
+
+#[test]
+fn disks_are_listed_and_served(rt: HostRuntime) -> Result<(), Fail> {
+    assert_cases(&rt, rt.alloc(), DISKS)
+}
+
+#[test]
+fn listings_are_written(rt: HostRuntime) -> Result<(), Fail> {
+    assert_cases(&rt, rt.alloc(), TEXTS)
+}
+
+#[test]
+fn an_opened_desk_answers_as_before(rt: HostRuntime) -> Result<(), Fail> {
+    let alloc = rt.alloc();
+    let desk = desk_with(&rt, alloc, &[])?;
+    let mut desk = reopened(&rt, alloc, desk)?;
+    assert_visits(&rt, alloc, &mut desk, "an opened desk", OPENING)
+}

@@ -1,0 +1,399 @@
+//! Which rule decides, and on which day.
+
+use super::cases::{
+    ALL_OF_12, Case, DONE, HELLO, NO_RULE, NONE_OF_12, ONE_IMAGE, TAKEN_DOWN, Tables, UNTIL_2030,
+    Wanted, assert_cases,
+};
+use super::requests::{
+    ALL, Ask, Files, NewImage, NewRule, PUBLIC, Picture, ROOM, ROOM_ALONE, STAFF,
+};
+use super::state::{AFTER, BEFORE, CLOSED, OPEN, OPENING, PROGRAM, TAKEDOWN};
+use rd_geometry::Kind;
+use rd_policy::{Band, Effect};
+use std::test::Fail;
+
+/// The last second of 2030-01-01.
+const THAT_NIGHT: i64 = AFTER + 86_399;
+
+/// The first second of 2030-01-02.
+const NEXT_DAY: i64 = AFTER + 86_400;
+
+/// Lists the files of deed 7 to everyone.
+const LISTED: NewRule = NewRule {
+    rank: 5,
+    effect: Effect::List,
+    ..OPEN
+};
+
+/// Denies everyone the files of deed 7.
+const DENIED: NewRule = NewRule {
+    rank: 5,
+    effect: Effect::Deny,
+    ..OPEN
+};
+
+const BY_RANK_5: Wanted = Wanted::Json(403, r#"{"error":"denied","rule":"R7.5"}"#);
+
+const LISTED_12: Wanted = Wanted::Json(
+    200,
+    r#"{"accession":12,"deed":7,"files":[{"effect":"list","faults":[],"name":"HELLO","rule":"R7.5","size":258,"slot":0,"type":"PRG","user":null}],"kind":"d64"}"#,
+);
+
+const DAYS: &[Case] = &[
+    Case {
+        label: "a rule whose first day is the one from which on it holds no longer",
+        before: &[Ask::PutRule(NewRule {
+            from: Some(OPENING),
+            until: Some(OPENING),
+            ..DENIED
+        })],
+        visits: &[
+            (PUBLIC, BEFORE, Ask::Bytes(12, 0), UNTIL_2030),
+            (PUBLIC, AFTER, Ask::Bytes(12, 0), HELLO),
+            (STAFF, AFTER, Ask::Bytes(12, 0), HELLO),
+        ],
+        tables: Tables::Same,
+    },
+    Case {
+        label: "a rule whose end is before its beginning",
+        before: &[Ask::PutRule(NewRule {
+            from: Some(OPENING + 1),
+            until: Some(OPENING),
+            ..DENIED
+        })],
+        visits: &[
+            (STAFF, BEFORE, Ask::Bytes(12, 0), HELLO),
+            (STAFF, AFTER, Ask::Bytes(12, 0), HELLO),
+            (STAFF, NEXT_DAY, Ask::Bytes(12, 0), HELLO),
+        ],
+        tables: Tables::Same,
+    },
+    Case {
+        label: "a rule of one day",
+        before: &[Ask::PutRule(NewRule {
+            from: Some(OPENING),
+            until: Some(OPENING + 1),
+            ..DENIED
+        })],
+        visits: &[
+            (STAFF, BEFORE, Ask::Bytes(12, 0), HELLO),
+            (STAFF, AFTER, Ask::Bytes(12, 0), BY_RANK_5),
+            (STAFF, THAT_NIGHT, Ask::Bytes(12, 0), BY_RANK_5),
+            (STAFF, NEXT_DAY, Ask::Bytes(12, 0), HELLO),
+        ],
+        tables: Tables::Same,
+    },
+    Case {
+        label: "a rule from a day on",
+        before: &[Ask::PutRule(NewRule {
+            from: Some(OPENING),
+            ..DENIED
+        })],
+        visits: &[
+            (PUBLIC, BEFORE, Ask::Bytes(12, 0), UNTIL_2030),
+            (PUBLIC, AFTER, Ask::Bytes(12, 0), BY_RANK_5),
+            (PUBLIC, NEXT_DAY, Ask::Listing(12), NONE_OF_12),
+        ],
+        tables: Tables::Same,
+    },
+];
+
+/// A takedown that lists the first file of accession 12 to everyone, beside those that deny it.
+const LISTED_AT_2: NewRule = NewRule {
+    rank: 2,
+    audiences: ALL,
+    effect: Effect::List,
+    ..TAKEDOWN
+};
+
+const LISTED_AT_9: NewRule = NewRule {
+    rank: 9,
+    ..LISTED_AT_2
+};
+
+const DENIED_AT_5: NewRule = NewRule {
+    rank: 5,
+    ..TAKEDOWN
+};
+
+const BY_TAKEDOWN_5: Wanted = Wanted::Json(403, r#"{"error":"denied","rule":"T12.5"}"#);
+
+const BY_TAKEDOWN_9: Wanted = Wanted::Json(403, r#"{"error":"denied","rule":"T12.9"}"#);
+
+const BY_TAKEDOWN_2: Wanted = Wanted::Json(403, r#"{"error":"denied","rule":"T12.2"}"#);
+
+const LISTED_BY_2: Wanted = Wanted::Json(
+    200,
+    r#"{"accession":12,"deed":7,"files":[{"effect":"list","faults":[],"name":"HELLO","rule":"T12.2","size":258,"slot":0,"type":"PRG","user":null}],"kind":"d64"}"#,
+);
+
+const LISTED_BY_9: Wanted = Wanted::Json(
+    200,
+    r#"{"accession":12,"deed":7,"files":[{"effect":"list","faults":[],"name":"HELLO","rule":"T12.9","size":258,"slot":0,"type":"PRG","user":null}],"kind":"d64"}"#,
+);
+
+/// The same program at accession 14.
+const PROGRAM_14: NewImage = NewImage { acc: 14, ..PROGRAM };
+
+const ORDERS: &[Case] = &[
+    Case {
+        label: "a rule that lists and does not let read",
+        before: &[Ask::PutRule(LISTED)],
+        visits: &[
+            (PUBLIC, BEFORE, Ask::Listing(12), LISTED_12),
+            (ROOM, AFTER, Ask::Listing(12), LISTED_12),
+            (STAFF, AFTER, Ask::Listing(12), LISTED_12),
+            (PUBLIC, AFTER, Ask::Bytes(12, 0), BY_RANK_5),
+            (STAFF, AFTER, Ask::Bytes(12, 0), BY_RANK_5),
+            (PUBLIC, BEFORE, Ask::Images, ONE_IMAGE),
+        ],
+        tables: Tables::Same,
+    },
+    Case {
+        label: "a takedown of a higher rank does not decide",
+        before: &[Ask::PutRule(LISTED_AT_9), Ask::PutRule(DENIED_AT_5)],
+        visits: &[
+            (PUBLIC, AFTER, Ask::Bytes(12, 0), BY_TAKEDOWN_5),
+            (ROOM, AFTER, Ask::Listing(12), NONE_OF_12),
+            (STAFF, AFTER, Ask::Bytes(12, 0), BY_TAKEDOWN_9),
+            (STAFF, AFTER, Ask::Listing(12), LISTED_BY_9),
+        ],
+        tables: Tables::Same,
+    },
+    Case {
+        label: "a takedown of a lower rank decides",
+        before: &[Ask::PutRule(DENIED_AT_5), Ask::PutRule(LISTED_AT_2)],
+        visits: &[
+            (PUBLIC, AFTER, Ask::Bytes(12, 0), BY_TAKEDOWN_2),
+            (PUBLIC, AFTER, Ask::Listing(12), LISTED_BY_2),
+            (STAFF, AFTER, Ask::Listing(12), LISTED_BY_2),
+        ],
+        tables: Tables::Same,
+    },
+    Case {
+        label: "a takedown is of one accession",
+        before: &[Ask::PutRule(TAKEDOWN), Ask::PutImage(PROGRAM_14)],
+        visits: &[
+            (PUBLIC, AFTER, Ask::Bytes(12, 0), TAKEN_DOWN),
+            (PUBLIC, AFTER, Ask::Bytes(14, 0), HELLO),
+        ],
+        tables: Tables::Same,
+    },
+    Case {
+        label: "a rule is replaced",
+        before: &[],
+        visits: &[
+            (
+                STAFF,
+                AFTER,
+                Ask::PutRule(NewRule { rank: 10, ..LISTED }),
+                DONE,
+            ),
+            (PUBLIC, BEFORE, Ask::Bytes(12, 0), UNTIL_2030),
+            (STAFF, AFTER, Ask::Bytes(12, 0), UNTIL_2030),
+            (
+                STAFF,
+                AFTER,
+                Ask::PutRule(NewRule { rank: 10, ..OPEN }),
+                DONE,
+            ),
+            (PUBLIC, BEFORE, Ask::Bytes(12, 0), HELLO),
+        ],
+        tables: Tables::Changed,
+    },
+    Case {
+        label: "rules are dropped",
+        before: &[Ask::PutRule(TAKEDOWN)],
+        visits: &[
+            (STAFF, AFTER, Ask::DropRule(Band::Takedown, 12, 1), DONE),
+            (PUBLIC, AFTER, Ask::Listing(12), ALL_OF_12),
+            (PUBLIC, BEFORE, Ask::Bytes(12, 0), UNTIL_2030),
+            (STAFF, AFTER, Ask::DropRule(Band::Deed, 7, 10), DONE),
+            (PUBLIC, BEFORE, Ask::Bytes(12, 0), HELLO),
+            (STAFF, AFTER, Ask::DropRule(Band::Deed, 7, 20), DONE),
+            (STAFF, AFTER, Ask::Bytes(12, 0), NO_RULE),
+        ],
+        tables: Tables::Changed,
+    },
+];
+
+/// A rule of deed 8 that lets everyone read what it speaks of.
+const OF_8: NewRule = NewRule {
+    scope: 8,
+    rank: 10,
+    ..OPEN
+};
+
+/// A rule of deed 8 that lists to everyone what it speaks of.
+const THEN_LISTED: NewRule = NewRule {
+    rank: 20,
+    effect: Effect::List,
+    ..OF_8
+};
+
+const PROGRAM_13: NewImage = NewImage {
+    acc: 13,
+    deed: 8,
+    ..PROGRAM
+};
+
+const DOTTED_15: NewImage = NewImage {
+    acc: 15,
+    kind: Kind::Cpm8,
+    bytes: Picture::Dotted,
+    digest: Picture::Dotted,
+    ..PROGRAM_13
+};
+
+const MIXED_16: NewImage = NewImage {
+    acc: 16,
+    bytes: Picture::Mixed,
+    digest: Picture::Mixed,
+    ..PROGRAM_13
+};
+
+const CROSSED_17: NewImage = NewImage {
+    acc: 17,
+    bytes: Picture::Crossed,
+    digest: Picture::Crossed,
+    ..PROGRAM_13
+};
+
+const BY_RANK_20: Wanted = Wanted::Json(403, r#"{"error":"denied","rule":"R8.20"}"#);
+
+const PREFIXED: Wanted = Wanted::Json(
+    200,
+    r#"{"accession":15,"deed":8,"files":[{"effect":"read","faults":[],"name":"A%2EB%25.C","rule":"R8.10","size":0,"slot":0,"type":"C","user":0},{"effect":"list","faults":[],"name":"A.B","rule":"R8.20","size":0,"slot":1,"type":"B","user":0},{"effect":"list","faults":[],"name":"A.B","rule":"R8.20","size":0,"slot":2,"type":"B","user":3}],"kind":"cpm8"}"#,
+);
+
+const OF_USER_0: Wanted = Wanted::Json(
+    200,
+    r#"{"accession":15,"deed":8,"files":[{"effect":"read","faults":[],"name":"A%2EB%25.C","rule":"R8.10","size":0,"slot":0,"type":"C","user":0},{"effect":"read","faults":[],"name":"A.B","rule":"R8.10","size":0,"slot":1,"type":"B","user":0}],"kind":"cpm8"}"#,
+);
+
+const USER_0_OF_15: Wanted = Wanted::Json(
+    200,
+    r#"{"images":[{"accession":12,"deed":7,"files":1,"kind":"d64"},{"accession":15,"deed":8,"files":2,"kind":"cpm8"}]}"#,
+);
+
+const NONE_OF_13: Wanted = Wanted::Json(
+    200,
+    r#"{"accession":13,"deed":8,"files":[],"kind":"d64"}"#,
+);
+
+const BY_TYPE: Wanted = Wanted::Json(
+    200,
+    r#"{"accession":16,"deed":8,"files":[{"effect":"read","faults":[],"name":"DATA","rule":"R8.10","size":null,"slot":0,"type":"REL","user":null},{"effect":"list","faults":["not-closed"],"name":"LOST","rule":"R8.20","size":null,"slot":2,"type":"PRG","user":null}],"kind":"d64"}"#,
+);
+
+const BY_SLOT: Wanted = Wanted::Json(
+    200,
+    r#"{"accession":17,"deed":8,"files":[{"effect":"read","faults":[],"name":"C","rule":"R8.10","size":2,"slot":2,"type":"PRG","user":null}],"kind":"d64"}"#,
+);
+
+const SELECTORS: &[Case] = &[
+    Case {
+        label: "a printed name that begins with a dot's code",
+        before: &[
+            Ask::PutImage(DOTTED_15),
+            Ask::PutRule(NewRule {
+                files: Files::Prefix("A%2E"),
+                ..OF_8
+            }),
+            Ask::PutRule(NewRule {
+                files: Files::Prefix("A."),
+                ..THEN_LISTED
+            }),
+        ],
+        visits: &[
+            (PUBLIC, AFTER, Ask::Listing(15), PREFIXED),
+            (PUBLIC, AFTER, Ask::Bytes(15, 0), Wanted::File(&[])),
+            (PUBLIC, AFTER, Ask::Bytes(15, 1), BY_RANK_20),
+        ],
+        tables: Tables::Same,
+    },
+    Case {
+        label: "a user, whom a 1541 disk has not",
+        before: &[
+            Ask::PutImage(PROGRAM_13),
+            Ask::PutImage(DOTTED_15),
+            Ask::PutRule(NewRule {
+                files: Files::User(0),
+                ..OF_8
+            }),
+        ],
+        visits: &[
+            (PUBLIC, AFTER, Ask::Bytes(13, 0), NO_RULE),
+            (STAFF, AFTER, Ask::Listing(13), NONE_OF_13),
+            (PUBLIC, AFTER, Ask::Listing(15), OF_USER_0),
+            (PUBLIC, AFTER, Ask::Bytes(15, 2), NO_RULE),
+            (PUBLIC, AFTER, Ask::Images, USER_0_OF_15),
+        ],
+        tables: Tables::Same,
+    },
+    Case {
+        label: "types",
+        before: &[
+            Ask::PutImage(MIXED_16),
+            Ask::PutRule(NewRule {
+                files: Files::Kind("REL"),
+                ..OF_8
+            }),
+            Ask::PutRule(NewRule {
+                files: Files::Kind("PRG"),
+                ..THEN_LISTED
+            }),
+        ],
+        visits: &[
+            (PUBLIC, AFTER, Ask::Listing(16), BY_TYPE),
+            (PUBLIC, AFTER, Ask::Bytes(16, 1), NO_RULE),
+        ],
+        tables: Tables::Same,
+    },
+    Case {
+        label: "a slot",
+        before: &[
+            Ask::PutImage(CROSSED_17),
+            Ask::PutRule(NewRule {
+                files: Files::Slot(2),
+                ..OF_8
+            }),
+        ],
+        visits: &[
+            (PUBLIC, AFTER, Ask::Listing(17), BY_SLOT),
+            (PUBLIC, AFTER, Ask::Bytes(17, 0), NO_RULE),
+        ],
+        tables: Tables::Same,
+    },
+    Case {
+        label: "a rule for the reading room alone",
+        before: &[
+            Ask::PutImage(PROGRAM_13),
+            Ask::PutRule(NewRule {
+                audiences: ROOM_ALONE,
+                ..OF_8
+            }),
+        ],
+        visits: &[
+            (PUBLIC, AFTER, Ask::Bytes(13, 0), NO_RULE),
+            (ROOM, AFTER, Ask::Bytes(13, 0), HELLO),
+            (STAFF, AFTER, Ask::Bytes(13, 0), NO_RULE),
+        ],
+        tables: Tables::Same,
+    },
+];
+
+#[test]
+fn rules_hold_on_their_days(rt: HostRuntime) -> Result<(), Fail> {
+    assert_cases(&rt, rt.alloc(), DAYS)
+}
+
+#[test]
+fn the_first_rule_that_matches_decides(rt: HostRuntime) -> Result<(), Fail> {
+    assert_cases(&rt, rt.alloc(), ORDERS)
+}
+
+#[test]
+fn rules_speak_of_the_files_they_select(rt: HostRuntime) -> Result<(), Fail> {
+    assert_cases(&rt, rt.alloc(), SELECTORS)
+}
