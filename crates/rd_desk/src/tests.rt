@@ -1,5 +1,6 @@
 mod cases;
 mod done;
+mod images;
 mod limits;
 mod refusals;
 mod refused;

@@ -93,6 +93,12 @@ pub(super) const NONE_OF_12: Wanted = Wanted::Json(
     r#"{"accession":12,"deed":7,"files":[],"kind":"d64"}"#,
 );
 
+/// Accession 13, of which no file is listed.
+pub(super) const NONE_OF_13: Wanted = Wanted::Json(
+    200,
+    r#"{"accession":13,"deed":8,"files":[],"kind":"d64"}"#,
+);
+
 /// Accession 12 with its file, which deed 7 lets read.
 pub(super) const ALL_OF_12: Wanted = Wanted::Json(
     200,
@@ -200,8 +206,8 @@ fn rows_of(alloc: Global, desk: Memory) -> Result<String, Fail> {
 /// The visits of a case get the replies that are wanted, and the tables stay or change.
 fn assert_case(rt: &impl Abort, alloc: Global, case: &Case) -> Result<(), Fail> {
     let label = case.label;
-    let mut kept = desk_with(rt, alloc, case.before)?;
-    let mut desk = desk_with(rt, alloc, case.before)?;
+    let mut kept = desk_with(rt, alloc, label, case.before)?;
+    let mut desk = desk_with(rt, alloc, label, case.before)?;
     assert_visits(rt, alloc, &mut desk, label, case.visits)?;
     if case.tables == Tables::Same {
         assert_alike(rt, alloc, &mut kept, &mut desk, label)?;

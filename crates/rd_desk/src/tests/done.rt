@@ -3,8 +3,9 @@
 use super::cases::{
     CONFLICT, Case, DONE, HELLO, NO_DEED, STAFF_ONLY, Tables, UNKNOWN_KEY, assert_cases,
 };
-use super::requests::{Ask, Key, NOBODY, NewImage, NewRule, ROOM, STAFF};
-use super::state::{AFTER, BEFORE, CLOSED, OPEN, PROGRAM};
+use super::images::{NewImage, PROGRAM_12};
+use super::requests::{Ask, Key, NOBODY, NewRule, ROOM, STAFF};
+use super::state::{AFTER, BEFORE, CLOSED, OPEN};
 use rd_policy::{Audience, Band};
 use std::test::Fail;
 
@@ -14,7 +15,7 @@ const DEPUTY: Key = Some("deputy");
 const PROGRAM_14: NewImage = NewImage {
     acc: 14,
     deed: 9,
-    ..PROGRAM
+    ..PROGRAM_12
 };
 
 const CHANGES: &[Case] = &[
@@ -22,7 +23,7 @@ const CHANGES: &[Case] = &[
         label: "what stands is put again, and what does not is dropped",
         before: &[],
         visits: &[
-            (STAFF, AFTER, Ask::PutImage(PROGRAM), DONE),
+            (STAFF, AFTER, Ask::PutImage(PROGRAM_12), DONE),
             (STAFF, AFTER, Ask::PutDeed(8, "B. Donor", 18_321), DONE),
             (STAFF, AFTER, Ask::PutRule(CLOSED), DONE),
             (STAFF, AFTER, Ask::PutRule(OPEN), DONE),

@@ -1,10 +1,9 @@
 //! Which requests, offsets and moments are within their limits.
 
-use super::requests::{
-    Ask, Files, NewImage, NewRule, PUBLIC, Picture, digest_of, digest_of_picture, request_of,
-};
+use super::images::{NewImage, PROGRAM_12, Picture};
+use super::requests::{Ask, Files, NewRule, PUBLIC, digest_of, digest_of_picture, request_of};
 use super::state::{
-    AFTER, BEFORE, CLOSED, OPEN, OPENING, PROGRAM, STAFF_DIGEST, TAKEDOWN, create, new_connection,
+    AFTER, BEFORE, CLOSED, OPEN, OPENING, STAFF_DIGEST, TAKEDOWN, create, new_connection,
 };
 use crate::{Desk, Request, What};
 use rd_geometry::{NoMemory, Text};
@@ -46,38 +45,44 @@ const QUESTIONS: &[Limit] = &[
 ];
 
 const COMMANDS: &[Limit] = &[
-    ("image", Ask::PutImage(PROGRAM), true),
+    ("image", Ask::PutImage(PROGRAM_12), true),
     (
         "image of another size",
         Ask::PutImage(NewImage {
             bytes: Picture::Cut,
-            ..PROGRAM
+            ..PROGRAM_12
         }),
         true,
     ),
     (
         "image 0",
-        Ask::PutImage(NewImage { acc: 0, ..PROGRAM }),
+        Ask::PutImage(NewImage {
+            acc: 0,
+            ..PROGRAM_12
+        }),
         false,
     ),
     (
         "image 1,000,000",
         Ask::PutImage(NewImage {
             acc: 1_000_000,
-            ..PROGRAM
+            ..PROGRAM_12
         }),
         false,
     ),
     (
         "image under deed 0",
-        Ask::PutImage(NewImage { deed: 0, ..PROGRAM }),
+        Ask::PutImage(NewImage {
+            deed: 0,
+            ..PROGRAM_12
+        }),
         false,
     ),
     (
         "image under deed 1,000,000",
         Ask::PutImage(NewImage {
             deed: 1_000_000,
-            ..PROGRAM
+            ..PROGRAM_12
         }),
         false,
     ),
@@ -456,9 +461,9 @@ fn assert_days(rt: &impl Abort, desk: &Desk<MemStore>, days: &[(i64, Result<i32,
 }
 
 fn assert_clock(rt: &impl Abort, alloc: Global, (offset, days): Clock) -> Result<(), Fail> {
-    let answer = Desk::new(new_store(rt, alloc)?, offset);
-    assert_eq!(rt; answer.is_ok(), days.is_some(), "offset {offset}");
-    if let (Ok(desk), Some(days)) = (answer, days) {
+    let desk = Desk::new(new_store(rt, alloc)?, offset);
+    assert_eq!(rt; desk.is_ok(), days.is_some(), "offset {offset}");
+    if let (Ok(desk), Some(days)) = (desk, days) {
         assert_days(rt, &desk, days);
     }
     Ok(())

@@ -5,40 +5,21 @@ use super::cases::{
     NO_FILE, NO_RULE, STAFF_ONLY, Tables, UNKNOWN_KEY, UNTIL_2030, WRONG_SIZE, Wanted,
     assert_cases,
 };
-use super::requests::{ALL, Ask, Files, NOBODY, NewImage, NewRule, PUBLIC, Picture, ROOM, STAFF};
-use super::state::{AFTER, BEFORE, CLOSED, OPEN, PROGRAM, TAKEDOWN};
+use super::images::{CROSSED_DATA_20, LOOPED_14, MIXED_16, NewImage, PROGRAM_12, Picture};
+use super::requests::{Ask, NOBODY, NewRule, PUBLIC, ROOM, STAFF};
+use super::state::{AFTER, BEFORE, CLOSED, OPEN, TAKEDOWN};
 use rd_geometry::Kind;
 use rd_policy::{Audience, Band, Effect};
 use std::test::Fail;
 
-const LOOP_14: NewImage = NewImage {
-    acc: 14,
-    bytes: Picture::Looped,
-    digest: Picture::Looped,
-    ..PROGRAM
-};
-
-const MIXED_16: NewImage = NewImage {
-    acc: 16,
-    bytes: Picture::Mixed,
-    digest: Picture::Mixed,
-    ..PROGRAM
-};
-
-/// The relative file whose chains share a block, under deed 8.
-const DATA_20: NewImage = NewImage {
-    acc: 20,
+const LOOPED_UNDER_8: NewImage = NewImage {
     deed: 8,
-    bytes: Picture::CrossedData,
-    digest: Picture::CrossedData,
-    ..PROGRAM
+    ..LOOPED_14
 };
 
-/// The program whose chain does not end, under deed 8.
-const LOOP_21: NewImage = NewImage {
-    acc: 21,
+const DATA_UNDER_8: NewImage = NewImage {
     deed: 8,
-    ..LOOP_14
+    ..CROSSED_DATA_20
 };
 
 /// Lets everyone read the files of deed 8.
@@ -77,9 +58,10 @@ const QUESTIONS: &[Case] = &[
     },
     Case {
         label: "refused bytes",
-        before: &[Ask::PutImage(LOOP_14), Ask::PutImage(MIXED_16)],
+        before: &[Ask::PutImage(LOOPED_14), Ask::PutImage(MIXED_16)],
         visits: &[
             (NOBODY, AFTER, Ask::Bytes(12, 0), UNKNOWN_KEY),
+            (NOBODY, BEFORE, Ask::Bytes(12, 0), UNKNOWN_KEY),
             (NOBODY, AFTER, Ask::Bytes(99, 0), UNKNOWN_KEY),
             (NOBODY, AFTER, Ask::Bytes(12, 1), UNKNOWN_KEY),
             (PUBLIC, AFTER, Ask::Bytes(99, 0), NO_ACCESSION),
@@ -100,7 +82,7 @@ const QUESTIONS: &[Case] = &[
     },
     Case {
         label: "a crossed relative file under a rule that denies",
-        before: &[Ask::PutImage(DATA_20), Ask::PutRule(DENY_8)],
+        before: &[Ask::PutImage(DATA_UNDER_8), Ask::PutRule(DENY_8)],
         visits: &[
             (PUBLIC, AFTER, Ask::Bytes(20, 0), BY_DEED_8),
             (STAFF, AFTER, Ask::Bytes(20, 0), BY_DEED_8),
@@ -109,7 +91,7 @@ const QUESTIONS: &[Case] = &[
     },
     Case {
         label: "a crossed relative file under a rule that lets read",
-        before: &[Ask::PutImage(DATA_20), Ask::PutRule(READ_8)],
+        before: &[Ask::PutImage(DATA_UNDER_8), Ask::PutRule(READ_8)],
         visits: &[
             (PUBLIC, AFTER, Ask::Bytes(20, 0), LISTED_ONLY),
             (STAFF, AFTER, Ask::Bytes(20, 0), LISTED_ONLY),
@@ -119,26 +101,26 @@ const QUESTIONS: &[Case] = &[
     },
     Case {
         label: "a looped program under a rule that lists",
-        before: &[Ask::PutImage(LOOP_21), Ask::PutRule(LIST_8)],
+        before: &[Ask::PutImage(LOOPED_UNDER_8), Ask::PutRule(LIST_8)],
         visits: &[
-            (PUBLIC, AFTER, Ask::Bytes(21, 0), BY_DEED_8),
-            (STAFF, AFTER, Ask::Bytes(21, 0), BY_DEED_8),
+            (PUBLIC, AFTER, Ask::Bytes(14, 0), BY_DEED_8),
+            (STAFF, AFTER, Ask::Bytes(14, 0), BY_DEED_8),
         ],
         tables: Tables::Same,
     },
     Case {
         label: "a looped program under a rule that lets read",
-        before: &[Ask::PutImage(LOOP_21), Ask::PutRule(READ_8)],
+        before: &[Ask::PutImage(LOOPED_UNDER_8), Ask::PutRule(READ_8)],
         visits: &[
-            (PUBLIC, AFTER, Ask::Bytes(21, 0), LOOPED),
-            (STAFF, AFTER, Ask::Bytes(21, 0), LOOPED),
+            (PUBLIC, AFTER, Ask::Bytes(14, 0), LOOPED),
+            (STAFF, AFTER, Ask::Bytes(14, 0), LOOPED),
         ],
         tables: Tables::Same,
     },
     Case {
         label: "a looped program without a rule",
-        before: &[Ask::PutImage(LOOP_21)],
-        visits: &[(STAFF, AFTER, Ask::Bytes(21, 0), NO_RULE)],
+        before: &[Ask::PutImage(LOOPED_UNDER_8)],
+        visits: &[(STAFF, AFTER, Ask::Bytes(14, 0), NO_RULE)],
         tables: Tables::Same,
     },
 ];
@@ -261,30 +243,36 @@ const RULES: &[Case] = &[
 ];
 
 /// The image that stands at accession 12, under a deed that does not stand.
-const NO_DEED_12: NewImage = NewImage { deed: 9, ..PROGRAM };
+const NO_DEED_12: NewImage = NewImage {
+    deed: 9,
+    ..PROGRAM_12
+};
 
 /// A byte too short, with its own digest.
 const CUT_14: NewImage = NewImage {
     acc: 14,
     bytes: Picture::Cut,
     digest: Picture::Cut,
-    ..PROGRAM
+    ..PROGRAM_12
 };
 
 /// As many bytes as the other kind has.
 const OTHER_KIND_14: NewImage = NewImage {
     kind: Kind::Cpm8,
-    ..LOOP_14
+    ..LOOPED_14
 };
 
 /// The digest is that of the image at accession 12.
 const DIFFERENT_14: NewImage = NewImage {
     digest: Picture::Program,
-    ..LOOP_14
+    ..LOOPED_14
 };
 
 /// Another image than the one at accession 12.
-const LOOP_12: NewImage = NewImage { acc: 12, ..LOOP_14 };
+const LOOP_12: NewImage = NewImage {
+    acc: 12,
+    ..LOOPED_14
+};
 
 /// Another kind than the one at accession 12.
 const HELLO_12: NewImage = NewImage {
@@ -292,7 +280,7 @@ const HELLO_12: NewImage = NewImage {
     kind: Kind::Cpm8,
     bytes: Picture::Hello,
     digest: Picture::Hello,
-    ..PROGRAM
+    ..PROGRAM_12
 };
 
 const IMAGES: &[Case] = &[
@@ -300,10 +288,10 @@ const IMAGES: &[Case] = &[
         label: "an image of no staff",
         before: &[],
         visits: &[
-            (NOBODY, AFTER, Ask::PutImage(LOOP_14), UNKNOWN_KEY),
+            (NOBODY, AFTER, Ask::PutImage(LOOPED_14), UNKNOWN_KEY),
             (NOBODY, AFTER, Ask::PutImage(NO_DEED_12), UNKNOWN_KEY),
-            (PUBLIC, AFTER, Ask::PutImage(LOOP_14), STAFF_ONLY),
-            (ROOM, AFTER, Ask::PutImage(LOOP_14), STAFF_ONLY),
+            (PUBLIC, AFTER, Ask::PutImage(LOOPED_14), STAFF_ONLY),
+            (ROOM, AFTER, Ask::PutImage(LOOPED_14), STAFF_ONLY),
             (ROOM, AFTER, Ask::PutImage(NO_DEED_12), STAFF_ONLY),
         ],
         tables: Tables::Same,
@@ -315,7 +303,10 @@ const IMAGES: &[Case] = &[
             (
                 STAFF,
                 AFTER,
-                Ask::PutImage(NewImage { deed: 9, ..LOOP_14 }),
+                Ask::PutImage(NewImage {
+                    deed: 9,
+                    ..LOOPED_14
+                }),
                 NO_DEED,
             ),
             (
@@ -339,7 +330,7 @@ const IMAGES: &[Case] = &[
                 AFTER,
                 Ask::PutImage(NewImage {
                     deed: 12,
-                    ..LOOP_14
+                    ..LOOPED_14
                 }),
                 NO_DEED,
             ),
@@ -405,7 +396,10 @@ const IMAGES: &[Case] = &[
             (
                 STAFF,
                 AFTER,
-                Ask::PutImage(NewImage { deed: 8, ..PROGRAM }),
+                Ask::PutImage(NewImage {
+                    deed: 8,
+                    ..PROGRAM_12
+                }),
                 CONFLICT,
             ),
         ],

@@ -5,10 +5,11 @@ use super::cases::{
     ALL_OF_12, BAD_BODY, DONE, HELLO, ONE_IMAGE, STAFF_ONLY, Told, UNAVAILABLE, UNKNOWN_KEY,
     UNTIL_2030, Visit, Wanted, told, wanted_of,
 };
+use super::images::PROGRAM_12;
 use super::requests::{Ask, Key, PUBLIC, ROOM, STAFF, request_of};
 use super::state::{
-    AFTER, BEFORE, CLOSED, Memory, OPEN, PROGRAM, TAKEDOWN, answer, create, desk_over,
-    into_connection, new_connection, open, tables_of,
+    AFTER, BEFORE, CLOSED, Memory, OPEN, TAKEDOWN, answer, create, desk_over, into_connection,
+    new_connection, open, tables_of,
 };
 use crate::{Reply, Request};
 use rd_geometry::NoMemory;
@@ -143,7 +144,7 @@ fn assert_plan(rt: &impl Abort, alloc: Global, plan: &Plan) -> Result<(), Fail> 
 
 const DEED: Ask = Ask::PutDeed(7, "A. Curator", 18_020);
 
-const HELD: &[Ask] = &[DEED, Ask::PutRule(OPEN), Ask::PutImage(PROGRAM)];
+const HELD: &[Ask] = &[DEED, Ask::PutRule(OPEN), Ask::PutImage(PROGRAM_12)];
 
 const IMAGES: Plan = Plan {
     given: HELD,
@@ -179,7 +180,7 @@ fn bytes_when_memory_is_refused(rt: HostRuntime) -> Result<(), Fail> {
 }
 
 const DENIAL: Plan = Plan {
-    given: &[DEED, Ask::PutRule(CLOSED), Ask::PutImage(PROGRAM)],
+    given: &[DEED, Ask::PutRule(CLOSED), Ask::PutImage(PROGRAM_12)],
     visit: (PUBLIC, BEFORE, Ask::Bytes(12, 0), UNTIL_2030),
     then: &[],
 };
@@ -191,7 +192,7 @@ fn a_denial_when_memory_is_refused(rt: HostRuntime) -> Result<(), Fail> {
 
 const PUT_IMAGE: Plan = Plan {
     given: &[DEED, Ask::PutRule(OPEN)],
-    visit: (STAFF, AFTER, Ask::PutImage(PROGRAM), DONE),
+    visit: (STAFF, AFTER, Ask::PutImage(PROGRAM_12), DONE),
     then: &[(PUBLIC, AFTER, Ask::Bytes(12, 0), HELLO)],
 };
 
@@ -226,7 +227,7 @@ const DROP_RULE: Plan = Plan {
     given: &[
         DEED,
         Ask::PutRule(OPEN),
-        Ask::PutImage(PROGRAM),
+        Ask::PutImage(PROGRAM_12),
         Ask::PutRule(TAKEDOWN),
     ],
     visit: (STAFF, AFTER, Ask::DropRule(Band::Takedown, 12, 1), DONE),

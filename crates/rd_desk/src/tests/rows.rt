@@ -2,49 +2,18 @@
 
 use super::cases::{
     ALL_OF_12, Case, HELLO, LOOPED, NO_ACCESSION, NO_FILE, NO_IMAGES, NO_RULE, NONE_OF_12,
-    ONE_IMAGE, RECORD, TAKEN_DOWN, Tables, UNTIL_2030, Visit, Wanted, assert_cases, assert_visits,
+    NONE_OF_13, ONE_IMAGE, RECORD, TAKEN_DOWN, Tables, UNTIL_2030, Visit, Wanted, assert_cases,
+    assert_visits,
 };
-use super::requests::{ALL, Ask, Files, NewImage, NewRule, PUBLIC, Picture, ROOM, STAFF};
-use super::state::{AFTER, BEFORE, PROGRAM, TAKEDOWN, desk_with, reopened};
+use super::images::{
+    CROSSED_17, HELLO_15, LOOPED_14, MIXED_16, NewImage, ONES_19, PROGRAM_12, PROGRAM_13, Picture,
+    QUOTED_18,
+};
+use super::requests::{ALL, Ask, Files, NewRule, PUBLIC, ROOM, STAFF};
+use super::state::{AFTER, BEFORE, TAKEDOWN, desk_with, reopened};
 use rd_geometry::Kind;
-use rd_policy::{Band, Effect};
+use rd_policy::Effect;
 use std::test::Fail;
-
-/// The program under deed 8, which has no rule.
-const UNRULED: NewImage = NewImage {
-    acc: 13,
-    deed: 8,
-    ..PROGRAM
-};
-
-const LOOP_14: NewImage = NewImage {
-    acc: 14,
-    bytes: Picture::Looped,
-    digest: Picture::Looped,
-    ..PROGRAM
-};
-
-const HELLO_15: NewImage = NewImage {
-    acc: 15,
-    kind: Kind::Cpm8,
-    bytes: Picture::Hello,
-    digest: Picture::Hello,
-    ..PROGRAM
-};
-
-const MIXED_16: NewImage = NewImage {
-    acc: 16,
-    bytes: Picture::Mixed,
-    digest: Picture::Mixed,
-    ..PROGRAM
-};
-
-const CROSSED_17: NewImage = NewImage {
-    acc: 17,
-    bytes: Picture::Crossed,
-    digest: Picture::Crossed,
-    ..PROGRAM
-};
 
 /// What an opened desk answers too.
 const OPENING: &[Visit] = &[
@@ -97,7 +66,7 @@ const AUDIENCES: &[Case] = &[
     },
     Case {
         label: "a deed without rules",
-        before: &[Ask::PutImage(UNRULED)],
+        before: &[Ask::PutImage(PROGRAM_13)],
         visits: &[
             (PUBLIC, AFTER, Ask::Bytes(13, 0), NO_RULE),
             (ROOM, AFTER, Ask::Bytes(13, 0), NO_RULE),
@@ -109,11 +78,6 @@ const AUDIENCES: &[Case] = &[
         tables: Tables::Same,
     },
 ];
-
-const NONE_OF_13: Wanted = Wanted::Json(
-    200,
-    r#"{"accession":13,"deed":8,"files":[],"kind":"d64"}"#,
-);
 
 /// Takes down the second file of accession 17 for all but the staff.
 const SECOND_OF_17: NewRule = NewRule {
@@ -134,7 +98,7 @@ const LISTED_13: NewRule = NewRule {
 const DISKS: &[Case] = &[
     Case {
         label: "a chain without an end",
-        before: &[Ask::PutImage(LOOP_14)],
+        before: &[Ask::PutImage(LOOPED_14)],
         visits: &[
             (PUBLIC, AFTER, Ask::Bytes(14, 0), LOOPED),
             (PUBLIC, BEFORE, Ask::Bytes(14, 0), UNTIL_2030),
@@ -216,32 +180,17 @@ const THREE_FILES_OF_17: Wanted = Wanted::Json(
     r#"{"images":[{"accession":12,"deed":7,"files":1,"kind":"d64"},{"accession":17,"deed":7,"files":3,"kind":"d64"}]}"#,
 );
 
-const QUOTED_18: NewImage = NewImage {
-    acc: 18,
-    bytes: Picture::Quoted,
-    digest: Picture::Quoted,
-    ..PROGRAM
-};
-
-const ONES_19: NewImage = NewImage {
-    acc: 19,
-    kind: Kind::Cpm8,
-    bytes: Picture::Ones,
-    digest: Picture::Ones,
-    ..PROGRAM
-};
-
 const FIRST: NewImage = NewImage {
     acc: 1,
     kind: Kind::Cpm8,
     bytes: Picture::Hello,
     digest: Picture::Hello,
-    ..PROGRAM
+    ..PROGRAM_12
 };
 
 const LAST: NewImage = NewImage {
     acc: 999_999,
-    ..PROGRAM
+    ..PROGRAM_12
 };
 
 const TEXTS: &[Case] = &[
@@ -275,7 +224,7 @@ const TEXTS: &[Case] = &[
     },
     Case {
         label: "a takedown that lists where the deed has no rule",
-        before: &[Ask::PutImage(UNRULED), Ask::PutRule(LISTED_13)],
+        before: &[Ask::PutImage(PROGRAM_13), Ask::PutRule(LISTED_13)],
         visits: &[
             (PUBLIC, AFTER, Ask::Listing(13), ONE_OF_13),
             (PUBLIC, AFTER, Ask::Bytes(13, 0), LISTED_BY_TAKEDOWN),
@@ -335,7 +284,7 @@ fn listings_are_written(rt: HostRuntime) -> Result<(), Fail> {
 #[test]
 fn an_opened_desk_answers_as_before(rt: HostRuntime) -> Result<(), Fail> {
     let alloc = rt.alloc();
-    let desk = desk_with(&rt, alloc, &[])?;
+    let desk = desk_with(&rt, alloc, "an opened desk", &[])?;
     let mut desk = reopened(&rt, alloc, desk)?;
     assert_visits(&rt, alloc, &mut desk, "an opened desk", OPENING)
 }

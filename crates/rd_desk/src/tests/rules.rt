@@ -1,14 +1,12 @@
 //! Which rule decides, and on which day.
 
 use super::cases::{
-    ALL_OF_12, Case, DONE, HELLO, NO_RULE, NONE_OF_12, ONE_IMAGE, TAKEN_DOWN, Tables, UNTIL_2030,
-    Wanted, assert_cases,
+    ALL_OF_12, Case, DONE, HELLO, NO_RULE, NONE_OF_12, NONE_OF_13, ONE_IMAGE, TAKEN_DOWN, Tables,
+    UNTIL_2030, Wanted, assert_cases,
 };
-use super::requests::{
-    ALL, Ask, Files, NewImage, NewRule, PUBLIC, Picture, ROOM, ROOM_ALONE, STAFF,
-};
-use super::state::{AFTER, BEFORE, CLOSED, OPEN, OPENING, PROGRAM, TAKEDOWN};
-use rd_geometry::Kind;
+use super::images::{CROSSED_17, DOTTED_21, MIXED_16, NewImage, PROGRAM_12, PROGRAM_13};
+use super::requests::{ALL, Ask, Files, NewRule, PUBLIC, ROOM, ROOM_ALONE, STAFF};
+use super::state::{AFTER, BEFORE, OPEN, OPENING, TAKEDOWN};
 use rd_policy::{Band, Effect};
 use std::test::Fail;
 
@@ -133,7 +131,10 @@ const LISTED_BY_9: Wanted = Wanted::Json(
 );
 
 /// The same program at accession 14.
-const PROGRAM_14: NewImage = NewImage { acc: 14, ..PROGRAM };
+const PROGRAM_14: NewImage = NewImage {
+    acc: 14,
+    ..PROGRAM_12
+};
 
 const ORDERS: &[Case] = &[
     Case {
@@ -231,54 +232,21 @@ const THEN_LISTED: NewRule = NewRule {
     ..OF_8
 };
 
-const PROGRAM_13: NewImage = NewImage {
-    acc: 13,
-    deed: 8,
-    ..PROGRAM
-};
-
-const DOTTED_15: NewImage = NewImage {
-    acc: 15,
-    kind: Kind::Cpm8,
-    bytes: Picture::Dotted,
-    digest: Picture::Dotted,
-    ..PROGRAM_13
-};
-
-const MIXED_16: NewImage = NewImage {
-    acc: 16,
-    bytes: Picture::Mixed,
-    digest: Picture::Mixed,
-    ..PROGRAM_13
-};
-
-const CROSSED_17: NewImage = NewImage {
-    acc: 17,
-    bytes: Picture::Crossed,
-    digest: Picture::Crossed,
-    ..PROGRAM_13
-};
-
 const BY_RANK_20: Wanted = Wanted::Json(403, r#"{"error":"denied","rule":"R8.20"}"#);
 
 const PREFIXED: Wanted = Wanted::Json(
     200,
-    r#"{"accession":15,"deed":8,"files":[{"effect":"read","faults":[],"name":"A%2EB%25.C","rule":"R8.10","size":0,"slot":0,"type":"C","user":0},{"effect":"list","faults":[],"name":"A.B","rule":"R8.20","size":0,"slot":1,"type":"B","user":0},{"effect":"list","faults":[],"name":"A.B","rule":"R8.20","size":0,"slot":2,"type":"B","user":3}],"kind":"cpm8"}"#,
+    r#"{"accession":21,"deed":8,"files":[{"effect":"read","faults":[],"name":"A%2EB%25.C","rule":"R8.10","size":0,"slot":0,"type":"C","user":0},{"effect":"list","faults":[],"name":"A.B","rule":"R8.20","size":0,"slot":1,"type":"B","user":0},{"effect":"list","faults":[],"name":"A.B","rule":"R8.20","size":0,"slot":2,"type":"B","user":3}],"kind":"cpm8"}"#,
 );
 
 const OF_USER_0: Wanted = Wanted::Json(
     200,
-    r#"{"accession":15,"deed":8,"files":[{"effect":"read","faults":[],"name":"A%2EB%25.C","rule":"R8.10","size":0,"slot":0,"type":"C","user":0},{"effect":"read","faults":[],"name":"A.B","rule":"R8.10","size":0,"slot":1,"type":"B","user":0}],"kind":"cpm8"}"#,
+    r#"{"accession":21,"deed":8,"files":[{"effect":"read","faults":[],"name":"A%2EB%25.C","rule":"R8.10","size":0,"slot":0,"type":"C","user":0},{"effect":"read","faults":[],"name":"A.B","rule":"R8.10","size":0,"slot":1,"type":"B","user":0}],"kind":"cpm8"}"#,
 );
 
-const USER_0_OF_15: Wanted = Wanted::Json(
+const USER_0_OF_21: Wanted = Wanted::Json(
     200,
-    r#"{"images":[{"accession":12,"deed":7,"files":1,"kind":"d64"},{"accession":15,"deed":8,"files":2,"kind":"cpm8"}]}"#,
-);
-
-const NONE_OF_13: Wanted = Wanted::Json(
-    200,
-    r#"{"accession":13,"deed":8,"files":[],"kind":"d64"}"#,
+    r#"{"images":[{"accession":12,"deed":7,"files":1,"kind":"d64"},{"accession":21,"deed":8,"files":2,"kind":"cpm8"}]}"#,
 );
 
 const BY_TYPE: Wanted = Wanted::Json(
@@ -295,7 +263,10 @@ const SELECTORS: &[Case] = &[
     Case {
         label: "a printed name that begins with a dot's code",
         before: &[
-            Ask::PutImage(DOTTED_15),
+            Ask::PutImage(NewImage {
+                deed: 8,
+                ..DOTTED_21
+            }),
             Ask::PutRule(NewRule {
                 files: Files::Prefix("A%2E"),
                 ..OF_8
@@ -306,9 +277,9 @@ const SELECTORS: &[Case] = &[
             }),
         ],
         visits: &[
-            (PUBLIC, AFTER, Ask::Listing(15), PREFIXED),
-            (PUBLIC, AFTER, Ask::Bytes(15, 0), Wanted::File(&[])),
-            (PUBLIC, AFTER, Ask::Bytes(15, 1), BY_RANK_20),
+            (PUBLIC, AFTER, Ask::Listing(21), PREFIXED),
+            (PUBLIC, AFTER, Ask::Bytes(21, 0), Wanted::File(&[])),
+            (PUBLIC, AFTER, Ask::Bytes(21, 1), BY_RANK_20),
         ],
         tables: Tables::Same,
     },
@@ -316,7 +287,10 @@ const SELECTORS: &[Case] = &[
         label: "a user, whom a 1541 disk has not",
         before: &[
             Ask::PutImage(PROGRAM_13),
-            Ask::PutImage(DOTTED_15),
+            Ask::PutImage(NewImage {
+                deed: 8,
+                ..DOTTED_21
+            }),
             Ask::PutRule(NewRule {
                 files: Files::User(0),
                 ..OF_8
@@ -325,16 +299,19 @@ const SELECTORS: &[Case] = &[
         visits: &[
             (PUBLIC, AFTER, Ask::Bytes(13, 0), NO_RULE),
             (STAFF, AFTER, Ask::Listing(13), NONE_OF_13),
-            (PUBLIC, AFTER, Ask::Listing(15), OF_USER_0),
-            (PUBLIC, AFTER, Ask::Bytes(15, 2), NO_RULE),
-            (PUBLIC, AFTER, Ask::Images, USER_0_OF_15),
+            (PUBLIC, AFTER, Ask::Listing(21), OF_USER_0),
+            (PUBLIC, AFTER, Ask::Bytes(21, 2), NO_RULE),
+            (PUBLIC, AFTER, Ask::Images, USER_0_OF_21),
         ],
         tables: Tables::Same,
     },
     Case {
         label: "types",
         before: &[
-            Ask::PutImage(MIXED_16),
+            Ask::PutImage(NewImage {
+                deed: 8,
+                ..MIXED_16
+            }),
             Ask::PutRule(NewRule {
                 files: Files::Kind("REL"),
                 ..OF_8
@@ -353,7 +330,10 @@ const SELECTORS: &[Case] = &[
     Case {
         label: "a slot",
         before: &[
-            Ask::PutImage(CROSSED_17),
+            Ask::PutImage(NewImage {
+                deed: 8,
+                ..CROSSED_17
+            }),
             Ask::PutRule(NewRule {
                 files: Files::Slot(2),
                 ..OF_8

@@ -2,11 +2,11 @@
 
 ghost use Rattle.std.specs.Prelude.{◌≡◌, false, IfOk};
 
-use super::requests::{
-    ALL, Ask, Files, Key, NOT_STAFF, NewImage, NewRule, Picture, STAFF, request_of,
-};
+use super::cases::told;
+use super::images::PROGRAM_12;
+use super::requests::{ALL, Ask, Files, Key, NOT_STAFF, NewRule, STAFF, request_of};
 use crate::{Desk, Reply, Request};
-use rd_geometry::{Kind, NoMemory};
+use rd_geometry::NoMemory;
 use rd_policy::{Audience, Band, Effect};
 use rd_store::{Refused, Store};
 use sqlite::{Connection, Error, MemStore, Row};
@@ -67,15 +67,6 @@ pub(super) const TAKEDOWN: NewRule = NewRule {
     ..OPEN
 };
 
-/// The image with the program `HELLO`, at accession 12 under deed 7.
-pub(super) const PROGRAM: NewImage = NewImage {
-    acc: 12,
-    kind: Kind::D64,
-    deed: 7,
-    bytes: Picture::Program,
-    digest: Picture::Program,
-};
-
 /// What a new desk is given.
 const GIVEN: &[Ask] = &[
     Ask::PutKey("hello", Audience::Room),
@@ -83,7 +74,7 @@ const GIVEN: &[Ask] = &[
     Ask::PutDeed(8, "B. Donor", 18_321),
     Ask::PutRule(CLOSED),
     Ask::PutRule(OPEN),
-    Ask::PutImage(PROGRAM),
+    Ask::PutImage(PROGRAM_12),
 ];
 
 // The calls of the crates below have a helper each, without a clause, so that the proof of a test does not
@@ -153,29 +144,35 @@ pub(super) fn reply_to(
     Ok(answer(rt, alloc, desk, seconds, &request))
 }
 
-/// Has these commands of the staff done.
+/// Has these commands of the staff done. They are counted from 0.
 fn carry_out(
     rt: &impl Abort,
     alloc: Global,
     desk: &mut Memory,
+    label: &str,
     commands: &[Ask],
 ) -> Result<(), Fail> {
     for (n, command) in commands.iter().enumerate() {
         let reply = reply_to(rt, alloc, desk, (STAFF, AFTER, *command))?;
-        assert_eq!(rt; reply.status, 200, "command {n}");
+        assert_eq!(rt; reply.status, 200, "{label}: command {n}");
     }
     Ok(())
 }
 
 /// A desk that is given a key for the reading room, two deeds, two rules of the first and an image under
 /// it, and then has these commands done.
-pub(super) fn desk_with(rt: &impl Abort, alloc: Global, commands: &[Ask]) -> Result<Memory, Fail> {
+pub(super) fn desk_with(
+    rt: &impl Abort,
+    alloc: Global,
+    label: &str,
+    commands: &[Ask],
+) -> Result<Memory, Fail> {
     let Ok(store) = create(rt, new_connection(alloc)?) else {
         return Err(Fail::new("no store"));
     };
     let mut desk = desk_over(store)?;
-    carry_out(rt, alloc, &mut desk, GIVEN)?;
-    carry_out(rt, alloc, &mut desk, commands)?;
+    carry_out(rt, alloc, &mut desk, label, GIVEN)?;
+    carry_out(rt, alloc, &mut desk, label, commands)?;
     Ok(desk)
 }
 

@@ -1,0 +1,197 @@
+//! Images of disks, and the accessions at which they are put.
+
+use rd_geometry::{Kind, NoMemory};
+use rd_rows::cbm::{
+    DIRECTORY, NewCbmEntry, PROGRAM, crossed, formatted, looped, mixed, one_program, put_block,
+    put_cbm_entry,
+};
+use rd_rows::cpm::{FILE, NewEntry, filled, hello, with_entries};
+use std::alloc::Global;
+
+/// The bytes of an image, by what is on the disk.
+#[derive(Clone, Copy)]
+pub(super) enum Picture {
+    /// A 1541 disk with the program `HELLO` of 258 bytes.
+    Program,
+    /// The same without its last byte.
+    Cut,
+    /// A 1541 disk with the program `LOOP`, whose chain does not end.
+    Looped,
+    /// A 1541 disk with `A` and `B`, which share a block, and `C`, which has one of its own.
+    Crossed,
+    /// A 1541 disk with the relative file `DATA`, a separator, and `LOST`, which was never closed.
+    Mixed,
+    /// A 1541 disk with the relative file `DATA`, whose two chains share a block.
+    CrossedData,
+    /// A 1541 disk with two empty programs, whose names have a quotation mark and a backslash.
+    Quoted,
+    /// A CP/M disk with `HELLO.TXT` of one record.
+    Hello,
+    /// A CP/M disk with three empty files: one whose name has a dot and a per cent sign, and one of user 0
+    /// and one of user 3 that are both `A.B`.
+    Dotted,
+    /// A CP/M disk whose bytes are all 1.
+    Ones,
+}
+
+/// An image to be put.
+#[derive(Clone, Copy)]
+pub(super) struct NewImage {
+    pub(super) acc: u32,
+    pub(super) kind: Kind,
+    pub(super) deed: u32,
+    pub(super) bytes: Picture,
+    /// The image whose SHA-256 is given.
+    pub(super) digest: Picture,
+}
+
+/// The image with the program `HELLO`, at accession 12 under deed 7.
+pub(super) const PROGRAM_12: NewImage = NewImage {
+    acc: 12,
+    kind: Kind::D64,
+    deed: 7,
+    bytes: Picture::Program,
+    digest: Picture::Program,
+};
+
+/// The same under deed 8.
+pub(super) const PROGRAM_13: NewImage = NewImage {
+    acc: 13,
+    deed: 8,
+    ..PROGRAM_12
+};
+
+pub(super) const LOOPED_14: NewImage = NewImage {
+    acc: 14,
+    bytes: Picture::Looped,
+    digest: Picture::Looped,
+    ..PROGRAM_12
+};
+
+pub(super) const HELLO_15: NewImage = NewImage {
+    acc: 15,
+    kind: Kind::Cpm8,
+    bytes: Picture::Hello,
+    digest: Picture::Hello,
+    ..PROGRAM_12
+};
+
+pub(super) const MIXED_16: NewImage = NewImage {
+    acc: 16,
+    bytes: Picture::Mixed,
+    digest: Picture::Mixed,
+    ..PROGRAM_12
+};
+
+pub(super) const CROSSED_17: NewImage = NewImage {
+    acc: 17,
+    bytes: Picture::Crossed,
+    digest: Picture::Crossed,
+    ..PROGRAM_12
+};
+
+pub(super) const QUOTED_18: NewImage = NewImage {
+    acc: 18,
+    bytes: Picture::Quoted,
+    digest: Picture::Quoted,
+    ..PROGRAM_12
+};
+
+pub(super) const ONES_19: NewImage = NewImage {
+    acc: 19,
+    bytes: Picture::Ones,
+    digest: Picture::Ones,
+    ..HELLO_15
+};
+
+pub(super) const CROSSED_DATA_20: NewImage = NewImage {
+    acc: 20,
+    bytes: Picture::CrossedData,
+    digest: Picture::CrossedData,
+    ..PROGRAM_12
+};
+
+pub(super) const DOTTED_21: NewImage = NewImage {
+    acc: 21,
+    bytes: Picture::Dotted,
+    digest: Picture::Dotted,
+    ..HELLO_15
+};
+
+/// The entry of a relative file with a chain of data from 17/0 and one of side sectors from 17/1.
+const DATA: NewCbmEntry<'static> = NewCbmEntry {
+    type_byte: 0x84,
+    name: b"DATA",
+    side: (17, 1),
+    record_length: 10,
+    size: 2,
+    ..PROGRAM
+};
+
+/// A disk with the relative file `DATA`, both of whose chains lead from their first block to 17/5.
+fn crossed_data(alloc: Global) -> Result<Vec<u8>, NoMemory> {
+    let mut image = formatted(alloc)?;
+    put_cbm_entry(&mut image, DIRECTORY, 0, &DATA);
+    put_block(&mut image, 336, &[17, 5]);
+    put_block(&mut image, 337, &[17, 5]);
+    put_block(&mut image, 341, &[0, 2]);
+    Ok(image)
+}
+
+const QUOTE: NewCbmEntry<'static> = NewCbmEntry {
+    name: b"HI\xa0\"",
+    ..PROGRAM
+};
+
+const BACKSLASH: NewCbmEntry<'static> = NewCbmEntry {
+    name: b"A\\B",
+    first: (17, 1),
+    ..PROGRAM
+};
+
+fn quoted(alloc: Global) -> Result<Vec<u8>, NoMemory> {
+    let mut image = formatted(alloc)?;
+    put_cbm_entry(&mut image, DIRECTORY, 0, &QUOTE);
+    put_cbm_entry(&mut image, DIRECTORY, 1, &BACKSLASH);
+    Ok(image)
+}
+
+const DOTTED: &[NewEntry<'static>] = &[
+    NewEntry {
+        name: b"A.B%",
+        extension: b"\xc3",
+        ..FILE
+    },
+    NewEntry {
+        name: b"A",
+        extension: b"B",
+        ..FILE
+    },
+    NewEntry {
+        user: 3,
+        name: b"A",
+        extension: b"B",
+        ..FILE
+    },
+];
+
+fn cut(alloc: Global) -> Result<Vec<u8>, NoMemory> {
+    let mut image = one_program(alloc)?;
+    image.truncate(174_847);
+    Ok(image)
+}
+
+pub(super) fn bytes_of(alloc: Global, picture: Picture) -> Result<Vec<u8>, NoMemory> {
+    match picture {
+        Picture::Program => one_program(alloc),
+        Picture::Cut => cut(alloc),
+        Picture::Looped => looped(alloc),
+        Picture::Crossed => crossed(alloc),
+        Picture::Mixed => mixed(alloc),
+        Picture::CrossedData => crossed_data(alloc),
+        Picture::Quoted => quoted(alloc),
+        Picture::Hello => hello(alloc),
+        Picture::Dotted => with_entries(alloc, DOTTED),
+        Picture::Ones => filled(alloc, 1),
+    }
+}
