@@ -19,10 +19,15 @@ use rd_geometry::{CbmDisk, CpmDisk, Image, Kind, NoMemory};
 use std::alloc::Global;
 use std::test::Fail;
 
+/// The disk of a CP/M image.
+fn cpm_disk<'a>(bytes: &'a [u8]) -> Result<CpmDisk<'a>, Fail> {
+    let image = Image::new(Kind::Cpm8, bytes)?;
+    Ok(CpmDisk::of(&image).ok_or("a CP/M disk")?)
+}
+
 /// The files of the CP/M image of a case, where memory is ample.
 fn files_of(alloc: Global, label: &str, bytes: &[u8]) -> Result<Vec<CpmFile>, Fail> {
-    let image = Image::new(Kind::Cpm8, bytes)?;
-    let disk = CpmDisk::of(&image).ok_or("a CP/M disk")?;
+    let disk = cpm_disk(bytes)?;
     Ok(files(alloc, &disk).ok().ok_or(label)?)
 }
 

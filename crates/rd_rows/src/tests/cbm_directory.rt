@@ -161,21 +161,16 @@ const CASES: &[Case] = &[
 
 /// An entry is told so.
 fn assert_told<R: Abort>(rt: &R, label: &str, entry: &CbmEntry, told: &Told<'_>) {
-    assert_eq!(rt;
-        (entry.slot, entry.ty_byte, entry.start, entry.side),
-        (told.slot, told.ty_byte, told.start, told.side),
-        "{label}"
-    );
-    assert_eq!(rt;
-        (entry.name, entry.record_len, entry.size_field),
-        (
-            padded::<16>(told.name, 0xa0),
-            told.record_len,
-            told.size_field
-        ),
-        "{label}: slot {}",
-        told.slot
-    );
+    let wanted = CbmEntry {
+        slot: told.slot,
+        ty_byte: told.ty_byte,
+        start: told.start,
+        name: padded::<16>(told.name, 0xa0),
+        side: told.side,
+        record_len: told.record_len,
+        size_field: told.size_field,
+    };
+    assert_eq!(rt; *entry, wanted, "{label}");
 }
 
 /// A directory is told so.

@@ -2,9 +2,10 @@
 
 ghost use Rattle.std.specs.Prelude.{◌<◌};
 
+use super::cpm_disk;
 use crate::cpm::{FILE, NewEntry, blank, put_entry};
 use rd_cpm::entry;
-use rd_geometry::{CpmDisk, Image, Kind};
+use rd_geometry::CpmDisk;
 use std::process::Abort;
 use std::test::Fail;
 
@@ -155,8 +156,7 @@ fn assert_fields<R: Abort + AllocGlobal>(rt: &R, case: &Case) -> Result<(), Fail
     assert!(rt; case.at < 64 && case.slot < 64, "{}", case.label);
     let mut bytes = blank(rt.alloc())?;
     put_entry(&mut bytes, case.at, &case.entry);
-    let image = Image::new(Kind::Cpm8, bytes.as_slice())?;
-    let disk = CpmDisk::of(&image).ok_or("a CP/M disk")?;
+    let disk = cpm_disk(bytes.as_slice())?;
     assert_eq!(rt; fields_of(&disk, case.slot), case.fields, "{}", case.label);
     Ok(())
 }

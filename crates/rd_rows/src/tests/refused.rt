@@ -1,12 +1,12 @@
 //! Calls that allocate, which a script runs under an allocator that refuses one growth. A call that
 //! answers that memory was refused is made again, and must then answer as ever.
 
-use super::cbm_disk;
+use super::{cbm_disk, cpm_disk};
 use crate::cbm::one_program;
 use crate::cpm::hello;
 use rd_cbm::{End, MapReport, block_map, chain, directory, files as cbm_files};
 use rd_cpm::files as cpm_files;
-use rd_geometry::{CpmDisk, Image, Kind, NoMemory};
+use rd_geometry::{Image, Kind, NoMemory};
 use rd_volume::{Found, find, report, survey};
 use std::process::Abort;
 use std::test::Fail;
@@ -27,8 +27,7 @@ const BLOCKS: &[u16] = &[336, 346];
 #[test]
 fn files_when_memory_is_refused(rt: HostRuntime) -> Result<(), Fail> {
     let bytes = again!(hello(rt.alloc()))?;
-    let image = Image::new(Kind::Cpm8, bytes.as_slice())?;
-    let disk = CpmDisk::of(&image).ok_or("a CP/M disk")?;
+    let disk = cpm_disk(bytes.as_slice())?;
     let found = again!(cpm_files(rt.alloc(), &disk))?;
     let file = found.first().ok_or("a file")?;
     assert_eq!(rt;

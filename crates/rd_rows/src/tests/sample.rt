@@ -148,8 +148,8 @@ pub(super) fn image_of(alloc: Global, sample: &Sample<'_>) -> Result<Vec<u8>, No
 
 /// Adds as many units to a list, from the first on.
 fn push_run(units: &mut Vec<u16>, first: u16, count: u16) -> Result<(), NoMemory> {
-    for n in 0..count {
-        units.push(first.wrapping_add(n))?;
+    for unit in first..first.saturating_add(count) {
+        units.push(unit)?;
     }
     Ok(())
 }
