@@ -3,6 +3,7 @@ pub mod Querying
 pub mod Orders
 pub mod Found
 pub mod Single
+pub mod Changing
 pub mod Inside
 pub mod Whole
 pub mod Making
