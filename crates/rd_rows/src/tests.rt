@@ -1,3 +1,10 @@
+/// A value like another of its type, but for these fields.
+macro_rules! like {
+    ($type:ident, $other:expr, $($field:ident: $value:expr),+) => {
+        $type { $($field: $value,)+ ..$other }
+    };
+}
+
 mod block_map;
 mod built;
 mod cbm_directory;

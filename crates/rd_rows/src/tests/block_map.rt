@@ -51,34 +51,22 @@ const CASES: &[Case] = &[
     },
     Case {
         label: "an image of 00",
-        image: Sample {
-            base: Base::Repeated(0),
-            ..FORMATTED
-        },
+        image: like!(Sample, FORMATTED, base: Base::Repeated(0)),
         map: (0, 0, 681),
     },
     Case {
         label: "an image of 01",
-        image: Sample {
-            base: Base::Repeated(1),
-            ..FORMATTED
-        },
+        image: like!(Sample, FORMATTED, base: Base::Repeated(1)),
         map: (35, 1, 576),
     },
     Case {
         label: "an image of FF",
-        image: Sample {
-            base: Base::Repeated(0xff),
-            ..FORMATTED
-        },
+        image: like!(Sample, FORMATTED, base: Base::Repeated(0xff)),
         map: (35, 2, 0),
     },
     Case {
         label: "all blocks are in use",
-        image: Sample {
-            base: Base::Circle([0x82, 1, 0]),
-            ..FORMATTED
-        },
+        image: like!(Sample, FORMATTED, base: Base::Circle([0x82, 1, 0])),
         map: (4, 12, 0),
     },
 ];

@@ -41,13 +41,7 @@ const DATA: Told<'static> = Told {
     ..FILE
 };
 
-const LOST: Told<'static> = Told {
-    slot: 2,
-    ty_byte: 2,
-    start: (17, 2),
-    name: b"LOST",
-    ..FILE
-};
+const LOST: Told<'static> = like!(Told, FILE, slot: 2, ty_byte: 2, start: (17, 2), name: b"LOST");
 
 #[derive(Clone, Copy)]
 struct Case {
@@ -87,18 +81,12 @@ const CASES: &[Case] = &[
     },
     Case {
         label: "the link of 18/0 is not followed",
-        image: Sample {
-            blocks: &[(357, &[17, 5])],
-            ..MIXED
-        },
+        image: like!(Sample, MIXED, blocks: &[(357, &[17, 5])]),
         ..USED
     },
     Case {
         label: "a directory that loops",
-        image: Sample {
-            blocks: &[(358, &[18, 1])],
-            ..FORMATTED
-        },
+        image: like!(Sample, FORMATTED, blocks: &[(358, &[18, 1])]),
         blocks: &[(358, 1)],
         end: End::Loop,
         count: 0,
@@ -106,10 +94,7 @@ const CASES: &[Case] = &[
     },
     Case {
         label: "an image of 00",
-        image: Sample {
-            base: Base::Repeated(0),
-            ..FORMATTED
-        },
+        image: like!(Sample, FORMATTED, base: Base::Repeated(0)),
         blocks: &[(358, 1)],
         end: End::Last(0),
         count: 0,
@@ -117,10 +102,7 @@ const CASES: &[Case] = &[
     },
     Case {
         label: "an image of 01",
-        image: Sample {
-            base: Base::Repeated(1),
-            ..FORMATTED
-        },
+        image: like!(Sample, FORMATTED, base: Base::Repeated(1)),
         blocks: &[(358, 1), (1, 1)],
         end: End::Loop,
         count: 16,
@@ -128,10 +110,7 @@ const CASES: &[Case] = &[
     },
     Case {
         label: "an image of FF",
-        image: Sample {
-            base: Base::Repeated(0xff),
-            ..FORMATTED
-        },
+        image: like!(Sample, FORMATTED, base: Base::Repeated(0xff)),
         blocks: &[(358, 1)],
         end: End::Off,
         count: 8,
@@ -139,22 +118,13 @@ const CASES: &[Case] = &[
     },
     Case {
         label: "a directory of all blocks",
-        image: Sample {
-            base: Base::Circle([0x80, 0, 0]),
-            ..FORMATTED
-        },
+        image: like!(Sample, FORMATTED, base: Base::Circle([0x80, 0, 0])),
         blocks: &[(358, 325), (0, 358)],
         end: End::Loop,
         count: 5_464,
         entries: &[(
             5_463,
-            Told {
-                slot: 5_463,
-                ty_byte: 0x80,
-                start: (0, 0),
-                name: &[0; 16],
-                ..FILE
-            },
+            like!(Told, FILE, slot: 5_463, ty_byte: 0x80, start: (0, 0), name: &[0; 16]),
         )],
     },
 ];

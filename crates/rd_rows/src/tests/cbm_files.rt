@@ -45,11 +45,7 @@ const FILE: Told<'static> = Told {
 };
 
 /// What is told of it, where it is crossed with another of one block.
-const SHARED: Told<'static> = Told {
-    faults: 8,
-    claimed: 1,
-    ..FILE
-};
+const SHARED: Told<'static> = like!(Told, FILE, faults: 8, claimed: 1);
 
 /// A closed relative file with its data from 17/0 on and its side sectors from 17/1 on.
 const RELATIVE: NewCbmEntry<'static> = NewCbmEntry {
@@ -60,11 +56,7 @@ const RELATIVE: NewCbmEntry<'static> = NewCbmEntry {
 };
 
 /// What is told of it, where it is sound.
-const RELATIVE_TOLD: Told<'static> = Told {
-    class: Class::Rel,
-    claimed: 2,
-    ..FILE
-};
+const RELATIVE_TOLD: Told<'static> = like!(Told, FILE, class: Class::Rel, claimed: 2);
 
 #[derive(Clone, Copy)]
 struct Case {
@@ -102,19 +94,8 @@ const FILES: &[Case] = &[
         label: "files that share a block are crossed",
         image: CROSSED,
         files: &[
-            Told {
-                name: b"A",
-                size_field: 2,
-                claimed: 2,
-                ..SHARED
-            },
-            Told {
-                slot: 1,
-                name: b"B",
-                size_field: 2,
-                claimed: 2,
-                ..SHARED
-            },
+            like!(Told, SHARED, name: b"A", size_field: 2, claimed: 2),
+            like!(Told, SHARED, slot: 1, name: b"B", size_field: 2, claimed: 2),
             Told {
                 slot: 2,
                 name: b"C",
@@ -130,64 +111,28 @@ const FILES: &[Case] = &[
         label: "files of other classes are listed alone",
         image: MIXED,
         files: &[
-            Told {
-                name: b"DATA",
-                size_field: 2,
-                ..RELATIVE_TOLD
-            },
-            Told {
-                slot: 1,
-                class: Class::Del,
-                name: b"--------",
-                ..FILE
-            },
-            Told {
-                slot: 2,
-                closed: false,
-                name: b"LOST",
-                faults: 1,
-                ..FILE
-            },
+            like!(Told, RELATIVE_TOLD, name: b"DATA", size_field: 2),
+            like!(Told, FILE, slot: 1, class: Class::Del, name: b"--------"),
+            like!(Told, FILE, slot: 2, closed: false, name: b"LOST", faults: 1),
         ],
     },
     Case {
         label: "a chain that loops",
         image: LOOPED,
-        files: &[Told {
-            name: b"LOOP",
-            faults: 4,
-            size_field: 3,
-            claimed: 3,
-            ..FILE
-        }],
+        files: &[like!(Told, FILE, name: b"LOOP", faults: 4, size_field: 3, claimed: 3)],
     },
     Case {
         label: "a chain from 0/0",
         image: Sample {
-            entries: &[(
-                358,
-                0,
-                NewCbmEntry {
-                    first: (0, 0),
-                    ..PROGRAM
-                },
-            )],
+            entries: &[(358, 0, like!(NewCbmEntry, PROGRAM, first: (0, 0)))],
             ..FORMATTED
         },
         files: &[Told { faults: 2, ..FILE }],
     },
     Case {
         label: "a chain that leaves the disk",
-        image: Sample {
-            entries: &[(358, 0, PROGRAM)],
-            blocks: &[(336, &[17, 21])],
-            ..FORMATTED
-        },
-        files: &[Told {
-            faults: 2,
-            claimed: 1,
-            ..FILE
-        }],
+        image: like!(Sample, FORMATTED, entries: &[(358, 0, PROGRAM)], blocks: &[(336, &[17, 21])]),
+        files: &[like!(Told, FILE, faults: 2, claimed: 1)],
     },
 ];
 
@@ -197,67 +142,32 @@ const CLAIMS: &[Case] = &[
         image: Sample {
             entries: &[
                 (358, 0, RELATIVE),
-                (
-                    358,
-                    1,
-                    NewCbmEntry {
-                        first: (17, 1),
-                        ..PROGRAM
-                    },
-                ),
+                (358, 1, like!(NewCbmEntry, PROGRAM, first: (17, 1))),
             ],
             ..FORMATTED
         },
         files: &[
-            Told {
-                faults: 8,
-                ..RELATIVE_TOLD
-            },
+            like!(Told, RELATIVE_TOLD, faults: 8),
             Told { slot: 1, ..SHARED },
         ],
     },
     Case {
         label: "side sectors cross the data of their file",
-        image: Sample {
-            entries: &[(358, 0, RELATIVE)],
-            blocks: &[(336, &[17, 1])],
-            ..FORMATTED
-        },
-        files: &[Told {
-            faults: 8,
-            ..RELATIVE_TOLD
-        }],
+        image: like!(Sample, FORMATTED, entries: &[(358, 0, RELATIVE)], blocks: &[(336, &[17, 1])]),
+        files: &[like!(Told, RELATIVE_TOLD, faults: 8)],
     },
     Case {
         label: "side sectors from 0/0",
         image: Sample {
-            entries: &[(
-                358,
-                0,
-                NewCbmEntry {
-                    side: (0, 0),
-                    ..RELATIVE
-                },
-            )],
+            entries: &[(358, 0, like!(NewCbmEntry, RELATIVE, side: (0, 0)))],
             ..FORMATTED
         },
-        files: &[Told {
-            faults: 2,
-            claimed: 1,
-            ..RELATIVE_TOLD
-        }],
+        files: &[like!(Told, RELATIVE_TOLD, faults: 2, claimed: 1)],
     },
     Case {
         label: "side sectors that loop",
-        image: Sample {
-            entries: &[(358, 0, RELATIVE)],
-            blocks: &[(337, &[17, 1])],
-            ..FORMATTED
-        },
-        files: &[Told {
-            faults: 4,
-            ..RELATIVE_TOLD
-        }],
+        image: like!(Sample, FORMATTED, entries: &[(358, 0, RELATIVE)], blocks: &[(337, &[17, 1])]),
+        files: &[like!(Told, RELATIVE_TOLD, faults: 4)],
     },
     Case {
         label: "a chain through 18/0",
@@ -266,88 +176,37 @@ const CLAIMS: &[Case] = &[
             blocks: &[(336, &[18, 0]), (357, &[0, 255])],
             ..FORMATTED
         },
-        files: &[Told {
-            claimed: 2,
-            ..SHARED
-        }],
+        files: &[like!(Told, SHARED, claimed: 2)],
     },
     Case {
         label: "a chain from 18/1",
         image: Sample {
-            entries: &[(
-                358,
-                0,
-                NewCbmEntry {
-                    first: (18, 1),
-                    ..PROGRAM
-                },
-            )],
+            entries: &[(358, 0, like!(NewCbmEntry, PROGRAM, first: (18, 1)))],
             ..FORMATTED
         },
         files: &[SHARED],
     },
     Case {
         label: "two files from one block",
-        image: Sample {
-            entries: &[(358, 0, PROGRAM), (358, 1, PROGRAM)],
-            ..FORMATTED
-        },
+        image: like!(Sample, FORMATTED, entries: &[(358, 0, PROGRAM), (358, 1, PROGRAM)]),
         files: &[SHARED, Told { slot: 1, ..SHARED }],
     },
     Case {
         label: "deleted and unclosed files claim nothing",
         image: Sample {
             entries: &[
-                (
-                    358,
-                    0,
-                    NewCbmEntry {
-                        type_byte: 0x80,
-                        ..PROGRAM
-                    },
-                ),
-                (
-                    358,
-                    1,
-                    NewCbmEntry {
-                        type_byte: 0x02,
-                        ..PROGRAM
-                    },
-                ),
-                (
-                    358,
-                    2,
-                    NewCbmEntry {
-                        type_byte: 0x85,
-                        ..PROGRAM
-                    },
-                ),
+                (358, 0, like!(NewCbmEntry, PROGRAM, type_byte: 0x80)),
+                (358, 1, like!(NewCbmEntry, PROGRAM, type_byte: 0x02)),
+                (358, 2, like!(NewCbmEntry, PROGRAM, type_byte: 0x85)),
                 (358, 3, PROGRAM),
             ],
             ..FORMATTED
         },
         files: &[
-            Told {
-                class: Class::Del,
-                ..FILE
-            },
-            Told {
-                slot: 1,
-                closed: false,
-                faults: 1,
-                ..FILE
-            },
-            Told {
-                slot: 2,
-                class: Class::Other,
-                ..FILE
-            },
-            Told {
-                slot: 3,
-                blocks: &[(336, 1)],
-                claimed: 1,
-                ..FILE
-            },
+            like!(Told, FILE, class: Class::Del),
+            like!(Told, FILE, slot: 1, closed: false, faults: 1),
+            like!(Told, FILE, slot: 2, class: Class::Other),
+            like!(Told, FILE, slot: 3, blocks: &[(336, 1)], claimed: 1),
         ],
     },
 ];
@@ -355,18 +214,12 @@ const CLAIMS: &[Case] = &[
 const HOSTILE: &[Case] = &[
     Case {
         label: "an image of 00",
-        image: Sample {
-            base: Base::Repeated(0),
-            ..FORMATTED
-        },
+        image: like!(Sample, FORMATTED, base: Base::Repeated(0)),
         files: &[],
     },
     Case {
         label: "an image of 01",
-        image: Sample {
-            base: Base::Repeated(1),
-            ..FORMATTED
-        },
+        image: like!(Sample, FORMATTED, base: Base::Repeated(1)),
         files: &[Told {
             count: 16,
             class: Class::Seq,
@@ -379,10 +232,7 @@ const HOSTILE: &[Case] = &[
     },
     Case {
         label: "an image of FF",
-        image: Sample {
-            base: Base::Repeated(0xff),
-            ..FORMATTED
-        },
+        image: like!(Sample, FORMATTED, base: Base::Repeated(0xff)),
         files: &[Told {
             count: 8,
             class: Class::Other,
@@ -394,30 +244,13 @@ const HOSTILE: &[Case] = &[
     },
     Case {
         label: "every slot has a deleted file",
-        image: Sample {
-            base: Base::Circle([0x80, 0, 0]),
-            ..FORMATTED
-        },
-        files: &[Told {
-            count: 5_464,
-            class: Class::Del,
-            name: &[0; 16],
-            ..FILE
-        }],
+        image: like!(Sample, FORMATTED, base: Base::Circle([0x80, 0, 0])),
+        files: &[like!(Told, FILE, count: 5_464, class: Class::Del, name: &[0; 16])],
     },
     Case {
         label: "every slot has a program of all blocks",
-        image: Sample {
-            base: Base::Circle([0x82, 1, 0]),
-            ..FORMATTED
-        },
-        files: &[Told {
-            count: 5_464,
-            name: &[0; 16],
-            faults: 12,
-            claimed: 683,
-            ..FILE
-        }],
+        image: like!(Sample, FORMATTED, base: Base::Circle([0x82, 1, 0])),
+        files: &[like!(Told, FILE, count: 5_464, name: &[0; 16], faults: 12, claimed: 683)],
     },
 ];
 

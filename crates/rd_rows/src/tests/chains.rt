@@ -77,10 +77,7 @@ const ENDING: &[Case] = &[
     PROGRAM_CHAIN,
     Case {
         label: "a last block without bytes",
-        image: Sample {
-            blocks: &[(346, &[0, 1])],
-            ..ONE_PROGRAM
-        },
+        image: like!(Sample, ONE_PROGRAM, blocks: &[(346, &[0, 1])]),
         end: End::Last(1),
         ..PROGRAM_CHAIN
     },
@@ -93,31 +90,17 @@ const ENDING: &[Case] = &[
     },
     Case {
         label: "a loop of one block",
-        image: Sample {
-            blocks: &[(336, &[17, 0])],
-            ..LOOPED
-        },
+        image: like!(Sample, LOOPED, blocks: &[(336, &[17, 0])]),
         blocks: &[(336, 1)],
         end: End::Loop,
         ..PROGRAM_CHAIN
     },
     NOWHERE,
-    Case {
-        label: "a chain from 0/0",
-        start: (0, 0),
-        ..NOWHERE
-    },
-    Case {
-        label: "a chain from 17/21",
-        start: (17, 21),
-        ..NOWHERE
-    },
+    like!(Case, NOWHERE, label: "a chain from 0/0", start: (0, 0)),
+    like!(Case, NOWHERE, label: "a chain from 17/21", start: (17, 21)),
     Case {
         label: "a chain that leaves the disk",
-        image: Sample {
-            blocks: &[(336, &[17, 5]), (341, &[18, 19])],
-            ..FORMATTED
-        },
+        image: like!(Sample, FORMATTED, blocks: &[(336, &[17, 5]), (341, &[18, 19])]),
         start: (17, 0),
         blocks: &[(336, 1), (341, 1)],
         ..NOWHERE
@@ -134,10 +117,7 @@ const ALL_BLOCKS: &[Case] = &[
     },
     Case {
         label: "a chain of all blocks ends",
-        image: Sample {
-            blocks: &[(356, &[18, 0]), (357, &[18, 1]), (358, &[18, 2])],
-            ..FULL
-        },
+        image: like!(Sample, FULL, blocks: &[(356, &[18, 0]), (357, &[18, 1]), (358, &[18, 2])]),
         start: (1, 0),
         blocks: &[(0, 683)],
         end: End::Last(255),

@@ -47,38 +47,18 @@ const EMPTY: Told<'static> = Told {
 };
 
 /// An extent of the file `FILE` with one record in block 2.
-const ONE: NewEntry<'static> = NewEntry {
-    rc: 1,
-    pointers: b"\x02",
-    ..FILE
-};
+const ONE: NewEntry<'static> = like!(NewEntry, FILE, rc: 1, pointers: b"\x02");
 
 /// An entry of the file `FILE` with block 2 and no record.
 const CLAIMING: NewEntry<'static> = NewEntry { rc: 0, ..ONE };
 
-const FILE_A: NewEntry<'static> = NewEntry {
-    name: b"A",
-    pointers: b"\x04",
-    ..ONE
-};
+const FILE_A: NewEntry<'static> = like!(NewEntry, ONE, name: b"A", pointers: b"\x04");
 
-const FILE_B: NewEntry<'static> = NewEntry {
-    name: b"B",
-    pointers: b"\x05",
-    ..ONE
-};
+const FILE_B: NewEntry<'static> = like!(NewEntry, ONE, name: b"B", pointers: b"\x05");
 
-const FILE_C: NewEntry<'static> = NewEntry {
-    name: b"C",
-    pointers: b"\x06",
-    ..ONE
-};
+const FILE_C: NewEntry<'static> = like!(NewEntry, ONE, name: b"C", pointers: b"\x06");
 
-const TOLD_A: Told<'static> = Told {
-    name: b"A          ",
-    sectors: &[(32, 1)],
-    ..EMPTY
-};
+const TOLD_A: Told<'static> = like!(Told, EMPTY, name: b"A          ", sectors: &[(32, 1)]);
 
 const TOLD_B: Told<'static> = Told {
     slot: 1,
@@ -111,10 +91,7 @@ struct Case {
 /// A disk with these entries from slot 0 on.
 macro_rules! with {
     ($($entry:expr),*) => {
-        Sample {
-            base: Base::WithEntries(&[$($entry),*]),
-            ..BLANK
-        }
+        like!(Sample, BLANK, base: Base::WithEntries(&[$($entry),*]))
     };
 }
 
@@ -127,27 +104,17 @@ const FILES: &[Case] = &[
     Case {
         label: "one record is one sector",
         image: HELLO,
-        files: &[Told {
-            name: b"HELLO   TXT",
-            sectors: &[(16, 1)],
-            ..EMPTY
-        }],
+        files: &[like!(Told, EMPTY, name: b"HELLO   TXT", sectors: &[(16, 1)])],
     },
     Case {
         label: "extents in any slots are joined by number",
         image: SCATTERED,
-        files: &[Told {
-            sectors: &[(16, 1_928)],
-            ..EMPTY
-        }],
+        files: &[like!(Told, EMPTY, sectors: &[(16, 1_928)])],
     },
     Case {
         label: "a full extent may have an empty one after it",
         image: TWO_EXTENTS,
-        files: &[Told {
-            sectors: &[(16, 128)],
-            ..EMPTY
-        }],
+        files: &[like!(Told, EMPTY, sectors: &[(16, 128)])],
     },
     Case {
         label: "a file may have no records",
@@ -157,37 +124,13 @@ const FILES: &[Case] = &[
     Case {
         label: "high bits are marks and not names",
         image: with!(
-            NewEntry {
-                name: b"A\xaeB%",
-                extension: b"\xc3",
-                ..SIXTEEN
-            },
-            NewEntry {
-                name: b"A.B%",
-                extension: b"C\xa0",
-                ex: 1,
-                ..FILE
-            },
-            NewEntry {
-                user: 1,
-                name: b"A.B%",
-                extension: b"C",
-                ..FILE
-            }
+            like!(NewEntry, SIXTEEN, name: b"A\xaeB%", extension: b"\xc3"),
+            like!(NewEntry, FILE, name: b"A.B%", extension: b"C\xa0", ex: 1),
+            like!(NewEntry, FILE, user: 1, name: b"A.B%", extension: b"C")
         ),
         files: &[
-            Told {
-                name: b"A.B%    C  ",
-                read_only: true,
-                sectors: &[(16, 128)],
-                ..EMPTY
-            },
-            Told {
-                slot: 2,
-                user: 1,
-                name: b"A.B%    C  ",
-                ..EMPTY
-            },
+            like!(Told, EMPTY, name: b"A.B%    C  ", read_only: true, sectors: &[(16, 128)]),
+            like!(Told, EMPTY, slot: 2, user: 1, name: b"A.B%    C  "),
         ],
     },
 ];
@@ -195,35 +138,17 @@ const FILES: &[Case] = &[
 const ONE_BYTE: &[Case] = &[
     Case {
         label: "an image of 00",
-        image: Sample {
-            base: Base::Filled(0),
-            ..BLANK
-        },
-        files: &[Told {
-            name: &[0; 11],
-            faults: DUPLICATE,
-            ..EMPTY
-        }],
+        image: like!(Sample, BLANK, base: Base::Filled(0)),
+        files: &[like!(Told, EMPTY, name: &[0; 11], faults: DUPLICATE)],
     },
     Case {
         label: "an image of 01",
-        image: Sample {
-            base: Base::Filled(1),
-            ..BLANK
-        },
-        files: &[Told {
-            user: 1,
-            name: &[1; 11],
-            faults: DUPLICATE + GAP + CROSSED,
-            ..EMPTY
-        }],
+        image: like!(Sample, BLANK, base: Base::Filled(1)),
+        files: &[like!(Told, EMPTY, user: 1, name: &[1; 11], faults: DUPLICATE + GAP + CROSSED)],
     },
     Case {
         label: "an image of FF",
-        image: Sample {
-            base: Base::Filled(0xff),
-            ..BLANK
-        },
+        image: like!(Sample, BLANK, base: Base::Filled(0xff)),
         files: &[],
     },
 ];
@@ -231,206 +156,97 @@ const ONE_BYTE: &[Case] = &[
 const FAULTY: &[Case] = &[
     Case {
         label: "duplicate",
-        image: with!(
-            ONE,
-            NewEntry {
-                pointers: b"\x03",
-                ..ONE
-            }
-        ),
-        files: &[Told {
-            faults: DUPLICATE,
-            ..EMPTY
-        }],
+        image: with!(ONE, like!(NewEntry, ONE, pointers: b"\x03")),
+        files: &[like!(Told, EMPTY, faults: DUPLICATE)],
     },
     Case {
         label: "gap",
         image: with!(NewEntry { ex: 2, ..ONE }),
-        files: &[Told {
-            faults: GAP,
-            ..EMPTY
-        }],
+        files: &[like!(Told, EMPTY, faults: GAP)],
     },
     Case {
         label: "short",
         image: with!(
             NewEntry { rc: 5, ..ONE },
-            NewEntry {
-                ex: 1,
-                pointers: b"\x03",
-                ..ONE
-            }
+            like!(NewEntry, ONE, ex: 1, pointers: b"\x03")
         ),
-        files: &[Told {
-            faults: SHORT,
-            ..EMPTY
-        }],
+        files: &[like!(Told, EMPTY, faults: SHORT)],
     },
     Case {
         label: "hole",
-        image: with!(NewEntry {
-            rc: 9,
-            pointers: b"\x02\x00",
-            ..FILE
-        }),
-        files: &[Told {
-            faults: HOLE,
-            ..EMPTY
-        }],
+        image: with!(like!(NewEntry, FILE, rc: 9, pointers: b"\x02\x00")),
+        files: &[like!(Told, EMPTY, faults: HOLE)],
     },
     Case {
         label: "no hole after the last record",
-        image: with!(NewEntry {
-            rc: 8,
-            pointers: b"\x02\x00",
-            ..FILE
-        }),
-        files: &[Told {
-            sectors: &[(16, 8)],
-            ..EMPTY
-        }],
+        image: with!(like!(NewEntry, FILE, rc: 8, pointers: b"\x02\x00")),
+        files: &[like!(Told, EMPTY, sectors: &[(16, 8)])],
     },
     Case {
         label: "off-disk",
-        image: with!(NewEntry {
-            pointers: b"\x02\xf3",
-            ..ONE
-        }),
-        files: &[Told {
-            faults: OFF_DISK,
-            ..EMPTY
-        }],
+        image: with!(like!(NewEntry, ONE, pointers: b"\x02\xf3")),
+        files: &[like!(Told, EMPTY, faults: OFF_DISK)],
     },
     Case {
         label: "the last block is on the disk",
-        image: with!(NewEntry {
-            pointers: b"\x02\xf2",
-            ..ONE
-        }),
-        files: &[Told {
-            sectors: &[(16, 1)],
-            ..EMPTY
-        }],
+        image: with!(like!(NewEntry, ONE, pointers: b"\x02\xf2")),
+        files: &[like!(Told, EMPTY, sectors: &[(16, 1)])],
     },
     Case {
         label: "crossed with itself",
-        image: with!(NewEntry {
-            pointers: b"\x02\x02",
-            ..ONE
-        }),
-        files: &[Told {
-            faults: CROSSED,
-            ..EMPTY
-        }],
+        image: with!(like!(NewEntry, ONE, pointers: b"\x02\x02")),
+        files: &[like!(Told, EMPTY, faults: CROSSED)],
     },
     Case {
         label: "crossed with the directory",
-        image: with!(NewEntry {
-            pointers: b"\x01",
-            ..ONE
-        }),
-        files: &[Told {
-            faults: CROSSED,
-            ..EMPTY
-        }],
+        image: with!(like!(NewEntry, ONE, pointers: b"\x01")),
+        files: &[like!(Told, EMPTY, faults: CROSSED)],
     },
     Case {
         label: "bad-count, gap, hole and crossed",
         image: with!(
-            NewEntry {
-                ex: 1,
-                rc: 129,
-                ..ONE
-            },
+            like!(NewEntry, ONE, ex: 1, rc: 129),
             NewEntry { ex: 3, ..ONE }
         ),
-        files: &[Told {
-            faults: BAD_COUNT + GAP + HOLE + CROSSED,
-            ..EMPTY
-        }],
+        files: &[like!(Told, EMPTY, faults: BAD_COUNT + GAP + HOLE + CROSSED)],
     },
 ];
 
 const CLAIMS: &[Case] = &[
     Case {
         label: "user 16 claims nothing",
-        image: with!(
-            ONE,
-            NewEntry {
-                user: 16,
-                ..CLAIMING
-            }
-        ),
-        files: &[Told {
-            sectors: &[(16, 1)],
-            ..EMPTY
-        }],
+        image: with!(ONE, like!(NewEntry, CLAIMING, user: 16)),
+        files: &[like!(Told, EMPTY, sectors: &[(16, 1)])],
     },
     Case {
         label: "user 20 hex claims nothing",
-        image: with!(
-            ONE,
-            NewEntry {
-                user: 0x20,
-                ..CLAIMING
-            }
-        ),
-        files: &[Told {
-            sectors: &[(16, 1)],
-            ..EMPTY
-        }],
+        image: with!(ONE, like!(NewEntry, CLAIMING, user: 0x20)),
+        files: &[like!(Told, EMPTY, sectors: &[(16, 1)])],
     },
     Case {
         label: "a free entry claims nothing",
-        image: with!(
-            ONE,
-            NewEntry {
-                user: 0xe5,
-                ..CLAIMING
-            }
-        ),
-        files: &[Told {
-            sectors: &[(16, 1)],
-            ..EMPTY
-        }],
+        image: with!(ONE, like!(NewEntry, CLAIMING, user: 0xe5)),
+        files: &[like!(Told, EMPTY, sectors: &[(16, 1)])],
     },
     Case {
         label: "user FF hex claims nothing",
-        image: with!(
-            ONE,
-            NewEntry {
-                user: 0xff,
-                ..CLAIMING
-            }
-        ),
-        files: &[Told {
-            sectors: &[(16, 1)],
-            ..EMPTY
-        }],
+        image: with!(ONE, like!(NewEntry, CLAIMING, user: 0xff)),
+        files: &[like!(Told, EMPTY, sectors: &[(16, 1)])],
     },
     Case {
         label: "128 records",
         image: with!(SIXTEEN),
-        files: &[Told {
-            sectors: &[(16, 128)],
-            ..EMPTY
-        }],
+        files: &[like!(Told, EMPTY, sectors: &[(16, 128)])],
     },
     Case {
         label: "129 records",
         image: with!(NewEntry { rc: 129, ..SIXTEEN }),
-        files: &[Told {
-            faults: BAD_COUNT,
-            ..EMPTY
-        }],
+        files: &[like!(Told, EMPTY, faults: BAD_COUNT)],
     },
     Case {
         label: "255 records",
         image: with!(NewEntry { rc: 255, ..SIXTEEN }),
-        files: &[Told {
-            faults: BAD_COUNT,
-            ..EMPTY
-        }],
+        files: &[like!(Told, EMPTY, faults: BAD_COUNT)],
     },
 ];
 
@@ -442,123 +258,52 @@ const BESIDE: &[Case] = &[
     },
     Case {
         label: "the first and the third are crossed",
-        image: with!(
-            FILE_A,
-            FILE_B,
-            NewEntry {
-                pointers: b"\x04",
-                ..FILE_C
-            }
-        ),
+        image: with!(FILE_A, FILE_B, like!(NewEntry, FILE_C, pointers: b"\x04")),
         files: &[
-            Told {
-                faults: CROSSED,
-                sectors: &[],
-                ..TOLD_A
-            },
+            like!(Told, TOLD_A, faults: CROSSED, sectors: &[]),
             TOLD_B,
-            Told {
-                faults: CROSSED,
-                sectors: &[],
-                ..TOLD_C
-            },
+            like!(Told, TOLD_C, faults: CROSSED, sectors: &[]),
         ],
     },
     Case {
         label: "the second and the third are crossed",
         image: with!(
             FILE_A,
-            NewEntry {
-                pointers: b"\x05\x06",
-                ..FILE_B
-            },
+            like!(NewEntry, FILE_B, pointers: b"\x05\x06"),
             FILE_C
         ),
         files: &[
             TOLD_A,
-            Told {
-                faults: CROSSED,
-                sectors: &[],
-                ..TOLD_B
-            },
-            Told {
-                faults: CROSSED,
-                sectors: &[],
-                ..TOLD_C
-            },
+            like!(Told, TOLD_B, faults: CROSSED, sectors: &[]),
+            like!(Told, TOLD_C, faults: CROSSED, sectors: &[]),
         ],
     },
     Case {
         label: "crossed off the disk",
         image: with!(
-            NewEntry {
-                pointers: b"\xf3",
-                ..FILE_A
-            },
+            like!(NewEntry, FILE_A, pointers: b"\xf3"),
             FILE_B,
-            NewEntry {
-                pointers: b"\xf3",
-                ..FILE_C
-            }
+            like!(NewEntry, FILE_C, pointers: b"\xf3")
         ),
         files: &[
-            Told {
-                faults: OFF_DISK + CROSSED,
-                sectors: &[],
-                ..TOLD_A
-            },
+            like!(Told, TOLD_A, faults: OFF_DISK + CROSSED, sectors: &[]),
             TOLD_B,
-            Told {
-                faults: OFF_DISK + CROSSED,
-                sectors: &[],
-                ..TOLD_C
-            },
+            like!(Told, TOLD_C, faults: OFF_DISK + CROSSED, sectors: &[]),
         ],
     },
     Case {
         label: "a sound file stands beside faulty ones",
         image: with!(
-            NewEntry {
-                rc: 9,
-                pointers: b"\x02\x00",
-                ..FILE_A
-            },
-            NewEntry {
-                pointers: b"\xf3",
-                ..FILE_B
-            },
-            NewEntry {
-                pointers: b"\x01",
-                ..FILE_C
-            },
-            NewEntry {
-                name: b"S",
-                pointers: b"\x04",
-                ..ONE
-            }
+            like!(NewEntry, FILE_A, rc: 9, pointers: b"\x02\x00"),
+            like!(NewEntry, FILE_B, pointers: b"\xf3"),
+            like!(NewEntry, FILE_C, pointers: b"\x01"),
+            like!(NewEntry, ONE, name: b"S", pointers: b"\x04")
         ),
         files: &[
-            Told {
-                faults: HOLE,
-                sectors: &[],
-                ..TOLD_A
-            },
-            Told {
-                faults: OFF_DISK,
-                sectors: &[],
-                ..TOLD_B
-            },
-            Told {
-                faults: CROSSED,
-                sectors: &[],
-                ..TOLD_C
-            },
-            Told {
-                slot: 3,
-                name: b"S          ",
-                sectors: &[(32, 1)],
-                ..EMPTY
-            },
+            like!(Told, TOLD_A, faults: HOLE, sectors: &[]),
+            like!(Told, TOLD_B, faults: OFF_DISK, sectors: &[]),
+            like!(Told, TOLD_C, faults: CROSSED, sectors: &[]),
+            like!(Told, EMPTY, slot: 3, name: b"S          ", sectors: &[(32, 1)]),
         ],
     },
 ];

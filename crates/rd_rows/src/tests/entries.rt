@@ -87,52 +87,28 @@ const CASES: &[Case] = &[
         entry: NewEntry { ex: 0x1f, ..FILE },
         at: 0,
         slot: 0,
-        fields: Fields {
-            bytes: (0x1f, 0, 0, 0),
-            number: 31,
-            ..FIELDS
-        },
+        fields: like!(Fields, FIELDS, bytes: (0x1f, 0, 0, 0), number: 31),
     },
     Case {
         label: "extent 32",
         entry: NewEntry { s2: 1, ..FILE },
         at: 0,
         slot: 0,
-        fields: Fields {
-            bytes: (0, 0, 1, 0),
-            number: 32,
-            ..FIELDS
-        },
+        fields: like!(Fields, FIELDS, bytes: (0, 0, 1, 0), number: 32),
     },
     Case {
         label: "extent 33, with high bits",
-        entry: NewEntry {
-            ex: 0x21,
-            s2: 0xc1,
-            ..FILE
-        },
+        entry: like!(NewEntry, FILE, ex: 0x21, s2: 0xc1),
         at: 0,
         slot: 0,
-        fields: Fields {
-            bytes: (0x21, 0, 0xc1, 0),
-            number: 33,
-            ..FIELDS
-        },
+        fields: like!(Fields, FIELDS, bytes: (0x21, 0, 0xc1, 0), number: 33),
     },
     Case {
         label: "extent 2,047",
-        entry: NewEntry {
-            ex: 0xff,
-            s2: 0xff,
-            ..FILE
-        },
+        entry: like!(NewEntry, FILE, ex: 0xff, s2: 0xff),
         at: 0,
         slot: 0,
-        fields: Fields {
-            bytes: (0xff, 0, 0xff, 0),
-            number: 2_047,
-            ..FIELDS
-        },
+        fields: like!(Fields, FIELDS, bytes: (0xff, 0, 0xff, 0), number: 2_047),
     },
 ];
 

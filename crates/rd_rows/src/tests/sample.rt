@@ -44,50 +44,23 @@ pub(super) const BLANK: Sample<'static> = Sample {
     blocks: &[],
 };
 
-pub(super) const HELLO: Sample<'static> = Sample {
-    base: Base::Hello,
-    ..BLANK
-};
+pub(super) const HELLO: Sample<'static> = like!(Sample, BLANK, base: Base::Hello);
 
-pub(super) const SCATTERED: Sample<'static> = Sample {
-    base: Base::Scattered,
-    ..BLANK
-};
+pub(super) const SCATTERED: Sample<'static> = like!(Sample, BLANK, base: Base::Scattered);
 
-pub(super) const TWO_EXTENTS: Sample<'static> = Sample {
-    base: Base::TwoExtents,
-    ..BLANK
-};
+pub(super) const TWO_EXTENTS: Sample<'static> = like!(Sample, BLANK, base: Base::TwoExtents);
 
-pub(super) const FORMATTED: Sample<'static> = Sample {
-    base: Base::Formatted,
-    ..BLANK
-};
+pub(super) const FORMATTED: Sample<'static> = like!(Sample, BLANK, base: Base::Formatted);
 
-pub(super) const ONE_PROGRAM: Sample<'static> = Sample {
-    base: Base::OneProgram,
-    ..BLANK
-};
+pub(super) const ONE_PROGRAM: Sample<'static> = like!(Sample, BLANK, base: Base::OneProgram);
 
-pub(super) const LOOPED: Sample<'static> = Sample {
-    base: Base::Looped,
-    ..BLANK
-};
+pub(super) const LOOPED: Sample<'static> = like!(Sample, BLANK, base: Base::Looped);
 
-pub(super) const CROSSED: Sample<'static> = Sample {
-    base: Base::Crossed,
-    ..BLANK
-};
+pub(super) const CROSSED: Sample<'static> = like!(Sample, BLANK, base: Base::Crossed);
 
-pub(super) const MIXED: Sample<'static> = Sample {
-    base: Base::Mixed,
-    ..BLANK
-};
+pub(super) const MIXED: Sample<'static> = like!(Sample, BLANK, base: Base::Mixed);
 
-pub(super) const FULL: Sample<'static> = Sample {
-    base: Base::Full,
-    ..BLANK
-};
+pub(super) const FULL: Sample<'static> = like!(Sample, BLANK, base: Base::Full);
 
 /// The kind of what a builder makes.
 pub(super) fn kind_of(base: Base<'_>) -> Kind {

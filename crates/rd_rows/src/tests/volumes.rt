@@ -63,11 +63,7 @@ const FILE_TOLD: Told<'static> = Told {
 };
 
 /// What it tells of the program `FILE` of a 1541 disk, where that is not sound.
-const PROGRAM_TOLD: Told<'static> = Told {
-    user: None,
-    ty: b"PRG",
-    ..FILE_TOLD
-};
+const PROGRAM_TOLD: Told<'static> = like!(Told, FILE_TOLD, user: None, ty: b"PRG");
 
 /// The survey of an image.
 #[derive(Clone, Copy)]

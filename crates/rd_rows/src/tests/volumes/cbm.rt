@@ -19,10 +19,7 @@ pub(super) const FILES: &[Case] = &[
     },
     Case {
         label: "a last block may have no bytes",
-        image: Sample {
-            blocks: &[(346, &[0, 1])],
-            ..ONE_PROGRAM
-        },
+        image: like!(Sample, ONE_PROGRAM, blocks: &[(346, &[0, 1])]),
         files: &[Told {
             name: b"HELLO",
             size: Some(254),
@@ -34,14 +31,7 @@ pub(super) const FILES: &[Case] = &[
     Case {
         label: "names of 1541 files are printed",
         image: Sample {
-            entries: &[(
-                358,
-                0,
-                NewCbmEntry {
-                    name: b"HI\xa0\"",
-                    ..PROGRAM
-                },
-            )],
+            entries: &[(358, 0, like!(NewCbmEntry, PROGRAM, name: b"HI\xa0\""))],
             ..FORMATTED
         },
         files: &[Told {
@@ -59,42 +49,17 @@ pub(super) const FAULTY: &[Case] = &[
         label: "files of other types",
         image: MIXED,
         files: &[
-            Told {
-                ty: b"REL",
-                name: b"DATA",
-                served: false,
-                ..PROGRAM_TOLD
-            },
-            Told {
-                slot: 1,
-                ty: b"DEL",
-                name: b"--------",
-                served: false,
-                ..PROGRAM_TOLD
-            },
-            Told {
-                slot: 2,
-                name: b"LOST",
-                faults: 1,
-                ..PROGRAM_TOLD
-            },
+            like!(Told, PROGRAM_TOLD, ty: b"REL", name: b"DATA", served: false),
+            like!(Told, PROGRAM_TOLD, slot: 1, ty: b"DEL", name: b"--------", served: false),
+            like!(Told, PROGRAM_TOLD, slot: 2, name: b"LOST", faults: 1),
         ],
     },
     Case {
         label: "programs that share a block are told",
         image: CROSSED,
         files: &[
-            Told {
-                name: b"A",
-                faults: 8,
-                ..PROGRAM_TOLD
-            },
-            Told {
-                slot: 1,
-                name: b"B",
-                faults: 8,
-                ..PROGRAM_TOLD
-            },
+            like!(Told, PROGRAM_TOLD, name: b"A", faults: 8),
+            like!(Told, PROGRAM_TOLD, slot: 1, name: b"B", faults: 8),
             Told {
                 slot: 2,
                 name: b"C",
@@ -121,18 +86,11 @@ pub(super) const FAULTY: &[Case] = &[
     Case {
         label: "a chain that loops has no size",
         image: LOOPED,
-        files: &[Told {
-            name: b"LOOP",
-            faults: 4,
-            ..PROGRAM_TOLD
-        }],
+        files: &[like!(Told, PROGRAM_TOLD, name: b"LOOP", faults: 4)],
     },
     Case {
         label: "a directory that loops has no files",
-        image: Sample {
-            blocks: &[(358, &[18, 1])],
-            ..FORMATTED
-        },
+        image: like!(Sample, FORMATTED, blocks: &[(358, &[18, 1])]),
         files: &[],
     },
 ];
@@ -140,18 +98,12 @@ pub(super) const FAULTY: &[Case] = &[
 pub(super) const HOSTILE: &[Case] = &[
     Case {
         label: "an image of 00",
-        image: Sample {
-            base: Base::Repeated(0),
-            ..FORMATTED
-        },
+        image: like!(Sample, FORMATTED, base: Base::Repeated(0)),
         files: &[],
     },
     Case {
         label: "an image of 01",
-        image: Sample {
-            base: Base::Repeated(1),
-            ..FORMATTED
-        },
+        image: like!(Sample, FORMATTED, base: Base::Repeated(1)),
         files: &[Told {
             count: 16,
             ty: b"SEQ",
@@ -162,10 +114,7 @@ pub(super) const HOSTILE: &[Case] = &[
     },
     Case {
         label: "an image of FF",
-        image: Sample {
-            base: Base::Repeated(0xff),
-            ..FORMATTED
-        },
+        image: like!(Sample, FORMATTED, base: Base::Repeated(0xff)),
         files: &[Told {
             count: 8,
             ty: b"OTHER",
@@ -176,10 +125,7 @@ pub(super) const HOSTILE: &[Case] = &[
     },
     Case {
         label: "a directory of all blocks",
-        image: Sample {
-            base: Base::Circle([0x80, 0, 0]),
-            ..FORMATTED
-        },
+        image: like!(Sample, FORMATTED, base: Base::Circle([0x80, 0, 0])),
         files: &[Told {
             count: 5_464,
             ty: b"DEL",

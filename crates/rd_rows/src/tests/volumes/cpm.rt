@@ -5,25 +5,15 @@ use crate::cpm::{FILE, NewEntry};
 use crate::tests::sample::{BLANK, Base, HELLO, SCATTERED, Sample, TWO_EXTENTS};
 
 /// An entry of one record, in block 2.
-const ONE: NewEntry<'static> = NewEntry {
-    rc: 1,
-    pointers: b"\x02",
-    ..FILE
-};
+const ONE: NewEntry<'static> = like!(NewEntry, FILE, rc: 1, pointers: b"\x02");
 
 /// An entry of one record, in block 3.
-const OTHER: NewEntry<'static> = NewEntry {
-    pointers: b"\x03",
-    ..ONE
-};
+const OTHER: NewEntry<'static> = like!(NewEntry, ONE, pointers: b"\x03");
 
 /// A disk with these entries from slot 0 on.
 macro_rules! with {
     ($($entry:expr),*) => {
-        Sample {
-            base: Base::WithEntries(&[$($entry),*]),
-            ..BLANK
-        }
+        like!(Sample, BLANK, base: Base::WithEntries(&[$($entry),*]))
     };
 }
 
@@ -44,19 +34,11 @@ pub(super) const FILES: &[Case] = &[
     Case {
         label: "a file without records has no pieces",
         image: with!(FILE),
-        files: &[Told {
-            size: Some(0),
-            contents: Contents::Joined(&[]),
-            ..FILE_TOLD
-        }],
+        files: &[like!(Told, FILE_TOLD, size: Some(0), contents: Contents::Joined(&[]))],
     },
     Case {
         label: "names of CP/M files are printed",
-        image: with!(NewEntry {
-            name: b"A.B%",
-            extension: b"\xc3",
-            ..FILE
-        }),
+        image: with!(like!(NewEntry, FILE, name: b"A.B%", extension: b"\xc3")),
         files: &[Told {
             name: b"A%2EB%25.C",
             ty: b"C",
@@ -98,46 +80,15 @@ pub(super) const FAULTY: &[Case] = &[
     Case {
         label: "one sound file stands beside three faulty ones",
         image: with!(
-            NewEntry {
-                name: b"H",
-                rc: 9,
-                pointers: b"\x02\x00",
-                ..FILE
-            },
-            NewEntry {
-                name: b"O",
-                pointers: b"\xf3",
-                ..ONE
-            },
-            NewEntry {
-                name: b"X",
-                pointers: b"\x01",
-                ..ONE
-            },
-            NewEntry {
-                name: b"S",
-                pointers: b"\x04",
-                ..ONE
-            }
+            like!(NewEntry, FILE, name: b"H", rc: 9, pointers: b"\x02\x00"),
+            like!(NewEntry, ONE, name: b"O", pointers: b"\xf3"),
+            like!(NewEntry, ONE, name: b"X", pointers: b"\x01"),
+            like!(NewEntry, ONE, name: b"S", pointers: b"\x04")
         ),
         files: &[
-            Told {
-                name: b"H",
-                faults: 16,
-                ..FILE_TOLD
-            },
-            Told {
-                slot: 1,
-                name: b"O",
-                faults: 32,
-                ..FILE_TOLD
-            },
-            Told {
-                slot: 2,
-                name: b"X",
-                faults: 64,
-                ..FILE_TOLD
-            },
+            like!(Told, FILE_TOLD, name: b"H", faults: 16),
+            like!(Told, FILE_TOLD, slot: 1, name: b"O", faults: 32),
+            like!(Told, FILE_TOLD, slot: 2, name: b"X", faults: 64),
             Told {
                 slot: 3,
                 name: b"S",
@@ -156,44 +107,29 @@ pub(super) const FAULTY: &[Case] = &[
             pointers: b"\x02\x03\x04\x05\x06\x07\x08\x09\x0a\x0b\x0c\x0d\x0e\x0f\x10\x11",
             ..FILE
         }),
-        files: &[Told {
-            faults: 1,
-            ..FILE_TOLD
-        }],
+        files: &[like!(Told, FILE_TOLD, faults: 1)],
     },
     Case {
         label: "duplicate",
         image: with!(ONE, OTHER),
-        files: &[Told {
-            faults: 2,
-            ..FILE_TOLD
-        }],
+        files: &[like!(Told, FILE_TOLD, faults: 2)],
     },
     Case {
         label: "gap",
         image: with!(NewEntry { ex: 2, ..ONE }),
-        files: &[Told {
-            faults: 4,
-            ..FILE_TOLD
-        }],
+        files: &[like!(Told, FILE_TOLD, faults: 4)],
     },
     Case {
         label: "short",
         image: with!(NewEntry { rc: 5, ..ONE }, NewEntry { ex: 1, ..OTHER }),
-        files: &[Told {
-            faults: 8,
-            ..FILE_TOLD
-        }],
+        files: &[like!(Told, FILE_TOLD, faults: 8)],
     },
 ];
 
 pub(super) const ONE_BYTE: &[Case] = &[
     Case {
         label: "an image of 00",
-        image: Sample {
-            base: Base::Filled(0),
-            ..BLANK
-        },
+        image: like!(Sample, BLANK, base: Base::Filled(0)),
         files: &[Told {
             ty: b"%00%00%00",
             name: b"%00%00%00%00%00%00%00%00.%00%00%00",
@@ -203,10 +139,7 @@ pub(super) const ONE_BYTE: &[Case] = &[
     },
     Case {
         label: "an image of 01",
-        image: Sample {
-            base: Base::Filled(1),
-            ..BLANK
-        },
+        image: like!(Sample, BLANK, base: Base::Filled(1)),
         files: &[Told {
             user: Some(1),
             ty: b"%01%01%01",
@@ -217,10 +150,7 @@ pub(super) const ONE_BYTE: &[Case] = &[
     },
     Case {
         label: "an image of FF",
-        image: Sample {
-            base: Base::Filled(0xff),
-            ..BLANK
-        },
+        image: like!(Sample, BLANK, base: Base::Filled(0xff)),
         files: &[],
     },
 ];

@@ -59,11 +59,7 @@ const DISKS: &[Case] = &[
             entries: &[(
                 DIRECTORY,
                 0,
-                NewCbmEntry {
-                    type_byte: 0x80,
-                    size: 3,
-                    ..PROGRAM
-                },
+                like!(NewCbmEntry, PROGRAM, type_byte: 0x80, size: 3),
             )],
             ..FORMATTED
         },
@@ -82,65 +78,42 @@ const DISKS: &[Case] = &[
     },
     Case {
         label: "a directory that loops",
-        image: Sample {
-            blocks: &[(358, &[18, 1])],
-            ..FORMATTED
-        },
+        image: like!(Sample, FORMATTED, blocks: &[(358, &[18, 1])]),
         directory: End::Loop,
         name: b"MUSEUM",
         ..NO_FILE
     },
-    Case {
-        label: "a CP/M file",
-        image: HELLO,
-        files: (1, 1, 0, 0),
-        ..NO_FILE
-    },
+    like!(Case, NO_FILE, label: "a CP/M file", image: HELLO, files: (1, 1, 0, 0)),
 ];
 
 const HOSTILE: &[Case] = &[
     Case {
         label: "a CP/M image of 00",
-        image: Sample {
-            base: Base::Filled(0),
-            ..BLANK
-        },
+        image: like!(Sample, BLANK, base: Base::Filled(0)),
         files: (1, 0, 1, 0),
         ..NO_FILE
     },
     Case {
         label: "a CP/M image of 01",
-        image: Sample {
-            base: Base::Filled(1),
-            ..BLANK
-        },
+        image: like!(Sample, BLANK, base: Base::Filled(1)),
         files: (1, 0, 1, 0),
         ..NO_FILE
     },
     Case {
         label: "a CP/M image of FF",
-        image: Sample {
-            base: Base::Filled(0xff),
-            ..BLANK
-        },
+        image: like!(Sample, BLANK, base: Base::Filled(0xff)),
         ..NO_FILE
     },
     Case {
         label: "a 1541 image of 00",
-        image: Sample {
-            base: Base::Repeated(0),
-            ..FORMATTED
-        },
+        image: like!(Sample, FORMATTED, base: Base::Repeated(0)),
         map: (0, 0, 681),
         name: b"%00%00%00%00%00%00%00%00%00%00%00%00%00%00%00%00",
         ..NO_FILE
     },
     Case {
         label: "a 1541 image of 01",
-        image: Sample {
-            base: Base::Repeated(1),
-            ..FORMATTED
-        },
+        image: like!(Sample, FORMATTED, base: Base::Repeated(1)),
         files: (16, 0, 16, 0),
         map: (35, 1, 576),
         directory: End::Loop,
@@ -148,10 +121,7 @@ const HOSTILE: &[Case] = &[
     },
     Case {
         label: "a 1541 image of FF",
-        image: Sample {
-            base: Base::Repeated(0xff),
-            ..FORMATTED
-        },
+        image: like!(Sample, FORMATTED, base: Base::Repeated(0xff)),
         files: (8, 0, 0, 0),
         map: (35, 2, 0),
         directory: End::Off,
@@ -159,10 +129,7 @@ const HOSTILE: &[Case] = &[
     },
     Case {
         label: "a directory of all blocks",
-        image: Sample {
-            base: Base::Circle([0x80, 0, 0]),
-            ..FORMATTED
-        },
+        image: like!(Sample, FORMATTED, base: Base::Circle([0x80, 0, 0])),
         files: (5_464, 0, 0, 0),
         map: (4, 4, 0),
         directory: End::Loop,
