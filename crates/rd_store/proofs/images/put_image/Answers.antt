@@ -1,6 +1,7 @@
-use Rattle.std.proofs.Common.{◌≡◌, ◌∙◌, refl, sym, ap, subst, Option, Some, None, Result, Ok, Err, OnOk, IsErr, option_map, true≢false}
+use Rattle.std.proofs.Common.{◌≡◌, ◌∙◌, refl, sym, ap, subst, Option, Some, None, Ok, Err, is_ok, option_map}
 use Rattle.std.specs.FinMap.{get}
 use Rattle.sqlite.specs.Effect.{Database}
+use Rattle.rd_store.specs.declared.faults.StoreFault.TheVariants.{Sql, Missing, Conflict}
 use Rattle.rd_store.specs.declared.images.Heading.{Heading}
 use Rattle.rd_store.specs.declared.rows.ImageRow.{ImageRow}
 use Rattle.rd_store.specs.Held.{Stays, IsOpen, desk}
@@ -8,16 +9,27 @@ use Rattle.rd_store.specs.Shown.{heading_of}
 use Rattle.rd_store.specs.Spelled.{desk_of}
 use Rattle.rd_store.specs.State.{Desk, put_or_kept, with_image}
 use Rattle.rd_store.proofs.Laws.{Laws, stays_then, stays_changes}
+use Rattle.rd_store.proofs.Changing.{refused, then_told}
 use Rattle.rd_store.proofs.images.put_image.Goals as goal
-
-on_err : {T X : Type 0} (P : Type 0) (r : Result T X) → IsErr r → OnOk r P
-on_err P (Err e) is = tt
-on_err P (Ok value) is = absurd (true≢false (sym is))
 
 -- an image that stands is kept
 kept_image : (d : Desk) (acc : _) (image : ImageRow) (found : Option ImageRow) (heading : Heading) → Some heading ≡ option_map heading_of found → d ≡ put_or_kept found acc image d
 kept_image d acc image None heading is = absurd cc
 kept_image d acc image (Some standing) heading is = refl
+
+pub returns-in_err-deed-clause-changes : goal.returns-in_err-deed-clause-changes
+returns-in_err-deed-clause-changes g c =
+    let laws : Laws g.S.Store = record { settles = g.met.S.Store.settled; shuts = g.met.S.Store.shut_if_dirty } in
+    let image : ImageRow = record { kind = c.args.kind; deed = c.args.deed; digest = c.args.digest.now; bytes = c.args.bytes.now } in
+    let old = c.args.conn.now in
+    refused g.S.Store old c.deed.new.conn c.deed.ensures.asks.stays laws c.requires.holds (with_image c.args.acc image (desk g.S.Store old)) c.from_residual.result c.from_residual.ensures.0
+
+pub returns-then-is_none-clause-changes : goal.returns-then-is_none-clause-changes
+returns-then-is_none-clause-changes g c =
+    let laws : Laws g.S.Store = record { settles = g.met.S.Store.settled; shuts = g.met.S.Store.shut_if_dirty } in
+    let image : ImageRow = record { kind = c.args.kind; deed = c.args.deed; digest = c.args.digest.now; bytes = c.args.bytes.now } in
+    let old = c.args.conn.now in
+    refused g.S.Store old c.deed.new.conn c.deed.ensures.asks.stays laws c.requires.holds (with_image c.args.acc image (desk g.S.Store old)) (Err Missing) refl
 
 pub returns-in_err-heading-clause-changes : goal.returns-in_err-heading-clause-changes
 returns-in_err-heading-clause-changes g c =
@@ -26,7 +38,7 @@ returns-in_err-heading-clause-changes g c =
     let old = c.args.conn.now in
     let new = c.heading_at.new.conn in
     let stays : Stays g.S.Store old new = stays_then g.S.Store old c.deed.new.conn new c.deed.ensures.asks.stays c.in_ok-deed.ensures.asks.ends_open c.heading_at.ensures.asks.stays in
-    stays_changes g.S.Store old new stays laws c.requires.holds (with_image c.args.acc image (desk g.S.Store old)) c.from_residual-in_err-heading.result (λ o. on_err _ _ c.from_residual-in_err-heading.ensures.0) (λ clean. on_err _ _ c.from_residual-in_err-heading.ensures.0)
+    refused g.S.Store old new stays laws c.requires.holds (with_image c.args.acc image (desk g.S.Store old)) c.from_residual-in_err-heading.result c.from_residual-in_err-heading.ensures.0
 
 pub returns-then-eq-2-clause-changes : goal.returns-then-eq-2-clause-changes
 returns-then-eq-2-clause-changes g c =
@@ -43,3 +55,37 @@ returns-then-eq-2-clause-changes g c =
     λ o. subst (λ (d : Desk). Some heading ≡ option_map heading_of (get d.images acc)) (same (c.heading_at.ensures.asks.stays.lasts.was_open o)) (sym c.in-Some.is ∙ c.in_ok-heading.ensures.asks.answer o) in
     stays_changes g.S.Store old new stays laws c.requires.holds (with_image acc image (desk g.S.Store old)) (Ok tt) (λ o. kept_image (desk g.S.Store old) acc image (get (desk g.S.Store old).images acc) heading (found o))
     c.in_ok-heading.ensures.asks.ends_open
+
+pub returns-else-eq-clause-changes : goal.returns-else-eq-clause-changes
+returns-else-eq-clause-changes g c =
+    let laws : Laws g.S.Store = record { settles = g.met.S.Store.settled; shuts = g.met.S.Store.shut_if_dirty } in
+    let image : ImageRow = record { kind = c.args.kind; deed = c.args.deed; digest = c.args.digest.now; bytes = c.args.bytes.now } in
+    let old = c.args.conn.now in
+    let new = c.heading_at.new.conn in
+    let stays : Stays g.S.Store old new = stays_then g.S.Store old c.deed.new.conn new c.deed.ensures.asks.stays c.in_ok-deed.ensures.asks.ends_open c.heading_at.ensures.asks.stays in
+    refused g.S.Store old new stays laws c.requires.holds (with_image c.args.acc image (desk g.S.Store old)) (Err Conflict) refl
+
+pub returns-in_err-outside-in-None-clause-changes : goal.returns-in_err-outside-in-None-clause-changes
+returns-in_err-outside-in-None-clause-changes g c =
+    let laws : Laws g.S.Store = record { settles = g.met.S.Store.settled; shuts = g.met.S.Store.shut_if_dirty } in
+    let image : ImageRow = record { kind = c.args.kind; deed = c.args.deed; digest = c.args.digest.now; bytes = c.args.bytes.now } in
+    let old = c.args.conn.now in
+    let new = c.heading_at.new.conn in
+    let stays : Stays g.S.Store old new = stays_then g.S.Store old c.deed.new.conn new c.deed.ensures.asks.stays c.in_ok-deed.ensures.asks.ends_open c.heading_at.ensures.asks.stays in
+    refused g.S.Store old new stays laws c.requires.holds (with_image c.args.acc image (desk g.S.Store old)) c.from_residual-in_err-outside-in-None.result c.from_residual-in_err-outside-in-None.ensures.0
+
+pub returns-in-Ok-clause-changes : goal.returns-in-Ok-clause-changes
+returns-in-Ok-clause-changes g c =
+    let image : ImageRow = record { kind = c.args.kind; deed = c.args.deed; digest = c.args.digest.now; bytes = c.args.bytes.now } in
+    let old = c.args.conn.now in
+    let new = c.heading_at.new.conn in
+    let stays : Stays g.S.Store old new = stays_then g.S.Store old c.deed.new.conn new c.deed.ensures.asks.stays c.in_ok-deed.ensures.asks.ends_open c.heading_at.ensures.asks.stays in
+    then_told g.S.Store old new c.insert_image.new.conn stays c.in_ok-heading.ensures.asks.ends_open (with_image c.args.acc image) c.insert_image.result (Ok tt) (ap is_ok c.in-Ok.is) c.insert_image.ensures.changes
+
+pub returns-in-Err-clause-changes : goal.returns-in-Err-clause-changes
+returns-in-Err-clause-changes g c =
+    let image : ImageRow = record { kind = c.args.kind; deed = c.args.deed; digest = c.args.digest.now; bytes = c.args.bytes.now } in
+    let old = c.args.conn.now in
+    let new = c.heading_at.new.conn in
+    let stays : Stays g.S.Store old new = stays_then g.S.Store old c.deed.new.conn new c.deed.ensures.asks.stays c.in_ok-deed.ensures.asks.ends_open c.heading_at.ensures.asks.stays in
+    then_told g.S.Store old new c.insert_image.new.conn stays c.in_ok-heading.ensures.asks.ends_open (with_image c.args.acc image) c.insert_image.result (Err Sql) (ap is_ok c.in-Err.is) c.insert_image.ensures.changes
