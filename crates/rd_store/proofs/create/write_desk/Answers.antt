@@ -13,11 +13,11 @@ returns-in_err-fill g c =
     let old = c.args.conn.now in
     let mid = c.fill.new.tx.conn.now in
     let last = c.drop-tx.new.self.0 in
+    let same : last ≡ c.conn-1.given.0 = search rules in
     let e = c.in_err-fill.field-0.0 in
     let inside : Moves {T = Unit {0}} {X = Error} g.S.Store (begun old) mid (IsMade 0) after (Err e) =
     subst (λ h. Moves {T = Unit {0}} {X = Error} g.S.Store h mid (IsMade 0) after (Err e)) c.transaction-tx.ensures.begun c.in_err-fill.ensures.moves in
     let turns = undoes g.S.Store (clean_at g.S.Store laws) old mid last (IsMade 0) after c.requires.start (Err e) inside c.drop-tx.ensures.undone c.drop-tx.ensures.survives c.from_residual.result c.from_residual.ensures.0 in
-    let same : last ≡ c.conn-1.given.0 = search rules in
     record { turns = subst (λ h. Turns g.S.Store old h after c.from_residual.result) same turns }
 
 pub returns : goal.returns
@@ -27,9 +27,9 @@ returns g c =
     let old = c.args.conn.now in
     let mid = c.fill.new.tx.conn.now in
     let last = c.commit.new.self.0 in
+    let same : last ≡ c.conn-2-1.given.0 = search rules in
     let u = c.in_ok-fill.field-0 in
     let inside : Moves {T = Unit {0}} {X = Error} g.S.Store (begun old) mid (IsMade 0) after (Ok u) =
     subst (λ h. Moves {T = Unit {0}} {X = Error} g.S.Store h mid (IsMade 0) after (Ok u)) c.transaction-tx.ensures.begun c.in_ok-fill.ensures.moves in
     let turns = commits g.S.Store (clean_at g.S.Store laws) old mid last (IsMade 0) after c.requires.start u inside c.commit.ensures.survives c.commit.result c.commit.ensures.ok c.commit.ensures.err in
-    let same : last ≡ c.conn-2-1.given.0 = search rules in
     record { turns = subst (λ h. Turns g.S.Store old h after c.commit.result) same turns }

@@ -21,6 +21,7 @@ returns-in_err-delete_digest g c =
     let old = c.args.conn.now in
     let mid = c.delete_digest.new.tx.conn.now in
     let last = c.drop-tx.new.self.0 in
+    let same : last ≡ c.conn-1.given.0 = search rules in
     let digest = c.args.digest.now in
     let audience = c.args.audience in
     let d = desk g.S.Store old in
@@ -31,7 +32,6 @@ returns-in_err-delete_digest g c =
     let inside : Moves {T = ℕ} {X = Error} g.S.Store (begun old) mid (IsOf d) (IsOf after) (Err e) = stopped g.S.Store (begun old) mid (IsOf d) (IsOf (without_key digest d)) (IsOf after) e (Err e) refl one in
     let turns = undoes g.S.Store (clean_at g.S.Store laws) old mid last (IsOf d) (IsOf after) (starts g.S.Store old last c.requires.holds) (Err e) inside c.drop-tx.ensures.undone c.drop-tx.ensures.survives c.from_residual.result c.from_residual.ensures.0 in
     let all = changes g.S.Store old last c.requires.holds laws after (λ was lawful. lawful_key digest d lawful audience c.requires.key (c.requires.staff was)) c.from_residual.result turns in
-    let same : last ≡ c.conn-1.given.0 = search rules in
     record { kept = subst (λ h. HoldsDesk (state g.S.Store h)) same all.0; changes = subst (λ h. Changes g.S.Store old h after c.from_residual.result) same all.1 }
 
 pub returns-in_err-insert_key : goal.returns-in_err-insert_key
@@ -41,6 +41,7 @@ returns-in_err-insert_key g c =
     let first = c.delete_digest.new.tx.conn.now in
     let mid = c.insert_key.new.tx.conn.now in
     let last = c.drop-tx-in_err-insert_key.new.self.0 in
+    let same : last ≡ c.conn-in_err-insert_key-1.given.0 = search rules in
     let digest = c.args.digest.now in
     let audience = c.args.audience in
     let d = desk g.S.Store old in
@@ -54,7 +55,6 @@ returns-in_err-insert_key g c =
     let inside = and_then g.S.Store (begun old) first mid (IsOf d) (IsOf (without_key digest d)) (IsOf after) n one (Err e) two in
     let turns = undoes g.S.Store (clean_at g.S.Store laws) old mid last (IsOf d) (IsOf after) (starts g.S.Store old last c.requires.holds) (Err e) inside c.drop-tx-in_err-insert_key.ensures.undone c.drop-tx-in_err-insert_key.ensures.survives c.from_residual-in_err-insert_key.result c.from_residual-in_err-insert_key.ensures.0 in
     let all = changes g.S.Store old last c.requires.holds laws after (λ was lawful. lawful_key digest d lawful audience c.requires.key (c.requires.staff was)) c.from_residual-in_err-insert_key.result turns in
-    let same : last ≡ c.conn-in_err-insert_key-1.given.0 = search rules in
     record { kept = subst (λ h. HoldsDesk (state g.S.Store h)) same all.0; changes = subst (λ h. Changes g.S.Store old h after c.from_residual-in_err-insert_key.result) same all.1 }
 
 pub returns : goal.returns
@@ -64,6 +64,7 @@ returns g c =
     let first = c.delete_digest.new.tx.conn.now in
     let mid = c.insert_key.new.tx.conn.now in
     let last = c.commit.new.self.0 in
+    let same : last ≡ c.conn-2-1.given.0 = search rules in
     let digest = c.args.digest.now in
     let audience = c.args.audience in
     let d = desk g.S.Store old in
@@ -77,5 +78,4 @@ returns g c =
     let inside = and_then g.S.Store (begun old) first mid (IsOf d) (IsOf (without_key digest d)) (IsOf after) n one (Ok m) two in
     let turns = commits g.S.Store (clean_at g.S.Store laws) old mid last (IsOf d) (IsOf after) (starts g.S.Store old last c.requires.holds) m inside c.commit.ensures.survives c.commit.result c.commit.ensures.ok c.commit.ensures.err in
     let all = changes g.S.Store old last c.requires.holds laws after (λ was lawful. lawful_key digest d lawful audience c.requires.key (c.requires.staff was)) c.commit.result turns in
-    let same : last ≡ c.conn-2-1.given.0 = search rules in
     record { kept = subst (λ h. HoldsDesk (state g.S.Store h)) same all.0; changes = subst (λ h. Changes g.S.Store old h after c.commit.result) same all.1 }

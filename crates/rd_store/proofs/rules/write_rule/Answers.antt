@@ -21,6 +21,7 @@ returns-in_err-delete_place g c =
     let old = c.args.conn.now in
     let mid = c.delete_place.new.tx.conn.now in
     let last = c.drop-tx.new.self.0 in
+    let same : last ≡ c.conn-1.given.0 = search rules in
     let rule = c.args.rule.now in
     let place = place_of rule in
     let d = desk g.S.Store old in
@@ -31,7 +32,6 @@ returns-in_err-delete_place g c =
     let inside : Moves {T = ℕ} {X = Error} g.S.Store (begun old) mid (IsOf d) (IsOf after) (Err e) = stopped g.S.Store (begun old) mid (IsOf d) (IsOf (without_rule place d)) (IsOf after) e (Err e) refl one in
     let turns = undoes g.S.Store (clean_at g.S.Store laws) old mid last (IsOf d) (IsOf after) (starts g.S.Store old last c.requires.holds) (Err e) inside c.drop-tx.ensures.undone c.drop-tx.ensures.survives c.from_residual.result c.from_residual.ensures.0 in
     let all = changes g.S.Store old last c.requires.holds laws after (λ was. lawful_rule place (terms_of rule) d c.requires.rule (c.requires.stands was)) c.from_residual.result turns in
-    let same : last ≡ c.conn-1.given.0 = search rules in
     record { kept = subst (λ h. HoldsDesk (state g.S.Store h)) same all.0; changes = subst (λ h. Changes g.S.Store old h after c.from_residual.result) same all.1 }
 
 pub returns-in_err-insert_rule : goal.returns-in_err-insert_rule
@@ -41,6 +41,7 @@ returns-in_err-insert_rule g c =
     let first = c.delete_place.new.tx.conn.now in
     let mid = c.insert_rule.new.tx.conn.now in
     let last = c.drop-tx-in_err-insert_rule.new.self.0 in
+    let same : last ≡ c.conn-in_err-insert_rule-1.given.0 = search rules in
     let rule = c.args.rule.now in
     let place = place_of rule in
     let terms = terms_of rule in
@@ -55,7 +56,6 @@ returns-in_err-insert_rule g c =
     let inside = and_then g.S.Store (begun old) first mid (IsOf d) (IsOf (without_rule place d)) (IsOf after) n one (Err e) two in
     let turns = undoes g.S.Store (clean_at g.S.Store laws) old mid last (IsOf d) (IsOf after) (starts g.S.Store old last c.requires.holds) (Err e) inside c.drop-tx-in_err-insert_rule.ensures.undone c.drop-tx-in_err-insert_rule.ensures.survives c.from_residual-in_err-insert_rule.result c.from_residual-in_err-insert_rule.ensures.0 in
     let all = changes g.S.Store old last c.requires.holds laws after (λ was. lawful_rule place terms d c.requires.rule (c.requires.stands was)) c.from_residual-in_err-insert_rule.result turns in
-    let same : last ≡ c.conn-in_err-insert_rule-1.given.0 = search rules in
     record { kept = subst (λ h. HoldsDesk (state g.S.Store h)) same all.0; changes = subst (λ h. Changes g.S.Store old h after c.from_residual-in_err-insert_rule.result) same all.1 }
 
 pub returns : goal.returns
@@ -65,6 +65,7 @@ returns g c =
     let first = c.delete_place.new.tx.conn.now in
     let mid = c.insert_rule.new.tx.conn.now in
     let last = c.commit.new.self.0 in
+    let same : last ≡ c.conn-2-1.given.0 = search rules in
     let rule = c.args.rule.now in
     let place = place_of rule in
     let terms = terms_of rule in
@@ -79,5 +80,4 @@ returns g c =
     let inside = and_then g.S.Store (begun old) first mid (IsOf d) (IsOf (without_rule place d)) (IsOf after) n one (Ok m) two in
     let turns = commits g.S.Store (clean_at g.S.Store laws) old mid last (IsOf d) (IsOf after) (starts g.S.Store old last c.requires.holds) m inside c.commit.ensures.survives c.commit.result c.commit.ensures.ok c.commit.ensures.err in
     let all = changes g.S.Store old last c.requires.holds laws after (λ was. lawful_rule place terms d c.requires.rule (c.requires.stands was)) c.commit.result turns in
-    let same : last ≡ c.conn-2-1.given.0 = search rules in
     record { kept = subst (λ h. HoldsDesk (state g.S.Store h)) same all.0; changes = subst (λ h. Changes g.S.Store old h after c.commit.result) same all.1 }
