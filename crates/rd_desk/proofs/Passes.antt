@@ -1,4 +1,4 @@
--- The refusals in turn: what has to be known to pass the next one.
+-- One reason to refuse after the other is ruled out.
 use Rattle.std.proofs.Common.{◌≡◌, ◌<◌, ℕ, Option, Some, None, arith, refl}
 use Rattle.rd_policy.specs.declared.audience.Audience.{Audience}
 use Rattle.rd_policy.specs.declared.audience.Audience.TheVariants.{Staff}

@@ -69,7 +69,7 @@ module _ (desk : Desk) (day : ℤ) (badge : Option (List ℕ)) (audience : Audie
   there : (file : Found) → IsFound holding.image.kind holding.image.bytes file → file.slot ≡ slot → IsSlotOfFile holding.image.kind holding.image.bytes slot
   there file told at = subst (IsSlotOfFile holding.image.kind holding.image.bytes) at (told_slot holding.image.kind holding.image.bytes file told)
 
-  -- a file that is told is there
+  -- the slot of a file that is told is that of a file
   before_11 : (judged : Option JudgedFile) (file : Found) → IsFound holding.image.kind holding.image.bytes file → file.slot ≡ slot → Passes judged 11
   before_11 judged file told at =
       to_11 desk request judged
@@ -111,7 +111,7 @@ module _ (desk : Desk) (day : ℤ) (badge : Option (List ℕ)) (audience : Audie
       let same : asked.image ≡ holding.image = same_image asked.image holding.image standing_there standing in
       none (there judged.file (subst (λ (i : ImageRow). IsFound i.kind i.bytes judged.file) same asked.told) at)
 
-  -- what is said of the file is what is said to the request
+  -- the answer to the request is what is said of its file
   pub read_answered : (said : Said) → IsRead holding audience day slot said → IsAnswered desk day (record { badge = badge; what = Bytes acc slot }) said desk
   read_answered (Refused NoFile) none = (
     record {

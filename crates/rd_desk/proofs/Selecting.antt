@@ -31,7 +31,7 @@ module _ (rules : List Rule) (audience : Audience) (day : ℤ) where
   abbrev Of : List Found → List Line → Type 0
   Of = AreLinesOf rules audience day
 
-  -- one file more, that is listed
+  -- after the files so far comes one that is listed
   pub one_more : (files : List Found) (lines : List Line) (file : Found) (verdict : Verdict) → Of files lines
       → IsVerdict (Contains rules) audience day file verdict → verdict.effect ≢ Deny
       → Of (files ++ file ∷ []) (lines ++ line_of file verdict ∷ [])
@@ -51,7 +51,7 @@ module _ (rules : List Rule) (audience : Audience) (day : ℤ) where
     inr (denied, ap (λ l. l ++ line_of file verdict ∷ []) is),
   )
 
-  -- one file more, that is denied
+  -- or one that is denied
   pub none_more : (files : List Found) (lines : List Line) (file : Found) (verdict : Verdict) → Of files lines
       → IsVerdict (Contains rules) audience day file verdict → verdict.effect ≡ Deny
       → Of (files ++ file ∷ []) lines

@@ -1,4 +1,4 @@
--- The bytes of a body.
+-- A body as the list of its bytes.
 use Rattle.std.specs.Prelude.{ℕ, List}
 use Rattle.rd_desk.specs.declared.body.Inner.{Inner}
 use Rattle.rd_desk.specs.declared.body.Inner.TheVariants.{Fixed, Written, File}

@@ -1,4 +1,4 @@
--- What an iterator over the pieces of a body has still to give.
+-- The pieces of a body that its iterator has not lent yet.
 use Rattle.std.specs.Prelude.{ℕ, List, [], ◌∷◌}
 use Rattle.rd_desk.specs.declared.body.BodyPieces.{BodyPieces}
 

@@ -1,4 +1,4 @@
--- What the calls inside the desk say of the store.
+-- What is said of the store by the functions of which an answer is made.
 use Rattle.std.specs.Prelude.{◌≡◌, ◌≢◌, ◌⊎◌, ℕ, ℤ, List, Option, Some, None, Result, Ok, Err, OnOk, IfOk, MatchOption}
 use Rattle.std.specs.FinMap.{get}
 use Rattle.sqlite.specs.Store.{Ghosts}
@@ -32,24 +32,25 @@ pub record Looks {S T X : Type 0} (g : Ghosts S) (old new : Held S) (result : Re
   pub answer : IsOpen g new → IfOk result Answers
   pub ends_open : LeavesOpen g new result
 
--- the image of an accession and the rules for its files, or that it does not stand
+-- what was looked up of an accession: its image and the rules for it, or nothing, where it does not stand
 abbrev pub IsHolding : Desk → ℕ → Option Holding → Type 0
 IsHolding desk acc found = MatchOption found (get desk.images acc ≡ None)
     (λ holding. (get desk.images acc ≡ Some holding.image) × (holding.rules ≡ rules_for desk acc))
 
--- what is missing where the accession of a takedown, or the deed of a rule, does not stand
+-- a takedown lacks its accession, and a rule of a deed lacks its deed
 abbrev pub missing_of : Band → Refusal
 missing_of Takedown = NoAccession
 missing_of Deed = NoDeed
 
--- the command is accepted and carried out; or it is refused, or the store failed, and the desk stays
+-- what becomes of the desk, by what is told: done, it is the next one; refused or not told, it is as before
 abbrev pub IsCarriedOut : {X : Type 0} → Desk → Request → Result Said X → Desk → Type 0
 IsCarriedOut old request (Ok Done) new = IsAccepted old request None × (new ≡ carried_out request.what old)
 IsCarriedOut old request (Ok (Refused refusal)) new = IsRefused old request None refusal × (new ≡ old)
 IsCarriedOut old request (Ok other) new = ⊥
 IsCarriedOut old request (Err fault) new = new ≡ old
 
--- A command, in at most one transaction.
+-- A command of the staff. Of what a crash leaves it says that either nothing was done, or the desk after it, of
+-- which an image has the digest that was given: the other reasons to refuse it are told by that desk being lawful.
 pub record Carries {S X : Type 0} (g : Ghosts S) (old new : Held S) (request : Request) (result : Result Said X) : Type 0 where
   pub lasts : Lasts g old new
   pub judged : IsOpen g new → IsCarriedOut (desk g old) request result (desk g new)
@@ -59,7 +60,7 @@ pub record Carries {S X : Type 0} (g : Ghosts S) (old new : Held S) (request : R
       ⊎ ((¬ Holds (desk g old) request None DigestDiffers) × IsLeft (carried_out request.what (desk g old)) left)
   pub durable : IsOpen g new → LeavesOnly g new (desk g new)
 
--- what is answered, or the desk as it was
+-- an answer, or none and the desk as before
 abbrev pub IsResponse : {X : Type 0} → Desk → ℤ → Request → Result Said X → Desk → Type 0
 IsResponse old day request (Ok answer) new = IsAnswered old day request answer new
 IsResponse old day request (Err fault) new = new ≡ old
@@ -69,7 +70,7 @@ abbrev pub LeavesStep : {S : Type 0} → Ghosts S → Held S → Held S → ℤ 
 LeavesStep g old new day request = (left : Trees) → g.recovers new.store left
     → IsLeft (desk g old) left ⊎ ((after : Desk) × IsStep (desk g old) day request after × IsLeft after left)
 
--- A request, in at most one transaction.
+-- Any request, of which at most one transaction is made.
 pub record Responds {S X : Type 0} (g : Ghosts S) (old new : Held S) (day : ℤ) (request : Request) (result : Result Said X) : Type 0 where
   pub lasts : Lasts g old new
   pub judged : IsOpen g new → IsResponse (desk g old) day request result (desk g new)

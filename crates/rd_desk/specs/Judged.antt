@@ -25,7 +25,8 @@ use Rattle.rd_desk.specs.declared.request.What.TheVariants.{Listing, Bytes, PutI
 
 -- ---- who asks, and what is named
 
--- the audience of a caller: the public without a badge, else that of the key; none where there is no such key
+-- the audience to which a caller belongs. Who shows no badge is of the public; who shows one is of the
+-- audience of its key, and of none where no such key stands
 abbrev pub audience_of : Desk → Option (List ℕ) → Option Audience
 audience_of desk None = Some Public
 audience_of desk (Some badge) = get desk.keys badge
@@ -39,7 +40,7 @@ abbrev pub deed_at : Band → ℕ → Option ℕ
 deed_at Takedown scope = None
 deed_at Deed scope = Some scope
 
--- the accession that has to stand
+-- a request that names an accession is refused where none of that number stands
 abbrev pub accession_of : What → Option ℕ
 accession_of (Listing acc) = Some acc
 accession_of (Bytes acc slot) = Some acc
@@ -47,19 +48,19 @@ accession_of (PutRule rule) = accession_at rule.band rule.scope
 accession_of (DropRule band scope rank) = accession_at band scope
 accession_of other = None
 
--- the deed that has to stand
+-- and one that names a deed is, where no such deed does
 abbrev pub deed_of : What → Option ℕ
 deed_of (PutImage acc kind deed digest bytes) = Some deed
 deed_of (PutRule rule) = deed_at rule.band rule.scope
 deed_of (DropRule band scope rank) = deed_at band scope
 deed_of other = None
 
--- the accession and the slot of the file that is asked for
+-- where the file is that shall be read: its accession and slot
 abbrev pub file_of : What → Option (ℕ × ℕ)
 file_of (Bytes acc slot) = Some (acc, slot)
 file_of other = None
 
--- the image that is put
+-- the row that an image would have
 abbrev pub image_of : What → Option ImageRow
 image_of (PutImage acc kind deed digest bytes) = Some (record { kind = kind; deed = deed; digest = digest; bytes = bytes })
 image_of other = None
@@ -85,14 +86,14 @@ pub record IsJudgedFile (desk : Desk) (day : ℤ) (request : Request) (judged : 
   pub told : IsFound image.kind image.bytes judged.file
   pub decided : IsVerdict (Contains (rules_for desk accession)) audience day judged.file judged.verdict
 
--- the file that the request asks for, where there is one and the caller is known
+-- what the request asks for: that file, or none, where there is no such file or the caller is unknown
 abbrev pub IsAsked : Desk → ℤ → Request → Option JudgedFile → Type 0
 IsAsked desk day request (Some judged) = IsJudgedFile desk day request judged
 IsAsked desk day request None = (judged : JudgedFile) → ¬ IsJudgedFile desk day request judged
 
 -- ---- refusals
 
--- something else stands there, or no staff key would be left
+-- an image that differs stands at the accession; or the last key of the staff would be lost
 abbrev pub Conflicts : Desk → What → Type 0
 Conflicts desk (PutImage acc kind deed digest bytes) =
     HasOtherImage desk acc (record { kind = kind; deed = deed; digest = digest; bytes = bytes })
@@ -101,7 +102,7 @@ Conflicts desk (DropKey digest) = IsLastStaff desk digest
 Conflicts desk other = ⊥
 
 module _ (desk : Desk) (request : Request) (asked : Option JudgedFile) where
-  -- the refusal holds
+  -- why a request is refused; several reasons may hold at once
   abbrev pub Holds : Refusal → Type 0
   Holds UnknownKey = audience_of desk request.badge ≡ None
   Holds StaffOnly = IsCommand request.what × (audience_of desk request.badge ≢ Some Staff)
@@ -118,16 +119,16 @@ module _ (desk : Desk) (request : Request) (asked : Option JudgedFile) where
   Holds DigestDiffers = IsSomeAnd (image_of request.what) (λ image. sha256 image.bytes ≢ image.digest)
   Holds Conflict = Conflicts desk request.what
 
-  -- no refusal with a number below this one holds
+  -- of the reasons with a lower number none holds
   abbrev pub PassesTo : ℕ → Type 0
   PassesTo number = (refusal : Refusal) → number_of refusal < number → ¬ Holds refusal
 
-  -- The refusal is given: it holds, and none with a lower number does.
+  -- Of the reasons that hold, this is the one with the lowest number.
   pub record IsRefused (refusal : Refusal) : Type 0 where
     pub holds : Holds refusal
     pub lowest : PassesTo (number_of refusal)
 
-  -- no refusal holds
+  -- there is no reason to refuse it
   abbrev pub IsAccepted : Type 0
   IsAccepted = (refusal : Refusal) → ¬ Holds refusal
 

@@ -1,4 +1,5 @@
--- What the parts of a query tell.
+-- What the steps of a query tell, in the order in which they are taken; what a query answers as a whole is said
+-- without them.
 use Rattle.std.specs.Prelude.{◌≡◌, ◌≢◌, ◌⊎◌, ℕ, ℤ, List, [], ◌∷◌, Contains, Some, length, true, false}
 use Rattle.std.specs.FinMap.{get}
 use Rattle.rd_policy.specs.Verdicts.{IsVerdict}
@@ -21,7 +22,7 @@ use Rattle.rd_desk.specs.declared.said.Said.TheVariants.{Refused, File}
 
 -- ---- one file
 
--- The file is the one at the slot, with the verdict on it.
+-- This file has the slot, and this is the verdict on it.
 pub record IsAtSlot (holding : Holding) (audience : Audience) (day : ℤ) (slot : ℕ) (file : Found) (verdict : Verdict) : Type 0 where
   pub told : IsFound holding.image.kind holding.image.bytes file
   pub at_slot : file.slot ≡ slot

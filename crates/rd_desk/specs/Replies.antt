@@ -1,4 +1,4 @@
--- What is said to a request, and what becomes of the desk.
+-- The answer to a request, and the desk that it leaves.
 use Rattle.std.specs.Prelude.{◌≡◌, ◌≢◌, ◌<◌, ◌⊎◌, ℕ, ℤ, List, Option, Some, All, AllPairs, Contains, IsSomeAnd, length}
 use Rattle.std.specs.FinMap.{get}
 use Rattle.rd_policy.specs.Verdicts.{IsVerdict}
@@ -115,13 +115,13 @@ abbrev pub IsAnswered : Desk → ℤ → Request → Said → Desk → Type 0
 IsAnswered old day request (said.Refused refusal) new = IsRefusedOn old day request refusal × (new ≡ old)
 IsAnswered old day request answer new = IsDone old day request answer new
 
--- The reply to a request on a day, and the desk after it.
+-- A request is replied to: something is answered, and the reply is its text.
 pub record IsReply (old : Desk) (day : ℤ) (request : Request) (reply : Reply) (new : Desk) : Type 0 where
   pub answer : Said
   pub answered : IsAnswered old day request answer new
   pub written : reply ≡ reply_of answer
 
--- The store or memory failed, and the desk is as it was.
+-- There was no answer, for want of memory or of the store, and nothing has changed.
 pub record IsUnavailable (old : Desk) (reply : Reply) (new : Desk) : Type 0 where
   pub written : reply ≡ UNAVAILABLE
   pub after : new ≡ old

@@ -1,4 +1,4 @@
--- What a desk says of its store after a request.
+-- One call of `answer`: the store before it and after it, and the reply.
 use Rattle.std.specs.Prelude.{◌≡◌, ◌≢◌, ◌⊎◌, ℕ, ℤ, List, None}
 use Rattle.sqlite.specs.Store.{Ghosts}
 use Rattle.sqlite.specs.Held.{Held}
@@ -21,11 +21,11 @@ pub record IsTurnedAway {S : Type 0} (old new : Held S) (request : Request) (rep
   pub told : reply ≡ reply_of (Refused StaffOnly)
   pub same : new ≡ old
 
--- A request on a day, and its reply. Where the connection is open at the end, the request is answered or
--- unavailable, a crash leaves the desk and nothing else, a staff key stands, and a command that left its
--- caller's key as it was would be answered so again. Where the disk has returned what was written, the
--- connection is open after each reply but that it is unavailable; and where it was open, a crash leaves the
--- desk before the request or the one after it.
+-- While the connection is open after the call, the request was answered or is unavailable, no crash leaves
+-- anything but the desk as it now is, the staff has a key, and a command by which its caller's key was not
+-- changed has the same reply once more. Where all that was written came back from the disk, the connection is
+-- open after any reply but that of unavailability, unless the caller was turned away and the store not used; and
+-- if it was open before the call, a crash leaves the old desk or that of the step.
 pub record Serves {S : Type 0} (g : Ghosts S) (old new : Held S) (day : ℤ) (request : Request) (reply : Reply) : Type 0 where
   pub lasts : Lasts g old new
   pub answers : IsOpen g new → Answers (desk g old) day request reply (desk g new)

@@ -49,7 +49,7 @@ pub(crate) fn audience<S: Alter>(
     Ok(store.audience_of(digest)?)
 }
 
-/// Whether a deed stands.
+/// Whether there is a deed with a number.
 pub(crate) fn has_deed<S: Alter>(store: &mut Store<S>, num: u32) -> Result<bool, Unavailable>
     ensures looks { Looks S.Store store.old store.new result (λ found. found ≡ is_some (get (desk S.Store store.old).deeds num)) }
 {
@@ -66,7 +66,7 @@ pub(crate) fn accessions<S: Alter>(
     Ok(store.accessions(alloc)?)
 }
 
-/// The image of an accession; `None` where the accession does not stand.
+/// The image at an accession, if one stands there.
 fn image<S: Alter>(
     store: &mut Store<S>,
     alloc: Global,
@@ -77,7 +77,8 @@ fn image<S: Alter>(
     Ok(store.image(alloc, acc)?)
 }
 
-/// The takedowns of an accession and then the rules of its deed, in order.
+/// The takedowns of an accession and then the rules of its deed, in order. That they are is tested: of a
+/// connection that a fault has shut, nothing is known.
 fn rules<S: Alter>(
     store: &mut Store<S>,
     alloc: Global,

@@ -1,5 +1,5 @@
-//! Commands of the staff, each in at most one transaction. Their caller knows that the staff asks, and each
-//! answers what it says only where its transaction is done.
+//! The commands. Whoever calls these functions knows that the staff asks. Each makes one transaction at most,
+//! as its last step, and tells `Done` only once that is committed.
 
 ghost use Rattle.std.specs.Prelude.{◌≡◌, ◌≢◌, ◌↔◌, Some, IsSome, IsTrue, length};
 ghost use Rattle.std.specs.FinMap.{get};
@@ -124,7 +124,7 @@ fn has_digest(bytes: &[u8], digest: &[u8; 32]) -> bool
     Sha256::digest(bytes) == *digest
 }
 
-/// Puts an image that has its kind's length and its SHA-256, under a deed that stands.
+/// Puts an image whose length, SHA-256 and deed were found right.
 fn commit_image<S: Alter>(
     store: &mut Store<S>,
     badge: &Option<[u8; 32]>,
@@ -174,7 +174,7 @@ fn put_image<S: Alter>(
     commit_image(store, badge, acc, kind, deed, digest, bytes)
 }
 
-/// A command whose body could not be read is refused.
+/// Refuses a command of which the body was not understood.
 fn unread<S: Alter>(store: &mut Store<S>, badge: &Option<[u8; 32]>) -> Result<Said, Unavailable>
     requires known { IsOpen S.Store store.old → audience_of (desk S.Store store.old) badge.now ≡ Some Audience.Staff }
     ensures { Carries S.Store store.old store.new (record { badge = badge.now; what = What.Unread }) result }

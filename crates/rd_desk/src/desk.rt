@@ -130,7 +130,7 @@ fn reply_to_public<S: Alter>(
     reply_with(alloc, said)
 }
 
-/// The reply to a request on a day.
+/// Replies to a request on a day.
 fn reply_on<S: Alter>(store: &mut Store<S>, alloc: Global, day: i32, request: &Request) -> Reply
     requires fits { IsRequest request.now.what }
     ensures serves { Serves S.Store store.old store.new day request.now result }
@@ -191,8 +191,9 @@ impl<S: Alter> Desk<S> {
     }
 
     /// The reply to a request whose values are within their limits (`Request::fits`), at a moment in seconds
-    /// since 1970-01-01T00:00:00 UTC that has a day (`Desk::day`). A command is done whole or not at all, and
-    /// a reply with status 503 follows no change.
+    /// since 1970-01-01T00:00:00 UTC that has a day (`Desk::day`). Its status is 200, that of a `Refusal`, or
+    /// 503, where the store failed or `alloc` had no memory. A command is done whole or not at all, and no
+    /// change comes before a 503.
     pub fn answer(&mut self, alloc: Global, seconds: i64, request: &Request) -> Reply
         requires moment { HasDay seconds self.old.offset_minutes }
         requires fits { IsRequest request.now.what }

@@ -35,7 +35,7 @@ pub(crate) fn file_at(
     Ok(find(alloc, &disk, slot)?)
 }
 
-/// The bytes of a sound file of an image.
+/// The contents of a file that has no fault.
 pub(crate) fn contents(
     alloc: Global,
     image: &ImageRow,

@@ -2,7 +2,7 @@
 
 ghost use Rattle.rd_desk.specs.Laws.{AnswersStep, OneReply, SameAgain};
 
-/// Law: a request on a day has one reply, and one desk after it.
+/// Law: a request on a day has at most one reply, and with it one desk that it leaves.
 pub fn one_reply()
     ensures { OneReply }
 {}
@@ -13,8 +13,8 @@ pub fn answers_step()
     ensures { AnswersStep }
 {}
 
-/// Law: a command that is asked again on the same day, of the desk that it left, has the same reply and leaves
-/// that desk, unless it changed its caller's own key.
+/// Law: sent a second time on its day, a command is replied to alike and changes nothing more, unless its caller's
+/// own key is what it changed.
 pub fn same_again()
     ensures { SameAgain }
 {}

@@ -28,7 +28,7 @@ pub(crate) struct Caller {
     pub day: i32,
 }
 
-/// What the rules say of a file to a caller.
+/// The verdict of rules on a file, for a caller.
 fn judge(rules: &[Rule], caller: &Caller, file: &Found) -> Verdict
     requires { AreInOrder rules.now }
     ensures { IsVerdict (Contains rules.now) caller.now.audience caller.now.day file.now result }
@@ -193,7 +193,7 @@ fn images<S: Alter>(
     Ok(Said::Images(image_lines(store, alloc, caller, accessions.as_slice())?))
 }
 
-/// What is said to a query.
+/// Answers a query.
 pub(crate) fn query<S: Alter>(
     store: &mut Store<S>,
     alloc: Global,

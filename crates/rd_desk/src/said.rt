@@ -76,6 +76,6 @@ pub struct Line {
     pub verdict: Verdict,
 }
 
-/// There is no telling what is replied: the database failed, or memory was wanting.
+/// The request is not answered: the database failed, or memory was wanting.
 #[derive(Clone, Copy)]
 pub(crate) struct Unavailable;
