@@ -1,3 +1,15 @@
+/// A value that is like another but for some of its fields.
+macro_rules! like {
+    ($type:ident, $other:expr, $($field:ident: $value:expr),+) => {
+        $type { $($field: $value,)+ ..$other }
+    };
+}
+
+/// A table, of which each row stands on one line.
+macro_rules! table {
+    ($($row:expr;)+) => { &[$($row),+] };
+}
+
 mod cases;
 mod done;
 mod images;

@@ -12,11 +12,7 @@ use std::test::Fail;
 /// A second key of the staff.
 const DEPUTY: Key = Some("deputy");
 
-const PROGRAM_14: NewImage = NewImage {
-    acc: 14,
-    deed: 9,
-    ..PROGRAM_12
-};
+const PROGRAM_14: NewImage = like!(NewImage, PROGRAM_12, acc: 14, deed: 9);
 
 const CHANGES: &[Case] = &[
     Case {
@@ -58,7 +54,7 @@ const CHANGES: &[Case] = &[
             (
                 STAFF,
                 AFTER,
-                Ask::PutRule(NewRule { scope: 9, ..OPEN }),
+                Ask::PutRule(like!(NewRule, OPEN, scope: 9)),
                 DONE,
             ),
             (NOBODY, AFTER, Ask::Bytes(14, 0), UNKNOWN_KEY),

@@ -55,78 +55,35 @@ pub(super) const PROGRAM_12: NewImage = NewImage {
 };
 
 /// The same under deed 8.
-pub(super) const PROGRAM_13: NewImage = NewImage {
-    acc: 13,
-    deed: 8,
-    ..PROGRAM_12
-};
+pub(super) const PROGRAM_13: NewImage = like!(NewImage, PROGRAM_12, acc: 13, deed: 8);
 
-pub(super) const LOOPED_14: NewImage = NewImage {
-    acc: 14,
-    bytes: Picture::Looped,
-    digest: Picture::Looped,
-    ..PROGRAM_12
-};
+pub(super) const LOOPED_14: NewImage =
+    like!(NewImage, PROGRAM_12, acc: 14, bytes: Picture::Looped, digest: Picture::Looped);
 
-pub(super) const HELLO_15: NewImage = NewImage {
-    acc: 15,
-    kind: Kind::Cpm8,
-    bytes: Picture::Hello,
-    digest: Picture::Hello,
-    ..PROGRAM_12
-};
+pub(super) const HELLO_15: NewImage =
+    like!(NewImage, PROGRAM_12, acc: 15, kind: Kind::Cpm8, bytes: Picture::Hello, digest: Picture::Hello);
 
-pub(super) const MIXED_16: NewImage = NewImage {
-    acc: 16,
-    bytes: Picture::Mixed,
-    digest: Picture::Mixed,
-    ..PROGRAM_12
-};
+pub(super) const MIXED_16: NewImage =
+    like!(NewImage, PROGRAM_12, acc: 16, bytes: Picture::Mixed, digest: Picture::Mixed);
 
-pub(super) const CROSSED_17: NewImage = NewImage {
-    acc: 17,
-    bytes: Picture::Crossed,
-    digest: Picture::Crossed,
-    ..PROGRAM_12
-};
+pub(super) const CROSSED_17: NewImage =
+    like!(NewImage, PROGRAM_12, acc: 17, bytes: Picture::Crossed, digest: Picture::Crossed);
 
-pub(super) const QUOTED_18: NewImage = NewImage {
-    acc: 18,
-    bytes: Picture::Quoted,
-    digest: Picture::Quoted,
-    ..PROGRAM_12
-};
+pub(super) const QUOTED_18: NewImage =
+    like!(NewImage, PROGRAM_12, acc: 18, bytes: Picture::Quoted, digest: Picture::Quoted);
 
-pub(super) const ONES_19: NewImage = NewImage {
-    acc: 19,
-    bytes: Picture::Ones,
-    digest: Picture::Ones,
-    ..HELLO_15
-};
+pub(super) const ONES_19: NewImage =
+    like!(NewImage, HELLO_15, acc: 19, bytes: Picture::Ones, digest: Picture::Ones);
 
-pub(super) const CROSSED_DATA_20: NewImage = NewImage {
-    acc: 20,
-    bytes: Picture::CrossedData,
-    digest: Picture::CrossedData,
-    ..PROGRAM_12
-};
+pub(super) const CROSSED_DATA_20: NewImage =
+    like!(NewImage, PROGRAM_12, acc: 20, bytes: Picture::CrossedData, digest: Picture::CrossedData);
 
-pub(super) const DOTTED_21: NewImage = NewImage {
-    acc: 21,
-    bytes: Picture::Dotted,
-    digest: Picture::Dotted,
-    ..HELLO_15
-};
+pub(super) const DOTTED_21: NewImage =
+    like!(NewImage, HELLO_15, acc: 21, bytes: Picture::Dotted, digest: Picture::Dotted);
 
 /// The entry of a relative file with a chain of data from 17/0 and one of side sectors from 17/1.
-const DATA: NewCbmEntry<'static> = NewCbmEntry {
-    type_byte: 0x84,
-    name: b"DATA",
-    side: (17, 1),
-    record_length: 10,
-    size: 2,
-    ..PROGRAM
-};
+const DATA: NewCbmEntry<'static> =
+    like!(NewCbmEntry, PROGRAM, type_byte: 0x84, name: b"DATA", side: (17, 1), record_length: 10, size: 2);
 
 /// A disk with the relative file `DATA`, both of whose chains lead from their first block to 17/5.
 fn crossed_data(alloc: Global) -> Result<Vec<u8>, NoMemory> {
@@ -138,16 +95,9 @@ fn crossed_data(alloc: Global) -> Result<Vec<u8>, NoMemory> {
     Ok(image)
 }
 
-const QUOTE: NewCbmEntry<'static> = NewCbmEntry {
-    name: b"HI\xa0\"",
-    ..PROGRAM
-};
+const QUOTE: NewCbmEntry<'static> = like!(NewCbmEntry, PROGRAM, name: b"HI\xa0\"");
 
-const BACKSLASH: NewCbmEntry<'static> = NewCbmEntry {
-    name: b"A\\B",
-    first: (17, 1),
-    ..PROGRAM
-};
+const BACKSLASH: NewCbmEntry<'static> = like!(NewCbmEntry, PROGRAM, name: b"A\\B", first: (17, 1));
 
 fn quoted(alloc: Global) -> Result<Vec<u8>, NoMemory> {
     let mut image = formatted(alloc)?;
@@ -157,22 +107,9 @@ fn quoted(alloc: Global) -> Result<Vec<u8>, NoMemory> {
 }
 
 const DOTTED: &[NewEntry<'static>] = &[
-    NewEntry {
-        name: b"A.B%",
-        extension: b"\xc3",
-        ..FILE
-    },
-    NewEntry {
-        name: b"A",
-        extension: b"B",
-        ..FILE
-    },
-    NewEntry {
-        user: 3,
-        name: b"A",
-        extension: b"B",
-        ..FILE
-    },
+    like!(NewEntry, FILE, name: b"A.B%", extension: b"\xc3"),
+    like!(NewEntry, FILE, name: b"A", extension: b"B"),
+    like!(NewEntry, FILE, user: 3, name: b"A", extension: b"B"),
 ];
 
 fn cut(alloc: Global) -> Result<Vec<u8>, NoMemory> {

@@ -31,337 +31,74 @@ const SIXTY_FIVE: &str = "ABCDEFGHIJKLMNOPABCDEFGHIJKLMNOPABCDEFGHIJKLMNOPABCDEF
 /// What is asked, and whether its values are within their limits.
 type Limit = (&'static str, Ask, bool);
 
-const QUESTIONS: &[Limit] = &[
-    ("images", Ask::Images, true),
-    ("listing of 0", Ask::Listing(0), false),
-    ("listing of 1", Ask::Listing(1), true),
-    ("listing of 999,999", Ask::Listing(999_999), true),
-    ("listing of 1,000,000", Ask::Listing(1_000_000), false),
-    ("bytes of 0", Ask::Bytes(0, 0), false),
-    ("bytes of 1,000,000", Ask::Bytes(1_000_000, 0), false),
-    ("slot 9,999", Ask::Bytes(999_999, 9_999), true),
-    ("slot 10,000", Ask::Bytes(12, 10_000), false),
-    ("unread", Ask::Unread, true),
+const QUESTIONS: &[Limit] = table![
+    ("images", Ask::Images, true);
+    ("listing of 0", Ask::Listing(0), false);
+    ("listing of 1", Ask::Listing(1), true);
+    ("listing of 999,999", Ask::Listing(999_999), true);
+    ("listing of 1,000,000", Ask::Listing(1_000_000), false);
+    ("bytes of 0", Ask::Bytes(0, 0), false);
+    ("bytes of 1,000,000", Ask::Bytes(1_000_000, 0), false);
+    ("slot 9,999", Ask::Bytes(999_999, 9_999), true);
+    ("slot 10,000", Ask::Bytes(12, 10_000), false);
+    ("unread", Ask::Unread, true);
 ];
 
-const COMMANDS: &[Limit] = &[
-    ("image", Ask::PutImage(PROGRAM_12), true),
-    (
-        "image of another size",
-        Ask::PutImage(NewImage {
-            bytes: Picture::Cut,
-            ..PROGRAM_12
-        }),
-        true,
-    ),
-    (
-        "image 0",
-        Ask::PutImage(NewImage {
-            acc: 0,
-            ..PROGRAM_12
-        }),
-        false,
-    ),
-    (
-        "image 1,000,000",
-        Ask::PutImage(NewImage {
-            acc: 1_000_000,
-            ..PROGRAM_12
-        }),
-        false,
-    ),
-    (
-        "image under deed 0",
-        Ask::PutImage(NewImage {
-            deed: 0,
-            ..PROGRAM_12
-        }),
-        false,
-    ),
-    (
-        "image under deed 1,000,000",
-        Ask::PutImage(NewImage {
-            deed: 1_000_000,
-            ..PROGRAM_12
-        }),
-        false,
-    ),
-    ("deed 8", Ask::PutDeed(8, "B. Donor", 18_321), true),
-    ("deed 0", Ask::PutDeed(0, "B. Donor", 18_321), false),
-    (
-        "deed 1,000,000",
-        Ask::PutDeed(1_000_000, "B. Donor", 18_321),
-        false,
-    ),
-    ("no donor", Ask::PutDeed(8, "", 18_321), false),
-    (
-        "donor of two lines",
-        Ask::PutDeed(8, "B.\nDonor", 18_321),
-        false,
-    ),
-    (
-        "donor with a DEL",
-        Ask::PutDeed(8, "B.\u{7f}\u{dc}", 18_321),
-        true,
-    ),
-    (
-        "signed on the first day",
-        Ask::PutDeed(8, "B. Donor", -719_162),
-        true,
-    ),
-    (
-        "signed on the day before",
-        Ask::PutDeed(8, "B. Donor", -719_163),
-        false,
-    ),
-    (
-        "signed on the last day",
-        Ask::PutDeed(8, "B. Donor", 2_932_896),
-        true,
-    ),
-    (
-        "signed on the day after",
-        Ask::PutDeed(8, "B. Donor", 2_932_897),
-        false,
-    ),
-    (
-        "rank 9,999 dropped",
-        Ask::DropRule(Band::Deed, 999_999, 9_999),
-        true,
-    ),
-    ("rank 0 dropped", Ask::DropRule(Band::Deed, 7, 0), false),
-    (
-        "rank 10,000 dropped",
-        Ask::DropRule(Band::Takedown, 12, 10_000),
-        false,
-    ),
-    (
-        "rule of deed 0 dropped",
-        Ask::DropRule(Band::Deed, 0, 1),
-        false,
-    ),
-    (
-        "takedown of 1,000,000 dropped",
-        Ask::DropRule(Band::Takedown, 1_000_000, 1),
-        false,
-    ),
-    (
-        "key of the room",
-        Ask::PutKey("hello", Audience::Room),
-        true,
-    ),
-    (
-        "key of the staff",
-        Ask::PutKey("hello", Audience::Staff),
-        true,
-    ),
-    (
-        "key of the public",
-        Ask::PutKey("hello", Audience::Public),
-        false,
-    ),
-    ("key dropped", Ask::DropKey("hello"), true),
+const COMMANDS: &[Limit] = table![
+    ("image", Ask::PutImage(PROGRAM_12), true);
+    ("image of another size", Ask::PutImage(like!(NewImage, PROGRAM_12, bytes: Picture::Cut)), true);
+    ("image 0", Ask::PutImage(like!(NewImage, PROGRAM_12, acc: 0)), false);
+    ("image 1,000,000", Ask::PutImage(like!(NewImage, PROGRAM_12, acc: 1_000_000)), false);
+    ("image under deed 0", Ask::PutImage(like!(NewImage, PROGRAM_12, deed: 0)), false);
+    ("image under deed 1,000,000", Ask::PutImage(like!(NewImage, PROGRAM_12, deed: 1_000_000)), false);
+    ("deed 8", Ask::PutDeed(8, "B. Donor", 18_321), true);
+    ("deed 0", Ask::PutDeed(0, "B. Donor", 18_321), false);
+    ("deed 1,000,000", Ask::PutDeed(1_000_000, "B. Donor", 18_321), false);
+    ("no donor", Ask::PutDeed(8, "", 18_321), false);
+    ("donor of two lines", Ask::PutDeed(8, "B.\nDonor", 18_321), false);
+    ("donor with a DEL", Ask::PutDeed(8, "B.\u{7f}\u{dc}", 18_321), true);
+    ("signed on the first day", Ask::PutDeed(8, "B. Donor", -719_162), true);
+    ("signed on the day before", Ask::PutDeed(8, "B. Donor", -719_163), false);
+    ("signed on the last day", Ask::PutDeed(8, "B. Donor", 2_932_896), true);
+    ("signed on the day after", Ask::PutDeed(8, "B. Donor", 2_932_897), false);
+    ("rank 9,999 dropped", Ask::DropRule(Band::Deed, 999_999, 9_999), true);
+    ("rank 0 dropped", Ask::DropRule(Band::Deed, 7, 0), false);
+    ("rank 10,000 dropped", Ask::DropRule(Band::Takedown, 12, 10_000), false);
+    ("rule of deed 0 dropped", Ask::DropRule(Band::Deed, 0, 1), false);
+    ("takedown of 1,000,000 dropped", Ask::DropRule(Band::Takedown, 1_000_000, 1), false);
+    ("key of the room", Ask::PutKey("hello", Audience::Room), true);
+    ("key of the staff", Ask::PutKey("hello", Audience::Staff), true);
+    ("key of the public", Ask::PutKey("hello", Audience::Public), false);
+    ("key dropped", Ask::DropKey("hello"), true);
 ];
 
-const RULES: &[Limit] = &[
-    ("takedown", Ask::PutRule(TAKEDOWN), true),
-    (
-        "takedown that lists",
-        Ask::PutRule(NewRule {
-            effect: Effect::List,
-            ..TAKEDOWN
-        }),
-        true,
-    ),
-    (
-        "takedown that lets read",
-        Ask::PutRule(NewRule {
-            effect: Effect::Read,
-            ..TAKEDOWN
-        }),
-        false,
-    ),
-    (
-        "takedown of rank 0",
-        Ask::PutRule(NewRule {
-            rank: 0,
-            ..TAKEDOWN
-        }),
-        false,
-    ),
-    (
-        "rule of rank 9,999",
-        Ask::PutRule(NewRule {
-            rank: 9_999,
-            ..OPEN
-        }),
-        true,
-    ),
-    (
-        "rule of rank 10,000",
-        Ask::PutRule(NewRule {
-            rank: 10_000,
-            ..OPEN
-        }),
-        false,
-    ),
-    (
-        "rule of deed 0",
-        Ask::PutRule(NewRule { scope: 0, ..OPEN }),
-        false,
-    ),
-    (
-        "rule of deed 1,000,000",
-        Ask::PutRule(NewRule {
-            scope: 1_000_000,
-            ..OPEN
-        }),
-        false,
-    ),
-    (
-        "rule for nobody",
-        Ask::PutRule(NewRule {
-            audiences: NOBODY_AT_ALL,
-            ..OPEN
-        }),
-        false,
-    ),
-    (
-        "from the first day",
-        Ask::PutRule(NewRule {
-            from: Some(-719_162),
-            ..OPEN
-        }),
-        true,
-    ),
-    (
-        "from the day before",
-        Ask::PutRule(NewRule {
-            from: Some(-719_163),
-            ..OPEN
-        }),
-        false,
-    ),
-    (
-        "until the last day",
-        Ask::PutRule(NewRule {
-            until: Some(2_932_896),
-            ..OPEN
-        }),
-        true,
-    ),
-    (
-        "until the day after",
-        Ask::PutRule(NewRule {
-            until: Some(2_932_897),
-            ..OPEN
-        }),
-        false,
-    ),
-    (
-        "end before beginning",
-        Ask::PutRule(NewRule {
-            from: Some(OPENING + 1),
-            ..CLOSED
-        }),
-        true,
-    ),
-    (
-        "slot 9,999",
-        Ask::PutRule(NewRule {
-            files: Files::Slot(9_999),
-            ..OPEN
-        }),
-        true,
-    ),
-    (
-        "slot 10,000",
-        Ask::PutRule(NewRule {
-            files: Files::Slot(10_000),
-            ..OPEN
-        }),
-        false,
-    ),
-    (
-        "user 15",
-        Ask::PutRule(NewRule {
-            files: Files::User(15),
-            ..OPEN
-        }),
-        true,
-    ),
-    (
-        "user 16",
-        Ask::PutRule(NewRule {
-            files: Files::User(16),
-            ..OPEN
-        }),
-        false,
-    ),
-    (
-        "empty prefix",
-        Ask::PutRule(NewRule {
-            files: Files::Prefix(""),
-            ..OPEN
-        }),
-        true,
-    ),
-    (
-        "prefix of 64",
-        Ask::PutRule(NewRule {
-            files: Files::Prefix(SIXTY_FOUR),
-            ..OPEN
-        }),
-        true,
-    ),
-    (
-        "prefix of 65",
-        Ask::PutRule(NewRule {
-            files: Files::Prefix(SIXTY_FIVE),
-            ..OPEN
-        }),
-        false,
-    ),
-    (
-        "prefix with a tab",
-        Ask::PutRule(NewRule {
-            files: Files::Prefix("A\t"),
-            ..OPEN
-        }),
-        false,
-    ),
-    (
-        "prefix with a DEL",
-        Ask::PutRule(NewRule {
-            files: Files::Prefix("\u{7f}"),
-            ..OPEN
-        }),
-        false,
-    ),
-    (
-        "empty type",
-        Ask::PutRule(NewRule {
-            files: Files::Kind(""),
-            ..OPEN
-        }),
-        true,
-    ),
-    (
-        "type of 16",
-        Ask::PutRule(NewRule {
-            files: Files::Kind(SIXTEEN),
-            ..OPEN
-        }),
-        true,
-    ),
-    (
-        "type of 17",
-        Ask::PutRule(NewRule {
-            files: Files::Kind(SEVENTEEN),
-            ..OPEN
-        }),
-        false,
-    ),
+const RULES: &[Limit] = table![
+    ("takedown", Ask::PutRule(TAKEDOWN), true);
+    ("takedown that lists", Ask::PutRule(like!(NewRule, TAKEDOWN, effect: Effect::List)), true);
+    ("takedown that lets read", Ask::PutRule(like!(NewRule, TAKEDOWN, effect: Effect::Read)), false);
+    ("takedown of rank 0", Ask::PutRule(like!(NewRule, TAKEDOWN, rank: 0)), false);
+    ("rule of rank 9,999", Ask::PutRule(like!(NewRule, OPEN, rank: 9_999)), true);
+    ("rule of rank 10,000", Ask::PutRule(like!(NewRule, OPEN, rank: 10_000)), false);
+    ("rule of deed 0", Ask::PutRule(like!(NewRule, OPEN, scope: 0)), false);
+    ("rule of deed 1,000,000", Ask::PutRule(like!(NewRule, OPEN, scope: 1_000_000)), false);
+    ("rule for nobody", Ask::PutRule(like!(NewRule, OPEN, audiences: NOBODY_AT_ALL)), false);
+    ("from the first day", Ask::PutRule(like!(NewRule, OPEN, from: Some(-719_162))), true);
+    ("from the day before", Ask::PutRule(like!(NewRule, OPEN, from: Some(-719_163))), false);
+    ("until the last day", Ask::PutRule(like!(NewRule, OPEN, until: Some(2_932_896))), true);
+    ("until the day after", Ask::PutRule(like!(NewRule, OPEN, until: Some(2_932_897))), false);
+    ("end before beginning", Ask::PutRule(like!(NewRule, CLOSED, from: Some(OPENING + 1))), true);
+    ("slot 9,999", Ask::PutRule(like!(NewRule, OPEN, files: Files::Slot(9_999))), true);
+    ("slot 10,000", Ask::PutRule(like!(NewRule, OPEN, files: Files::Slot(10_000))), false);
+    ("user 15", Ask::PutRule(like!(NewRule, OPEN, files: Files::User(15))), true);
+    ("user 16", Ask::PutRule(like!(NewRule, OPEN, files: Files::User(16))), false);
+    ("empty prefix", Ask::PutRule(like!(NewRule, OPEN, files: Files::Prefix(""))), true);
+    ("prefix of 64", Ask::PutRule(like!(NewRule, OPEN, files: Files::Prefix(SIXTY_FOUR))), true);
+    ("prefix of 65", Ask::PutRule(like!(NewRule, OPEN, files: Files::Prefix(SIXTY_FIVE))), false);
+    ("prefix with a tab", Ask::PutRule(like!(NewRule, OPEN, files: Files::Prefix("A\t"))), false);
+    ("prefix with a DEL", Ask::PutRule(like!(NewRule, OPEN, files: Files::Prefix("\u{7f}"))), false);
+    ("empty type", Ask::PutRule(like!(NewRule, OPEN, files: Files::Kind(""))), true);
+    ("type of 16", Ask::PutRule(like!(NewRule, OPEN, files: Files::Kind(SIXTEEN))), true);
+    ("type of 17", Ask::PutRule(like!(NewRule, OPEN, files: Files::Kind(SEVENTEEN))), false);
 ];
 
 fn fits(alloc: Global, ask: Ask) -> Result<bool, NoMemory> {
@@ -412,39 +149,15 @@ type Clock = (i32, Option<&'static [(i64, Result<i32, OutOfRange>)]>);
 
 const NO_DAY: Result<i32, OutOfRange> = Err(OutOfRange);
 
-const CLOCKS: &[Clock] = &[
-    (1_440, None),
-    (-1_440, None),
-    (i32::MAX, None),
-    (i32::MIN, None),
-    (
-        60,
-        Some(&[
-            (BEFORE, Ok(21_914)),
-            (AFTER, Ok(21_915)),
-            (i64::MAX, NO_DAY),
-            (i64::MIN, NO_DAY),
-        ]),
-    ),
-    (0, Some(&[(AFTER, Ok(21_914)), (-1, Ok(-1)), (0, Ok(0))])),
-    (
-        1_439,
-        Some(&[
-            (59, Ok(0)),
-            (60, Ok(1)),
-            (-62_135_683_140, Ok(-719_162)),
-            (-62_135_683_141, NO_DAY),
-        ]),
-    ),
-    (
-        -1_439,
-        Some(&[
-            (86_339, Ok(-1)),
-            (86_340, Ok(0)),
-            (253_402_387_139, Ok(2_932_896)),
-            (253_402_387_140, NO_DAY),
-        ]),
-    ),
+const CLOCKS: &[Clock] = table![
+    (1_440, None);
+    (-1_440, None);
+    (i32::MAX, None);
+    (i32::MIN, None);
+    (60, Some(&[(BEFORE, Ok(21_914)), (AFTER, Ok(21_915)), (i64::MAX, NO_DAY), (i64::MIN, NO_DAY)]));
+    (0, Some(&[(AFTER, Ok(21_914)), (-1, Ok(-1)), (0, Ok(0))]));
+    (1_439, Some(&[(59, Ok(0)), (60, Ok(1)), (-62_135_683_140, Ok(-719_162)), (-62_135_683_141, NO_DAY)]));
+    (-1_439, Some(&[(86_339, Ok(-1)), (86_340, Ok(0)), (253_402_387_139, Ok(2_932_896)), (253_402_387_140, NO_DAY)]));
 ];
 
 fn new_store(rt: &impl Abort, alloc: Global) -> Result<Store<MemStore>, Fail> {

@@ -12,30 +12,18 @@ use rd_geometry::Kind;
 use rd_policy::{Audience, Band, Effect};
 use std::test::Fail;
 
-const LOOPED_UNDER_8: NewImage = NewImage {
-    deed: 8,
-    ..LOOPED_14
-};
+const LOOPED_UNDER_8: NewImage = like!(NewImage, LOOPED_14, deed: 8);
 
-const DATA_UNDER_8: NewImage = NewImage {
-    deed: 8,
-    ..CROSSED_DATA_20
-};
+const DATA_UNDER_8: NewImage = like!(NewImage, CROSSED_DATA_20, deed: 8);
 
 /// Lets everyone read the files of deed 8.
-const READ_8: NewRule = NewRule { scope: 8, ..OPEN };
+const READ_8: NewRule = like!(NewRule, OPEN, scope: 8);
 
 /// Denies everyone the files of deed 8.
-const DENY_8: NewRule = NewRule {
-    effect: Effect::Deny,
-    ..READ_8
-};
+const DENY_8: NewRule = like!(NewRule, READ_8, effect: Effect::Deny);
 
 /// Lists the files of deed 8 to everyone.
-const LIST_8: NewRule = NewRule {
-    effect: Effect::List,
-    ..READ_8
-};
+const LIST_8: NewRule = like!(NewRule, READ_8, effect: Effect::List);
 
 const BY_DEED_8: Wanted = Wanted::Json(403, r#"{"error":"denied","rule":"R8.20"}"#);
 
@@ -131,22 +119,16 @@ const ALL_OF_20: Wanted = Wanted::Json(
 );
 
 /// A takedown of an accession that does not stand.
-const TAKEDOWN_99: NewRule = NewRule {
-    scope: 99,
-    ..TAKEDOWN
-};
+const TAKEDOWN_99: NewRule = like!(NewRule, TAKEDOWN, scope: 99);
 
 /// A rule of a deed that does not stand.
-const RULE_9: NewRule = NewRule { scope: 9, ..OPEN };
+const RULE_9: NewRule = like!(NewRule, OPEN, scope: 9);
 
 /// A rule of deed 12, which does not stand, though accession 12 does.
-const RULE_12: NewRule = NewRule { scope: 12, ..OPEN };
+const RULE_12: NewRule = like!(NewRule, OPEN, scope: 12);
 
 /// A takedown of accession 7, which does not stand, though deed 7 does.
-const TAKEDOWN_7: NewRule = NewRule {
-    scope: 7,
-    ..TAKEDOWN
-};
+const TAKEDOWN_7: NewRule = like!(NewRule, TAKEDOWN, scope: 7);
 
 const RULES: &[Case] = &[
     Case {
@@ -243,45 +225,24 @@ const RULES: &[Case] = &[
 ];
 
 /// The image that stands at accession 12, under a deed that does not stand.
-const NO_DEED_12: NewImage = NewImage {
-    deed: 9,
-    ..PROGRAM_12
-};
+const NO_DEED_12: NewImage = like!(NewImage, PROGRAM_12, deed: 9);
 
 /// A byte too short, with its own digest.
-const CUT_14: NewImage = NewImage {
-    acc: 14,
-    bytes: Picture::Cut,
-    digest: Picture::Cut,
-    ..PROGRAM_12
-};
+const CUT_14: NewImage =
+    like!(NewImage, PROGRAM_12, acc: 14, bytes: Picture::Cut, digest: Picture::Cut);
 
 /// As many bytes as the other kind has.
-const OTHER_KIND_14: NewImage = NewImage {
-    kind: Kind::Cpm8,
-    ..LOOPED_14
-};
+const OTHER_KIND_14: NewImage = like!(NewImage, LOOPED_14, kind: Kind::Cpm8);
 
 /// The digest is that of the image at accession 12.
-const DIFFERENT_14: NewImage = NewImage {
-    digest: Picture::Program,
-    ..LOOPED_14
-};
+const DIFFERENT_14: NewImage = like!(NewImage, LOOPED_14, digest: Picture::Program);
 
 /// Another image than the one at accession 12.
-const LOOP_12: NewImage = NewImage {
-    acc: 12,
-    ..LOOPED_14
-};
+const LOOP_12: NewImage = like!(NewImage, LOOPED_14, acc: 12);
 
 /// Another kind than the one at accession 12.
-const HELLO_12: NewImage = NewImage {
-    acc: 12,
-    kind: Kind::Cpm8,
-    bytes: Picture::Hello,
-    digest: Picture::Hello,
-    ..PROGRAM_12
-};
+const HELLO_12: NewImage =
+    like!(NewImage, PROGRAM_12, acc: 12, kind: Kind::Cpm8, bytes: Picture::Hello, digest: Picture::Hello);
 
 const IMAGES: &[Case] = &[
     Case {
@@ -303,35 +264,26 @@ const IMAGES: &[Case] = &[
             (
                 STAFF,
                 AFTER,
-                Ask::PutImage(NewImage {
-                    deed: 9,
-                    ..LOOPED_14
-                }),
+                Ask::PutImage(like!(NewImage, LOOPED_14, deed: 9)),
                 NO_DEED,
             ),
             (
                 STAFF,
                 AFTER,
-                Ask::PutImage(NewImage { deed: 9, ..CUT_14 }),
+                Ask::PutImage(like!(NewImage, CUT_14, deed: 9)),
                 NO_DEED,
             ),
             (
                 STAFF,
                 AFTER,
-                Ask::PutImage(NewImage {
-                    deed: 9,
-                    ..DIFFERENT_14
-                }),
+                Ask::PutImage(like!(NewImage, DIFFERENT_14, deed: 9)),
                 NO_DEED,
             ),
             (STAFF, AFTER, Ask::PutImage(NO_DEED_12), NO_DEED),
             (
                 STAFF,
                 AFTER,
-                Ask::PutImage(NewImage {
-                    deed: 12,
-                    ..LOOPED_14
-                }),
+                Ask::PutImage(like!(NewImage, LOOPED_14, deed: 12)),
                 NO_DEED,
             ),
         ],
@@ -346,16 +298,13 @@ const IMAGES: &[Case] = &[
             (
                 STAFF,
                 AFTER,
-                Ask::PutImage(NewImage {
-                    digest: Picture::Program,
-                    ..CUT_14
-                }),
+                Ask::PutImage(like!(NewImage, CUT_14, digest: Picture::Program)),
                 WRONG_SIZE,
             ),
             (
                 STAFF,
                 AFTER,
-                Ask::PutImage(NewImage { acc: 12, ..CUT_14 }),
+                Ask::PutImage(like!(NewImage, CUT_14, acc: 12)),
                 WRONG_SIZE,
             ),
         ],
@@ -369,19 +318,13 @@ const IMAGES: &[Case] = &[
             (
                 STAFF,
                 AFTER,
-                Ask::PutImage(NewImage {
-                    acc: 12,
-                    ..DIFFERENT_14
-                }),
+                Ask::PutImage(like!(NewImage, DIFFERENT_14, acc: 12)),
                 DIGEST_DIFFERS,
             ),
             (
                 STAFF,
                 AFTER,
-                Ask::PutImage(NewImage {
-                    digest: Picture::Mixed,
-                    ..LOOP_12
-                }),
+                Ask::PutImage(like!(NewImage, LOOP_12, digest: Picture::Mixed)),
                 DIGEST_DIFFERS,
             ),
         ],
@@ -396,10 +339,7 @@ const IMAGES: &[Case] = &[
             (
                 STAFF,
                 AFTER,
-                Ask::PutImage(NewImage {
-                    deed: 8,
-                    ..PROGRAM_12
-                }),
+                Ask::PutImage(like!(NewImage, PROGRAM_12, deed: 8)),
                 CONFLICT,
             ),
         ],

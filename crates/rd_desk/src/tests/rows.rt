@@ -80,20 +80,11 @@ const AUDIENCES: &[Case] = &[
 ];
 
 /// Takes down the second file of accession 17 for all but the staff.
-const SECOND_OF_17: NewRule = NewRule {
-    scope: 17,
-    files: Files::Slot(1),
-    ..TAKEDOWN
-};
+const SECOND_OF_17: NewRule = like!(NewRule, TAKEDOWN, scope: 17, files: Files::Slot(1));
 
 /// Lists the files of accession 13 to everyone.
-const LISTED_13: NewRule = NewRule {
-    scope: 13,
-    audiences: ALL,
-    files: Files::All,
-    effect: Effect::List,
-    ..TAKEDOWN
-};
+const LISTED_13: NewRule =
+    like!(NewRule, TAKEDOWN, scope: 13, audiences: ALL, files: Files::All, effect: Effect::List);
 
 const DISKS: &[Case] = &[
     Case {
@@ -180,18 +171,10 @@ const THREE_FILES_OF_17: Wanted = Wanted::Json(
     r#"{"images":[{"accession":12,"deed":7,"files":1,"kind":"d64"},{"accession":17,"deed":7,"files":3,"kind":"d64"}]}"#,
 );
 
-const FIRST: NewImage = NewImage {
-    acc: 1,
-    kind: Kind::Cpm8,
-    bytes: Picture::Hello,
-    digest: Picture::Hello,
-    ..PROGRAM_12
-};
+const FIRST: NewImage =
+    like!(NewImage, PROGRAM_12, acc: 1, kind: Kind::Cpm8, bytes: Picture::Hello, digest: Picture::Hello);
 
-const LAST: NewImage = NewImage {
-    acc: 999_999,
-    ..PROGRAM_12
-};
+const LAST: NewImage = like!(NewImage, PROGRAM_12, acc: 999_999);
 
 const TEXTS: &[Case] = &[
     Case {

@@ -17,18 +17,10 @@ const THAT_NIGHT: i64 = AFTER + 86_399;
 const NEXT_DAY: i64 = AFTER + 86_400;
 
 /// Lists the files of deed 7 to everyone.
-const LISTED: NewRule = NewRule {
-    rank: 5,
-    effect: Effect::List,
-    ..OPEN
-};
+const LISTED: NewRule = like!(NewRule, OPEN, rank: 5, effect: Effect::List);
 
 /// Denies everyone the files of deed 7.
-const DENIED: NewRule = NewRule {
-    rank: 5,
-    effect: Effect::Deny,
-    ..OPEN
-};
+const DENIED: NewRule = like!(NewRule, OPEN, rank: 5, effect: Effect::Deny);
 
 const BY_RANK_5: Wanted = Wanted::Json(403, r#"{"error":"denied","rule":"R7.5"}"#);
 
@@ -40,11 +32,7 @@ const LISTED_12: Wanted = Wanted::Json(
 const DAYS: &[Case] = &[
     Case {
         label: "a rule whose first day is the one from which on it holds no longer",
-        before: &[Ask::PutRule(NewRule {
-            from: Some(OPENING),
-            until: Some(OPENING),
-            ..DENIED
-        })],
+        before: &[Ask::PutRule(like!(NewRule, DENIED, from: Some(OPENING), until: Some(OPENING)))],
         visits: &[
             (PUBLIC, BEFORE, Ask::Bytes(12, 0), UNTIL_2030),
             (PUBLIC, AFTER, Ask::Bytes(12, 0), HELLO),
@@ -54,11 +42,9 @@ const DAYS: &[Case] = &[
     },
     Case {
         label: "a rule whose end is before its beginning",
-        before: &[Ask::PutRule(NewRule {
-            from: Some(OPENING + 1),
-            until: Some(OPENING),
-            ..DENIED
-        })],
+        before: &[Ask::PutRule(
+            like!(NewRule, DENIED, from: Some(OPENING + 1), until: Some(OPENING)),
+        )],
         visits: &[
             (STAFF, BEFORE, Ask::Bytes(12, 0), HELLO),
             (STAFF, AFTER, Ask::Bytes(12, 0), HELLO),
@@ -68,11 +54,9 @@ const DAYS: &[Case] = &[
     },
     Case {
         label: "a rule of one day",
-        before: &[Ask::PutRule(NewRule {
-            from: Some(OPENING),
-            until: Some(OPENING + 1),
-            ..DENIED
-        })],
+        before: &[Ask::PutRule(
+            like!(NewRule, DENIED, from: Some(OPENING), until: Some(OPENING + 1)),
+        )],
         visits: &[
             (STAFF, BEFORE, Ask::Bytes(12, 0), HELLO),
             (STAFF, AFTER, Ask::Bytes(12, 0), BY_RANK_5),
@@ -83,10 +67,7 @@ const DAYS: &[Case] = &[
     },
     Case {
         label: "a rule from a day on",
-        before: &[Ask::PutRule(NewRule {
-            from: Some(OPENING),
-            ..DENIED
-        })],
+        before: &[Ask::PutRule(like!(NewRule, DENIED, from: Some(OPENING)))],
         visits: &[
             (PUBLIC, BEFORE, Ask::Bytes(12, 0), UNTIL_2030),
             (PUBLIC, AFTER, Ask::Bytes(12, 0), BY_RANK_5),
@@ -97,22 +78,12 @@ const DAYS: &[Case] = &[
 ];
 
 /// A takedown that lists the first file of accession 12 to everyone, beside those that deny it.
-const LISTED_AT_2: NewRule = NewRule {
-    rank: 2,
-    audiences: ALL,
-    effect: Effect::List,
-    ..TAKEDOWN
-};
+const LISTED_AT_2: NewRule =
+    like!(NewRule, TAKEDOWN, rank: 2, audiences: ALL, effect: Effect::List);
 
-const LISTED_AT_9: NewRule = NewRule {
-    rank: 9,
-    ..LISTED_AT_2
-};
+const LISTED_AT_9: NewRule = like!(NewRule, LISTED_AT_2, rank: 9);
 
-const DENIED_AT_5: NewRule = NewRule {
-    rank: 5,
-    ..TAKEDOWN
-};
+const DENIED_AT_5: NewRule = like!(NewRule, TAKEDOWN, rank: 5);
 
 const BY_TAKEDOWN_5: Wanted = Wanted::Json(403, r#"{"error":"denied","rule":"T12.5"}"#);
 
@@ -131,10 +102,7 @@ const LISTED_BY_9: Wanted = Wanted::Json(
 );
 
 /// The same program at accession 14.
-const PROGRAM_14: NewImage = NewImage {
-    acc: 14,
-    ..PROGRAM_12
-};
+const PROGRAM_14: NewImage = like!(NewImage, PROGRAM_12, acc: 14);
 
 const ORDERS: &[Case] = &[
     Case {
@@ -187,7 +155,7 @@ const ORDERS: &[Case] = &[
             (
                 STAFF,
                 AFTER,
-                Ask::PutRule(NewRule { rank: 10, ..LISTED }),
+                Ask::PutRule(like!(NewRule, LISTED, rank: 10)),
                 DONE,
             ),
             (PUBLIC, BEFORE, Ask::Bytes(12, 0), UNTIL_2030),
@@ -195,7 +163,7 @@ const ORDERS: &[Case] = &[
             (
                 STAFF,
                 AFTER,
-                Ask::PutRule(NewRule { rank: 10, ..OPEN }),
+                Ask::PutRule(like!(NewRule, OPEN, rank: 10)),
                 DONE,
             ),
             (PUBLIC, BEFORE, Ask::Bytes(12, 0), HELLO),
@@ -219,18 +187,10 @@ const ORDERS: &[Case] = &[
 ];
 
 /// A rule of deed 8 that lets everyone read what it speaks of.
-const OF_8: NewRule = NewRule {
-    scope: 8,
-    rank: 10,
-    ..OPEN
-};
+const OF_8: NewRule = like!(NewRule, OPEN, scope: 8, rank: 10);
 
 /// A rule of deed 8 that lists to everyone what it speaks of.
-const THEN_LISTED: NewRule = NewRule {
-    rank: 20,
-    effect: Effect::List,
-    ..OF_8
-};
+const THEN_LISTED: NewRule = like!(NewRule, OF_8, rank: 20, effect: Effect::List);
 
 const BY_RANK_20: Wanted = Wanted::Json(403, r#"{"error":"denied","rule":"R8.20"}"#);
 
@@ -263,18 +223,9 @@ const SELECTORS: &[Case] = &[
     Case {
         label: "a printed name that begins with a dot's code",
         before: &[
-            Ask::PutImage(NewImage {
-                deed: 8,
-                ..DOTTED_21
-            }),
-            Ask::PutRule(NewRule {
-                files: Files::Prefix("A%2E"),
-                ..OF_8
-            }),
-            Ask::PutRule(NewRule {
-                files: Files::Prefix("A."),
-                ..THEN_LISTED
-            }),
+            Ask::PutImage(like!(NewImage, DOTTED_21, deed: 8)),
+            Ask::PutRule(like!(NewRule, OF_8, files: Files::Prefix("A%2E"))),
+            Ask::PutRule(like!(NewRule, THEN_LISTED, files: Files::Prefix("A."))),
         ],
         visits: &[
             (PUBLIC, AFTER, Ask::Listing(21), PREFIXED),
@@ -287,14 +238,8 @@ const SELECTORS: &[Case] = &[
         label: "a user, whom a 1541 disk has not",
         before: &[
             Ask::PutImage(PROGRAM_13),
-            Ask::PutImage(NewImage {
-                deed: 8,
-                ..DOTTED_21
-            }),
-            Ask::PutRule(NewRule {
-                files: Files::User(0),
-                ..OF_8
-            }),
+            Ask::PutImage(like!(NewImage, DOTTED_21, deed: 8)),
+            Ask::PutRule(like!(NewRule, OF_8, files: Files::User(0))),
         ],
         visits: &[
             (PUBLIC, AFTER, Ask::Bytes(13, 0), NO_RULE),
@@ -308,18 +253,9 @@ const SELECTORS: &[Case] = &[
     Case {
         label: "types",
         before: &[
-            Ask::PutImage(NewImage {
-                deed: 8,
-                ..MIXED_16
-            }),
-            Ask::PutRule(NewRule {
-                files: Files::Kind("REL"),
-                ..OF_8
-            }),
-            Ask::PutRule(NewRule {
-                files: Files::Kind("PRG"),
-                ..THEN_LISTED
-            }),
+            Ask::PutImage(like!(NewImage, MIXED_16, deed: 8)),
+            Ask::PutRule(like!(NewRule, OF_8, files: Files::Kind("REL"))),
+            Ask::PutRule(like!(NewRule, THEN_LISTED, files: Files::Kind("PRG"))),
         ],
         visits: &[
             (PUBLIC, AFTER, Ask::Listing(16), BY_TYPE),
@@ -330,14 +266,8 @@ const SELECTORS: &[Case] = &[
     Case {
         label: "a slot",
         before: &[
-            Ask::PutImage(NewImage {
-                deed: 8,
-                ..CROSSED_17
-            }),
-            Ask::PutRule(NewRule {
-                files: Files::Slot(2),
-                ..OF_8
-            }),
+            Ask::PutImage(like!(NewImage, CROSSED_17, deed: 8)),
+            Ask::PutRule(like!(NewRule, OF_8, files: Files::Slot(2))),
         ],
         visits: &[
             (PUBLIC, AFTER, Ask::Listing(17), BY_SLOT),
@@ -349,10 +279,7 @@ const SELECTORS: &[Case] = &[
         label: "a rule for the reading room alone",
         before: &[
             Ask::PutImage(PROGRAM_13),
-            Ask::PutRule(NewRule {
-                audiences: ROOM_ALONE,
-                ..OF_8
-            }),
+            Ask::PutRule(like!(NewRule, OF_8, audiences: ROOM_ALONE)),
         ],
         visits: &[
             (PUBLIC, AFTER, Ask::Bytes(13, 0), NO_RULE),

@@ -48,24 +48,12 @@ pub(super) const OPEN: NewRule = NewRule {
 };
 
 /// The rule of deed 7 that denies every file to all but the staff until 2030.
-pub(super) const CLOSED: NewRule = NewRule {
-    rank: 10,
-    audiences: NOT_STAFF,
-    until: Some(OPENING),
-    effect: Effect::Deny,
-    ..OPEN
-};
+pub(super) const CLOSED: NewRule =
+    like!(NewRule, OPEN, rank: 10, audiences: NOT_STAFF, until: Some(OPENING), effect: Effect::Deny);
 
 /// The takedown of the first file of accession 12, for all but the staff.
-pub(super) const TAKEDOWN: NewRule = NewRule {
-    band: Band::Takedown,
-    scope: 12,
-    rank: 1,
-    audiences: NOT_STAFF,
-    files: Files::Slot(0),
-    effect: Effect::Deny,
-    ..OPEN
-};
+pub(super) const TAKEDOWN: NewRule =
+    like!(NewRule, OPEN, band: Band::Takedown, scope: 12, rank: 1, audiences: NOT_STAFF, files: Files::Slot(0), effect: Effect::Deny);
 
 /// What a new desk is given.
 const GIVEN: &[Ask] = &[
