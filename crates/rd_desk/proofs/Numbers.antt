@@ -1,5 +1,5 @@
 -- The keys of a map from numbers: they ascend, and each number that has a value is among them.
-use Rattle.std.proofs.Common.{◌≡◌, ◌<◌, ◌&&◌, ℕ, zero, suc, Bool, true, false, cond, List, [], ◌∷◌, All, AllPairs, Contains, Option, Some, T, map, length, arith, refl, sym, subst, ◌∙◌}
+use Rattle.std.proofs.Common.{◌≡◌, ◌<◌, ◌&&◌, ℕ, zero, suc, Bool, true, false, cond, List, [], ◌∷◌, All, AllPairs, Contains, Some, T, map, length, arith, refl, sym, ◌∙◌}
 use Rattle.std.specs.FinMap.{FinMap, entries, entries_sorted, get, get-entries, keys}
 use Rattle.std.specs.FinMap.Entries.{below_all, find, is_sorted}
 use Rattle.std.specs.Ordering.{eq_by_cmp, is_lt, nat_cmp}

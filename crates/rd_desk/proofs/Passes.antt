@@ -1,14 +1,12 @@
 -- One reason to refuse after the other is ruled out.
-use Rattle.std.proofs.Common.{◌≡◌, ◌<◌, ℕ, Option, Some, None, arith, refl}
+use Rattle.std.proofs.Common.{◌≡◌, ℕ, Option, Some, arith}
 use Rattle.rd_policy.specs.declared.audience.Audience.{Audience}
 use Rattle.rd_policy.specs.declared.audience.Audience.TheVariants.{Staff}
 use Rattle.rd_policy.specs.declared.verdict.Label.{Label}
 use Rattle.rd_geometry.specs.declared.kind.Kind.{Kind}
 use Rattle.rd_store.specs.State.{Desk}
 use Rattle.rd_desk.specs.Judged.{JudgedFile, Holds, PassesTo, IsAccepted, audience_of}
-use Rattle.rd_desk.specs.Refusals.{number_of}
 use Rattle.rd_desk.specs.Requests.{IsCommand}
-use Rattle.rd_desk.specs.declared.refusal.Refusal.{Refusal}
 use Rattle.rd_desk.specs.declared.refusal.Refusal.TheVariants.{UnknownKey, StaffOnly, BadBody, NoAccession, NoFile, NoDeed, Denied, ListedOnly, Faulty, WrongSize, DigestDiffers, Conflict}
 use Rattle.rd_desk.specs.declared.request.Request.{Request}
 use Rattle.rd_desk.specs.declared.request.What.TheVariants.{Unread}

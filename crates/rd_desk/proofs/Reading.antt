@@ -1,5 +1,5 @@
 -- What is said of a file is what is said to the request for it.
-use Rattle.std.proofs.Common.{◌≡◌, ◌≢◌, ◌<◌, ℕ, ℤ, List, Option, Some, None, Result, Ok, Err, IfOk, Contains, IsSomeAnd, IfSome, true, false, arith, refl, sym, ap, subst, ◌∙◌}
+use Rattle.std.proofs.Common.{◌≡◌, ℕ, ℤ, List, Option, Some, None, Result, Ok, Err, IfOk, Contains, IsSomeAnd, IfSome, true, false, refl, sym, ap, subst}
 use Rattle.std.specs.FinMap.{get}
 use Rattle.rd_policy.specs.Verdicts.{IsVerdict}
 use Rattle.rd_policy.specs.declared.audience.Audience.{Audience}
@@ -11,7 +11,7 @@ use Rattle.rd_volume.specs.declared.found.Found.{Found}
 use Rattle.rd_store.specs.State.{Desk, rules_for}
 use Rattle.rd_store.specs.declared.rows.ImageRow.{ImageRow}
 use Rattle.rd_desk.specs.Calls.{IsHolding}
-use Rattle.rd_desk.specs.Judged.{IsAccepted, IsJudgedFile, IsRefused, JudgedFile, Holds, PassesTo, audience_of}
+use Rattle.rd_desk.specs.Judged.{IsAccepted, IsJudgedFile, IsRefused, JudgedFile, PassesTo, audience_of}
 use Rattle.rd_desk.specs.Queries.{IsAtSlot, IsRead}
 use Rattle.rd_desk.specs.Replies.{IsAnswered}
 use Rattle.rd_desk.specs.declared.asking.Holding.{Holding}

@@ -1,5 +1,5 @@
 -- Calls one after the other, and what they say of a request.
-use Rattle.std.proofs.Common.{◌≡◌, ◌⊎◌, inl, inr, ℕ, ℤ, List, Option, Some, None, Result, Ok, Err, IfOk, refl, sym, subst, ap, ◌∙◌}
+use Rattle.std.proofs.Common.{◌≡◌, ◌⊎◌, inl, inr, ℤ, Some, None, Result, Ok, Err, IfOk, refl, sym, subst, ap, ◌∙◌}
 use Rattle.sqlite.specs.Store.{Ghosts}
 use Rattle.sqlite.specs.Tree.{Trees}
 use Rattle.sqlite.specs.Held.{Held}
@@ -8,14 +8,14 @@ use Rattle.rd_store.specs.Held.{IsClean, IsLeft, IsOpen, LeavesOnly, Rests, desk
 use Rattle.rd_store.specs.Lawful.{IsLawful}
 use Rattle.rd_store.specs.State.{Desk}
 use Rattle.rd_store.proofs.Laws.{lasts_still, lasts_then}
-use Rattle.rd_desk.specs.Calls.{Carries, IsCarriedOut, IsResponse, Keeps, LeavesStep, Looks, Responds}
-use Rattle.rd_desk.specs.Judged.{Holds, IsAccepted, IsAsked, IsJudgedFile, JudgedFile, audience_of}
+use Rattle.rd_desk.specs.Calls.{Carries, IsCarriedOut, IsResponse, Keeps, Looks, Responds}
+use Rattle.rd_desk.specs.Judged.{Holds, IsAsked, audience_of}
 use Rattle.rd_desk.specs.Replies.{IsAnswered, IsStep, carried_out}
 use Rattle.rd_desk.specs.Requests.{IsCommand}
 use Rattle.rd_desk.specs.declared.refusal.Refusal.TheVariants.{DigestDiffers}
 use Rattle.rd_desk.specs.declared.request.Request.{Request}
 use Rattle.rd_desk.specs.declared.request.What.{What}
-use Rattle.rd_desk.specs.declared.request.What.TheVariants.{Images, Unread}
+use Rattle.rd_desk.specs.declared.request.What.TheVariants.{Unread}
 use Rattle.rd_desk.specs.declared.said.Said.{Said}
 use Rattle.rd_desk.specs.declared.said.Said.TheVariants as said
 use Rattle.rd_desk.proofs.Accepting.{no_file}

@@ -1,5 +1,5 @@
 -- The files that are listed, one after the other, and as a whole.
-use Rattle.std.proofs.Common.{◌≡◌, ◌≢◌, ◌⊎◌, inl, inr, ◌<◌, ℤ, ℕ, zero, suc, List, [], ◌∷◌, ◌++◌, All, AllPairs, Contains, map, length, refl, Some, ap, ap₂, arith, ◌∙◌, slice_index_or, subst, sym}
+use Rattle.std.proofs.Common.{◌≡◌, ◌≢◌, inl, inr, ◌<◌, ℤ, ℕ, zero, suc, List, [], ◌∷◌, ◌++◌, All, AllPairs, Contains, map, length, refl, Some, ap, ap₂, arith, ◌∙◌, slice_index_or, subst, sym}
 use Rattle.std.proofs.lemmas.List.{get_or-map, length-map}
 use Rattle.std.proofs.lemmas.List.Elements.{All-cons, All-head, All-tail}
 use Rattle.std.proofs.lemmas.List.Kept.{AllPairs-cons}

@@ -1,9 +1,9 @@
 -- A request and its reply, from what is said.
-use Rattle.std.proofs.Common.{◌≡◌, ◌≢◌, ◌⊎◌, inl, inr, ◌∙◌, ℤ, Option, None, Result, Ok, Err, OnOk, refl, sym, subst, ap}
+use Rattle.std.proofs.Common.{◌≡◌, ◌≢◌, ◌⊎◌, inl, inr, ◌∙◌, ℤ, Option, None, Result, Ok, Err, OnOk, refl, subst}
 use Rattle.sqlite.specs.Store.{Ghosts}
 use Rattle.sqlite.specs.Held.{Held}
 use Rattle.rd_policy.specs.declared.audience.Audience.{Audience}
-use Rattle.rd_store.specs.Held.{IsClean, IsOpen, LeavesOpen, Rests, desk}
+use Rattle.rd_store.specs.Held.{IsOpen, LeavesOpen, Rests, desk}
 use Rattle.rd_store.specs.State.{Desk}
 use Rattle.rd_desk.specs.Calls.{IsResponse, IsWritten, Responds}
 use Rattle.rd_desk.specs.Judged.{JudgedFile, audience_of}

@@ -216,6 +216,8 @@ pub fn answer_in_memory(
 ) -> Reply
     requires moment { HasDay seconds desk.old.offset_minutes }
     requires fits { IsRequest request.now.what }
+    ensures open { IsOpen over_memory desk.new.store }
+    ensures clean { IsClean over_memory desk.new.store }
     ensures answers { Answers (tables over_memory desk.old.store) (day_number seconds desk.old.offset_minutes) request.now result (tables over_memory desk.new.store) }
     ensures serves { Serves over_memory desk.old.store desk.new.store (day_number seconds desk.old.offset_minutes) request.now result }
     ensures offset { desk.new.offset_minutes ≡ desk.old.offset_minutes }

@@ -1,4 +1,4 @@
-use Rattle.std.proofs.Common.{◌≡◌, ◌∙◌, ◌+◌, ◌++◌, ◌∷◌, [], ap, arith, get_or, subst, sym, take}
+use Rattle.std.proofs.Common.{◌∙◌, ◌+◌, ◌++◌, ◌∷◌, [], ap, arith, get_or, subst, sym, take}
 use Rattle.std.proofs.lemmas.List.{take_more}
 use Rattle.rd_store.specs.Held.{desk}
 use Rattle.rd_desk.specs.Queries.{AreLinesOfEach, IsCounted}

@@ -1,4 +1,4 @@
-use Rattle.std.proofs.Common.{◌∙◌, None, ap, refl, rules, subst}
+use Rattle.std.proofs.Common.{◌∙◌, None, refl, rules, subst}
 use Rattle.rd_store.specs.Held.{desk}
 use Rattle.rd_desk.specs.Queries.{AreLinesOfEach}
 use Rattle.rd_desk.proofs.Reading.{images_accepted}
