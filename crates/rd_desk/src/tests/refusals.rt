@@ -307,6 +307,12 @@ const IMAGES: &[Case] = &[
                 Ask::PutImage(like!(NewImage, CUT_14, acc: 12)),
                 WRONG_SIZE,
             ),
+            (
+                STAFF,
+                AFTER,
+                Ask::PutImage(like!(NewImage, CUT_14, acc: 12, digest: Picture::Program)),
+                WRONG_SIZE,
+            ),
         ],
         tables: Tables::Same,
     },

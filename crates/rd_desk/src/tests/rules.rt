@@ -89,6 +89,8 @@ const BY_TAKEDOWN_5: Wanted = Wanted::Json(403, r#"{"error":"denied","rule":"T12
 
 const BY_TAKEDOWN_9: Wanted = Wanted::Json(403, r#"{"error":"denied","rule":"T12.9"}"#);
 
+const BY_TAKEDOWN_99: Wanted = Wanted::Json(403, r#"{"error":"denied","rule":"T12.99"}"#);
+
 const BY_TAKEDOWN_2: Wanted = Wanted::Json(403, r#"{"error":"denied","rule":"T12.2"}"#);
 
 const LISTED_BY_2: Wanted = Wanted::Json(
@@ -103,6 +105,9 @@ const LISTED_BY_9: Wanted = Wanted::Json(
 
 /// The same program at accession 14.
 const PROGRAM_14: NewImage = like!(NewImage, PROGRAM_12, acc: 14);
+
+/// Takes down the first file of accession 12 after all rules of its deed by rank.
+const TAKEDOWN_AT_99: NewRule = like!(NewRule, TAKEDOWN, rank: 99);
 
 const ORDERS: &[Case] = &[
     Case {
@@ -126,6 +131,17 @@ const ORDERS: &[Case] = &[
             (ROOM, AFTER, Ask::Listing(12), NONE_OF_12),
             (STAFF, AFTER, Ask::Bytes(12, 0), BY_TAKEDOWN_9),
             (STAFF, AFTER, Ask::Listing(12), LISTED_BY_9),
+        ],
+        tables: Tables::Same,
+    },
+    Case {
+        label: "a takedown of a higher rank than the rules of the deed decides",
+        before: &[Ask::PutRule(TAKEDOWN_AT_99)],
+        visits: &[
+            (PUBLIC, AFTER, Ask::Bytes(12, 0), BY_TAKEDOWN_99),
+            (PUBLIC, BEFORE, Ask::Bytes(12, 0), BY_TAKEDOWN_99),
+            (ROOM, AFTER, Ask::Listing(12), NONE_OF_12),
+            (STAFF, AFTER, Ask::Bytes(12, 0), HELLO),
         ],
         tables: Tables::Same,
     },
