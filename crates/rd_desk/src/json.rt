@@ -206,8 +206,7 @@ pub(crate) fn unavailable() -> Reply
     fixed_reply(503, "{\"error\":\"unavailable\"}")
 }
 
-/// The reply that says what is said. It fails only where memory is refused, and not for a command that
-/// is done or for the bytes of a file, which take none.
+/// The reply that says what is said. It fails only where memory is refused.
 pub(crate) fn reply_to(alloc: Global, said: Said) -> Result<Reply, NoMemory>
     ensures { IfOk result (λ reply. reply ≡ reply_of said) }
 {
