@@ -1,0 +1,14 @@
+use Rattle.rd_http.specs.ReplyText.{reply_bytes}
+use Rattle.rd_http.proofs.Sending.{first_part, then_second}
+use Rattle.rd_http.proofs.write.put_fixed.Goals as goal
+
+pub returns-in-Ok-clause-sends : goal.returns-in-Ok-clause-sends
+unfolding reply_bytes
+returns-in-Ok-clause-sends g c =
+    let head = rw (c.as_slice.ensures, c.head_of-head.ensures) at c.in-Ok.ensures.sends in
+    let body = rw c.as_bytes.ensures.value at c.put_all-in-Ok.ensures.sends in
+    then_second _ (g.W.Wire.outgoing c.put_all.new.wire) _ c.put_all-in-Ok.result _ _ head body
+
+pub returns-in-Err-clause-sends : goal.returns-in-Err-clause-sends
+unfolding reply_bytes
+returns-in-Err-clause-sends g c = first_part _ _ _ _ (rw (c.as_slice.ensures, c.head_of-head.ensures) at c.in-Err.ensures.sends)

@@ -1,0 +1,103 @@
+-- What the bytes of a visit ask for: a request of the desk, or why they are none.
+use Rattle.std.specs.Prelude.{◌≡◌, ◌⊎◌, ◌<◌, ℕ, ℤ, List, Option, Some, None, option_map, IsSomeAnd}
+use Rattle.httparse.specs.Grammar.{RequestHead}
+use Rattle.sha2.specs.Sha256.{sha256}
+use Rattle.rd_policy.specs.declared.audience.Audience.{Audience}
+use Rattle.rd_policy.specs.declared.rule.Rule.{Rule as NewRule}
+use Rattle.rd_desk.specs.Requests.{IsRequest}
+use Rattle.rd_desk.specs.declared.request.Request.{Request}
+use Rattle.rd_desk.specs.declared.request.What.{What}
+use Rattle.rd_desk.specs.declared.request.What.TheVariants as what
+use Rattle.rd_http.specs.Faults.{number_of}
+use Rattle.rd_http.specs.Fields.{fields_of}
+use Rattle.rd_http.specs.Framing.{IsFramed, IsNeverWhole, IsWhole}
+use Rattle.rd_http.specs.Heads.{BeginsWith, HasNoHead}
+use Rattle.rd_http.specs.RequestBodies.{IsDeedBody, IsKeyBody, IsRuleBody}
+use Rattle.rd_http.specs.Routes.{methods_of, route_of, verb_of}
+use Rattle.rd_http.specs.declared.fault.RequestFault.{RequestFault}
+use Rattle.rd_http.specs.declared.fault.RequestFault.TheVariants.{BadHead, Framing, NoRoute, Method}
+use Rattle.rd_http.specs.declared.route.Route.{Route}
+use Rattle.rd_http.specs.declared.route.Route.TheVariants.{Images, Listing, Bytes, Accession, Deed, Rule, Badge}
+use Rattle.rd_http.specs.declared.route.Verb.{Verb}
+use Rattle.rd_http.specs.declared.route.Verb.TheVariants.{Put, Delete}
+
+-- ---- a request
+
+-- what a path asks with a method and a body: DELETE takes a rule or a key away, and PUT puts one, or a deed, as
+-- the body tells it in JSON; the body of an image is its bytes
+abbrev pub Asks : Route → Verb → List ℕ → What → Type 0
+Asks Images verb body asked = asked ≡ what.Images
+Asks (Listing acc) verb body asked = asked ≡ what.Listing acc
+Asks (Bytes acc slot) verb body asked = asked ≡ what.Bytes acc slot
+Asks (Accession acc kind deed digest) verb body asked = asked ≡ what.PutImage acc kind deed digest body
+Asks (Deed num) verb body asked = (donor : List ℕ) × (signed : ℤ) × (asked ≡ what.PutDeed num donor signed) × IsDeedBody body donor signed
+Asks (Rule band scope rank) Delete body asked = asked ≡ what.DropRule band scope rank
+Asks (Rule band scope rank) Put body asked = (rule : NewRule) × (asked ≡ what.PutRule rule) × IsRuleBody band scope rank body rule
+Asks (Badge digest) Delete body asked = asked ≡ what.DropKey digest
+Asks (Badge digest) Put body asked = (audience : Audience) × (asked ≡ what.PutKey digest audience) × IsKeyBody body audience
+Asks route verb body asked = ⊥
+
+-- what is asked, its values within their limits; where the body tells nothing such, a command that cannot be
+-- read. The parts of a path are always within theirs
+abbrev pub IsWhat : Route → Verb → List ℕ → What → Type 0
+IsWhat route verb body asked =
+    (Asks route verb body asked × IsRequest asked)
+    ⊎ ((asked ≡ what.Unread) × ((other : What) → Asks route verb body other → ¬ IsRequest other))
+
+-- The bytes that came ask this: a head is at their front, the body that it tells of came whole, the target is
+-- one that the desk has, with this method, and the badge is the SHA-256 of the desk key.
+pub record IsRequestOf (stream : List ℕ) (request : Request) : Type 0 where
+  pub head : RequestHead
+  pub rest : List ℕ
+  pub key : Option (List ℕ)
+  pub body : List ℕ
+  pub route : Route
+  pub verb : Verb
+  pub begins : BeginsWith stream head rest
+  pub whole : IsWhole head rest key body
+  pub to : route_of head.target ≡ Some route
+  pub by : verb_of (methods_of route) head.method ≡ Some verb
+  pub badge : request.badge ≡ option_map sha256 key
+  pub what : IsWhat route verb body request.what
+
+-- ---- why bytes are no request
+
+module _ (head : RequestHead) (rest : List ℕ) where
+  -- why what begins with this head is no request; several reasons may hold at once
+  abbrev pub Fails : RequestFault → Type 0
+  Fails BadHead = ⊥
+  Fails Framing = IsNeverWhole head rest
+  Fails NoRoute = route_of head.target ≡ None
+  Fails (Method methods) = IsSomeAnd (route_of head.target) (λ route.
+      (methods_of route ≡ methods) × (verb_of methods head.method ≡ None))
+
+-- why the bytes that came are no request
+abbrev pub Holds : List ℕ → RequestFault → Type 0
+Holds stream BadHead = HasNoHead stream
+Holds stream reason = (head : RequestHead) × (rest : List ℕ) × BeginsWith stream head rest × Fails head rest reason
+
+-- Of the reasons that hold, this is the one with the lowest number.
+pub record IsFaultOf (stream : List ℕ) (fault : RequestFault) : Type 0 where
+  pub holds : Holds stream fault
+  pub lowest : (other : RequestFault) → number_of other < number_of fault → ¬ Holds stream other
+
+-- ---- what is asked
+
+pub data Asked : Type 0 where
+  request : Request → Asked
+  fault : RequestFault → Asked
+
+-- what the bytes that came ask for
+abbrev pub IsAsked : List ℕ → Asked → Type 0
+IsAsked stream (request asked) = IsRequestOf stream asked
+IsAsked stream (fault reason) = IsFaultOf stream reason
+
+-- a head is at the front of the bytes, and tells of its body and of the key
+abbrev pub HasFramedHead : List ℕ → Type 0
+HasFramedHead stream =
+    (head : RequestHead) × (rest : List ℕ) × (size : ℕ) × (key : Option (List ℕ))
+    × BeginsWith stream head rest × IsFramed (fields_of head) size key
+
+-- bytes ask for one thing
+abbrev pub OneAsked : Type 0
+OneAsked = (stream : List ℕ) (one other : Asked) → IsAsked stream one → IsAsked stream other → one ≡ other

@@ -1,0 +1,68 @@
+-- What a door tells of its visits.
+use Rattle.std.specs.Prelude.{◌≡◌, ℕ, ℤ, List, [], ◌∷◌, ◌++◌, Bool, Option, None, Some, ⊤, map}
+
+-- A visit that is over: its moment, all bytes that came, read or not, those that went out, and whether a read
+-- and whether a write failed.
+pub record Visit : Type 0 where
+  pub moment : ℤ
+  pub came : List ℕ
+  pub out : List ℕ
+  pub take_failed : Bool
+  pub put_failed : Bool
+
+-- The visits that are over, in order, and the moment of the one under way.
+pub record Told : Type 0 where
+  pub visits : List Visit
+  pub under_way : Option ℤ
+
+-- a visit of this moment is admitted, while none is under way; or none is admitted, and what is told stays
+abbrev pub Admits : Option Told → Option Told → Option ℤ → Type 0
+Admits None new moment = ⊤
+Admits (Some old) new None = new ≡ Some old
+Admits (Some old) new (Some moment) =
+    (old.under_way ≡ None) × (new ≡ Some (record { visits = old.visits; under_way = Some moment }))
+
+-- a connection that a door has admitted tells its bytes where the door tells its visits, and nothing went out
+abbrev pub TellsToo : Option Told → Option (List ℕ) → Option (List ℕ) → Type 0
+TellsToo None came out = ⊤
+TellsToo (Some told) None out = ⊥
+TellsToo (Some told) (Some came) None = ⊥
+TellsToo (Some told) (Some came) (Some out) = out ≡ []
+
+-- what is told once the visit under way is over; where none is, it stays
+abbrev pub told_after : Told → Option ℤ → List ℕ → List ℕ → Bool → Bool → Told
+told_after told None came out take_failed put_failed = told
+told_after told (Some moment) came out take_failed put_failed = record {
+  visits = told.visits ++ record { moment = moment; came = came; out = out; take_failed = take_failed; put_failed = put_failed } ∷ [];
+  under_way = None;
+}
+
+-- a door that tells its visits tells the one that has ended over this connection too
+abbrev pub Leaves : Option Told → Option Told → Option (List ℕ) → Option (List ℕ) → Bool → Bool → Type 0
+Leaves None new came out take_failed put_failed = ⊤
+Leaves (Some old) new None out take_failed put_failed = ⊤
+Leaves (Some old) new (Some came) None take_failed put_failed = ⊤
+Leaves (Some old) new (Some came) (Some out) take_failed put_failed =
+    new ≡ Some (told_after old old.under_way came out take_failed put_failed)
+
+-- ---- visits to come
+
+-- the moment of a visit to come, and all bytes that will come
+abbrev pub Coming : Type 0
+Coming = ℤ × List ℕ
+
+-- where a door tells the visits to come, the one that it has admitted was the next of them, with its bytes
+abbrev pub TakesNext : Option (List Coming) → Option (List Coming) → ℤ → Option (List ℕ) → Type 0
+TakesNext None new moment came = ⊤
+TakesNext (Some old) (Some new) moment (Some came) = old ≡ (moment, came) ∷ new
+TakesNext (Some old) new moment came = ⊥
+
+-- what was to come of a visit that is over
+abbrev pub coming_of : Visit → Coming
+coming_of visit = (visit.moment, visit.came)
+
+-- none is to come, as far as a door tells it, unless one is under way
+abbrev pub NoneToCome : Option Told → Option (List Coming) → Type 0
+NoneToCome told None = ⊤
+NoneToCome None (Some coming) = coming ≡ []
+NoneToCome (Some told) (Some coming) = told.under_way ≡ None → coming ≡ []

@@ -1,0 +1,71 @@
+-- One visit: what is done about the bytes that came, and which bytes go.
+use Rattle.std.specs.Prelude.{◌≡◌, ◌⊎◌, ℕ, ℤ, List, Option, Some, None, Result, Ok, Err, ⊤}
+use Rattle.std.specs.Io.KnownBytes.{Appends, Consumes}
+use Rattle.sqlite.specs.Store.{Ghosts}
+use Rattle.sqlite.specs.Held.{Held}
+use Rattle.rd_store.specs.State.{Desk}
+use Rattle.rd_desk.specs.Replies.{IsReply}
+use Rattle.rd_desk.specs.Served.{Serves}
+use Rattle.rd_desk.specs.Texts.{UNAVAILABLE}
+use Rattle.rd_desk.specs.declared.request.Request.{Request}
+use Rattle.rd_desk.specs.declared.said.Form.TheVariants.{Json}
+use Rattle.rd_desk.specs.declared.said.Reply.{Reply}
+use Rattle.rd_http.specs.Asked.{Asked, HasFramedHead, IsAsked, request, fault}
+use Rattle.rd_http.specs.Faults.{allow_line, fault_body, status_of}
+use Rattle.rd_http.specs.ReplyText.{challenge_of, reply_bytes}
+use Rattle.rd_http.specs.Sent.{SendsPart}
+use Rattle.rd_http.specs.declared.fault.RequestFault.{RequestFault}
+use Rattle.rd_http.specs.declared.visit.WireFault.{WireFault}
+use Rattle.rd_http.specs.declared.visit.WireFault.TheVariants.{Read, Write, Clock}
+
+-- ---- the bytes that go
+
+-- the bytes of a reply of the desk
+abbrev pub answer_bytes : Reply → List ℕ
+answer_bytes reply = reply_bytes (challenge_of reply.status) reply
+
+-- the bytes that tell why there is no request
+abbrev pub fault_bytes : RequestFault → List ℕ
+fault_bytes reason = reply_bytes (allow_line reason) (record { status = status_of reason; form = Json; body = fault_body reason })
+
+-- ---- what is done
+
+-- Memory was wanting before the desk was asked: nothing has changed, and this is told. Where there is no head,
+-- or the head alone is at fault, no memory is taken.
+pub record IsWanting {State : Type 0} (stream : List ℕ) (old new : State) (text : List ℕ) : Type 0 where
+  pub framed : HasFramedHead stream
+  pub same : new ≡ old
+  pub told : text ≡ answer_bytes UNAVAILABLE
+
+module _ {S : Type 0} (g : Ghosts S) (stream : List ℕ) (old new : Held S) (day : ℤ) (text : List ℕ) where
+  -- what is done about what the bytes ask: the desk serves the request; or there is none, and the store is not
+  -- touched
+  abbrev pub Handles : Asked → Type 0
+  Handles (request asked) = (reply : Reply) × Serves g old new day asked reply × (text ≡ answer_bytes reply)
+  Handles (fault reason) = (new ≡ old) × (text ≡ fault_bytes reason)
+
+  -- the bytes that came are answered with this text, over a store
+  abbrev pub IsAnswer : Type 0
+  IsAnswer = ((asked : Asked) × IsAsked stream asked × Handles asked) ⊎ IsWanting stream old new text
+
+module _ (stream : List ℕ) (old new : Desk) (day : ℤ) (text : List ℕ) where
+  -- the same over the desk itself: the reply is the one to the request, and the desk that of the request
+  abbrev pub Replies : Asked → Type 0
+  Replies (request asked) = (reply : Reply) × IsReply old day asked reply new × (text ≡ answer_bytes reply)
+  Replies (fault reason) = (new ≡ old) × (text ≡ fault_bytes reason)
+
+  -- the bytes that came are replied to with this text; or it tells that the desk is unavailable, nothing has
+  -- changed, and the bytes begin with a head that tells of its body
+  abbrev pub IsReplied : Type 0
+  IsReplied = ((asked : Asked) × IsAsked stream asked × Replies asked) ⊎ IsWanting stream old new text
+
+-- ---- how a visit ends
+
+-- what a visit leaves, by how it ends: the text went out whole; or a read failed, or the moment has no day, and
+-- nothing went out and nothing has changed; or a part of the text went out, and what was done stands
+abbrev pub Visits : {State : Type 0} (Answers : List ℕ → Type 0) (old new : State) (before after : Option (List ℕ))
+    → Result (Unit {0}) WireFault → Type 0
+Visits Answers old new before after (Ok done) = (text : List ℕ) × Answers text × Appends before after text
+Visits Answers old new before after (Err Write) = (text : List ℕ) × Answers text × SendsPart before after text
+Visits Answers old new before after (Err Read) = (new ≡ old) × (after ≡ before)
+Visits Answers old new before after (Err Clock) = (new ≡ old) × (after ≡ before)

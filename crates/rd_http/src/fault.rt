@@ -1,0 +1,70 @@
+//! Why the bytes of a visit are no request.
+
+ghost use Rattle.std.specs.Prelude.{◌≡◌, ◌≤◌, ◌++◌, codes, length};
+ghost use Rattle.rd_http.specs.Routes.{allow_text};
+
+use crate::route::Methods;
+
+/// Why the bytes of a visit are no request. Of several reasons the one that stands first here is given.
+#[derive(Clone, Copy)]
+pub(crate) enum RequestFault {
+    /// The first 8,192 bytes hold no head with at most 64 fields.
+    BadHead,
+    /// The head does not tell the length of its body, or it is above 262,144, or the body is shorter; or
+    /// more than one desk key is shown.
+    Framing,
+    /// The target is none that the desk has.
+    NoRoute,
+    /// The target has other methods.
+    Method(Methods),
+}
+
+/// The line of a reply's head that tells methods.
+fn allow(methods: Methods) -> &'static str
+    ensures line { result.now ≡ codes "Allow: " ++ allow_text methods ++ codes "\r\n" }
+    ensures short { length result.now ≤ 40 }
+{
+    match methods {
+        Methods::Get => "Allow: GET\r\n",
+        Methods::Put => "Allow: PUT\r\n",
+        Methods::PutOrDelete => "Allow: PUT, DELETE\r\n",
+    }
+}
+
+impl RequestFault {
+    ghost use Rattle.rd_http.specs.Faults.{allow_line, fault_body, status_of};
+
+    /// The status of the reply.
+    pub(crate) fn status(self) -> u16
+        ensures { result ≡ status_of self }
+    {
+        match self {
+            RequestFault::BadHead | RequestFault::Framing => 400,
+            RequestFault::NoRoute => 404,
+            RequestFault::Method(_) => 405,
+        }
+    }
+
+    /// The body of the reply: the name of the fault, in JSON.
+    pub(crate) fn body(self) -> &'static str
+        ensures { result.now ≡ fault_body self }
+    {
+        match self {
+            RequestFault::BadHead => "{\"error\":\"bad-head\"}",
+            RequestFault::Framing => "{\"error\":\"framing\"}",
+            RequestFault::NoRoute => "{\"error\":\"no-route\"}",
+            RequestFault::Method(_) => "{\"error\":\"method\"}",
+        }
+    }
+
+    /// The line of the reply's head that only this fault has; empty where it has none.
+    pub(crate) fn line(self) -> &'static str
+        ensures line { result.now ≡ allow_line self }
+        ensures short { length result.now ≤ 40 }
+    {
+        match self {
+            RequestFault::Method(methods) => allow(methods),
+            RequestFault::BadHead | RequestFault::Framing | RequestFault::NoRoute => "",
+        }
+    }
+}

@@ -1,0 +1,32 @@
+//! The reading room over HTTP: from the bytes that come to the bytes that go.
+#![tactic(auto)]
+
+mod asked;
+mod bodies;
+mod body;
+mod fault;
+mod fields;
+mod framing;
+mod head;
+mod laws;
+mod memory;
+mod parts;
+mod pattern;
+mod reply;
+mod route;
+mod serve;
+mod taking;
+mod target;
+mod tcp;
+#[cfg(test)]
+mod tests;
+mod visit;
+mod wire;
+mod write;
+
+pub use laws::one_asked;
+pub use memory::{MemoryDoor, MemoryVisit, MemoryWire, memory_reads};
+pub use serve::{Ended, Served, serve_in_memory, serve_many};
+pub use tcp::{Clock, TcpDoor, TcpWire};
+pub use visit::{WireFault, serve_one};
+pub use wire::{Broken, Door, Shut, Wire};

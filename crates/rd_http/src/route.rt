@@ -1,0 +1,191 @@
+//! What the target of a request names, and the methods by which it may be asked for.
+
+ghost use Rattle.std.specs.Prelude.{◌≡◌, true, IfOk, IfSome};
+ghost use Rattle.std.specs.Char.{is_ascii};
+ghost use Rattle.std.specs.List.{list_all};
+
+use crate::parts::{digest, kind, rank, scope, slot};
+use crate::pattern::{Parts, Pattern, parts_of, router};
+use crate::target::ascii_path;
+use rd_geometry::{Kind, NoMemory};
+use rd_policy::Band;
+use std::alloc::Global;
+
+/// What a target names.
+#[derive(Clone, Copy)]
+pub(crate) enum Route {
+    /// The images.
+    Images,
+    /// The files of an accession, 1 to 999,999.
+    Listing(u32),
+    /// The bytes of a file: of an accession, 1 to 999,999, the file at a slot, 0 to 9,999.
+    Bytes(u32, u16),
+    /// An image that is to be taken in.
+    Accession {
+        /// The number of its accession, 1 to 999,999.
+        acc: u32,
+        /// Its kind.
+        kind: Kind,
+        /// The number of its deed, 1 to 999,999.
+        deed: u32,
+        /// What the SHA-256 of its bytes has to be.
+        digest: [u8; 32],
+    },
+    /// A deed, 1 to 999,999.
+    Deed(u32),
+    /// A rule.
+    Rule {
+        /// Where it comes from.
+        band: Band,
+        /// The number of its accession or deed, 1 to 999,999.
+        scope: u32,
+        /// Its rank, 1 to 9,999.
+        rank: u16,
+    },
+    /// A desk key, by its SHA-256.
+    Badge([u8; 32]),
+}
+
+/// A method of HTTP by which something may be asked for.
+#[derive(Clone, Copy)]
+pub(crate) enum Verb {
+    /// `GET`.
+    Get,
+    /// `PUT`.
+    Put,
+    /// `DELETE`.
+    Delete,
+}
+
+/// The methods by which a route may be asked for.
+#[derive(Clone, Copy)]
+pub(crate) enum Methods {
+    /// `GET` alone.
+    Get,
+    /// `PUT` alone.
+    Put,
+    /// `PUT` and `DELETE`.
+    PutOrDelete,
+}
+
+impl Verb {
+    ghost use Rattle.rd_http.specs.Routes.{name_of};
+
+    /// The name of the method.
+    fn name(self) -> &'static str
+        ensures { result.now ≡ name_of self }
+    {
+        match self {
+            Verb::Get => "GET",
+            Verb::Put => "PUT",
+            Verb::Delete => "DELETE",
+        }
+    }
+}
+
+impl Route {
+    ghost use Rattle.rd_http.specs.Routes.{IsWithin, methods_of, route_of, route_of_path, route_with, rule_of};
+
+    /// A rule of a band, by its scope and its rank; `None` where one of them is not well written.
+    fn rule(band: Band, first: &str, second: &str) -> Option<Route>
+        ensures { result ≡ rule_of band first.now second.now }
+    {
+        Some(Route::Rule {
+            band,
+            scope: scope(first)?,
+            rank: rank(second)?,
+        })
+    }
+
+    /// What a pattern and its parts name; `None` where a part is not well written.
+    fn with_parts(pattern: Pattern, parts: &Parts<'_>) -> Option<Route>
+        ensures { result ≡ route_with pattern parts.now.first.now parts.now.second.now parts.now.third.now parts.now.fourth.now }
+    {
+        match pattern {
+            Pattern::Images => Some(Route::Images),
+            Pattern::Listing => Some(Route::Listing(scope(parts.first)?)),
+            Pattern::Bytes => Some(Route::Bytes(scope(parts.first)?, slot(parts.second)?)),
+            Pattern::TakedownRule => Route::rule(Band::Takedown, parts.first, parts.second),
+            Pattern::Accession => Some(Route::Accession {
+                acc: scope(parts.first)?,
+                kind: kind(parts.second)?,
+                deed: scope(parts.third)?,
+                digest: digest(parts.fourth)?,
+            }),
+            Pattern::Deed => Some(Route::Deed(scope(parts.first)?)),
+            Pattern::DeedRule => Route::rule(Band::Deed, parts.first, parts.second),
+            Pattern::Badge => Some(Route::Badge(digest(parts.first)?)),
+        }
+    }
+
+    /// What a path of ASCII names, `None` where it names nothing. It fails only where memory is refused.
+    fn of_path(alloc: Global, path: &str) -> Result<Option<Route>, NoMemory>
+        requires { list_all is_ascii path.now ≡ true }
+        ensures { IfOk result (λ found. found ≡ route_of_path path.now) }
+    {
+        let router = router(alloc)?;
+        match router.at(path) {
+            Ok(found) => Ok(Route::with_parts(*found.value, &parts_of(&found.params))),
+            Err(_) => Ok(None),
+        }
+    }
+
+    /// What the target of a request names, `None` where it names nothing. What follows a question mark is not
+    /// read, and nothing is decoded. It fails only where memory is refused.
+    pub(crate) fn of_target(alloc: Global, target: &[u8]) -> Result<Option<Route>, NoMemory>
+        ensures route { IfOk result (λ found. found ≡ route_of target.now) }
+        ensures within { IfOk result (λ found. IfSome found IsWithin) }
+    {
+        match ascii_path(target) {
+            Some(path) => Route::of_path(alloc, path),
+            None => Ok(None),
+        }
+    }
+
+    /// The methods by which it may be asked for.
+    pub(crate) fn methods(&self) -> Methods
+        ensures { result ≡ methods_of self.now }
+    {
+        match self {
+            Route::Images | Route::Listing(_) | Route::Bytes(_, _) => Methods::Get,
+            Route::Accession { .. } | Route::Deed(_) => Methods::Put,
+            Route::Rule { .. } | Route::Badge(_) => Methods::PutOrDelete,
+        }
+    }
+}
+
+impl Methods {
+    ghost use Rattle.rd_http.specs.Routes.{allow_text, verb_of, verbs_of};
+
+    /// The methods, as a reply tells them.
+    pub(crate) fn text(self) -> &'static str
+        ensures { result.now ≡ allow_text self }
+    {
+        match self {
+            Methods::Get => "GET",
+            Methods::Put => "PUT",
+            Methods::PutOrDelete => "PUT, DELETE",
+        }
+    }
+
+    /// Which they are.
+    fn verbs(self) -> &'static [Verb]
+        ensures { result.now ≡ verbs_of self }
+    {
+        match self {
+            Methods::Get => &[Verb::Get],
+            Methods::Put => &[Verb::Put],
+            Methods::PutOrDelete => &[Verb::Put, Verb::Delete],
+        }
+    }
+
+    /// Which of the methods has this name, byte for byte; `None` where none of them has it.
+    pub(crate) fn verb(self, name: &[u8]) -> Option<Verb>
+        ensures { result ≡ verb_of self name.now }
+    {
+        self.verbs()
+            .iter()
+            .copied()
+            .find(|verb| verb.name().as_bytes() == name)
+    }
+}

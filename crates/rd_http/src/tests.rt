@@ -1,0 +1,67 @@
+/// A value that is like another but for some of its fields.
+macro_rules! like {
+    ($type:ident, $other:expr, $($field:ident: $value:expr),+) => {
+        $type { $($field: $value,)+ ..$other }
+    };
+}
+
+/// A table, of which each row stands on one line.
+macro_rules! table {
+    ($($row:expr;)+) => { &[$($row),+] };
+}
+
+/// A request for a path, without a key and a body.
+macro_rules! get {
+    ($path:literal) => {
+        Came::Text(concat!("GET ", $path, " HTTP/1.1\r\n\r\n"))
+    };
+}
+
+/// A request for the images, with these bytes after its first line.
+macro_rules! with {
+    ($rest:literal) => {
+        Came::Text(concat!("GET /images HTTP/1.1\r\n", $rest))
+    };
+}
+
+/// A reply in JSON: its status, the line that only this status has, and its body.
+macro_rules! reply {
+    ($status:literal, $body:literal) => {
+        Wanted::Json($status, "", $body)
+    };
+    ($status:literal, $line:literal, $body:literal) => {
+        Wanted::Json($status, $line, $body)
+    };
+}
+
+/// The reply where a path has these methods alone.
+macro_rules! allows {
+    ($methods:literal) => {
+        Wanted::Json("405 Method Not Allowed", concat!("Allow: ", $methods, "\r\n"), r#"{"error":"method"}"#)
+    };
+}
+
+/// How a run of visits went.
+macro_rules! served {
+    ($visits:literal, $read_faults:literal, $write_faults:literal, $ended:ident) => {
+        Served {
+            visits: $visits,
+            read_faults: $read_faults,
+            write_faults: $write_faults,
+            ended: Ended::$ended,
+        }
+    };
+}
+
+mod bodies;
+mod cases;
+mod fakes;
+mod faults;
+mod heads;
+mod order;
+mod refused;
+mod routes;
+mod rows;
+mod runs;
+mod state;
+mod tcp;

@@ -1,0 +1,112 @@
+//! One visit: a request is read, served and answered.
+
+ghost use Rattle.std.specs.Prelude.{◌≡◌, ◌≢◌, ◌↔◌, ◌≤◌, ℕ, List, Option, Err, true, false, IfSome, IfOk, IsErr, length};
+ghost use Rattle.rd_policy.specs.Days.{HasDay, day_number};
+ghost use Rattle.rd_store.specs.Held.{Lasts};
+ghost use Rattle.rd_http.specs.Readings.{Fits, IsReading, text_of};
+ghost use Rattle.rd_http.specs.Sent.{Sends};
+ghost use Rattle.rd_http.specs.Taken.{TakesUpTo};
+ghost use Rattle.rd_http.specs.Visits.{IsAnswer, Visits};
+
+use crate::asked::{Reading, read_request};
+use crate::fault::RequestFault;
+use crate::reply::challenge;
+use crate::wire::{Broken, Wire};
+use crate::write::{put_fixed, put_reply};
+use rd_desk::{Desk, Reply};
+use sqlite::Alter;
+use std::alloc::Global;
+
+/// Why a visit ended before its reply had gone out.
+#[derive(Clone, Copy, Debug, PartialEq, Eq)]
+pub enum WireFault {
+    /// A read failed. Nothing was written, and nothing has changed.
+    Read,
+    /// A write failed or took no byte. A front part of the reply went out, and a command that was done stands.
+    Write,
+    /// The moment has no day. Nothing was read or written, and nothing has changed.
+    Clock,
+}
+
+/// What goes out.
+#[derive(Drop)]
+pub(crate) enum Answer {
+    /// A reply of the desk.
+    Made(Reply),
+    /// Why there is no request.
+    Fault(RequestFault),
+    /// That memory is wanting.
+    Unavailable,
+}
+
+/// What is answered to what was read.
+fn answer_to<S: Alter>(alloc: Global, seconds: i64, desk: &mut Desk<S>, reading: Reading) -> Answer
+    requires moment { HasDay seconds desk.old.offset_minutes }
+    requires fits { Fits reading }
+    ensures answers { (stream : List ℕ) → IsReading stream reading
+        → IsAnswer S.Store stream desk.old.store desk.new.store (day_number seconds desk.old.offset_minutes) (text_of result) }
+    ensures lasts { Lasts S.Store desk.old.store desk.new.store }
+    ensures offset { desk.new.offset_minutes ≡ desk.old.offset_minutes }
+{
+    match reading {
+        Reading::Request(request) => Answer::Made(desk.answer(alloc, seconds, &request)),
+        Reading::Fault(fault) => Answer::Fault(fault),
+        Reading::NoMemory => Answer::Unavailable,
+    }
+}
+
+/// Sends an answer.
+fn send<W: Wire>(wire: &mut W, answer: Answer) -> Result<(), Broken>
+    requires ready { W.put_failed wire.old ≡ false }
+    ensures sends { Sends (W.outgoing wire.old) (W.outgoing wire.new) result (text_of answer) }
+    ensures failed { IsErr result ↔ (W.put_failed wire.new ≡ true) }
+    ensures kept { W.incoming wire.new ≡ W.incoming wire.old }
+    ensures came { W.came wire.new ≡ W.came wire.old }
+    ensures take_kept { W.take_failed wire.new ≡ W.take_failed wire.old }
+{
+    match answer {
+        Answer::Made(reply) => put_reply(wire, challenge(reply.status), &reply),
+        Answer::Fault(fault) => put_fixed(wire, fault.status(), fault.line(), fault.body()),
+        Answer::Unavailable => put_fixed(wire, 503, "", "{\"error\":\"unavailable\"}"),
+    }
+}
+
+/// Serves one visit at a moment, in seconds since 1970-01-01T00:00:00 UTC: reads one request, and no byte
+/// beyond what a head and a body may have (270,336), has the desk answer it, and writes the reply. Where the
+/// bytes are no request, the reply says why; where memory is wanting, that the desk is unavailable.
+///
+/// It fails with `Clock` exactly where the moment has no day; with `Read` exactly where a read failed, and
+/// with `Write` exactly where a write failed or took no byte. None is made once more.
+pub fn serve_one<S: Alter, W: Wire>(
+    alloc: Global,
+    wire: &mut W,
+    seconds: i64,
+    desk: &mut Desk<S>,
+) -> Result<(), WireFault>
+    requires ready { W.take_failed wire.old ≡ false }
+    requires put_ready { W.put_failed wire.old ≡ false }
+    ensures served { IfSome (W.incoming wire.old) (λ stream.
+        Visits (IsAnswer S.Store stream desk.old.store desk.new.store (day_number seconds desk.old.offset_minutes))
+        desk.old.store desk.new.store (W.outgoing wire.old) (W.outgoing wire.new) result) }
+    ensures clock { (result ≢ Err WireFault.Clock) ↔ HasDay seconds desk.old.offset_minutes }
+    ensures read { (result ≡ Err WireFault.Read) ↔ (W.take_failed wire.new ≡ true) }
+    ensures write { (result ≡ Err WireFault.Write) ↔ (W.put_failed wire.new ≡ true) }
+    ensures untouched { result ≡ Err WireFault.Clock → (wire.new ≡ wire.old) × (desk.new ≡ desk.old) }
+    ensures unread { result ≡ Err WireFault.Read → (W.outgoing wire.new ≡ W.outgoing wire.old) × (desk.new ≡ desk.old) }
+    ensures bounded { TakesUpTo 270_336 (W.incoming wire.old) (W.incoming wire.new) }
+    ensures came { W.came wire.new ≡ W.came wire.old }
+    ensures lasts { Lasts S.Store desk.old.store desk.new.store }
+    ensures offset { desk.new.offset_minutes ≡ desk.old.offset_minutes }
+{
+    if desk.day(seconds).is_err() {
+        return Err(WireFault::Clock);
+    }
+    let Ok(reading) = read_request(alloc, wire) else {
+        return Err(WireFault::Read);
+    };
+    let answer = answer_to(alloc, seconds, desk, reading);
+    match send(wire, answer) {
+        Ok(()) => Ok(()),
+        Err(Broken) => Err(WireFault::Write),
+    }
+}

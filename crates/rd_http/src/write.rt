@@ -1,0 +1,89 @@
+//! The bytes of a reply, written to a connection.
+
+ghost use Rattle.std.specs.Prelude.{◌≡◌, ◌↔◌, ◌≤◌, true, false, length, IsErr};
+ghost use Rattle.rd_http.specs.ReplyText.{reply_bytes};
+ghost use Rattle.rd_http.specs.Sent.{Sends};
+
+use crate::reply::head_of;
+use crate::wire::{Broken, Wire};
+use rd_desk::{Body, Form, Reply};
+
+/// Writes bytes.
+///
+/// It fails with `Broken` where a write failed: then a front part went out, and not all of them.
+pub(crate) fn put_all<W: Wire>(wire: &mut W, bytes: &[u8]) -> Result<(), Broken>
+    requires { W.put_failed wire.old ≡ false }
+    ensures sends { Sends (W.outgoing wire.old) (W.outgoing wire.new) result bytes.now }
+    ensures failed { IsErr result ↔ (W.put_failed wire.new ≡ true) }
+    ensures kept { W.incoming wire.new ≡ W.incoming wire.old }
+    ensures came { W.came wire.new ≡ W.came wire.old }
+    ensures take_kept { W.take_failed wire.new ≡ W.take_failed wire.old }
+{
+    let mut sent = 0;
+    while sent < bytes.len() {
+        let count = wire.put(&bytes[sent..])?;
+        sent += count;
+    }
+    Ok(())
+}
+
+/// Writes a body, piece by piece.
+///
+/// It fails with `Broken` where a write failed: then a front part went out, and not all of it.
+pub(crate) fn put_pieces<W: Wire>(wire: &mut W, body: &Body) -> Result<(), Broken>
+    requires { W.put_failed wire.old ≡ false }
+    ensures sends { Sends (W.outgoing wire.old) (W.outgoing wire.new) result body.now }
+    ensures failed { IsErr result ↔ (W.put_failed wire.new ≡ true) }
+    ensures kept { W.incoming wire.new ≡ W.incoming wire.old }
+    ensures came { W.came wire.new ≡ W.came wire.old }
+    ensures take_kept { W.take_failed wire.new ≡ W.take_failed wire.old }
+{
+    for piece in body.pieces() {
+        put_all(wire, piece)?;
+    }
+    Ok(())
+}
+
+/// Writes a reply of the desk, with a line that only this one has in its head, or none: of at most 40 bytes.
+///
+/// It fails with `Broken` where a write failed: then a front part went out, and not all of it.
+pub(crate) fn put_reply<W: Wire>(wire: &mut W, extra: &str, reply: &Reply) -> Result<(), Broken>
+    requires ready { W.put_failed wire.old ≡ false }
+    requires room { length extra.now ≤ 40 }
+    ensures sends { Sends (W.outgoing wire.old) (W.outgoing wire.new) result (reply_bytes extra.now reply.now) }
+    ensures failed { IsErr result ↔ (W.put_failed wire.new ≡ true) }
+    ensures kept { W.incoming wire.new ≡ W.incoming wire.old }
+    ensures came { W.came wire.new ≡ W.came wire.old }
+    ensures take_kept { W.take_failed wire.new ≡ W.take_failed wire.old }
+{
+    let head = head_of(reply.status, reply.form, reply.body.len(), extra);
+    match put_all(wire, head.as_slice()) {
+        Ok(()) => put_pieces(wire, &reply.body),
+        Err(broken) => Err(broken),
+    }
+}
+
+/// Writes a reply whose body is a text of JSON, as `put_reply` does one of the desk. It takes no memory.
+///
+/// It fails with `Broken` where a write failed: then a front part went out, and not all of it.
+pub(crate) fn put_fixed<W: Wire>(
+    wire: &mut W,
+    status: u16,
+    extra: &str,
+    body: &str,
+) -> Result<(), Broken>
+    requires ready { W.put_failed wire.old ≡ false }
+    requires room { length extra.now ≤ 40 }
+    ensures sends { Sends (W.outgoing wire.old) (W.outgoing wire.new) result
+        (reply_bytes extra.now (record { status = status; form = Form.Json; body = body.now })) }
+    ensures failed { IsErr result ↔ (W.put_failed wire.new ≡ true) }
+    ensures kept { W.incoming wire.new ≡ W.incoming wire.old }
+    ensures came { W.came wire.new ≡ W.came wire.old }
+    ensures take_kept { W.take_failed wire.new ≡ W.take_failed wire.old }
+{
+    let head = head_of(status, Form::Json, body.len(), extra);
+    match put_all(wire, head.as_slice()) {
+        Ok(()) => put_all(wire, body.as_bytes()),
+        Err(broken) => Err(broken),
+    }
+}
