@@ -1,180 +1,91 @@
 //! What `rd_cbm::directory` tells of a 1541 disk.
 
-use super::cbm_disk;
-use super::sample::{Base, FORMATTED, MIXED, Sample, image_of, units_of};
-use crate::bytes::padded;
+use super::cases::{Case, Wanted, assert_cases};
+use super::sample::{
+    ALL_DELETED, CBM_00, CBM_01, CBM_FF, FORMATTED, MIXED, NO_END, Runs, Sample, units_of,
+};
 use crate::cbm::PROGRAM;
 use rd_cbm::{CbmEntry, End, directory};
-use std::process::Abort;
-use std::test::Fail;
+use rd_geometry::{CbmDisk, Image, NoMemory};
+use std::alloc::Global;
 
-/// What has to be told of an entry.
-#[derive(Clone, Copy)]
-struct Told<'a> {
-    slot: u16,
-    ty_byte: u8,
-    start: (u8, u8),
-    /// The name, which is padded with A0 hex.
-    name: &'a [u8],
-    side: (u8, u8),
-    record_len: u8,
-    size_field: u16,
-}
-
-/// What is told of the entry of the program `FILE`.
-const FILE: Told<'static> = Told {
+/// The entry of the program `FILE`.
+const FILE: CbmEntry = CbmEntry {
     slot: 0,
     ty_byte: 0x82,
     start: (17, 0),
-    name: b"FILE",
+    name: *b"FILE\xa0\xa0\xa0\xa0\xa0\xa0\xa0\xa0\xa0\xa0\xa0\xa0",
     side: (0, 0),
     record_len: 0,
     size_field: 0,
 };
 
-const DATA: Told<'static> = Told {
-    ty_byte: 0x84,
-    name: b"DATA",
-    side: (17, 1),
-    record_len: 10,
-    size_field: 2,
-    ..FILE
-};
+const DATA: CbmEntry =
+    like!(CbmEntry, FILE, ty_byte: 0x84, name: *b"DATA\xa0\xa0\xa0\xa0\xa0\xa0\xa0\xa0\xa0\xa0\xa0\xa0", side: (17, 1), record_len: 10, size_field: 2);
 
-const LOST: Told<'static> = like!(Told, FILE, slot: 2, ty_byte: 2, start: (17, 2), name: b"LOST");
+const LOST: CbmEntry =
+    like!(CbmEntry, FILE, slot: 2, ty_byte: 2, start: (17, 2), name: *b"LOST\xa0\xa0\xa0\xa0\xa0\xa0\xa0\xa0\xa0\xa0\xa0\xa0");
 
-#[derive(Clone, Copy)]
-struct Case {
-    label: &'static str,
-    image: Sample<'static>,
-    /// The runs of its blocks.
-    blocks: &'static [(u16, u16)],
-    end: End,
-    /// How many entries there are.
-    count: usize,
-    /// Places in the list of entries, and what stands there.
-    entries: &'static [(usize, Told<'static>)],
-}
+const LAST: CbmEntry =
+    like!(CbmEntry, FILE, slot: 5_463, ty_byte: 0x80, start: (0, 0), name: [0; 16]);
 
-const USED: Case = Case {
-    label: "used entries are told by slot",
-    image: MIXED,
-    blocks: &[(358, 1)],
-    end: End::Last(255),
-    count: 3,
-    entries: &[(0, DATA), (2, LOST)],
-};
+/// A directory that goes on in another block.
+const LONG: Sample =
+    like!(Sample, FORMATTED, entries: &[(358, 7, PROGRAM), (361, 0, PROGRAM)], blocks: &[(358, &[18, 4]), (361, &[0, 255])]);
 
-const CASES: &[Case] = &[
-    USED,
-    Case {
-        label: "slots go on in the next block",
-        image: Sample {
-            entries: &[(358, 7, PROGRAM), (361, 0, PROGRAM)],
-            blocks: &[(358, &[18, 4]), (361, &[0, 255])],
-            ..FORMATTED
-        },
-        blocks: &[(358, 1), (361, 1)],
-        end: End::Last(255),
-        count: 2,
-        entries: &[(0, Told { slot: 7, ..FILE }), (1, Told { slot: 8, ..FILE })],
-    },
-    Case {
-        label: "the link of 18/0 is not followed",
-        image: like!(Sample, MIXED, blocks: &[(357, &[17, 5])]),
-        ..USED
-    },
-    Case {
-        label: "a directory that loops",
-        image: like!(Sample, FORMATTED, blocks: &[(358, &[18, 1])]),
-        blocks: &[(358, 1)],
-        end: End::Loop,
-        count: 0,
-        entries: &[],
-    },
-    Case {
-        label: "an image of 00",
-        image: like!(Sample, FORMATTED, base: Base::Repeated(0)),
-        blocks: &[(358, 1)],
-        end: End::Last(0),
-        count: 0,
-        entries: &[],
-    },
-    Case {
-        label: "an image of 01",
-        image: like!(Sample, FORMATTED, base: Base::Repeated(1)),
-        blocks: &[(358, 1), (1, 1)],
-        end: End::Loop,
-        count: 16,
-        entries: &[],
-    },
-    Case {
-        label: "an image of FF",
-        image: like!(Sample, FORMATTED, base: Base::Repeated(0xff)),
-        blocks: &[(358, 1)],
-        end: End::Off,
-        count: 8,
-        entries: &[],
-    },
-    Case {
-        label: "a directory of all blocks",
-        image: like!(Sample, FORMATTED, base: Base::Circle([0x80, 0, 0])),
-        blocks: &[(358, 325), (0, 358)],
-        end: End::Loop,
-        count: 5_464,
-        entries: &[(
-            5_463,
-            like!(Told, FILE, slot: 5_463, ty_byte: 0x80, start: (0, 0), name: &[0; 16]),
-        )],
-    },
+/// A disk whose block 18/0 links to a file's.
+const LINKED: Sample = like!(Sample, MIXED, blocks: &[(357, &[17, 5])]);
+
+const CASES: &[Case] = table![
+    ("used entries are told by slot", MIXED, Wanted::Directory(&[(358, 1)], End::Last(255), 3));
+    ("used entries are told by slot: the first", MIXED, Wanted::CbmEntry(0, DATA));
+    ("used entries are told by slot: the last", MIXED, Wanted::CbmEntry(2, LOST));
+    ("slots go on in the next block", LONG, Wanted::Directory(&[(358, 1), (361, 1)], End::Last(255), 2));
+    ("slots go on in the next block: the first", LONG, Wanted::CbmEntry(0, like!(CbmEntry, FILE, slot: 7)));
+    ("slots go on in the next block: the last", LONG, Wanted::CbmEntry(1, like!(CbmEntry, FILE, slot: 8)));
+    ("the link of 18/0 is not followed", LINKED, Wanted::Directory(&[(358, 1)], End::Last(255), 3));
+    ("the link of 18/0 is not followed: the first", LINKED, Wanted::CbmEntry(0, DATA));
+    ("the link of 18/0 is not followed: the last", LINKED, Wanted::CbmEntry(2, LOST));
+    ("a directory that loops", NO_END, Wanted::Directory(&[(358, 1)], End::Loop, 0));
+    ("an image of 00", CBM_00, Wanted::Directory(&[(358, 1)], End::Last(0), 0));
+    ("an image of 01", CBM_01, Wanted::Directory(&[(358, 1), (1, 1)], End::Loop, 16));
+    ("an image of FF", CBM_FF, Wanted::Directory(&[(358, 1)], End::Off, 8));
+    ("a directory of all blocks", ALL_DELETED, Wanted::Directory(&[(358, 325), (0, 358)], End::Loop, 5_464));
+    ("a directory of all blocks: the last entry", ALL_DELETED, Wanted::CbmEntry(5_463, LAST));
 ];
 
-/// An entry is told so.
-fn assert_told<R: Abort>(rt: &R, label: &str, entry: &CbmEntry, told: &Told<'_>) {
-    let wanted = CbmEntry {
-        slot: told.slot,
-        ty_byte: told.ty_byte,
-        start: told.start,
-        name: padded::<16>(told.name, 0xa0),
-        side: told.side,
-        record_len: told.record_len,
-        size_field: told.size_field,
+/// Whether the directory has these blocks, this end and so many entries.
+pub(super) fn is_directory(
+    alloc: Global,
+    image: &Image<'_>,
+    blocks: Runs,
+    end: End,
+    count: usize,
+) -> Result<bool, NoMemory> {
+    let Some(disk) = CbmDisk::of(image) else {
+        return Ok(false);
     };
-    assert_eq!(rt; *entry, wanted, "{label}");
+    let found = directory(alloc, &disk)?;
+    let blocks = units_of(alloc, blocks)?;
+    let is_so = found.end == end && found.entries.as_slice().len() == count;
+    Ok(is_so && found.blocks.as_slice() == blocks.as_slice())
 }
 
-/// A directory is told so.
-fn assert_directory<R: Abort + AllocGlobal>(rt: &R, case: &Case) -> Result<(), Fail> {
-    let bytes = image_of(rt.alloc(), &case.image)?;
-    let disk = cbm_disk(bytes.as_slice())?;
-    let found = directory(rt.alloc(), &disk).ok().ok_or(case.label)?;
-    let blocks = units_of(rt.alloc(), case.blocks)?;
-    assert_eq!(rt;
-        (
-            found.blocks.as_slice(),
-            found.end,
-            found.entries.as_slice().len()
-        ),
-        (blocks.as_slice(), case.end, case.count),
-        "{}",
-        case.label
-    );
-    for (place, told) in case.entries {
-        let entry = found.entries.as_slice().get(*place).ok_or(case.label)?;
-        assert_told(rt, case.label, entry, told);
-    }
-    Ok(())
-}
-
-/// All these directories are told so.
-fn assert_all<R: Abort + AllocGlobal>(rt: &R, cases: &[Case]) -> Result<(), Fail> {
-    for case in cases {
-        assert_directory(rt, case)?;
-    }
-    Ok(())
+/// Whether the directory has this entry at a place among its entries.
+pub(super) fn has_entry(
+    alloc: Global,
+    image: &Image<'_>,
+    place: usize,
+    entry: &CbmEntry,
+) -> Result<bool, NoMemory> {
+    let Some(disk) = CbmDisk::of(image) else {
+        return Ok(false);
+    };
+    let found = directory(alloc, &disk)?;
+    Ok(found.entries.as_slice().get(place) == Some(entry))
 }
 
 #[test]
-fn directories_are_told(rt: HostRuntime) -> Result<(), Fail> {
-    assert_all(&rt, CASES)
+fn directories_are_told(rt: HostRuntime) {
+    assert_cases(&rt, rt.alloc(), CASES);
 }

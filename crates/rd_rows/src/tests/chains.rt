@@ -1,173 +1,77 @@
 //! Where the blocks of a 1541 disk lead, and the chains of them.
 
-use super::cbm_disk;
-use super::sample::{FORMATTED, FULL, LOOPED, ONE_PROGRAM, Sample, image_of, units_of};
+use super::cases::{Case, Wanted, assert_cases};
+use super::sample::{FORMATTED, FULL, LOOPED, ONE_PROGRAM, Runs, Sample, units_of};
 use rd_cbm::{End, Link, chain, link};
-use rd_geometry::CbmDisk;
-use std::process::Abort;
-use std::test::Fail;
+use rd_geometry::{CbmDisk, Image, NoMemory};
+use std::alloc::Global;
 
 /// A disk with links of each kind.
-const LINKED: Sample<'static> = Sample {
-    blocks: &[
-        (0, &[36, 0]),
-        (1, &[17, 21]),
-        (2, &[35, 16]),
-        (3, &[0, 255]),
-    ],
-    ..ONE_PROGRAM
-};
+const LINKED: Sample =
+    like!(Sample, ONE_PROGRAM, blocks: &[(0, &[36, 0]), (1, &[17, 21]), (2, &[35, 16]), (3, &[0, 255])]);
 
-/// Blocks of that disk, and where each leads.
-const LINKS: &[(u16, Link)] = &[
-    (0, Link::Off),
-    (1, Link::Off),
-    (2, Link::Next(682)),
-    (3, Link::Last(255)),
-    (4, Link::Last(0)),
-    (336, Link::Next(346)),
-    (346, Link::Last(5)),
+/// Links are the first two bytes of a block.
+const LINKS: &[Case] = table![
+    ("a link to 36/0", LINKED, Wanted::Link(0, Link::Off));
+    ("a link to 17/21", LINKED, Wanted::Link(1, Link::Off));
+    ("a link to 35/16", LINKED, Wanted::Link(2, Link::Next(682)));
+    ("a link to 0/255", LINKED, Wanted::Link(3, Link::Last(255)));
+    ("a link to 0/0", LINKED, Wanted::Link(4, Link::Last(0)));
+    ("a link to 17/10", LINKED, Wanted::Link(336, Link::Next(346)));
+    ("a link to 0/5", LINKED, Wanted::Link(346, Link::Last(5)));
 ];
 
-/// These blocks of a disk lead there.
-fn assert_links(rt: &impl Abort, disk: &CbmDisk<'_>, cases: &[(u16, Link)]) {
-    for (block, leads) in cases {
-        assert!(rt; *block < 683);
-        assert_eq!(rt; link(disk, *block), *leads, "of block {block}");
+/// Whether a block of a 1541 disk leads there.
+pub(super) fn leads(image: &Image<'_>, block: u16, leads: Link) -> bool {
+    match CbmDisk::of(image) {
+        Some(disk) => block < 683 && link(&disk, block) == leads,
+        None => false,
     }
 }
 
 #[test]
-fn links_are_the_first_two_bytes_of_a_block(rt: HostRuntime) -> Result<(), Fail> {
-    let bytes = image_of(rt.alloc(), &LINKED)?;
-    assert_links(&rt, &cbm_disk(bytes.as_slice())?, LINKS);
-    Ok(())
-}
-
-/// A chain from a track and a sector.
-#[derive(Clone, Copy)]
-struct Case {
-    label: &'static str,
-    image: Sample<'static>,
-    start: (u8, u8),
-    /// The runs of its blocks.
-    blocks: &'static [(u16, u16)],
-    end: End,
+fn blocks_lead_where_their_links_tell(rt: HostRuntime) {
+    assert_cases(&rt, rt.alloc(), LINKS);
 }
 
 /// The chain from 17/0 of a disk with one program.
-const PROGRAM_CHAIN: Case = Case {
-    label: "a chain ends at track 0",
-    image: ONE_PROGRAM,
-    start: (17, 0),
-    blocks: &[(336, 1), (346, 1)],
-    end: End::Last(5),
-};
+pub(super) const PROGRAM_CHAIN: Case = (
+    "a chain ends at track 0",
+    ONE_PROGRAM,
+    Wanted::Chain((17, 0), &[(336, 1), (346, 1)], End::Last(5)),
+);
 
-/// A start that is no block.
-const NOWHERE: Case = Case {
-    label: "a chain from 36/0",
-    image: FORMATTED,
-    start: (36, 0),
-    blocks: &[],
-    end: End::Off,
-};
-
-const ENDING: &[Case] = &[
-    PROGRAM_CHAIN,
-    Case {
-        label: "a last block without bytes",
-        image: like!(Sample, ONE_PROGRAM, blocks: &[(346, &[0, 1])]),
-        end: End::Last(1),
-        ..PROGRAM_CHAIN
-    },
-    Case {
-        label: "a loop that does not come back to the start",
-        image: LOOPED,
-        blocks: &[(336, 3)],
-        end: End::Loop,
-        ..PROGRAM_CHAIN
-    },
-    Case {
-        label: "a loop of one block",
-        image: like!(Sample, LOOPED, blocks: &[(336, &[17, 0])]),
-        blocks: &[(336, 1)],
-        end: End::Loop,
-        ..PROGRAM_CHAIN
-    },
-    NOWHERE,
-    like!(Case, NOWHERE, label: "a chain from 0/0", start: (0, 0)),
-    like!(Case, NOWHERE, label: "a chain from 17/21", start: (17, 21)),
-    Case {
-        label: "a chain that leaves the disk",
-        image: like!(Sample, FORMATTED, blocks: &[(336, &[17, 5]), (341, &[18, 19])]),
-        start: (17, 0),
-        blocks: &[(336, 1), (341, 1)],
-        ..NOWHERE
-    },
+const ENDING: &[Case] = table![
+    PROGRAM_CHAIN;
+    ("a last block without bytes", like!(Sample, ONE_PROGRAM, blocks: &[(346, &[0, 1])]), Wanted::Chain((17, 0), &[(336, 1), (346, 1)], End::Last(1)));
+    ("a loop that does not come back to the start", LOOPED, Wanted::Chain((17, 0), &[(336, 3)], End::Loop));
+    ("a loop of one block", like!(Sample, LOOPED, blocks: &[(336, &[17, 0])]), Wanted::Chain((17, 0), &[(336, 1)], End::Loop));
+    ("a chain from 36/0", FORMATTED, Wanted::Chain((36, 0), &[], End::Off));
+    ("a chain from 0/0", FORMATTED, Wanted::Chain((0, 0), &[], End::Off));
+    ("a chain from 17/21", FORMATTED, Wanted::Chain((17, 21), &[], End::Off));
+    ("a chain that leaves the disk", like!(Sample, FORMATTED, blocks: &[(336, &[17, 5]), (341, &[18, 19])]), Wanted::Chain((17, 0), &[(336, 1), (341, 1)], End::Off));
+    ("a chain of all blocks but two", FULL, Wanted::Chain((1, 0), &[(0, 357), (359, 324)], End::Last(255)));
+    ("a chain of all blocks ends", like!(Sample, FULL, blocks: &[(356, &[18, 0]), (357, &[18, 1]), (358, &[18, 2])]), Wanted::Chain((1, 0), &[(0, 683)], End::Last(255)));
+    ("a chain of all blocks loops", like!(Sample, FULL, blocks: &[(356, &[18, 0]), (357, &[18, 1]), (358, &[18, 2]), (682, &[17, 5])]), Wanted::Chain((1, 0), &[(0, 683)], End::Loop));
 ];
 
-const ALL_BLOCKS: &[Case] = &[
-    Case {
-        label: "a chain of all blocks but two",
-        image: FULL,
-        start: (1, 0),
-        blocks: &[(0, 357), (359, 324)],
-        end: End::Last(255),
-    },
-    Case {
-        label: "a chain of all blocks ends",
-        image: like!(Sample, FULL, blocks: &[(356, &[18, 0]), (357, &[18, 1]), (358, &[18, 2])]),
-        start: (1, 0),
-        blocks: &[(0, 683)],
-        end: End::Last(255),
-    },
-    Case {
-        label: "a chain of all blocks loops",
-        image: Sample {
-            blocks: &[
-                (356, &[18, 0]),
-                (357, &[18, 1]),
-                (358, &[18, 2]),
-                (682, &[17, 5]),
-            ],
-            ..FULL
-        },
-        start: (1, 0),
-        blocks: &[(0, 683)],
-        end: End::Loop,
-    },
-];
-
-/// A chain has these blocks and this end.
-fn assert_chain<R: Abort + AllocGlobal>(rt: &R, case: &Case) -> Result<(), Fail> {
-    let bytes = image_of(rt.alloc(), &case.image)?;
-    let disk = cbm_disk(bytes.as_slice())?;
-    let found = chain(rt.alloc(), &disk, case.start).ok().ok_or(case.label)?;
-    let blocks = units_of(rt.alloc(), case.blocks)?;
-    assert_eq!(rt;
-        (found.blocks.as_slice(), found.end),
-        (blocks.as_slice(), case.end),
-        "{}",
-        case.label
-    );
-    Ok(())
-}
-
-/// All these chains are told so.
-fn assert_all<R: Abort + AllocGlobal>(rt: &R, cases: &[Case]) -> Result<(), Fail> {
-    for case in cases {
-        assert_chain(rt, case)?;
-    }
-    Ok(())
+/// Whether the chain from a track and a sector has these blocks and this end.
+pub(super) fn is_chain(
+    alloc: Global,
+    image: &Image<'_>,
+    start: (u8, u8),
+    blocks: Runs,
+    end: End,
+) -> Result<bool, NoMemory> {
+    let Some(disk) = CbmDisk::of(image) else {
+        return Ok(false);
+    };
+    let found = chain(alloc, &disk, start)?;
+    let blocks = units_of(alloc, blocks)?;
+    Ok(found.end == end && found.blocks.as_slice() == blocks.as_slice())
 }
 
 #[test]
-fn chains_end_or_leave_the_disk_or_loop(rt: HostRuntime) -> Result<(), Fail> {
-    assert_all(&rt, ENDING)
-}
-
-#[test]
-fn a_chain_may_have_all_blocks(rt: HostRuntime) -> Result<(), Fail> {
-    assert_all(&rt, ALL_BLOCKS)
+fn chains_end_or_leave_the_disk_or_loop(rt: HostRuntime) {
+    assert_cases(&rt, rt.alloc(), ENDING);
 }

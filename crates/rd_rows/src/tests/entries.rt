@@ -1,21 +1,18 @@
 //! What the readers of a CP/M entry give.
 
-ghost use Rattle.std.specs.Prelude.{◌<◌};
-
-use super::cpm_disk;
-use crate::cpm::{FILE, NewEntry, blank, put_entry};
+use super::cases::{Case, Wanted, assert_cases};
+use super::sample::{BLANK, Base, Sample};
+use crate::cpm::{FILE, NewEntry};
 use rd_cpm::entry;
-use rd_geometry::CpmDisk;
-use std::process::Abort;
-use std::test::Fail;
+use rd_geometry::{CpmDisk, Image};
 
 /// What the readers of an entry have to give.
-#[derive(Clone, Copy, Debug, PartialEq)]
-struct Fields {
+#[derive(Clone, Copy)]
+pub(super) struct Fields {
     first: u8,
     name: [u8; 11],
     /// EX, S1, S2 and RC.
-    bytes: (u8, u8, u8, u8),
+    bytes: [u8; 4],
     pointers: [u8; 16],
     is_file: bool,
     number: u16,
@@ -25,22 +22,21 @@ struct Fields {
 const FIELDS: Fields = Fields {
     first: 0,
     name: *b"FILE       ",
-    bytes: (0, 0, 0, 0),
+    bytes: [0; 4],
     pointers: [0; 16],
     is_file: true,
     number: 0,
 };
 
-#[derive(Clone, Copy)]
-struct Case {
-    label: &'static str,
-    /// What is written into a blank disk, and at which slot.
-    entry: NewEntry<'static>,
-    at: u8,
-    /// The slot that is read.
-    slot: u8,
-    fields: Fields,
-}
+/// What they give of a free entry.
+const FREE: Fields = Fields {
+    first: 0xe5,
+    name: [0xe5; 11],
+    bytes: [0xe5; 4],
+    pointers: [0xe5; 16],
+    is_file: false,
+    number: 1_189,
+};
 
 /// An entry of all fields.
 const LONG: NewEntry<'static> = NewEntry {
@@ -53,94 +49,46 @@ const LONG: NewEntry<'static> = NewEntry {
     pointers: b"\x02\x03\x04",
 };
 
-const CASES: &[Case] = &[
-    Case {
-        label: "readers give the fields",
-        entry: LONG,
-        at: 63,
-        slot: 63,
-        fields: Fields {
-            first: 15,
-            name: *b"LONGNAMETYP",
-            bytes: (0x21, 0, 0xc1, 77),
-            pointers: [2, 3, 4, 0, 0, 0, 0, 0, 0, 0, 0, 0, 0, 0, 0, 0],
-            is_file: true,
-            number: 33,
-        },
-    },
-    Case {
-        label: "the slot before is free",
-        entry: LONG,
-        at: 63,
-        slot: 62,
-        fields: Fields {
-            first: 0xe5,
-            name: [0xe5; 11],
-            bytes: (0xe5, 0xe5, 0xe5, 0xe5),
-            pointers: [0xe5; 16],
-            is_file: false,
-            number: 1_189,
-        },
-    },
-    Case {
-        label: "extent 31",
-        entry: NewEntry { ex: 0x1f, ..FILE },
-        at: 0,
-        slot: 0,
-        fields: like!(Fields, FIELDS, bytes: (0x1f, 0, 0, 0), number: 31),
-    },
-    Case {
-        label: "extent 32",
-        entry: NewEntry { s2: 1, ..FILE },
-        at: 0,
-        slot: 0,
-        fields: like!(Fields, FIELDS, bytes: (0, 0, 1, 0), number: 32),
-    },
-    Case {
-        label: "extent 33, with high bits",
-        entry: like!(NewEntry, FILE, ex: 0x21, s2: 0xc1),
-        at: 0,
-        slot: 0,
-        fields: like!(Fields, FIELDS, bytes: (0x21, 0, 0xc1, 0), number: 33),
-    },
-    Case {
-        label: "extent 2,047",
-        entry: like!(NewEntry, FILE, ex: 0xff, s2: 0xff),
-        at: 0,
-        slot: 0,
-        fields: like!(Fields, FIELDS, bytes: (0xff, 0, 0xff, 0), number: 2_047),
-    },
+/// What they give of it.
+const LONG_FIELDS: Fields = Fields {
+    first: 15,
+    name: *b"LONGNAMETYP",
+    bytes: [0x21, 0, 0xc1, 77],
+    pointers: [2, 3, 4, 0, 0, 0, 0, 0, 0, 0, 0, 0, 0, 0, 0, 0],
+    is_file: true,
+    number: 33,
+};
+
+/// A blank disk with that entry in the last slot.
+const AT_63: Sample = like!(Sample, BLANK, base: Base::WithEntry(63, LONG));
+
+const CASES: &[Case] = table![
+    ("readers give the fields", AT_63, Wanted::Entry(63, LONG_FIELDS));
+    ("the slot before is free", AT_63, Wanted::Entry(62, FREE));
+    ("extent 31", with!(like!(NewEntry, FILE, ex: 0x1f)), Wanted::Entry(0, like!(Fields, FIELDS, bytes: [0x1f, 0, 0, 0], number: 31)));
+    ("extent 32", with!(like!(NewEntry, FILE, s2: 1)), Wanted::Entry(0, like!(Fields, FIELDS, bytes: [0, 0, 1, 0], number: 32)));
+    ("extent 33, with high bits", with!(like!(NewEntry, FILE, ex: 0x21, s2: 0xc1)), Wanted::Entry(0, like!(Fields, FIELDS, bytes: [0x21, 0, 0xc1, 0], number: 33)));
+    ("extent 2,047", with!(like!(NewEntry, FILE, ex: 0xff, s2: 0xff)), Wanted::Entry(0, like!(Fields, FIELDS, bytes: [0xff, 0, 0xff, 0], number: 2_047)));
 ];
 
-/// What the readers give of the entry at a slot.
-fn fields_of(disk: &CpmDisk<'_>, slot: u8) -> Fields
-    requires { slot < 64 }
-{
-    let own = entry(disk, slot);
-    Fields {
-        first: own.first(),
-        name: own.name(),
-        bytes: (own.ex(), own.s1(), own.s2(), own.rc()),
-        pointers: own.pointers(),
-        is_file: own.is_file(),
-        number: own.extent_number(),
+/// Whether the readers of the entry at a slot give these fields.
+pub(super) fn is_entry(image: &Image<'_>, slot: u8, fields: &Fields) -> bool {
+    let Some(disk) = CpmDisk::of(image) else {
+        return false;
+    };
+    if slot >= 64 {
+        return false;
     }
-}
-
-/// The readers give what was written.
-fn assert_fields<R: Abort + AllocGlobal>(rt: &R, case: &Case) -> Result<(), Fail> {
-    assert!(rt; case.at < 64 && case.slot < 64, "{}", case.label);
-    let mut bytes = blank(rt.alloc())?;
-    put_entry(&mut bytes, case.at, &case.entry);
-    let disk = cpm_disk(bytes.as_slice())?;
-    assert_eq!(rt; fields_of(&disk, case.slot), case.fields, "{}", case.label);
-    Ok(())
+    let own = entry(&disk, slot);
+    own.first() == fields.first
+        && own.name() == fields.name
+        && [own.ex(), own.s1(), own.s2(), own.rc()] == fields.bytes
+        && own.pointers() == fields.pointers
+        && own.is_file() == fields.is_file
+        && own.extent_number() == fields.number
 }
 
 #[test]
-fn readers_give_the_fields(rt: HostRuntime) -> Result<(), Fail> {
-    for case in CASES {
-        assert_fields(&rt, case)?;
-    }
-    Ok(())
+fn readers_give_the_fields(rt: HostRuntime) {
+    assert_cases(&rt, rt.alloc(), CASES);
 }
