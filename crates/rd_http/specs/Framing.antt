@@ -13,24 +13,24 @@ number_told text =
     if nat_lt 0 (length text) && all_ascii_digits text && nat_le (digits_value 10 text) 262144
     then Some (digits_value 10 text) else None
 
--- the length that the values of Content-Length tell: 0 where there is none, and no length where there are two
+-- the length that the values of Content-Length tell: 0 where there is none, and no length where there are two or more
 abbrev pub length_told : List (List ℕ) → Option ℕ
 length_told [] = Some 0
 length_told (value ∷ []) = number_told value
 length_told (value ∷ other ∷ values) = None
 
--- The fields tell that the body is this many bytes, in no coding, and that the key is this one, if there is any:
+-- The fields tell that the body is this many bytes, in no transfer coding, and that the key is this one, if there is any:
 -- the value of Desk-Key, also where that is empty.
 pub record IsFramed (fields : List (List ℕ × List ℕ)) (size : ℕ) (key : Option (List ℕ)) : Type 0 where
   pub uncoded : values_named (codes "Transfer-Encoding") fields ≡ []
   pub sized : length_told (values_named (codes "Content-Length") fields) ≡ Some size
   pub keyed : values_named (codes "Desk-Key") fields ≡ option_to_list key
 
--- the fields tell no length and key
+-- there is no length and key that the fields tell
 abbrev pub IsMisframed : List (List ℕ × List ℕ) → Type 0
 IsMisframed fields = (size : ℕ) (key : Option (List ℕ)) → ¬ (IsFramed fields size key)
 
--- the head alone shows that no body can be told
+-- the head alone shows that the request is misframed
 abbrev pub IsHeadMisframed : RequestHead → Type 0
 IsHeadMisframed head = IsMisframed (fields_of head)
 

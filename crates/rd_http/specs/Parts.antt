@@ -14,19 +14,19 @@ abbrev pub is_number : ℕ → List ℕ → Bool
 is_number most text =
     nat_lt 0 (length text) && nat_le (length text) most && not (slice_index text 0 == 48) && list_all is_ascii_digit text
 
--- the number of such digits
+-- the number that such digits write
 abbrev pub number_of : ℕ → List ℕ → Option ℕ
 number_of most text = if is_number most text then Some (digits_value 10 text) else None
 
--- the number of an accession or a deed: up to six digits
+-- the number of an accession or a deed: such a number of up to six digits
 abbrev pub scope_of : List ℕ → Option ℕ
 scope_of text = number_of 6 text
 
--- the rank of a rule: up to four digits
+-- the rank of a rule: such a number of up to four digits
 abbrev pub rank_of : List ℕ → Option ℕ
 rank_of text = number_of 4 text
 
--- the slot of a file: 0, or up to four digits
+-- the slot of a file: 0, or such a number of up to four digits
 abbrev pub slot_of : List ℕ → Option ℕ
 slot_of text = if bytes_eq text (codes "0") then Some 0 else number_of 4 text
 

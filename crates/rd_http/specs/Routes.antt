@@ -61,7 +61,8 @@ route_with pattern.Badge first second third fourth = do
 abbrev pub route_of_match : Pattern × List (List ℕ) → Option Route
 route_of_match (pattern, parts) = route_with pattern (part_at parts 0) (part_at parts 1) (part_at parts 2) (part_at parts 3)
 
--- what a path names: a byte above 127 stands in no pattern and no part, so a path with one names nothing
+-- what a path names: a byte above 127 stands in no pattern, and in no part that is well written, so a path with one
+-- names nothing
 abbrev pub route_of_path : List ℕ → Option Route
 route_of_path path = if list_all is_ascii path then matched path >>= route_of_match else None
 

@@ -30,8 +30,8 @@ fault_bytes reason = reply_bytes (allow_line reason) (record { status = status_o
 
 -- ---- what is done
 
--- Memory was wanting before the desk was asked: nothing has changed, and this is told. Where there is no head,
--- or the head alone is at fault, no memory is taken.
+-- The desk is unavailable: nothing has changed, and this is told. The bytes begin with a head that tells of its
+-- body; where there is none, or the head alone is at fault, that is told instead.
 pub record IsWanting {State : Type 0} (stream : List ℕ) (old new : State) (text : List ℕ) : Type 0 where
   pub framed : HasFramedHead stream
   pub same : new ≡ old

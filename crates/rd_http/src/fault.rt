@@ -10,8 +10,8 @@ use crate::route::Methods;
 pub(crate) enum RequestFault {
     /// The first 8,192 bytes hold no head with at most 64 fields.
     BadHead,
-    /// The head does not tell the length of its body, or it is above 262,144, or the body is shorter; or
-    /// more than one desk key is shown.
+    /// The head names a transfer coding, or does not tell the length of its body, or tells one above 262,144;
+    /// the body is shorter; or more than one desk key is shown.
     Framing,
     /// The target is none that the desk has.
     NoRoute,

@@ -155,18 +155,7 @@ impl Route {
 }
 
 impl Methods {
-    ghost use Rattle.rd_http.specs.Routes.{allow_text, verb_of, verbs_of};
-
-    /// The methods, as a reply tells them.
-    pub(crate) fn text(self) -> &'static str
-        ensures { result.now ≡ allow_text self }
-    {
-        match self {
-            Methods::Get => "GET",
-            Methods::Put => "PUT",
-            Methods::PutOrDelete => "PUT, DELETE",
-        }
-    }
+    ghost use Rattle.rd_http.specs.Routes.{verb_of, verbs_of};
 
     /// Which they are.
     fn verbs(self) -> &'static [Verb]

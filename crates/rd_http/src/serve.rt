@@ -79,7 +79,7 @@ impl Served {
 
 /// Serves visits one after the other, as many as `count`, each at the moment at which its door admits it. A
 /// failed read or write ends its visit alone. A moment that has no day ends the run, and its visit does not
-/// count; so does a door that shuts. Each visit that was admitted leaves by the door.
+/// count; a door that shuts ends it too. Each visit that was admitted leaves by the door.
 pub fn serve_many<S: Alter, D: Door>(
     alloc: Global,
     door: &mut D,

@@ -28,8 +28,8 @@ pub trait Wire {
     /// Whether a write has failed.
     ghost put_failed: { Self → Bool };
 
-    /// Reads bytes into the front of a slice, and says how many they are, at most its length. None into a
-    /// slice that is not empty is the end.
+    /// Reads bytes into the front of a slice, and says how many they are, at most its length. No byte
+    /// into a slice that is not empty is the end.
     ///
     /// It fails with `Broken` where the connection fails; no read is made after that.
     fn take(&mut self, into: &mut [u8]) -> Result<usize, Broken>
