@@ -15,8 +15,9 @@ use Rattle.rd_policy.specs.declared.rule.Rule.{Rule}
 use Rattle.rd_policy.specs.declared.select.Select.{Select}
 use Rattle.rd_policy.specs.declared.select.Select.TheVariants.{All as AllFiles, Slot, Prefix, User, Kind}
 use Rattle.rd_policy.proofs.DateLemmas.{one_day}
+use Rattle.rd_desk.specs.Texts.{effect_word}
 use Rattle.rd_http.specs.Objects.{IsJson, text_at}
-use Rattle.rd_http.specs.RequestBodies.{HasAudiencesAt, HasDayAt, IsAt, IsDeedBody, IsKeyBody, IsRuleBody, NameAudiences, TellsDeed, TellsRule, effect_word, select_data, select_key, select_value}
+use Rattle.rd_http.specs.RequestBodies.{HasAudiencesAt, HasDayAt, IsAt, IsDeedBody, IsKeyBody, IsRuleBody, NameAudiences, TellsDeed, TellsRule, select_data, select_key, select_value}
 use Rattle.rd_http.proofs.Naming.{one_set, word_same}
 use Rattle.rd_http.proofs.Values.{items_of_same, one_member_same}
 

@@ -26,45 +26,11 @@ is_array (string s) items e = absurd (cc)
 is_array (array others) items e = cc
 is_array (object ms) items e = absurd (cc)
 
-pub is_string : (value : Data) (text : List ℕ) → Some text ≡ as_str value → value ≡ string text
-is_string null text e = absurd (cc)
-is_string (boolean b) text e = absurd (cc)
-is_string (number n) text e = absurd (cc)
-is_string (string other) text e = cc
-is_string (array items) text e = absurd (cc)
-is_string (object ms) text e = absurd (cc)
-
-pub is_boolean : (value : Data) (b : Bool) → Some b ≡ as_bool value → value ≡ boolean b
-is_boolean null b e = absurd (cc)
-is_boolean (boolean other) b e = cc
-is_boolean (number n) b e = absurd (cc)
-is_boolean (string s) b e = absurd (cc)
-is_boolean (array items) b e = absurd (cc)
-is_boolean (object ms) b e = absurd (cc)
-
-pub is_null : (value : Data) → is_some (as_null value) ≡ true → value ≡ null
-is_null null e = refl
-is_null (boolean b) e = absurd (cc)
-is_null (number n) e = absurd (cc)
-is_null (string s) e = absurd (cc)
-is_null (array items) e = absurd (cc)
-is_null (object ms) e = absurd (cc)
-
 -- one entry at the place 0 of a list of one is the list
 pub one_entry : (entries : List Entry) (entry : Entry) → length entries ≡ 1 → slice_get entries 0 ≡ Some entry → entries ≡ entry ∷ []
 one_entry [] entry one at = absurd (omega arith)
 one_entry (first ∷ []) entry one at = cc
 one_entry (first ∷ second ∷ entries) entry one at = absurd (omega arith)
-
-pub is_whole : (value : Data) (n : ℕ) → Some n ≡ option_and_then as_u64 (as_number value) → value ≡ number (unsigned n)
-is_whole null n e = absurd (cc)
-is_whole (boolean b) n e = absurd (cc)
-is_whole (number (unsigned m)) n e = cc
-is_whole (number (negative z)) n e = absurd (cc)
-is_whole (number (float x)) n e = absurd (cc)
-is_whole (string s) n e = absurd (cc)
-is_whole (array items) n e = absurd (cc)
-is_whole (object ms) n e = absurd (cc)
 
 -- an array has one list of items
 pub items_of_same : (xs ys : List Data) → items_of xs ≡ items_of ys → xs ≡ ys

@@ -11,11 +11,10 @@ use Rattle.rd_policy.specs.declared.audience.Audience.{Audience}
 use Rattle.rd_policy.specs.declared.audience.Audience.TheVariants.{Public, Room, Staff}
 use Rattle.rd_policy.specs.declared.audience.Audiences.{Audiences}
 use Rattle.rd_policy.specs.declared.rule.Band.{Band}
-use Rattle.rd_policy.specs.declared.rule.Effect.{Effect}
-use Rattle.rd_policy.specs.declared.rule.Effect.TheVariants as effect
 use Rattle.rd_policy.specs.declared.rule.Rule.{Rule}
 use Rattle.rd_policy.specs.declared.select.Select.{Select}
 use Rattle.rd_policy.specs.declared.select.Select.TheVariants.{All as AllFiles, Slot, Prefix, User, Kind}
+use Rattle.rd_desk.specs.Texts.{effect_word}
 use Rattle.rd_http.specs.Objects.{HasOnlyKeys, IsJson, one_member, text_at}
 
 -- ---- deeds
@@ -89,7 +88,7 @@ abbrev pub HasDayAt : List ℕ → Data → Option ℤ → Type 0
 HasDayAt key value None = (get key value ≡ None) ⊎ (get key value ≡ Some null)
 HasDayAt key value (Some day) = (date : List ℕ) × (text_at key value ≡ Some date) × IsDateOf day date
 
--- ---- of which files, and to what effect
+-- ---- of which files
 
 abbrev pub select_key : Select → List ℕ
 select_key AllFiles = codes "all"
@@ -110,11 +109,6 @@ select_value (Kind text) = string text
 -- a selector, as {"all":true}, {"slot":3}, {"prefix":"HE"}, {"user":0} or {"type":"PRG"}
 abbrev pub select_data : Select → Data
 select_data select = one_member (select_key select) (select_value select)
-
-abbrev pub effect_word : Effect → List ℕ
-effect_word effect.Deny = codes "deny"
-effect_word effect.List = codes "list"
-effect_word effect.Read = codes "read"
 
 -- ---- rules
 

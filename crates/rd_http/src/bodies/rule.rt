@@ -1,8 +1,9 @@
 ghost use Rattle.std.specs.Prelude.{◌≡◌, ◌≢◌, Some, IfNone, IfOk, IfSome, codes};
 ghost use Rattle.serde_json.specs.View.{view};
 ghost use Rattle.rd_policy.specs.declared.rule.Effect.{Effect};
+ghost use Rattle.rd_desk.specs.Texts.{effect_word};
 ghost use Rattle.rd_http.specs.Objects.{text_at};
-ghost use Rattle.rd_http.specs.RequestBodies.{IsAt, IsNoRuleBody, IsRuleBody, TellsNoRule, TellsRule, effect_word};
+ghost use Rattle.rd_http.specs.RequestBodies.{IsAt, IsNoRuleBody, IsRuleBody, TellsNoRule, TellsRule};
 
 use crate::bodies::audiences::audiences_at;
 use crate::bodies::dates::day_at;
