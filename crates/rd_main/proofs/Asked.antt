@@ -1,27 +1,23 @@
 -- What the getters of `clap` read of the operands of a command.
-use Rattle.std.proofs.Common.{◌≡◌, ◌≢◌, ◌∙◌, ◌⊎◌, ℕ, List, [], Ok, Err, OnOk, Option, Some, None, Result, option_map, IfSome, IfNone, IfOk, IfErr, sym, ap, subst, true, inl, inr, codes, arith, refl, slice_index}
+use Rattle.std.proofs.Common.{◌≡◌, ◌≢◌, ◌∙◌, ◌⊎◌, ℕ, ℤ, List, [], Ok, Err, OnOk, Option, Some, None, Result, option_map, IfSome, IfNone, IfOk, IfErr, sym, ap, subst, true, inl, inr, refl}
 use Rattle.std.specs.Prelude.{IsSomeAnd, ok_or}
 use Rattle.std.specs.Str.Parse.{ExplainsUnsignedError, HasUnsignedDigitsIfOk, ParsesUnsigned}
 use Rattle.std.specs.declared.num.ParseIntError.{ParseIntError}
-use Rattle.clap.specs.Words.{App, HasKind, HasMatchesOf, Row, Text, fault_of, first_of, first_value, is_simple, is_simple_and_free, rows_of, subcommand_of, subcommand_name_of, subcommand_rows_of, takes}
+use Rattle.clap.specs.Words.{App, HasKind, HasMatchesOf, Row, Text, fault_of, first_of, first_value, is_simple, is_simple_and_free, rows_of, subcommand_of, subcommand_rows_of, takes}
 use Rattle.clap.specs.Values.{kind_of}
 use Rattle.clap.specs.declared.error.Error.{Error}
 use Rattle.clap.specs.declared.error.kind.ErrorKind.TheVariants.{OutOfMemory}
 use Rattle.clap.specs.declared.parser.matches.ArgMatches.{ArgMatches}
 use Rattle.clap.specs.Matches.{ReadsOne}
-use Rattle.clap.specs.declared.parser.matches.ArgMatches.TheViews.{out-ArgMatches, out-SubCommand}
-use Rattle.clap.specs.declared.parser.matches.SubCommand.{SubCommand}
-use Rattle.clap.specs.Simple.{subcommand_rows}
-use Rattle.std.specs.Box.{box_value}
-use Rattle.std.specs.Prelude.{Box}
-use Rattle.std.specs.declared.alloc.Global.{Global}
 use Rattle.clap.specs.declared.parser.matches.Found.{Found}
 use Rattle.clap.proofs.WalkLemmas.{first_value-rows}
 use Rattle.rd_geometry.specs.declared.kind.Kind.{Kind}
 use Rattle.rd_geometry.specs.Kinds.{word_of}
-use Rattle.rd_main.specs.Asks.{EntersCat, EntersList, IsFaultOf, IsFileAsk, IsFilesAsk, IsHelp}
+use Rattle.clap.specs.declared.error.kind.ErrorKind.{ErrorKind}
+use Rattle.rd_main.specs.Asks.{EntersCat, EntersInit, EntersList, EntersServe, HasOffset, IsFaultOf, IsFileAsk, IsFilesAsk, IsHelp, IsInitAsk, IsServeAsk}
 use Rattle.rd_main.specs.CommandLine.{AsksForHelp, HasFault, IsDeskApp, IsTaken, NameList, desk_app}
-use Rattle.rd_main.specs.Words.{AsksCat, AsksList, IsCommand, IsSlotText}
+use Rattle.rd_main.specs.Commands.{AsksInit, AsksServe, IsAskOf, IsCommand}
+use Rattle.rd_main.specs.Words.{AsksCat, AsksList, IsSlotText}
 use Rattle.rd_main.specs.declared.words.Ask.{Ask}
 use Rattle.rd_main.specs.declared.words.Unread.{Unread}
 use Rattle.rd_main.specs.declared.words.Unread.TheVariants.{NoMemory, Told, Usage}
@@ -43,14 +39,19 @@ pub kind_is : (r : Option Kind) (word : Text) (kind : Kind) → IfSome r (λ k. 
 kind_is (Some k) word kind found none is = ap Some (same_kind k kind (sym found ∙ is))
 kind_is None word kind found none is = absurd (none kind is)
 
--- how `parse` reads a `u16`
-abbrev pub Reads : Text → Result ℕ ParseIntError → Type 0
-Reads text r = ParsesUnsigned 16 10 text r × ExplainsUnsignedError 10 text r × HasUnsignedDigitsIfOk text r
+-- how `parse` reads an unsigned number of so many bits
+abbrev pub ReadsAs : ℕ → Text → Result ℕ ParseIntError → Type 0
+ReadsAs bits text r = ParsesUnsigned bits 10 text r × ExplainsUnsignedError 10 text r × HasUnsignedDigitsIfOk text r
+
+-- the text of a number reads as the number
+pub number_is : (bits : ℕ) (text : Text) (number : ℕ) (r : Option ℕ) → ReadsOne (ReadsAs bits) text r → ParsesUnsigned {E = ParseIntError} bits 10 text (Ok number)
+    → r ≡ Some number
+number_is bits text number (Some n) read parses = ap Some (read.0.1 ∙ sym parses.1)
+number_is bits text number None read parses = absurd (read.1.0 parses.0)
 
 -- a slot's text reads as the slot
-pub slot_is : (text : Text) (slot : ℕ) (r : Option ℕ) → ReadsOne Reads text r → IsSlotText text slot → r ≡ Some slot
-slot_is text slot (Some n) read number = ap Some (read.0.1 ∙ sym number.reads.1)
-slot_is text slot None read number = absurd (read.1.0 number.reads.0)
+pub slot_is : (text : Text) (slot : ℕ) (r : Option ℕ) → ReadsOne (ReadsAs 16) text r → IsSlotText text slot → r ≡ Some slot
+slot_is text slot r read number = number_is 16 text slot r read number.reads
 
 -- the words that a parse of the program's command line was given went into a command
 entered_is : (app : App) (words : List Text) (m : ArgMatches) → IsDeskApp app → HasMatchesOf app words m → subcommand_of app words ≡ subcommand_rows_of m
@@ -60,26 +61,37 @@ entered_is app words m desk matches = sym (matches (ap is_simple desk.is ∙ sim
 pub record GivesAsk (words : List Text) (o : Option Ask) : Type 0 where
   pub file : (kind : Kind) (image : Text) (slot : ℕ) → AsksCat words kind image slot → IsSomeAnd o (IsFileAsk kind image slot)
   pub files : (kind : Kind) (image : Text) → AsksList words kind image → IsSomeAnd o (IsFilesAsk kind image)
+  pub init : (store key : Text) → AsksInit words store key → IsSomeAnd o (IsInitAsk store key)
+  pub serve : (store : Text) (port count : ℕ) (minutes : ℤ) → AsksServe words store port count minutes → IsSomeAnd o (IsServeAsk store port count minutes)
+
+-- What the rows of the command that a parse went into ask for is found.
+pub record GivesRows (entered : Option (Text × List Row)) (o : Option Ask) : Type 0 where
+  pub file : (kind : Kind) (image : Text) (slot : ℕ) → EntersCat entered kind image slot → IsSomeAnd o (IsFileAsk kind image slot)
+  pub files : (kind : Kind) (image : Text) → EntersList entered kind image → IsSomeAnd o (IsFilesAsk kind image)
+  pub init : (store key : Text) → EntersInit entered store key → IsSomeAnd o (IsInitAsk store key)
+  pub serve : (store : Text) (port count : ℕ) (minutes : ℤ) → EntersServe entered store port count minutes → IsSomeAnd o (IsServeAsk store port count minutes)
 
 pub ask_given : (o : Option Ask) (app : App) (words : List Text) (m : ArgMatches) → IsDeskApp app → HasMatchesOf app words m
-    → ((kind : Kind) (image : Text) (slot : ℕ) → EntersCat (subcommand_rows_of m) kind image slot → IsSomeAnd o (IsFileAsk kind image slot))
-    → ((kind : Kind) (image : Text) → EntersList (subcommand_rows_of m) kind image → IsSomeAnd o (IsFilesAsk kind image))
-    → GivesAsk words o
-ask_given o app words m desk matches file files = record {
-  file = λ kind image slot asks. file kind image slot (subst (λ e. EntersCat e kind image slot) (entered_is app words m desk matches) (gives_cat app words kind image slot desk asks));
-  files = λ kind image asks. files kind image (subst (λ e. EntersList e kind image) (entered_is app words m desk matches) (gives_list app words kind image desk asks));
-}
+    → GivesRows (subcommand_rows_of m) o → GivesAsk words o
+ask_given o app words m desk matches given =
+    let same : subcommand_of app words ≡ subcommand_rows_of m = entered_is app words m desk matches in
+    record {
+      file = λ kind image slot asks. given.file kind image slot (subst (λ e. EntersCat e kind image slot) same (gives_cat app words kind image slot desk asks));
+      files = λ kind image asks. given.files kind image (subst (λ e. EntersList e kind image) same (gives_list app words kind image desk asks));
+      init = λ store key asks. given.init store key (record { rows = asks.rows; into = sym same ∙ asks.enters.into app desk; found = asks.found });
+      serve = λ store port count minutes asks. given.serve store port count minutes (record { rows = asks.rows; into = sym same ∙ asks.enters.into app desk; found = asks.found });
+    }
 
 -- words that are read are what is asked for
 pub ask_read : (o : Option Ask) (fault : Unread) (r : Result Ask Unread) (words : List Text) → r ≡ ok_or o fault → GivesAsk words o
-    → IfOk r (λ ask. (kind : Kind) (image : Text) (slot : ℕ) → AsksCat words kind image slot → IsFileAsk kind image slot ask)
-ask_read (Some ask) fault r words is given = subst (λ x. IfOk x (λ a. (kind : Kind) (image : Text) (slot : ℕ) → AsksCat words kind image slot → IsFileAsk kind image slot a)) (sym is) given.file
-ask_read None fault r words is given = subst (λ x. IfOk x (λ a. (kind : Kind) (image : Text) (slot : ℕ) → AsksCat words kind image slot → IsFileAsk kind image slot a)) (sym is) tt
+    → IfOk r (IsAskOf words)
+ask_read (Some ask) fault r words is given = subst (λ x. IfOk x (IsAskOf words)) (sym is) (record { file = given.file; files = given.files; init = given.init; serve = given.serve })
+ask_read None fault r words is given = subst (λ x. IfOk x (IsAskOf words)) (sym is) tt
 
-pub ask_listed : (o : Option Ask) (fault : Unread) (r : Result Ask Unread) (words : List Text) → r ≡ ok_or o fault → GivesAsk words o
-    → IfOk r (λ ask. (kind : Kind) (image : Text) → AsksList words kind image → IsFilesAsk kind image ask)
-ask_listed (Some ask) fault r words is given = subst (λ x. IfOk x (λ a. (kind : Kind) (image : Text) → AsksList words kind image → IsFilesAsk kind image a)) (sym is) given.files
-ask_listed None fault r words is given = subst (λ x. IfOk x (λ a. (kind : Kind) (image : Text) → AsksList words kind image → IsFilesAsk kind image a)) (sym is) tt
+-- an offset that is read is one of clocks
+pub ask_offset : (o : Option Ask) (fault : Unread) (r : Result Ask Unread) → r ≡ ok_or o fault → IfSome o HasOffset → IfOk r HasOffset
+ask_offset (Some ask) fault r is has = subst (λ x. IfOk x HasOffset) (sym is) has
+ask_offset None fault r is has = subst (λ x. IfOk x HasOffset) (sym is) tt
 
 free : (kinds others : NameList) → is_simple_and_free (desk_app kinds others) ≡ true
 free kinds others = refl
@@ -111,7 +123,9 @@ help_asked words NoMemory help fault = absurd help
 -- a command is found
 no_command : (words : List Text) → GivesAsk words None → IsCommand words → ⊥
 no_command words given (inl cat) = given.file cat.0 cat.1 cat.2 cat.3
-no_command words given (inr list) = given.files list.0 list.1 list.2
+no_command words given (inr (inl list)) = given.files list.0 list.1 list.2
+no_command words given (inr (inr (inl init))) = given.init init.0 init.1 init.2
+no_command words given (inr (inr (inr serve))) = given.serve serve.0 serve.1 serve.2 serve.3 serve.4
 
 -- words that are not read are no command
 pub ask_unread : (o : Option Ask) (fault : Unread) (r : Result Ask Unread) (words : List Text) (P : Unread → Type 0) → r ≡ ok_or o fault → GivesAsk words o
@@ -120,24 +134,23 @@ ask_unread (Some ask) fault r words P is given = subst (λ x. IfErr x (λ f. IsC
 ask_unread None fault r words P is given =
     subst (λ x. IfErr x (λ f. IsCommand words → P f)) (sym is) (λ command. absurd (no_command words given command))
 
--- a parse of a command fails for want of memory alone
-pub takes_command : (app : App) (words : List Text) → IsDeskApp app → IsCommand words → takes app words ≡ true
-takes_command app words desk (inl cat) = takes_cat app words cat.0 cat.1 cat.2 desk cat.3
-takes_command app words desk (inr list) = takes_list app words list.0 list.1 desk list.2
+none_among : (kinds : List ErrorKind) (error : Error) → kinds ≡ [] → HasKind kinds error → kind_of error ≡ OutOfMemory
+none_among kinds error none has = elim (subst (λ ks. HasKind ks error) none has) [
+  | inl out ↦ out
+  | inr among ↦ absurd among
+]
 
--- the name of the command that a parse went into
-pub name_met : (m : ArgMatches) (name : Text) (rows : List Row) → subcommand_rows_of m ≡ Some (name, rows) → subcommand_name_of m ≡ Some name
-name_met m name rows into = named (out-ArgMatches m).subcommand ∙ ap (option_map (λ (p : Text × List Row). p.0)) into
-  where
-    named : (o : Option (Box SubCommand Global)) → option_map (λ b. (out-SubCommand (box_value b)).name.now) o ≡ option_map (λ (p : Text × List Row). p.0) (subcommand_rows o)
-    named (Some b) = refl
-    named None = refl
+-- a parse of a command fails for want of memory alone
+pub fails_for_memory : (app : App) (words : List Text) (error : Error) → IsDeskApp app → IsCommand words → (takes app words ≡ true → kind_of error ≡ OutOfMemory)
+    → (is_simple_and_free app ≡ true → HasKind (fault_of app words) error) → kind_of error ≡ OutOfMemory
+fails_for_memory app words error desk (inl cat) passes has = passes (takes_cat app words cat.0 cat.1 cat.2 desk cat.3)
+fails_for_memory app words error desk (inr (inl list)) passes has = passes (takes_list app words list.0 list.1 desk list.2)
+fails_for_memory app words error desk (inr (inr (inl init))) passes has =
+    none_among (fault_of app words) error (init.2.enters.no_fault app desk) (has (ap is_simple_and_free desk.is ∙ free desk.cat_kinds desk.list_kinds))
+fails_for_memory app words error desk (inr (inr (inr serve))) passes has =
+    none_among (fault_of app words) error (serve.4.enters.no_fault app desk) (has (ap is_simple_and_free desk.is ∙ free desk.cat_kinds desk.list_kinds))
 
 -- the rows of the command that a parse went into
 pub rows_met : (m : ArgMatches) (name : Text) (rows shown : List Row) → subcommand_rows_of m ≡ Some (name, rows)
     → option_map (λ (p : Text × List Row). p.1) (subcommand_rows_of m) ≡ Some shown → rows ≡ shown
 rows_met m name rows shown into are = let same : Some rows ≡ Some shown = sym (ap (option_map (λ (p : Text × List Row). p.1)) into) ∙ are in cc
-
--- no command has two names
-pub not_both : {P : Type 0} → Some (codes "cat") ≡ Some (codes "list") → P
-not_both same = absurd (let letters : codes "cat" ≡ codes "list" = cc in let first : 99 ≡ 108 = ap (λ l. slice_index l 0) letters in omega arith)

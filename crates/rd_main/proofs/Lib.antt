@@ -10,3 +10,5 @@ pub mod ListWritten
 pub mod Served
 pub mod Ran
 pub mod WordsWritten
+pub mod Inited
+pub mod Serving

@@ -1,19 +1,23 @@
 -- What a run of a command has done, by the file that it asked for.
-use Rattle.std.proofs.Common.{◌≡◌, ◌≢◌, ℕ, List, Option, Some, None, IfSome, inl, inr, subst, sym, arith}
+use Rattle.std.proofs.Common.{◌≡◌, ◌≢◌, ◌+◌, ◌≤◌, ℕ, List, Option, Some, None, IfSome, ap, inl, inr, refl, subst, sym, arith}
 use Rattle.std.specs.Io.KnownBytes.{Keeps}
 use Rattle.rd_geometry.specs.declared.kind.Kind.{Kind}
-use Rattle.rd_main.specs.Asks.{AsksFile, IsFileAsk, IsFilesAsk, kind_asked}
+use Rattle.rd_geometry.specs.Kinds.{size_of}
+use Rattle.rd_geometry.specs.declared.kind.Kind.TheVariants.{Cpm8}
+use Rattle.rd_main.specs.Asks.{AsksFile, most_read}
 use Rattle.rd_main.specs.Cat.{HasNoSoundFile, IsCut, Refuses}
 use Rattle.rd_main.specs.Output.{AppendsPart}
 use Rattle.rd_main.specs.Printed.{refusal_line}
 use Rattle.rd_main.specs.Refusals.{status_of}
 use Rattle.rd_main.specs.Told.{Tells}
-use Rattle.rd_main.specs.Words.{AsksCat, AsksList, AsksOfKind}
+use Rattle.rd_main.specs.Commands.{AsksOfStore, IsAskOf}
+use Rattle.rd_main.specs.Words.{AsksOfKind}
 use Rattle.rd_main.specs.declared.words.Ask.{Ask}
-use Rattle.rd_main.specs.declared.words.Ask.TheVariants.{File, Files}
+use Rattle.rd_main.specs.declared.words.Ask.TheVariants.{File, Files, Init, Serve}
 use Rattle.rd_main.specs.declared.refusal.Refusal.{Refusal}
-use Rattle.rd_main.specs.declared.refusal.Refusal.TheVariants.{Usage, Device, NoMemory, WrongSize, NoFile, ListedOnly, Faulty}
+use Rattle.rd_main.specs.declared.refusal.Refusal.TheVariants.{Usage, Device, NoMemory, WrongSize, NoFile, ListedOnly, Faulty, Exists, NotADesk, Version, Inconsistent, Store, Clock}
 use Rattle.rd_main.specs.declared.words.FileAsk.{FileAsk}
+use Rattle.rd_main.proofs.ReadUpTo.{largest}
 
 -- what holds of the kind and the slot that were read holds of those that were asked for
 pub as_asked : (P : Kind → ℕ → Type 0) (ask : FileAsk) (kind : Kind) (image : List ℕ) (slot : ℕ) → AsksFile ask kind image slot → P ask.kind ask.slot → P kind slot
@@ -33,6 +37,12 @@ no_sound_file WrongSize kind slot image old new status refused = inl refused.1
 no_sound_file NoFile kind slot image old new status refused = inr (inl refused.1)
 no_sound_file ListedOnly kind slot image old new status refused = inr (inr (inl refused.1))
 no_sound_file (Faulty of_kind faults) kind slot image old new status refused = inr (inr (inr refused.1.file))
+no_sound_file Exists kind slot image old new status refused = absurd refused
+no_sound_file NotADesk kind slot image old new status refused = absurd refused
+no_sound_file Version kind slot image old new status refused = absurd refused
+no_sound_file Inconsistent kind slot image old new status refused = absurd refused
+no_sound_file Store kind slot image old new status refused = absurd refused
+no_sound_file Clock kind slot image old new status refused = absurd refused
 
 -- a refusal with the status 3 has written no more than a part
 pub is_cut : (refusal : Refusal) (kind : Kind) (slot : ℕ) (image : List ℕ) (old new : Option (List ℕ)) → status_of refusal ≡ 3
@@ -44,6 +54,12 @@ is_cut WrongSize kind slot image old new status refused = inl refused.0
 is_cut NoFile kind slot image old new status refused = inl refused.0
 is_cut ListedOnly kind slot image old new status refused = inl refused.0
 is_cut (Faulty of_kind faults) kind slot image old new status refused = inl refused.0
+is_cut Exists kind slot image old new status refused = absurd refused
+is_cut NotADesk kind slot image old new status refused = absurd refused
+is_cut Version kind slot image old new status refused = absurd refused
+is_cut Inconsistent kind slot image old new status refused = absurd refused
+is_cut Store kind slot image old new status refused = absurd refused
+is_cut Clock kind slot image old new status refused = absurd refused
 
 -- nothing was written where the words were not read
 pub kept_is_cut : (known : Option (List ℕ)) (kind : Kind) (slot : ℕ) (old new : Option (List ℕ)) → Keeps old new → IfSome known (λ image. IsCut kind slot image old new)
@@ -64,14 +80,39 @@ not_done WrongSize = λ is. omega arith
 not_done NoFile = λ is. omega arith
 not_done ListedOnly = λ is. omega arith
 not_done (Faulty kind faults) = λ is. omega arith
+not_done Exists = λ is. omega arith
+not_done NotADesk = λ is. omega arith
+not_done Version = λ is. omega arith
+not_done Inconsistent = λ is. omega arith
+not_done Store = λ is. omega arith
+not_done Clock = λ is. omega arith
 
--- the kind that words ask for is that of what was read of them
-pub same_kind_asked : (words : List (List ℕ)) (ask : Ask) (kind : Kind) → ((kind : Kind) (image : List ℕ) (slot : ℕ) → AsksCat words kind image slot → IsFileAsk kind image slot ask)
-    → ((kind : Kind) (image : List ℕ) → AsksList words kind image → IsFilesAsk kind image ask) → AsksOfKind words kind → kind_asked ask ≡ kind
-same_kind_asked words (File ask) kind read listed (inl cat) = (read kind cat.0 cat.1 cat.2).kind_is
-same_kind_asked words (File ask) kind read listed (inr list) = absurd (listed kind list.0 list.1)
-same_kind_asked words (Files ask) kind read listed (inl cat) = absurd (read kind cat.0 cat.1 cat.2)
-same_kind_asked words (Files ask) kind read listed (inr list) = (listed kind list.0 list.1).kind_is
+-- of the kind that words ask for is the image that is read
+pub reads_of_kind : (words : List (List ℕ)) (ask : Ask) (kind : Kind) → IsAskOf words ask → AsksOfKind words kind → most_read ask ≡ size_of kind + 1
+reads_of_kind words (File ask) kind is (inl cat) = ap (λ k. size_of k + 1) (is.file kind cat.0 cat.1 cat.2).kind_is
+reads_of_kind words (File ask) kind is (inr list) = absurd (is.files kind list.0 list.1)
+reads_of_kind words (Files ask) kind is (inl cat) = absurd (is.file kind cat.0 cat.1 cat.2)
+reads_of_kind words (Files ask) kind is (inr list) = ap (λ k. size_of k + 1) (is.files kind list.0 list.1).kind_is
+reads_of_kind words (Init ask) kind is (inl cat) = absurd (is.file kind cat.0 cat.1 cat.2)
+reads_of_kind words (Init ask) kind is (inr list) = absurd (is.files kind list.0 list.1)
+reads_of_kind words (Serve ask) kind is (inl cat) = absurd (is.file kind cat.0 cat.1 cat.2)
+reads_of_kind words (Serve ask) kind is (inr list) = absurd (is.files kind list.0 list.1)
+
+-- where words ask for a desk or visits, no input is read
+pub reads_no_input : (words : List (List ℕ)) (ask : Ask) → IsAskOf words ask → AsksOfStore words → most_read ask ≡ 0
+reads_no_input words (File ask) is (inl init) = absurd (is.init init.0 init.1 init.2)
+reads_no_input words (File ask) is (inr serve) = absurd (is.serve serve.0 serve.1 serve.2 serve.3 serve.4)
+reads_no_input words (Files ask) is (inl init) = absurd (is.init init.0 init.1 init.2)
+reads_no_input words (Files ask) is (inr serve) = absurd (is.serve serve.0 serve.1 serve.2 serve.3 serve.4)
+reads_no_input words (Init ask) is asks = refl
+reads_no_input words (Serve ask) is asks = refl
+
+-- no more is read than one byte past the largest image
+pub reads_few : (ask : Ask) → most_read ask ≤ size_of Cpm8 + 1
+reads_few (File ask) = largest ask.kind
+reads_few (Files ask) = largest ask.kind
+reads_few (Init ask) = omega arith
+reads_few (Serve ask) = omega arith
 
 -- nothing is refused where nothing is known
 pub of_all : {P : List ℕ → Type 0} (known : Option (List ℕ)) → ((bytes : List ℕ) → P bytes) → IfSome known P

@@ -7,7 +7,7 @@ use Rattle.rd_main.specs.Output.{AppendsPart}
 use Rattle.rd_main.specs.Printed.{blanked, line_feed, refusal_line, words_after}
 use Rattle.rd_main.specs.Refusals.{name_of}
 use Rattle.rd_main.specs.declared.refusal.Refusal.{Refusal}
-use Rattle.rd_main.specs.declared.refusal.Refusal.TheVariants.{Usage, Device, NoMemory, WrongSize, NoFile, ListedOnly, Faulty}
+use Rattle.rd_main.specs.declared.refusal.Refusal.TheVariants.{Usage, Device, NoMemory, WrongSize, NoFile, ListedOnly, Faulty, Exists, NotADesk, Version, Inconsistent, Store, Clock}
 use Rattle.rd_main.proofs.Written.{part_after}
 
 -- Of some words those before these that are left are written.
@@ -45,6 +45,12 @@ none_after WrongSize other = refl
 none_after NoFile other = refl
 none_after ListedOnly other = refl
 none_after (Faulty kind faults) other = absurd (other kind faults refl)
+none_after Exists other = refl
+none_after NotADesk other = refl
+none_after Version other = refl
+none_after Inconsistent other = refl
+none_after Store other = refl
+none_after Clock other = refl
 
 -- the line in its parts
 pub line_is : (refusal : Refusal) (name : List ℕ) → name ≡ name_of refusal

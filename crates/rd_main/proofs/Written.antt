@@ -1,10 +1,10 @@
 -- What writers have gained.
-use Rattle.std.proofs.Common.{◌≡◌, ◌∙◌, ℕ, ◌+◌, ◌-◌, ◌≤◌, List, [], ◌∷◌, ◌++◌, Option, Some, None, Result, Ok, Err, OnErr, OnOk, append-nil, append_assoc, drop, length, length-drop, take, subst, sym, ap, arith}
+use Rattle.std.proofs.Common.{◌≡◌, ◌∙◌, ℕ, ◌+◌, ◌-◌, ◌≤◌, List, [], ◌∷◌, ◌++◌, Option, Some, None, Result, Ok, Err, OnErr, OnOk, append-nil, append_assoc, drop, length, length-drop, refl, take, subst, sym, ap, arith}
 use Rattle.std.specs.List.{concat}
 use Rattle.std.proofs.lemmas.List.{take-append-drop, take_all}
 use Rattle.std.proofs.lemmas.List.Folds.{concat-append}
 use Rattle.std.specs.Io.KnownBytes.{Appends, Keeps}
-use Rattle.std.proofs.KnownBytes.{Appends-kept, Appends-trans, Keeps-refl, Keeps-trans}
+use Rattle.std.proofs.KnownBytes.{Appends-kept, Appends-nil, Appends-trans, Keeps-refl, Keeps-trans}
 use lib.Seq.{take-add}
 use Rattle.rd_main.specs.Output.{AppendsPart}
 
@@ -97,3 +97,7 @@ pub part_either : {T E : Type 0} (r : Result T E) (old new : Option (List ℕ)) 
     → AppendsPart old new bytes
 part_either (Ok value) old new bytes done cut = whole_part old new new bytes done (Keeps-refl new)
 part_either (Err error) old new bytes done cut = cut
+
+-- nothing is a part of any bytes
+pub none_written : (old new : Option (List ℕ)) (bytes : List ℕ) → Keeps old new → AppendsPart old new bytes
+none_written old new bytes kept = record { part = []; rest = bytes; whole = refl; gained = Appends-kept old old new [] (Appends-nil old) kept }

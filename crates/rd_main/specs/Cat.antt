@@ -11,7 +11,7 @@ use Rattle.rd_volume.specs.Directories.{OfDirectory}
 use Rattle.rd_volume.specs.Volumes.{AreBytesOf, HasNoFault, IsOfServedClass, IsSlotOfFile}
 use Rattle.rd_main.specs.Output.{AppendsPart}
 use Rattle.rd_main.specs.declared.refusal.Refusal.{Refusal}
-use Rattle.rd_main.specs.declared.refusal.Refusal.TheVariants.{Usage, Device, NoMemory}
+use Rattle.rd_main.specs.declared.refusal.Refusal.TheVariants.{Device, NoMemory}
 use Rattle.rd_main.specs.declared.refusal.Refusal.TheVariants.{WrongSize, NoFile, ListedOnly, Faulty}
 
 -- The bytes are an image of the kind, the slot is that of a file, the file is of the class that is served
@@ -82,7 +82,6 @@ HasNoSoundFile kind slot image =
 
 -- Why `cat` is refused, and what was written then.
 abbrev pub Refuses : Refusal → Kind → ℕ → List ℕ → Option (List ℕ) → Option (List ℕ) → Type 0
-Refuses Usage kind slot image old new = ⊥
 Refuses Device kind slot image old new = IsCut kind slot image old new
 Refuses NoMemory kind slot image old new = Keeps old new
 Refuses WrongSize kind slot image old new = Keeps old new × (length image ≢ size_of kind)
@@ -90,3 +89,4 @@ Refuses NoFile kind slot image old new = Keeps old new × HasNoFile kind slot im
 Refuses ListedOnly kind slot image old new = Keeps old new × IsListedOnly kind slot image
 Refuses (Faulty of_kind faults) kind slot image old new =
     Keeps old new × IsFaultyBy kind slot image of_kind faults
+Refuses refusal kind slot image old new = ⊥

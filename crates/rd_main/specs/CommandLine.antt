@@ -2,7 +2,7 @@
 use Rattle.std.specs.Prelude.{◌≡◌, List, [], ◌∷◌, Some, codes, map, pos, true}
 use Rattle.std.specs.Borrow.{Bor}
 use Rattle.clap.specs.Simple.{on_top}
-use Rattle.clap.specs.Words.{App, IsAmong, Rule, Shape, Text, fault_of, new_app, new_rule, with_rule, with_subcommand}
+use Rattle.clap.specs.Words.{App, IsAmong, Row, Rule, Shape, Text, fault_of, new_app, new_rule, subcommand_of, with_rule, with_subcommand}
 use Rattle.clap.specs.declared.error.kind.ErrorKind.{ErrorKind}
 use Rattle.clap.specs.declared.error.kind.ErrorKind.TheVariants.{DisplayHelp}
 use Rattle.clap.specs.declared.builder.value_parser.ValueParser.{ValueParser}
@@ -41,6 +41,39 @@ cat_app kinds =
 abbrev pub list_app : NameList → App
 list_app kinds = with_rule (with_rule (new_app (codes "list")) (kind_rule kinds)) image_rule
 
+-- an option that has to be there, whose value has a name in the help
+abbrev pub required_option : Text → Rule
+required_option id = record (required id) { long = Some id; value_names = 1 }
+
+-- the option for the file of a store
+abbrev pub store_rule : Rule
+store_rule = required_option (codes "store")
+
+-- the option for a desk key
+abbrev pub key_rule : Rule
+key_rule = required_option (codes "key")
+
+-- the option for a port, a number from 1 to 65,535
+abbrev pub port_rule : Rule
+port_rule = record (required_option (codes "port")) { parser = Some (Signed (pos 1) (pos 65535)) }
+
+-- the option for a number of visits, from 0 to 4,294,967,295
+abbrev pub count_rule : Rule
+count_rule = record (required_option (codes "count")) { parser = Some (Signed (pos 0) (pos 4294967295)) }
+
+-- the option for how far clocks are from UTC, which may be absent
+abbrev pub offset_rule : Rule
+offset_rule = record (new_rule (codes "offset")) { long = Some (codes "offset"); value_names = 1 }
+
+-- the command `init`
+abbrev pub init_app : App
+init_app = with_rule (with_rule (new_app (codes "init")) store_rule) key_rule
+
+-- the command `serve`
+abbrev pub serve_app : App
+serve_app =
+    with_rule (with_rule (with_rule (with_rule (new_app (codes "serve")) store_rule) port_rule) count_rule) offset_rule
+
 -- the words come without the program's name, and one of them is a command's
 abbrev pub wants_command : Shape → Shape
 wants_command s = record s {
@@ -51,7 +84,9 @@ wants_command s = record s {
 
 -- the program
 abbrev pub desk_app : NameList → NameList → App
-desk_app kinds kinds' = with_subcommand (with_subcommand (on_top wants_command (new_app (codes "desk"))) (cat_app kinds).top) (list_app kinds').top
+desk_app kinds kinds' =
+    with_subcommand (with_subcommand (with_subcommand (with_subcommand (on_top wants_command (new_app (codes "desk")))
+    (cat_app kinds).top) (list_app kinds').top) init_app.top) serve_app.top
 
 -- the names are those of the kinds that a command takes
 abbrev pub AreKindNames : NameList → Type 0
@@ -88,6 +123,12 @@ pub record HasFault (words : List Text) (kind : ErrorKind) : Type 0 where
   pub app : App
   pub is_desk : IsDeskApp app
   pub fault : IsAmong kind (fault_of app words)
+
+-- `clap` finds no fault in the words, and takes them as the command of this name with these rows, however
+-- the program is described
+pub record Enters (words : List Text) (name : Text) (rows : List Row) : Type 0 where
+  pub no_fault : (app : App) → IsDeskApp app → fault_of app words ≡ []
+  pub into : (app : App) → IsDeskApp app → subcommand_of app words ≡ Some (name, rows)
 
 -- the words ask for help
 abbrev pub AsksForHelp : List Text → Type 0

@@ -1,6 +1,8 @@
 pub mod Words
 pub mod CommandLine
+pub mod Offsets
 pub mod Asks
+pub mod Commands
 pub mod Refusals
 pub mod Output
 pub mod Input
@@ -8,3 +10,5 @@ pub mod Cat
 pub mod Printed
 pub mod Listed
 pub mod Told
+pub mod Inits
+pub mod Serving

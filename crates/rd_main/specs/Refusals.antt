@@ -1,10 +1,15 @@
 -- The names and the statuses of refusals.
-use Rattle.std.specs.Prelude.{ℕ, List, codes}
+use Rattle.std.specs.Prelude.{⊤, ℕ, List, codes}
+use Rattle.rd_store.specs.declared.faults.CreateFault.{CreateFault}
+use Rattle.rd_store.specs.declared.faults.CreateFault.TheVariants as create
+use Rattle.rd_store.specs.declared.faults.OpenFault.{OpenFault}
+use Rattle.rd_store.specs.declared.faults.OpenFault.TheVariants as open_fault
 use Rattle.rd_main.specs.declared.machine.MachineFault.{MachineFault}
 use Rattle.rd_main.specs.declared.machine.MachineFault.TheVariants as fault
 use Rattle.rd_main.specs.declared.refusal.Refusal.{Refusal}
 use Rattle.rd_main.specs.declared.refusal.Refusal.TheVariants.{Usage, Device, NoMemory}
 use Rattle.rd_main.specs.declared.refusal.Refusal.TheVariants.{WrongSize, NoFile, ListedOnly, Faulty}
+use Rattle.rd_main.specs.declared.refusal.Refusal.TheVariants.{Clock, Exists, Inconsistent, NotADesk, Store, Version}
 
 -- the name that is printed
 abbrev pub name_of : Refusal → List ℕ
@@ -15,8 +20,15 @@ name_of WrongSize = codes "wrong-size"
 name_of NoFile = codes "no-file"
 name_of ListedOnly = codes "listed-only"
 name_of (Faulty kind faults) = codes "faulty"
+name_of Exists = codes "exists"
+name_of NotADesk = codes "not-a-desk"
+name_of Version = codes "version"
+name_of Inconsistent = codes "inconsistent"
+name_of Store = codes "store"
+name_of Clock = codes "clock"
 
--- the exit status: 1 where the image or its file is refused, 2 where the words are, and else 3
+-- the exit status: 1 where the image or its file is refused or a desk stands already, 2 where the words are refused,
+-- and else 3
 abbrev pub status_of : Refusal → ℕ
 status_of Usage = 2
 status_of Device = 3
@@ -25,8 +37,32 @@ status_of WrongSize = 1
 status_of NoFile = 1
 status_of ListedOnly = 1
 status_of (Faulty kind faults) = 1
+status_of Exists = 1
+status_of NotADesk = 3
+status_of Version = 3
+status_of Inconsistent = 3
+status_of Store = 3
+status_of Clock = 3
 
--- what the program ends with where the machine fails
-abbrev pub refusal_for : MachineFault → Refusal
-refusal_for fault.Failed = Device
-refusal_for fault.NoMemory = NoMemory
+-- the device failed, or memory was refused
+abbrev pub IsOfDevice : Refusal → Type 0
+IsOfDevice Device = ⊤
+IsOfDevice NoMemory = ⊤
+IsOfDevice refusal = ⊥
+
+-- what the program ends with where the machine fails: memory was refused, or else this
+abbrev pub refusal_for : Refusal → MachineFault → Refusal
+refusal_for failed fault.Failed = failed
+refusal_for failed fault.NoMemory = NoMemory
+
+-- why no desk is made
+abbrev pub refusal_to_create : CreateFault → Refusal
+refusal_to_create create.Exists = Exists
+refusal_to_create create.Sql = Store
+
+-- why a desk is not opened
+abbrev pub refusal_to_open : OpenFault → Refusal
+refusal_to_open open_fault.NotADesk = NotADesk
+refusal_to_open open_fault.Version = Version
+refusal_to_open open_fault.Inconsistent = Inconsistent
+refusal_to_open open_fault.Sql = Store

@@ -39,8 +39,3 @@ pub record AsksList (words : List (List ℕ)) (kind : Kind) (image : List ℕ) :
 abbrev pub AsksOfKind : List (List ℕ) → Kind → Type 0
 AsksOfKind words kind = ((image : List ℕ) × (slot : ℕ) × AsksCat words kind image slot)
     ⊎ ((image : List ℕ) × AsksList words kind image)
-
--- the words are a command of the program
-abbrev pub IsCommand : List (List ℕ) → Type 0
-IsCommand words = ((kind : Kind) × (image : List ℕ) × (slot : ℕ) × AsksCat words kind image slot)
-    ⊎ ((kind : Kind) × (image : List ℕ) × AsksList words kind image)

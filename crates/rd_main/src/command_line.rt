@@ -1,7 +1,7 @@
 ghost use Rattle.std.specs.Prelude.{◌≡◌, IfOk, false};
 ghost use Rattle.clap.specs.Words.{app_of, rule_of};
 ghost use Rattle.clap.specs.declared.builder.command.Command.TheViews.{out-Command as fields_of};
-ghost use Rattle.rd_main.specs.CommandLine.{IsCatApp, IsDeskApp, IsKindRule, IsListApp, image_rule, slot_rule};
+ghost use Rattle.rd_main.specs.CommandLine.{IsCatApp, IsDeskApp, IsKindRule, IsListApp, count_rule, image_rule, init_app, key_rule, offset_rule, port_rule, serve_app, slot_rule, store_rule};
 
 use clap::{Arg, Command, value_parser};
 use std::alloc::{AllocError, Global};
@@ -66,19 +66,112 @@ fn list_command<'a>(alloc: Global) -> Result<Command<'a>, AllocError>
         .arg(image_operand(alloc))
 }
 
+/// The option for the file of a store.
+fn store_option<'a>(alloc: Global) -> Arg<'a>
+    ensures rule { rule_of result ≡ store_rule }
+    ensures local { result.global ≡ false }
+{
+    Arg::new(alloc, "store")
+        .long("store")
+        .value_name("FILE")
+        .required(true)
+        .help("The file of the store")
+}
+
+/// The option for a desk key.
+fn key_option<'a>(alloc: Global) -> Arg<'a>
+    ensures rule { rule_of result ≡ key_rule }
+    ensures local { result.global ≡ false }
+{
+    Arg::new(alloc, "key")
+        .long("key")
+        .value_name("KEY")
+        .required(true)
+        .help("The desk key of the staff, without blanks and tabs at both ends")
+}
+
+/// The option for a port.
+fn port_option<'a>(alloc: Global) -> Arg<'a>
+    ensures rule { rule_of result ≡ port_rule }
+    ensures local { result.global ≡ false }
+{
+    Arg::new(alloc, "port")
+        .long("port")
+        .value_name("PORT")
+        .required(true)
+        .help("The port on 127.0.0.1, 1 to 65535")
+        .value_parser(value_parser!(u16).range(1..=65_535))
+}
+
+/// The option for a number of visits.
+fn count_option<'a>(alloc: Global) -> Arg<'a>
+    ensures rule { rule_of result ≡ count_rule }
+    ensures local { result.global ≡ false }
+{
+    Arg::new(alloc, "count")
+        .long("count")
+        .value_name("COUNT")
+        .required(true)
+        .help("How many visits are served, 0 to 4294967295")
+        .value_parser(value_parser!(u32))
+}
+
+/// The option for how far the clocks of the desk are from UTC.
+fn offset_option<'a>(alloc: Global) -> Arg<'a>
+    ensures rule { rule_of result ≡ offset_rule }
+    ensures local { result.global ≡ false }
+{
+    Arg::new(alloc, "offset")
+        .long("offset")
+        .value_name("OFFSET")
+        .help(
+            "How far the clocks of the desk are ahead of UTC: E or W, hours and minutes, as in E0100",
+        )
+}
+
+/// The command `init`.
+fn init_command<'a>(alloc: Global) -> Result<Command<'a>, AllocError>
+    ensures shape { IfOk result (λ init. app_of init ≡ init_app) }
+    ensures local { IfOk result (λ init. (fields_of init).has_globals ≡ false) }
+{
+    Command::new(alloc, "init")
+        .about("Makes a desk with one staff key in the file of a store")
+        .after_help("Example:\n  desk init --store museum.sqlite --key 'a long phrase'")
+        .arg(store_option(alloc))?
+        .arg(key_option(alloc))
+}
+
+/// The command `serve`.
+fn serve_command<'a>(alloc: Global) -> Result<Command<'a>, AllocError>
+    ensures shape { IfOk result (λ serve. app_of serve ≡ serve_app) }
+    ensures local { IfOk result (λ serve. (fields_of serve).has_globals ≡ false) }
+{
+    Command::new(alloc, "serve")
+        .about("Serves visits over HTTP on 127.0.0.1, one after the other")
+        .after_help(
+            "Example:\n  desk serve --store museum.sqlite --port 8041 --count 1000 --offset E0100",
+        )
+        .arg(store_option(alloc))?
+        .arg(port_option(alloc))?
+        .arg(count_option(alloc))?
+        .arg(offset_option(alloc))
+}
+
 /// The command line of the program, for words that come without the program's name.
 pub(crate) fn desk_command<'a>(alloc: Global) -> Result<Command<'a>, AllocError>
     ensures { IfOk result (λ desk. IsDeskApp (app_of desk)) }
 {
     Command::new(alloc, "desk")
-        .about("Reads files from disk images")
+        .about("Reads files from disk images, and serves those of a museum by its rules")
         .after_help(
-            "Examples:\n  desk list cpm8 disk.img\n  desk cat cpm8 disk.img 0\n  desk list d64 disk.d64",
+            "Examples:\n  desk list cpm8 disk.img\n  desk cat cpm8 disk.img 0\n  desk list d64 disk.d64\n  desk init --store museum.sqlite --key 'a long phrase'\n  desk serve --store museum.sqlite --port 8041 --count 1000",
         )
         .no_binary_name(true)
         .bin_name("desk")?
         .subcommand_required(true)
         .arg_required_else_help(true)
         .subcommand(cat_command(alloc)?)?
-        .subcommand(list_command(alloc)?)
+        .subcommand(list_command(alloc)?)?
+        .subcommand(init_command(alloc)?)?
+        .subcommand(serve_command(alloc)?)
 }

@@ -1,8 +1,10 @@
-ghost use Rattle.std.specs.Prelude.{◌↔◌, ◌≡◌, IfErr, IfOk, OnOk};
+ghost use Rattle.std.specs.Prelude.{◌↔◌, ◌≡◌, IfErr, IfOk, None, OnOk};
 ghost use Rattle.std.specs.Io.KnownBytes.{Keeps};
 ghost use Rattle.std.specs.IoError.{error_kind};
 ghost use Rattle.std.specs.declared.io.ErrorKind.TheVariants.{OutOfMemory};
 ghost use Rattle.std.specs.Process.{exit_status};
+ghost use Rattle.sqlite.specs.declared.error.Error.TheVariants.{SqliteFailure};
+ghost use Rattle.sqlite.specs.declared.error.ErrorCode.TheVariants as code;
 ghost use Rattle.rd_main.specs.Output.{AppendsPart};
 ghost use Rattle.rd_main.specs.Printed.{refusal_line};
 ghost use Rattle.rd_main.specs.Refusals.{status_of};
@@ -14,16 +16,39 @@ use crate::machine::{Machine, MachineFault};
 use crate::refusal::Refusal;
 use crate::run::run;
 use crate::tell::tell_refusal;
+use rd_http::{Clock, TcpDoor};
 use rd_volume::Kind;
+use sqlite::{Connection, Error, ErrorCode, File, FileStore};
 use std::alloc::{AllocError, Global};
 use std::io::{BufWriter, ErrorKind, Write};
+use std::net::{Ipv4Addr, TcpListener};
 use std::process::ExitCode;
+use std::time::{SystemTime, UNIX_EPOCH};
 use std::{env, fs, io};
+
+/// The clock of the machine.
+#[derive(Drop)]
+pub(crate) struct HostClock<'a> {
+    rt: &'a HostRuntime,
+}
+
+impl Clock for HostClock<'_> {
+    fn now(&mut self) -> Option<i64> {
+        seconds_now(self.rt)
+    }
+}
 
 /// The machine that the program runs on.
 #[derive(Drop)]
 pub(crate) struct Host<'a> {
     pub(crate) rt: &'a HostRuntime,
+    pub(crate) door: Option<TcpDoor<HostClock<'a>>>,
+}
+
+/// The seconds since 1970-01-01T00:00:00 UTC; `None` where the clock fails or is set before.
+fn seconds_now(rt: &HostRuntime) -> Option<i64> {
+    let now = SystemTime::now(rt).ok()?;
+    i64::try_from(now.duration_since(UNIX_EPOCH).ok()?.as_secs()).ok()
 }
 
 impl From<io::Error> for MachineFault {
@@ -33,6 +58,18 @@ impl From<io::Error> for MachineFault {
     fn from(error: io::Error) -> MachineFault {
         match error.kind() {
             ErrorKind::OutOfMemory => MachineFault::NoMemory,
+            _ => MachineFault::Failed,
+        }
+    }
+}
+
+impl From<Error> for MachineFault {
+    ghost from_gives = { λ error fault. (fault ≡ machine_fault.NoMemory)
+        ↔ (error ≡ SqliteFailure code.OutOfMemory) };
+
+    fn from(error: Error) -> MachineFault {
+        match error {
+            Error::SqliteFailure(ErrorCode::OutOfMemory) => MachineFault::NoMemory,
             _ => MachineFault::Failed,
         }
     }
@@ -50,12 +87,41 @@ impl From<Refusal> for MachineFault {
     }
 }
 
-impl Machine for Host<'_> {
+impl<'a> Machine for Host<'a> {
+    type Disk = FileStore<File>;
+
+    type Door = TcpDoor<HostClock<'a>>;
+
+    ghost stands = { λ _ _. None };
+
+    ghost left = { λ _. None };
+
     /// Reads at most one byte more than the largest image has, so that a huge file or a device that
     /// never ends does no harm.
     fn read_file(&mut self, alloc: Global, path: &str) -> Result<Vec<u8>, MachineFault> {
         let mut file = fs::open(self.rt, path)?;
         Ok(read_front(alloc, Kind::Cpm8.size() + 1, &mut file)?)
+    }
+
+    fn connect(&mut self, path: &str) -> Result<Connection<FileStore<File>>, MachineFault> {
+        Ok(Connection::open(self.rt, path)?)
+    }
+
+    /// What was committed stands already: a fault of closing loses nothing.
+    fn release(&mut self, conn: &mut Option<Connection<FileStore<File>>>) {
+        if let Some(conn) = conn.take() {
+            let _ = conn.close();
+        }
+    }
+
+    fn now(&mut self) -> Result<i64, MachineFault> {
+        seconds_now(self.rt).ok_or(MachineFault::Failed)
+    }
+
+    fn listen(&mut self, port: u16) -> Result<&mut TcpDoor<HostClock<'a>>, MachineFault> {
+        let listener = TcpListener::bind(self.rt, (Ipv4Addr::LOCALHOST, port))?;
+        let clock = HostClock { rt: self.rt };
+        Ok(self.door.insert(TcpDoor::new(listener, clock)))
     }
 }
 
@@ -94,7 +160,7 @@ fn run_here(rt: &HostRuntime) -> Result<u8, Refusal> {
         &mut rt.stdin(),
         &mut output,
         &mut rt.stderr(),
-        &mut Host { rt },
+        &mut Host { rt, door: None },
     ))
 }
 

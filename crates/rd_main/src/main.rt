@@ -1,16 +1,20 @@
-//! The program `desk`: it reads files from disk images.
+//! The program `desk`: it reads files from disk images, and serves those of a museum over HTTP.
 #![tactic(auto)]
 
+mod blanks;
 mod cat;
 mod command_line;
 mod host;
+mod init;
 mod input;
 mod list;
 mod machine;
+mod offset;
 mod output;
 mod printed;
 mod refusal;
 mod run;
+mod serve;
 mod source;
 mod tell;
 #[cfg(test)]

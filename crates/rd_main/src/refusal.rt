@@ -1,7 +1,8 @@
 ghost use Rattle.std.specs.Prelude.{◌≡◌};
-ghost use Rattle.rd_main.specs.Refusals.{name_of, status_of};
+ghost use Rattle.rd_main.specs.Refusals.{name_of, refusal_to_create, refusal_to_open, status_of};
 ghost use Rattle.rd_main.specs.declared.refusal.Refusal.TheVariants as refusal;
 
+use rd_store::{CreateFault, OpenFault};
 use rd_volume::{Kind, NoMemory, WrongSize};
 use std::alloc::AllocError;
 
@@ -22,6 +23,18 @@ pub enum Refusal {
     ListedOnly,
     /// The file, of an image of a kind, has these faults, by bit.
     Faulty(Kind, u8),
+    /// A desk stands already in the store.
+    Exists,
+    /// The store holds no desk.
+    NotADesk,
+    /// The store holds a desk of another version.
+    Version,
+    /// The rows of the store are not those of a desk.
+    Inconsistent,
+    /// The store could not be opened, or failed.
+    Store,
+    /// The clock failed, or a moment has no day.
+    Clock,
 }
 
 impl Refusal {
@@ -37,6 +50,12 @@ impl Refusal {
             Refusal::NoFile => "no-file",
             Refusal::ListedOnly => "listed-only",
             Refusal::Faulty(_, _) => "faulty",
+            Refusal::Exists => "exists",
+            Refusal::NotADesk => "not-a-desk",
+            Refusal::Version => "version",
+            Refusal::Inconsistent => "inconsistent",
+            Refusal::Store => "store",
+            Refusal::Clock => "clock",
         }
     }
 
@@ -47,8 +66,11 @@ impl Refusal {
         match self {
             Refusal::WrongSize | Refusal::NoFile => 1,
             Refusal::ListedOnly | Refusal::Faulty(_, _) => 1,
+            Refusal::Exists => 1,
             Refusal::Usage => 2,
-            Refusal::Device | Refusal::NoMemory => 3,
+            Refusal::Device | Refusal::NoMemory | Refusal::Clock => 3,
+            Refusal::NotADesk | Refusal::Version => 3,
+            Refusal::Inconsistent | Refusal::Store => 3,
         }
     }
 }
@@ -74,5 +96,29 @@ impl From<WrongSize> for Refusal {
 
     fn from(_error: WrongSize) -> Refusal {
         Refusal::WrongSize
+    }
+}
+
+impl From<CreateFault> for Refusal {
+    ghost from_gives = { λ fault refused. refused ≡ refusal_to_create fault };
+
+    fn from(fault: CreateFault) -> Refusal {
+        match fault {
+            CreateFault::Exists => Refusal::Exists,
+            CreateFault::Sql => Refusal::Store,
+        }
+    }
+}
+
+impl From<OpenFault> for Refusal {
+    ghost from_gives = { λ fault refused. refused ≡ refusal_to_open fault };
+
+    fn from(fault: OpenFault) -> Refusal {
+        match fault {
+            OpenFault::NotADesk => Refusal::NotADesk,
+            OpenFault::Version => Refusal::Version,
+            OpenFault::Inconsistent => Refusal::Inconsistent,
+            OpenFault::Sql => Refusal::Store,
+        }
     }
 }

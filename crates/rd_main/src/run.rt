@@ -1,21 +1,28 @@
-ghost use Rattle.std.specs.Prelude.{◌≡◌, ◌≢◌, ◌⊎◌, ◌≤◌, ◌+◌, ⊤, IfErr, IfSome, List, OnOk, codes, map, ℕ};
-ghost use Rattle.std.specs.Io.KnownBytes.{Keeps};
+ghost use Rattle.std.specs.Prelude.{◌≡◌, ◌≢◌, ◌⊎◌, ◌≤◌, ◌+◌, ⊤, IfErr, IfSome, List, OnOk, codes, map, ℕ, ℤ};
+ghost use Rattle.std.specs.Io.KnownBytes.{Appends, Keeps};
+ghost use Rattle.httparse.specs.Grammar.{trim_ows};
+ghost use Rattle.sha2.specs.Sha256.{sha256};
 ghost use Rattle.rd_geometry.specs.Kinds.{size_of};
 ghost use Rattle.rd_geometry.specs.declared.kind.Kind.{Kind};
 ghost use Rattle.rd_geometry.specs.declared.kind.Kind.TheVariants as kinds;
-ghost use Rattle.rd_main.specs.Asks.{IsFileAsk, IsFilesAsk, kind_asked};
+ghost use Rattle.rd_main.specs.Asks.{HasOffset, IsFileAsk, IsFilesAsk, IsInitAsk, IsServeAsk, most_read};
 ghost use Rattle.rd_main.specs.Cat.{HasNoSoundFile, IsCut, Refuses, Serves};
 ghost use Rattle.rd_main.specs.CommandLine.{AsksForHelp, IsTaken};
+ghost use Rattle.rd_main.specs.Commands.{AsksInit, AsksOfStore, AsksServe, IsCommand};
+ghost use Rattle.rd_main.specs.Inits.{LeavesInit, MakesDesk, RefusesInit, done_line};
 ghost use Rattle.rd_main.specs.Input.{ReadsUpTo};
 ghost use Rattle.rd_main.specs.Listed.{Lists, RefusesList};
 ghost use Rattle.rd_main.specs.Refusals.{status_of};
+ghost use Rattle.rd_main.specs.Serving.{RefusesServe, serve_text};
 ghost use Rattle.rd_main.specs.Told.{Tells};
-ghost use Rattle.rd_main.specs.Words.{AsksCat, AsksList, AsksOfKind, IsCommand};
+ghost use Rattle.rd_main.specs.Words.{AsksCat, AsksList, AsksOfKind};
 
 use crate::cat::cat;
+use crate::init::init;
 use crate::list::list;
 use crate::machine::Machine;
 use crate::refusal::Refusal;
+use crate::serve::serve;
 use crate::tell::{tell_refusal, tell_unread};
 use crate::words::{Ask, read_words};
 use std::alloc::Global;
@@ -23,7 +30,7 @@ use std::io::{Read, Write};
 
 /// Does what is asked for.
 ///
-/// It fails as `cat` and `list` do.
+/// It fails as `cat`, `list`, `init` and `serve` do.
 fn perform<R: Read, W: Write, M: Machine>(
     alloc: Global,
     ask: Ask,
@@ -31,6 +38,7 @@ fn perform<R: Read, W: Write, M: Machine>(
     output: &mut W,
     machine: &mut M,
 ) -> Result<(), Refusal>
+    requires offset { HasOffset ask }
     ensures never { IfErr result (λ refusal. status_of refusal ≢ 2) }
     ensures kept { IfErr result (λ refusal. status_of refusal ≡ 1
         → Keeps (W.contents output.old) (W.contents output.new)) }
@@ -46,18 +54,29 @@ fn perform<R: Read, W: Write, M: Machine>(
     ensures list_refused { (kind : Kind) → IsFilesAsk kind (codes "-") ask.entry
         → IfErr result (λ refusal. IfSome (R.remaining input.old) (λ image.
         RefusesList refusal kind image (W.contents output.old) (W.contents output.new))) }
-    ensures limit { ReadsUpTo (size_of (kind_asked ask.entry) + 1)
-        (R.remaining input.old) (R.remaining input.new) }
+    ensures made { (store key : List ℕ) → IsInitAsk store key ask.entry
+        → OnOk result (MakesDesk M.Disk.Store (M.stands machine.old store) (M.left machine.new) (sha256 (trim_ows key))
+        × Appends (W.contents output.old) (W.contents output.new) done_line) }
+    ensures not_made { (store key : List ℕ) → IsInitAsk store key ask.entry
+        → IfErr result (λ refusal. RefusesInit refusal (W.contents output.old) (W.contents output.new)
+        × LeavesInit M.Disk.Store (M.stands machine.old store) (M.left machine.new) (sha256 (trim_ows key)) refusal) }
+    ensures served { (store : List ℕ) (port count : ℕ) (minutes : ℤ) → IsServeAsk store port count minutes ask.entry
+        → OnOk result (Appends (W.contents output.old) (W.contents output.new) (serve_text port count)) }
+    ensures not_served { (store : List ℕ) (port count : ℕ) (minutes : ℤ) → IsServeAsk store port count minutes ask.entry
+        → IfErr result (λ refusal. RefusesServe refusal port count (W.contents output.old) (W.contents output.new)) }
+    ensures limit { ReadsUpTo (most_read ask.entry) (R.remaining input.old) (R.remaining input.new) }
 {
     match ask {
         Ask::File(ask) => cat(alloc, ask, input, output, machine),
         Ask::Files(ask) => list(alloc, ask, input, output, machine),
+        Ask::Init(ask) => init(ask, output, machine),
+        Ask::Serve(ask) => serve(alloc, ask, output, machine),
     }
 }
 
 /// Runs the program on its words, which come without its name, and gives its exit status: 0 where
-/// it did what was asked for, 1 where the image or its file is refused, 2 where the words are no
-/// command, and 3 where the device or memory failed.
+/// it did what was asked for, 1 where the image or its file is refused or a desk stands already, 2 where
+/// the words are no command, and 3 where the device, the clock, memory or the store failed.
 ///
 /// The image `-` is read from the input, any other by the machine. What is asked for is written to
 /// the output; a refusal is told in one line on `errors`, and a mistake in the words by a text.
@@ -80,6 +99,8 @@ pub fn run<R: Read, W: Write, E: Write, M: Machine>(
         → Tells (λ _. ⊤) result (E.contents errors.old) (E.contents errors.new) }
     // No more is read than one byte past an image: of the largest kind, and of the kind asked for.
     ensures limit { ReadsUpTo (size_of kinds.Cpm8 + 1) (R.remaining input.old) (R.remaining input.new) }
+    ensures limit_of_store { AsksOfStore (map (λ word. word.now) words.entry.now)
+        → ReadsUpTo 0 (R.remaining input.old) (R.remaining input.new) }
     ensures limit_of_kind { (kind : Kind) → AsksOfKind (map (λ word. word.now) words.entry.now) kind
         → ReadsUpTo (size_of kind + 1) (R.remaining input.old) (R.remaining input.new) }
     // At 0 a `cat` of standard input has written exactly the bytes of a sound file of its image.
@@ -113,7 +134,27 @@ pub fn run<R: Read, W: Write, E: Write, M: Machine>(
         RefusesList refusal kind image (W.contents output.old) (W.contents output.new))
         result (E.contents errors.old) (E.contents errors.new)) }
 
-    // At 2 nothing is written, and the words are none of the plain forms of a command.
+    // An `init`: at 0 it has made the desk and said so, and at 1 a desk stood already and was left alone. Not at
+    // 0 its refusal is told.
+    ensures made { result ≡ 0 → (store key : List ℕ) → AsksInit (map (λ word. word.now) words.entry.now) store key
+        → MakesDesk M.Disk.Store (M.stands machine.old store) (M.left machine.new) (sha256 (trim_ows key))
+        × Appends (W.contents output.old) (W.contents output.new) done_line }
+    ensures init_told { result ≢ 0 → (store key : List ℕ) → AsksInit (map (λ word. word.now) words.entry.now) store key
+        → Tells (λ refusal. RefusesInit refusal (W.contents output.old) (W.contents output.new)
+        × LeavesInit M.Disk.Store (M.stands machine.old store) (M.left machine.new) (sha256 (trim_ows key)) refusal)
+        result (E.contents errors.old) (E.contents errors.new) }
+
+    // A `serve`: at 0 it has served as many visits as were asked for, and said so. Not at 0 its refusal is told,
+    // which is never 1.
+    ensures served { result ≡ 0 → (store : List ℕ) (port count : ℕ) (minutes : ℤ)
+        → AsksServe (map (λ word. word.now) words.entry.now) store port count minutes
+        → Appends (W.contents output.old) (W.contents output.new) (serve_text port count) }
+    ensures serve_told { result ≢ 0 → (store : List ℕ) (port count : ℕ) (minutes : ℤ)
+        → AsksServe (map (λ word. word.now) words.entry.now) store port count minutes
+        → Tells (λ refusal. RefusesServe refusal port count (W.contents output.old) (W.contents output.new))
+        result (E.contents errors.old) (E.contents errors.new) }
+
+    // At 2 nothing is written, and the words are none of the forms of a command.
     ensures usage { result ≡ 2 → ¬ IsCommand (map (λ word. word.now) words.entry.now) }
     ensures usage_keeps { result ≡ 2 → Keeps (W.contents output.old) (W.contents output.new) }
 

@@ -1,7 +1,7 @@
 ghost use Rattle.std.specs.Prelude.{◌≡◌, ◌+◌, IfErr, IfOk, IfSome, List, codes, take, ℕ};
 ghost use Rattle.rd_geometry.specs.Kinds.{size_of};
 ghost use Rattle.rd_main.specs.Input.{ReadsUpTo};
-ghost use Rattle.rd_main.specs.Refusals.{status_of};
+ghost use Rattle.rd_main.specs.Refusals.{IsOfDevice};
 
 use crate::input::read_front;
 use crate::machine::Machine;
@@ -23,11 +23,14 @@ pub(crate) fn read_image<R: Read, M: Machine>(
 ) -> Result<Vec<u8>, Refusal>
     ensures front { path.now ≡ codes "-" → IfOk result (λ bytes.
         IfSome (R.remaining input.old) (λ all. bytes.items ≡ take (size_of kind + 1) all)) }
-    ensures refused { IfErr result (λ refusal. status_of refusal ≡ 3) }
+    ensures refused { IfErr result IsOfDevice }
     ensures limit { ReadsUpTo (size_of kind + 1) (R.remaining input.old) (R.remaining input.new) }
 {
     if path == "-" {
         return read_front(alloc, kind.size() + 1, input);
     }
-    Ok(machine.read_file(alloc, path)?)
+    match machine.read_file(alloc, path) {
+        Ok(bytes) => Ok(bytes),
+        Err(fault) => Err(fault.or(Refusal::Device)),
+    }
 }

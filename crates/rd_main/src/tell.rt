@@ -22,6 +22,10 @@ use clap::error::ErrorKind;
 use rd_volume::{FaultWords, fault_words};
 use std::io::Write;
 
+/// What is told of an offset that is none.
+const OFFSETS: &[u8] =
+    b"error: --offset takes E or W, hours 00 to 23 and minutes 00 to 59, as in E0100\n";
+
 /// Writes a word after a blank.
 ///
 /// It fails with `Device` where a write failed: then a front part was written.
@@ -120,7 +124,10 @@ pub(crate) fn tell_unread<W: Write, E: Write>(unread: Unread, output: &mut W, er
 {
     match unread {
         Unread::NoMemory => tell_refusal(Refusal::NoMemory, errors),
-        Unread::Usage => tell_refusal(Refusal::Usage, errors),
+        Unread::Usage => {
+            let _ = write_bytes(errors, OFFSETS);
+            2
+        }
         Unread::Told(error) if error.kind() != ErrorKind::DisplayHelp => {
             let _ = write!(errors, "{error}");
             2

@@ -1,9 +1,44 @@
 //! What the program says and writes.
+
+/// A value that is like another but for some of its fields.
+macro_rules! like {
+    ($type:ident, $other:expr, $($field:ident: $value:expr),+) => {
+        $type { $($field: $value,)+ ..$other }
+    };
+}
+
+/// A table, of which each row stands on one line.
+macro_rules! table {
+    ($($row:expr;)+) => { &[$($row),+] };
+}
+
+/// A request for a path, without a key and a body.
+macro_rules! get {
+    ($path:literal) => {
+        Came::Text(concat!("GET ", $path, " HTTP/1.1\r\n\r\n"))
+    };
+}
+
+/// A reply in JSON: its status, the line that only this status has, and its body.
+macro_rules! reply {
+    ($status:literal, $body:literal) => {
+        Wanted::Json($status, "", $body)
+    };
+    ($status:literal, $line:literal, $body:literal) => {
+        Wanted::Json($status, $line, $body)
+    };
+}
+
 mod d64;
 mod edges;
 mod fakes;
 mod lists;
+mod options;
 mod refused;
+mod rooms;
+mod steps;
+mod stores;
+mod visits;
 
 use crate::machine::MachineFault;
 use crate::run::run;

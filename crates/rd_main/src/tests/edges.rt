@@ -112,7 +112,10 @@ const PATHS: [(&str, Result<usize, MachineFault>); 3] = [
 
 #[test]
 fn the_machine_reads_no_folder_and_no_more_than_an_image(rt: HostRuntime) {
-    let mut host = Host { rt: &rt };
+    let mut host = Host {
+        rt: &rt,
+        door: None,
+    };
     for (path, wanted) in PATHS {
         let given = host.read_file(rt.alloc(), path);
         assert!(rt; given.map(|bytes| bytes.len()) == wanted, "{path}");
@@ -138,7 +141,11 @@ fn fresh_path(rt: &HostRuntime) -> Result<String, Fail> {
 fn the_machine_reads_a_file(rt: HostRuntime) -> Result<(), Fail> {
     let path = fresh_path(&rt)?;
     fs::write(&rt, path.as_str(), b"BYTES")?;
-    let given = Host { rt: &rt }.read_file(rt.alloc(), path.as_str());
+    let given = Host {
+        rt: &rt,
+        door: None,
+    }
+    .read_file(rt.alloc(), path.as_str());
     fs::remove_file(&rt, path.as_str())?;
     assert!(rt; given.is_ok_and(|bytes| bytes.as_slice() == b"BYTES".as_slice()));
     Ok(())

@@ -1,5 +1,10 @@
 //! Readers, writers and machines that fail.
+
+ghost use Rattle.std.specs.Prelude.{None};
+
 use crate::machine::{Machine, MachineFault};
+use rd_http::MemoryDoor;
+use sqlite::{Connection, MemStore};
 use std::alloc::Global;
 use std::io;
 use std::io::{ErrorKind, Read, Write};
@@ -92,7 +97,7 @@ impl Write for Stumbling {
     }
 }
 
-/// A machine with one file, or with none to give.
+/// A machine with one file, or with none to give. It has no store, no clock and no port.
 #[derive(Drop)]
 pub(crate) struct OneFile<'a> {
     pub(crate) path: &'a str,
@@ -100,6 +105,14 @@ pub(crate) struct OneFile<'a> {
 }
 
 impl Machine for OneFile<'_> {
+    type Disk = MemStore;
+
+    type Door = MemoryDoor;
+
+    ghost stands = { λ _ _. None };
+
+    ghost left = { λ _. None };
+
     fn read_file(&mut self, alloc: Global, path: &str) -> Result<Vec<u8>, MachineFault> {
         if path != self.path {
             return Err(MachineFault::Failed);
@@ -108,5 +121,78 @@ impl Machine for OneFile<'_> {
             Ok(bytes) => Vec::from_slice(alloc, bytes).map_err(|_| MachineFault::NoMemory),
             Err(fault) => Err(fault),
         }
+    }
+
+    fn connect(&mut self, _path: &str) -> Result<Connection<MemStore>, MachineFault> {
+        Err(MachineFault::Failed)
+    }
+
+    fn release(&mut self, _conn: &mut Option<Connection<MemStore>>) {}
+
+    fn now(&mut self) -> Result<i64, MachineFault> {
+        Err(MachineFault::Failed)
+    }
+
+    fn listen(&mut self, _port: u16) -> Result<&mut MemoryDoor, MachineFault> {
+        Err(MachineFault::Failed)
+    }
+}
+
+/// The path of the store of a museum.
+pub(crate) const STORE: &str = "museum.sqlite";
+
+/// A machine with one store in memory, which stays between runs, and with visits to come. It has no file.
+#[derive(Drop)]
+pub(crate) struct Museum {
+    /// The store; `None` while a command has it.
+    pub(crate) conn: Option<Connection<MemStore>>,
+    pub(crate) door: MemoryDoor,
+    /// Whether the store is given, and why not.
+    pub(crate) connects: Result<(), MachineFault>,
+    /// Whether the door is lent, and why not.
+    pub(crate) listens: Result<(), MachineFault>,
+    /// What the clock shows.
+    pub(crate) moment: Result<i64, MachineFault>,
+    /// The port that was asked for last.
+    pub(crate) port: Option<u16>,
+}
+
+impl Machine for Museum {
+    type Disk = MemStore;
+
+    type Door = MemoryDoor;
+
+    ghost stands = { λ machine _. machine.conn };
+
+    ghost left = { λ machine. machine.conn };
+
+    fn read_file(&mut self, _alloc: Global, _path: &str) -> Result<Vec<u8>, MachineFault> {
+        Err(MachineFault::Failed)
+    }
+
+    /// It fails at a path of no store too, and where the store was not given back, or inside a transaction.
+    fn connect(&mut self, path: &str) -> Result<Connection<MemStore>, MachineFault> {
+        self.connects?;
+        if path != STORE {
+            return Err(MachineFault::Failed);
+        }
+        match self.conn.take() {
+            Some(conn) if conn.is_autocommit() => Ok(conn),
+            _ => Err(MachineFault::Failed),
+        }
+    }
+
+    fn release(&mut self, conn: &mut Option<Connection<MemStore>>) {
+        self.conn = conn.take();
+    }
+
+    fn now(&mut self) -> Result<i64, MachineFault> {
+        self.moment
+    }
+
+    fn listen(&mut self, port: u16) -> Result<&mut MemoryDoor, MachineFault> {
+        self.port = Some(port);
+        self.listens?;
+        Ok(&mut self.door)
     }
 }

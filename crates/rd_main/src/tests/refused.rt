@@ -1,13 +1,18 @@
 //! Runs that a script makes under an allocator that refuses one growth. A run that tells that memory was
 //! refused is made again, and then has to end as ever. Outputs are arrays, which ask for no memory.
 
+use super::fakes::Museum;
 use super::no_file;
+use super::steps::{museum, new_connection, run_on_museum};
+use super::visits::{AFTER, Came, DONE, STAFF, Visit, door_of};
 use crate::run::run;
+use rd_http::MemoryDoor;
 use rd_rows::bytes::put;
 use rd_rows::cbm::one_program;
 use rd_rows::cpm::hello;
 use rd_volume::{Kind, NoMemory};
-use std::alloc::Global;
+use std::alloc::{Alloc, Global};
+use std::process::Abort;
 use std::test::Fail;
 
 /// An image of one file.
@@ -116,10 +121,176 @@ fn list_of_a_program_when_memory_is_refused(rt: HostRuntime) -> Result<(), Fail>
 }
 
 #[test]
+fn an_offset_when_memory_is_refused(rt: HostRuntime) -> Result<(), Fail> {
+    let words = [
+        "serve", "--store", "f", "--port", "80", "--count", "1", "--offset", "E2400",
+    ];
+    assert_eq!(rt;
+        run_again(rt.alloc(), Kind::Cpm8, words.as_slice(), &mut [])?,
+        2
+    );
+    Ok(())
+}
+
+#[test]
 fn usage_when_memory_is_refused(rt: HostRuntime) -> Result<(), Fail> {
     assert_eq!(rt;
         run_again(rt.alloc(), Kind::Cpm8, &["cat", "cpm8"], &mut [])?,
         2
     );
+    Ok(())
+}
+
+/// What a run on a museum left: its status, and what was written and told, with zeros after it.
+#[derive(Drop)]
+struct Left {
+    status: u8,
+    output: [u8; 64],
+    errors: [u8; 64],
+}
+
+fn run_once(alloc: Global, words: &[&str], museum: &mut Museum) -> Left {
+    let mut output = [0; 64];
+    let mut errors = [0; 64];
+    let mut room = output.as_mut_slice();
+    let mut told = errors.as_mut_slice();
+    let status = run_on_museum(alloc, words, &mut room, &mut told, museum);
+    Left {
+        status,
+        output,
+        errors,
+    }
+}
+
+/// The bytes are a text, and zeros after it.
+fn says(bytes: &[u8], text: &str) -> bool {
+    match bytes.strip_prefix(text.as_bytes()) {
+        Some(rest) => rest.iter().all(|byte| *byte == 0),
+        None => false,
+    }
+}
+
+/// The run left this status, and wrote and told these texts.
+fn is_left(left: &Left, status: u8, output: &str, errors: &str) -> bool {
+    left.status == status && says(&left.output, output) && says(&left.errors, errors)
+}
+
+/// Memory was refused, or the store failed, which cannot tell why; so much was written.
+fn is_refused(left: &Left, output: &str) -> bool {
+    is_left(left, 3, output, "desk: no-memory\n") || is_left(left, 3, output, "desk: store\n")
+}
+
+fn door_again(alloc: Global, visits: &[Visit]) -> Result<MemoryDoor, NoMemory> {
+    match door_of(alloc, visits) {
+        Ok(door) => Ok(door),
+        Err(NoMemory) => door_of(alloc, visits),
+    }
+}
+
+/// A museum without a desk.
+fn museum_again(alloc: Global) -> Result<Museum, NoMemory> {
+    let conn = match new_connection(alloc) {
+        Ok(conn) => conn,
+        Err(NoMemory) => new_connection(alloc)?,
+    };
+    Ok(museum(conn, door_again(alloc, &[])?))
+}
+
+/// `init` leaves this, at the second time where memory is refused at the first, which leaves nothing.
+fn assert_init(rt: &impl Abort, museum: &mut Museum, alloc: Global, wanted: (u8, &str, &str)) {
+    let words = ["init", "--store", "museum.sqlite", "--key", "abc"];
+    let (status, output, errors) = wanted;
+    let first = run_once(alloc, words.as_slice(), museum);
+    if is_refused(&first, "") {
+        let second = run_once(alloc, words.as_slice(), museum);
+        assert!(rt; is_left(&second, status, output, errors));
+    } else {
+        assert!(rt; is_left(&first, status, output, errors));
+    }
+}
+
+#[test]
+fn init_when_memory_is_refused(rt: HostRuntime) -> Result<(), Fail> {
+    let mut museum = museum_again(rt.alloc())?;
+    assert_init(&rt, &mut museum, rt.alloc(), (0, "done\n", ""));
+    assert_init(&rt, &mut museum, rt.alloc(), (1, "", "desk: exists\n"));
+    Ok(())
+}
+
+/// A visit at which the staff puts a deed.
+const DEED: &[Visit] = &[(
+    "deed",
+    AFTER,
+    Came::Asked(
+        "PUT /deeds/7",
+        STAFF,
+        r#"{"donor":"A. Curator","signed":"2019-05-04"}"#,
+    ),
+    DONE,
+)];
+
+/// What goes out at it.
+const PUT: &[u8] =
+    b"HTTP/1.1 200 OK\r\nContent-Type: application/json\r\nContent-Length: 13\r\nConnection: close\r\n\r\n{\"done\":true}";
+
+/// What goes out where memory is refused and nothing was done.
+const UNAVAILABLE: &[u8] =
+    b"HTTP/1.1 503 Service Unavailable\r\nContent-Type: application/json\r\nContent-Length: 23\r\nConnection: close\r\n\r\n{\"error\":\"unavailable\"}";
+
+const FIRST_LINE: &str = "listening 127.0.0.1:8041\n";
+
+const BOTH_LINES: &str = "listening 127.0.0.1:8041\nserved 1\n";
+
+/// `serve` of the visit, at a new door.
+fn serve_once(alloc: Global, museum: &mut Museum) -> Result<Left, NoMemory> {
+    museum.door = door_again(alloc, DEED)?;
+    let words = [
+        "serve",
+        "--store",
+        "museum.sqlite",
+        "--port",
+        "8041",
+        "--count",
+        "1",
+    ];
+    Ok(run_once(alloc, words.as_slice(), museum))
+}
+
+/// The `serve` ended as ever, and at the visit its reply went out.
+fn is_whole(left: &Left, museum: &Museum) -> bool {
+    is_left(left, 0, BOTH_LINES, "")
+        && matches!(museum.door.visits(), [visit] if visit.out() == PUT)
+}
+
+/// At the visit its reply went out, or that of a desk that is unavailable, or a front of its reply where a
+/// write failed.
+fn is_answered(museum: &Museum) -> bool {
+    match museum.door.visits() {
+        [visit] if visit.put_failed() => PUT.starts_with(visit.out()) && visit.out() != PUT,
+        [visit] => visit.out() == PUT || visit.out() == UNAVAILABLE,
+        _ => false,
+    }
+}
+
+/// A `serve` under refused memory ended as ever, or after the visit without the second line, or before it
+/// without the first.
+fn is_served(left: &Left, museum: &Museum) -> bool {
+    if museum.door.visits().is_empty() {
+        return is_refused(left, "");
+    }
+    is_answered(museum)
+        && (is_left(left, 0, BOTH_LINES, "") || is_left(left, 3, FIRST_LINE, "desk: no-memory\n"))
+}
+
+#[test]
+fn serve_when_memory_is_refused(rt: HostRuntime) -> Result<(), Fail> {
+    let mut museum = museum_again(rt.alloc())?;
+    assert_init(&rt, &mut museum, rt.alloc(), (0, "done\n", ""));
+    let first = serve_once(rt.alloc(), &mut museum)?;
+    if !is_whole(&first, &museum) {
+        assert!(rt; is_served(&first, &museum));
+        let second = serve_once(rt.alloc(), &mut museum)?;
+        assert!(rt; is_whole(&second, &museum));
+    }
     Ok(())
 }

@@ -1,0 +1,200 @@
+//! The words of `init` and `serve`: which are taken, which are not, and which give help.
+
+use super::steps::{INIT, SERVE, Step, assert_steps};
+use super::{is_refused, is_usage_fault, run_on};
+use std::alloc::Alloc;
+use std::test::Fail;
+
+/// The words after the program's name.
+type Words = &'static [&'static str];
+
+/// Words of `init` that are no command.
+const NO_INITS: &[Words] = table![
+    &["init"];
+    &["init", "--store", "f"];
+    &["init", "--key", "k"];
+    &["init", "--store", "f", "--key"];
+    &["init", "--key", "k", "--store"];
+    &["init", "--store", "f", "--store", "f", "--key", "k"];
+    &["init", "--store", "f", "--key", "k", "--key", "k"];
+    &["init", "--store", "f", "--key", "k", "more"];
+    &["init", "more", "--store", "f", "--key", "k"];
+    &["init", "init", "--store", "f", "--key", "k"];
+    &["init", "--store", "f", "--key", "k", "init", "--store", "f", "--key", "k"];
+    &["init", "--store", "f", "--key", "k", "serve"];
+    &["init", "--store", "f", "--key", "k", "--port", "80"];
+    &["init", "--store", "f", "--key", "k", "--offset", "E0100"];
+    &["init", "-store", "f", "--key", "k"];
+    &["init", "--Store", "f", "--key", "k"];
+    &["--store", "f", "--key", "k", "init"];
+    &["Init", "--store", "f", "--key", "k"];
+    &["inits", "--store", "f", "--key", "k"];
+    &["import", "--store", "f", "--key", "k"];
+    &["", "--store", "f", "--key", "k"];
+];
+
+/// `serve` with these words after the store.
+macro_rules! serve_with {
+    ($($word:literal),*) => {
+        &["serve", "--store", "f" $(, $word)*]
+    };
+}
+
+/// `serve` of one visit by clocks that are so far ahead of UTC.
+macro_rules! serve_by {
+    ($offset:literal) => {
+        serve_with!("--port", "80", "--count", "1", "--offset", $offset)
+    };
+}
+
+/// Words of `serve` that are no command.
+const NO_SERVES: &[Words] = table![
+    &["serve"];
+    &["serve", "--port", "80", "--count", "1"];
+    serve_with!("--count", "1");
+    serve_with!("--port", "80");
+    serve_with!("--port", "80", "--count");
+    serve_with!("--count", "1", "--port");
+    serve_with!("--port", "80", "--count", "1", "--offset");
+    serve_with!("--port", "80", "--count", "1", "--store", "f");
+    serve_with!("--port", "80", "--count", "1", "--port", "80");
+    serve_with!("--port", "80", "--count", "1", "--count", "1");
+    serve_with!("--port", "80", "--count", "1", "--offset", "E0000", "--offset", "E0000");
+    serve_with!("--port", "80", "--count", "1", "--key", "k");
+    serve_with!("--port", "80", "--count", "1", "more");
+    serve_with!("--port", "80", "--count", "1", "serve");
+    &["serve", "serve", "--store", "f", "--port", "80", "--count", "1"];
+    &["server", "--store", "f", "--port", "80", "--count", "1"];
+];
+
+/// Ports and counts that are none.
+const NO_NUMBERS: &[Words] = table![
+    serve_with!("--port", "0", "--count", "1");
+    serve_with!("--port", "65536", "--count", "1");
+    serve_with!("--port", "-1", "--count", "1");
+    serve_with!("--port=-1", "--count", "1");
+    serve_with!("--port", "", "--count", "1");
+    serve_with!("--port", "+", "--count", "1");
+    serve_with!("--port", "80x", "--count", "1");
+    serve_with!("--port", "0x50", "--count", "1");
+    serve_with!("--port", " 80", "--count", "1");
+    serve_with!("--port", "80.0", "--count", "1");
+    serve_with!("--port", "80", "--count", "-1");
+    serve_with!("--port", "80", "--count=-1");
+    serve_with!("--port", "80", "--count", "4294967296");
+    serve_with!("--port", "80", "--count", "18446744073709551616");
+    serve_with!("--port", "80", "--count", "");
+    serve_with!("--port", "80", "--count", "one");
+    serve_with!("--port", "80", "--count", "1 ");
+];
+
+/// Offsets that are none.
+const NO_OFFSETS: &[Words] = table![
+    serve_by!("e0100");
+    serve_by!("w0100");
+    serve_by!("N0100");
+    serve_by!("E2400");
+    serve_by!("W2400");
+    serve_by!("E0060");
+    serve_by!("E2360");
+    serve_by!("E9999");
+    serve_by!("E100");
+    serve_by!("E01000");
+    serve_by!("0100");
+    serve_by!("+0100");
+    serve_by!("E+100");
+    serve_by!("E01:0");
+    serve_by!("E01:00");
+    serve_by!("E010/");
+    serve_by!("E01:/");
+    serve_by!("E 100");
+    serve_by!("E0100 ");
+    serve_by!(" E0100");
+    serve_by!("E");
+    serve_by!("");
+    serve_by!("UTC");
+    serve_by!("-0100");
+    serve_by!("E010\u{660}");
+    serve_with!("--port", "80", "--count", "1", "--offset=e0100");
+    serve_with!("--port", "80", "--count", "1", "--offset=");
+    serve_with!("--offset", "E2400", "--port", "80", "--count", "1");
+];
+
+#[test]
+fn other_words_are_no_command(rt: HostRuntime) {
+    for words in [NO_INITS, NO_SERVES, NO_NUMBERS, NO_OFFSETS]
+        .iter()
+        .copied()
+        .flatten()
+    {
+        let ran = run_on(rt.alloc(), words, &[]);
+        assert!(rt; is_usage_fault(&ran), "{words:?}");
+    }
+}
+
+/// Words of a command that a machine without a store cannot do.
+const TAKEN: &[Words] = table![
+    &["init", "--store", "f", "--key", "k"];
+    &["init", "--key", "k", "--store", "f"];
+    &["init", "--store=f", "--key=k"];
+    &["init", "--store=f", "--key", ""];
+    &["init", "--key=--store", "--store", "init"];
+    &["init", "--key=", "--store="];
+    serve_with!("--port", "1", "--count", "0");
+    serve_with!("--port", "65535", "--count", "4294967295");
+    serve_with!("--port", "+80", "--count", "+1");
+    serve_with!("--port", "0080", "--count", "0001");
+    serve_with!("--port=80", "--count=1", "--offset=E0100");
+    &["serve", "--offset", "W0100", "--count", "1", "--port", "80", "--store", "f"];
+    &["serve", "--count=1", "--offset=E0000", "--store=f", "--port=80"];
+    serve_by!("E0000");
+    serve_by!("W0000");
+    serve_by!("E0100");
+    serve_by!("E2359");
+    serve_by!("W2359");
+    serve_by!("E0059");
+    serve_by!("W2300");
+];
+
+#[test]
+fn words_are_taken_in_any_order(rt: HostRuntime) {
+    for words in TAKEN {
+        let ran = run_on(rt.alloc(), words, &[]);
+        assert!(rt; is_refused(&ran, 3, "desk: store\n"), "{words:?}");
+    }
+}
+
+/// Ports, counts and paths are those of the words.
+const VALUES: &[Step] = table![
+    like!(Step, INIT, label: "key first", words: &["init", "--key=abc", "--store=museum.sqlite"]);
+    like!(Step, SERVE, label: "the least port", words: &["serve", "--port=1", "--store=museum.sqlite", "--count=0"], output: "listening 127.0.0.1:1\nserved 0\n", port: Some(1));
+    like!(Step, SERVE, label: "the largest port", words: &["serve", "--count", "0", "--port", "65535", "--offset", "E2359", "--store", "museum.sqlite"], output: "listening 127.0.0.1:65535\nserved 0\n", port: Some(65535));
+    like!(Step, SERVE, label: "numbers in other forms", words: &["serve", "--count", "+00", "--port", "+080", "--store", "museum.sqlite"], output: "listening 127.0.0.1:80\nserved 0\n", port: Some(80));
+];
+
+#[test]
+fn the_words_give_the_port_and_the_count(rt: HostRuntime) -> Result<(), Fail> {
+    assert_steps(&rt, rt.alloc(), VALUES)
+}
+
+/// Words that ask for help, and texts in it.
+const HELPS: &[(Words, &[&str])] = table![
+    (&["--help"], &["init", "serve", "desk init --store museum.sqlite --key 'a long phrase'", "desk serve --store museum.sqlite --port 8041 --count 1000"]);
+    (&["cat", "--help"], &["desk cat d64 disk.d64 0"]);
+    (&["list", "--help"], &["desk list d64 disk.d64"]);
+    (&["init", "--help"], &["--store <FILE>", "--key <KEY>", "desk init --store museum.sqlite --key 'a long phrase'"]);
+    (&["init", "--store", "f", "-h"], &["--store <FILE>", "--key <KEY>"]);
+    (&["serve", "--help"], &["--store <FILE>", "--port <PORT>", "--count <COUNT>", "--offset <OFFSET>", "desk serve --store museum.sqlite --port 8041 --count 1000 --offset E0100"]);
+];
+
+#[test]
+fn help_names_the_options(rt: HostRuntime) {
+    for (words, parts) in HELPS {
+        let ran = run_on(rt.alloc(), words, &[]);
+        assert!(rt; ran.status == 0 && ran.errors.is_empty(), "{words:?}");
+        let text = std::str::from_utf8(ran.output.as_slice()).expect(&rt, "text");
+        for part in *parts {
+            assert!(rt; text.contains(part), "{words:?}: {part}");
+        }
+    }
+}
