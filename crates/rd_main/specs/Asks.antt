@@ -59,7 +59,7 @@ abbrev pub IsInitAsk : List ℕ → List ℕ → Ask → Type 0
 IsInitAsk store key (Init ask) = AsksNew ask store key
 IsInitAsk store key _ = ⊥
 
--- what is asked for is so many visits at the port
+-- what is asked for is so many visits at the port, of the desk in the file of the store, by its clocks
 abbrev pub IsServeAsk : List ℕ → ℕ → ℕ → ℤ → Ask → Type 0
 IsServeAsk store port count minutes (Serve ask) = AsksVisits ask store port count minutes
 IsServeAsk store port count minutes _ = ⊥

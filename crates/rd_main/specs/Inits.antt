@@ -31,7 +31,8 @@ IfBoth old new P = IfSome old (λ before. IfSome new (P before))
 abbrev pub MakesDesk : {S : Type 0} → Ghosts S → Option (Held S) → Option (Held S) → List ℕ → Type 0
 MakesDesk g old new staff = IfBoth old new (λ before after. IsCreated g before after staff)
 
--- What stands where `init` is refused: the new desk where the device failed, and where a desk stood already what stood.
+-- What stands where `init` is refused: the new desk where the device failed, and where a desk stood already what stood;
+-- of other refusals nothing is said.
 abbrev pub LeavesInit : {S : Type 0} → Ghosts S → Option (Held S) → Option (Held S) → List ℕ → Refusal → Type 0
 LeavesInit g old new staff Device = MakesDesk g old new staff
 LeavesInit g old new staff Exists = IfBoth old new (λ before after. IsNotCreated g before after staff create.Exists)
@@ -41,7 +42,7 @@ LeavesInit g old new staff refusal = ⊤
 abbrev pub IsInitRefusal : Refusal → Type 0
 IsInitRefusal refusal = (refusal ≡ Exists) ⊎ ((refusal ≡ Store) ⊎ (refusal ≡ NoMemory))
 
--- Why `init` is refused, and what was written then. Where the device fails, the desk was made.
+-- Why `init` is refused, and what was written then.
 abbrev pub RefusesInit : Refusal → Option (List ℕ) → Option (List ℕ) → Type 0
 RefusesInit Device old new = AppendsPart old new done_line
 RefusesInit refusal old new = Keeps old new × IsInitRefusal refusal

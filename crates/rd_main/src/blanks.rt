@@ -5,6 +5,7 @@ ghost use Rattle.httparse.specs.Grammar.{skip_ows, trim_ows};
 
 use httparse::is_space_or_tab;
 
+/// Bytes without the blanks and tabs in front.
 fn without_front(mut bytes: &[u8]) -> &[u8]
     ensures { result.now ≡ skip_ows bytes.now }
 {
@@ -16,6 +17,7 @@ fn without_front(mut bytes: &[u8]) -> &[u8]
     bytes
 }
 
+/// Bytes without the blanks and tabs at the end.
 fn without_end(mut bytes: &[u8]) -> &[u8]
     ensures { result.now ≡ reverse (skip_ows (reverse bytes.now)) }
 {

@@ -125,7 +125,7 @@ fn offset_option<'a>(alloc: Global) -> Arg<'a>
         .long("offset")
         .value_name("OFFSET")
         .help(
-            "How far the clocks of the desk are ahead of UTC: E or W, hours and minutes, as in E0100",
+            "How far the clocks of the desk are from UTC: E (ahead) or W (behind), hours and minutes, E0000 where it is not given",
         )
 }
 

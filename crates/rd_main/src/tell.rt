@@ -23,8 +23,8 @@ use rd_volume::{FaultWords, fault_words};
 use std::io::Write;
 
 /// What is told of an offset that is none.
-const OFFSETS: &[u8] =
-    b"error: --offset takes E or W, hours 00 to 23 and minutes 00 to 59, as in E0100\n";
+const OFFSET_MISTAKE: &[u8] =
+    b"error: --offset takes E or W, hours 00 to 23 and minutes 00 to 59, as in E0100\n\nFor more information, try '--help'.\n";
 
 /// Writes a word after a blank.
 ///
@@ -105,7 +105,7 @@ fn tell_help<W: Write>(help: &Error, output: &mut W) -> Result<(), Refusal>
     flush(output)
 }
 
-/// Tells why words ask for no file, and gives the status: 0 where help was asked for and written,
+/// Tells why words ask for nothing that can be done, and gives the status: 0 where help was asked for and written,
 /// 2 where the words are no command, else 3.
 pub(crate) fn tell_unread<W: Write, E: Write>(unread: Unread, output: &mut W, errors: &mut E) -> u8
     ensures status { result ≤ 3 }
@@ -125,7 +125,7 @@ pub(crate) fn tell_unread<W: Write, E: Write>(unread: Unread, output: &mut W, er
     match unread {
         Unread::NoMemory => tell_refusal(Refusal::NoMemory, errors),
         Unread::Usage => {
-            let _ = write_bytes(errors, OFFSETS);
+            let _ = write_bytes(errors, OFFSET_MISTAKE);
             2
         }
         Unread::Told(error) if error.kind() != ErrorKind::DisplayHelp => {

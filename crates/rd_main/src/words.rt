@@ -79,7 +79,7 @@ pub(crate) enum Ask<'a> {
     Serve(ServeAsk<'a>),
 }
 
-/// Why words ask for no file.
+/// Why words ask for nothing that can be done.
 #[derive(Debug, Drop)]
 pub(crate) enum Unread {
     /// The text to tell: help that was asked for, or what is wrong with the words.
