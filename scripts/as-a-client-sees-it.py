@@ -36,12 +36,13 @@ import time
 import tools
 
 from client_cases import (
-    ALL_ROWS, BADGES, BADGE_ROWS, CHANGED, COUNTS, CUT, DEED, DEED_BODY, DEED_HEAD, DONE, ENDS, EVERY, FIRST,
-    FIRST_ROWS, FOREIGN, FOR_RECORD, FOR_TOO_MUCH, FRAMING, GONE, HEADS, HOST, IMAGES, KEYS, LEAVES_SOME,
-    LIMIT, LONG, LONG_FILE, MORE, NO_DEED, NO_ROUTES, OPEN_FILES, OTHER_METHODS, PARTS, PATHS, PAUSE, PROGRAM,
-    QUESTION, READ_BACK, RECORD, REFUSALS, ROOT, ROUTES, RULES, SAMPLES, TAKEDOWN, TOO_LONG, UNTIED, UPLOADED,
-    UPLOADS, USAGE, bytes_of, content, denied, digest, drop, faulty, get, head, listed, listing, put, put_rule,
-    refused, write,
+    ALL_ROWS, BADGES, BADGE_ROWS, CHANGED, CHECK_ROWS, COUNTS, CUT, DEED, DEED_BODY, DEED_HEAD, DIFFERS, DONE, ENDS,
+    EVERY, FIRST, FIRST_ROWS, FOREIGN, FOR_HELLO_BY_STAFF, FOR_RECORD, FOR_TOO_MUCH, FRAMING, GONE, HEADS,
+    HELLO_CHANGED, HELLO_LINE, HELLO_TO_LIST, HOST, IMAGES, KEYS, LEAVES_SOME, LET_LIST, LIMIT, LONG, LONG_FILE,
+    LOOP_LINE, MORE, NO_DEED, NO_ROUTES, OF_12_TO_OTHERS, ONE_BYTE, OPEN_FILES, OTHER_METHODS, PARTS, PATHS, PAUSE,
+    PROGRAM, QUESTION, READ_BACK, RECORD, RECORD_LINE, REFUSALS, ROOM, ROOT, ROUTES, RULES, SAMPLES, SOUND, STAFF,
+    TAKEDOWN, TOO_LONG, UNTIED, UPLOADED, UPLOADS, USAGE, bytes_of, catalogue, check, content, denied, digest, drop,
+    faulty, get, head, listed, listing, put, put_rule, refused, write,
 )
 
 
@@ -536,16 +537,51 @@ def museum_case(desk, accession, path, fields):
 
 
 def see_museum(desk):
-    """The files of the repository's images are told and given as `list` and `cat` write them."""
-    cases = []
+    """The files of the repository's images are told, tabled and given as `list` and `cat` write them."""
+    cases, museum = [], []
     for accession, name in ((16, "museum.d64"), (17, "damaged.img"), (18, "welcome.img")):
         path = os.path.join(ROOT, "images", name)
         lines = desk.run("list", IMAGES[accession][0], path)[1].decode().splitlines()[:-1]
         files = [museum_case(desk, accession, path, line.split("\t")) for line in lines]
         told_files = listing(accession, *(line for line, _ in files))
+        museum += [(accession, line) for line, _ in files]
         cases += [(f"image {accession}", get(f"/images/{accession}"), told_files), *(case for _, case in files)]
     desk.same("museum: three images and nine files", 12, len(cases))
+    to_staff = catalogue((12, HELLO_LINE), (14, LOOP_LINE), (15, RECORD_LINE), *museum)
+    to_room = catalogue(*OF_12_TO_OTHERS, (14, LOOP_LINE), (15, RECORD_LINE), *museum)
+    to_public = catalogue(*OF_12_TO_OTHERS, (14, LOOP_LINE), (15, HELLO_TO_LIST), *museum)
+    cases += [
+        ("a takedown that lets list", LET_LIST, DONE),
+        ("the catalogue to the staff", get("/catalogue", STAFF), to_staff),
+        ("the catalogue to the room", get("/catalogue", ROOM), to_room),
+        ("the catalogue to the public", get("/catalogue"), to_public),
+    ]
     serve_copy(desk, "museum", by_both(cases))
+
+
+def offset_of(minutes):
+    return f"{'E' if minutes >= 0 else 'W'}{abs(minutes) // 60:02}{abs(minutes) % 60:02}"
+
+
+def see_checks(desk):
+    """A check by curl and one by http.client are of one day, since it is about noon by the clocks of each run."""
+    store = desk.copied("checks")
+    now = datetime.datetime.now(datetime.timezone.utc)
+    noon = 720 - 60 * now.hour - now.minute
+    today, other = offset_of(noon), offset_of(noon + (1439 if noon <= 0 else -1439))
+    seen = [("image 12", check(12), SOUND)]
+    serve(desk, "checks", store, by_both(seen), "--offset", today)
+    desk.same("checks: one day", "12|0\n", desk.sql(store, CHECK_ROWS))
+    serve(desk, "checks", store, by_both(seen), "--offset", other)
+    desk.same("checks: two days", "12|0\n12|0\n", desk.sql(store, CHECK_ROWS))
+    desk.sql(store, ONE_BYTE)
+    changed = [
+        ("image 12 is changed", check(12), DIFFERS),
+        ("its file is given", FOR_HELLO_BY_STAFF, HELLO_CHANGED),
+        ("image 14", check(14), SOUND),
+    ]
+    serve(desk, "checks", store, by_both(changed), "--offset", other)
+    desk.same("checks: a day of both", "12|0\n12|1\n14|0\n", desk.sql(store, CHECK_ROWS))
 
 
 def see_offset(desk):
@@ -632,6 +668,7 @@ GROUPS = [
     see_many,
     see_uploads,
     see_museum,
+    see_checks,
     see_offset,
     see_killed,
     see_stores,

@@ -1,8 +1,10 @@
 """The requests of clients and what has to come back: samples, replies and the cases that as-a-client-sees-it.py walks."""
 
 import collections
+import csv
 import datetime
 import hashlib
+import io
 import json
 import os
 import select
@@ -146,6 +148,14 @@ def put_image(accession, kind, deed, image, told=None):
     return Asked("PUT", f"/accessions/{accession}/{kind}/{deed}/{told or digest(image)}", STAFF, image)
 
 
+def survey(accession, key=STAFF):
+    return get(f"/images/{accession}/survey", key)
+
+
+def check(accession, key=STAFF, body=None):
+    return Asked("POST", f"/images/{accession}/check", key, body)
+
+
 def badge(key):
     """The path of a desk key."""
     return f"/badges/{digest(key.encode())}"
@@ -241,14 +251,47 @@ def images(*counts):
     return told(images=lines)
 
 
+def surveyed(accession, donor, signed, label, counts, **files):
+    """A survey of an image whose directory ends, with the counts of its block map or None."""
+    kind, deed, _ = IMAGES[accession]
+    keys = {"accession": accession, "deed": deed, "directory": "end", "donor": donor, "kind": kind}
+    return told(label=label, map=counts, signed=signed, size_differs=0, **keys, **files)
+
+
+def free_but_claimed(count):
+    return {"claimed_free": count, "unclaimed_used": 0, "wrong_counts": 0}
+
+
+COLUMNS = ("accession", "deed", "kind", "slot", "user", "name", "type", "size", "faults", "rule", "effect")
+
+
+def catalogue(*files):
+    """The table of all files that are listed: each with its accession. Python's csv writes it."""
+    text = io.StringIO()
+    table = csv.writer(text, lineterminator="\n")
+    table.writerow(COLUMNS)
+    for accession, file in files:
+        kind, deed, _ = IMAGES[accession]
+        cells = {**file, "accession": accession, "deed": deed, "kind": kind, "faults": " ".join(file["faults"])}
+        table.writerow(cells[column] for column in COLUMNS)
+    return reply(200, text.getvalue().encode(), "text/csv")
+
+
 # Deed 7 is closed to the public and the room until 2030 begins. Deed 8 has no rule, and 9 is open to all.
 CLOSED = time.time() < datetime.datetime(2030, 1, 1, tzinfo=datetime.timezone.utc).timestamp()
 OPEN_IMAGES = [(14, 1), (15, 1), (16, 3), (17, 4), (18, 2)]
 TO_STAFF = images((12, 1), *OPEN_IMAGES)
 TO_OTHERS = images(*OPEN_IMAGES) if CLOSED else TO_STAFF
 HELLO_LINE = listed(0, "HELLO", "PRG", 258, "R7.20")
+OF_12_TO_OTHERS = [] if CLOSED else [(12, HELLO_LINE)]
 HELLO_TO_OTHERS = denied("R7.10") if CLOSED else HELLO
 LOOP_LINE = listed(0, "LOOP", "PRG", None, "R9.20", faults=["loop"])
+RECORD_LINE = listed(0, "HELLO.TXT", "TXT", 128, "R9.20", user=0)
+DONOR_OF_9 = 'C. "Sea" Müller \\ Söhne'
+SURVEY_OF_12 = surveyed(12, "A. Curator", "2019-05-04", "MUSEUM", free_but_claimed(2), files=1, served=1, faulty=0)
+SURVEY_OF_14 = surveyed(14, DONOR_OF_9, "0001-01-01", "MUSEUM", free_but_claimed(3), files=1, served=0, faulty=1)
+SURVEY_OF_15 = surveyed(15, DONOR_OF_9, "0001-01-01", "", None, files=1, served=1, faulty=0)
+SOUND, DIFFERS = (told(outcome=word) for word in ("sound", "changed"))
 
 # Cases by curl and by http.client: label, request and reply
 
@@ -265,10 +308,11 @@ FIRST = [
     ("rule 10", put_rule("/deeds/7/rules/10", "deny", EVERY, "public", "room", until="2030-01-01"), DONE),
     ("rule 20", put_rule("/deeds/7/rules/20", "read", EVERY, *ALL), DONE),
     ("image 12", put_image(12, *IMAGES[12]), DONE),
+    ("the catalogue of it", get("/catalogue", STAFF), catalogue((12, HELLO_LINE))),
 ]
 
 MORE = [
-    ("deed 9", put("/deeds/9", {"donor": 'C. "Sea" Müller \\ Söhne', "signed": "0001-01-01"}), DONE),
+    ("deed 9", put("/deeds/9", {"donor": DONOR_OF_9, "signed": "0001-01-01"}), DONE),
     ("rule 10", put_rule("/deeds/9/rules/10", "deny", {"slot": 0}, *ALL, until="0001-01-02"), DONE),
     ("rule 11", put_rule("/deeds/9/rules/11", "list", {"prefix": "H"}, *ALL, **{"from": "9999-12-31"}), DONE),
     ("rule 20", put_rule("/deeds/9/rules/20", "read", EVERY, *ALL), DONE),
@@ -289,6 +333,7 @@ READ_BACK = [
     ("its file to the staff", get("/images/13/files/0", STAFF), denied("D0")),
     ("image 14", get("/images/14"), listing(14, LOOP_LINE)),
     ("image 15", FOR_RECORD, RECORD),
+    ("the survey of image 12", survey(12), SURVEY_OF_12),
     ("deed 7 stands", drop("/deeds/7/rules/99"), DONE),
     ("deed 8 stands", drop("/deeds/8/rules/99"), DONE),
     ("deed 10 does not", drop("/deeds/10/rules/99"), NO_DEED),
@@ -302,6 +347,12 @@ ROUTES = [
     ("a file of a CP/M disk", FOR_RECORD, RECORD),
     ("a query is not looked at", get("/images/15/files/0?/files/1"), RECORD),
     ("nor is the body of a question", Asked("GET", "/images/15/files/0", None, b"{"), RECORD),
+    ("a survey of a 1541 disk", survey(12), SURVEY_OF_12),
+    ("of one with a fault", survey(14), SURVEY_OF_14),
+    ("of a CP/M disk", survey(15), SURVEY_OF_15),
+    ("with a query", get("/images/15/survey?/check", STAFF), SURVEY_OF_15),
+    ("a check", check(12), SOUND),
+    ("with a body", check(12, STAFF, b'{"outcome":"changed"}'), SOUND),
     ("a deed is put", put("/deeds/999999", DEED), DONE),
     ("a rule of it is put", put_rule("/deeds/999999/rules/9999", "read", {"prefix": ""}, "staff"), DONE),
     ("an image is put under it", put_image(999999, "d64", 999999, PROGRAM_DISK), DONE),
@@ -328,11 +379,14 @@ METHODS = [
     ("/images", "GET", "POST PUT DELETE PATCH OPTIONS get"),
     ("/images/12", "GET", "POST PUT DELETE PATCH OPTIONS get"),
     ("/images/12/files/0", "GET", "POST PUT DELETE PATCH OPTIONS GETS"),
+    ("/images/12/survey", "GET", "POST PUT DELETE PATCH OPTIONS get"),
+    ("/images/12/check", "POST", "GET PUT DELETE PATCH OPTIONS post"),
     ("/images/12/rules/1", "PUT, DELETE", "GET POST PATCH OPTIONS put"),
     (f"/accessions/12/d64/7/{digest(PROGRAM_DISK)}", "PUT", "GET POST DELETE PATCH OPTIONS"),
     ("/deeds/7", "PUT", "GET POST DELETE PATCH OPTIONS put"),
     ("/deeds/7/rules/1", "PUT, DELETE", "GET POST PATCH OPTIONS delete"),
     (badge(ROOM), "PUT, DELETE", "GET POST PATCH OPTIONS DEL"),
+    ("/catalogue", "GET", "POST PUT DELETE PATCH OPTIONS get"),
 ]
 
 OTHER_METHODS = [
@@ -356,15 +410,22 @@ NO_ROUTES = [
     ("63 digits", drop(badge(STAFF)[:-1]), NO_ROUTE),
     ("no such path, and no such method", Asked("POST", "/images/012"), NO_ROUTE),
     ("no such path, and no such key", get("/nowhere", NOBODY), NO_ROUTE),
-    # What the desk is to have, and has not yet:
-    ("a survey", get("/images/12/survey", STAFF), NO_ROUTE),
-    ("a check", Asked("POST", "/images/12/check", STAFF), NO_ROUTE),
-    ("the catalogue", get("/catalogue"), NO_ROUTE),
+    ("a survey of accession 012", survey("012"), NO_ROUTE),
+    ("a survey of all", get("/images/survey", STAFF), NO_ROUTE),
+    ("a check of accession 0", check(0), NO_ROUTE),
+    ("checks", Asked("POST", "/images/12/checks", STAFF), NO_ROUTE),
+    ("the catalogue, and a slash more", get("/catalogue/"), NO_ROUTE),
 ]
 
 REFUSALS = [
     ("a key that nobody has", get("/images", NOBODY), UNKNOWN_KEY),
     ("no accession, and such a key", get("/images/99", NOBODY), UNKNOWN_KEY),
+    ("the catalogue, and such a key", get("/catalogue", NOBODY), UNKNOWN_KEY),
+    ("a check of no accession, and such a key", check(99, NOBODY), UNKNOWN_KEY),
+    ("a survey of the public", survey(12, PUBLIC), STAFF_ONLY),
+    ("a survey of the room", survey(12, ROOM), STAFF_ONLY),
+    ("a check of the public", check(12, PUBLIC), STAFF_ONLY),
+    ("of the room, without an accession", check(99, ROOM), STAFF_ONLY),
     ("a command of the public", put("/deeds/10", DEED, PUBLIC), STAFF_ONLY),
     ("a command of the room", put("/deeds/10", DEED, ROOM), STAFF_ONLY),
     ("of the room, without a deed", put("/deeds/10", {}, ROOM), STAFF_ONLY),
@@ -379,6 +440,8 @@ REFUSALS = [
     ("a takedown that lets read", put_rule("/images/12/rules/1", "read", EVERY, "room"), BAD_BODY),
     ("a key for the public", put(badge(ROOM), {"audience": "public"}), BAD_BODY),
     ("no accession", get("/images/99"), NO_ACCESSION),
+    ("a survey of no accession", survey(99), NO_ACCESSION),
+    ("a check of no accession", check(99), NO_ACCESSION),
     ("a file of no accession", get("/images/99/files/0"), NO_ACCESSION),
     ("a takedown of no accession", put_rule("/images/99/rules/1", "deny", EVERY, "room"), NO_ACCESSION),
     ("a takedown dropped of none", drop("/images/99/rules/1"), NO_ACCESSION),
@@ -400,10 +463,11 @@ REFUSALS = [
     ("all is as it was", get("/images", STAFF), TO_STAFF),
 ]
 
-HELLO_TO_LIST = listed(0, "HELLO.TXT", "TXT", 128, "T15.1", effect="list", user=0)
+HELLO_TO_LIST = {**RECORD_LINE, "rule": "T15.1", "effect": "list"}
+LET_LIST = put_rule("/images/15/rules/1", "list", EVERY, "public")
 
 RULES = [
-    ("a takedown that lets list", put_rule("/images/15/rules/1", "list", EVERY, "public"), DONE),
+    ("a takedown that lets list", LET_LIST, DONE),
     ("it is listed", get("/images/15"), listing(15, HELLO_TO_LIST)),
     ("and not read", FOR_RECORD, denied("T15.1")),
     ("at that rank, one of the staff", put_rule("/images/15/rules/1", "deny", EVERY, "staff"), DONE),
@@ -538,6 +602,7 @@ RULE_ROWS = (
     "SELECT band, scope, rank, audiences, quote(day_from), quote(day_until), how, number, quote(word), effect"
     " FROM rule ORDER BY band, scope, rank"
 )
+CHECK_ROWS = "SELECT acc, outcome FROM checked ORDER BY acc, outcome"
 BADGE_ROWS = "SELECT lower(hex(digest)), audience FROM badge ORDER BY audience"
 COUNTS = "SELECT " + ", ".join(
     f"(SELECT count(*) FROM {table})" for table in ("desk", "deed", "image", "rule", "badge", "checked")
@@ -603,6 +668,12 @@ CHANGED = [
 
 # A copy to which the program does not even connect: what sqlite3 lets stand against a foreign key is no database to it.
 UNTIED = ("an image of no deed", "UPDATE image SET deed = 99 WHERE acc = 12")
+
+# The first byte of the file of accession 12, changed in a copy that is opened: that image has another SHA-256 now.
+ONE_BYTE = (
+    "UPDATE image SET bytes = CAST(substr(bytes, 1, 86018) || x'42' || substr(bytes, 86020) AS BLOB) WHERE acc = 12"
+)
+HELLO_CHANGED = content(b"B" + b"A" * 253 + b"BCDE")
 
 # What sqlite3 makes in a new file, and what `serve` and `init` tell of it.
 FOREIGN = [

@@ -1,4 +1,4 @@
--- Which refusals a command of the staff can have.
+-- Which refusals a request of the staff can have.
 use Rattle.std.proofs.Common.{◌≡◌, ◌≢◌, ℕ, Option, Some, None, IsSome, IsSomeAnd, is_some, false, ap, refl}
 use Rattle.std.specs.FinMap.{get}
 use Rattle.rd_policy.specs.declared.audience.Audience.TheVariants.{Staff}
@@ -6,15 +6,15 @@ use Rattle.rd_policy.specs.declared.rule.Band.{Band}
 use Rattle.rd_policy.specs.declared.rule.Band.TheVariants.{Takedown, Deed}
 use Rattle.rd_store.specs.State.{Desk, Stands}
 use Rattle.rd_desk.specs.Judged.{Holds, IsAccepted, accession_at, audience_of, deed_at, file_of}
-use Rattle.rd_desk.specs.Requests.{IsCommand}
+use Rattle.rd_desk.specs.Requests.{IsForStaff}
 use Rattle.rd_desk.specs.declared.refusal.Refusal.{Refusal}
 use Rattle.rd_desk.specs.declared.refusal.Refusal.TheVariants.{UnknownKey, StaffOnly, BadBody, NoAccession, NoFile, NoDeed, WrongSize, DigestDiffers, Conflict}
 use Rattle.rd_desk.specs.declared.request.Request.{Request}
 use Rattle.rd_desk.specs.declared.request.What.{What}
 use Rattle.rd_desk.specs.declared.request.What.TheVariants.{Bytes, Unread}
 
--- a command asks for no file
-pub no_file : (what : What) → IsCommand what → file_of what ≡ None
+-- what is for the staff asks for no file
+pub no_file : (what : What) → IsForStaff what → file_of what ≡ None
 no_file (Bytes acc slot) command = absurd command
 no_file other command = refl
 
@@ -31,11 +31,11 @@ module _ (desk : Desk) (scope : ℕ) where
   has_deed Takedown stands none = none
   has_deed Deed stands none = not_none (get desk.deeds scope) stands none
 
-module _ (desk : Desk) (request : Request) (command : IsCommand request.what) (read : request.what ≢ Unread) (staff : audience_of desk request.badge ≡ Some Staff) where
+module _ (desk : Desk) (request : Request) (command : IsForStaff request.what) (read : request.what ≢ Unread) (staff : audience_of desk request.badge ≡ Some Staff) where
   abbrev Passes : Refusal → Type 0
   Passes refusal = ¬ Holds desk request None refusal
 
-  -- a command of the staff that could be read is accepted where none of these holds
+  -- a request of the staff that could be read is accepted where none of these holds
   pub command_accepted : Passes NoAccession → Passes NoDeed → Passes WrongSize → Passes DigestDiffers → Passes Conflict → IsAccepted desk request None
   command_accepted accession deed size digest conflict UnknownKey h = cc
   command_accepted accession deed size digest conflict StaffOnly h = h.1 staff

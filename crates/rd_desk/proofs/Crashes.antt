@@ -1,5 +1,5 @@
--- A crash that leaves a changed desk leaves that of an accepted command.
-use Rattle.std.proofs.Common.{◌≡◌, ◌≢◌, ◌⊎◌, inl, inr, ℕ, List, Option, Some, None, ap, nat_cmp, refl, sym, ◌∙◌}
+-- A crash that leaves a changed desk leaves that of an accepted request.
+use Rattle.std.proofs.Common.{◌≡◌, ◌≢◌, ◌⊎◌, inl, inr, ℕ, ℤ, List, Option, Some, None, ap, nat_cmp, refl, sym, ◌∙◌}
 use Rattle.std.specs.FinMap.{get}
 use Rattle.rd_geometry.specs.declared.kind.Kind.{Kind}
 use Rattle.rd_policy.specs.declared.audience.Audience.{Audience}
@@ -10,12 +10,12 @@ use Rattle.rd_store.specs.declared.rows.ImageRow.{ImageRow}
 use Rattle.rd_store.proofs.Lawful.{others_left, others_stay}
 use Rattle.rd_store.proofs.Orders.{digest_order, number_order, place_order}
 use Rattle.rd_desk.specs.Judged.{Holds, IsAccepted, audience_of}
-use Rattle.rd_desk.specs.Replies.{carried_out}
-use Rattle.rd_desk.specs.Requests.{IsCommand}
+use Rattle.rd_desk.specs.Replies.{carried_out, with_checked}
+use Rattle.rd_desk.specs.Requests.{IsForStaff}
 use Rattle.rd_desk.specs.declared.refusal.Refusal.TheVariants.{DigestDiffers}
 use Rattle.rd_desk.specs.declared.request.Request.{Request}
 use Rattle.rd_desk.specs.declared.request.What.{What}
-use Rattle.rd_desk.specs.declared.request.What.TheVariants.{PutImage, PutDeed, PutRule, DropRule, PutKey, DropKey, Unread}
+use Rattle.rd_desk.specs.declared.request.What.TheVariants.{Survey, Check, PutImage, PutDeed, PutRule, DropRule, PutKey, DropKey, Unread}
 use Rattle.rd_desk.proofs.Accepting.{command_accepted, has_accession, has_deed, not_none}
 use Rattle.rd_desk.proofs.Maps.{get_inserted, get_removed, remove_kept}
 
@@ -31,12 +31,12 @@ module _ (desk : Desk) (digest : List ℕ) where
       let apart : left.staff.0 ≢ digest = λ same. let there = get_removed digest_cmp digest_order.total desk.keys digest in let here = left.staff.1 in cc in
       last.1 (left.staff.0, apart, sym (others_left digest_cmp digest_order desk.keys digest left.staff.0 apart) ∙ left.staff.1)
 
-module _ (desk : Desk) (badge : Option (List ℕ)) (staff : audience_of desk badge ≡ Some Staff) (lawful : IsLawful desk) where
+module _ (day : ℤ) (desk : Desk) (badge : Option (List ℕ)) (staff : audience_of desk badge ≡ Some Staff) (lawful : IsLawful desk) where
   abbrev asking : What → Request
   asking what = record { badge = badge; what = what }
 
   abbrev IsLeftAccepted : What → Type 0
-  IsLeftAccepted what = ¬ Holds desk (asking what) None DigestDiffers → IsLawful (carried_out what desk) → (carried_out what desk ≡ desk) ⊎ IsAccepted desk (asking what) None
+  IsLeftAccepted what = ¬ Holds desk (asking what) None DigestDiffers → IsLawful (carried_out day what desk) → (carried_out day what desk ≡ desk) ⊎ IsAccepted desk (asking what) None
 
   left_image : (acc : ℕ) (kind : Kind) (deed : ℕ) (digest bytes : List ℕ) → IsLeftAccepted (PutImage acc kind deed digest bytes)
   left_image acc kind deed digest bytes same_digest = at (get desk.images acc) refl
@@ -63,7 +63,18 @@ module _ (desk : Desk) (badge : Option (List ℕ)) (staff : audience_of desk bad
           inr (command_accepted desk (asking (DropRule place.band place.scope place.rank)) tt (λ e. cc) staff
           (has_accession desk place.scope place.band stands) (has_deed desk place.scope place.band stands) (λ h. h) same_digest (λ h. h))
 
-  left_what : (what : What) → IsCommand what → what ≢ Unread → IsLeftAccepted what
+  left_check : (acc : ℕ) → IsLeftAccepted (Check acc)
+  left_check acc same_digest left = at (get desk.images acc) refl
+    where
+      at : (found : Option ImageRow) → get desk.images acc ≡ found → (with_checked found acc day desk ≡ desk) ⊎ IsAccepted desk (asking (Check acc)) None
+      at None is = inl refl
+      at (Some image) is =
+          inr (command_accepted desk (asking (Check acc)) tt (λ e. cc) staff
+          (λ none. let absent : get desk.images acc ≡ None = none in cc) (λ h. h) (λ h. h) same_digest (λ h. h))
+
+  left_what : (what : What) → IsForStaff what → what ≢ Unread → IsLeftAccepted what
+  left_what (Survey acc) command read same_digest left = inl refl
+  left_what (Check acc) command read same_digest left = left_check acc same_digest left
   left_what (PutImage acc kind deed digest bytes) command read same_digest left = left_image acc kind deed digest bytes same_digest left
   left_what (PutDeed num donor signed) command read same_digest left =
       inr (command_accepted desk (asking (PutDeed num donor signed)) tt read staff (λ h. h) (λ h. h) (λ h. h) same_digest (λ h. h))
@@ -81,8 +92,8 @@ module _ (desk : Desk) (badge : Option (List ℕ)) (staff : audience_of desk bad
   left_what Unread command read same_digest left = absurd (read refl)
   left_what question command read same_digest left = absurd command
 
--- a command of the staff that leaves another lawful desk is accepted
-pub left_accepted : (desk : Desk) (request : Request) → IsCommand request.what → (request.what ≡ Unread → ⊥) → audience_of desk request.badge ≡ Some Staff
-    → (Holds desk request None DigestDiffers → ⊥) → IsLawful desk → IsLawful (carried_out request.what desk)
-    → (carried_out request.what desk ≡ desk) ⊎ IsAccepted desk request None
-left_accepted desk request command read staff same_digest lawful left = left_what desk request.badge staff lawful request.what command read same_digest left
+-- a request of the staff that leaves another lawful desk is accepted
+pub left_accepted : (day : ℤ) (desk : Desk) (request : Request) → IsForStaff request.what → (request.what ≡ Unread → ⊥) → audience_of desk request.badge ≡ Some Staff
+    → (Holds desk request None DigestDiffers → ⊥) → IsLawful desk → IsLawful (carried_out day request.what desk)
+    → (carried_out day request.what desk ≡ desk) ⊎ IsAccepted desk request None
+left_accepted day desk request command read staff same_digest lawful left = left_what day desk request.badge staff lawful request.what command read same_digest left

@@ -3,12 +3,15 @@ use Rattle.std.proofs.Common.{◌≡◌, ℕ, List, [], ◌∷◌, false, Option
 use Rattle.serde_json.specs.Data.{string}
 use Rattle.serde_json.specs.View.{items_of}
 use Rattle.serde_json.specs.Written.{has_float, items_have_float}
+use Rattle.rd_cbm.specs.declared.report.MapReport.{MapReport}
 use Rattle.rd_geometry.specs.declared.kind.Kind.{Kind}
+use Rattle.rd_geometry.specs.declared.kind.Kind.TheVariants.{Cpm8, D64}
 use Rattle.rd_volume.specs.Words.{words_of}
-use Rattle.rd_desk.specs.Texts.{image_data, images_data, line_data, listing_data, natural_or_null}
+use Rattle.rd_desk.specs.Texts.{image_data, images_data, line_data, listing_data, map_data, natural_or_null, surveyed_data}
 use Rattle.rd_desk.specs.declared.said.ImageLine.{ImageLine}
 use Rattle.rd_desk.specs.declared.said.Line.{Line}
 use Rattle.rd_desk.specs.declared.said.Listing.{Listing}
+use Rattle.rd_desk.specs.declared.said.Survey.{Survey}
 
 in_number : (number : Option ℕ) → has_float (natural_or_null number) ≡ false
 in_number None = refl
@@ -34,3 +37,10 @@ listing_has_no_float listing = rw (in_lines listing.kind listing.files) refl
 
 pub images_have_no_float : (lines : List ImageLine) → has_float (images_data lines) ≡ false
 images_have_no_float lines = rw (in_images lines) refl
+
+in_map : (kind : Kind) (map : MapReport) → has_float (map_data kind map) ≡ false
+in_map Cpm8 map = refl
+in_map D64 map = refl
+
+pub survey_has_no_float : (survey : Survey) → has_float (surveyed_data survey) ≡ false
+survey_has_no_float survey = rw (in_map survey.kind survey.report.map) refl

@@ -13,3 +13,7 @@ pub mod Stepping
 pub mod Telling
 pub mod Responding
 pub mod Serving
+pub mod Checking
+pub mod OneReport
+pub mod Cataloguing
+pub mod Tables

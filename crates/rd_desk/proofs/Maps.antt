@@ -5,7 +5,7 @@ use Rattle.std.specs.FinMap.{FinMap, IsAntisymmetric, get, insert, remove, same_
 use Rattle.std.specs.Ordering.{eq_by_cmp}
 use Rattle.std.proofs.lemmas.Cmp.{eq_by_cmp_equiv}
 
-tied : (order : Ordering) → is_eq order ≡ true → order ≡ Equal
+pub tied : (order : Ordering) → is_eq order ≡ true → order ≡ Equal
 tied Equal is = refl
 tied Less is = absurd cc
 tied Greater is = absurd cc

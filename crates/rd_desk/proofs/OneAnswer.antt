@@ -19,24 +19,27 @@ use Rattle.rd_volume.proofs.OneContents.{one_contents}
 use Rattle.rd_volume.proofs.OneFound.{one_found}
 use Rattle.rd_store.specs.State.{Desk, rules_for}
 use Rattle.rd_store.specs.declared.rows.ImageRow.{ImageRow}
+use Rattle.rd_store.specs.declared.rows.Outcome.{Outcome}
 use Rattle.rd_store.proofs.RulesFor.{for_in_order}
+use Rattle.rd_desk.specs.Checks.{outcome_of}
 use Rattle.rd_desk.specs.Judged.{Holds, IsAccepted, IsAsked, IsJudgedFile, IsRefused, IsRefusedOn, JudgedFile}
 use Rattle.rd_desk.specs.Laws.{OneReply}
 use Rattle.rd_desk.specs.Refusals.{number_of}
-use Rattle.rd_desk.specs.Replies.{AreFileBytes, AreImageLines, AreLines, IsAnswered, IsDone, IsImageLine, IsLine, IsListing, Tells}
+use Rattle.rd_desk.specs.Replies.{AreFileBytes, AreImageLines, AreLines, AreListings, IsAnswered, IsDone, IsImageLine, IsLine, IsListing, Tells}
 use Rattle.rd_desk.specs.Texts.{reply_of}
 use Rattle.rd_desk.specs.declared.refusal.Refusal.{Refusal}
 use Rattle.rd_desk.specs.declared.refusal.Refusal.TheVariants.{UnknownKey, StaffOnly, BadBody, NoAccession, NoFile, NoDeed, Denied, ListedOnly, Faulty, WrongSize, DigestDiffers, Conflict}
 use Rattle.rd_desk.specs.declared.request.Request.{Request}
 use Rattle.rd_desk.specs.declared.request.What.{What}
-use Rattle.rd_desk.specs.declared.request.What.TheVariants.{Images, Listing, Bytes}
+use Rattle.rd_desk.specs.declared.request.What.TheVariants.{Images, Listing, Bytes, Catalogue, Survey, Check}
 use Rattle.rd_desk.specs.declared.said.ImageLine.{ImageLine}
 use Rattle.rd_desk.specs.declared.said.Line.{Line}
 use Rattle.rd_desk.specs.declared.said.Listing.{Listing as Lines}
 use Rattle.rd_desk.specs.declared.said.Said.{Said}
 use Rattle.rd_desk.specs.declared.said.Said.TheVariants as said
 use Rattle.rd_desk.proofs.Ascending.{one_list}
-use Rattle.rd_desk.proofs.Telling.{told_bytes, told_done, told_images, told_listing}
+use Rattle.rd_desk.proofs.OneReport.{one_survey}
+use Rattle.rd_desk.proofs.Telling.{told_bytes, told_catalogue, told_check, told_done, told_images, told_listing, told_survey}
 
 -- ---- the file that is asked for
 
@@ -123,7 +126,7 @@ module _ (audience : Audience) (day : ℤ) where
   one_images desk xs ys one other =
       one_list (λ (line : ImageLine). line.accession) (IsImageLine desk audience day) xs ys one.each other.each one.ascending other.ascending one.complete other.complete
 
-  one_listing : (desk : Desk) (acc : ℕ) (one other : Lines) → IsListing desk audience day acc one → IsListing desk audience day acc other → one ≡ other
+  pub one_listing : (desk : Desk) (acc : ℕ) (one other : Lines) → IsListing desk audience day acc one → IsListing desk audience day acc other → one ≡ other
   one_listing desk acc one other first second =
       let image : first.image ≡ second.image = cc (first.standing, second.standing) in
       let accession : one.accession ≡ other.accession = first.accession ∙ sym second.accession in
@@ -132,6 +135,18 @@ module _ (audience : Audience) (day : ℤ) where
       let files = one_lines first.image (rules_for desk acc) one.files other.files first.listed
       (subst (λ row. AreLines row (rules_for desk acc) audience day other.files) (sym image) second.listed) in
       λ i. record { accession = accession i; deed = deed i; kind = kind i; files = files i }
+
+  one_listings : (desk : Desk) (xs ys : List Lines) → AreListings desk audience day xs → AreListings desk audience day ys → xs ≡ ys
+  one_listings desk xs ys one other =
+      one_list (λ (listing : Lines). listing.accession) (λ listing. IsListing desk audience day listing.accession listing) xs ys
+      one.each other.each one.ascending other.ascending one.complete other.complete
+
+-- ---- what a check finds
+
+one_outcome : (found : Option ImageRow) (one other : Outcome) → IsSomeAnd found (λ image. one ≡ outcome_of image.bytes image.digest)
+    → IsSomeAnd found (λ image. other ≡ outcome_of image.bytes image.digest) → one ≡ other
+one_outcome None one other first second = absurd first
+one_outcome (Some image) one other first second = first ∙ sym second
 
 -- ---- the bytes of a file
 
@@ -186,6 +201,18 @@ module _ (desk : Desk) (day : ℤ) (badge : Option (List ℕ)) where
         let a = told_bytes desk audience day file acc slot one first in
         let b = told_bytes desk audience day file acc slot other second in
         a.1 ∙ ap said.File (one_bytes acc slot file a.0 b.0 asked accepted a.2 a.3 b.3) ∙ sym b.1
+    one_told Catalogue asked accepted first second =
+        let a = told_catalogue desk audience day file one first in
+        let b = told_catalogue desk audience day file other second in
+        a.1 ∙ ap said.Catalogue (one_listings audience day desk a.0 b.0 a.2 b.2) ∙ sym b.1
+    one_told (Survey acc) asked accepted first second =
+        let a = told_survey desk audience day file acc one first in
+        let b = told_survey desk audience day file acc other second in
+        a.1 ∙ ap said.Surveyed (one_survey desk acc a.0 b.0 a.2 b.2) ∙ sym b.1
+    one_told (Check acc) asked accepted first second =
+        let a = told_check desk audience day file acc one first in
+        let b = told_check desk audience day file acc other second in
+        a.1 ∙ ap said.Checked (one_outcome (get desk.images acc) a.0 b.0 a.2 b.2) ∙ sym b.1
     one_told what asked accepted first second = told_done desk audience day file one what tt first ∙ sym (told_done desk audience day file other what tt second)
 
 -- ---- the reply

@@ -6,7 +6,7 @@ use Rattle.rd_policy.specs.declared.verdict.Label.{Label}
 use Rattle.rd_geometry.specs.declared.kind.Kind.{Kind}
 use Rattle.rd_store.specs.State.{Desk}
 use Rattle.rd_desk.specs.Judged.{JudgedFile, Holds, PassesTo, IsAccepted, audience_of}
-use Rattle.rd_desk.specs.Requests.{IsCommand}
+use Rattle.rd_desk.specs.Requests.{IsForStaff}
 use Rattle.rd_desk.specs.declared.refusal.Refusal.TheVariants.{UnknownKey, StaffOnly, BadBody, NoAccession, NoFile, NoDeed, Denied, ListedOnly, Faulty, WrongSize, DigestDiffers, Conflict}
 use Rattle.rd_desk.specs.declared.request.Request.{Request}
 use Rattle.rd_desk.specs.declared.request.What.TheVariants.{Unread}
@@ -21,7 +21,7 @@ module _ (desk : Desk) (request : Request) (file : Option JudgedFile) where
   to_6 audience is UnknownKey lt h = cc
   to_6 audience is other lt h = absurd (omega arith)
 
-  pub to_7 : PassesTo desk request file 6 → (IsCommand request.what → audience_of desk request.badge ≡ Some Staff) → PassesTo desk request file 7
+  pub to_7 : PassesTo desk request file 6 → (IsForStaff request.what → audience_of desk request.badge ≡ Some Staff) → PassesTo desk request file 7
   to_7 before known StaffOnly lt h = h.1 (known h.0)
   to_7 before known other lt h = before other (omega arith) h
 

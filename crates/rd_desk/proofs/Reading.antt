@@ -11,16 +11,18 @@ use Rattle.rd_volume.specs.declared.found.Found.{Found}
 use Rattle.rd_store.specs.State.{Desk, rules_for}
 use Rattle.rd_store.specs.declared.rows.ImageRow.{ImageRow}
 use Rattle.rd_desk.specs.Calls.{IsHolding}
-use Rattle.rd_desk.specs.Judged.{IsAccepted, IsJudgedFile, IsRefused, JudgedFile, PassesTo, audience_of}
+use Rattle.rd_desk.specs.Judged.{Conflicts, IsAccepted, IsJudgedFile, IsRefused, JudgedFile, PassesTo, accession_of, audience_of, deed_of, file_of, image_of}
 use Rattle.rd_desk.specs.Queries.{IsAtSlot, IsRead}
 use Rattle.rd_desk.specs.Replies.{IsAnswered}
 use Rattle.rd_desk.specs.declared.asking.Holding.{Holding}
 use Rattle.rd_desk.specs.declared.refusal.Refusal.{Refusal}
 use Rattle.rd_desk.specs.declared.refusal.Refusal.TheVariants.{UnknownKey, StaffOnly, BadBody, NoAccession, NoFile, NoDeed, Denied, ListedOnly, Faulty, WrongSize, DigestDiffers, Conflict}
+use Rattle.rd_desk.specs.Requests.{IsForStaff}
 use Rattle.rd_desk.specs.declared.request.Request.{Request}
-use Rattle.rd_desk.specs.declared.request.What.TheVariants.{Bytes, Images}
+use Rattle.rd_desk.specs.declared.request.What.{What}
+use Rattle.rd_desk.specs.declared.request.What.TheVariants.{Bytes, Catalogue, Images, Unread}
 use Rattle.rd_desk.specs.declared.said.Said.{Said}
-use Rattle.rd_desk.specs.declared.said.Said.TheVariants.{Refused, Done, Images as Told, Listed, File}
+use Rattle.rd_desk.specs.declared.said.Said.TheVariants.{Refused, Done, Images as Told, Listed, File, Catalogue as Catalogued, Surveyed, Checked}
 use Rattle.rd_desk.proofs.Passes.{to_6, to_7, to_8, to_9, to_10, to_11, to_12, to_13, to_14, to_15, to_16, accepted}
 
 pub if_ok : {T X : Type 0} → (r : Result T X) → (P Q : T → Type 0) → ((value : T) → P value → Q value) → IfOk r P → IfOk r Q
@@ -163,18 +165,38 @@ module _ (desk : Desk) (day : ℤ) (badge : Option (List ℕ)) (audience : Audie
   read_answered Done none = absurd none
   read_answered (Told lines) none = absurd none
   read_answered (Listed listing) none = absurd none
+  read_answered (Catalogued listings) none = absurd none
+  read_answered (Surveyed survey) none = absurd none
+  read_answered (Checked outcome) none = absurd none
 
--- nothing stands in the way of a caller who is known and asks for the accessions
-pub images_accepted : (desk : Desk) (badge : Option (List ℕ)) (audience : Audience) → audience_of desk badge ≡ Some audience → IsAccepted desk (record { badge = badge; what = Images }) None
-images_accepted desk badge audience known UnknownKey h = cc
-images_accepted desk badge audience known StaffOnly h = h.0
-images_accepted desk badge audience known BadBody h = cc
-images_accepted desk badge audience known NoAccession h = h
-images_accepted desk badge audience known NoFile h = h
-images_accepted desk badge audience known NoDeed h = h
-images_accepted desk badge audience known (Denied label) h = h
-images_accepted desk badge audience known ListedOnly h = h
-images_accepted desk badge audience known (Faulty kind faults) h = h
-images_accepted desk badge audience known WrongSize h = h
-images_accepted desk badge audience known DigestDiffers h = h
-images_accepted desk badge audience known Conflict h = h
+-- A question that names nothing: no accession, file, deed or image.
+pub record NamesNothing (what : What) : Type 0 where
+  pub question : IsForStaff what → ⊥
+  pub accession : accession_of what ≡ None
+  pub file : file_of what ≡ None
+  pub deed : deed_of what ≡ None
+  pub image : image_of what ≡ None
+  pub conflict : (desk : Desk) → Conflicts desk what → ⊥
+  pub read : what ≡ Unread → ⊥
+
+-- nothing stands in the way of a caller who is known and asks it
+pub question_accepted : (desk : Desk) (badge : Option (List ℕ)) (audience : Audience) (what : What) → NamesNothing what → audience_of desk badge ≡ Some audience
+    → IsAccepted desk (record { badge = badge; what = what }) None
+question_accepted desk badge audience what names known UnknownKey h = cc
+question_accepted desk badge audience what names known StaffOnly h = names.question h.0
+question_accepted desk badge audience what names known BadBody h = names.read h
+question_accepted desk badge audience what names known NoAccession h = rw names.accession at h
+question_accepted desk badge audience what names known NoFile h = rw names.file at h
+question_accepted desk badge audience what names known NoDeed h = rw names.deed at h
+question_accepted desk badge audience what names known (Denied label) h = h
+question_accepted desk badge audience what names known ListedOnly h = h
+question_accepted desk badge audience what names known (Faulty kind faults) h = h
+question_accepted desk badge audience what names known WrongSize h = rw names.image at h
+question_accepted desk badge audience what names known DigestDiffers h = rw names.image at h
+question_accepted desk badge audience what names known Conflict h = names.conflict desk h
+
+pub images_name_nothing : NamesNothing Images
+images_name_nothing = record { question = λ h. h; accession = refl; file = refl; deed = refl; image = refl; conflict = λ desk h. h; read = λ is. cc }
+
+pub catalogue_names_nothing : NamesNothing Catalogue
+catalogue_names_nothing = record { question = λ h. h; accession = refl; file = refl; deed = refl; image = refl; conflict = λ desk h. h; read = λ is. cc }

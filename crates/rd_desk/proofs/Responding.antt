@@ -9,9 +9,9 @@ use Rattle.rd_store.specs.Lawful.{IsLawful}
 use Rattle.rd_store.specs.State.{Desk}
 use Rattle.rd_store.proofs.Laws.{lasts_still, lasts_then}
 use Rattle.rd_desk.specs.Calls.{Carries, IsCarriedOut, IsResponse, Keeps, Looks, Responds}
-use Rattle.rd_desk.specs.Judged.{Holds, IsAsked, audience_of}
-use Rattle.rd_desk.specs.Replies.{IsAnswered, IsStep, carried_out}
-use Rattle.rd_desk.specs.Requests.{IsCommand}
+use Rattle.rd_desk.specs.Judged.{Holds, IsAccepted, IsAsked, audience_of}
+use Rattle.rd_desk.specs.Replies.{IsAnswered, IsDone, IsStep, Tells, carried_out}
+use Rattle.rd_desk.specs.Requests.{IsForStaff}
 use Rattle.rd_desk.specs.declared.refusal.Refusal.TheVariants.{DigestDiffers}
 use Rattle.rd_desk.specs.declared.request.Request.{Request}
 use Rattle.rd_desk.specs.declared.request.What.{What}
@@ -21,44 +21,45 @@ use Rattle.rd_desk.specs.declared.said.Said.TheVariants as said
 use Rattle.rd_desk.proofs.Accepting.{no_file}
 use Rattle.rd_desk.proofs.Crashes.{left_accepted}
 
--- a command asks for no file
-pub nothing_asked : (old : Desk) (day : ℤ) (request : Request) → IsCommand request.what → IsAsked old day request None
+-- what is for the staff asks for no file
+pub nothing_asked : (old : Desk) (day : ℤ) (request : Request) → IsForStaff request.what → IsAsked old day request None
 nothing_asked old day request command judged asked = let none = no_file request.what command in let some = asked.asked in cc
 
--- what is carried out, or why it is refused, is what is answered
-response : {X : Type 0} (old : Desk) (day : ℤ) (request : Request) (result : Result Said X) (new : Desk) → IsCommand request.what → audience_of old request.badge ≡ Some Staff
-    → IsCarriedOut old request result new → IsResponse old day request result new
-response old day request (Ok (said.Refused refusal)) new command staff (refused, same) =
-    (record { file = None; asked = nothing_asked old day request command; refused = refused }, same)
-response old day request (Ok said.Done) new command staff (accepted, after) = record {
+carried : (old : Desk) (day : ℤ) (request : Request) (answer : Said) (new : Desk) → IsForStaff request.what → audience_of old request.badge ≡ Some Staff
+    → (IsAccepted old request None × Tells old Staff day None answer request.what × (new ≡ carried_out day request.what old)) → IsDone old day request answer new
+carried old day request answer new command staff is = record {
   file = None;
   audience = Staff;
   asked = nothing_asked old day request command;
   caller = staff;
-  accepted = accepted;
-  tells = command;
-  after = after;
+  accepted = is.0;
+  tells = is.1;
+  after = is.2;
 }
-response old day request (Ok (said.Images lines)) new command staff none = absurd none
-response old day request (Ok (said.Listed listing)) new command staff none = absurd none
-response old day request (Ok (said.File bytes)) new command staff none = absurd none
+
+-- what is carried out, or why it is refused, is what is answered
+response : {X : Type 0} (old : Desk) (day : ℤ) (request : Request) (result : Result Said X) (new : Desk) → IsForStaff request.what → audience_of old request.badge ≡ Some Staff
+    → IsCarriedOut old day request result new → IsResponse old day request result new
+response old day request (Ok (said.Refused refusal)) new command staff is =
+    (record { file = None; asked = nothing_asked old day request command; refused = is.0 }, is.1)
+response old day request (Ok answer) new command staff is = carried old day request answer new command staff is
 response old day request (Err fault) new command staff same = same
 
 is_unread : (what : What) → (what ≡ Unread) ⊎ (what ≡ Unread → ⊥)
 is_unread Unread = inl refl
 is_unread other = inr (λ is. cc)
 
--- a lawful desk that a crash left of a command is the one before it, or the one after the step
-left_step : (old : Desk) (day : ℤ) (request : Request) (left : Trees) → IsCommand request.what → audience_of old request.badge ≡ Some Staff → IsLawful old
-    → IsLeft old left ⊎ ((Holds old request None DigestDiffers → ⊥) × IsLeft (carried_out request.what old) left)
+-- a lawful desk that a crash left of such a request is the one before it, or the one after the step
+left_step : (old : Desk) (day : ℤ) (request : Request) (left : Trees) → IsForStaff request.what → audience_of old request.badge ≡ Some Staff → IsLawful old
+    → IsLeft old left ⊎ ((Holds old request None DigestDiffers → ⊥) × IsLeft (carried_out day request.what old) left)
     → IsLeft old left ⊎ ((after : Desk) × IsStep old day request after × IsLeft after left)
 left_step old day request left command staff lawful (inl same) = inl same
 left_step old day request left command staff lawful (inr (digest, after)) = elim (is_unread request.what) [
-  | inl unread ↦ inl (subst (λ d. IsLeft d left) (ap (λ w. carried_out w old) unread) after)
-  | inr read ↦ elim (left_accepted old request command read staff digest lawful after.lawful) [
+  | inl unread ↦ inl (subst (λ d. IsLeft d left) (ap (λ w. carried_out day w old) unread) after)
+  | inr read ↦ elim (left_accepted day old request command read staff digest lawful after.lawful) [
     | inl same ↦ inl (subst (λ d. IsLeft d left) same after)
     | inr accepted ↦ inr (
-      carried_out request.what old,
+      carried_out day request.what old,
       inl (record { file = None; asked = nothing_asked old day request command; accepted = accepted }, refl),
       after,
     )
@@ -95,9 +96,9 @@ module _ {S : Type 0} (g : Ghosts S) where
       durable = looks.keeps.durable;
     }
 
-    -- a command of the staff, as a request
-    pub carries_respond : (a b : Held S) → IsCommand request.what → (IsOpen g a → audience_of (desk g a) request.badge ≡ Some Staff) → Rests g a
-        → Carries g a b request result → Responds g a b day request result
+    -- what was done for the staff, as a request
+    pub carries_respond : (a b : Held S) → IsForStaff request.what → (IsOpen g a → audience_of (desk g a) request.badge ≡ Some Staff) → Rests g a
+        → Carries g a b day request result → Responds g a b day request result
     carries_respond a b command staff rests carries = record {
       lasts = carries.lasts;
       judged = λ o. let was = carries.lasts.was_open o in response (desk g a) day request result (desk g b) command (staff was) (carries.judged o);

@@ -5,31 +5,33 @@ use Rattle.sqlite.specs.Held.{Held}
 use Rattle.rd_policy.specs.declared.audience.Audience.{Audience}
 use Rattle.rd_store.specs.Held.{IsOpen, LeavesOpen, Rests, desk}
 use Rattle.rd_store.specs.State.{Desk}
-use Rattle.rd_desk.specs.Calls.{IsResponse, IsWritten, Responds}
+use Rattle.rd_desk.specs.Calls.{IsOfChange, IsResponse, IsWritten, Responds}
 use Rattle.rd_desk.specs.Judged.{JudgedFile, audience_of}
 use Rattle.rd_desk.specs.Replies.{Answers, IsAnswered, IsReply, Tells, carried_out}
-use Rattle.rd_desk.specs.Requests.{IsCommand}
+use Rattle.rd_desk.specs.Requests.{IsForStaff}
 use Rattle.rd_desk.specs.Served.{Serves}
 use Rattle.rd_desk.specs.Texts.{UNAVAILABLE, reply_of}
 use Rattle.rd_desk.specs.declared.refusal.Refusal.TheVariants.{StaffOnly}
 use Rattle.rd_desk.specs.declared.request.Request.{Request}
 use Rattle.rd_desk.specs.declared.request.What.{What}
-use Rattle.rd_desk.specs.declared.request.What.TheVariants.{Images, Listing, Bytes}
+use Rattle.rd_desk.specs.declared.request.What.TheVariants.{Images, Listing, Bytes, Catalogue, Survey}
 use Rattle.rd_desk.specs.declared.said.Reply.{Reply}
 use Rattle.rd_desk.specs.declared.said.Said.{Said}
 use Rattle.rd_desk.specs.declared.said.Said.TheVariants as said
 use Rattle.rd_desk.proofs.Again.{same_again}
 
-pub is_command : (what : What) → IsCommand what ⊎ (IsCommand what → ⊥)
-is_command Images = inr (λ h. h)
-is_command (Listing acc) = inr (λ h. h)
-is_command (Bytes acc slot) = inr (λ h. h)
-is_command command = inl tt
+pub is_for_staff : (what : What) → IsForStaff what ⊎ (IsForStaff what → ⊥)
+is_for_staff Images = inr (λ h. h)
+is_for_staff (Listing acc) = inr (λ h. h)
+is_for_staff (Bytes acc slot) = inr (λ h. h)
+is_for_staff Catalogue = inr (λ h. h)
+is_for_staff command = inl tt
 
 -- what is said and is no command's end changes nothing
-changes_nothing : (old : Desk) (audience : Audience) (day : ℤ) (file : Option JudgedFile) (answer : Said) (what : What) → answer ≢ said.Done
-    → Tells old audience day file answer what → carried_out what old ≡ old
-changes_nothing old audience day file said.Done what other tells = absurd (other refl)
+changes_nothing : (old : Desk) (audience : Audience) (day : ℤ) (file : Option JudgedFile) (answer : Said) (what : What) → ¬ IsOfChange answer
+    → Tells old audience day file answer what → carried_out day what old ≡ old
+changes_nothing old audience day file said.Done what other tells = absurd (other tt)
+changes_nothing old audience day file (said.Checked outcome) what other tells = absurd (other tt)
 changes_nothing old audience day file (said.Refused refusal) what other tells = absurd tells
 changes_nothing old audience day file (said.Images lines) Images other tells = refl
 changes_nothing old audience day file (said.Images lines) what other tells = absurd tells
@@ -37,13 +39,15 @@ changes_nothing old audience day file (said.Listed listing) (Listing acc) other 
 changes_nothing old audience day file (said.Listed listing) what other tells = absurd tells
 changes_nothing old audience day file (said.File bytes) (Bytes acc slot) other tells = refl
 changes_nothing old audience day file (said.File bytes) what other tells = absurd tells
+changes_nothing old audience day file (said.Catalogue listings) Catalogue other tells = refl
+changes_nothing old audience day file (said.Catalogue listings) what other tells = absurd tells
+changes_nothing old audience day file (said.Surveyed survey) (Survey acc) other tells = refl
+changes_nothing old audience day file (said.Surveyed survey) what other tells = absurd tells
 
-untold : (old : Desk) (day : ℤ) (request : Request) (answer : Said) (new : Desk) → answer ≢ said.Done → IsAnswered old day request answer new → new ≡ old
+untold : (old : Desk) (day : ℤ) (request : Request) (answer : Said) (new : Desk) → ¬ IsOfChange answer → IsAnswered old day request answer new → new ≡ old
 untold old day request (said.Refused refusal) new other answered = answered.1
-untold old day request said.Done new other answered = absurd (other refl)
-untold old day request (said.Images lines) new other answered = answered.after ∙ changes_nothing old answered.audience day answered.file (said.Images lines) request.what other answered.tells
-untold old day request (said.Listed listing) new other answered = answered.after ∙ changes_nothing old answered.audience day answered.file (said.Listed listing) request.what other answered.tells
-untold old day request (said.File bytes) new other answered = answered.after ∙ changes_nothing old answered.audience day answered.file (said.File bytes) request.what other answered.tells
+untold old day request answer new other answered =
+    answered.after ∙ changes_nothing old answered.audience day answered.file answer request.what other answered.tells
 
 -- what is written is the reply, or that it is unavailable
 replied : {X : Type 0} (old : Desk) (day : ℤ) (request : Request) (result : Result Said X) (reply : Reply) (new : Desk) → IsWritten result reply → IsResponse old day request result new
@@ -53,7 +57,7 @@ replied old day request (Ok answer) reply new (inr (written, other)) answered = 
 replied old day request (Err fault) reply new written same = inr (record { written = written; after = same })
 
 -- what was asked and is asked again
-answered_again : (old : Desk) (day : ℤ) (request : Request) (reply : Reply) (new : Desk) → Answers old day request reply new → reply ≢ UNAVAILABLE → IsCommand request.what
+answered_again : (old : Desk) (day : ℤ) (request : Request) (reply : Reply) (new : Desk) → Answers old day request reply new → reply ≢ UNAVAILABLE → IsForStaff request.what
     → audience_of new request.badge ≡ audience_of old request.badge → IsReply new day request reply new
 answered_again old day request reply new (inl answered) told command key = same_again old day request reply new command key answered
 answered_again old day request reply new (inr unavailable) told command key = absurd (told unavailable.written)
@@ -71,14 +75,14 @@ module _ {S : Type 0} (g : Ghosts S) (old new : Held S) (day : ℤ) (request : R
       go (inr none) = absurd (told none.0)
 
   pub serves : {X : Type 0} (result : Result Said X) → Responds g old new day request result → Rests g new → IsWritten result reply
-      → LeavesOpen g new result ⊎ ((request.badge ≡ None) × IsCommand request.what × (result ≡ Ok (said.Refused StaffOnly)) × (new ≡ old))
+      → LeavesOpen g new result ⊎ ((request.badge ≡ None) × IsForStaff request.what × (result ≡ Ok (said.Refused StaffOnly)) × (new ≡ old))
       → Serves g old new day request reply
   serves result responds rests written ending = record {
     lasts = responds.lasts;
     answers = λ o. replied (desk g old) day request result reply (desk g new) written (responds.judged o);
     ends_open = λ clean told. elim ending [
       | inl opens ↦ inl (ends result written (opens clean) told)
-      | inr away ↦ inr (record { nobody = away.0; command = away.1; told = turned result written away.2 told; same = away.3 })
+      | inr away ↦ inr (record { nobody = away.0; for_staff = away.1; told = turned result written away.2 told; same = away.3 })
     ];
     crash = responds.crash;
     durable = responds.durable;

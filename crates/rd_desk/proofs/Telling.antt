@@ -1,27 +1,34 @@
 -- What is said to each request.
 use Rattle.std.proofs.Common.{◌≡◌, ℕ, ℤ, List, Option, IsSomeAnd, refl}
+use Rattle.std.specs.FinMap.{get}
 use Rattle.rd_policy.specs.declared.audience.Audience.{Audience}
 use Rattle.rd_policy.specs.declared.rule.Effect.TheVariants.{Read}
 use Rattle.rd_store.specs.State.{Desk}
+use Rattle.rd_store.specs.declared.rows.Outcome.{Outcome}
+use Rattle.rd_desk.specs.Checks.{outcome_of}
 use Rattle.rd_desk.specs.Judged.{JudgedFile}
-use Rattle.rd_desk.specs.Replies.{AreFileBytes, AreImageLines, IsListing, Tells}
-use Rattle.rd_desk.specs.Requests.{IsCommand}
+use Rattle.rd_desk.specs.Replies.{AreFileBytes, AreImageLines, AreListings, IsListing, IsSurvey, Tells}
+use Rattle.rd_desk.specs.Requests.{IsPutOrDrop}
 use Rattle.rd_desk.specs.declared.request.What.{What}
-use Rattle.rd_desk.specs.declared.request.What.TheVariants.{Images, Listing, Bytes}
+use Rattle.rd_desk.specs.declared.request.What.TheVariants.{Images, Listing, Bytes, Catalogue, Survey, Check}
 use Rattle.rd_desk.specs.declared.said.ImageLine.{ImageLine}
 use Rattle.rd_desk.specs.declared.said.Listing.{Listing as Lines}
 use Rattle.rd_desk.specs.declared.said.Said.{Said}
 use Rattle.rd_desk.specs.declared.said.Said.TheVariants as said
+use Rattle.rd_desk.specs.declared.said.Survey.{Survey as Surveyed}
 
 module _ (desk : Desk) (audience : Audience) (day : ℤ) (file : Option JudgedFile) where
   abbrev Told : Said → What → Type 0
   Told answer what = Tells desk audience day file answer what
 
-  pub told_done : (answer : Said) (what : What) → IsCommand what → Told answer what → answer ≡ said.Done
+  pub told_done : (answer : Said) (what : What) → IsPutOrDrop what → Told answer what → answer ≡ said.Done
   told_done said.Done what command told = refl
   told_done (said.Images lines) Images command told = absurd command
   told_done (said.Listed listing) (Listing acc) command told = absurd command
   told_done (said.File bytes) (Bytes acc slot) command told = absurd command
+  told_done (said.Catalogue listings) Catalogue command told = absurd command
+  told_done (said.Surveyed survey) (Survey acc) command told = absurd command
+  told_done (said.Checked outcome) (Check acc) command told = absurd command
   told_done other what command told = absurd told
 
   pub told_images : (answer : Said) → Told answer Images → (lines : List ImageLine) × (answer ≡ said.Images lines) × AreImageLines desk audience day lines
@@ -36,3 +43,16 @@ module _ (desk : Desk) (audience : Audience) (day : ℤ) (file : Option JudgedFi
       → (bytes : List ℕ) × (answer ≡ said.File bytes) × IsSomeAnd file (λ judged. judged.verdict.effect ≡ Read) × AreFileBytes desk acc slot bytes
   told_bytes acc slot (said.File bytes) told = (bytes, refl, told.0, told.1)
   told_bytes acc slot other told = absurd told
+
+  pub told_catalogue : (answer : Said) → Told answer Catalogue → (listings : List Lines) × (answer ≡ said.Catalogue listings) × AreListings desk audience day listings
+  told_catalogue (said.Catalogue listings) told = (listings, refl, told)
+  told_catalogue other told = absurd told
+
+  pub told_survey : (acc : ℕ) (answer : Said) → Told answer (Survey acc) → (survey : Surveyed) × (answer ≡ said.Surveyed survey) × IsSurvey desk acc survey
+  told_survey acc (said.Surveyed survey) told = (survey, refl, told)
+  told_survey acc other told = absurd told
+
+  pub told_check : (acc : ℕ) (answer : Said) → Told answer (Check acc)
+      → (outcome : Outcome) × (answer ≡ said.Checked outcome) × IsSomeAnd (get desk.images acc) (λ image. outcome ≡ outcome_of image.bytes image.digest)
+  told_check acc (said.Checked outcome) told = (outcome, refl, told)
+  told_check acc other told = absurd told

@@ -1,9 +1,9 @@
 -- A body as the list of its bytes.
 use Rattle.std.specs.Prelude.{ℕ, List}
 use Rattle.rd_desk.specs.declared.body.Inner.{Inner}
-use Rattle.rd_desk.specs.declared.body.Inner.TheVariants.{Fixed, Written, File}
+use Rattle.rd_desk.specs.declared.body.Inner.TheVariants.{Fixed, Written, Bytes}
 
 abbrev pub bytes_of : Inner → List ℕ
 bytes_of (Fixed text) = text.now
 bytes_of (Written text) = text
-bytes_of (File bytes) = bytes
+bytes_of (Bytes bytes) = bytes

@@ -1,15 +1,16 @@
 -- What is said of the store by the functions of which an answer is made.
-use Rattle.std.specs.Prelude.{◌≡◌, ◌≢◌, ◌⊎◌, ℕ, ℤ, Option, Some, None, Result, Ok, Err, IfOk, MatchOption}
+use Rattle.std.specs.Prelude.{◌≡◌, ◌⊎◌, ℕ, ℤ, Option, Some, None, Result, Ok, Err, IfOk, MatchOption}
 use Rattle.std.specs.FinMap.{get}
 use Rattle.sqlite.specs.Store.{Ghosts}
 use Rattle.sqlite.specs.Tree.{Trees}
 use Rattle.sqlite.specs.Held.{Held}
+use Rattle.rd_policy.specs.declared.audience.Audience.TheVariants.{Staff}
 use Rattle.rd_policy.specs.declared.rule.Band.{Band}
 use Rattle.rd_policy.specs.declared.rule.Band.TheVariants.{Takedown, Deed}
 use Rattle.rd_store.specs.Held.{IsClean, IsLeft, IsOpen, Lasts, LeavesOnly, LeavesOpen, desk}
 use Rattle.rd_store.specs.State.{Desk, rules_for}
 use Rattle.rd_desk.specs.Judged.{Holds, IsAccepted, IsRefused}
-use Rattle.rd_desk.specs.Replies.{IsAnswered, IsStep, carried_out}
+use Rattle.rd_desk.specs.Replies.{IsAnswered, IsStep, IsSurvey, Tells, carried_out}
 use Rattle.rd_desk.specs.declared.asking.Holding.{Holding}
 use Rattle.rd_desk.specs.declared.refusal.Refusal.{Refusal}
 use Rattle.rd_desk.specs.declared.refusal.Refusal.TheVariants.{NoAccession, NoDeed, DigestDiffers}
@@ -17,7 +18,8 @@ use Rattle.rd_desk.specs.declared.request.Request.{Request}
 use Rattle.rd_desk.specs.Texts.{UNAVAILABLE, reply_of}
 use Rattle.rd_desk.specs.declared.said.Reply.{Reply}
 use Rattle.rd_desk.specs.declared.said.Said.{Said}
-use Rattle.rd_desk.specs.declared.said.Said.TheVariants.{Refused, Done}
+use Rattle.rd_desk.specs.declared.said.Survey.{Survey}
+use Rattle.rd_desk.specs.declared.said.Said.TheVariants.{Refused, Done, Checked}
 
 -- Calls that read: the desk stays, and a crash leaves it.
 pub record Keeps {S : Type 0} (g : Ghosts S) (old new : Held S) : Type 0 where
@@ -37,27 +39,31 @@ abbrev pub IsHolding : Desk → ℕ → Option Holding → Type 0
 IsHolding desk acc found = MatchOption found (get desk.images acc ≡ None)
     (λ holding. (get desk.images acc ≡ Some holding.image) × (holding.rules ≡ rules_for desk acc))
 
+-- the survey of an accession, or nothing, where it does not stand
+abbrev pub IsSurveyAt : Desk → ℕ → Option Survey → Type 0
+IsSurveyAt desk acc found = MatchOption found (get desk.images acc ≡ None) (IsSurvey desk acc)
+
 -- a takedown lacks its accession, and a rule of a deed lacks its deed
 abbrev pub missing_of : Band → Refusal
 missing_of Takedown = NoAccession
 missing_of Deed = NoDeed
 
--- what becomes of the desk, by what is told: done, it is the next one; refused or not told, it is as before
-abbrev pub IsCarriedOut : {X : Type 0} → Desk → Request → Result Said X → Desk → Type 0
-IsCarriedOut old request (Ok Done) new = IsAccepted old request None × (new ≡ carried_out request.what old)
-IsCarriedOut old request (Ok (Refused refusal)) new = IsRefused old request None refusal × (new ≡ old)
-IsCarriedOut old request (Ok other) new = ⊥
-IsCarriedOut old request (Err fault) new = new ≡ old
+-- what becomes of the desk, by what is told: carried out, it is the next one; refused or not told, it is as before
+abbrev pub IsCarriedOut : {X : Type 0} → Desk → ℤ → Request → Result Said X → Desk → Type 0
+IsCarriedOut old day request (Ok (Refused refusal)) new = IsRefused old request None refusal × (new ≡ old)
+IsCarriedOut old day request (Ok answer) new =
+    IsAccepted old request None × Tells old Staff day None answer request.what × (new ≡ carried_out day request.what old)
+IsCarriedOut old day request (Err fault) new = new ≡ old
 
--- A command of the staff. Of what a crash leaves it says that either nothing was done, or the desk after it, of
--- which an image has the digest that was given: the other reasons to refuse it are told by that desk being lawful.
-pub record Carries {S X : Type 0} (g : Ghosts S) (old new : Held S) (request : Request) (result : Result Said X) : Type 0 where
+-- A request of the staff. Of what a crash leaves it says that either nothing was done, or the desk after it; where an
+-- image is put, it has the digest that was given: the other reasons to refuse it are told by that desk being lawful.
+pub record Carries {S X : Type 0} (g : Ghosts S) (old new : Held S) (day : ℤ) (request : Request) (result : Result Said X) : Type 0 where
   pub lasts : Lasts g old new
-  pub judged : IsOpen g new → IsCarriedOut (desk g old) request result (desk g new)
+  pub judged : IsOpen g new → IsCarriedOut (desk g old) day request result (desk g new)
   pub stays_open : IsOpen g old → LeavesOpen g new result
   pub crash : IsOpen g old → IsClean g new → (left : Trees) → g.recovers new.store left
       → IsLeft (desk g old) left
-      ⊎ ((¬ Holds (desk g old) request None DigestDiffers) × IsLeft (carried_out request.what (desk g old)) left)
+      ⊎ ((¬ Holds (desk g old) request None DigestDiffers) × IsLeft (carried_out day request.what (desk g old)) left)
   pub durable : IsOpen g new → LeavesOnly g new (desk g new)
 
 -- an answer, or none and the desk as before
@@ -77,8 +83,14 @@ pub record Responds {S X : Type 0} (g : Ghosts S) (old new : Held S) (day : ℤ)
   pub crash : IsOpen g old → IsClean g new → LeavesStep g old new day request
   pub durable : IsOpen g new → LeavesOnly g new (desk g new)
 
+-- what is said of a desk that is changed
+abbrev pub IsOfChange : Said → Type 0
+IsOfChange Done = Unit {0}
+IsOfChange (Checked outcome) = Unit {0}
+IsOfChange other = ⊥
+
 -- the reply tells what is said; where it is not told, or there is no memory for it, that it is unavailable,
--- but never of a command that is done
+-- but never where the desk is changed
 abbrev pub IsWritten : {X : Type 0} → Result Said X → Reply → Type 0
-IsWritten (Ok answer) reply = (reply ≡ reply_of answer) ⊎ ((reply ≡ UNAVAILABLE) × (answer ≢ Done))
+IsWritten (Ok answer) reply = (reply ≡ reply_of answer) ⊎ ((reply ≡ UNAVAILABLE) × ¬ IsOfChange answer)
 IsWritten (Err fault) reply = reply ≡ UNAVAILABLE

@@ -16,12 +16,12 @@ use Rattle.rd_volume.specs.declared.found.Found.{Found}
 use Rattle.rd_store.specs.State.{Desk, HasOtherImage, IsLastStaff, rules_for}
 use Rattle.rd_store.specs.declared.rows.ImageRow.{ImageRow}
 use Rattle.rd_desk.specs.Refusals.{number_of}
-use Rattle.rd_desk.specs.Requests.{IsCommand}
+use Rattle.rd_desk.specs.Requests.{IsForStaff}
 use Rattle.rd_desk.specs.declared.refusal.Refusal.{Refusal}
 use Rattle.rd_desk.specs.declared.refusal.Refusal.TheVariants.{UnknownKey, StaffOnly, BadBody, NoAccession, NoFile, NoDeed, Denied, ListedOnly, Faulty, WrongSize, DigestDiffers, Conflict}
 use Rattle.rd_desk.specs.declared.request.Request.{Request}
 use Rattle.rd_desk.specs.declared.request.What.{What}
-use Rattle.rd_desk.specs.declared.request.What.TheVariants.{Listing, Bytes, PutImage, PutRule, DropRule, PutKey, DropKey, Unread}
+use Rattle.rd_desk.specs.declared.request.What.TheVariants.{Listing, Bytes, Survey, Check, PutImage, PutRule, DropRule, PutKey, DropKey, Unread}
 
 -- ---- who asks, and what is named
 
@@ -44,6 +44,8 @@ deed_at Deed scope = Some scope
 abbrev pub accession_of : What → Option ℕ
 accession_of (Listing acc) = Some acc
 accession_of (Bytes acc slot) = Some acc
+accession_of (Survey acc) = Some acc
+accession_of (Check acc) = Some acc
 accession_of (PutRule rule) = accession_at rule.band rule.scope
 accession_of (DropRule band scope rank) = accession_at band scope
 accession_of other = None
@@ -105,7 +107,7 @@ module _ (desk : Desk) (request : Request) (asked : Option JudgedFile) where
   -- why a request is refused; several reasons may hold at once
   abbrev pub Holds : Refusal → Type 0
   Holds UnknownKey = audience_of desk request.badge ≡ None
-  Holds StaffOnly = IsCommand request.what × (audience_of desk request.badge ≢ Some Staff)
+  Holds StaffOnly = IsForStaff request.what × (audience_of desk request.badge ≢ Some Staff)
   Holds BadBody = request.what ≡ Unread
   Holds NoAccession = IsSomeAnd (accession_of request.what) (λ acc. get desk.images acc ≡ None)
   Holds NoFile = IsSomeAnd (file_of request.what) (λ at.

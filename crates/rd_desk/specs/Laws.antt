@@ -3,7 +3,7 @@ use Rattle.std.specs.Prelude.{◌≡◌, ℤ}
 use Rattle.rd_store.specs.State.{Desk}
 use Rattle.rd_desk.specs.Judged.{audience_of}
 use Rattle.rd_desk.specs.Replies.{IsReply, IsStep}
-use Rattle.rd_desk.specs.Requests.{IsCommand}
+use Rattle.rd_desk.specs.Requests.{IsForStaff}
 use Rattle.rd_desk.specs.declared.request.Request.{Request}
 use Rattle.rd_desk.specs.declared.said.Reply.{Reply}
 
@@ -18,9 +18,9 @@ abbrev pub AnswersStep : Type 0
 AnswersStep = (old : Desk) (day : ℤ) (request : Request) (reply : Reply) (new : Desk)
     → IsReply old day request reply new → IsStep old day request new
 
--- a command that leaves its caller's key as it is, asked again on the same day of the desk that it left, has
--- the same reply and leaves that desk
+-- what is for the staff and leaves its caller's key as it is, asked again on the same day of the desk that it left,
+-- has the same reply and leaves that desk
 abbrev pub SameAgain : Type 0
 SameAgain = (old : Desk) (day : ℤ) (request : Request) (reply : Reply) (new : Desk)
-    → IsCommand request.what → audience_of new request.badge ≡ audience_of old request.badge
+    → IsForStaff request.what → audience_of new request.badge ≡ audience_of old request.badge
     → IsReply old day request reply new → IsReply new day request reply new

@@ -3,6 +3,9 @@ pub mod Refusals
 pub mod Bodies
 pub mod BodyPieces
 pub mod Texts
+pub mod Checks
+pub mod Catalogues
+pub mod Written
 pub mod Judged
 pub mod Replies
 pub mod Laws

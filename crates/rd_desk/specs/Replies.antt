@@ -1,26 +1,31 @@
 -- The answer to a request, and the desk that it leaves.
-use Rattle.std.specs.Prelude.{◌≡◌, ◌≢◌, ◌<◌, ◌⊎◌, ℕ, ℤ, List, Option, Some, All, AllPairs, Contains, IsSomeAnd, length}
+use Rattle.std.specs.Prelude.{◌≡◌, ◌≢◌, ◌<◌, ◌⊎◌, ℕ, ℤ, List, Option, None, Some, All, AllPairs, Contains, IsSomeAnd, length}
 use Rattle.std.specs.FinMap.{get}
+use Rattle.rd_policy.specs.Dates.{IsDateOf}
 use Rattle.rd_policy.specs.Verdicts.{IsVerdict}
 use Rattle.rd_policy.specs.declared.audience.Audience.{Audience}
 use Rattle.rd_policy.specs.declared.rule.Effect.TheVariants.{Deny, Read}
 use Rattle.rd_policy.specs.declared.rule.Rule.{Rule}
+use Rattle.rd_volume.specs.Reports.{IsReport}
 use Rattle.rd_volume.specs.Volumes.{AreBytesOf, IsFound}
-use Rattle.rd_store.specs.State.{Desk, place_of, rules_for, terms_of, with_deed, with_image, with_key, with_rule, without_key, without_rule}
+use Rattle.rd_store.specs.State.{Desk, place_of, rules_for, terms_of, with_check, with_deed, with_image, with_key, with_rule, without_key, without_rule}
+use Rattle.rd_store.specs.declared.rows.DeedRow.{DeedRow}
 use Rattle.rd_store.specs.declared.rows.ImageRow.{ImageRow}
+use Rattle.rd_desk.specs.Checks.{outcome_of}
 use Rattle.rd_desk.specs.Judged.{IsAccepted, IsAcceptedOn, IsAsked, IsRefusedOn, JudgedFile, audience_of}
-use Rattle.rd_desk.specs.Requests.{IsCommand}
+use Rattle.rd_desk.specs.Requests.{IsPutOrDrop}
 use Rattle.rd_desk.specs.Texts.{UNAVAILABLE, reply_of}
 use Rattle.rd_desk.specs.declared.refusal.Refusal.{Refusal}
 use Rattle.rd_desk.specs.declared.request.Request.{Request}
 use Rattle.rd_desk.specs.declared.request.What.{What}
-use Rattle.rd_desk.specs.declared.request.What.TheVariants.{Images, Listing, Bytes, PutImage, PutDeed, PutRule, DropRule, PutKey, DropKey}
+use Rattle.rd_desk.specs.declared.request.What.TheVariants.{Images, Listing, Bytes, Catalogue, Survey, Check, PutImage, PutDeed, PutRule, DropRule, PutKey, DropKey}
 use Rattle.rd_desk.specs.declared.said.ImageLine.{ImageLine}
 use Rattle.rd_desk.specs.declared.said.Line.{Line}
 use Rattle.rd_desk.specs.declared.said.Listing.{Listing as Lines}
 use Rattle.rd_desk.specs.declared.said.Reply.{Reply}
 use Rattle.rd_desk.specs.declared.said.Said.{Said}
 use Rattle.rd_desk.specs.declared.said.Said.TheVariants as said
+use Rattle.rd_desk.specs.declared.said.Survey.{Survey as Surveyed}
 
 -- ---- what is listed
 
@@ -70,32 +75,65 @@ pub record AreFileBytes (desk : Desk) (acc slot : ℕ) (bytes : List ℕ) : Type
   pub standing : get desk.images acc ≡ Some image
   pub are : AreBytesOf image.kind image.bytes slot bytes
 
+-- All accessions, ascending, each as it is listed: each of these is one, and none is left out.
+pub record AreListings (desk : Desk) (audience : Audience) (day : ℤ) (listings : List Lines) : Type 0 where
+  pub each : All (λ listing. IsListing desk audience day listing.accession listing) listings
+  pub ascending : AllPairs (λ one other. one.accession < other.accession) listings
+  pub complete : (listing : Lines) → IsListing desk audience day listing.accession listing → Contains listings listing
+
+-- What an image has on it, and the deed by which it came.
+pub record IsSurveyOf (acc : ℕ) (image : ImageRow) (deed : DeedRow) (survey : Surveyed) : Type 0 where
+  pub accession : survey.accession ≡ acc
+  pub number : survey.deed ≡ image.deed
+  pub donor : survey.donor ≡ deed.donor
+  pub signed : IsDateOf deed.signed survey.signed
+  pub kind : survey.kind ≡ image.kind
+  pub report : IsReport image.kind image.bytes survey.report
+
+-- The survey is of the image and the deed that stand.
+pub record IsSurvey (desk : Desk) (acc : ℕ) (survey : Surveyed) : Type 0 where
+  pub image : ImageRow
+  pub deed : DeedRow
+  pub standing : get desk.images acc ≡ Some image
+  pub given : get desk.deeds image.deed ≡ Some deed
+  pub told : IsSurveyOf acc image deed survey
+
 -- what is said to a request that is accepted; a file is served only where the verdict on it is to read
 abbrev pub Tells : Desk → Audience → ℤ → Option JudgedFile → Said → What → Type 0
-Tells desk audience day file said.Done what = IsCommand what
+Tells desk audience day file said.Done what = IsPutOrDrop what
 Tells desk audience day file (said.Images lines) Images = AreImageLines desk audience day lines
 Tells desk audience day file (said.Listed listing) (Listing acc) = IsListing desk audience day acc listing
 Tells desk audience day file (said.File bytes) (Bytes acc slot) =
     IsSomeAnd file (λ judged. judged.verdict.effect ≡ Read) × AreFileBytes desk acc slot bytes
+Tells desk audience day file (said.Catalogue listings) Catalogue = AreListings desk audience day listings
+Tells desk audience day file (said.Surveyed survey) (Survey acc) = IsSurvey desk acc survey
+Tells desk audience day file (said.Checked outcome) (Check acc) =
+    IsSomeAnd (get desk.images acc) (λ image. outcome ≡ outcome_of image.bytes image.digest)
 Tells desk audience day file answer what = ⊥
 
 -- ---- what becomes of the desk
 
--- what an accepted request makes of the desk
-abbrev pub carried_out : What → Desk → Desk
-carried_out (PutImage acc kind deed digest bytes) desk =
+-- what a check of an image that stands makes of the desk: what it finds is recorded on the day
+abbrev pub with_checked : Option ImageRow → ℕ → ℤ → Desk → Desk
+with_checked None acc day desk = desk
+with_checked (Some image) acc day desk = with_check acc day (outcome_of image.bytes image.digest) desk
+
+-- what an accepted request makes of the desk on a day
+abbrev pub carried_out : ℤ → What → Desk → Desk
+carried_out day (Check acc) desk = with_checked (get desk.images acc) acc day desk
+carried_out day (PutImage acc kind deed digest bytes) desk =
     with_image acc (record { kind = kind; deed = deed; digest = digest; bytes = bytes }) desk
-carried_out (PutDeed num donor signed) desk = with_deed num (record { donor = donor; signed = signed }) desk
-carried_out (PutRule rule) desk = with_rule (place_of rule) (terms_of rule) desk
-carried_out (DropRule band scope rank) desk = without_rule (record { band = band; scope = scope; rank = rank }) desk
-carried_out (PutKey digest audience) desk = with_key digest audience desk
-carried_out (DropKey digest) desk = without_key digest desk
-carried_out other desk = desk
+carried_out day (PutDeed num donor signed) desk = with_deed num (record { donor = donor; signed = signed }) desk
+carried_out day (PutRule rule) desk = with_rule (place_of rule) (terms_of rule) desk
+carried_out day (DropRule band scope rank) desk = without_rule (record { band = band; scope = scope; rank = rank }) desk
+carried_out day (PutKey digest audience) desk = with_key digest audience desk
+carried_out day (DropKey digest) desk = without_key digest desk
+carried_out day other desk = desk
 
 -- the desk after a request on a day: an accepted one is carried out, and a refused one changes nothing
 abbrev pub IsStep : Desk → ℤ → Request → Desk → Type 0
 IsStep old day request new =
-    (IsAcceptedOn old day request × (new ≡ carried_out request.what old))
+    (IsAcceptedOn old day request × (new ≡ carried_out day request.what old))
     ⊎ (((refusal : Refusal) × IsRefusedOn old day request refusal) × (new ≡ old))
 
 -- ---- answers
@@ -108,7 +146,7 @@ pub record IsDone (old : Desk) (day : ℤ) (request : Request) (answer : Said) (
   pub caller : audience_of old request.badge ≡ Some audience
   pub accepted : IsAccepted old request file
   pub tells : Tells old audience day file answer request.what
-  pub after : new ≡ carried_out request.what old
+  pub after : new ≡ carried_out day request.what old
 
 -- what is said to a request on a day, and the desk after it
 abbrev pub IsAnswered : Desk → ℤ → Request → Said → Desk → Type 0

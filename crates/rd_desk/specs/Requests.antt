@@ -5,13 +5,16 @@ use Rattle.rd_policy.specs.Rules.{IsScope, IsRank, IsRule}
 use Rattle.rd_policy.specs.declared.audience.Audience.TheVariants.{Public}
 use Rattle.rd_store.specs.Lawful.{IsDeed}
 use Rattle.rd_desk.specs.declared.request.What.{What}
-use Rattle.rd_desk.specs.declared.request.What.TheVariants.{Images, Listing, Bytes, PutImage, PutDeed, PutRule, DropRule, PutKey, DropKey, Unread}
+use Rattle.rd_desk.specs.declared.request.What.TheVariants.{Images, Listing, Bytes, Catalogue, Survey, Check, PutImage, PutDeed, PutRule, DropRule, PutKey, DropKey, Unread}
 
 -- each value is within its limits; a digest and the bytes of an image may be any
 abbrev pub IsRequest : What → Type 0
 IsRequest Images = Unit {0}
 IsRequest (Listing acc) = IsScope acc
 IsRequest (Bytes acc slot) = IsScope acc × (slot ≤ 9_999)
+IsRequest Catalogue = Unit {0}
+IsRequest (Survey acc) = IsScope acc
+IsRequest (Check acc) = IsScope acc
 IsRequest (PutImage acc kind deed digest bytes) = IsScope acc × IsScope deed
 IsRequest (PutDeed num donor signed) = IsDeed num (record { donor = donor; signed = signed })
 IsRequest (PutRule rule) = IsRule rule
@@ -20,15 +23,24 @@ IsRequest (PutKey digest audience) = audience ≢ Public
 IsRequest (DropKey digest) = Unit {0}
 IsRequest Unread = Unit {0}
 
--- a command, which is for the staff: all but the three questions
-abbrev pub IsCommand : What → Type 0
-IsCommand Images = ⊥
-IsCommand (Listing acc) = ⊥
-IsCommand (Bytes acc slot) = ⊥
-IsCommand (PutImage acc kind deed digest bytes) = Unit {0}
-IsCommand (PutDeed num donor signed) = Unit {0}
-IsCommand (PutRule rule) = Unit {0}
-IsCommand (DropRule band scope rank) = Unit {0}
-IsCommand (PutKey digest audience) = Unit {0}
-IsCommand (DropKey digest) = Unit {0}
-IsCommand Unread = Unit {0}
+-- to put something or to take it away, also where the body of the request could not be read; it is told that this is done
+abbrev pub IsPutOrDrop : What → Type 0
+IsPutOrDrop Images = ⊥
+IsPutOrDrop (Listing acc) = ⊥
+IsPutOrDrop (Bytes acc slot) = ⊥
+IsPutOrDrop Catalogue = ⊥
+IsPutOrDrop (Survey acc) = ⊥
+IsPutOrDrop (Check acc) = ⊥
+IsPutOrDrop (PutImage acc kind deed digest bytes) = Unit {0}
+IsPutOrDrop (PutDeed num donor signed) = Unit {0}
+IsPutOrDrop (PutRule rule) = Unit {0}
+IsPutOrDrop (DropRule band scope rank) = Unit {0}
+IsPutOrDrop (PutKey digest audience) = Unit {0}
+IsPutOrDrop (DropKey digest) = Unit {0}
+IsPutOrDrop Unread = Unit {0}
+
+-- for the staff: to put and to drop, surveys and checks; anyone may ask the four questions
+abbrev pub IsForStaff : What → Type 0
+IsForStaff (Survey acc) = Unit {0}
+IsForStaff (Check acc) = Unit {0}
+IsForStaff other = IsPutOrDrop other

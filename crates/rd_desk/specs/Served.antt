@@ -7,23 +7,23 @@ use Rattle.rd_store.specs.State.{IsStaff}
 use Rattle.rd_desk.specs.Calls.{LeavesStep}
 use Rattle.rd_desk.specs.Judged.{audience_of}
 use Rattle.rd_desk.specs.Replies.{Answers, IsReply}
-use Rattle.rd_desk.specs.Requests.{IsCommand}
+use Rattle.rd_desk.specs.Requests.{IsForStaff}
 use Rattle.rd_desk.specs.Texts.{UNAVAILABLE, reply_of}
 use Rattle.rd_desk.specs.declared.refusal.Refusal.TheVariants.{StaffOnly}
 use Rattle.rd_desk.specs.declared.request.Request.{Request}
 use Rattle.rd_desk.specs.declared.said.Reply.{Reply}
 use Rattle.rd_desk.specs.declared.said.Said.TheVariants.{Refused}
 
--- A command of a caller without a badge: the reply is that it is for the staff, and the store is not touched.
+-- What is for the staff, asked without a badge: the reply is that it is so, and the store is not touched.
 pub record IsTurnedAway {S : Type 0} (old new : Held S) (request : Request) (reply : Reply) : Type 0 where
   pub nobody : request.badge ≡ None
-  pub command : IsCommand request.what
+  pub for_staff : IsForStaff request.what
   pub told : reply ≡ reply_of (Refused StaffOnly)
   pub same : new ≡ old
 
 -- While the connection is open after the call, the request was answered or is unavailable, no crash leaves
--- anything but the desk as it now is, the staff has a key, and a command by which its caller's key was not
--- changed has the same reply once more. Where all that was written came back from the disk, the connection is
+-- anything but the desk as it now is, the staff has a key, and what is for the staff and left its caller's
+-- key as it was has the same reply once more. Where all that was written came back from the disk, the connection is
 -- open after any reply but that of unavailability, unless the caller was turned away and the store not used; and
 -- if it was open before the call, a crash leaves the old desk or that of the step.
 pub record Serves {S : Type 0} (g : Ghosts S) (old new : Held S) (day : ℤ) (request : Request) (reply : Reply) : Type 0 where
@@ -33,6 +33,6 @@ pub record Serves {S : Type 0} (g : Ghosts S) (old new : Held S) (day : ℤ) (re
   pub crash : IsOpen g old → IsClean g new → LeavesStep g old new day request
   pub durable : IsOpen g new → LeavesOnly g new (desk g new)
   pub staffed : IsOpen g new → (digest : List ℕ) × IsStaff (desk g new) digest
-  pub again : IsOpen g new → reply ≢ UNAVAILABLE → IsCommand request.what
+  pub again : IsOpen g new → reply ≢ UNAVAILABLE → IsForStaff request.what
       → audience_of (desk g new) request.badge ≡ audience_of (desk g old) request.badge
       → IsReply (desk g new) day request reply (desk g new)

@@ -5,21 +5,28 @@ use Rattle.serde_json.specs.View.{items_of}
 use Rattle.serde_json.specs.Written.{compact_text}
 use Rattle.rd_geometry.specs.Kinds.{word_of}
 use Rattle.rd_geometry.specs.declared.kind.Kind.{Kind}
+use Rattle.rd_geometry.specs.declared.kind.Kind.TheVariants.{Cpm8, D64}
 use Rattle.rd_policy.specs.Verdicts.{label_text}
-use Rattle.rd_policy.specs.declared.rule.Effect.{Effect}
-use Rattle.rd_policy.specs.declared.rule.Effect.TheVariants as effect
+use Rattle.rd_cbm.specs.declared.chains.End.{End}
+use Rattle.rd_cbm.specs.declared.chains.End.TheVariants as end
+use Rattle.rd_cbm.specs.declared.report.MapReport.{MapReport}
 use Rattle.rd_volume.specs.Words.{words_of}
 use Rattle.rd_volume.specs.declared.found.Found.{Found}
+use Rattle.rd_store.specs.declared.rows.Outcome.{Outcome}
+use Rattle.rd_store.specs.declared.rows.Outcome.TheVariants as outcome
+use Rattle.rd_desk.specs.Catalogues.{catalogue_text}
+pub use Rattle.rd_desk.specs.Catalogues.{effect_word}
 use Rattle.rd_desk.specs.Refusals.{name_of, status_of}
 use Rattle.rd_desk.specs.declared.refusal.Refusal.{Refusal}
 use Rattle.rd_desk.specs.declared.refusal.Refusal.TheVariants.{UnknownKey, StaffOnly, BadBody, NoAccession, NoFile, NoDeed, Denied, ListedOnly, Faulty, WrongSize, DigestDiffers, Conflict}
-use Rattle.rd_desk.specs.declared.said.Form.TheVariants.{Json, Octets}
+use Rattle.rd_desk.specs.declared.said.Form.TheVariants.{Json, Csv, Octets}
 use Rattle.rd_desk.specs.declared.said.ImageLine.{ImageLine}
 use Rattle.rd_desk.specs.declared.said.Line.{Line}
 use Rattle.rd_desk.specs.declared.said.Listing.{Listing}
 use Rattle.rd_desk.specs.declared.said.Reply.{Reply}
 use Rattle.rd_desk.specs.declared.said.Said.{Said}
-use Rattle.rd_desk.specs.declared.said.Said.TheVariants.{Refused, Done, Images, Listed, File}
+use Rattle.rd_desk.specs.declared.said.Said.TheVariants.{Refused, Done, Images, Listed, File, Catalogue, Surveyed, Checked}
+use Rattle.rd_desk.specs.declared.said.Survey.{Survey}
 
 -- ---- values
 
@@ -59,11 +66,6 @@ error_data name detail = object (member (codes "error") (string name) detail)
 
 -- ---- what is listed
 
-abbrev pub effect_word : Effect → List ℕ
-effect_word effect.Deny = codes "deny"
-effect_word effect.List = codes "list"
-effect_word effect.Read = codes "read"
-
 -- a file, with the word of an effect, its faults and the label of a rule
 abbrev pub file_data : List ℕ → Data → List ℕ → Found → Data
 file_data effect faults rule file =
@@ -101,6 +103,53 @@ image_data line =
 abbrev pub images_data : List ImageLine → Data
 images_data lines = object (member (codes "images") (array (items_of (map image_data lines))) no_members)
 
+-- ---- what is surveyed and checked
+
+abbrev pub end_word : End → List ℕ
+end_word (end.Last byte) = codes "end"
+end_word end.Loop = codes "loop"
+end_word end.Off = codes "off"
+
+abbrev pub counts_data : MapReport → Data
+counts_data map =
+    object
+    (member (codes "claimed_free") (natural map.claimed_free)
+    (member (codes "unclaimed_used") (natural map.unclaimed_used)
+    (member (codes "wrong_counts") (natural map.wrong_counts) no_members)))
+
+-- what the block map differs in; a CP/M disk has none
+abbrev pub map_data : Kind → MapReport → Data
+map_data Cpm8 map = null
+map_data D64 map = counts_data map
+
+-- a survey, with the word of a kind, of the directory's end, and what is told of the block map
+abbrev pub survey_data : List ℕ → List ℕ → Data → Survey → Data
+survey_data kind directory map survey =
+    object
+    (member (codes "accession") (natural survey.accession)
+    (member (codes "deed") (natural survey.deed)
+    (member (codes "directory") (string directory)
+    (member (codes "donor") (string survey.donor)
+    (member (codes "faulty") (natural survey.report.faulty)
+    (member (codes "files") (natural survey.report.files)
+    (member (codes "kind") (string kind)
+    (member (codes "label") (string survey.report.label)
+    (member (codes "map") map
+    (member (codes "served") (natural survey.report.served)
+    (member (codes "signed") (string survey.signed)
+    (member (codes "size_differs") (natural survey.report.size_differs) no_members))))))))))))
+
+abbrev pub surveyed_data : Survey → Data
+surveyed_data survey =
+    survey_data (word_of survey.kind) (end_word survey.report.directory) (map_data survey.kind survey.report.map) survey
+
+abbrev pub outcome_word : Outcome → List ℕ
+outcome_word outcome.Sound = codes "sound"
+outcome_word outcome.Changed = codes "changed"
+
+abbrev pub outcome_data : Outcome → Data
+outcome_data found = object (member (codes "outcome") (string (outcome_word found)) no_members)
+
 abbrev pub DONE : Data
 DONE = object (member (codes "done") (boolean true) no_members)
 
@@ -116,6 +165,9 @@ reply_of Done = in_json 200 DONE
 reply_of (Images lines) = in_json 200 (images_data lines)
 reply_of (Listed listing) = in_json 200 (listing_data listing)
 reply_of (File bytes) = record { status = 200; form = Octets; body = bytes }
+reply_of (Catalogue listings) = record { status = 200; form = Csv; body = catalogue_text listings }
+reply_of (Surveyed survey) = in_json 200 (surveyed_data survey)
+reply_of (Checked found) = in_json 200 (outcome_data found)
 
 -- the reply where the database fails, or memory is wanting
 abbrev pub UNAVAILABLE : Reply

@@ -10,7 +10,7 @@ ghost use Rattle.rd_desk.specs.Calls.{IsHolding, Looks};
 use crate::said::Unavailable;
 use rd_geometry::{Items, NoMemory};
 use rd_policy::{Audience, Band, Rule, in_order};
-use rd_store::{ImageRow, Store, StoreFault};
+use rd_store::{DeedRow, ImageRow, Store, StoreFault};
 use sqlite::Alter;
 use std::alloc::{AllocError, Global};
 
@@ -49,6 +49,13 @@ pub(crate) fn audience<S: Alter>(
     Ok(store.audience_of(digest)?)
 }
 
+/// The deed with a number, if there is one.
+pub(crate) fn deed<S: Alter>(store: &mut Store<S>, num: u32) -> Result<Option<DeedRow>, Unavailable>
+    ensures looks { Looks S.Store store.old store.new result (λ found. found ≡ get (desk S.Store store.old).deeds num) }
+{
+    Ok(store.deed(num)?)
+}
+
 /// Whether there is a deed with a number.
 pub(crate) fn has_deed<S: Alter>(store: &mut Store<S>, num: u32) -> Result<bool, Unavailable>
     ensures looks { Looks S.Store store.old store.new result (λ found. found ≡ is_some (get (desk S.Store store.old).deeds num)) }
@@ -67,7 +74,7 @@ pub(crate) fn accessions<S: Alter>(
 }
 
 /// The image at an accession, if one stands there.
-fn image<S: Alter>(
+pub(crate) fn image<S: Alter>(
     store: &mut Store<S>,
     alloc: Global,
     acc: u32,

@@ -17,8 +17,8 @@ enum Inner {
     Fixed(&'static str),
     /// A text that was written for the reply.
     Written(Text),
-    /// The bytes of a file.
-    File(Items<u8>),
+    /// Bytes that are no text of JSON: those of a file, or of a table.
+    Bytes(Items<u8>),
 }
 
 impl Model for Body {
@@ -54,12 +54,12 @@ impl Body {
         }
     }
 
-    /// The bytes of a file.
-    pub(crate) fn file(bytes: Items<u8>) -> Body
+    /// The bytes of a file, or of a table.
+    pub(crate) fn octets(bytes: Items<u8>) -> Body
         ensures { result ≡ bytes }
     {
         Body {
-            inner: Inner::File(bytes),
+            inner: Inner::Bytes(bytes),
         }
     }
 
@@ -69,7 +69,7 @@ impl Body {
         match &self.inner {
             Inner::Fixed(text) => text.as_bytes(),
             Inner::Written(text) => text.as_str().as_bytes(),
-            Inner::File(bytes) => bytes.as_slice(),
+            Inner::Bytes(bytes) => bytes.as_slice(),
         }
     }
 

@@ -1,26 +1,30 @@
-//! The commands. Whoever calls these functions knows that the staff asks. Each makes one transaction at most,
-//! as its last step, and tells `Done` only once that is committed.
+//! What is for the staff. Whoever calls these functions knows that the staff asks. Each makes one transaction
+//! at most, as its last step, and tells that it is done only once that is committed.
 
-ghost use Rattle.std.specs.Prelude.{◌≡◌, ◌≢◌, ◌↔◌, Some, IsSome, IsTrue, length};
+ghost use Rattle.std.specs.Prelude.{◌≡◌, ◌≢◌, IsSome, Some, length, ℤ};
 ghost use Rattle.std.specs.FinMap.{get};
 ghost use Rattle.sha2.specs.Sha256.{sha256};
 ghost use Rattle.rd_geometry.specs.Kinds.{size_of};
+ghost use Rattle.rd_policy.specs.Days.{IsDay};
 ghost use Rattle.rd_policy.specs.Rules.{IsRule, IsScope};
 ghost use Rattle.rd_store.specs.Held.{IsOpen, desk};
 ghost use Rattle.rd_store.specs.Lawful.{IsDeed};
 ghost use Rattle.rd_desk.specs.Calls.{Carries, missing_of};
 ghost use Rattle.rd_desk.specs.Judged.{audience_of};
-ghost use Rattle.rd_desk.specs.Requests.{IsCommand, IsRequest};
+ghost use Rattle.rd_desk.specs.Requests.{IsForStaff, IsRequest};
 
-use crate::asking::has_deed;
+use crate::asking::{has_deed, image};
+use crate::checks::{check_row, has_digest};
+use crate::queries::Caller;
 use crate::refusal::Refusal;
 use crate::request::{Request, What};
 use crate::said::{Said, Unavailable};
+use crate::surveys::survey;
 use rd_geometry::{Items, Kind, Text};
 use rd_policy::{Audience, Band, Rule};
 use rd_store::{Store, StoreFault};
-use sha2::{Digest, Sha256};
 use sqlite::Alter;
+use std::alloc::Global;
 
 /// What is missing where the accession of a takedown, or the deed of a rule, does not stand.
 fn missing(band: Band) -> Refusal
@@ -42,7 +46,7 @@ fn put_deed<S: Alter>(
 ) -> Result<Said, Unavailable>
     requires known { IsOpen S.Store store.old → audience_of (desk S.Store store.old) badge.now ≡ Some Audience.Staff }
     requires deed { IsDeed num (record { donor = donor.now; signed = signed }) }
-    ensures { Carries S.Store store.old store.new (record { badge = badge.now; what = What.PutDeed num donor.now signed }) result }
+    ensures { (day : ℤ) → Carries S.Store store.old store.new day (record { badge = badge.now; what = What.PutDeed num donor.now signed }) result }
 {
     store.put_deed(num, donor.as_str(), signed)?;
     Ok(Said::Done)
@@ -56,7 +60,7 @@ fn put_rule<S: Alter>(
 ) -> Result<Said, Unavailable>
     requires known { IsOpen S.Store store.old → audience_of (desk S.Store store.old) badge.now ≡ Some Audience.Staff }
     requires rule { IsRule rule.now }
-    ensures { Carries S.Store store.old store.new (record { badge = badge.now; what = What.PutRule rule.now }) result }
+    ensures { (day : ℤ) → Carries S.Store store.old store.new day (record { badge = badge.now; what = What.PutRule rule.now }) result }
 {
     match store.put_rule(rule) {
         Ok(()) => Ok(Said::Done),
@@ -74,7 +78,7 @@ fn drop_rule<S: Alter>(
     rank: u16,
 ) -> Result<Said, Unavailable>
     requires known { IsOpen S.Store store.old → audience_of (desk S.Store store.old) badge.now ≡ Some Audience.Staff }
-    ensures { Carries S.Store store.old store.new (record { badge = badge.now; what = What.DropRule band scope rank }) result }
+    ensures { (day : ℤ) → Carries S.Store store.old store.new day (record { badge = badge.now; what = What.DropRule band scope rank }) result }
 {
     match store.drop_rule(band, scope, rank) {
         Ok(()) => Ok(Said::Done),
@@ -92,7 +96,7 @@ fn put_key<S: Alter>(
 ) -> Result<Said, Unavailable>
     requires known { IsOpen S.Store store.old → audience_of (desk S.Store store.old) badge.now ≡ Some Audience.Staff }
     requires key { audience ≢ Audience.Public }
-    ensures { Carries S.Store store.old store.new (record { badge = badge.now; what = What.PutKey digest.now audience }) result }
+    ensures { (day : ℤ) → Carries S.Store store.old store.new day (record { badge = badge.now; what = What.PutKey digest.now audience }) result }
 {
     match store.put_key(digest, audience) {
         Ok(()) => Ok(Said::Done),
@@ -108,20 +112,13 @@ fn drop_key<S: Alter>(
     digest: &[u8; 32],
 ) -> Result<Said, Unavailable>
     requires known { IsOpen S.Store store.old → audience_of (desk S.Store store.old) badge.now ≡ Some Audience.Staff }
-    ensures { Carries S.Store store.old store.new (record { badge = badge.now; what = What.DropKey digest.now }) result }
+    ensures { (day : ℤ) → Carries S.Store store.old store.new day (record { badge = badge.now; what = What.DropKey digest.now }) result }
 {
     match store.drop_key(digest) {
         Ok(()) => Ok(Said::Done),
         Err(StoreFault::Conflict) => Ok(Said::Refused(Refusal::Conflict)),
         Err(StoreFault::Missing | StoreFault::Sql) => Err(Unavailable),
     }
-}
-
-/// Whether bytes have this SHA-256.
-fn has_digest(bytes: &[u8], digest: &[u8; 32]) -> bool
-    ensures { IsTrue result ↔ (sha256 bytes.now ≡ digest.now) }
-{
-    Sha256::digest(bytes) == *digest
 }
 
 /// Puts an image whose length, SHA-256 and deed were found right.
@@ -139,7 +136,7 @@ fn commit_image<S: Alter>(
     requires scope { IsScope acc }
     requires sized { length bytes.now ≡ size_of kind }
     requires same { sha256 bytes.now ≡ digest.now }
-    ensures { Carries S.Store store.old store.new (record { badge = badge.now; what = What.PutImage acc kind deed digest.now bytes.now }) result }
+    ensures { (day : ℤ) → Carries S.Store store.old store.new day (record { badge = badge.now; what = What.PutImage acc kind deed digest.now bytes.now }) result }
 {
     match store.put_image(acc, kind, deed, digest, bytes.as_slice()) {
         Ok(()) => Ok(Said::Done),
@@ -160,7 +157,7 @@ fn put_image<S: Alter>(
 ) -> Result<Said, Unavailable>
     requires known { IsOpen S.Store store.old → audience_of (desk S.Store store.old) badge.now ≡ Some Audience.Staff }
     requires scope { IsScope acc }
-    ensures { Carries S.Store store.old store.new (record { badge = badge.now; what = What.PutImage acc kind deed digest.now bytes.now }) result }
+    ensures { (day : ℤ) → Carries S.Store store.old store.new day (record { badge = badge.now; what = What.PutImage acc kind deed digest.now bytes.now }) result }
 {
     if !has_deed(store, deed)? {
         return Ok(Said::Refused(Refusal::NoDeed));
@@ -177,25 +174,51 @@ fn put_image<S: Alter>(
 /// Refuses a command of which the body was not understood.
 fn unread<S: Alter>(store: &mut Store<S>, badge: &Option<[u8; 32]>) -> Result<Said, Unavailable>
     requires known { IsOpen S.Store store.old → audience_of (desk S.Store store.old) badge.now ≡ Some Audience.Staff }
-    ensures { Carries S.Store store.old store.new (record { badge = badge.now; what = What.Unread }) result }
+    ensures { (day : ℤ) → Carries S.Store store.old store.new day (record { badge = badge.now; what = What.Unread }) result }
 {
     let _ = badge;
     store.rests();
     Ok(Said::Refused(Refusal::BadBody))
 }
 
-/// Carries out a command.
+/// Checks the image of an accession, and records on the day what was found.
+fn check<S: Alter>(
+    store: &mut Store<S>,
+    alloc: Global,
+    caller: &Caller,
+    badge: &Option<[u8; 32]>,
+    acc: u32,
+) -> Result<Said, Unavailable>
+    requires known { IsOpen S.Store store.old → audience_of (desk S.Store store.old) badge.now ≡ Some Audience.Staff }
+    requires day { IsDay caller.now.day }
+    ensures { Carries S.Store store.old store.new caller.now.day (record { badge = badge.now; what = What.Check acc }) result }
+{
+    let _ = badge;
+    let Some(image) = image(store, alloc, acc)? else {
+        return Ok(Said::Refused(Refusal::NoAccession));
+    };
+    let outcome = check_row(image.bytes.as_slice(), &image.digest);
+    store.put_check(acc, caller.day, outcome)?;
+    Ok(Said::Checked(outcome))
+}
+
+/// Does what the staff asks for.
 pub(crate) fn command<S: Alter>(
     store: &mut Store<S>,
+    alloc: Global,
+    caller: &Caller,
     request: &Request,
 ) -> Result<Said, Unavailable>
     requires known { IsOpen S.Store store.old → audience_of (desk S.Store store.old) request.now.badge ≡ Some Audience.Staff }
+    requires day { IsDay caller.now.day }
     requires fits { IsRequest request.now.what }
-    requires command { IsCommand request.now.what }
-    ensures { Carries S.Store store.old store.new request.now result }
+    requires staff { IsForStaff request.now.what }
+    ensures { Carries S.Store store.old store.new caller.now.day request.now result }
 {
     let badge = &request.badge;
     match &request.what {
+        What::Survey(acc) => survey(store, alloc, badge, *acc),
+        What::Check(acc) => check(store, alloc, caller, badge, *acc),
         What::PutImage {
             acc,
             kind,
@@ -209,6 +232,6 @@ pub(crate) fn command<S: Alter>(
         What::PutKey { digest, audience } => put_key(store, badge, digest, *audience),
         What::DropKey { digest } => drop_key(store, badge, digest),
         What::Unread => unread(store, badge),
-        What::Images | What::Listing(_) | What::Bytes(_, _) => unreachable!(),
+        What::Images | What::Listing(_) | What::Bytes(_, _) | What::Catalogue => unreachable!(),
     }
 }

@@ -2,12 +2,12 @@
 
 ghost use Rattle.std.specs.Prelude.{◌≡◌, ◌↔◌, Ok, IsOk, IfOk, Some, None};
 ghost use Rattle.sqlite.specs.Steps.{over_memory};
-ghost use Rattle.rd_policy.specs.Days.{HasDay, IsOffset, day_number};
+ghost use Rattle.rd_policy.specs.Days.{HasDay, IsDay, IsOffset, day_number};
 ghost use Rattle.rd_store.specs.Held.{IsClean, IsOpen, LeavesOpen, desk, desk as tables};
 ghost use Rattle.rd_desk.specs.Calls.{IsWritten, Responds};
 ghost use Rattle.rd_desk.specs.Judged.{audience_of};
 ghost use Rattle.rd_desk.specs.Replies.{Answers};
-ghost use Rattle.rd_desk.specs.Requests.{IsCommand, IsRequest};
+ghost use Rattle.rd_desk.specs.Requests.{IsForStaff, IsRequest};
 ghost use Rattle.rd_desk.specs.Served.{Serves};
 
 use crate::asking::audience;
@@ -31,17 +31,18 @@ fn respond<S: Alter>(
 ) -> Result<Said, Unavailable>
     requires known { IsOpen S.Store store.old → audience_of (desk S.Store store.old) request.now.badge ≡ Some caller.now.audience }
     requires fits { IsRequest request.now.what }
+    requires day { IsDay caller.now.day }
     ensures responds { Responds S.Store store.old store.new caller.now.day request.now result }
     ensures ends_open { (IsClean S.Store store.old → IsOpen S.Store store.old) → LeavesOpen S.Store store.new result }
 {
-    if !request.what.is_command() {
+    if !request.what.is_for_staff() {
         return query(store, alloc, caller, request);
     }
     store.rests();
     if caller.audience != Audience::Staff {
         return Ok(Said::Refused(Refusal::StaffOnly));
     }
-    command(store, request)
+    command(store, alloc, caller, request)
 }
 
 /// What is said to a caller with a badge.
@@ -54,6 +55,7 @@ fn respond_to_badge<S: Alter>(
 ) -> Result<Said, Unavailable>
     requires badge { request.now.badge ≡ Some badge.now }
     requires fits { IsRequest request.now.what }
+    requires day { IsDay day }
     ensures responds { Responds S.Store store.old store.new day request.now result }
     ensures ends_open { LeavesOpen S.Store store.new result }
 {
@@ -63,8 +65,7 @@ fn respond_to_badge<S: Alter>(
     respond(store, alloc, &Caller { audience, day }, request)
 }
 
-/// What is said to a caller without a badge. The public gives no commands, and where it is asked for one the
-/// store is not touched.
+/// What is said to a caller without a badge. What is for the staff is refused, and the store is not touched then.
 fn respond_to_public<S: Alter>(
     store: &mut Store<S>,
     alloc: Global,
@@ -73,10 +74,10 @@ fn respond_to_public<S: Alter>(
 ) -> Result<Said, Unavailable>
     requires nobody { request.now.badge ≡ None }
     ensures responds { Responds S.Store store.old store.new day request.now result }
-    ensures ends_open { ¬ IsCommand request.now.what → LeavesOpen S.Store store.new result }
-    ensures turned_away { IsCommand request.now.what → (result ≡ Ok (Said.Refused Refusal.StaffOnly)) × (store.new ≡ store.old) }
+    ensures ends_open { ¬ IsForStaff request.now.what → LeavesOpen S.Store store.new result }
+    ensures turned_away { IsForStaff request.now.what → (result ≡ Ok (Said.Refused Refusal.StaffOnly)) × (store.new ≡ store.old) }
 {
-    if request.what.is_command() {
+    if request.what.is_for_staff() {
         store.rests();
         return Ok(Said::Refused(Refusal::StaffOnly));
     }
@@ -90,6 +91,7 @@ fn reply_with(alloc: Global, said: Result<Said, Unavailable>) -> Reply
 {
     match said {
         Ok(Said::Done) => json::done(),
+        Ok(Said::Checked(outcome)) => json::checked(outcome),
         Ok(said) => match json::reply_to(alloc, said) {
             Ok(reply) => reply,
             Err(_) => json::unavailable(),
@@ -108,6 +110,7 @@ fn reply_to_badge<S: Alter>(
 ) -> Reply
     requires badge { request.now.badge ≡ Some badge.now }
     requires fits { IsRequest request.now.what }
+    requires day { IsDay day }
     ensures serves { Serves S.Store store.old store.new day request.now result }
 {
     let said = respond_to_badge(store, alloc, day, request, badge);
@@ -133,6 +136,7 @@ fn reply_to_public<S: Alter>(
 /// Replies to a request on a day.
 fn reply_on<S: Alter>(store: &mut Store<S>, alloc: Global, day: i32, request: &Request) -> Reply
     requires fits { IsRequest request.now.what }
+    requires day { IsDay day }
     ensures serves { Serves S.Store store.old store.new day request.now result }
 {
     match &request.badge {
@@ -192,8 +196,8 @@ impl<S: Alter> Desk<S> {
 
     /// The reply to a request whose values are within their limits (`Request::fits`), at a moment in seconds
     /// since 1970-01-01T00:00:00 UTC that has a day (`Desk::day`). Its status is 200, that of a `Refusal`, or
-    /// 503, where the store failed or `alloc` had no memory. A command is done whole or not at all, and no
-    /// change comes before a 503.
+    /// 503, where the store failed or `alloc` had no memory. A command and a check are done whole or not at all,
+    /// and no change comes before a 503.
     pub fn answer(&mut self, alloc: Global, seconds: i64, request: &Request) -> Reply
         requires moment { HasDay seconds self.old.offset_minutes }
         requires fits { IsRequest request.now.what }

@@ -1,4 +1,4 @@
-//! What is said, as a reply: texts of JSON, and the bytes of files.
+//! What is said, as a reply: texts of JSON, the table of the catalogue, and the bytes of files.
 
 ghost use Rattle.std.specs.Prelude.{◌≡◌, false, IfOk, map};
 ghost use Rattle.serde_json.specs.Data.{array, no_members, string};
@@ -6,27 +6,18 @@ ghost use Rattle.serde_json.specs.View.{items_of, view};
 ghost use Rattle.serde_json.specs.Written.{has_float};
 ghost use Rattle.rd_volume.specs.Words.{words_of};
 ghost use Rattle.rd_desk.specs.Refusals.{name_of};
-ghost use Rattle.rd_desk.specs.Texts.{DONE, UNAVAILABLE, detail_of, effect_word, error_data, file_data, image_data, images_data, in_json, line_data, listing_data, natural_or_null, reply_of, rule_member, texts};
+ghost use Rattle.rd_desk.specs.Texts.{DONE, UNAVAILABLE, counts_data, detail_of, error_data, file_data, image_data, images_data, in_json, line_data, listing_data, map_data, natural_or_null, outcome_data, reply_of, rule_member, survey_data, surveyed_data, texts};
 
 use crate::body::Body;
+use crate::catalogue::table;
 use crate::refusal::Refusal;
-use crate::said::{Form, ImageLine, Line, Listing, Reply, Said};
+use crate::said::{Form, ImageLine, Line, Listing, Reply, Said, Survey};
+use crate::words::{effect_name, end_name};
 use rd_geometry::{Kind, NoMemory, Text};
-use rd_policy::Effect;
-use rd_volume::{Found, fault_words};
+use rd_store::Outcome;
+use rd_volume::{Found, MapReport, fault_words};
 use serde_json::{Value, json};
 use std::alloc::{AllocError, Global};
-
-/// The word of an effect.
-fn effect_name(effect: Effect) -> &'static str
-    ensures { result.now ≡ effect_word effect }
-{
-    match effect {
-        Effect::Deny => "deny",
-        Effect::List => "list",
-        Effect::Read => "read",
-    }
-}
 
 fn text_value(alloc: Global, text: &str) -> Result<Value, AllocError>
     ensures { IfOk result (λ value. view value ≡ string text.now) }
@@ -170,6 +161,60 @@ fn images_value(alloc: Global, lines: &[ImageLine]) -> Result<Value, AllocError>
     json!(in alloc; {"images": image_values(alloc, lines)?})
 }
 
+fn counts_value(alloc: Global, map: &MapReport) -> Result<Value, AllocError>
+    ensures { IfOk result (λ value. view value ≡ counts_data map.now) }
+{
+    json!(in alloc; {
+        "claimed_free": map.claimed_free,
+        "unclaimed_used": map.unclaimed_used,
+        "wrong_counts": map.wrong_counts
+    })
+}
+
+/// What the block map of an image of a kind differs in: null where the kind has none.
+fn map_value(alloc: Global, kind: Kind, map: &MapReport) -> Result<Value, AllocError>
+    ensures { IfOk result (λ value. view value ≡ map_data kind map.now) }
+{
+    match kind {
+        Kind::Cpm8 => Ok(Value::Null),
+        Kind::D64 => counts_value(alloc, map),
+    }
+}
+
+/// A survey, with the word of a kind, of the directory's end, and what is told of the block map.
+fn survey_value(
+    alloc: Global,
+    kind: &str,
+    directory: &str,
+    map: Value,
+    survey: &Survey,
+) -> Result<Value, AllocError>
+    ensures { IfOk result (λ value. view value ≡ survey_data kind.now directory.now (view map) survey.now) }
+{
+    json!(in alloc; {
+        "accession": survey.accession,
+        "deed": survey.deed,
+        "directory": directory,
+        "donor": survey.donor.as_str(),
+        "faulty": survey.report.faulty,
+        "files": survey.report.files,
+        "kind": kind,
+        "label": survey.report.label.as_str(),
+        "map": map,
+        "served": survey.report.served,
+        "signed": survey.signed.as_str(),
+        "size_differs": survey.report.size_differs
+    })
+}
+
+fn surveyed_value(alloc: Global, survey: &Survey) -> Result<Value, AllocError>
+    ensures { IfOk result (λ value. view value ≡ surveyed_data survey.now) }
+{
+    let map = map_value(alloc, survey.kind, &survey.report.map)?;
+    let directory = end_name(survey.report.directory);
+    survey_value(alloc, survey.kind.word(), directory, map, survey)
+}
+
 fn json_reply(alloc: Global, status: u16, value: &Value) -> Result<Reply, NoMemory>
     requires { has_float (view value.now) ≡ false }
     ensures { IfOk result (λ reply. reply ≡ in_json status (view value.now)) }
@@ -199,6 +244,28 @@ pub(crate) fn done() -> Reply
     fixed_reply(200, "{\"done\":true}")
 }
 
+fn sound() -> Reply
+    ensures { result ≡ in_json 200 (outcome_data Outcome.Sound) }
+{
+    fixed_reply(200, "{\"outcome\":\"sound\"}")
+}
+
+fn changed() -> Reply
+    ensures { result ≡ in_json 200 (outcome_data Outcome.Changed) }
+{
+    fixed_reply(200, "{\"outcome\":\"changed\"}")
+}
+
+/// The reply to a check, by what it found. It takes no memory.
+pub(crate) fn checked(outcome: Outcome) -> Reply
+    ensures { result ≡ in_json 200 (outcome_data outcome) }
+{
+    match outcome {
+        Outcome::Sound => sound(),
+        Outcome::Changed => changed(),
+    }
+}
+
 /// The reply where the database fails or memory is wanting. It takes no memory.
 pub(crate) fn unavailable() -> Reply
     ensures { result ≡ UNAVAILABLE }
@@ -220,7 +287,14 @@ pub(crate) fn reply_to(alloc: Global, said: Said) -> Result<Reply, NoMemory>
         Said::File(bytes) => Ok(Reply {
             status: 200,
             form: Form::Octets,
-            body: Body::file(bytes),
+            body: Body::octets(bytes),
         }),
+        Said::Catalogue(listings) => Ok(Reply {
+            status: 200,
+            form: Form::Csv,
+            body: Body::octets(table(alloc, listings.as_slice())?),
+        }),
+        Said::Surveyed(survey) => json_reply(alloc, 200, &surveyed_value(alloc, &survey)?),
+        Said::Checked(outcome) => Ok(checked(outcome)),
     }
 }

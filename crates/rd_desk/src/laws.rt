@@ -8,13 +8,13 @@ pub fn one_reply()
 {}
 
 /// Law: the desk after an answered request is the old one where the request is refused, and the one that the
-/// command makes of it where it is accepted.
+/// request makes of it where it is accepted.
 pub fn answers_step()
     ensures { AnswersStep }
 {}
 
-/// Law: sent a second time on its day, a command is replied to alike and changes nothing more, unless its caller's
-/// own key is what it changed.
+/// Law: sent a second time on its day, what is for the staff is replied to alike and changes nothing more, unless its
+/// caller's own key is what it changed.
 pub fn same_again()
     ensures { SameAgain }
 {}

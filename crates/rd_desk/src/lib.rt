@@ -3,6 +3,8 @@
 
 mod asking;
 mod body;
+mod catalogue;
+mod checks;
 mod commands;
 mod desk;
 mod files;
@@ -12,13 +14,17 @@ mod queries;
 mod refusal;
 mod request;
 mod said;
+mod surveys;
 #[cfg(test)]
 mod tests;
+mod words;
 
 pub use body::{Body, BodyPieces};
+pub use checks::check_row;
 pub use desk::{Desk, answer_in_memory};
 pub use laws::{answers_step, one_reply, same_again};
 pub use rd_geometry::{Items, Kind, NoMemory, Text};
+pub use rd_store::Outcome;
 pub use refusal::Refusal;
 pub use request::{Request, What};
-pub use said::{Form, ImageLine, Line, Listing, Reply, Said};
+pub use said::{Form, ImageLine, Line, Listing, Reply, Said, Survey};

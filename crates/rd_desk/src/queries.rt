@@ -1,13 +1,14 @@
 //! What a caller may see and read.
 
 ghost use Rattle.std.specs.Prelude.{◌≡◌, Contains, IfOk, Some};
+ghost use Rattle.std.specs.List.{AllZip};
 ghost use Rattle.rd_policy.specs.Verdicts.{AreInOrder, IsVerdict};
 ghost use Rattle.rd_store.specs.Held.{IsClean, IsOpen, desk};
 ghost use Rattle.rd_desk.specs.Calls.{Looks};
 ghost use Rattle.rd_desk.specs.Judged.{audience_of};
-ghost use Rattle.rd_desk.specs.Queries.{AreLinesOf, AreLinesOfEach, IsCounted, IsRead};
-ghost use Rattle.rd_desk.specs.Replies.{AreLines, IsAnswered};
-ghost use Rattle.rd_desk.specs.Requests.{IsCommand};
+ghost use Rattle.rd_desk.specs.Queries.{AreLinesOf, AreLinesOfEach, IsCounted, IsListedAt, IsRead};
+ghost use Rattle.rd_desk.specs.Replies.{AreLines, IsAnswered, IsListing};
+ghost use Rattle.rd_desk.specs.Requests.{IsForStaff};
 
 use crate::asking::{Holding, accessions, look_up};
 use crate::files::{contents, file_at, files};
@@ -108,6 +109,27 @@ fn lines(alloc: Global, holding: &Holding, caller: &Caller) -> Result<Items<Line
     listed(alloc, holding.rules.as_slice(), caller, files)
 }
 
+/// An accession with its files that are listed; `None` where it does not stand.
+fn listed_at<S: Alter>(
+    store: &mut Store<S>,
+    alloc: Global,
+    caller: &Caller,
+    acc: u32,
+) -> Result<Option<Listing>, Unavailable>
+    ensures { Looks S.Store store.old store.new result (IsListedAt (desk S.Store store.old) caller.now.audience caller.now.day acc) }
+{
+    let Some(holding) = look_up(store, alloc, acc)? else {
+        return Ok(None);
+    };
+    let files = lines(alloc, &holding, caller)?;
+    Ok(Some(Listing {
+        accession: acc,
+        deed: holding.image.deed,
+        kind: holding.image.kind,
+        files,
+    }))
+}
+
 /// The accession that is asked for, with its files that are listed.
 fn listing<S: Alter>(
     store: &mut Store<S>,
@@ -121,16 +143,10 @@ fn listing<S: Alter>(
         IsAnswered (desk S.Store store.old) caller.now.day (record { badge = badge.now; what = What.Listing acc }) said (desk S.Store store.old)) }
 {
     let _ = badge;
-    let Some(holding) = look_up(store, alloc, acc)? else {
-        return Ok(Said::Refused(Refusal::NoAccession));
-    };
-    let files = lines(alloc, &holding, caller)?;
-    Ok(Said::Listed(Listing {
-        accession: acc,
-        deed: holding.image.deed,
-        kind: holding.image.kind,
-        files,
-    }))
+    match listed_at(store, alloc, caller, acc)? {
+        Some(listing) => Ok(Said::Listed(listing)),
+        None => Ok(Said::Refused(Refusal::NoAccession)),
+    }
 }
 
 /// How many files of an accession that stands are listed, beside what else is told of it.
@@ -193,6 +209,45 @@ fn images<S: Alter>(
     Ok(Said::Images(image_lines(store, alloc, caller, accessions.as_slice())?))
 }
 
+/// These accessions, each with its files that are listed.
+fn listings<S: Alter>(
+    store: &mut Store<S>,
+    alloc: Global,
+    caller: &Caller,
+    accessions: &[u32],
+) -> Result<Items<Listing>, Unavailable>
+    requires awake { IsClean S.Store store.old → IsOpen S.Store store.old }
+    ensures { Looks S.Store store.old store.new result (λ listings. AllZip (IsListing (desk S.Store store.old) caller.now.audience caller.now.day) accessions.now listings) }
+{
+    let mut listings = Vec::new(alloc);
+    store.rests();
+    for acc in accessions {
+        let Some(listing) = listed_at(store, alloc, caller, *acc)? else {
+            return Err(Unavailable);
+        };
+        let Ok(()) = listings.push(listing) else {
+            return Err(Unavailable);
+        };
+    }
+    Ok(Items::of(listings))
+}
+
+/// All accessions, each with its files that are listed.
+fn catalogue<S: Alter>(
+    store: &mut Store<S>,
+    alloc: Global,
+    caller: &Caller,
+    badge: &Option<[u8; 32]>,
+) -> Result<Said, Unavailable>
+    requires known { IsOpen S.Store store.old → audience_of (desk S.Store store.old) badge.now ≡ Some caller.now.audience }
+    ensures { Looks S.Store store.old store.new result (λ said.
+        IsAnswered (desk S.Store store.old) caller.now.day (record { badge = badge.now; what = What.Catalogue }) said (desk S.Store store.old)) }
+{
+    let _ = badge;
+    let accessions = accessions(store, alloc)?;
+    Ok(Said::Catalogue(listings(store, alloc, caller, accessions.as_slice())?))
+}
+
 /// Answers a query.
 pub(crate) fn query<S: Alter>(
     store: &mut Store<S>,
@@ -201,7 +256,7 @@ pub(crate) fn query<S: Alter>(
     request: &Request,
 ) -> Result<Said, Unavailable>
     requires known { IsOpen S.Store store.old → audience_of (desk S.Store store.old) request.now.badge ≡ Some caller.now.audience }
-    requires query { ¬ IsCommand request.now.what }
+    requires query { ¬ IsForStaff request.now.what }
     ensures { Looks S.Store store.old store.new result (λ said.
         IsAnswered (desk S.Store store.old) caller.now.day request.now said (desk S.Store store.old)) }
 {
@@ -210,7 +265,10 @@ pub(crate) fn query<S: Alter>(
         What::Images => images(store, alloc, caller, badge),
         What::Listing(acc) => listing(store, alloc, caller, badge, *acc),
         What::Bytes(acc, slot) => bytes(store, alloc, caller, badge, *acc, *slot),
-        What::PutImage { .. }
+        What::Catalogue => catalogue(store, alloc, caller, badge),
+        What::Survey(_)
+        | What::Check(_)
+        | What::PutImage { .. }
         | What::PutDeed { .. }
         | What::PutRule(_)
         | What::DropRule { .. }

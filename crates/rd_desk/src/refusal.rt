@@ -8,7 +8,7 @@ use rd_policy::Label;
 pub enum Refusal {
     /// The caller's desk key is none that the museum knows.
     UnknownKey,
-    /// It is a command, and the caller is not of the staff.
+    /// It is for the staff, and the caller is not of the staff.
     StaffOnly,
     /// The body of the command cannot be read.
     BadBody,

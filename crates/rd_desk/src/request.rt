@@ -13,8 +13,8 @@ pub struct Request {
     pub what: What,
 }
 
-/// What is asked: a question, which anyone may put, or a command, which is for the staff. `Images`,
-/// `Listing` and `Bytes` are questions, all others commands.
+/// What is asked. `Images`, `Listing`, `Bytes` and `Catalogue` are questions, which anyone may put; all others
+/// are for the staff.
 #[derive(Drop)]
 pub enum What {
     /// Of which accessions the caller may see files, and of how many.
@@ -23,6 +23,13 @@ pub enum What {
     Listing(u32),
     /// The bytes of a file: of an accession, 1 to 999,999, the file at a slot, 0 to 9,999.
     Bytes(u32, u16),
+    /// The files of all accessions that the caller may see, as one table.
+    Catalogue,
+    /// What the image of an accession, 1 to 999,999, has on it, counted, and by whose deed it came.
+    Survey(u32),
+    /// To check whether the image of an accession, 1 to 999,999, has still the SHA-256 that was given for it,
+    /// and to record on the day what was found.
+    Check(u32),
     /// To take in an image.
     PutImage {
         /// The number of its accession, 1 to 999,999.
@@ -73,15 +80,17 @@ pub enum What {
 }
 
 impl What {
-    ghost use Rattle.rd_desk.specs.Requests.{IsCommand};
+    ghost use Rattle.rd_desk.specs.Requests.{IsForStaff};
 
-    /// Whether it is a command, which is for the staff.
-    pub(crate) fn is_command(&self) -> bool
-        ensures { IsTrue result ↔ IsCommand self.now }
+    /// Whether it is for the staff.
+    pub(crate) fn is_for_staff(&self) -> bool
+        ensures { IsTrue result ↔ IsForStaff self.now }
     {
         match self {
-            What::Images | What::Listing(_) | What::Bytes(_, _) => false,
-            What::PutImage { .. }
+            What::Images | What::Listing(_) | What::Bytes(_, _) | What::Catalogue => false,
+            What::Survey(_)
+            | What::Check(_)
+            | What::PutImage { .. }
             | What::PutDeed { .. }
             | What::PutRule(_)
             | What::DropRule { .. }
@@ -101,8 +110,8 @@ impl Request {
         ensures { IsTrue result ↔ IsRequest self.now.what }
     {
         match &self.what {
-            What::Images | What::DropKey { .. } | What::Unread => true,
-            What::Listing(acc) => is_scope(*acc),
+            What::Images | What::Catalogue | What::DropKey { .. } | What::Unread => true,
+            What::Listing(acc) | What::Survey(acc) | What::Check(acc) => is_scope(*acc),
             What::Bytes(acc, slot) => is_scope(*acc) && *slot <= 9_999,
             What::PutImage { acc, deed, .. } => is_scope(*acc) && is_scope(*deed),
             What::PutDeed { num, donor, signed } => {

@@ -1,8 +1,9 @@
 use crate::body::Body;
 use crate::refusal::Refusal;
-use rd_geometry::{Items, Kind};
+use rd_geometry::{Items, Kind, Text};
 use rd_policy::Verdict;
-use rd_volume::Found;
+use rd_store::Outcome;
+use rd_volume::{Found, Report};
 
 /// What is replied to a request.
 #[derive(Drop)]
@@ -39,6 +40,12 @@ pub enum Said {
     Listed(Listing),
     /// The bytes of a file.
     File(Items<u8>),
+    /// All accessions by ascending number, each with those of its files that the caller may see.
+    Catalogue(Items<Listing>),
+    /// What an image has on it, and by whose deed it came.
+    Surveyed(Survey),
+    /// What a check found of an image, which is now recorded.
+    Checked(Outcome),
 }
 
 /// An accession of which the caller may see files.
@@ -65,6 +72,23 @@ pub struct Listing {
     pub kind: Kind,
     /// The files, by ascending slot.
     pub files: Items<Line>,
+}
+
+/// An accession: what its image has on it, and by whose deed it came.
+#[derive(Drop)]
+pub struct Survey {
+    /// Its number, 1 to 999,999.
+    pub accession: u32,
+    /// The number of its deed, 1 to 999,999.
+    pub deed: u32,
+    /// Who gave the disks.
+    pub donor: Text,
+    /// The date on which the deed was signed, as in 2019-05-04.
+    pub signed: Text,
+    /// The kind of its image.
+    pub kind: Kind,
+    /// What the image has on it, counted.
+    pub report: Report,
 }
 
 /// A file that the caller may see.

@@ -11,6 +11,8 @@ macro_rules! table {
 }
 
 mod cases;
+mod catalogue;
+mod checks;
 mod done;
 mod images;
 mod limits;
@@ -20,4 +22,5 @@ mod requests;
 mod rows;
 mod rules;
 mod state;
+mod surveys;
 mod texts;

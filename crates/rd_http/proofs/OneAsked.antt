@@ -17,7 +17,7 @@ use Rattle.rd_http.specs.declared.fault.RequestFault.{RequestFault}
 use Rattle.rd_http.specs.declared.fault.RequestFault.TheVariants.{BadHead, Framing, NoRoute, Method}
 use Rattle.rd_http.specs.declared.route.Methods.{Methods}
 use Rattle.rd_http.specs.declared.route.Route.{Route}
-use Rattle.rd_http.specs.declared.route.Route.TheVariants.{Images, Listing, Bytes, Accession, Deed, Rule, Badge}
+use Rattle.rd_http.specs.declared.route.Route.TheVariants.{Images, Listing, Bytes, Survey, Check, Accession, Deed, Rule, Badge, Catalogue}
 use Rattle.rd_http.specs.declared.route.Verb.{Verb}
 use Rattle.rd_http.specs.declared.route.Verb.TheVariants.{Put, Delete}
 use Rattle.rd_http.proofs.OneBody.{one_deed, one_key, one_rule}
@@ -38,7 +38,10 @@ one_asks (Badge digest) Put body one other (audience, is, told) (audience2, is2,
 one_asks Images verb body one other is same = is ∙ sym same
 one_asks (Listing acc) verb body one other is same = is ∙ sym same
 one_asks (Bytes acc slot) verb body one other is same = is ∙ sym same
+one_asks (Survey acc) verb body one other is same = is ∙ sym same
+one_asks (Check acc) verb body one other is same = is ∙ sym same
 one_asks (Accession acc kind deed digest) verb body one other is same = is ∙ sym same
+one_asks Catalogue verb body one other is same = is ∙ sym same
 one_asks route verb body one other none same = absurd none
 
 pub one_what : (route : Route) (verb : Verb) (body : List ℕ) (one other : What) → IsWhat route verb body one → IsWhat route verb body other → one ≡ other

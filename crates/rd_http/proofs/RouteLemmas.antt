@@ -79,6 +79,8 @@ with_within pattern.Listing one two three four = step_within IsWithin IsScope (s
 with_within pattern.Bytes one two three four =
     step_within IsWithin IsScope (scope_of one) _ (scope_within one)
     (λ acc in_scope. step_within IsWithin (λ slot. slot ≤ 9_999) (slot_of two) _ (slot_within two) (λ slot few. (in_scope, few)))
+with_within pattern.Survey one two three four = step_within IsWithin IsScope (scope_of one) _ (scope_within one) (λ acc in_scope. in_scope)
+with_within pattern.Check one two three four = step_within IsWithin IsScope (scope_of one) _ (scope_within one) (λ acc in_scope. in_scope)
 with_within pattern.TakedownRule one two three four = rule_within band.Takedown one two
 with_within pattern.Accession one two three four =
     step_within IsWithin IsScope (scope_of one) _ (scope_within one)
@@ -88,6 +90,7 @@ with_within pattern.Accession one two three four =
 with_within pattern.Deed one two three four = step_within IsWithin IsScope (scope_of one) _ (scope_within one) (λ deed in_scope. in_scope)
 with_within pattern.DeedRule one two three four = rule_within band.Deed one two
 with_within pattern.Badge one two three four = step_free IsWithin (digest_of one) _ (λ digest. tt)
+with_within pattern.Catalogue one two three four = tt
 
 match_within : (found : Pattern × List (List ℕ)) → IfSome (route_of_match found) IsWithin
 match_within (pattern, parts) = with_within pattern _ _ _ _

@@ -17,7 +17,7 @@ use Rattle.rd_http.specs.Routes.{methods_of, route_of, verb_of}
 use Rattle.rd_http.specs.declared.fault.RequestFault.{RequestFault}
 use Rattle.rd_http.specs.declared.fault.RequestFault.TheVariants.{BadHead, Framing, NoRoute, Method}
 use Rattle.rd_http.specs.declared.route.Route.{Route}
-use Rattle.rd_http.specs.declared.route.Route.TheVariants.{Images, Listing, Bytes, Accession, Deed, Rule, Badge}
+use Rattle.rd_http.specs.declared.route.Route.TheVariants.{Images, Listing, Bytes, Survey, Check, Accession, Deed, Rule, Badge, Catalogue}
 use Rattle.rd_http.specs.declared.route.Verb.{Verb}
 use Rattle.rd_http.specs.declared.route.Verb.TheVariants.{Put, Delete}
 
@@ -29,12 +29,15 @@ abbrev pub Asks : Route → Verb → List ℕ → What → Type 0
 Asks Images verb body asked = asked ≡ what.Images
 Asks (Listing acc) verb body asked = asked ≡ what.Listing acc
 Asks (Bytes acc slot) verb body asked = asked ≡ what.Bytes acc slot
+Asks (Survey acc) verb body asked = asked ≡ what.Survey acc
+Asks (Check acc) verb body asked = asked ≡ what.Check acc
 Asks (Accession acc kind deed digest) verb body asked = asked ≡ what.PutImage acc kind deed digest body
 Asks (Deed num) verb body asked = (donor : List ℕ) × (signed : ℤ) × (asked ≡ what.PutDeed num donor signed) × IsDeedBody body donor signed
 Asks (Rule band scope rank) Delete body asked = asked ≡ what.DropRule band scope rank
 Asks (Rule band scope rank) Put body asked = (rule : NewRule) × (asked ≡ what.PutRule rule) × IsRuleBody band scope rank body rule
 Asks (Badge digest) Delete body asked = asked ≡ what.DropKey digest
 Asks (Badge digest) Put body asked = (audience : Audience) × (asked ≡ what.PutKey digest audience) × IsKeyBody body audience
+Asks Catalogue verb body asked = asked ≡ what.Catalogue
 Asks route verb body asked = ⊥
 
 -- what is asked, its values within their limits; where the body tells nothing such, a command that cannot be

@@ -9,6 +9,7 @@ use Rattle.rd_http.specs.Routes.{route_of, verb_of}
 use Rattle.rd_http.specs.declared.pattern.Pattern.TheVariants as pattern
 use Rattle.rd_http.specs.declared.route.Methods.TheVariants as methods
 use Rattle.rd_http.specs.declared.route.Route.TheVariants as route
+use Rattle.rd_http.specs.declared.route.Verb.TheVariants as verb
 
 pub each_goes_in : all_go_in patterns [] ≡ true
 unfolding matchit_on_literals
@@ -26,6 +27,18 @@ nothing_matched = refl
 pub file_named : route_of (codes "/images/12/files/0?slot=1") ≡ Some (route.Bytes 12 0)
 unfolding matched pattern_rows matchit_on_literals
 file_named = refl
+
+pub survey_named : route_of (codes "/images/12/survey") ≡ Some (route.Survey 12)
+unfolding matched pattern_rows matchit_on_literals
+survey_named = refl
+
+pub check_named : route_of (codes "/images/12/check") ≡ Some (route.Check 12)
+unfolding matched pattern_rows matchit_on_literals
+check_named = refl
+
+pub catalogue_named : route_of (codes "/catalogue") ≡ Some route.Catalogue
+unfolding matched pattern_rows matchit_on_literals
+catalogue_named = refl
 
 pub takedown_named : route_of (codes "/images/12/rules/10") ≡ Some (route.Rule band.Takedown 12 10)
 unfolding matched pattern_rows matchit_on_literals
@@ -61,6 +74,9 @@ nothing_decoded = refl
 pub other_byte_refused : route_of (codes "/deeds/7" ++ 200 ∷ []) ≡ None
 unfolding matched pattern_rows matchit_on_literals
 other_byte_refused = refl
+
+pub post_named : verb_of methods.Post (codes "POST") ≡ Some verb.Post
+post_named = refl
 
 pub small_letters_refused : verb_of methods.Get (codes "get") ≡ None
 small_letters_refused = refl

@@ -9,7 +9,7 @@ use Rattle.matchit.specs.Seek.{first}
 use Rattle.matchit.specs.declared.error.InsertError.{InsertError}
 use Rattle.rd_http.specs.declared.pattern.Parts.{Parts}
 use Rattle.rd_http.specs.declared.pattern.Pattern.{Pattern}
-use Rattle.rd_http.specs.declared.pattern.Pattern.TheVariants.{Images, Listing, Bytes, TakedownRule, Accession, Deed, DeedRule, Badge}
+use Rattle.rd_http.specs.declared.pattern.Pattern.TheVariants.{Images, Listing, Bytes, Survey, Check, TakedownRule, Accession, Deed, DeedRule, Badge, Catalogue}
 
 -- the patterns, in the order in which a router takes them in; what stands in braces is a part
 abbrev pub patterns : List (List ℕ × Pattern)
@@ -17,11 +17,14 @@ patterns =
     (codes "/images", Images)
     ∷ (codes "/images/{acc}", Listing)
     ∷ (codes "/images/{acc}/files/{slot}", Bytes)
+    ∷ (codes "/images/{acc}/survey", Survey)
+    ∷ (codes "/images/{acc}/check", Check)
     ∷ (codes "/images/{acc}/rules/{rank}", TakedownRule)
     ∷ (codes "/accessions/{acc}/{kind}/{deed}/{digest}", Accession)
     ∷ (codes "/deeds/{deed}", Deed)
     ∷ (codes "/deeds/{deed}/rules/{rank}", DeedRule)
     ∷ (codes "/badges/{digest}", Badge)
+    ∷ (codes "/catalogue", Catalogue)
     ∷ []
 
 -- ---- routers

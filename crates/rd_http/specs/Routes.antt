@@ -12,9 +12,9 @@ use Rattle.rd_http.specs.declared.pattern.Pattern.TheVariants as pattern
 use Rattle.rd_http.specs.declared.route.Methods.{Methods}
 use Rattle.rd_http.specs.declared.route.Methods.TheVariants as methods
 use Rattle.rd_http.specs.declared.route.Route.{Route}
-use Rattle.rd_http.specs.declared.route.Route.TheVariants.{Images, Listing, Bytes, Accession, Deed, Rule, Badge}
+use Rattle.rd_http.specs.declared.route.Route.TheVariants.{Images, Listing, Bytes, Survey, Check, Accession, Deed, Rule, Badge, Catalogue}
 use Rattle.rd_http.specs.declared.route.Verb.{Verb}
-use Rattle.rd_http.specs.declared.route.Verb.TheVariants.{Get, Put, Delete}
+use Rattle.rd_http.specs.declared.route.Verb.TheVariants.{Get, Post, Put, Delete}
 
 -- the ? of the logic: the second step, where the first gave a value
 infixl 10 ◌>>=◌
@@ -42,6 +42,12 @@ route_with pattern.Bytes first second third fourth = do
   acc ← scope_of first
   slot ← slot_of second
   Some (Bytes acc slot)
+route_with pattern.Survey first second third fourth = do
+  acc ← scope_of first
+  Some (Survey acc)
+route_with pattern.Check first second third fourth = do
+  acc ← scope_of first
+  Some (Check acc)
 route_with pattern.TakedownRule first second third fourth = rule_of band.Takedown first second
 route_with pattern.Accession first second third fourth = do
   acc ← scope_of first
@@ -56,6 +62,7 @@ route_with pattern.DeedRule first second third fourth = rule_of band.Deed first 
 route_with pattern.Badge first second third fourth = do
   digest ← digest_of first
   Some (Badge digest)
+route_with pattern.Catalogue first second third fourth = Some Catalogue
 
 -- the same of the pattern and the parts of a path
 abbrev pub route_of_match : Pattern × List (List ℕ) → Option Route
@@ -79,10 +86,13 @@ abbrev pub IsWithin : Route → Type 0
 IsWithin Images = Unit {0}
 IsWithin (Listing acc) = IsScope acc
 IsWithin (Bytes acc slot) = IsScope acc × (slot ≤ 9_999)
+IsWithin (Survey acc) = IsScope acc
+IsWithin (Check acc) = IsScope acc
 IsWithin (Accession acc kind deed digest) = IsScope acc × IsScope deed
 IsWithin (Deed deed) = IsScope deed
 IsWithin (Rule band scope rank) = IsScope scope × IsRank rank
 IsWithin (Badge digest) = Unit {0}
+IsWithin Catalogue = Unit {0}
 
 -- ---- methods
 
@@ -91,26 +101,32 @@ abbrev pub methods_of : Route → Methods
 methods_of Images = methods.Get
 methods_of (Listing acc) = methods.Get
 methods_of (Bytes acc slot) = methods.Get
+methods_of (Survey acc) = methods.Get
+methods_of (Check acc) = methods.Post
 methods_of (Accession acc kind deed digest) = methods.Put
 methods_of (Deed deed) = methods.Put
 methods_of (Rule band scope rank) = methods.PutOrDelete
 methods_of (Badge digest) = methods.PutOrDelete
+methods_of Catalogue = methods.Get
 
 -- the methods, as a reply tells them
 abbrev pub allow_text : Methods → List ℕ
 allow_text methods.Get = codes "GET"
+allow_text methods.Post = codes "POST"
 allow_text methods.Put = codes "PUT"
 allow_text methods.PutOrDelete = codes "PUT, DELETE"
 
 -- which they are
 abbrev pub verbs_of : Methods → List Verb
 verbs_of methods.Get = Get ∷ []
+verbs_of methods.Post = Post ∷ []
 verbs_of methods.Put = Put ∷ []
 verbs_of methods.PutOrDelete = Put ∷ Delete ∷ []
 
 -- the name of a method
 abbrev pub name_of : Verb → List ℕ
 name_of Get = codes "GET"
+name_of Post = codes "POST"
 name_of Put = codes "PUT"
 name_of Delete = codes "DELETE"
 

@@ -77,6 +77,8 @@ fn told(alloc: Global, route: Route, verb: Verb, body: Vec<u8>) -> Result<Option
         (Route::Images, _) => Ok(Some(What::Images)),
         (Route::Listing(acc), _) => Ok(Some(What::Listing(acc))),
         (Route::Bytes(acc, slot), _) => Ok(Some(What::Bytes(acc, slot))),
+        (Route::Survey(acc), _) => Ok(Some(What::Survey(acc))),
+        (Route::Check(acc), _) => Ok(Some(What::Check(acc))),
         (
             Route::Accession {
                 acc,
@@ -104,10 +106,11 @@ fn told(alloc: Global, route: Route, verb: Verb, body: Vec<u8>) -> Result<Option
             scope,
             rank,
         })),
-        (Route::Rule { .. }, Verb::Get) => Ok(None),
+        (Route::Rule { .. }, Verb::Get | Verb::Post) => Ok(None),
         (Route::Badge(digest), Verb::Put) => key_told(alloc, digest, &body),
         (Route::Badge(digest), Verb::Delete) => Ok(Some(What::DropKey { digest })),
-        (Route::Badge(_), Verb::Get) => Ok(None),
+        (Route::Badge(_), Verb::Get | Verb::Post) => Ok(None),
+        (Route::Catalogue, _) => Ok(Some(What::Catalogue)),
     }
 }
 

@@ -26,6 +26,7 @@ fn allow(methods: Methods) -> &'static str
 {
     match methods {
         Methods::Get => "Allow: GET\r\n",
+        Methods::Post => "Allow: POST\r\n",
         Methods::Put => "Allow: PUT\r\n",
         Methods::PutOrDelete => "Allow: PUT, DELETE\r\n",
     }

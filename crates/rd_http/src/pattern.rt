@@ -18,6 +18,10 @@ pub(crate) enum Pattern {
     Listing,
     /// The bytes of a file of an accession.
     Bytes,
+    /// What the image of an accession has on it.
+    Survey,
+    /// The check of the image of an accession.
+    Check,
     /// A rule of a takedown.
     TakedownRule,
     /// The image of an accession.
@@ -28,13 +32,17 @@ pub(crate) enum Pattern {
     DeedRule,
     /// A desk key.
     Badge,
+    /// The files of all accessions.
+    Catalogue,
 }
 
 /// Each pattern with its text, in which the names of its parts stand in braces.
-const TABLE: [(&str, Pattern); 8] = [
+const TABLE: [(&str, Pattern); 11] = [
     ("/images", Pattern::Images),
     ("/images/{acc}", Pattern::Listing),
     ("/images/{acc}/files/{slot}", Pattern::Bytes),
+    ("/images/{acc}/survey", Pattern::Survey),
+    ("/images/{acc}/check", Pattern::Check),
     ("/images/{acc}/rules/{rank}", Pattern::TakedownRule),
     (
         "/accessions/{acc}/{kind}/{deed}/{digest}",
@@ -43,6 +51,7 @@ const TABLE: [(&str, Pattern); 8] = [
     ("/deeds/{deed}", Pattern::Deed),
     ("/deeds/{deed}/rules/{rank}", Pattern::DeedRule),
     ("/badges/{digest}", Pattern::Badge),
+    ("/catalogue", Pattern::Catalogue),
 ];
 
 /// The parts of a path, in their order; empty where its pattern has fewer than four.

@@ -20,6 +20,10 @@ pub(crate) enum Route {
     Listing(u32),
     /// The bytes of a file: of an accession, 1 to 999,999, the file at a slot, 0 to 9,999.
     Bytes(u32, u16),
+    /// What the image of an accession, 1 to 999,999, has on it.
+    Survey(u32),
+    /// The check of the image of an accession, 1 to 999,999.
+    Check(u32),
     /// An image that is to be taken in.
     Accession {
         /// The number of its accession, 1 to 999,999.
@@ -44,6 +48,8 @@ pub(crate) enum Route {
     },
     /// A desk key, by its SHA-256.
     Badge([u8; 32]),
+    /// The files of all accessions.
+    Catalogue,
 }
 
 /// A method of HTTP by which something may be asked for.
@@ -51,6 +57,8 @@ pub(crate) enum Route {
 pub(crate) enum Verb {
     /// `GET`.
     Get,
+    /// `POST`.
+    Post,
     /// `PUT`.
     Put,
     /// `DELETE`.
@@ -62,6 +70,8 @@ pub(crate) enum Verb {
 pub(crate) enum Methods {
     /// `GET` alone.
     Get,
+    /// `POST` alone.
+    Post,
     /// `PUT` alone.
     Put,
     /// `PUT` and `DELETE`.
@@ -77,6 +87,7 @@ impl Verb {
     {
         match self {
             Verb::Get => "GET",
+            Verb::Post => "POST",
             Verb::Put => "PUT",
             Verb::Delete => "DELETE",
         }
@@ -105,6 +116,8 @@ impl Route {
             Pattern::Images => Some(Route::Images),
             Pattern::Listing => Some(Route::Listing(scope(parts.first)?)),
             Pattern::Bytes => Some(Route::Bytes(scope(parts.first)?, slot(parts.second)?)),
+            Pattern::Survey => Some(Route::Survey(scope(parts.first)?)),
+            Pattern::Check => Some(Route::Check(scope(parts.first)?)),
             Pattern::TakedownRule => Route::rule(Band::Takedown, parts.first, parts.second),
             Pattern::Accession => Some(Route::Accession {
                 acc: scope(parts.first)?,
@@ -115,6 +128,7 @@ impl Route {
             Pattern::Deed => Some(Route::Deed(scope(parts.first)?)),
             Pattern::DeedRule => Route::rule(Band::Deed, parts.first, parts.second),
             Pattern::Badge => Some(Route::Badge(digest(parts.first)?)),
+            Pattern::Catalogue => Some(Route::Catalogue),
         }
     }
 
@@ -147,7 +161,12 @@ impl Route {
         ensures { result ≡ methods_of self.now }
     {
         match self {
-            Route::Images | Route::Listing(_) | Route::Bytes(_, _) => Methods::Get,
+            Route::Images
+            | Route::Listing(_)
+            | Route::Bytes(_, _)
+            | Route::Survey(_)
+            | Route::Catalogue => Methods::Get,
+            Route::Check(_) => Methods::Post,
             Route::Accession { .. } | Route::Deed(_) => Methods::Put,
             Route::Rule { .. } | Route::Badge(_) => Methods::PutOrDelete,
         }
@@ -163,6 +182,7 @@ impl Methods {
     {
         match self {
             Methods::Get => &[Verb::Get],
+            Methods::Post => &[Verb::Post],
             Methods::Put => &[Verb::Put],
             Methods::PutOrDelete => &[Verb::Put, Verb::Delete],
         }

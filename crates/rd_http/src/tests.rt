@@ -34,6 +34,21 @@ macro_rules! reply {
     };
 }
 
+/// The table of all files that are listed: how many bytes it has, and its lines after the names of its columns.
+macro_rules! catalogue {
+    ($length:literal, $lines:literal) => {
+        Wanted::Texts(&[(
+            concat!(
+                "HTTP/1.1 200 OK\r\nContent-Type: text/csv\r\nContent-Length: ",
+                $length,
+                "\r\nConnection: close\r\n\r\naccession,deed,kind,slot,user,name,type,size,faults,rule,effect\n",
+                $lines
+            ),
+            1,
+        )])
+    };
+}
+
 /// The reply where a path has these methods alone.
 macro_rules! allows {
     ($methods:literal) => {

@@ -1,30 +1,20 @@
-ghost use Rattle.std.specs.Prelude.{◌↔◌, ◌≡◌, IfErr, IfOk, None, OnOk};
+ghost use Rattle.std.specs.Prelude.{◌≡◌, IfErr, IfOk, None, OnOk};
 ghost use Rattle.std.specs.Io.KnownBytes.{Keeps};
-ghost use Rattle.std.specs.IoError.{error_kind};
-ghost use Rattle.std.specs.declared.io.ErrorKind.TheVariants.{OutOfMemory};
 ghost use Rattle.std.specs.Process.{exit_status};
-ghost use Rattle.sqlite.specs.declared.error.Error.TheVariants.{SqliteFailure};
-ghost use Rattle.sqlite.specs.declared.error.ErrorCode.TheVariants as code;
-ghost use Rattle.rd_main.specs.Output.{AppendsPart};
-ghost use Rattle.rd_main.specs.Printed.{refusal_line};
-ghost use Rattle.rd_main.specs.Refusals.{status_of};
-ghost use Rattle.rd_main.specs.declared.machine.MachineFault.TheVariants as machine_fault;
-ghost use Rattle.rd_main.specs.declared.refusal.Refusal.TheVariants as refusal;
+ghost use Rattle.rd_program.specs.Output.{AppendsPart};
+ghost use Rattle.rd_program.specs.Printed.{refusal_line};
+ghost use Rattle.rd_program.specs.Refusals.{status_of};
 
-use crate::input::read_front;
-use crate::machine::{Machine, MachineFault};
-use crate::refusal::Refusal;
-use crate::run::run;
-use crate::tell::tell_refusal;
 use rd_http::{Clock, TcpDoor};
+use rd_program::{Machine, MachineFault, Refusal, read_front, run, tell_refusal};
 use rd_volume::Kind;
-use sqlite::{Connection, Error, ErrorCode, File, FileStore};
+use sqlite::{Connection, File, FileStore};
 use std::alloc::{AllocError, Global};
-use std::io::{BufWriter, ErrorKind, Write};
+use std::io::{BufWriter, ErrorKind, Read, Write};
 use std::net::{Ipv4Addr, TcpListener};
 use std::process::ExitCode;
 use std::time::{SystemTime, UNIX_EPOCH};
-use std::{env, fs, io};
+use std::{env, fs};
 
 /// The clock of the machine.
 #[derive(Drop)]
@@ -51,42 +41,6 @@ fn seconds_now(rt: &HostRuntime) -> Option<i64> {
     i64::try_from(now.duration_since(UNIX_EPOCH).ok()?.as_secs()).ok()
 }
 
-impl From<io::Error> for MachineFault {
-    ghost from_gives = { λ error fault. (fault ≡ machine_fault.NoMemory)
-        ↔ (error_kind error ≡ OutOfMemory) };
-
-    fn from(error: io::Error) -> MachineFault {
-        match error.kind() {
-            ErrorKind::OutOfMemory => MachineFault::NoMemory,
-            _ => MachineFault::Failed,
-        }
-    }
-}
-
-impl From<Error> for MachineFault {
-    ghost from_gives = { λ error fault. (fault ≡ machine_fault.NoMemory)
-        ↔ (error ≡ SqliteFailure code.OutOfMemory) };
-
-    fn from(error: Error) -> MachineFault {
-        match error {
-            Error::SqliteFailure(ErrorCode::OutOfMemory) => MachineFault::NoMemory,
-            _ => MachineFault::Failed,
-        }
-    }
-}
-
-impl From<Refusal> for MachineFault {
-    ghost from_gives = { λ refused fault. (fault ≡ machine_fault.NoMemory)
-        ↔ (refused ≡ refusal.NoMemory) };
-
-    fn from(refusal: Refusal) -> MachineFault {
-        match refusal {
-            Refusal::NoMemory => MachineFault::NoMemory,
-            _ => MachineFault::Failed,
-        }
-    }
-}
-
 impl<'a> Machine for Host<'a> {
     type Disk = FileStore<File>;
 
@@ -101,6 +55,12 @@ impl<'a> Machine for Host<'a> {
     fn read_file(&mut self, alloc: Global, path: &str) -> Result<Vec<u8>, MachineFault> {
         let mut file = fs::open(self.rt, path)?;
         Ok(read_front(alloc, Kind::Cpm8.size() + 1, &mut file)?)
+    }
+
+    fn read_sheet(&mut self, alloc: Global, path: &str) -> Result<Vec<u8>, MachineFault> {
+        let mut bytes = Vec::new(alloc);
+        fs::open(self.rt, path)?.read_to_end(&mut bytes)?;
+        Ok(bytes)
     }
 
     fn connect(&mut self, path: &str) -> Result<Connection<FileStore<File>>, MachineFault> {

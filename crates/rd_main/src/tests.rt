@@ -32,17 +32,18 @@ macro_rules! reply {
 mod d64;
 mod edges;
 mod fakes;
+mod imports;
 mod lists;
 mod options;
+mod questions;
 mod refused;
 mod rooms;
 mod steps;
 mod stores;
 mod visits;
 
-use crate::machine::MachineFault;
-use crate::run::run;
 use fakes::{End, Narrow, OneFile, Tape};
+use rd_program::{MachineFault, run};
 use rd_rows::cpm::{FILE, NewEntry, blank, hello, put_entry};
 use rd_volume::NoMemory;
 use std::alloc::{Alloc, AllocGlobal, Global};

@@ -15,6 +15,8 @@ pub(super) enum Wanted {
     Json(u16, &'static str),
     /// The bytes of a file: these texts, each so many times.
     File(&'static [(&'static str, usize)]),
+    /// A table as CSV: these lines, each ended by a line feed.
+    Table(&'static [&'static str]),
 }
 
 /// Who asks, by the desk key, at which moment, for what, and the reply that is wanted.
@@ -105,6 +107,27 @@ pub(super) const ALL_OF_12: Wanted = Wanted::Json(
     r#"{"accession":12,"deed":7,"files":[{"effect":"read","faults":[],"name":"HELLO","rule":"R7.20","size":258,"slot":0,"type":"PRG","user":null}],"kind":"d64"}"#,
 );
 
+/// The survey of accession 12, which the deed of A. Curator covers.
+pub(super) const SURVEY_OF_12: Wanted = Wanted::Json(
+    200,
+    r#"{"accession":12,"deed":7,"directory":"end","donor":"A. Curator","faulty":0,"files":1,"kind":"d64","label":"MUSEUM","map":{"claimed_free":2,"unclaimed_used":0,"wrong_counts":0},"served":1,"signed":"2019-05-04","size_differs":0}"#,
+);
+
+/// Where a check finds an image as it was given.
+pub(super) const SOUND: Wanted = Wanted::Json(200, r#"{"outcome":"sound"}"#);
+
+/// The first line of a catalogue.
+pub(super) const COLUMNS: &str = "accession,deed,kind,slot,user,name,type,size,faults,rule,effect";
+
+/// A catalogue in which no file is.
+pub(super) const NO_FILES: Wanted = Wanted::Table(&[COLUMNS]);
+
+/// The line of the file of accession 12, which deed 7 lets read.
+pub(super) const LINE_12: &str = "12,7,d64,0,,HELLO,PRG,258,,R7.20,read";
+
+/// A catalogue of that file alone.
+pub(super) const FILE_OF_12: Wanted = Wanted::Table(&[COLUMNS, LINE_12]);
+
 /// A reply: its status, its form, the length that it tells of its body, and the body.
 pub(super) type Told = (u16, Form, usize, String);
 
@@ -126,16 +149,27 @@ fn repeated(alloc: Global, parts: &[(&str, usize)]) -> Result<String, NoMemory> 
     Ok(text)
 }
 
+/// Lines, each ended by a line feed.
+fn ended(alloc: Global, lines: &[&str]) -> Result<String, NoMemory> {
+    let mut text = String::new(alloc);
+    for line in lines {
+        text.push_str(*line)?;
+        text.push_str("\n")?;
+    }
+    Ok(text)
+}
+
 pub(super) fn wanted_of(alloc: Global, wanted: Wanted) -> Result<Told, NoMemory> {
     let (status, form, text) = match wanted {
         Wanted::Json(status, text) => (status, Form::Json, String::from_str(alloc, text)?),
         Wanted::File(parts) => (200, Form::Octets, repeated(alloc, parts)?),
+        Wanted::Table(lines) => (200, Form::Csv, ended(alloc, lines)?),
     };
     Ok((status, form, text.len(), text))
 }
 
 /// A visit gets the reply that is wanted.
-fn assert_visit(
+pub(super) fn assert_visit(
     rt: &impl Abort,
     alloc: Global,
     desk: &mut Memory,
@@ -173,6 +207,8 @@ const QUESTIONS: &[(Key, i64, Ask)] = &[
     (STAFF, AFTER, Ask::Images),
     (STAFF, BEFORE, Ask::Listing(14)),
     (PUBLIC, AFTER, Ask::Bytes(12, 0)),
+    (ROOM, AFTER, Ask::Catalogue),
+    (STAFF, AFTER, Ask::Survey(12)),
     (NOBODY, AFTER, Ask::Unread),
     (ROOM, AFTER, Ask::Unread),
     (STAFF, AFTER, Ask::Unread),

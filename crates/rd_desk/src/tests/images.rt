@@ -1,12 +1,16 @@
 //! Images of disks, and the accessions at which they are put.
 
 use rd_geometry::{Kind, NoMemory};
+use rd_rows::bytes::put;
 use rd_rows::cbm::{
     DIRECTORY, NewCbmEntry, PROGRAM, crossed, formatted, looped, mixed, one_program, put_block,
     put_cbm_entry,
 };
 use rd_rows::cpm::{FILE, NewEntry, filled, hello, with_entries};
 use std::alloc::Global;
+
+/// Bytes that are written over those of an image, each from a place on.
+pub(super) type Patches = &'static [(usize, &'static [u8])];
 
 /// The bytes of an image, by what is on the disk.
 #[derive(Clone, Copy)]
@@ -32,6 +36,12 @@ pub(super) enum Picture {
     Dotted,
     /// A CP/M disk whose bytes are all 1.
     Ones,
+    /// The disk with the program `HELLO`, with these bytes over its own.
+    Altered(Patches),
+    /// A 1541 disk with these entries from slot 0 on, of which eight are taken, and then these bytes.
+    Cbm(&'static [NewCbmEntry<'static>], Patches),
+    /// A CP/M disk with these entries from slot 0 on.
+    Cpm(&'static [NewEntry<'static>]),
 }
 
 /// An image to be put.
@@ -112,6 +122,33 @@ const DOTTED: &[NewEntry<'static>] = &[
     like!(NewEntry, FILE, user: 3, name: b"A", extension: b"B"),
 ];
 
+fn put_patches(image: &mut [u8], patches: &[(usize, &[u8])]) {
+    for (place, bytes) in patches {
+        put(image, *place, *bytes);
+    }
+}
+
+fn altered(alloc: Global, patches: &[(usize, &[u8])]) -> Result<Vec<u8>, NoMemory> {
+    let mut image = one_program(alloc)?;
+    put_patches(&mut image, patches);
+    Ok(image)
+}
+
+fn with_cbm_entries(
+    alloc: Global,
+    entries: &[NewCbmEntry<'_>],
+    patches: &[(usize, &[u8])],
+) -> Result<Vec<u8>, NoMemory> {
+    let mut image = formatted(alloc)?;
+    for slot in 0..8 {
+        if let Some(entry) = entries.get(slot as usize) {
+            put_cbm_entry(&mut image, DIRECTORY, slot, entry);
+        }
+    }
+    put_patches(&mut image, patches);
+    Ok(image)
+}
+
 fn cut(alloc: Global) -> Result<Vec<u8>, NoMemory> {
     let mut image = one_program(alloc)?;
     image.truncate(174_847);
@@ -130,5 +167,8 @@ pub(super) fn bytes_of(alloc: Global, picture: Picture) -> Result<Vec<u8>, NoMem
         Picture::Hello => hello(alloc),
         Picture::Dotted => with_entries(alloc, DOTTED),
         Picture::Ones => filled(alloc, 1),
+        Picture::Altered(patches) => altered(alloc, patches),
+        Picture::Cbm(entries, patches) => with_cbm_entries(alloc, entries, patches),
+        Picture::Cpm(entries) => with_entries(alloc, entries),
     }
 }

@@ -41,6 +41,15 @@ const QUESTIONS: &[Limit] = table![
     ("bytes of 1,000,000", Ask::Bytes(1_000_000, 0), false);
     ("slot 9,999", Ask::Bytes(999_999, 9_999), true);
     ("slot 10,000", Ask::Bytes(12, 10_000), false);
+    ("catalogue", Ask::Catalogue, true);
+    ("survey of 0", Ask::Survey(0), false);
+    ("survey of 1", Ask::Survey(1), true);
+    ("survey of 999,999", Ask::Survey(999_999), true);
+    ("survey of 1,000,000", Ask::Survey(1_000_000), false);
+    ("check of 0", Ask::Check(0), false);
+    ("check of 1", Ask::Check(1), true);
+    ("check of 999,999", Ask::Check(999_999), true);
+    ("check of 1,000,000", Ask::Check(1_000_000), false);
     ("unread", Ask::Unread, true);
 ];
 

@@ -45,6 +45,15 @@ const QUESTIONS: &[Case] = &[
         tables: Tables::Same,
     },
     Case {
+        label: "refused catalogues",
+        before: &[],
+        visits: &[
+            (NOBODY, AFTER, Ask::Catalogue, UNKNOWN_KEY),
+            (NOBODY, BEFORE, Ask::Catalogue, UNKNOWN_KEY),
+        ],
+        tables: Tables::Same,
+    },
+    Case {
         label: "refused bytes",
         before: &[Ask::PutImage(LOOPED_14), Ask::PutImage(MIXED_16)],
         visits: &[
@@ -426,9 +435,47 @@ const KEYS: &[Case] = &[
     },
 ];
 
+const SURVEYS: &[Case] = &[
+    Case {
+        label: "refused surveys",
+        before: &[],
+        visits: &[
+            (NOBODY, AFTER, Ask::Survey(12), UNKNOWN_KEY),
+            (NOBODY, AFTER, Ask::Survey(99), UNKNOWN_KEY),
+            (PUBLIC, AFTER, Ask::Survey(12), STAFF_ONLY),
+            (ROOM, AFTER, Ask::Survey(12), STAFF_ONLY),
+            (PUBLIC, AFTER, Ask::Survey(99), STAFF_ONLY),
+            (ROOM, AFTER, Ask::Survey(99), STAFF_ONLY),
+            (STAFF, AFTER, Ask::Survey(99), NO_ACCESSION),
+            (STAFF, AFTER, Ask::Survey(7), NO_ACCESSION),
+        ],
+        tables: Tables::Same,
+    },
+    Case {
+        label: "refused checks",
+        before: &[],
+        visits: &[
+            (NOBODY, AFTER, Ask::Check(12), UNKNOWN_KEY),
+            (NOBODY, AFTER, Ask::Check(99), UNKNOWN_KEY),
+            (PUBLIC, AFTER, Ask::Check(12), STAFF_ONLY),
+            (ROOM, AFTER, Ask::Check(12), STAFF_ONLY),
+            (PUBLIC, AFTER, Ask::Check(99), STAFF_ONLY),
+            (ROOM, AFTER, Ask::Check(99), STAFF_ONLY),
+            (STAFF, AFTER, Ask::Check(99), NO_ACCESSION),
+            (STAFF, AFTER, Ask::Check(7), NO_ACCESSION),
+        ],
+        tables: Tables::Same,
+    },
+];
+
 #[test]
 fn questions_are_refused(rt: HostRuntime) -> Result<(), Fail> {
     assert_cases(&rt, rt.alloc(), QUESTIONS)
+}
+
+#[test]
+fn surveys_and_checks_are_refused(rt: HostRuntime) -> Result<(), Fail> {
+    assert_cases(&rt, rt.alloc(), SURVEYS)
 }
 
 #[test]

@@ -2,14 +2,14 @@
 //! desk that is unavailable, nothing has changed, and the same request again, with memory, gets the usual one.
 
 use super::cases::{
-    ALL_OF_12, BAD_BODY, DONE, HELLO, ONE_IMAGE, STAFF_ONLY, Told, UNAVAILABLE, UNKNOWN_KEY,
-    UNTIL_2030, Visit, Wanted, told, wanted_of,
+    ALL_OF_12, BAD_BODY, COLUMNS, DONE, HELLO, ONE_IMAGE, SOUND, STAFF_ONLY, SURVEY_OF_12, Told,
+    UNAVAILABLE, UNKNOWN_KEY, UNTIL_2030, Visit, Wanted, told, wanted_of,
 };
-use super::images::PROGRAM_12;
+use super::images::{LOOPED_14, PROGRAM_12, QUOTED_18};
 use super::requests::{Ask, Key, PUBLIC, ROOM, STAFF, request_of};
 use super::state::{
     AFTER, BEFORE, CLOSED, Memory, OPEN, TAKEDOWN, answer, create, desk_over, into_connection,
-    new_connection, open, tables_of,
+    new_connection, opened, tables_of,
 };
 use crate::{Reply, Request};
 use rd_geometry::NoMemory;
@@ -106,10 +106,7 @@ fn assert_unchanged(
     let mut conn = into_connection(desk);
     let mut kept = into_connection(made(rt, alloc, commands)?);
     assert_eq!(rt; tables_of(alloc, &mut conn)?, tables_of(alloc, &mut kept)?);
-    match open(rt, alloc, conn) {
-        Ok(store) => desk_over(store),
-        Err(_) => Err(Fail::new("not opened")),
-    }
+    opened(rt, alloc, conn)
 }
 
 /// The first visit of a plan gets the reply that is wanted, or that of a desk that is unavailable and
@@ -188,6 +185,54 @@ const DENIAL: Plan = Plan {
 #[test]
 fn a_denial_when_memory_is_refused(rt: HostRuntime) -> Result<(), Fail> {
     assert_plan(&rt, rt.alloc(), &DENIAL)
+}
+
+const CATALOGUE: Plan = Plan {
+    given: &[
+        DEED,
+        Ask::PutRule(OPEN),
+        Ask::PutImage(QUOTED_18),
+        Ask::PutImage(LOOPED_14),
+    ],
+    visit: (
+        PUBLIC,
+        AFTER,
+        Ask::Catalogue,
+        Wanted::Table(&[
+            COLUMNS,
+            "14,7,d64,0,,LOOP,PRG,,loop,R7.20,read",
+            r#"18,7,d64,0,,"HI%A0""",PRG,0,,R7.20,read"#,
+            r#"18,7,d64,1,,A\B,PRG,0,,R7.20,read"#,
+        ]),
+    ),
+    then: &[],
+};
+
+#[test]
+fn a_catalogue_when_memory_is_refused(rt: HostRuntime) -> Result<(), Fail> {
+    assert_plan(&rt, rt.alloc(), &CATALOGUE)
+}
+
+const SURVEY: Plan = Plan {
+    given: HELD,
+    visit: (STAFF, AFTER, Ask::Survey(12), SURVEY_OF_12),
+    then: &[],
+};
+
+#[test]
+fn a_survey_when_memory_is_refused(rt: HostRuntime) -> Result<(), Fail> {
+    assert_plan(&rt, rt.alloc(), &SURVEY)
+}
+
+const CHECK: Plan = Plan {
+    given: HELD,
+    visit: (STAFF, AFTER, Ask::Check(12), SOUND),
+    then: &[(STAFF, AFTER, Ask::Check(12), SOUND)],
+};
+
+#[test]
+fn a_check_when_memory_is_refused(rt: HostRuntime) -> Result<(), Fail> {
+    assert_plan(&rt, rt.alloc(), &CHECK)
 }
 
 const PUT_IMAGE: Plan = Plan {

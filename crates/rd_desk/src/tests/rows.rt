@@ -1,9 +1,9 @@
 //! What a desk answers of its images and files.
 
 use super::cases::{
-    ALL_OF_12, Case, HELLO, LOOPED, NO_ACCESSION, NO_FILE, NO_IMAGES, NO_RULE, NONE_OF_12,
-    NONE_OF_13, ONE_IMAGE, RECORD, TAKEN_DOWN, Tables, UNTIL_2030, Visit, Wanted, assert_cases,
-    assert_visits,
+    ALL_OF_12, Case, FILE_OF_12, HELLO, LOOPED, NO_ACCESSION, NO_FILE, NO_FILES, NO_IMAGES,
+    NO_RULE, NONE_OF_12, NONE_OF_13, ONE_IMAGE, RECORD, SURVEY_OF_12, TAKEN_DOWN, Tables,
+    UNTIL_2030, Visit, Wanted, assert_cases, assert_visits,
 };
 use super::images::{
     CROSSED_17, HELLO_15, LOOPED_14, MIXED_16, NewImage, ONES_19, PROGRAM_12, PROGRAM_13, Picture,
@@ -23,6 +23,9 @@ const OPENING: &[Visit] = &[
     (PUBLIC, AFTER, Ask::Images, ONE_IMAGE),
     (PUBLIC, AFTER, Ask::Listing(12), ALL_OF_12),
     (PUBLIC, BEFORE, Ask::Listing(12), NONE_OF_12),
+    (PUBLIC, AFTER, Ask::Catalogue, FILE_OF_12),
+    (PUBLIC, BEFORE, Ask::Catalogue, NO_FILES),
+    (STAFF, AFTER, Ask::Survey(12), SURVEY_OF_12),
 ];
 
 const AUDIENCES: &[Case] = &[

@@ -6,15 +6,9 @@ use super::cases::{
 };
 use super::images::{CROSSED_17, DOTTED_21, MIXED_16, NewImage, PROGRAM_12, PROGRAM_13};
 use super::requests::{ALL, Ask, Files, NewRule, PUBLIC, ROOM, ROOM_ALONE, STAFF};
-use super::state::{AFTER, BEFORE, OPEN, OPENING, TAKEDOWN};
+use super::state::{AFTER, BEFORE, NEXT_DAY, OPEN, OPENING, TAKEDOWN, THAT_NIGHT};
 use rd_policy::{Band, Effect};
 use std::test::Fail;
-
-/// The last second of 2030-01-01.
-const THAT_NIGHT: i64 = AFTER + 86_399;
-
-/// The first second of 2030-01-02.
-const NEXT_DAY: i64 = AFTER + 86_400;
 
 /// Lists the files of deed 7 to everyone.
 const LISTED: NewRule = like!(NewRule, OPEN, rank: 5, effect: Effect::List);

@@ -26,6 +26,12 @@ pub(super) const BEFORE: i64 = 1_893_452_399;
 /// The first second of 2030 by these clocks.
 pub(super) const AFTER: i64 = 1_893_452_400;
 
+/// The last second of 2030-01-01.
+pub(super) const THAT_NIGHT: i64 = AFTER + 86_399;
+
+/// The first second of 2030-01-02.
+pub(super) const NEXT_DAY: i64 = AFTER + 86_400;
+
 /// The first day of 2030.
 pub(super) const OPENING: i32 = 21_915;
 
@@ -87,7 +93,7 @@ pub(super) fn create(
 }
 
 /// The store that a database holds, or the connection where it is not opened.
-pub(super) fn open(
+fn open(
     rt: &impl Abort,
     alloc: Global,
     conn: Connection<MemStore>,
@@ -164,12 +170,21 @@ pub(super) fn desk_with(
     Ok(desk)
 }
 
-/// The desk over the store that the database of a desk holds.
-pub(super) fn reopened(rt: &impl Abort, alloc: Global, desk: Memory) -> Result<Memory, Fail> {
-    match open(rt, alloc, into_connection(desk)) {
+/// The desk over the store that a database holds.
+pub(super) fn opened(
+    rt: &impl Abort,
+    alloc: Global,
+    conn: Connection<MemStore>,
+) -> Result<Memory, Fail> {
+    match open(rt, alloc, conn) {
         Ok(store) => desk_over(store),
         Err(_) => Err(Fail::new("not opened")),
     }
+}
+
+/// The desk over the store that the database of a desk holds.
+pub(super) fn reopened(rt: &impl Abort, alloc: Global, desk: Memory) -> Result<Memory, Fail> {
+    opened(rt, alloc, into_connection(desk))
 }
 
 /// Asks for all rows of all tables; of an image for the number of its bytes.
@@ -182,7 +197,7 @@ const TABLES: &[&str] = &[
     "SELECT acc, day, outcome FROM checked ORDER BY acc, day",
 ];
 
-fn rows(conn: &mut Connection<MemStore>, sql: &str) -> Result<Vec<Row>, Error> {
+pub(super) fn rows(conn: &mut Connection<MemStore>, sql: &str) -> Result<Vec<Row>, Error> {
     conn.query_all(sql, &[])
 }
 

@@ -2,10 +2,10 @@
 //! growth: a reply that is then not made is made again, and must be as ever.
 
 use crate::json::{reply_to, unavailable};
-use crate::{Body, Form, ImageLine, Line, Listing, Refusal, Reply, Said};
+use crate::{Body, Form, ImageLine, Line, Listing, Outcome, Refusal, Reply, Said, Survey};
 use rd_geometry::{Items, Kind, NoMemory, Text};
 use rd_policy::{Effect, Label, Verdict};
-use rd_volume::Found;
+use rd_volume::{End, Found, MapReport, Report};
 use std::alloc::Global;
 use std::process::Abort;
 use std::test::Fail;
@@ -22,6 +22,25 @@ enum Told<'a> {
     Listed(u32, u32, Kind, &'a [File<'a>]),
     /// The bytes of a text.
     File(&'a str),
+    /// Accessions, each as one that is listed.
+    Catalogue(&'a [(u32, u32, Kind, &'a [File<'a>])]),
+    Surveyed(Counts<'a>),
+    Checked(Outcome),
+}
+
+/// What an image has on it, counted, and by whose deed it came.
+#[derive(Clone, Copy)]
+struct Counts<'a> {
+    donor: &'a str,
+    signed: &'a str,
+    kind: Kind,
+    files: u16,
+    served: u16,
+    faulty: u16,
+    size_differs: u16,
+    map: MapReport,
+    directory: End,
+    label: &'a str,
 }
 
 /// A file that is listed.
@@ -89,6 +108,24 @@ const BROKEN: File<'static> = File {
     size: None,
     faults: 127,
     verdict: READ,
+};
+
+/// A 1541 disk.
+const COUNTED: Counts<'static> = Counts {
+    donor: "J. \"Jo\" M\u{fc}ller",
+    signed: "2019-05-04",
+    kind: Kind::D64,
+    files: 9,
+    served: 4,
+    faulty: 3,
+    size_differs: 2,
+    map: MapReport {
+        wrong_counts: 35,
+        claimed_free: 681,
+        unclaimed_used: 5,
+    },
+    directory: End::Loop,
+    label: "A\\B",
 };
 
 const REFUSALS: &[Case<'static>] = &[
@@ -242,6 +279,57 @@ const ANSWERS: &[Case<'static>] = &[
         "HELLO FROM CP/M\r\n",
     ),
     (Told::File(""), 200, Form::Octets, ""),
+    (
+        Told::Surveyed(COUNTED),
+        200,
+        Form::Json,
+        "{\"accession\":12,\"deed\":7,\"directory\":\"loop\",\
+         \"donor\":\"J. \\\"Jo\\\" M\u{fc}ller\",\"faulty\":3,\"files\":9,\"kind\":\"d64\",\
+         \"label\":\"A\\\\B\",\"map\":{\"claimed_free\":681,\"unclaimed_used\":5,\
+         \"wrong_counts\":35},\"served\":4,\"signed\":\"2019-05-04\",\"size_differs\":2}",
+    ),
+    (
+        Told::Surveyed(
+            like!(Counts, COUNTED, kind: Kind::Cpm8, directory: End::Last(0), label: ""),
+        ),
+        200,
+        Form::Json,
+        "{\"accession\":12,\"deed\":7,\"directory\":\"end\",\
+         \"donor\":\"J. \\\"Jo\\\" M\u{fc}ller\",\"faulty\":3,\"files\":9,\"kind\":\"cpm8\",\
+         \"label\":\"\",\"map\":null,\"served\":4,\"signed\":\"2019-05-04\",\"size_differs\":2}",
+    ),
+    (
+        Told::Checked(Outcome::Sound),
+        200,
+        Form::Json,
+        "{\"outcome\":\"sound\"}",
+    ),
+    (
+        Told::Checked(Outcome::Changed),
+        200,
+        Form::Json,
+        "{\"outcome\":\"changed\"}",
+    ),
+    (
+        Told::Catalogue(&[]),
+        200,
+        Form::Csv,
+        "accession,deed,kind,slot,user,name,type,size,faults,rule,effect\n",
+    ),
+    (
+        Told::Catalogue(&[
+            (12, 7, Kind::D64, &[HELLO, LOOPED]),
+            (13, 8, Kind::D64, &[]),
+            (999_999, 8, Kind::Cpm8, &[EMPTY, BROKEN]),
+        ]),
+        200,
+        Form::Csv,
+        "accession,deed,kind,slot,user,name,type,size,faults,rule,effect\n\
+         12,7,d64,0,,HELLO,PRG,258,,R7.20,read\n\
+         12,7,d64,5463,,\"HI%A0\"\"\",SEQ,,loop crossed,T999999.9999,list\n\
+         999999,8,cpm8,1,15,A%2EB%25.C,C,0,,R7.20,read\n\
+         999999,8,cpm8,63,0,X,,,bad-count duplicate gap short hole off-disk crossed,R7.20,read\n",
+    ),
 ];
 
 fn text(alloc: Global, text: &str) -> Result<Text, NoMemory> {
@@ -289,6 +377,53 @@ fn image_lines(
     Ok(Items::of(lines))
 }
 
+fn listing(
+    alloc: Global,
+    (accession, deed, kind, files): (u32, u32, Kind, &[File<'_>]),
+) -> Result<Listing, NoMemory> {
+    let files = lines(alloc, files)?;
+    Ok(Listing {
+        accession,
+        deed,
+        kind,
+        files,
+    })
+}
+
+fn listings(
+    alloc: Global,
+    accessions: &[(u32, u32, Kind, &[File<'_>])],
+) -> Result<Items<Listing>, NoMemory> {
+    let mut listings = Vec::new(alloc);
+    for accession in accessions {
+        listings.push(listing(alloc, *accession)?)?;
+    }
+    Ok(Items::of(listings))
+}
+
+/// The survey of accession 12.
+fn survey(alloc: Global, counts: &Counts<'_>) -> Result<Survey, NoMemory> {
+    let donor = text(alloc, counts.donor)?;
+    let signed = text(alloc, counts.signed)?;
+    let label = text(alloc, counts.label)?;
+    Ok(Survey {
+        accession: 12,
+        deed: 7,
+        donor,
+        signed,
+        kind: counts.kind,
+        report: Report {
+            files: counts.files,
+            served: counts.served,
+            faulty: counts.faulty,
+            size_differs: counts.size_differs,
+            map: counts.map,
+            directory: counts.directory,
+            label,
+        },
+    })
+}
+
 /// The reply that is made for what is said.
 fn reply(alloc: Global, told: Told<'_>) -> Result<Reply, NoMemory> {
     let said = match told {
@@ -296,13 +431,13 @@ fn reply(alloc: Global, told: Told<'_>) -> Result<Reply, NoMemory> {
         Told::Refused(refusal) => Said::Refused(refusal),
         Told::Done => Said::Done,
         Told::Images(images) => Said::Images(image_lines(alloc, images)?),
-        Told::Listed(accession, deed, kind, files) => Said::Listed(Listing {
-            accession,
-            deed,
-            kind,
-            files: lines(alloc, files)?,
-        }),
+        Told::Listed(accession, deed, kind, files) => {
+            Said::Listed(listing(alloc, (accession, deed, kind, files))?)
+        }
         Told::File(bytes) => Said::File(Items::of(Vec::from_slice(alloc, bytes.as_bytes())?)),
+        Told::Catalogue(accessions) => Said::Catalogue(listings(alloc, accessions)?),
+        Told::Surveyed(counts) => Said::Surveyed(survey(alloc, &counts)?),
+        Told::Checked(outcome) => Said::Checked(outcome),
     };
     reply_to(alloc, said)
 }

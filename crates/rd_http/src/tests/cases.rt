@@ -108,6 +108,21 @@ pub(super) const ALL_OF_12: Wanted = reply!(
     r#"{"accession":12,"deed":7,"files":[{"effect":"read","faults":[],"name":"HELLO","rule":"R7.20","size":258,"slot":0,"type":"PRG","user":null}],"kind":"d64"}"#
 );
 
+/// What the image of accession 12 has on it.
+pub(super) const SURVEY_OF_12: Wanted = reply!(
+    "200 OK",
+    r#"{"accession":12,"deed":7,"directory":"end","donor":"A. Curator","faulty":0,"files":1,"kind":"d64","label":"MUSEUM","map":{"claimed_free":2,"unclaimed_used":0,"wrong_counts":0},"served":1,"signed":"2019-05-04","size_differs":0}"#
+);
+
+/// Where an image is as it was put.
+pub(super) const SOUND: Wanted = reply!("200 OK", r#"{"outcome":"sound"}"#);
+
+/// The table of all files, where that of accession 12 is listed.
+pub(super) const ROW_OF_12: Wanted = catalogue!("102", "12,7,d64,0,,HELLO,PRG,258,,R7.20,read\n");
+
+/// The same where no file is listed.
+pub(super) const NO_ROWS: Wanted = catalogue!("64", "");
+
 /// The bytes of the program `HELLO`.
 pub(super) const HELLO: Wanted = Wanted::Texts(&[
     (

@@ -2,7 +2,8 @@
 
 use super::cases::{
     BAD_BODY, BAD_HEAD, CONFLICT, Came, DONE, FRAMING, NO_ACCESSION, NO_DEED, NO_IMAGES, NO_ROUTE,
-    NOBODY, PUBLIC, ROOM, STAFF, STAFF_ONLY, UNKNOWN_KEY, Visit, Wanted, assert_table,
+    NO_ROWS, NOBODY, PUBLIC, ROOM, SOUND, STAFF, STAFF_ONLY, SURVEY_OF_12, UNKNOWN_KEY, Visit,
+    Wanted, assert_table,
 };
 use super::state::{AFTER, BEFORE};
 use std::test::Fail;
@@ -17,6 +18,8 @@ const BYTES: &[Visit] = table![
     ("path before method", BEFORE, Came::Text("POST /images/012 HTTP/1.1\r\n\r\n"), NO_ROUTE);
     ("path before key", BEFORE, Came::Asked("GET /images/012", NOBODY, ""), NO_ROUTE);
     ("method before key", BEFORE, Came::Asked("POST /images", NOBODY, ""), allows!("GET"));
+    ("method before key of a check", BEFORE, Came::Asked("GET /images/12/check", NOBODY, ""), allows!("POST"));
+    ("method before accession", BEFORE, Came::Asked("PUT /images/99/survey", STAFF, ""), allows!("GET"));
     ("method before audience", BEFORE, Came::Asked("POST /deeds/9", PUBLIC, ""), allows!("PUT"));
     ("method before body", BEFORE, Came::Asked("POST /deeds/9", STAFF, "{}"), allows!("PUT"));
 ];
@@ -24,6 +27,9 @@ const BYTES: &[Visit] = table![
 const REQUESTS: &[Visit] = table![
     ("key before accession", AFTER, Came::Asked("GET /images/99", NOBODY, ""), UNKNOWN_KEY);
     ("key before body", AFTER, Came::Asked("PUT /deeds/9", NOBODY, "{}"), UNKNOWN_KEY);
+    ("key before catalogue", AFTER, Came::Asked("GET /catalogue", NOBODY, ""), UNKNOWN_KEY);
+    ("key before accession of a check", AFTER, Came::Asked("POST /images/99/check", NOBODY, ""), UNKNOWN_KEY);
+    ("room before accession", AFTER, Came::Asked("GET /images/99/survey", ROOM, ""), STAFF_ONLY);
     ("room before body", AFTER, Came::Asked("PUT /deeds/9", ROOM, "{}"), STAFF_ONLY);
     ("public before body", AFTER, Came::Asked("PUT /deeds/9", PUBLIC, "{}"), STAFF_ONLY);
     ("room before deed", AFTER, Came::Asked("DELETE /deeds/9/rules/1", ROOM, ""), STAFF_ONLY);
@@ -37,6 +43,9 @@ const REQUESTS: &[Visit] = table![
 
 const LEFT_ALONE: &[Visit] = table![
     ("body of a question", BEFORE, Came::Asked("GET /images", PUBLIC, "{"), NO_IMAGES);
+    ("body of the catalogue", BEFORE, Came::Asked("GET /catalogue", PUBLIC, "{"), NO_ROWS);
+    ("body of a survey", AFTER, Came::Asked("GET /images/12/survey", STAFF, "{"), SURVEY_OF_12);
+    ("body of a check", AFTER, Came::Asked("POST /images/12/check", STAFF, r#"{"outcome":"changed"}"#), SOUND);
     ("body of a rule dropped", AFTER, Came::Asked("DELETE /deeds/7/rules/99", STAFF, "{"), DONE);
     ("body of a takedown dropped", AFTER, Came::Asked("DELETE /images/12/rules/99", STAFF, "{"), DONE);
     ("body of a key dropped", AFTER, Came::Asked("DELETE /badges/2cf24dba5fb0a30e26e83b2ac5b9e29e1b161e5c1fa7425e73043362938b9824", STAFF, "{"), DONE);

@@ -4,8 +4,8 @@
 
 use super::cases::{
     ALL_OF_12, BAD_BODY, BAD_HEAD, Came, DONE, FOR_HELLO, FRAMING, HELLO, NO_ACCESSION, NO_DEED,
-    NO_ROUTE, NO_RULE, Picture, STAFF, TAKEN_DOWN, UNAVAILABLE, Visit, Wanted, bytes_of, door_of,
-    text_of,
+    NO_ROUTE, NO_RULE, Picture, ROW_OF_12, SOUND, STAFF, SURVEY_OF_12, TAKEN_DOWN, UNAVAILABLE,
+    Visit, Wanted, bytes_of, door_of, text_of,
 };
 use super::state::{AFTER, Memory, new_desk, out_of};
 use crate::{Door, MemoryDoor, WireFault, serve_one};
@@ -167,6 +167,30 @@ const FILE: Plan = like!(Plan, LISTING, visit: ("file", AFTER, FOR_HELLO, HELLO)
 #[test]
 fn a_file_when_memory_is_refused(rt: HostRuntime) -> Result<(), Fail> {
     assert_plan(&rt, rt.alloc(), &FILE)
+}
+
+const CATALOGUE: Plan =
+    like!(Plan, LISTING, visit: ("catalogue", AFTER, get!("/catalogue"), ROW_OF_12));
+
+#[test]
+fn the_catalogue_when_memory_is_refused(rt: HostRuntime) -> Result<(), Fail> {
+    assert_plan(&rt, rt.alloc(), &CATALOGUE)
+}
+
+const SURVEY: Plan =
+    like!(Plan, LISTING, visit: ("survey", AFTER, Came::Asked("GET /images/12/survey", STAFF, ""), SURVEY_OF_12));
+
+#[test]
+fn a_survey_when_memory_is_refused(rt: HostRuntime) -> Result<(), Fail> {
+    assert_plan(&rt, rt.alloc(), &SURVEY)
+}
+
+const CHECK: Plan =
+    like!(Plan, LISTING, visit: ("check", AFTER, Came::Asked("POST /images/12/check", STAFF, ""), SOUND));
+
+#[test]
+fn a_check_when_memory_is_refused(rt: HostRuntime) -> Result<(), Fail> {
+    assert_plan(&rt, rt.alloc(), &CHECK)
 }
 
 const TAKEDOWN: Plan =

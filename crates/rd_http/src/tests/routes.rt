@@ -1,8 +1,9 @@
 //! Which paths there are, and which methods they have.
 
 use super::cases::{
-    Came, DONE, FOR_HELLO, HELLO, NO_ACCESSION, NO_DEED, NO_FILE, NO_IMAGES, NO_ROUTE, ROOM, STAFF,
-    STAFF_ONLY, Visit, WRONG_SIZE, Wanted, assert_table, filled_desk, reply_to, text_of,
+    Came, DONE, FOR_HELLO, HELLO, NO_ACCESSION, NO_DEED, NO_FILE, NO_IMAGES, NO_ROUTE, NO_ROWS,
+    ROOM, STAFF, STAFF_ONLY, SURVEY_OF_12, Visit, WRONG_SIZE, Wanted, assert_table, filled_desk,
+    reply_to, text_of,
 };
 use super::state::{AFTER, BEFORE, Memory};
 use std::alloc::Global;
@@ -20,6 +21,10 @@ const ACCESSIONS: &[Visit] = table![
     ("a letter", AFTER, get!("/images/12a"), NO_ROUTE);
     ("empty", AFTER, get!("/images/"), NO_ROUTE);
     ("empty before a slot", AFTER, get!("/images//files/0"), NO_ROUTE);
+    ("999,999 of a survey", AFTER, Came::Asked("GET /images/999999/survey", STAFF, ""), NO_ACCESSION);
+    ("0 in front, of a survey", AFTER, Came::Asked("GET /images/012/survey", STAFF, ""), NO_ROUTE);
+    ("999,999 of a check", AFTER, Came::Asked("POST /images/999999/check", STAFF, ""), NO_ACCESSION);
+    ("seven digits of a check", AFTER, Came::Asked("POST /images/1000000/check", STAFF, ""), NO_ROUTE);
 ];
 
 const SLOTS: &[Visit] = table![
@@ -80,9 +85,11 @@ const PATHS: &[Visit] = table![
     ("capitals", BEFORE, get!("/Images"), NO_ROUTE);
     ("a letter less", BEFORE, get!("/image"), NO_ROUTE);
     ("another word", BEFORE, get!("/images/12/file/0"), NO_ROUTE);
-    ("survey", AFTER, Came::Asked("GET /images/12/survey", STAFF, ""), NO_ROUTE);
-    ("check", AFTER, Came::Asked("POST /images/12/check", STAFF, ""), NO_ROUTE);
-    ("catalogue", AFTER, get!("/catalogue"), NO_ROUTE);
+    ("a survey of all", AFTER, Came::Asked("GET /images/survey", STAFF, ""), NO_ROUTE);
+    ("a survey in capitals", AFTER, Came::Asked("GET /images/12/Survey", STAFF, ""), NO_ROUTE);
+    ("a check and a slash", AFTER, Came::Asked("POST /images/12/check/", STAFF, ""), NO_ROUTE);
+    ("checks", AFTER, Came::Asked("POST /images/12/checks", STAFF, ""), NO_ROUTE);
+    ("the catalogue of an accession", AFTER, get!("/catalogue/12"), NO_ROUTE);
     ("all deeds", AFTER, get!("/deeds"), NO_ROUTE);
 ];
 
@@ -91,6 +98,8 @@ const TARGETS: &[Visit] = table![
     ("an empty query", BEFORE, get!("/images?"), NO_IMAGES);
     ("a query of a query", BEFORE, get!("/images??a?b"), NO_IMAGES);
     ("a path in a query", AFTER, get!("/images/12/files/0?/../1"), HELLO);
+    ("a query of a survey", AFTER, Came::Asked("GET /images/12/survey?day=1", STAFF, ""), SURVEY_OF_12);
+    ("a query of the catalogue", BEFORE, get!("/catalogue?kind=d64"), NO_ROWS);
     ("a query for a path", BEFORE, get!("?/images"), NO_ROUTE);
     ("a query after the root", BEFORE, get!("/?/images"), NO_ROUTE);
     ("a digit encoded", AFTER, get!("/images/%312"), NO_ROUTE);
@@ -109,6 +118,10 @@ const NOT_GET: &[&str] = &[
     "HEAD", "POST", "PUT", "DELETE", "OPTIONS", "PATCH", "get", "GETS", "GE",
 ];
 
+const NOT_POST: &[&str] = &[
+    "GET", "HEAD", "PUT", "DELETE", "OPTIONS", "PATCH", "post", "POSTS", "POS",
+];
+
 const NOT_PUT: &[&str] = &[
     "GET", "HEAD", "POST", "DELETE", "OPTIONS", "PATCH", "put", "PUTS", "PU",
 ];
@@ -121,11 +134,14 @@ const METHODS: &[Path] = table![
     ("/images", allows!("GET"), NOT_GET);
     ("/images/12", allows!("GET"), NOT_GET);
     ("/images/12/files/0", allows!("GET"), NOT_GET);
+    ("/images/12/survey", allows!("GET"), NOT_GET);
+    ("/images/12/check", allows!("POST"), NOT_POST);
     ("/images/12/rules/1", allows!("PUT, DELETE"), NEITHER);
     ("/accessions/12/d64/7/ee352834e06f2b572e65490eb845939724cc38542aed18acdf81eded76912afb", allows!("PUT"), NOT_PUT);
     ("/deeds/7", allows!("PUT"), NOT_PUT);
     ("/deeds/7/rules/1", allows!("PUT, DELETE"), NEITHER);
     ("/badges/2cf24dba5fb0a30e26e83b2ac5b9e29e1b161e5c1fa7425e73043362938b9824", allows!("PUT, DELETE"), NEITHER);
+    ("/catalogue", allows!("GET"), NOT_GET);
 ];
 
 /// A path has none of its methods that are told apart.

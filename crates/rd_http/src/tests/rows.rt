@@ -2,8 +2,8 @@
 
 use super::cases::{
     ALL_OF_12, BAD_BODY, CLOSED, CONFLICT, Came, DONE, FOR_HELLO, HELLO, NO_ACCESSION, NO_DEED,
-    NO_FILE, NO_IMAGES, NO_ROUTE, NO_RULE, NOBODY, PUBLIC, Picture, ROOM, STAFF, STAFF_ONLY,
-    TAKEN_DOWN, Visit, WRONG_SIZE, Wanted, assert_table,
+    NO_FILE, NO_IMAGES, NO_ROUTE, NO_ROWS, NO_RULE, NOBODY, PUBLIC, Picture, ROOM, ROW_OF_12,
+    SOUND, STAFF, STAFF_ONLY, SURVEY_OF_12, TAKEN_DOWN, Visit, WRONG_SIZE, Wanted, assert_table,
 };
 use super::state::{AFTER, BEFORE};
 use std::test::Fail;
@@ -17,6 +17,10 @@ const DAYS: &[Visit] = table![
     ("no file listed in 2029", BEFORE, get!("/images/12"), reply!("200 OK", r#"{"accession":12,"deed":7,"files":[],"kind":"d64"}"#));
     ("to the staff in 2029", BEFORE, Came::Asked("GET /images/12", STAFF, ""), ALL_OF_12);
     ("to the room in 2029", BEFORE, Came::Asked("GET /images/12/files/0", ROOM, ""), CLOSED);
+    ("the catalogue in 2030", AFTER, get!("/catalogue"), ROW_OF_12);
+    ("the catalogue in 2029", BEFORE, get!("/catalogue"), NO_ROWS);
+    ("the catalogue to the room in 2029", BEFORE, Came::Asked("GET /catalogue", ROOM, ""), NO_ROWS);
+    ("the catalogue to the staff in 2029", BEFORE, Came::Asked("GET /catalogue", STAFF, ""), ROW_OF_12);
 ];
 
 const TAKEDOWNS: &[Visit] = table![
@@ -40,6 +44,28 @@ const DISKS: &[Visit] = table![
     ("no image to read of", AFTER, get!("/images/99/files/0"), NO_ACCESSION);
     ("image 15", AFTER, Came::Image("PUT /accessions/15/cpm8/7/e29a4c10d2d4fb7d396600cdbd0f1c946c6ead6fe1a36febe3f0993d73e52627", Picture::Record), DONE);
     ("a record", AFTER, get!("/images/15/files/0"), Wanted::Texts(&[("HTTP/1.1 200 OK\r\nContent-Type: application/octet-stream\r\nContent-Length: 128\r\nConnection: close\r\n\r\nHELLO FROM CP/M\r\n", 1), ("\x1a", 111)]));
+    ("the catalogue of all", AFTER, get!("/catalogue"), catalogue!("184", "12,7,d64,0,,HELLO,PRG,258,,R7.20,read\n14,7,d64,0,,LOOP,PRG,,loop,R7.20,read\n15,7,cpm8,0,0,HELLO.TXT,TXT,128,,R7.20,read\n"));
+];
+
+const SURVEYS: &[Visit] = table![
+    ("a disk", AFTER, Came::Asked("GET /images/12/survey", STAFF, ""), SURVEY_OF_12);
+    ("image 14", AFTER, Came::Image("PUT /accessions/14/d64/8/29bd47500627f934d50bff9380a0fc11913e6155e446d32ea79b7ecc5f7a6c17", Picture::Looped), DONE);
+    ("a disk with a fault", AFTER, Came::Asked("GET /images/14/survey", STAFF, ""), reply!("200 OK", r#"{"accession":14,"deed":8,"directory":"end","donor":"B. Donor","faulty":1,"files":1,"kind":"d64","label":"MUSEUM","map":{"claimed_free":3,"unclaimed_used":0,"wrong_counts":0},"served":0,"signed":"2020-02-29","size_differs":0}"#));
+    ("image 15", AFTER, Came::Image("PUT /accessions/15/cpm8/7/e29a4c10d2d4fb7d396600cdbd0f1c946c6ead6fe1a36febe3f0993d73e52627", Picture::Record), DONE);
+    ("a disk without a map and a name", AFTER, Came::Asked("GET /images/15/survey", STAFF, ""), reply!("200 OK", r#"{"accession":15,"deed":7,"directory":"end","donor":"A. Curator","faulty":0,"files":1,"kind":"cpm8","label":"","map":null,"served":1,"signed":"2019-05-04","size_differs":0}"#));
+    ("by the room", AFTER, Came::Asked("GET /images/12/survey", ROOM, ""), STAFF_ONLY);
+    ("by the public", AFTER, get!("/images/12/survey"), STAFF_ONLY);
+    ("no accession", AFTER, Came::Asked("GET /images/99/survey", STAFF, ""), NO_ACCESSION);
+];
+
+const CHECKS: &[Visit] = table![
+    ("check", AFTER, Came::Asked("POST /images/12/check", STAFF, ""), SOUND);
+    ("the same day", AFTER, Came::Asked("POST /images/12/check", STAFF, ""), SOUND);
+    ("another day", BEFORE, Came::Asked("POST /images/12/check", STAFF, ""), SOUND);
+    ("by the room", AFTER, Came::Asked("POST /images/12/check", ROOM, ""), STAFF_ONLY);
+    ("by the public", AFTER, Came::Text("POST /images/12/check HTTP/1.1\r\n\r\n"), STAFF_ONLY);
+    ("no accession", AFTER, Came::Asked("POST /images/99/check", STAFF, ""), NO_ACCESSION);
+    ("the image as it was", AFTER, get!("/images/12"), ALL_OF_12);
 ];
 
 const IMAGES: &[Visit] = table![
@@ -75,6 +101,12 @@ fn takedowns_and_deeds_without_rules_deny(rt: HostRuntime) -> Result<(), Fail> {
 #[test]
 fn disks_of_both_kinds_are_put_and_read(rt: HostRuntime) -> Result<(), Fail> {
     assert_table(&rt, rt.alloc(), DISKS)
+}
+
+#[test]
+fn the_staff_surveys_and_checks_images(rt: HostRuntime) -> Result<(), Fail> {
+    assert_table(&rt, rt.alloc(), SURVEYS)?;
+    assert_table(&rt, rt.alloc(), CHECKS)
 }
 
 #[test]

@@ -3,8 +3,7 @@
 use super::fakes::{End, OneFile, Stumbling};
 use super::{Ran, is_refused, no_file, run_with};
 use crate::host::Host;
-use crate::machine::{Machine, MachineFault};
-use crate::run::run;
+use rd_program::{Machine, MachineFault, run};
 use rd_rows::cpm::hello;
 use std::alloc::{Alloc, Global};
 use std::test::Fail;

@@ -2,10 +2,12 @@
 
 ghost use Rattle.std.specs.Prelude.{None};
 
-use crate::machine::{Machine, MachineFault};
 use rd_http::MemoryDoor;
+use rd_program::{Machine, MachineFault};
+use rd_rows::cbm::one_program;
+use rd_rows::cpm::hello;
 use sqlite::{Connection, MemStore};
-use std::alloc::Global;
+use std::alloc::{AllocError, Global};
 use std::io;
 use std::io::{ErrorKind, Read, Write};
 
@@ -123,6 +125,10 @@ impl Machine for OneFile<'_> {
         }
     }
 
+    fn read_sheet(&mut self, _alloc: Global, _path: &str) -> Result<Vec<u8>, MachineFault> {
+        Err(MachineFault::Failed)
+    }
+
     fn connect(&mut self, _path: &str) -> Result<Connection<MemStore>, MachineFault> {
         Err(MachineFault::Failed)
     }
@@ -141,7 +147,44 @@ impl Machine for OneFile<'_> {
 /// The path of the store of a museum.
 pub(crate) const STORE: &str = "museum.sqlite";
 
-/// A machine with one store in memory, which stays between runs, and with visits to come. It has no file.
+/// The path of the sheet of a museum.
+pub(crate) const SHEET: &str = "images.csv";
+
+/// The sheet of a museum.
+#[derive(Clone, Copy)]
+pub(crate) enum Sheet {
+    /// Texts, one after the other.
+    Texts(&'static [&'static str]),
+    Bytes(&'static [u8]),
+    /// It is not given.
+    Fails(MachineFault),
+}
+
+fn joined(alloc: Global, texts: &[&str]) -> Result<Vec<u8>, AllocError> {
+    let mut bytes = Vec::new(alloc);
+    for text in texts {
+        bytes.extend_from_slice(text.as_bytes())?;
+    }
+    Ok(bytes)
+}
+
+/// The bytes of the file of an image.
+fn image_at(alloc: Global, path: &str) -> Result<Vec<u8>, MachineFault> {
+    let image = match path {
+        "hello.d64" | "hello world.d64" | "h\u{e9}llo,\"1\".d64" => one_program(alloc),
+        "short.d64" => one_program(alloc).map(|mut image| {
+            image.truncate(174_847);
+            image
+        }),
+        "hello.img" => hello(alloc),
+        "no-memory.d64" => return Err(MachineFault::NoMemory),
+        _ => return Err(MachineFault::Failed),
+    };
+    image.map_err(|_| MachineFault::NoMemory)
+}
+
+/// A machine with one store in memory, which stays between runs, with some files of images, and with visits to
+/// come.
 #[derive(Drop)]
 pub(crate) struct Museum {
     /// The store; `None` while a command has it.
@@ -153,6 +196,7 @@ pub(crate) struct Museum {
     pub(crate) listens: Result<(), MachineFault>,
     /// What the clock shows.
     pub(crate) moment: Result<i64, MachineFault>,
+    pub(crate) sheet: Sheet,
     /// The port that was asked for last.
     pub(crate) port: Option<u16>,
 }
@@ -166,8 +210,21 @@ impl Machine for Museum {
 
     ghost left = { λ machine. machine.conn };
 
-    fn read_file(&mut self, _alloc: Global, _path: &str) -> Result<Vec<u8>, MachineFault> {
-        Err(MachineFault::Failed)
+    fn read_file(&mut self, alloc: Global, path: &str) -> Result<Vec<u8>, MachineFault> {
+        image_at(alloc, path)
+    }
+
+    fn read_sheet(&mut self, alloc: Global, path: &str) -> Result<Vec<u8>, MachineFault> {
+        if path != SHEET {
+            return Err(MachineFault::Failed);
+        }
+        match self.sheet {
+            Sheet::Texts(texts) => joined(alloc, texts).map_err(|_| MachineFault::NoMemory),
+            Sheet::Bytes(bytes) => Vec::from_slice(alloc, bytes).map_err(
+                |_| MachineFault::NoMemory,
+            ),
+            Sheet::Fails(fault) => Err(fault),
+        }
     }
 
     /// It fails at a path of no store too, and where the store was not given back, or inside a transaction.

@@ -1,4 +1,4 @@
-//! The words of `init` and `serve`: which are taken, which are not, and which give help.
+//! The words of `init`, `serve` and `import`: which are taken, which are not, and which give help.
 
 use super::steps::{INIT, SERVE, Step, assert_steps};
 use super::{is_refused, is_usage_fault, run_on};
@@ -120,6 +120,40 @@ const NO_OFFSETS: &[Words] = table![
     serve_with!("--offset", "E2400", "--port", "80", "--count", "1");
 ];
 
+/// `import` with these words after the store and the key.
+macro_rules! import_with {
+    ($($word:literal),*) => {
+        &["import", "--store", "f", "--key", "k" $(, $word)*]
+    };
+}
+
+/// Words of `import` that are no command.
+const NO_IMPORTS: &[Words] = table![
+    &["import"];
+    &["import", "--store", "f", "--sheet", "s"];
+    &["import", "--key", "k", "--sheet", "s"];
+    import_with!("--sheet");
+    import_with!("--sheet", "s", "--sheet", "s");
+    import_with!("--sheet", "s", "--key", "k");
+    import_with!("--sheet", "s", "more");
+    import_with!("--sheet", "s", "--port", "80");
+    import_with!("--sheet", "s", "--acc", "12");
+    import_with!("--sheet", "s", "--at");
+    import_with!("--sheet", "s", "--at", "1", "--at", "1");
+    import_with!("--sheet", "s", "--at", "-1");
+    import_with!("--sheet", "s", "--at=-1");
+    import_with!("--sheet", "s", "--at", "9223372036854775808");
+    import_with!("--sheet", "s", "--at", "");
+    import_with!("--sheet", "s", "--at", "now");
+    import_with!("--sheet", "s", "--at", "1.5");
+    import_with!("--sheet", "s", "--at", "0x10");
+    import_with!("--sheet", "s", "--offset", "E2400");
+    import_with!("--sheet", "s", "--offset", "0100");
+    import_with!("--sheet", "s", "--offset=");
+    import_with!("--sheet", "s", "--offset", "E0100", "--offset", "E0100");
+    &["imports", "--store", "f", "--key", "k", "--sheet", "s"];
+];
+
 #[test]
 fn other_words_are_no_command(rt: HostRuntime) {
     for words in [NO_INITS, NO_SERVES, NO_NUMBERS, NO_OFFSETS]
@@ -127,6 +161,14 @@ fn other_words_are_no_command(rt: HostRuntime) {
         .copied()
         .flatten()
     {
+        let ran = run_on(rt.alloc(), words, &[]);
+        assert!(rt; is_usage_fault(&ran), "{words:?}");
+    }
+}
+
+#[test]
+fn other_words_are_no_import(rt: HostRuntime) {
+    for words in NO_IMPORTS {
         let ran = run_on(rt.alloc(), words, &[]);
         assert!(rt; is_usage_fault(&ran), "{words:?}");
     }
@@ -154,6 +196,13 @@ const TAKEN: &[Words] = table![
     serve_by!("W2359");
     serve_by!("E0059");
     serve_by!("W2300");
+    import_with!("--sheet", "s");
+    import_with!("--sheet", "");
+    import_with!("--sheet=--store");
+    import_with!("--sheet", "s", "--at", "0");
+    import_with!("--sheet", "s", "--at", "+0042");
+    import_with!("--sheet", "s", "--at=9223372036854775807", "--offset=W2359");
+    &["import", "--offset", "E0100", "--at", "1", "--sheet", "s", "--key", "", "--store", "f"];
 ];
 
 #[test]
@@ -179,11 +228,12 @@ fn the_words_give_the_port_and_the_count(rt: HostRuntime) -> Result<(), Fail> {
 
 /// Words that ask for help, and texts in it.
 const HELPS: &[(Words, &[&str])] = table![
-    (&["--help"], &["init", "serve", "desk init --store museum.sqlite --key 'a long phrase'", "desk serve --store museum.sqlite --port 8041 --count 1000"]);
+    (&["--help"], &["init", "serve", "import", "desk init --store museum.sqlite --key 'a long phrase'", "desk serve --store museum.sqlite --port 8041 --count 1000", "desk import --store museum.sqlite --key 'a long phrase' --sheet images.csv"]);
     (&["cat", "--help"], &["desk cat d64 disk.d64 0"]);
     (&["list", "--help"], &["desk list d64 disk.d64"]);
     (&["init", "--help"], &["--store <FILE>", "--key <KEY>", "desk init --store museum.sqlite --key 'a long phrase'"]);
     (&["init", "--store", "f", "-h"], &["--store <FILE>", "--key <KEY>"]);
+    (&["import", "--help"], &["--store <FILE>", "--key <KEY>", "--sheet <SHEET>", "--at <SECONDS>", "--offset <OFFSET>", "accession,kind,deed,sha256,file", "desk import --store museum.sqlite --key 'a long phrase' --sheet images.csv"]);
     (&["serve", "--help"], &["--store <FILE>", "--port <PORT>", "--count <COUNT>", "--offset <OFFSET>", "desk serve --store museum.sqlite --port 8041 --count 1000 --offset E0100"]);
 ];
 

@@ -1,10 +1,9 @@
 //! Steps: runs of the program on a museum, one after the other, and what each has to leave.
 
-use super::fakes::{End, Museum, Narrow};
-use super::visits::{Visit, door_of, out_of, text_of};
-use crate::machine::MachineFault;
-use crate::run::run;
+use super::fakes::{End, Museum, Narrow, Sheet};
+use super::visits::{AFTER, Visit, door_of, out_of, text_of};
 use rd_http::MemoryDoor;
+use rd_program::{MachineFault, run};
 use rd_volume::NoMemory;
 use sqlite::{Connection, Error, MemStore};
 use std::alloc::Global;
@@ -27,6 +26,9 @@ pub(super) struct Step {
     /// How many bytes the output takes, and whether it can be flushed.
     pub(super) room: usize,
     pub(super) flush_fails: bool,
+    /// What the clock shows.
+    pub(super) moment: Result<i64, MachineFault>,
+    pub(super) sheet: Sheet,
     pub(super) visits: &'static [Visit],
     pub(super) status: u8,
     /// What is written.
@@ -46,6 +48,8 @@ pub(super) const INIT: Step = Step {
     listens: Ok(()),
     room: 1_000,
     flush_fails: false,
+    moment: Ok(AFTER),
+    sheet: Sheet::Fails(MachineFault::Failed),
     visits: &[],
     status: 0,
     output: "done\n",
@@ -76,6 +80,7 @@ pub(super) fn museum(conn: Connection<MemStore>, door: MemoryDoor) -> Museum {
         connects: Ok(()),
         listens: Ok(()),
         moment: Ok(0),
+        sheet: Sheet::Fails(MachineFault::Failed),
         port: None,
     }
 }
@@ -110,6 +115,8 @@ fn prepare(alloc: Global, museum: &mut Museum, step: &Step) -> Result<(), Fail> 
     museum.door = door_of(alloc, step.visits)?;
     museum.connects = step.connects;
     museum.listens = step.listens;
+    museum.moment = step.moment;
+    museum.sheet = step.sheet;
     museum.port = None;
     Ok(())
 }

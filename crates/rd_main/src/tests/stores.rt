@@ -5,7 +5,7 @@ use super::steps::{INIT, SERVE, Step, assert_each, assert_steps};
 use super::visits::{
     AFTER, Came, DONE, NO_IMAGES, NOTHING, STAFF, STAFF_ONLY, UNKNOWN_KEY, Visit, Wanted,
 };
-use crate::machine::MachineFault;
+use rd_program::MachineFault;
 use std::test::Fail;
 
 /// Where a desk stands.

@@ -1,7 +1,7 @@
 use Rattle.std.proofs.Common.{◌∙◌, None, refl, rules, subst}
 use Rattle.rd_store.specs.Held.{desk}
 use Rattle.rd_desk.specs.Queries.{AreLinesOfEach}
-use Rattle.rd_desk.proofs.Reading.{images_accepted}
+use Rattle.rd_desk.proofs.Reading.{images_name_nothing, question_accepted}
 use Rattle.rd_desk.proofs.Selecting.{image_lines_are}
 use Rattle.rd_desk.proofs.queries.images.Goals as goal
 
@@ -22,7 +22,7 @@ returns g c = record {
         audience = audience;
         asked = λ judged asked. let is = asked.asked in cc;
         caller = known;
-        accepted = images_accepted d c.args.badge.now audience known;
+        accepted = question_accepted d c.args.badge.now audience _ images_name_nothing known;
         tells = image_lines_are d audience day lines each;
         after = refl;
       };

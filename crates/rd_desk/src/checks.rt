@@ -1,0 +1,28 @@
+//! Whether an image is still as it was given.
+
+ghost use Rattle.std.specs.Prelude.{◌≡◌, ◌↔◌, IsTrue};
+ghost use Rattle.sha2.specs.Sha256.{sha256};
+ghost use Rattle.rd_desk.specs.Checks.{outcome_of};
+
+use rd_store::Outcome;
+use sha2::{Digest, Sha256};
+
+/// Whether bytes have this SHA-256.
+pub(crate) fn has_digest(bytes: &[u8], digest: &[u8; 32]) -> bool
+    ensures { IsTrue result ↔ (sha256 bytes.now ≡ digest.now) }
+{
+    Sha256::digest(bytes) == *digest
+}
+
+/// What a check of bytes and the digest that was given for them finds: `Sound` exactly where the digest is the
+/// SHA-256 of the bytes (FIPS 180-4), and else `Changed`. It takes no memory.
+pub fn check_row(bytes: &[u8], digest: &[u8; 32]) -> Outcome
+    ensures sound { (result ≡ Outcome.Sound) ↔ (sha256 bytes.now ≡ digest.now) }
+    ensures outcome { result ≡ outcome_of bytes.now digest.now }
+{
+    if has_digest(bytes, digest) {
+        Outcome::Sound
+    } else {
+        Outcome::Changed
+    }
+}

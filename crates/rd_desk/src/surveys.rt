@@ -1,0 +1,95 @@
+//! What an image has on it, as it is told to the staff.
+
+ghost use Rattle.std.specs.Prelude.{◌≡◌, IfOk, Some, ℤ};
+ghost use Rattle.rd_policy.specs.Dates.{IsDateOf};
+ghost use Rattle.rd_volume.specs.Reports.{IsReport};
+ghost use Rattle.rd_store.specs.Held.{IsOpen, desk};
+ghost use Rattle.rd_desk.specs.Calls.{Carries, IsSurveyAt, Looks};
+ghost use Rattle.rd_desk.specs.Judged.{audience_of};
+ghost use Rattle.rd_desk.specs.Replies.{IsSurveyOf};
+
+use crate::asking::{deed, image};
+use crate::refusal::Refusal;
+use crate::request::What;
+use crate::said::{Said, Survey, Unavailable};
+use rd_geometry::{Image, Text};
+use rd_policy::{Audience, date_text, is_day};
+use rd_store::{DeedRow, ImageRow, Store};
+use rd_volume::{Report, report};
+use sqlite::Alter;
+use std::alloc::Global;
+
+/// What an image has on it, counted.
+fn counted(alloc: Global, image: &ImageRow) -> Result<Report, Unavailable>
+    ensures { IfOk result (IsReport image.now.kind image.now.bytes) }
+{
+    let Ok(disk) = Image::new(image.kind, image.bytes.as_slice()) else {
+        return Err(Unavailable);
+    };
+    Ok(report(alloc, &disk)?)
+}
+
+/// The date of a day, of the years 1 to 9999.
+fn date(alloc: Global, day: i32) -> Result<Text, Unavailable>
+    ensures { IfOk result (IsDateOf day) }
+{
+    if !is_day(day) {
+        return Err(Unavailable);
+    }
+    Ok(Text::of(date_text(alloc, day)?))
+}
+
+/// The survey of an image that came by a deed.
+fn survey_of(
+    alloc: Global,
+    acc: u32,
+    image: &ImageRow,
+    deed: DeedRow,
+) -> Result<Survey, Unavailable>
+    ensures { IfOk result (IsSurveyOf acc image.now deed) }
+{
+    let report = counted(alloc, image)?;
+    let signed = date(alloc, deed.signed)?;
+    Ok(Survey {
+        accession: acc,
+        deed: image.deed,
+        donor: deed.donor,
+        signed,
+        kind: image.kind,
+        report,
+    })
+}
+
+/// The survey of the image at an accession; `None` where none stands.
+fn survey_at<S: Alter>(
+    store: &mut Store<S>,
+    alloc: Global,
+    acc: u32,
+) -> Result<Option<Survey>, Unavailable>
+    ensures { Looks S.Store store.old store.new result (IsSurveyAt (desk S.Store store.old) acc) }
+{
+    let Some(image) = image(store, alloc, acc)? else {
+        return Ok(None);
+    };
+    let Some(deed) = deed(store, image.deed)? else {
+        return Err(Unavailable);
+    };
+    Ok(Some(survey_of(alloc, acc, &image, deed)?))
+}
+
+/// Tells what the image of an accession has on it. Whoever calls it knows that the staff asks.
+pub(crate) fn survey<S: Alter>(
+    store: &mut Store<S>,
+    alloc: Global,
+    badge: &Option<[u8; 32]>,
+    acc: u32,
+) -> Result<Said, Unavailable>
+    requires known { IsOpen S.Store store.old → audience_of (desk S.Store store.old) badge.now ≡ Some Audience.Staff }
+    ensures { (day : ℤ) → Carries S.Store store.old store.new day (record { badge = badge.now; what = What.Survey acc }) result }
+{
+    let _ = badge;
+    match survey_at(store, alloc, acc)? {
+        Some(survey) => Ok(Said::Surveyed(survey)),
+        None => Ok(Said::Refused(Refusal::NoAccession)),
+    }
+}

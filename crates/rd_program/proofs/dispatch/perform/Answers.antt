@@ -1,0 +1,272 @@
+use Rattle.std.proofs.Common.{◌≡◌, IfErr, IfOk, IfSome, OnOk, codes, inl, subst, sym}
+use Rattle.std.proofs.lemmas.Result.{IfErr-weaker}
+use Rattle.rd_program.specs.Asks.{AsksADesk, AsksCheckOf, AsksFile, AsksFiles, AsksNew, AsksVisits, IsFileAsk, IsFilesAsk, IsInitAsk, IsServeAsk, TellsInRows, TellsOnOutput}
+use Rattle.rd_program.specs.Cat.{Refuses, Serves}
+use Rattle.std.specs.Io.KnownBytes.{Appends}
+use Rattle.rd_program.specs.Listed.{Lists, RefusesList}
+use Rattle.rd_program.specs.Serving.{RefusesServe, serve_text}
+use Rattle.rd_program.proofs.Answered.{once_kept, once_never}
+use Rattle.rd_program.proofs.Imported.{err_whole, ok_whole, whole_is}
+use Rattle.rd_program.proofs.Inited.{at_err_both, left_as, made_as, on_both}
+use Rattle.rd_program.proofs.Ran.{as_asked}
+use Rattle.rd_program.specs.declared.done.Done.TheVariants.{InPart}
+use Rattle.rd_program.proofs.dispatch.perform.Goals as goal
+
+pub returns-in-File-clause-done : goal.returns-in-File-clause-done
+returns-in-File-clause-done g c = λ kind slot asked.
+    let asks : AsksFile c.in-File.ask kind (codes "-") slot = subst (IsFileAsk kind (codes "-") slot) c.in-File.is asked in
+    ok_whole _ c.cat.result c.whole.result c.whole.ensures (as_asked (λ k s. OnOk c.cat.result (IfSome (g.R.Read.remaining c.args.input.now) (λ image. Serves k s image (g.W.Write.contents c.args.output.now) (g.W.Write.contents c.cat.new.output))))
+    c.in-File.ask kind (codes "-") slot asks (c.cat.ensures.done asks.image_is))
+
+pub returns-in-File-clause-refused : goal.returns-in-File-clause-refused
+returns-in-File-clause-refused g c = λ kind slot asked.
+    let asks : AsksFile c.in-File.ask kind (codes "-") slot = subst (IsFileAsk kind (codes "-") slot) c.in-File.is asked in
+    err_whole _ c.cat.result c.whole.result c.whole.ensures (as_asked (λ k s. IfErr c.cat.result (λ refusal. IfSome (g.R.Read.remaining c.args.input.now) (λ image. Refuses refusal k s image (g.W.Write.contents c.args.output.now) (g.W.Write.contents c.cat.new.output))))
+    c.in-File.ask kind (codes "-") slot asks (c.cat.ensures.refused asks.image_is))
+
+pub returns-in-Files-clause-done : goal.returns-in-Files-clause-done
+returns-in-Files-clause-done g c = λ kind slot asked. absurd (subst (IsFileAsk kind (codes "-") slot) c.in-Files.is asked)
+
+pub returns-in-Files-clause-refused : goal.returns-in-Files-clause-refused
+returns-in-Files-clause-refused g c = λ kind slot asked. absurd (subst (IsFileAsk kind (codes "-") slot) c.in-Files.is asked)
+
+pub returns-in-File-clause-listed : goal.returns-in-File-clause-listed
+returns-in-File-clause-listed g c = λ kind asked. absurd (subst (IsFilesAsk kind (codes "-")) c.in-File.is asked)
+
+pub returns-in-File-clause-list_refused : goal.returns-in-File-clause-list_refused
+returns-in-File-clause-list_refused g c = λ kind asked. absurd (subst (IsFilesAsk kind (codes "-")) c.in-File.is asked)
+
+pub returns-in-Files-clause-listed : goal.returns-in-Files-clause-listed
+returns-in-Files-clause-listed g c = λ kind asked.
+    let asks : AsksFiles c.in-Files.ask kind (codes "-") = subst (IsFilesAsk kind (codes "-")) c.in-Files.is asked in
+    ok_whole _ c.list.result c.whole-in-Files.result c.whole-in-Files.ensures (subst (λ k. OnOk c.list.result (IfSome (g.R.Read.remaining c.args.input.now) (λ image. Lists k image (g.W.Write.contents c.args.output.now) (g.W.Write.contents c.list.new.output))))
+    asks.kind_is (c.list.ensures.done asks.image_is))
+
+pub returns-in-Files-clause-list_refused : goal.returns-in-Files-clause-list_refused
+returns-in-Files-clause-list_refused g c = λ kind asked.
+    let asks : AsksFiles c.in-Files.ask kind (codes "-") = subst (IsFilesAsk kind (codes "-")) c.in-Files.is asked in
+    err_whole _ c.list.result c.whole-in-Files.result c.whole-in-Files.ensures (subst (λ k. IfErr c.list.result (λ refusal. IfSome (g.R.Read.remaining c.args.input.now) (λ image. RefusesList refusal k image (g.W.Write.contents c.args.output.now) (g.W.Write.contents c.list.new.output))))
+    asks.kind_is (c.list.ensures.refused asks.image_is))
+
+pub returns-in-Init-clause-done : goal.returns-in-Init-clause-done
+returns-in-Init-clause-done g c = λ kind slot asked. absurd (subst (IsFileAsk kind (codes "-") slot) c.in-Init.is asked)
+
+pub returns-in-Init-clause-refused : goal.returns-in-Init-clause-refused
+returns-in-Init-clause-refused g c = λ kind slot asked. absurd (subst (IsFileAsk kind (codes "-") slot) c.in-Init.is asked)
+
+pub returns-in-Init-clause-listed : goal.returns-in-Init-clause-listed
+returns-in-Init-clause-listed g c = λ kind asked. absurd (subst (IsFilesAsk kind (codes "-")) c.in-Init.is asked)
+
+pub returns-in-Init-clause-list_refused : goal.returns-in-Init-clause-list_refused
+returns-in-Init-clause-list_refused g c = λ kind asked. absurd (subst (IsFilesAsk kind (codes "-")) c.in-Init.is asked)
+
+pub returns-in-Serve-clause-done : goal.returns-in-Serve-clause-done
+returns-in-Serve-clause-done g c = λ kind slot asked. absurd (subst (IsFileAsk kind (codes "-") slot) c.in-Serve.is asked)
+
+pub returns-in-Serve-clause-refused : goal.returns-in-Serve-clause-refused
+returns-in-Serve-clause-refused g c = λ kind slot asked. absurd (subst (IsFileAsk kind (codes "-") slot) c.in-Serve.is asked)
+
+pub returns-in-Serve-clause-listed : goal.returns-in-Serve-clause-listed
+returns-in-Serve-clause-listed g c = λ kind asked. absurd (subst (IsFilesAsk kind (codes "-")) c.in-Serve.is asked)
+
+pub returns-in-Serve-clause-list_refused : goal.returns-in-Serve-clause-list_refused
+returns-in-Serve-clause-list_refused g c = λ kind asked. absurd (subst (IsFilesAsk kind (codes "-")) c.in-Serve.is asked)
+
+pub returns-in-File-clause-made : goal.returns-in-File-clause-made
+returns-in-File-clause-made g c = λ store key asked. absurd (subst (IsInitAsk store key) c.in-File.is asked)
+
+pub returns-in-File-clause-not_made : goal.returns-in-File-clause-not_made
+returns-in-File-clause-not_made g c = λ store key asked. absurd (subst (IsInitAsk store key) c.in-File.is asked)
+
+pub returns-in-File-clause-served : goal.returns-in-File-clause-served
+returns-in-File-clause-served g c = λ store port count minutes asked. absurd (subst (IsServeAsk store port count minutes) c.in-File.is asked)
+
+pub returns-in-File-clause-not_served : goal.returns-in-File-clause-not_served
+returns-in-File-clause-not_served g c = λ store port count minutes asked. absurd (subst (IsServeAsk store port count minutes) c.in-File.is asked)
+
+pub returns-in-Files-clause-made : goal.returns-in-Files-clause-made
+returns-in-Files-clause-made g c = λ store key asked. absurd (subst (IsInitAsk store key) c.in-Files.is asked)
+
+pub returns-in-Files-clause-not_made : goal.returns-in-Files-clause-not_made
+returns-in-Files-clause-not_made g c = λ store key asked. absurd (subst (IsInitAsk store key) c.in-Files.is asked)
+
+pub returns-in-Files-clause-served : goal.returns-in-Files-clause-served
+returns-in-Files-clause-served g c = λ store port count minutes asked. absurd (subst (IsServeAsk store port count minutes) c.in-Files.is asked)
+
+pub returns-in-Files-clause-not_served : goal.returns-in-Files-clause-not_served
+returns-in-Files-clause-not_served g c = λ store port count minutes asked. absurd (subst (IsServeAsk store port count minutes) c.in-Files.is asked)
+
+pub returns-in-Init-clause-served : goal.returns-in-Init-clause-served
+returns-in-Init-clause-served g c = λ store port count minutes asked. absurd (subst (IsServeAsk store port count minutes) c.in-Init.is asked)
+
+pub returns-in-Init-clause-not_served : goal.returns-in-Init-clause-not_served
+returns-in-Init-clause-not_served g c = λ store port count minutes asked. absurd (subst (IsServeAsk store port count minutes) c.in-Init.is asked)
+
+pub returns-in-Serve-clause-made : goal.returns-in-Serve-clause-made
+returns-in-Serve-clause-made g c = λ store key asked. absurd (subst (IsInitAsk store key) c.in-Serve.is asked)
+
+pub returns-in-Serve-clause-not_made : goal.returns-in-Serve-clause-not_made
+returns-in-Serve-clause-not_made g c = λ store key asked. absurd (subst (IsInitAsk store key) c.in-Serve.is asked)
+
+pub returns-in-Init-clause-made : goal.returns-in-Init-clause-made
+returns-in-Init-clause-made g c = λ store key asked.
+    let asks : AsksNew c.in-Init.ask store key = subst (IsInitAsk store key) c.in-Init.is asked in
+    ok_whole _ c.init.result c.whole-in-Init.result c.whole-in-Init.ensures (on_both c.init.result _ _
+    (made_as _ (g.M.Machine.stands c.args.machine.now) (g.M.Machine.left c.init.new.machine) c.init.result _ store _ key asks.store_is asks.key_is c.init.ensures.made)
+    c.init.ensures.done)
+
+pub returns-in-Init-clause-not_made : goal.returns-in-Init-clause-not_made
+returns-in-Init-clause-not_made g c = λ store key asked.
+    let asks : AsksNew c.in-Init.ask store key = subst (IsInitAsk store key) c.in-Init.is asked in
+    err_whole _ c.init.result c.whole-in-Init.result c.whole-in-Init.ensures (at_err_both c.init.result _ _ c.init.ensures.refused
+    (left_as _ (g.M.Machine.stands c.args.machine.now) (g.M.Machine.left c.init.new.machine) c.init.result _ store _ key asks.store_is asks.key_is c.init.ensures.left))
+
+pub returns-in-Serve-clause-served : goal.returns-in-Serve-clause-served
+returns-in-Serve-clause-served g c = λ store port count minutes asked.
+    let asks : AsksVisits c.in-Serve.ask store port count minutes = subst (IsServeAsk store port count minutes) c.in-Serve.is asked in
+    ok_whole _ c.serve.result c.whole-in-Serve.result c.whole-in-Serve.ensures (subst (λ n. OnOk c.serve.result (Appends (g.W.Write.contents c.args.output.now) (g.W.Write.contents c.serve.new.output) (serve_text port n))) asks.count_is
+    (subst (λ p. OnOk c.serve.result (Appends (g.W.Write.contents c.args.output.now) (g.W.Write.contents c.serve.new.output) (serve_text p c.in-Serve.ask.count))) asks.port_is
+    c.serve.ensures.done))
+
+pub returns-in-Serve-clause-not_served : goal.returns-in-Serve-clause-not_served
+returns-in-Serve-clause-not_served g c = λ store port count minutes asked.
+    let asks : AsksVisits c.in-Serve.ask store port count minutes = subst (IsServeAsk store port count minutes) c.in-Serve.is asked in
+    err_whole _ c.serve.result c.whole-in-Serve.result c.whole-in-Serve.ensures (subst (λ n. IfErr c.serve.result (λ refusal. RefusesServe refusal port n (g.W.Write.contents c.args.output.now) (g.W.Write.contents c.serve.new.output))) asks.count_is
+    (subst (λ p. IfErr c.serve.result (λ refusal. RefusesServe refusal p c.in-Serve.ask.count (g.W.Write.contents c.args.output.now) (g.W.Write.contents c.serve.new.output))) asks.port_is
+    c.serve.ensures.refused))
+
+pub returns-in-Import-clause-done : goal.returns-in-Import-clause-done
+returns-in-Import-clause-done g c = λ kind slot asked. absurd (subst (IsFileAsk kind (codes "-") slot) c.in-Import.is asked)
+
+pub returns-in-Import-clause-refused : goal.returns-in-Import-clause-refused
+returns-in-Import-clause-refused g c = λ kind slot asked. absurd (subst (IsFileAsk kind (codes "-") slot) c.in-Import.is asked)
+
+pub returns-in-Import-clause-listed : goal.returns-in-Import-clause-listed
+returns-in-Import-clause-listed g c = λ kind asked. absurd (subst (IsFilesAsk kind (codes "-")) c.in-Import.is asked)
+
+pub returns-in-Import-clause-list_refused : goal.returns-in-Import-clause-list_refused
+returns-in-Import-clause-list_refused g c = λ kind asked. absurd (subst (IsFilesAsk kind (codes "-")) c.in-Import.is asked)
+
+pub returns-in-Import-clause-made : goal.returns-in-Import-clause-made
+returns-in-Import-clause-made g c = λ store key asked. absurd (subst (IsInitAsk store key) c.in-Import.is asked)
+
+pub returns-in-Import-clause-not_made : goal.returns-in-Import-clause-not_made
+returns-in-Import-clause-not_made g c = λ store key asked. absurd (subst (IsInitAsk store key) c.in-Import.is asked)
+
+pub returns-in-Import-clause-served : goal.returns-in-Import-clause-served
+returns-in-Import-clause-served g c = λ store port count minutes asked. absurd (subst (IsServeAsk store port count minutes) c.in-Import.is asked)
+
+pub returns-in-Import-clause-not_served : goal.returns-in-Import-clause-not_served
+returns-in-Import-clause-not_served g c = λ store port count minutes asked. absurd (subst (IsServeAsk store port count minutes) c.in-Import.is asked)
+
+pub returns-in-File-clause-imported : goal.returns-in-File-clause-imported
+returns-in-File-clause-imported g c = λ tells. absurd (subst TellsInRows c.in-File.is tells)
+
+pub returns-in-File-clause-not_imported : goal.returns-in-File-clause-not_imported
+returns-in-File-clause-not_imported g c = λ tells. absurd (subst TellsInRows c.in-File.is tells)
+
+pub returns-in-Files-clause-imported : goal.returns-in-Files-clause-imported
+returns-in-Files-clause-imported g c = λ tells. absurd (subst TellsInRows c.in-Files.is tells)
+
+pub returns-in-Files-clause-not_imported : goal.returns-in-Files-clause-not_imported
+returns-in-Files-clause-not_imported g c = λ tells. absurd (subst TellsInRows c.in-Files.is tells)
+
+pub returns-in-Init-clause-imported : goal.returns-in-Init-clause-imported
+returns-in-Init-clause-imported g c = λ tells. absurd (subst TellsInRows c.in-Init.is tells)
+
+pub returns-in-Init-clause-not_imported : goal.returns-in-Init-clause-not_imported
+returns-in-Init-clause-not_imported g c = λ tells. absurd (subst TellsInRows c.in-Init.is tells)
+
+pub returns-in-Serve-clause-imported : goal.returns-in-Serve-clause-imported
+returns-in-Serve-clause-imported g c = λ tells. absurd (subst TellsInRows c.in-Serve.is tells)
+
+pub returns-in-Serve-clause-not_imported : goal.returns-in-Serve-clause-not_imported
+returns-in-Serve-clause-not_imported g c = λ tells. absurd (subst TellsInRows c.in-Serve.is tells)
+
+pub returns-in-File-clause-in_part : goal.returns-in-File-clause-in_part
+returns-in-File-clause-in_part g c = whole_is _ c.cat.result c.whole.result c.whole.ensures
+
+pub returns-in-Files-clause-in_part : goal.returns-in-Files-clause-in_part
+returns-in-Files-clause-in_part g c = whole_is _ c.list.result c.whole-in-Files.result c.whole-in-Files.ensures
+
+pub returns-in-Init-clause-in_part : goal.returns-in-Init-clause-in_part
+returns-in-Init-clause-in_part g c = whole_is _ c.init.result c.whole-in-Init.result c.whole-in-Init.ensures
+
+pub returns-in-Serve-clause-in_part : goal.returns-in-Serve-clause-in_part
+returns-in-Serve-clause-in_part g c = whole_is _ c.serve.result c.whole-in-Serve.result c.whole-in-Serve.ensures
+
+pub returns-in-Once-clause-done : goal.returns-in-Once-clause-done
+returns-in-Once-clause-done g c = λ kind slot asked. absurd (subst (IsFileAsk kind (codes "-") slot) c.in-Once.is asked)
+
+pub returns-in-Once-clause-refused : goal.returns-in-Once-clause-refused
+returns-in-Once-clause-refused g c = λ kind slot asked. absurd (subst (IsFileAsk kind (codes "-") slot) c.in-Once.is asked)
+
+pub returns-in-Once-clause-listed : goal.returns-in-Once-clause-listed
+returns-in-Once-clause-listed g c = λ kind asked. absurd (subst (IsFilesAsk kind (codes "-")) c.in-Once.is asked)
+
+pub returns-in-Once-clause-list_refused : goal.returns-in-Once-clause-list_refused
+returns-in-Once-clause-list_refused g c = λ kind asked. absurd (subst (IsFilesAsk kind (codes "-")) c.in-Once.is asked)
+
+pub returns-in-Once-clause-made : goal.returns-in-Once-clause-made
+returns-in-Once-clause-made g c = λ store key asked. absurd (subst (IsInitAsk store key) c.in-Once.is asked)
+
+pub returns-in-Once-clause-not_made : goal.returns-in-Once-clause-not_made
+returns-in-Once-clause-not_made g c = λ store key asked. absurd (subst (IsInitAsk store key) c.in-Once.is asked)
+
+pub returns-in-Once-clause-served : goal.returns-in-Once-clause-served
+returns-in-Once-clause-served g c = λ store port count minutes asked. absurd (subst (IsServeAsk store port count minutes) c.in-Once.is asked)
+
+pub returns-in-Once-clause-not_served : goal.returns-in-Once-clause-not_served
+returns-in-Once-clause-not_served g c = λ store port count minutes asked. absurd (subst (IsServeAsk store port count minutes) c.in-Once.is asked)
+
+pub returns-in-Once-clause-imported : goal.returns-in-Once-clause-imported
+returns-in-Once-clause-imported g c = λ asked. absurd (subst TellsInRows c.in-Once.is asked)
+
+pub returns-in-Once-clause-not_imported : goal.returns-in-Once-clause-not_imported
+returns-in-Once-clause-not_imported g c = λ asked. absurd (subst TellsInRows c.in-Once.is asked)
+
+pub returns-in-File-clause-checked : goal.returns-in-File-clause-checked
+returns-in-File-clause-checked g c = λ acc asked. absurd (subst (AsksCheckOf acc) c.in-File.is asked)
+
+pub returns-in-File-clause-not_answered : goal.returns-in-File-clause-not_answered
+returns-in-File-clause-not_answered g c = λ asked. absurd (subst AsksADesk c.in-File.is asked)
+
+pub returns-in-Files-clause-checked : goal.returns-in-Files-clause-checked
+returns-in-Files-clause-checked g c = λ acc asked. absurd (subst (AsksCheckOf acc) c.in-Files.is asked)
+
+pub returns-in-Files-clause-not_answered : goal.returns-in-Files-clause-not_answered
+returns-in-Files-clause-not_answered g c = λ asked. absurd (subst AsksADesk c.in-Files.is asked)
+
+pub returns-in-Init-clause-checked : goal.returns-in-Init-clause-checked
+returns-in-Init-clause-checked g c = λ acc asked. absurd (subst (AsksCheckOf acc) c.in-Init.is asked)
+
+pub returns-in-Init-clause-not_answered : goal.returns-in-Init-clause-not_answered
+returns-in-Init-clause-not_answered g c = λ asked. absurd (subst AsksADesk c.in-Init.is asked)
+
+pub returns-in-Serve-clause-checked : goal.returns-in-Serve-clause-checked
+returns-in-Serve-clause-checked g c = λ acc asked. absurd (subst (AsksCheckOf acc) c.in-Serve.is asked)
+
+pub returns-in-Serve-clause-not_answered : goal.returns-in-Serve-clause-not_answered
+returns-in-Serve-clause-not_answered g c = λ asked. absurd (subst AsksADesk c.in-Serve.is asked)
+
+pub returns-in-Import-clause-checked : goal.returns-in-Import-clause-checked
+returns-in-Import-clause-checked g c = λ acc asked. absurd (subst (AsksCheckOf acc) c.in-Import.is asked)
+
+pub returns-in-Import-clause-not_answered : goal.returns-in-Import-clause-not_answered
+returns-in-Import-clause-not_answered g c = λ asked. absurd (subst AsksADesk c.in-Import.is asked)
+
+pub returns-in-Once-clause-never : goal.returns-in-Once-clause-never
+returns-in-Once-clause-never g c = IfErr-weaker c.ask_once.result _ _ (λ refusal refused. once_never refusal _ _ refused) c.ask_once.ensures.refused
+
+pub returns-in-Once-clause-kept : goal.returns-in-Once-clause-kept
+returns-in-Once-clause-kept g c = IfErr-weaker c.ask_once.result _ _ (λ refusal refused one. inl (once_kept refusal _ _ refused one)) c.ask_once.ensures.refused
+
+pub returns-in-Once-clause-in_part : goal.returns-in-Once-clause-in_part
+returns-in-Once-clause-in_part g c =
+    subst (λ ask. IfOk c.ask_once.result (λ done. done ≡ InPart → TellsOnOutput ask)) (sym c.in-Once.is) c.ask_once.ensures.in_part
+
+pub returns-in-Once-clause-checked : goal.returns-in-Once-clause-checked
+returns-in-Once-clause-checked g c = λ acc asked. c.ask_once.ensures.told acc (subst (AsksCheckOf acc) c.in-Once.is asked)
+
+pub returns-in-Once-clause-not_answered : goal.returns-in-Once-clause-not_answered
+returns-in-Once-clause-not_answered g c = λ asked. c.ask_once.ensures.refused

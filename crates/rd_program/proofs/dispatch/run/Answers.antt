@@ -1,0 +1,329 @@
+use Rattle.std.proofs.Common.{◌≡◌, ◌∙◌, arith, codes, inl, inr, refl, subst, sym}
+use Rattle.std.specs.Prelude.{⊤}
+use Rattle.rd_program.specs.Asking.{TellsCheck}
+use Rattle.rd_program.specs.Input.{ReadsUpTo}
+use Rattle.rd_program.specs.Refusals.{status_of}
+use Rattle.rd_program.specs.Serving.{serve_text}
+use Rattle.rd_program.specs.Told.{Tells}
+use Rattle.rd_program.specs.declared.refusal.Refusal.TheVariants.{NoMemory}
+use Rattle.rd_program.proofs.Asked.{help_asked}
+use Rattle.std.proofs.KnownBytes.{Keeps-refl}
+use Rattle.rd_program.proofs.Answered.{check_asks, check_of_desk, export_asks, export_is_whole}
+use Rattle.rd_program.proofs.Imported.{done_lines, import_tells, in_part_is_one, not_in_rows, one_is_some, rows_of, rows_tell}
+use Rattle.rd_program.proofs.Ran.{is_cut, kept_is_cut, no_sound_file, not_done, of_all, of_known, reads_few, reads_no_input, reads_of_kind, tells}
+use Rattle.rd_program.proofs.ReadUpTo.{reads_none, reads_within}
+use Rattle.rd_program.proofs.Written.{none_written}
+use Rattle.rd_program.proofs.dispatch.run.Goals as goal
+
+pub returns-in-Ok-perform-clause-command : goal.returns-in-Ok-perform-clause-command
+returns-in-Ok-perform-clause-command g c = λ zero. inl c.in-Ok.ensures.taken
+
+pub returns-in-Ok-perform-clause-limit : goal.returns-in-Ok-perform-clause-limit
+returns-in-Ok-perform-clause-limit g c = reads_within _ _ _ _ (reads_few c.in-Ok.ask) c.perform.ensures.limit
+
+pub returns-in-Ok-perform-clause-limit_of_kind : goal.returns-in-Ok-perform-clause-limit_of_kind
+returns-in-Ok-perform-clause-limit_of_kind g c = λ kind asks.
+    subst (λ most. ReadsUpTo most (g.R.Read.remaining c.args.input.now) (g.R.Read.remaining c.perform.new.input))
+    (reads_of_kind _ c.in-Ok.ask kind c.in-Ok.ensures.read asks) c.perform.ensures.limit
+
+pub returns-in-Ok-perform-clause-limit_of_store : goal.returns-in-Ok-perform-clause-limit_of_store
+returns-in-Ok-perform-clause-limit_of_store g c = λ asks.
+    subst (λ most. ReadsUpTo most (g.R.Read.remaining c.args.input.now) (g.R.Read.remaining c.perform.new.input))
+    (reads_no_input _ c.in-Ok.ask c.in-Ok.ensures.read asks) c.perform.ensures.limit
+
+pub returns-in-Ok-perform-clause-done : goal.returns-in-Ok-perform-clause-done
+returns-in-Ok-perform-clause-done g c = λ zero kind slot asked.
+    c.in-Ok-perform.ensures.done kind slot (c.in-Ok.ensures.read.file kind (codes "-") slot asked)
+
+pub returns-in-Ok-perform-clause-listed : goal.returns-in-Ok-perform-clause-listed
+returns-in-Ok-perform-clause-listed g c = λ zero kind asked.
+    c.in-Ok-perform.ensures.listed kind (c.in-Ok.ensures.read.files kind (codes "-") asked)
+
+pub returns-in-Err-perform-clause-command : goal.returns-in-Err-perform-clause-command
+returns-in-Err-perform-clause-command g c = λ zero. absurd (not_done c.in-Err-perform.refused (sym c.tell_refusal.ensures.status ∙ zero))
+
+pub returns-in-Err-perform-clause-refused_command : goal.returns-in-Err-perform-clause-refused_command
+returns-in-Err-perform-clause-refused_command g c = λ one. c.in-Ok.ensures.taken
+
+pub returns-in-Err-perform-clause-silent : goal.returns-in-Err-perform-clause-silent
+returns-in-Err-perform-clause-silent g c = λ zero. absurd (not_done c.in-Err-perform.refused (sym c.tell_refusal.ensures.status ∙ zero))
+
+pub returns-in-Err-perform-clause-told : goal.returns-in-Err-perform-clause-told
+returns-in-Err-perform-clause-told g c = λ three. tells (λ _. ⊤) c.in-Err-perform.refused _ _ _ tt c.tell_refusal.ensures.status c.tell_refusal.ensures.told
+
+pub returns-in-Err-perform-clause-refused_told : goal.returns-in-Err-perform-clause-refused_told
+returns-in-Err-perform-clause-refused_told g c = λ one.
+    inl (tells (λ _. ⊤) c.in-Err-perform.refused _ _ _ tt c.tell_refusal.ensures.status c.tell_refusal.ensures.told)
+
+pub returns-in-Err-perform-clause-refused : goal.returns-in-Err-perform-clause-refused
+returns-in-Err-perform-clause-refused g c = λ one.
+    elim (c.in-Err-perform.ensures.kept (sym c.tell_refusal.ensures.status ∙ one)) [
+      | inl kept ↦ inl kept
+      | inr rows ↦ inr (c.in-Ok.ensures.told_on_output (rows_tell c.in-Ok.ask rows))
+    ]
+
+pub returns-in-Err-perform-clause-limit : goal.returns-in-Err-perform-clause-limit
+returns-in-Err-perform-clause-limit g c = reads_within _ _ _ _ (reads_few c.in-Ok.ask) c.perform.ensures.limit
+
+pub returns-in-Err-perform-clause-limit_of_kind : goal.returns-in-Err-perform-clause-limit_of_kind
+returns-in-Err-perform-clause-limit_of_kind g c = λ kind asks.
+    subst (λ most. ReadsUpTo most (g.R.Read.remaining c.args.input.now) (g.R.Read.remaining c.perform.new.input))
+    (reads_of_kind _ c.in-Ok.ask kind c.in-Ok.ensures.read asks) c.perform.ensures.limit
+
+pub returns-in-Err-perform-clause-limit_of_store : goal.returns-in-Err-perform-clause-limit_of_store
+returns-in-Err-perform-clause-limit_of_store g c = λ asks.
+    subst (λ most. ReadsUpTo most (g.R.Read.remaining c.args.input.now) (g.R.Read.remaining c.perform.new.input))
+    (reads_no_input _ c.in-Ok.ask c.in-Ok.ensures.read asks) c.perform.ensures.limit
+
+pub returns-in-Err-perform-clause-no_sound_file : goal.returns-in-Err-perform-clause-no_sound_file
+returns-in-Err-perform-clause-no_sound_file g c = λ one kind slot asked.
+    let status : status_of c.in-Err-perform.refused ≡ 1 = sym c.tell_refusal.ensures.status ∙ one in
+    of_known (g.R.Read.remaining c.args.input.now) (λ image. no_sound_file c.in-Err-perform.refused kind slot image _ _ status)
+    (c.in-Err-perform.ensures.refused kind slot (c.in-Ok.ensures.read.file kind (codes "-") slot asked))
+
+pub returns-in-Err-perform-clause-cut : goal.returns-in-Err-perform-clause-cut
+returns-in-Err-perform-clause-cut g c = λ three kind slot asked.
+    let status : status_of c.in-Err-perform.refused ≡ 3 = sym c.tell_refusal.ensures.status ∙ three in
+    of_known (g.R.Read.remaining c.args.input.now) (λ image. is_cut c.in-Err-perform.refused kind slot image _ _ status)
+    (c.in-Err-perform.ensures.refused kind slot (c.in-Ok.ensures.read.file kind (codes "-") slot asked))
+
+pub returns-in-Err-perform-clause-told_why : goal.returns-in-Err-perform-clause-told_why
+returns-in-Err-perform-clause-told_why g c = λ some kind slot asked.
+    of_known (g.R.Read.remaining c.args.input.now) (λ image why. tells _ c.in-Err-perform.refused _ _ _ why c.tell_refusal.ensures.status c.tell_refusal.ensures.told)
+    (c.in-Err-perform.ensures.refused kind slot (c.in-Ok.ensures.read.file kind (codes "-") slot asked))
+
+pub returns-in-Err-perform-clause-listed : goal.returns-in-Err-perform-clause-listed
+returns-in-Err-perform-clause-listed g c = λ zero. absurd (not_done c.in-Err-perform.refused (sym c.tell_refusal.ensures.status ∙ zero))
+
+pub returns-in-Err-perform-clause-list_told : goal.returns-in-Err-perform-clause-list_told
+returns-in-Err-perform-clause-list_told g c = λ some kind asked.
+    of_known (g.R.Read.remaining c.args.input.now) (λ image why. tells _ c.in-Err-perform.refused _ _ _ why c.tell_refusal.ensures.status c.tell_refusal.ensures.told)
+    (c.in-Err-perform.ensures.list_refused kind (c.in-Ok.ensures.read.files kind (codes "-") asked))
+
+pub returns-in-Err-clause-command : goal.returns-in-Err-clause-command
+returns-in-Err-clause-command g c = λ zero. inr (help_asked _ c.in-Err.unread (c.tell_unread.ensures.help zero) c.in-Err.ensures.told)
+
+pub returns-in-Err-clause-refused_command : goal.returns-in-Err-clause-refused_command
+returns-in-Err-clause-refused_command g c = λ one. absurd (c.tell_unread.ensures.not_refused one)
+
+pub returns-in-Err-clause-told : goal.returns-in-Err-clause-told
+returns-in-Err-clause-told g c = λ three.
+    subst (λ s. Tells (λ _. ⊤) s (g.E.Write.contents c.args.errors.now) (g.E.Write.contents c.tell_unread.new.errors)) (sym three) (c.tell_unread.ensures.told three)
+
+pub returns-in-Err-clause-refused_told : goal.returns-in-Err-clause-refused_told
+returns-in-Err-clause-refused_told g c = λ one. absurd (c.tell_unread.ensures.not_refused one)
+
+pub returns-in-Err-clause-refused : goal.returns-in-Err-clause-refused
+returns-in-Err-clause-refused g c = λ one. absurd (c.tell_unread.ensures.not_refused one)
+
+pub returns-in-Err-clause-limit : goal.returns-in-Err-clause-limit
+returns-in-Err-clause-limit g c = reads_none _ _
+
+pub returns-in-Err-clause-limit_of_kind : goal.returns-in-Err-clause-limit_of_kind
+returns-in-Err-clause-limit_of_kind g c = λ kind asks. reads_none _ _
+
+pub returns-in-Err-clause-limit_of_store : goal.returns-in-Err-clause-limit_of_store
+returns-in-Err-clause-limit_of_store g c = λ asks. reads_none _ _
+
+pub returns-in-Err-clause-done : goal.returns-in-Err-clause-done
+returns-in-Err-clause-done g c = λ zero kind slot asked.
+    let memory = c.tell_unread.ensures.memory (c.in-Err.ensures.unread (inl (kind, codes "-", slot, asked))) in
+    let three : c.tell_unread.result ≡ 3 = memory.0 in absurd (omega arith)
+
+pub returns-in-Err-clause-usage : goal.returns-in-Err-clause-usage
+returns-in-Err-clause-usage g c = λ two command.
+    let memory = c.tell_unread.ensures.memory (c.in-Err.ensures.unread command) in
+    let three : c.tell_unread.result ≡ 3 = memory.0 in omega arith
+
+pub returns-in-Err-clause-cut : goal.returns-in-Err-clause-cut
+returns-in-Err-clause-cut g c = λ three kind slot asked.
+    let memory = c.tell_unread.ensures.memory (c.in-Err.ensures.unread (inl (kind, codes "-", slot, asked))) in
+    kept_is_cut _ kind slot _ _ memory.1
+
+pub returns-in-Err-clause-told_why : goal.returns-in-Err-clause-told_why
+returns-in-Err-clause-told_why g c = λ some kind slot asked.
+    let none = c.in-Err.ensures.unread (inl (kind, codes "-", slot, asked)) in
+    let memory = c.tell_unread.ensures.memory none in
+    of_all (g.R.Read.remaining c.args.input.now) (λ image. tells _ NoMemory _ _ _ memory.1 memory.0 (c.tell_unread.ensures.no_memory none))
+
+pub returns-in-Err-clause-listed : goal.returns-in-Err-clause-listed
+returns-in-Err-clause-listed g c = λ zero kind asked.
+    let memory = c.tell_unread.ensures.memory (c.in-Err.ensures.unread (inr (inl (kind, codes "-", asked)))) in
+    let three : c.tell_unread.result ≡ 3 = memory.0 in absurd (omega arith)
+
+pub returns-in-Err-clause-list_told : goal.returns-in-Err-clause-list_told
+returns-in-Err-clause-list_told g c = λ some kind asked.
+    let none = c.in-Err.ensures.unread (inr (inl (kind, codes "-", asked))) in
+    let memory = c.tell_unread.ensures.memory none in
+    of_all (g.R.Read.remaining c.args.input.now) (λ image. tells _ NoMemory _ _ _ memory.1 memory.0 (c.tell_unread.ensures.no_memory none))
+
+pub returns-in-Ok-perform-clause-made : goal.returns-in-Ok-perform-clause-made
+returns-in-Ok-perform-clause-made g c = λ zero store key asked. c.in-Ok-perform.ensures.made store key (c.in-Ok.ensures.read.init store key asked)
+
+pub returns-in-Ok-perform-clause-served : goal.returns-in-Ok-perform-clause-served
+returns-in-Ok-perform-clause-served g c = λ zero store port count minutes asked.
+    c.in-Ok-perform.ensures.served store port count minutes (c.in-Ok.ensures.read.serve store port count minutes asked)
+
+pub returns-in-Err-perform-clause-made : goal.returns-in-Err-perform-clause-made
+returns-in-Err-perform-clause-made g c = λ zero. absurd (not_done c.in-Err-perform.refused (sym c.tell_refusal.ensures.status ∙ zero))
+
+pub returns-in-Err-perform-clause-init_told : goal.returns-in-Err-perform-clause-init_told
+returns-in-Err-perform-clause-init_told g c = λ some store key asked.
+    tells _ c.in-Err-perform.refused _ _ _ (c.in-Err-perform.ensures.not_made store key (c.in-Ok.ensures.read.init store key asked))
+    c.tell_refusal.ensures.status c.tell_refusal.ensures.told
+
+pub returns-in-Err-perform-clause-served : goal.returns-in-Err-perform-clause-served
+returns-in-Err-perform-clause-served g c = λ zero. absurd (not_done c.in-Err-perform.refused (sym c.tell_refusal.ensures.status ∙ zero))
+
+pub returns-in-Err-perform-clause-serve_told : goal.returns-in-Err-perform-clause-serve_told
+returns-in-Err-perform-clause-serve_told g c = λ some store port count minutes asked.
+    tells _ c.in-Err-perform.refused _ _ _ (c.in-Err-perform.ensures.not_served store port count minutes (c.in-Ok.ensures.read.serve store port count minutes asked))
+    c.tell_refusal.ensures.status c.tell_refusal.ensures.told
+
+pub returns-in-Err-clause-made : goal.returns-in-Err-clause-made
+returns-in-Err-clause-made g c = λ zero store key asked.
+    let memory = c.tell_unread.ensures.memory (c.in-Err.ensures.unread (inr (inr (inl (store, key, asked))))) in
+    let three : c.tell_unread.result ≡ 3 = memory.0 in absurd (omega arith)
+
+pub returns-in-Err-clause-init_told : goal.returns-in-Err-clause-init_told
+returns-in-Err-clause-init_told g c = λ some store key asked.
+    let none = c.in-Err.ensures.unread (inr (inr (inl (store, key, asked)))) in
+    let memory = c.tell_unread.ensures.memory none in
+    tells _ NoMemory _ _ _ ((memory.1, inr (inr refl)), tt) memory.0 (c.tell_unread.ensures.no_memory none)
+
+pub returns-in-Err-clause-served : goal.returns-in-Err-clause-served
+returns-in-Err-clause-served g c = λ zero store port count minutes asked.
+    let memory = c.tell_unread.ensures.memory (c.in-Err.ensures.unread (inr (inr (inr (inl (store, port, count, minutes, asked)))))) in
+    let three : c.tell_unread.result ≡ 3 = memory.0 in absurd (omega arith)
+
+pub returns-in-Err-clause-serve_told : goal.returns-in-Err-clause-serve_told
+returns-in-Err-clause-serve_told g c = λ some store port count minutes asked.
+    let none = c.in-Err.ensures.unread (inr (inr (inr (inl (store, port, count, minutes, asked))))) in
+    let memory = c.tell_unread.ensures.memory none in
+    tells _ NoMemory _ _ _ (none_written _ _ (serve_text port count) memory.1) memory.0 (c.tell_unread.ensures.no_memory none)
+
+-- ---- what was done in part
+
+pub returns-in-Ok-perform-clause-refused_command : goal.returns-in-Ok-perform-clause-refused_command
+returns-in-Ok-perform-clause-refused_command g c = λ one. c.in-Ok.ensures.taken
+
+pub returns-in-Ok-perform-clause-told : goal.returns-in-Ok-perform-clause-told
+returns-in-Ok-perform-clause-told g c = λ three. absurd (omega (arith, c.status.ensures.most, three))
+
+pub returns-in-Ok-perform-clause-refused_told : goal.returns-in-Ok-perform-clause-refused_told
+returns-in-Ok-perform-clause-refused_told g c = λ one.
+    inr (Keeps-refl _, c.in-Ok.ensures.told_on_output (c.in-Ok-perform.ensures.in_part (c.status.ensures.in_part (one_is_some one))))
+
+pub returns-in-Ok-perform-clause-refused : goal.returns-in-Ok-perform-clause-refused
+returns-in-Ok-perform-clause-refused g c = λ one.
+    inr (c.in-Ok.ensures.told_on_output (c.in-Ok-perform.ensures.in_part (c.status.ensures.in_part (one_is_some one))))
+
+pub returns-in-Ok-perform-clause-no_sound_file : goal.returns-in-Ok-perform-clause-no_sound_file
+returns-in-Ok-perform-clause-no_sound_file g c = λ one kind slot asked.
+    absurd (not_in_rows _ c.in-Ok.ask c.in-Ok.ensures.read (c.in-Ok-perform.ensures.in_part (c.status.ensures.in_part (one_is_some one))) (inl (kind, codes "-", slot, asked)))
+
+pub returns-in-Ok-perform-clause-told_why : goal.returns-in-Ok-perform-clause-told_why
+returns-in-Ok-perform-clause-told_why g c = λ some kind slot asked.
+    absurd (not_in_rows _ c.in-Ok.ask c.in-Ok.ensures.read (c.in-Ok-perform.ensures.in_part (c.status.ensures.in_part some)) (inl (kind, codes "-", slot, asked)))
+
+pub returns-in-Ok-perform-clause-list_told : goal.returns-in-Ok-perform-clause-list_told
+returns-in-Ok-perform-clause-list_told g c = λ some kind asked.
+    absurd (not_in_rows _ c.in-Ok.ask c.in-Ok.ensures.read (c.in-Ok-perform.ensures.in_part (c.status.ensures.in_part some)) (inr (inl (kind, codes "-", asked))))
+
+pub returns-in-Ok-perform-clause-init_told : goal.returns-in-Ok-perform-clause-init_told
+returns-in-Ok-perform-clause-init_told g c = λ some store key asked.
+    absurd (not_in_rows _ c.in-Ok.ask c.in-Ok.ensures.read (c.in-Ok-perform.ensures.in_part (c.status.ensures.in_part some)) (inr (inr (inl (store, key, asked)))))
+
+pub returns-in-Ok-perform-clause-serve_told : goal.returns-in-Ok-perform-clause-serve_told
+returns-in-Ok-perform-clause-serve_told g c = λ some store port count minutes asked.
+    absurd (not_in_rows _ c.in-Ok.ask c.in-Ok.ensures.read (c.in-Ok-perform.ensures.in_part (c.status.ensures.in_part some)) (inr (inr (inr (store, port, count, minutes, asked)))))
+
+pub returns-in-Ok-perform-clause-usage : goal.returns-in-Ok-perform-clause-usage
+returns-in-Ok-perform-clause-usage g c = λ two. absurd (omega (arith, c.status.ensures.most, two))
+
+pub returns-in-Ok-perform-clause-usage_keeps : goal.returns-in-Ok-perform-clause-usage_keeps
+returns-in-Ok-perform-clause-usage_keeps g c = λ two. absurd (omega (arith, c.status.ensures.most, two))
+
+pub returns-in-Ok-perform-clause-cut : goal.returns-in-Ok-perform-clause-cut
+returns-in-Ok-perform-clause-cut g c = λ three. absurd (omega (arith, c.status.ensures.most, three))
+
+-- ---- an import
+
+pub returns-in-Ok-perform-clause-imported : goal.returns-in-Ok-perform-clause-imported
+returns-in-Ok-perform-clause-imported g c = λ zero asks.
+    done_lines c.in-Ok-perform.done _ _ (c.status.ensures.whole zero) (c.in-Ok-perform.ensures.imported (import_tells _ c.in-Ok.ask c.in-Ok.ensures.read asks))
+
+pub returns-in-Ok-perform-clause-import_told : goal.returns-in-Ok-perform-clause-import_told
+returns-in-Ok-perform-clause-import_told g c = λ some asks.
+    inl (
+      in_part_is_one _ c.status.ensures.most some,
+      Keeps-refl _,
+      rows_of c.in-Ok-perform.done _ _ (c.in-Ok-perform.ensures.imported (import_tells _ c.in-Ok.ask c.in-Ok.ensures.read asks)),
+    )
+
+pub returns-in-Err-perform-clause-imported : goal.returns-in-Err-perform-clause-imported
+returns-in-Err-perform-clause-imported g c = λ zero. absurd (not_done c.in-Err-perform.refused (sym c.tell_refusal.ensures.status ∙ zero))
+
+pub returns-in-Err-perform-clause-import_told : goal.returns-in-Err-perform-clause-import_told
+returns-in-Err-perform-clause-import_told g c = λ some asks.
+    inr (tells _ c.in-Err-perform.refused _ _ _ (c.in-Err-perform.ensures.not_imported (import_tells _ c.in-Ok.ask c.in-Ok.ensures.read asks))
+    c.tell_refusal.ensures.status c.tell_refusal.ensures.told)
+
+pub returns-in-Err-clause-imported : goal.returns-in-Err-clause-imported
+returns-in-Err-clause-imported g c = λ zero asks.
+    let memory = c.tell_unread.ensures.memory (c.in-Err.ensures.unread (inr (inr (inr (inr (inl asks)))))) in
+    let three : c.tell_unread.result ≡ 3 = memory.0 in absurd (omega arith)
+
+pub returns-in-Err-clause-import_told : goal.returns-in-Err-clause-import_told
+returns-in-Err-clause-import_told g c = λ some asks.
+    let none = c.in-Err.ensures.unread (inr (inr (inr (inr (inl asks))))) in
+    let memory = c.tell_unread.ensures.memory none in
+    inr (tells _ NoMemory _ _ _ (inr (inl (inr (inr (inr (inr refl)))), memory.1)) memory.0 (c.tell_unread.ensures.no_memory none))
+
+-- ---- a desk that is asked once
+
+pub returns-in-Ok-perform-clause-sound : goal.returns-in-Ok-perform-clause-sound
+returns-in-Ok-perform-clause-sound g c = λ zero acc asks.
+    subst (TellsCheck acc _ _) (c.status.ensures.whole zero) (c.in-Ok-perform.ensures.checked acc (check_asks _ acc c.in-Ok.ask c.in-Ok.ensures.read asks))
+
+pub returns-in-Ok-perform-clause-check_told : goal.returns-in-Ok-perform-clause-check_told
+returns-in-Ok-perform-clause-check_told g c = λ some acc asks.
+    inl (
+      in_part_is_one _ c.status.ensures.most some,
+      Keeps-refl _,
+      subst (TellsCheck acc _ _) (c.status.ensures.in_part some) (c.in-Ok-perform.ensures.checked acc (check_asks _ acc c.in-Ok.ask c.in-Ok.ensures.read asks)),
+    )
+
+pub returns-in-Ok-perform-clause-export_told : goal.returns-in-Ok-perform-clause-export_told
+returns-in-Ok-perform-clause-export_told g c = λ some asks.
+    absurd (export_is_whole _ c.in-Ok.ask c.in-Ok.ensures.read asks (c.in-Ok-perform.ensures.in_part (c.status.ensures.in_part some)))
+
+pub returns-in-Err-perform-clause-sound : goal.returns-in-Err-perform-clause-sound
+returns-in-Err-perform-clause-sound g c = λ zero. absurd (not_done c.in-Err-perform.refused (sym c.tell_refusal.ensures.status ∙ zero))
+
+pub returns-in-Err-perform-clause-check_told : goal.returns-in-Err-perform-clause-check_told
+returns-in-Err-perform-clause-check_told g c = λ some acc asks.
+    let asked = check_of_desk acc c.in-Ok.ask (check_asks _ acc c.in-Ok.ask c.in-Ok.ensures.read asks) in
+    inr (tells _ c.in-Err-perform.refused _ _ _ (c.in-Err-perform.ensures.not_answered asked) c.tell_refusal.ensures.status c.tell_refusal.ensures.told)
+
+pub returns-in-Err-perform-clause-export_told : goal.returns-in-Err-perform-clause-export_told
+returns-in-Err-perform-clause-export_told g c = λ some asks.
+    tells _ c.in-Err-perform.refused _ _ _ (c.in-Err-perform.ensures.not_answered (export_asks _ c.in-Ok.ask c.in-Ok.ensures.read asks))
+    c.tell_refusal.ensures.status c.tell_refusal.ensures.told
+
+pub returns-in-Err-clause-sound : goal.returns-in-Err-clause-sound
+returns-in-Err-clause-sound g c = λ zero acc asks.
+    let memory = c.tell_unread.ensures.memory (c.in-Err.ensures.unread (inr (inr (inr (inr (inr (inr (acc, asks)))))))) in
+    let three : c.tell_unread.result ≡ 3 = memory.0 in absurd (omega arith)
+
+pub returns-in-Err-clause-check_told : goal.returns-in-Err-clause-check_told
+returns-in-Err-clause-check_told g c = λ some acc asks.
+    let none = c.in-Err.ensures.unread (inr (inr (inr (inr (inr (inr (acc, asks))))))) in
+    let memory = c.tell_unread.ensures.memory none in
+    inr (tells _ NoMemory _ _ _ (inl (inr (inl (inr refl)), memory.1)) memory.0 (c.tell_unread.ensures.no_memory none))
+
+pub returns-in-Err-clause-export_told : goal.returns-in-Err-clause-export_told
+returns-in-Err-clause-export_told g c = λ some asks.
+    let none = c.in-Err.ensures.unread (inr (inr (inr (inr (inr (inl asks)))))) in
+    let memory = c.tell_unread.ensures.memory none in
+    tells _ NoMemory _ _ _ (inl (inr (inl (inr refl)), memory.1)) memory.0 (c.tell_unread.ensures.no_memory none)

@@ -1,0 +1,281 @@
+-- What is read of the words of a command.
+use Rattle.std.specs.Prelude.{◌≡◌, ◌+◌, ◌⊎◌, ⊤, ℕ, ℤ, List, None, Ok, Option, Some, codes, option_map}
+use Rattle.std.specs.Int.{w64}
+use Rattle.std.specs.Str.Parse.{ParsesSigned, ParsesUnsigned}
+use Rattle.std.specs.declared.num.ParseIntError.{ParseIntError}
+use Rattle.clap.specs.Values.{kind_of}
+use Rattle.clap.specs.Words.{Row, Text, first_of, one_of}
+use Rattle.clap.specs.declared.error.kind.ErrorKind.TheVariants.{DisplayHelp}
+use Rattle.rd_geometry.specs.declared.kind.Kind.{Kind}
+use Rattle.httparse.specs.Grammar.{trim_ows}
+use Rattle.rd_geometry.specs.Kinds.{size_of, word_of}
+use Rattle.rd_policy.specs.Days.{IsOffset}
+use Rattle.rd_policy.specs.Rules.{IsScope}
+use Rattle.rd_program.specs.declared.words.Ask.{Ask}
+use Rattle.rd_program.specs.declared.words.Ask.TheVariants.{File, Files, Import, Init, Once, Serve}
+use Rattle.rd_program.specs.declared.words.FileAsk.{FileAsk}
+use Rattle.rd_program.specs.declared.words.ImageAsk.{ImageAsk}
+use Rattle.rd_program.specs.declared.words.ImportAsk.{ImportAsk}
+use Rattle.rd_program.specs.declared.words.InitAsk.{InitAsk}
+use Rattle.rd_program.specs.declared.words.OnceAsk.{OnceAsk}
+use Rattle.rd_program.specs.declared.words.Question.{Question}
+use Rattle.rd_program.specs.declared.words.Question.TheVariants as question
+use Rattle.rd_program.specs.declared.words.ServeAsk.{ServeAsk}
+use Rattle.rd_program.specs.declared.words.Unread.{Unread}
+use Rattle.rd_program.specs.declared.words.WhenAsk.{WhenAsk}
+use Rattle.rd_program.specs.declared.words.Unread.TheVariants.{Told, Usage, NoMemory}
+use Rattle.rd_program.specs.CommandLine.{HasFault}
+use Rattle.rd_program.specs.Offsets.{offset_told}
+use Rattle.rd_program.specs.Words.{IsSlotText}
+
+-- the file at the slot of the image of the kind is asked for
+pub record AsksFile (ask : FileAsk) (kind : Kind) (image : List ℕ) (slot : ℕ) : Type 0 where
+  pub kind_is : ask.kind ≡ kind
+  pub image_is : ask.image.now ≡ image
+  pub slot_is : ask.slot ≡ slot
+
+-- the files of the image of the kind are asked for
+pub record AsksFiles (ask : ImageAsk) (kind : Kind) (image : List ℕ) : Type 0 where
+  pub kind_is : ask.kind ≡ kind
+  pub image_is : ask.image.now ≡ image
+
+-- a desk in the file of the store is asked for, with this key without the blanks and tabs at both ends
+pub record AsksNew (ask : InitAsk) (store key : List ℕ) : Type 0 where
+  pub store_is : ask.store.now ≡ store
+  pub key_is : ask.key.now ≡ trim_ows key
+
+-- so many visits are asked for, at the port, of the desk in the file of the store, whose clocks are so far ahead of UTC
+pub record AsksVisits (ask : ServeAsk) (store : List ℕ) (port count : ℕ) (minutes : ℤ) : Type 0 where
+  pub store_is : ask.store.now ≡ store
+  pub port_is : ask.port ≡ port
+  pub count_is : ask.count ≡ count
+  pub minutes_are : ask.offset_minutes ≡ minutes
+
+-- a moment is told, in seconds since 1970-01-01T00:00:00 UTC, or none, for clocks that are so many minutes ahead of UTC
+pub record AsksWhen (ask : WhenAsk) (moment : Option ℤ) (minutes : ℤ) : Type 0 where
+  pub moment_is : ask.seconds ≡ moment
+  pub minutes_are : ask.offset_minutes ≡ minutes
+
+-- The images of the sheet are to be taken in by the desk in the file of the store, for a caller with this key without the
+-- blanks and tabs at both ends, at that moment by these clocks.
+pub record AsksImages (ask : ImportAsk) (store key sheet : List ℕ) (moment : Option ℤ) (minutes : ℤ) : Type 0 where
+  pub store_is : ask.store.now ≡ store
+  pub key_is : ask.key.now ≡ trim_ows key
+  pub sheet_is : ask.sheet.now ≡ sheet
+  pub when_is : AsksWhen ask.when moment minutes
+
+-- The desk in the file of the store is asked this once, by a caller with this key without the blanks and tabs at both ends,
+-- or without one, at that moment by these clocks.
+pub record AsksOnce (ask : OnceAsk) (store : List ℕ) (key : Option (List ℕ)) (question : Question) (moment : Option ℤ) (minutes : ℤ) : Type 0 where
+  pub store_is : ask.store.now ≡ store
+  pub key_is : option_map (λ key. key.now) ask.key ≡ option_map trim_ows key
+  pub question_is : ask.question ≡ question
+  pub when_is : AsksWhen ask.when moment minutes
+
+-- what is asked for is the file at the slot of the image of the kind
+abbrev pub IsFileAsk : Kind → List ℕ → ℕ → Ask → Type 0
+IsFileAsk kind image slot (File ask) = AsksFile ask kind image slot
+IsFileAsk kind image slot _ = ⊥
+
+-- what is asked for is the files of the image of the kind
+abbrev pub IsFilesAsk : Kind → List ℕ → Ask → Type 0
+IsFilesAsk kind image (Files ask) = AsksFiles ask kind image
+IsFilesAsk kind image _ = ⊥
+
+-- what is asked for is a desk in the file of the store, with the key
+abbrev pub IsInitAsk : List ℕ → List ℕ → Ask → Type 0
+IsInitAsk store key (Init ask) = AsksNew ask store key
+IsInitAsk store key _ = ⊥
+
+-- what is asked for is so many visits at the port, of the desk in the file of the store, by its clocks
+abbrev pub IsServeAsk : List ℕ → ℕ → ℕ → ℤ → Ask → Type 0
+IsServeAsk store port count minutes (Serve ask) = AsksVisits ask store port count minutes
+IsServeAsk store port count minutes _ = ⊥
+
+-- what is asked for is that the images of the sheet are taken in by the desk in the file of the store, for the key
+abbrev pub IsImportAsk : List ℕ → List ℕ → List ℕ → Option ℤ → ℤ → Ask → Type 0
+IsImportAsk store key sheet moment minutes (Import ask) = AsksImages ask store key sheet moment minutes
+IsImportAsk store key sheet moment minutes _ = ⊥
+
+-- what is asked for is an answer of the desk in the file of the store
+abbrev pub IsOnceAsk : List ℕ → Option (List ℕ) → Question → Option ℤ → ℤ → Ask → Type 0
+IsOnceAsk store key question moment minutes (Once ask) = AsksOnce ask store key question moment minutes
+IsOnceAsk store key question moment minutes _ = ⊥
+
+-- a desk is asked once
+abbrev pub AsksADesk : Ask → Type 0
+AsksADesk (Once ask) = ⊤
+AsksADesk _ = ⊥
+
+-- it is asked what a check of this accession finds
+abbrev pub IsCheckOf : ℕ → Question → Type 0
+IsCheckOf acc (question.Check accession) = accession ≡ acc
+IsCheckOf acc question.Catalogue = ⊥
+
+abbrev pub AsksCheckOf : ℕ → Ask → Type 0
+AsksCheckOf acc (Once ask) = IsCheckOf acc ask.question
+AsksCheckOf acc _ = ⊥
+
+-- it is asked for the catalogue, or for a check
+abbrev pub IsCheck : Question → Type 0
+IsCheck (question.Check accession) = ⊤
+IsCheck question.Catalogue = ⊥
+
+-- an accession that is asked for is a number of one
+abbrev pub IsAskable : Question → Type 0
+IsAskable (question.Check accession) = IsScope accession
+IsAskable question.Catalogue = ⊤
+
+-- where not all is well the output tells it: what became of a row, or that an image is changed
+abbrev pub TellsOnOutput : Ask → Type 0
+TellsOnOutput (Import ask) = ⊤
+TellsOnOutput (Once ask) = IsCheck ask.question
+TellsOnOutput _ = ⊥
+
+-- what is asked for is done in rows, of each of which a line tells what became of it
+abbrev pub TellsInRows : Ask → Type 0
+TellsInRows (Import ask) = ⊤
+TellsInRows _ = ⊥
+
+-- an offset that is asked for is one of clocks, and an accession is a number of one
+abbrev pub HasOffset : Ask → Type 0
+HasOffset (Serve ask) = IsOffset ask.offset_minutes
+HasOffset (Import ask) = IsOffset ask.when.offset_minutes
+HasOffset (Once ask) = IsOffset ask.when.offset_minutes × IsAskable ask.question
+HasOffset _ = ⊤
+
+-- how many bytes of the input are read at most: one more than the image that is asked for has, and else none
+abbrev pub most_read : Ask → ℕ
+most_read (File ask) = size_of ask.kind + 1
+most_read (Files ask) = size_of ask.kind + 1
+most_read (Init ask) = 0
+most_read (Serve ask) = 0
+most_read (Import ask) = 0
+most_read (Once ask) = 0
+
+-- what is told of the words is help
+abbrev pub IsHelp : Unread → Type 0
+IsHelp (Told error) = kind_of error ≡ DisplayHelp
+IsHelp Usage = ⊥
+IsHelp NoMemory = ⊥
+
+-- what is told of the words is a fault that `clap` finds in them
+abbrev pub IsFaultOf : List Text → Unread → Type 0
+IsFaultOf words (Told error) = HasFault words (kind_of error)
+IsFaultOf words Usage = Unit {0}
+IsFaultOf words NoMemory = Unit {0}
+
+-- the operands that `clap` found for `cat`
+pub record AreCatRows (rows : List Row) (kind : Kind) (image : List ℕ) (slot : ℕ) : Type 0 where
+  pub kind_found : first_of (codes "KIND") rows ≡ Some (word_of kind)
+  pub image_found : first_of (codes "IMAGE") rows ≡ Some image
+  pub slot_text : List ℕ
+  pub slot_found : one_of (codes "SLOT") rows ≡ Some slot_text
+  pub number : IsSlotText slot_text slot
+
+-- the parse went into `cat`, and found its operands
+pub record EntersCat (entered : Option (Text × List Row)) (kind : Kind) (image : List ℕ) (slot : ℕ)
+    : Type 0 where
+  pub rows : List Row
+  pub into : entered ≡ Some (codes "cat", rows)
+  pub found : AreCatRows rows kind image slot
+
+-- the operands that `clap` found for `list`
+pub record AreListRows (rows : List Row) (kind : Kind) (image : List ℕ) : Type 0 where
+  pub kind_found : first_of (codes "KIND") rows ≡ Some (word_of kind)
+  pub image_found : first_of (codes "IMAGE") rows ≡ Some image
+
+-- the parse went into `list`, and found its operands
+pub record EntersList (entered : Option (Text × List Row)) (kind : Kind) (image : List ℕ)
+    : Type 0 where
+  pub rows : List Row
+  pub into : entered ≡ Some (codes "list", rows)
+  pub found : AreListRows rows kind image
+
+-- the options that `clap` found for `init`
+pub record AreInitRows (rows : List Row) (store key : List ℕ) : Type 0 where
+  pub store_found : first_of (codes "store") rows ≡ Some store
+  pub key_found : first_of (codes "key") rows ≡ Some key
+
+-- the parse went into `init`, and found its options
+pub record EntersInit (entered : Option (Text × List Row)) (store key : List ℕ) : Type 0 where
+  pub rows : List Row
+  pub into : entered ≡ Some (codes "init", rows)
+  pub found : AreInitRows rows store key
+
+-- the options that `clap` found for `serve`: of the numbers the texts, and of the offset one that may be absent
+pub record AreServeRows (rows : List Row) (store : List ℕ) (port count : ℕ) (minutes : ℤ) : Type 0 where
+  pub store_found : first_of (codes "store") rows ≡ Some store
+  pub port_text : List ℕ
+  pub port_found : one_of (codes "port") rows ≡ Some port_text
+  pub port_number : ParsesUnsigned {E = ParseIntError} 16 10 port_text (Ok port)
+  pub count_text : List ℕ
+  pub count_found : one_of (codes "count") rows ≡ Some count_text
+  pub count_number : ParsesUnsigned {E = ParseIntError} 32 10 count_text (Ok count)
+  pub minutes_told : offset_told (first_of (codes "offset") rows) ≡ Some minutes
+
+-- the parse went into `serve`, and found its options
+pub record EntersServe (entered : Option (Text × List Row)) (store : List ℕ) (port count : ℕ) (minutes : ℤ) : Type 0 where
+  pub rows : List Row
+  pub into : entered ≡ Some (codes "serve", rows)
+  pub found : AreServeRows rows store port count minutes
+
+-- what the option for a moment tells: nothing where it is absent, and else the number that its text writes
+abbrev pub IsMomentTold : Option (List ℕ) → Option ℤ → Type 0
+IsMomentTold (Some text) moment = (seconds : ℤ) × ParsesSigned {E = ParseIntError} w64 10 text (Ok seconds) × (moment ≡ Some seconds)
+IsMomentTold None moment = moment ≡ None
+
+-- the options that `clap` found for `import`: of the moment and the offset those that are there
+pub record AreImportRows (rows : List Row) (store key sheet : List ℕ) (moment : Option ℤ) (minutes : ℤ) : Type 0 where
+  pub store_found : first_of (codes "store") rows ≡ Some store
+  pub key_found : first_of (codes "key") rows ≡ Some key
+  pub sheet_found : first_of (codes "sheet") rows ≡ Some sheet
+  pub moment_told : IsMomentTold (one_of (codes "at") rows) moment
+  pub minutes_told : offset_told (first_of (codes "offset") rows) ≡ Some minutes
+
+-- the parse went into `import`, and found its options
+pub record EntersImport (entered : Option (Text × List Row)) (store key sheet : List ℕ) (moment : Option ℤ) (minutes : ℤ)
+    : Type 0 where
+  pub rows : List Row
+  pub into : entered ≡ Some (codes "import", rows)
+  pub found : AreImportRows rows store key sheet moment minutes
+
+-- the parse went into the command of this name
+abbrev pub EntersAs : Text → Option (Text × List Row) → Type 0
+EntersAs name entered = (rows : List Row) × (entered ≡ Some (name, rows))
+
+-- the options that `clap` found for `export`: of the key, the moment and the offset those that are there
+pub record AreExportRows (rows : List Row) (store : List ℕ) (key : Option (List ℕ)) (moment : Option ℤ) (minutes : ℤ) : Type 0 where
+  pub store_found : first_of (codes "store") rows ≡ Some store
+  pub key_told : first_of (codes "key") rows ≡ key
+  pub moment_told : IsMomentTold (one_of (codes "at") rows) moment
+  pub minutes_told : offset_told (first_of (codes "offset") rows) ≡ Some minutes
+
+-- the parse went into `export`, and found its options
+pub record EntersExport (entered : Option (Text × List Row)) (store : List ℕ) (key : Option (List ℕ)) (moment : Option ℤ) (minutes : ℤ)
+    : Type 0 where
+  pub rows : List Row
+  pub into : entered ≡ Some (codes "export", rows)
+  pub found : AreExportRows rows store key moment minutes
+
+-- the options that `clap` found for `check`: of the moment and the offset those that are there
+pub record AreCheckRows (rows : List Row) (store key : List ℕ) (acc : ℕ) (moment : Option ℤ) (minutes : ℤ) : Type 0 where
+  pub store_found : first_of (codes "store") rows ≡ Some store
+  pub key_found : first_of (codes "key") rows ≡ Some key
+  pub acc_text : List ℕ
+  pub acc_found : one_of (codes "acc") rows ≡ Some acc_text
+  pub acc_number : ParsesUnsigned {E = ParseIntError} 32 10 acc_text (Ok acc)
+  pub acc_within : IsScope acc
+  pub moment_told : IsMomentTold (one_of (codes "at") rows) moment
+  pub minutes_told : offset_told (first_of (codes "offset") rows) ≡ Some minutes
+
+-- the parse went into `check`, and found its options
+pub record EntersCheck (entered : Option (Text × List Row)) (store key : List ℕ) (acc : ℕ) (moment : Option ℤ) (minutes : ℤ)
+    : Type 0 where
+  pub rows : List Row
+  pub into : entered ≡ Some (codes "check", rows)
+  pub found : AreCheckRows rows store key acc moment minutes
+
+-- the parse went into a command that tells on the output where not all is well
+abbrev pub EntersTelling : Option (Text × List Row) → Type 0
+EntersTelling entered = EntersAs (codes "import") entered ⊎ EntersAs (codes "check") entered

@@ -1,0 +1,17 @@
+pub mod Words
+pub mod CommandLine
+pub mod Offsets
+pub mod Asks
+pub mod Commands
+pub mod Refusals
+pub mod Output
+pub mod Input
+pub mod Cat
+pub mod Printed
+pub mod Listed
+pub mod Told
+pub mod Inits
+pub mod Serving
+pub mod Sheets
+pub mod Importing
+pub mod Asking

@@ -1,0 +1,46 @@
+-- What the command `serve` gives.
+use Rattle.std.specs.Prelude.{◌≡◌, ◌⊎◌, ℕ, List, Option, ◌++◌, codes}
+use Rattle.std.specs.Fmt.{decimal}
+use Rattle.std.specs.Io.KnownBytes.{Appends, Keeps}
+use Rattle.rd_http.specs.declared.serve.Ended.{Ended}
+use Rattle.rd_http.specs.declared.serve.Ended.TheVariants as ended
+use Rattle.rd_program.specs.Output.{AppendsPart}
+use Rattle.rd_program.specs.Printed.{line_feed}
+use Rattle.rd_program.specs.Refusals.{IsOfDevice}
+use Rattle.rd_program.specs.declared.refusal.Refusal.{Refusal}
+use Rattle.rd_program.specs.declared.refusal.Refusal.TheVariants.{Clock, Device, Inconsistent, NoMemory, NotADesk, Store, Version}
+
+-- the line that tells at which port of the machine itself visits come
+abbrev pub listening_line : ℕ → List ℕ
+listening_line port = codes "listening 127.0.0.1:" ++ (decimal port ++ line_feed)
+
+-- the line that tells how many visits were served
+abbrev pub served_line : ℕ → List ℕ
+served_line count = codes "served " ++ (decimal count ++ line_feed)
+
+-- both lines
+abbrev pub serve_text : ℕ → ℕ → List ℕ
+serve_text port count = listening_line port ++ served_line count
+
+-- why the desk in the file of a store is not opened
+abbrev pub IsOpenRefusal : Refusal → Type 0
+IsOpenRefusal refusal = (refusal ≡ NotADesk) ⊎ ((refusal ≡ Version) ⊎ ((refusal ≡ Inconsistent) ⊎ ((refusal ≡ Store) ⊎ (refusal ≡ NoMemory))))
+
+-- why there is no moment that has a day
+abbrev pub IsClockRefusal : Refusal → Type 0
+IsClockRefusal refusal = (refusal ≡ Clock) ⊎ (refusal ≡ NoMemory)
+
+-- Why `serve` is refused, and what was written then: nothing where the desk was not opened, the first line where a moment
+-- had no day, and a front part of both lines where the device failed or memory was refused.
+abbrev pub RefusesServe : Refusal → ℕ → ℕ → Option (List ℕ) → Option (List ℕ) → Type 0
+RefusesServe Clock port count old new = Appends old new (listening_line port)
+RefusesServe Device port count old new = AppendsPart old new (serve_text port count)
+RefusesServe NoMemory port count old new = AppendsPart old new (serve_text port count)
+RefusesServe refusal port count old new = Keeps old new × IsOpenRefusal refusal
+
+-- Why a run of visits that ended so is no success, and what was written then: after the visits that were asked for the
+-- device failed or memory was refused, a moment had no day, or the door shut.
+abbrev pub RefusesToEnd : Ended → ℕ → Option (List ℕ) → Option (List ℕ) → Refusal → Type 0
+RefusesToEnd ended.Count visits old new refusal = IsOfDevice refusal × AppendsPart old new (served_line visits)
+RefusesToEnd ended.Clock visits old new refusal = (refusal ≡ Clock) × Keeps old new
+RefusesToEnd ended.Shut visits old new refusal = (refusal ≡ Device) × Keeps old new

@@ -1,0 +1,26 @@
+-- What is told of a refusal.
+use Rattle.std.specs.Prelude.{◌≡◌, ℕ, Err, List, Ok, Option, Result}
+use Rattle.rd_program.specs.Output.{AppendsPart}
+use Rattle.rd_program.specs.Printed.{refusal_line}
+use Rattle.rd_program.specs.Refusals.{status_of}
+use Rattle.rd_program.specs.declared.done.Done.{Done}
+use Rattle.rd_program.specs.declared.done.Done.TheVariants.{InPart, Whole}
+use Rattle.rd_program.specs.declared.refusal.Refusal.{Refusal}
+
+-- A refusal with the status, of which this holds, is told: the writer has gained a front part of its line
+-- and nothing else.
+pub record Tells (P : Refusal → Type 0) (status : ℕ) (old new : Option (List ℕ)) : Type 0 where
+  pub refusal : Refusal
+  pub why : P refusal
+  pub has_status : status_of refusal ≡ status
+  pub line : AppendsPart old new (refusal_line refusal)
+
+-- both parts are done
+abbrev pub both : Done → Done → Done
+both Whole other = other
+both InPart other = InPart
+
+-- what was done whole, where it was not refused
+abbrev pub whole : {T : Type 0} → Result T Refusal → Result Done Refusal
+whole (Ok value) = Ok Whole
+whole (Err refusal) = Err refusal

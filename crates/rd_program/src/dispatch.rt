@@ -1,0 +1,219 @@
+ghost use Rattle.std.specs.Prelude.{◌≡◌, ◌≢◌, ◌⊎◌, ◌≤◌, ◌+◌, ⊤, IfErr, IfOk, IfSome, List, OnOk, codes, map, ℕ, ℤ};
+ghost use Rattle.std.specs.Io.KnownBytes.{Appends, Keeps};
+ghost use Rattle.httparse.specs.Grammar.{trim_ows};
+ghost use Rattle.sha2.specs.Sha256.{sha256};
+ghost use Rattle.rd_geometry.specs.Kinds.{size_of};
+ghost use Rattle.rd_geometry.specs.declared.kind.Kind.{Kind};
+ghost use Rattle.rd_geometry.specs.declared.kind.Kind.TheVariants as kinds;
+ghost use Rattle.rd_program.specs.Asking.{RefusesOnce, TellsCheck};
+ghost use Rattle.rd_program.specs.Asks.{AsksADesk, AsksCheckOf, HasOffset, IsFileAsk, IsFilesAsk, IsInitAsk, IsServeAsk, TellsInRows, TellsOnOutput, most_read};
+ghost use Rattle.rd_program.specs.Cat.{HasNoSoundFile, IsCut, Refuses, Serves};
+ghost use Rattle.rd_program.specs.CommandLine.{AsksForHelp, IsTaken, IsTakenTelling};
+ghost use Rattle.rd_program.specs.Commands.{AsksInit, AsksOfStore, AsksServe, IsCheckOf, IsCommand, IsExport, IsImport};
+ghost use Rattle.rd_program.specs.Importing.{GainsLines, IsDoneLine, IsRowLine, RefusesImport, TellsRows};
+ghost use Rattle.rd_program.specs.Inits.{LeavesInit, MakesDesk, RefusesInit, done_line};
+ghost use Rattle.rd_program.specs.Input.{ReadsUpTo};
+ghost use Rattle.rd_program.specs.Listed.{Lists, RefusesList};
+ghost use Rattle.rd_program.specs.Refusals.{status_of};
+ghost use Rattle.rd_program.specs.Serving.{RefusesServe, serve_text};
+ghost use Rattle.rd_program.specs.Told.{Tells};
+ghost use Rattle.rd_program.specs.Words.{AsksCat, AsksList, AsksOfKind};
+
+use crate::cat::cat;
+use crate::done::{Done, whole};
+use crate::import::import;
+use crate::init::init;
+use crate::list::list;
+use crate::machine::Machine;
+use crate::once::ask_once;
+use crate::refusal::Refusal;
+use crate::serve::serve;
+use crate::tell::{tell_refusal, tell_unread};
+use crate::words::{Ask, read_words};
+use std::alloc::Global;
+use std::io::{Read, Write};
+
+/// Does what is asked for.
+///
+/// It fails as `cat`, `list`, `init`, `serve`, `import` and `ask_once` do.
+fn perform<R: Read, W: Write, M: Machine>(
+    alloc: Global,
+    ask: Ask,
+    input: &mut R,
+    output: &mut W,
+    machine: &mut M,
+) -> Result<Done, Refusal>
+    requires offset { HasOffset ask }
+    ensures never { IfErr result (λ refusal. status_of refusal ≢ 2) }
+    ensures kept { IfErr result (λ refusal. status_of refusal ≡ 1
+        → Keeps (W.contents output.old) (W.contents output.new) ⊎ TellsInRows ask.entry) }
+    ensures in_part { IfOk result (λ done. done ≡ Done.InPart → TellsOnOutput ask.entry) }
+    ensures done { (kind : Kind) (slot : ℕ) → IsFileAsk kind (codes "-") slot ask.entry
+        → OnOk result (IfSome (R.remaining input.old) (λ image.
+        Serves kind slot image (W.contents output.old) (W.contents output.new))) }
+    ensures refused { (kind : Kind) (slot : ℕ) → IsFileAsk kind (codes "-") slot ask.entry
+        → IfErr result (λ refusal. IfSome (R.remaining input.old) (λ image.
+        Refuses refusal kind slot image (W.contents output.old) (W.contents output.new))) }
+    ensures listed { (kind : Kind) → IsFilesAsk kind (codes "-") ask.entry
+        → OnOk result (IfSome (R.remaining input.old) (λ image.
+        Lists kind image (W.contents output.old) (W.contents output.new))) }
+    ensures list_refused { (kind : Kind) → IsFilesAsk kind (codes "-") ask.entry
+        → IfErr result (λ refusal. IfSome (R.remaining input.old) (λ image.
+        RefusesList refusal kind image (W.contents output.old) (W.contents output.new))) }
+    ensures made { (store key : List ℕ) → IsInitAsk store key ask.entry
+        → OnOk result (MakesDesk M.Disk.Store (M.stands machine.old store) (M.left machine.new) (sha256 (trim_ows key))
+        × Appends (W.contents output.old) (W.contents output.new) done_line) }
+    ensures not_made { (store key : List ℕ) → IsInitAsk store key ask.entry
+        → IfErr result (λ refusal. RefusesInit refusal (W.contents output.old) (W.contents output.new)
+        × LeavesInit M.Disk.Store (M.stands machine.old store) (M.left machine.new) (sha256 (trim_ows key)) refusal) }
+    ensures served { (store : List ℕ) (port count : ℕ) (minutes : ℤ) → IsServeAsk store port count minutes ask.entry
+        → OnOk result (Appends (W.contents output.old) (W.contents output.new) (serve_text port count)) }
+    ensures not_served { (store : List ℕ) (port count : ℕ) (minutes : ℤ) → IsServeAsk store port count minutes ask.entry
+        → IfErr result (λ refusal. RefusesServe refusal port count (W.contents output.old) (W.contents output.new)) }
+    ensures imported { TellsInRows ask.entry
+        → IfOk result (TellsRows (W.contents output.old) (W.contents output.new)) }
+    ensures not_imported { TellsInRows ask.entry
+        → IfErr result (RefusesImport (W.contents output.old) (W.contents output.new)) }
+    ensures checked { (acc : ℕ) → AsksCheckOf acc ask.entry
+        → IfOk result (TellsCheck acc (W.contents output.old) (W.contents output.new)) }
+    ensures not_answered { AsksADesk ask.entry
+        → IfErr result (RefusesOnce (W.contents output.old) (W.contents output.new)) }
+    ensures limit { ReadsUpTo (most_read ask.entry) (R.remaining input.old) (R.remaining input.new) }
+{
+    match ask {
+        Ask::File(ask) => whole(cat(alloc, ask, input, output, machine)),
+        Ask::Files(ask) => whole(list(alloc, ask, input, output, machine)),
+        Ask::Init(ask) => whole(init(ask, output, machine)),
+        Ask::Serve(ask) => whole(serve(alloc, ask, output, machine)),
+        Ask::Import(ask) => import(alloc, ask, output, machine),
+        Ask::Once(ask) => ask_once(alloc, ask, output, machine),
+    }
+}
+
+/// Runs the program on its words, which come without its name, and gives its exit status: 0 where
+/// it did what was asked for, 1 where the image or its file is refused or a desk stands already, 2 where
+/// the words are no command, and 3 where the device, the clock, memory or the store failed.
+///
+/// The image `-` is read from the input, any other by the machine. What is asked for is written to
+/// the output; a refusal is told in one line on `errors`, and a mistake in the words by a text.
+pub fn run<R: Read, W: Write, E: Write, M: Machine>(
+    alloc: Global,
+    words: &[&str],
+    input: &mut R,
+    output: &mut W,
+    errors: &mut E,
+    machine: &mut M,
+) -> u8
+    ensures status { result ≤ 3 }
+    // At 0 and 1 the words are a command; at 0 they may ask for help too.
+    ensures command { result ≡ 0 → IsTaken (map (λ word. word.now) words.entry.now)
+        ⊎ AsksForHelp (map (λ word. word.now) words.entry.now) }
+    ensures refused_command { result ≡ 1 → IsTaken (map (λ word. word.now) words.entry.now) }
+    // At 0 nothing is told; at 1 and 3 no more than the line of a refusal with this status, and nothing at 1 where
+    // an `import` told each row that was refused, or a `check` that an image is changed, on the output.
+    ensures silent { result ≡ 0 → Keeps (E.contents errors.old) (E.contents errors.new) }
+    ensures told { result ≡ 3
+        → Tells (λ _. ⊤) result (E.contents errors.old) (E.contents errors.new) }
+    ensures refused_told { result ≡ 1
+        → Tells (λ _. ⊤) result (E.contents errors.old) (E.contents errors.new)
+        ⊎ (Keeps (E.contents errors.old) (E.contents errors.new)
+        × IsTakenTelling (map (λ word. word.now) words.entry.now)) }
+    // No more is read than one byte past an image: of the largest kind, and of the kind asked for.
+    ensures limit { ReadsUpTo (size_of kinds.Cpm8 + 1) (R.remaining input.old) (R.remaining input.new) }
+    ensures limit_of_store { AsksOfStore (map (λ word. word.now) words.entry.now)
+        → ReadsUpTo 0 (R.remaining input.old) (R.remaining input.new) }
+    ensures limit_of_kind { (kind : Kind) → AsksOfKind (map (λ word. word.now) words.entry.now) kind
+        → ReadsUpTo (size_of kind + 1) (R.remaining input.old) (R.remaining input.new) }
+    // At 0 a `cat` of standard input has written exactly the bytes of a sound file of its image.
+    ensures done { result ≡ 0 → (kind : Kind) (slot : ℕ)
+        → AsksCat (map (λ word. word.now) words.entry.now) kind (codes "-") slot
+        → IfSome (R.remaining input.old) (λ image.
+        Serves kind slot image (W.contents output.old) (W.contents output.new)) }
+
+    // At 1 nothing is written but by an `import` and a `check`, and a `cat` of standard input has no sound file to write.
+    ensures refused { result ≡ 1 → Keeps (W.contents output.old) (W.contents output.new)
+        ⊎ IsTakenTelling (map (λ word. word.now) words.entry.now) }
+    ensures no_sound_file { result ≡ 1 → (kind : Kind) (slot : ℕ)
+        → AsksCat (map (λ word. word.now) words.entry.now) kind (codes "-") slot
+        → IfSome (R.remaining input.old) (HasNoSoundFile kind slot) }
+
+    // Not at 0, the refusal of a `cat` of standard input is told by the first name that is due.
+    ensures told_why { result ≢ 0 → (kind : Kind) (slot : ℕ)
+        → AsksCat (map (λ word. word.now) words.entry.now) kind (codes "-") slot
+        → IfSome (R.remaining input.old) (λ image. Tells (λ refusal.
+        Refuses refusal kind slot image (W.contents output.old) (W.contents output.new))
+        result (E.contents errors.old) (E.contents errors.new)) }
+
+    // A `list` of standard input: at 0 it has written exactly the list of its image, and not at 0 its
+    // refusal is told.
+    ensures listed { result ≡ 0 → (kind : Kind)
+        → AsksList (map (λ word. word.now) words.entry.now) kind (codes "-")
+        → IfSome (R.remaining input.old) (λ image.
+        Lists kind image (W.contents output.old) (W.contents output.new)) }
+    ensures list_told { result ≢ 0 → (kind : Kind)
+        → AsksList (map (λ word. word.now) words.entry.now) kind (codes "-")
+        → IfSome (R.remaining input.old) (λ image. Tells (λ refusal.
+        RefusesList refusal kind image (W.contents output.old) (W.contents output.new))
+        result (E.contents errors.old) (E.contents errors.new)) }
+
+    // An `init`: at 0 it has made the desk and said so, and at 1 a desk stood already and was left alone. Not at
+    // 0 its refusal is told.
+    ensures made { result ≡ 0 → (store key : List ℕ) → AsksInit (map (λ word. word.now) words.entry.now) store key
+        → MakesDesk M.Disk.Store (M.stands machine.old store) (M.left machine.new) (sha256 (trim_ows key))
+        × Appends (W.contents output.old) (W.contents output.new) done_line }
+    ensures init_told { result ≢ 0 → (store key : List ℕ) → AsksInit (map (λ word. word.now) words.entry.now) store key
+        → Tells (λ refusal. RefusesInit refusal (W.contents output.old) (W.contents output.new)
+        × LeavesInit M.Disk.Store (M.stands machine.old store) (M.left machine.new) (sha256 (trim_ows key)) refusal)
+        result (E.contents errors.old) (E.contents errors.new) }
+
+    // A `serve`: at 0 it has served as many visits as were asked for, and said so. Not at 0 its refusal is told,
+    // which is never 1.
+    ensures served { result ≡ 0 → (store : List ℕ) (port count : ℕ) (minutes : ℤ)
+        → AsksServe (map (λ word. word.now) words.entry.now) store port count minutes
+        → Appends (W.contents output.old) (W.contents output.new) (serve_text port count) }
+    ensures serve_told { result ≢ 0 → (store : List ℕ) (port count : ℕ) (minutes : ℤ)
+        → AsksServe (map (λ word. word.now) words.entry.now) store port count minutes
+        → Tells (λ refusal. RefusesServe refusal port count (W.contents output.old) (W.contents output.new))
+        result (E.contents errors.old) (E.contents errors.new) }
+
+    // An `import`: at 0 it has written a line for each row, that its image was taken in. Not at 0 it has told each
+    // row on its line, or its refusal is told after the lines of the rows before.
+    ensures imported { result ≡ 0 → IsImport (map (λ word. word.now) words.entry.now)
+        → GainsLines IsDoneLine (W.contents output.old) (W.contents output.new) }
+    ensures import_told { result ≢ 0 → IsImport (map (λ word. word.now) words.entry.now)
+        → ((result ≡ 1) × Keeps (E.contents errors.old) (E.contents errors.new)
+        × GainsLines IsRowLine (W.contents output.old) (W.contents output.new))
+        ⊎ Tells (RefusesImport (W.contents output.old) (W.contents output.new))
+        result (E.contents errors.old) (E.contents errors.new) }
+
+    // A `check`: at 0 it has told that the image is sound. Not at 0 it has told that the image is changed, or its
+    // refusal is told. Not at 0 the refusal of an `export` is told.
+    ensures sound { result ≡ 0 → (acc : ℕ) → IsCheckOf (map (λ word. word.now) words.entry.now) acc
+        → TellsCheck acc (W.contents output.old) (W.contents output.new) Done.Whole }
+    ensures check_told { result ≢ 0 → (acc : ℕ) → IsCheckOf (map (λ word. word.now) words.entry.now) acc
+        → ((result ≡ 1) × Keeps (E.contents errors.old) (E.contents errors.new)
+        × TellsCheck acc (W.contents output.old) (W.contents output.new) Done.InPart)
+        ⊎ Tells (RefusesOnce (W.contents output.old) (W.contents output.new))
+        result (E.contents errors.old) (E.contents errors.new) }
+    ensures export_told { result ≢ 0 → IsExport (map (λ word. word.now) words.entry.now)
+        → Tells (RefusesOnce (W.contents output.old) (W.contents output.new))
+        result (E.contents errors.old) (E.contents errors.new) }
+
+    // At 2 nothing is written, and the words are none of the forms of a command.
+    ensures usage { result ≡ 2 → ¬ IsCommand (map (λ word. word.now) words.entry.now) }
+    ensures usage_keeps { result ≡ 2 → Keeps (W.contents output.old) (W.contents output.new) }
+
+    // At 3 a `cat` of standard input has written no more than a front part of the file.
+    ensures cut { result ≡ 3 → (kind : Kind) (slot : ℕ)
+        → AsksCat (map (λ word. word.now) words.entry.now) kind (codes "-") slot
+        → IfSome (R.remaining input.old) (λ image.
+        IsCut kind slot image (W.contents output.old) (W.contents output.new)) }
+{
+    match read_words(alloc, words) {
+        Ok(ask) => match perform(alloc, ask, input, output, machine) {
+            Ok(done) => done.status(),
+            Err(refused) => tell_refusal(refused, errors),
+        },
+        Err(unread) => tell_unread(unread, output, errors),
+    }
+}

@@ -1,0 +1,48 @@
+ghost use Rattle.std.specs.Prelude.{◌≡◌, ◌≢◌, ◌≤◌};
+ghost use Rattle.rd_program.specs.Told as spec;
+ghost use Rattle.rd_program.specs.declared.done.Done.TheVariants as done;
+
+use crate::refusal::Refusal;
+
+/// How far a command did what it was asked for.
+#[derive(Clone, Copy, Debug, PartialEq, Eq)]
+pub(crate) enum Done {
+    /// Whole.
+    Whole,
+    /// Not whole: what was refused, or is changed, is told on the output.
+    InPart,
+}
+
+impl Done {
+    /// How far this and another part are done.
+    pub(crate) fn and(self, other: Done) -> Done
+        ensures { result ≡ spec.both self other }
+    {
+        match self {
+            Done::Whole => other,
+            Done::InPart => Done::InPart,
+        }
+    }
+
+    /// The exit status, 0 or 1.
+    pub(crate) fn status(self) -> u8
+        ensures most { result ≤ 1 }
+        ensures whole { result ≡ 0 → self ≡ done.Whole }
+        ensures in_part { result ≢ 0 → self ≡ done.InPart }
+    {
+        match self {
+            Done::Whole => 0,
+            Done::InPart => 1,
+        }
+    }
+}
+
+/// What was done whole, where it was not refused.
+pub(crate) fn whole(ended: Result<(), Refusal>) -> Result<Done, Refusal>
+    ensures { result ≡ spec.whole ended }
+{
+    match ended {
+        Ok(()) => Ok(Done::Whole),
+        Err(refused) => Err(refused),
+    }
+}

@@ -1,0 +1,258 @@
+//! Images that are taken in, row by row of a sheet.
+
+ghost use Rattle.std.specs.Prelude.{◌≡◌, IfErr, IfOk, OnErr, OnOk};
+ghost use Rattle.std.specs.Io.KnownBytes.{Appends};
+ghost use Rattle.rd_policy.specs.Days.{HasDay, IsOffset};
+ghost use Rattle.rd_program.specs.Importing.{GainsFrontOfLine, IsRowRefusal, RefusesImport, RefusesRow, RefusesRows, TellsRow, TellsRows, bad_row_line, said_line};
+ghost use Rattle.rd_program.specs.Output.{AppendsPart};
+ghost use Rattle.rd_program.specs.Refusals.{IsOfDevice};
+ghost use Rattle.rd_program.specs.Sheets.{IsWithin};
+
+use crate::done::Done;
+use crate::machine::Machine;
+use crate::opened::{moment, open_desk};
+use crate::output::write_whole;
+use crate::refusal::Refusal;
+use crate::replied::{error_name, value_of};
+use crate::sheet::{SheetRow, is_header, next_row, row_of};
+use crate::words::ImportAsk;
+use csv::{ByteRecord, ReaderBuilder};
+use rd_desk::{Desk, Items, Reply, Request, What};
+use sha2::{Digest, Sha256};
+use sqlite::Alter;
+use std::alloc::Global;
+use std::io::Write;
+
+/// Who gives images, and when.
+#[derive(Clone, Copy)]
+struct Giver {
+    /// The SHA-256 of the desk key.
+    badge: [u8; 32],
+    /// The moment, in seconds since 1970-01-01T00:00:00 UTC, which has a day.
+    seconds: i64,
+}
+
+/// Asks a desk to take in the image of a row, and gives the reply.
+fn put_image<S: Alter + Drop>(
+    alloc: Global,
+    row: SheetRow,
+    bytes: Vec<u8>,
+    giver: Giver,
+    desk: &mut Desk<S>,
+) -> Reply
+    requires day { HasDay giver.seconds desk.old.offset_minutes }
+    requires within { IsWithin row }
+    ensures offset { desk.new.offset_minutes ≡ desk.old.offset_minutes }
+{
+    let what = What::PutImage {
+        acc: row.acc,
+        kind: row.kind,
+        deed: row.deed,
+        digest: row.digest,
+        bytes: Items::of(bytes),
+    };
+    let badge = Some(giver.badge);
+    desk.answer(alloc, giver.seconds, &Request { badge, what })
+}
+
+/// Tells on a line what is said of an accession, and flushes the output.
+///
+/// It fails with `NoMemory`, and with `Device` where a write or the flush failed.
+fn tell_said<W: Write>(alloc: Global, acc: u32, said: &str, output: &mut W) -> Result<(), Refusal>
+    ensures done { OnOk result (Appends (W.contents output.old) (W.contents output.new) (said_line acc said.now)) }
+    ensures cut { OnErr result (AppendsPart (W.contents output.old) (W.contents output.new) (said_line acc said.now)) }
+    ensures refused { IfErr result IsOfDevice }
+{
+    let mut line = String::new(alloc);
+    write!(line, "{acc} {said}\n")?;
+    write_whole(output, line.as_bytes())
+}
+
+/// Tells on a line that a row is none, and flushes the output. Rows are counted from 1.
+///
+/// It fails with `NoMemory`, and with `Device` where a write or the flush failed.
+fn tell_bad_row<W: Write>(alloc: Global, number: u64, output: &mut W) -> Result<(), Refusal>
+    ensures done { OnOk result (Appends (W.contents output.old) (W.contents output.new) (bad_row_line number)) }
+    ensures cut { OnErr result (AppendsPart (W.contents output.old) (W.contents output.new) (bad_row_line number)) }
+    ensures refused { IfErr result IsOfDevice }
+{
+    let mut line = String::new(alloc);
+    write!(line, "row {number} bad-row\n")?;
+    write_whole(output, line.as_bytes())
+}
+
+/// Tells on a line by which name a reply refuses an accession.
+///
+/// It fails with `Store` where the reply tells no name, with `NoMemory`, and with `Device` where a write or the
+/// flush failed.
+fn tell_refused<W: Write>(
+    alloc: Global,
+    acc: u32,
+    reply: &Reply,
+    output: &mut W,
+) -> Result<Done, Refusal>
+    ensures told { IfOk result (TellsRow (W.contents output.old) (W.contents output.new)) }
+    ensures refused { IfErr result (RefusesRow (W.contents output.old) (W.contents output.new)) }
+{
+    let value = value_of(alloc, &reply.body)?;
+    let Some(name) = error_name(&value) else {
+        return Err(Refusal::Store);
+    };
+    tell_said(alloc, acc, name, output)?;
+    Ok(Done::InPart)
+}
+
+/// Tells on a line what a reply says of an accession.
+///
+/// It fails with `Store` where the reply is that the desk is unavailable, with `NoMemory`, and with `Device` where
+/// a write or the flush failed.
+fn tell_reply<W: Write>(
+    alloc: Global,
+    acc: u32,
+    reply: &Reply,
+    output: &mut W,
+) -> Result<Done, Refusal>
+    ensures told { IfOk result (TellsRow (W.contents output.old) (W.contents output.new)) }
+    ensures refused { IfErr result (RefusesRow (W.contents output.old) (W.contents output.new)) }
+{
+    match reply.status {
+        200 => {
+            tell_said(alloc, acc, "done", output)?;
+            Ok(Done::Whole)
+        }
+        503 => Err(Refusal::Store),
+        _ => tell_refused(alloc, acc, reply, output),
+    }
+}
+
+/// Takes in the image of a row, and tells on a line what became of it.
+///
+/// It fails with `Device` where the image's file cannot be read, with `Store` where the desk is unavailable, with
+/// `NoMemory`, and with `Device` where a write or the flush failed.
+fn import_row<W: Write, M: Machine>(
+    alloc: Global,
+    row: SheetRow,
+    giver: Giver,
+    desk: &mut Desk<M::Disk>,
+    output: &mut W,
+    machine: &mut M,
+) -> Result<Done, Refusal>
+    requires day { HasDay giver.seconds desk.old.offset_minutes }
+    requires within { IsWithin row }
+    ensures offset { desk.new.offset_minutes ≡ desk.old.offset_minutes }
+    ensures told { IfOk result (TellsRow (W.contents output.old) (W.contents output.new)) }
+    ensures refused { IfErr result (RefusesRow (W.contents output.old) (W.contents output.new)) }
+{
+    let bytes = match machine.read_file(alloc, row.file) {
+        Ok(bytes) => bytes,
+        Err(fault) => return Err(fault.or(Refusal::Device)),
+    };
+    let reply = put_image(alloc, row, bytes, giver, desk);
+    tell_reply(alloc, row.acc, &reply, output)
+}
+
+/// Takes in the image of the row that fields are, and tells on a line what became of it, or that they are no row.
+/// Rows are counted from 1.
+///
+/// It fails as `import_row` does.
+fn import_fields<W: Write, M: Machine>(
+    alloc: Global,
+    fields: &ByteRecord,
+    number: u64,
+    giver: Giver,
+    desk: &mut Desk<M::Disk>,
+    output: &mut W,
+    machine: &mut M,
+) -> Result<Done, Refusal>
+    requires day { HasDay giver.seconds desk.old.offset_minutes }
+    ensures offset { desk.new.offset_minutes ≡ desk.old.offset_minutes }
+    ensures told { IfOk result (TellsRow (W.contents output.old) (W.contents output.new)) }
+    ensures refused { IfErr result (RefusesRow (W.contents output.old) (W.contents output.new)) }
+{
+    match row_of(fields) {
+        Some(row) => import_row(alloc, row, giver, desk, output, machine),
+        None => {
+            tell_bad_row(alloc, number, output)?;
+            Ok(Done::InPart)
+        }
+    }
+}
+
+/// Takes in the images of a sheet, row by row, and tells on a line what became of each.
+///
+/// It fails with `BadSheet` where the header is another, and at a row of another length; the rows before it were
+/// taken. It fails as `import_row` does too.
+fn import_rows<W: Write, M: Machine>(
+    alloc: Global,
+    sheet: &[u8],
+    giver: Giver,
+    desk: &mut Desk<M::Disk>,
+    output: &mut W,
+    machine: &mut M,
+) -> Result<Done, Refusal>
+    requires day { HasDay giver.seconds desk.old.offset_minutes }
+    ensures told { IfOk result (TellsRows (W.contents output.old) (W.contents output.new)) }
+    ensures refused { IfErr result (RefusesRows (W.contents output.old) (W.contents output.new)) }
+{
+    let mut reader = ReaderBuilder::new()
+        .has_headers(false)
+        .from_reader(alloc, sheet);
+    let mut fields = ByteRecord::new(alloc);
+    if !next_row(&mut reader, &mut fields)? || !is_header(&fields) {
+        return Err(Refusal::BadSheet);
+    }
+    let mut done = Done::Whole;
+    for number in 1..u64::MAX {
+        if !next_row(&mut reader, &mut fields)? {
+            return Ok(done);
+        }
+        let row = import_fields(alloc, &fields, number, giver, desk, output, machine)?;
+        done = done.and(row);
+    }
+    Ok(done)
+}
+
+/// Takes in the images of the sheet that is asked for, at the moment that is asked for.
+///
+/// It fails with `Clock` where the clock fails or the moment has no day, with `Device` where the sheet cannot be
+/// read, with `NoMemory`, and as `import_rows` does.
+fn import_sheet<W: Write, M: Machine>(
+    alloc: Global,
+    ask: ImportAsk,
+    desk: &mut Desk<M::Disk>,
+    output: &mut W,
+    machine: &mut M,
+) -> Result<Done, Refusal>
+    ensures told { IfOk result (TellsRows (W.contents output.old) (W.contents output.new)) }
+    ensures refused { IfErr result (RefusesImport (W.contents output.old) (W.contents output.new)) }
+{
+    let seconds = moment(ask.when.seconds, desk, machine)?;
+    let sheet = match machine.read_sheet(alloc, ask.sheet) {
+        Ok(sheet) => sheet,
+        Err(fault) => return Err(fault.or(Refusal::Device)),
+    };
+    let badge = Sha256::digest(ask.key);
+    let giver = Giver { badge, seconds };
+    import_rows(alloc, sheet.as_slice(), giver, desk, output, machine)
+}
+
+/// Takes in the images of the sheet that is asked for by the desk in the file of a store, row by row, and tells on
+/// a line what became of each. Each line is flushed.
+///
+/// It fails with `NotADesk`, `Version`, `Inconsistent` and `Store` where the desk cannot be opened, then as
+/// `import_sheet` does. What was taken in before stays.
+pub(crate) fn import<W: Write, M: Machine>(
+    alloc: Global,
+    ask: ImportAsk,
+    output: &mut W,
+    machine: &mut M,
+) -> Result<Done, Refusal>
+    requires offset { IsOffset ask.when.offset_minutes }
+    ensures told { IfOk result (TellsRows (W.contents output.old) (W.contents output.new)) }
+    ensures refused { IfErr result (RefusesImport (W.contents output.old) (W.contents output.new)) }
+{
+    let mut desk = open_desk(alloc, ask.store, ask.when.offset_minutes, machine)?;
+    let imported = import_sheet(alloc, ask, &mut desk, output, machine);
+    machine.release(&mut Some(desk.into_store().into_connection()));
+    imported
+}

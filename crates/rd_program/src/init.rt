@@ -1,0 +1,68 @@
+ghost use Rattle.std.specs.Prelude.{◌≡◌, IfErr, OnOk, false};
+ghost use Rattle.std.specs.Io.KnownBytes.{Appends};
+ghost use Rattle.sha2.specs.Sha256.{sha256};
+ghost use Rattle.rd_store.specs.Created.{IsCreated};
+ghost use Rattle.rd_program.specs.Inits.{IsInitRefusal, LeavesInit, MakesDesk, NotMade, RefusesInit, done_line};
+
+use crate::machine::Machine;
+use crate::output::write_whole;
+use crate::refusal::Refusal;
+use crate::words::InitAsk;
+use rd_store::{Refused, Store};
+use sha2::{Digest, Sha256};
+use sqlite::{Alter, Connection};
+use std::io::Write;
+
+/// Makes a desk over a connection, with one staff key, and gives the connection back.
+///
+/// It fails with `Exists` and `Store`.
+fn make<S: Alter + Drop>(conn: Connection<S>, key: &[u8]) -> (Result<(), Refusal>, Connection<S>)
+    requires outside { conn.in_transaction ≡ false }
+    ensures made { OnOk result.0 (IsCreated S.Store conn result.1 (sha256 key.now)) }
+    ensures not_made { IfErr result.0 (NotMade S.Store conn result.1 (sha256 key.now)) }
+{
+    match Store::create(conn, &Sha256::digest(key)) {
+        Ok(store) => (Ok(()), store.into_connection()),
+        Err(Refused { fault, conn }) => (Err(Refusal::from(fault)), conn),
+    }
+}
+
+/// Makes a desk in the file of a store, with one staff key.
+///
+/// It fails with `Exists`, with `Store`, and with `NoMemory`.
+fn make_desk<M: Machine>(ask: InitAsk, machine: &mut M) -> Result<(), Refusal>
+    ensures made { OnOk result
+        (MakesDesk M.Disk.Store (M.stands machine.old ask.entry.store.now) (M.left machine.new) (sha256 ask.entry.key.now)) }
+    ensures left { IfErr result
+        (LeavesInit M.Disk.Store (M.stands machine.old ask.entry.store.now) (M.left machine.new) (sha256 ask.entry.key.now)) }
+    ensures refused { IfErr result IsInitRefusal }
+{
+    let conn = match machine.connect(ask.store) {
+        Ok(conn) => conn,
+        Err(fault) => return Err(fault.or(Refusal::Store)),
+    };
+    let (made, conn) = make(conn, ask.key);
+    machine.release(&mut Some(conn));
+    made
+}
+
+/// Makes a desk in the file of a store, with one staff key, tells that it is done, and flushes the output.
+///
+/// It fails with `Exists` where a desk stands already, with `Store`, with `NoMemory`, and with `Device` where
+/// a write or the flush failed.
+pub(crate) fn init<W: Write, M: Machine>(
+    ask: InitAsk,
+    output: &mut W,
+    machine: &mut M,
+) -> Result<(), Refusal>
+    ensures done { OnOk result (Appends (W.contents output.old) (W.contents output.new) done_line) }
+    ensures refused { IfErr result (λ refusal.
+        RefusesInit refusal (W.contents output.old) (W.contents output.new)) }
+    ensures made { OnOk result
+        (MakesDesk M.Disk.Store (M.stands machine.old ask.entry.store.now) (M.left machine.new) (sha256 ask.entry.key.now)) }
+    ensures left { IfErr result
+        (LeavesInit M.Disk.Store (M.stands machine.old ask.entry.store.now) (M.left machine.new) (sha256 ask.entry.key.now)) }
+{
+    make_desk(ask, machine)?;
+    write_whole(output, b"done\n")
+}

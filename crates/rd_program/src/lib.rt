@@ -1,0 +1,32 @@
+//! The program `desk`, but for the process that it runs in: its words, its commands, and what they write and tell.
+#![tactic(auto)]
+
+mod blanks;
+mod cat;
+mod command_line;
+mod dispatch;
+mod done;
+mod import;
+mod init;
+mod input;
+mod list;
+mod machine;
+mod offset;
+mod once;
+mod opened;
+mod output;
+mod parts;
+mod printed;
+mod refusal;
+mod replied;
+mod serve;
+mod sheet;
+mod source;
+mod tell;
+mod words;
+
+pub use dispatch::run;
+pub use input::read_front;
+pub use machine::{Machine, MachineFault};
+pub use refusal::Refusal;
+pub use tell::tell_refusal;

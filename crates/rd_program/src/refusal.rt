@@ -1,0 +1,137 @@
+ghost use Rattle.std.specs.Prelude.{◌≡◌};
+ghost use Rattle.rd_program.specs.Refusals.{name_of, refusal_to_create, refusal_to_open, status_of};
+ghost use Rattle.rd_program.specs.declared.refusal.Refusal.TheVariants as refusal;
+
+use rd_store::{CreateFault, OpenFault};
+use rd_volume::{Kind, NoMemory, WrongSize};
+use std::alloc::AllocError;
+
+/// Why a command ends without what was asked for.
+#[derive(Clone, Copy, Debug, PartialEq, Eq)]
+pub enum Refusal {
+    /// The words are no command.
+    Usage,
+    /// A read or a write failed, or a file could not be opened.
+    Device,
+    /// A growth of memory was refused.
+    NoMemory,
+    /// The image has not as many bytes as one of its kind.
+    WrongSize,
+    /// No file of the image has the slot.
+    NoFile,
+    /// The file is listed, and its bytes are not served: it is not of the class that is.
+    ListedOnly,
+    /// The file, of an image of a kind, has these faults, by bit.
+    Faulty(Kind, u8),
+    /// A desk stands already in the store.
+    Exists,
+    /// The store holds no desk.
+    NotADesk,
+    /// The store holds a desk of another version.
+    Version,
+    /// The rows of the store are not those of a desk.
+    Inconsistent,
+    /// The store could not be opened, or failed.
+    Store,
+    /// The clock failed, or a moment has no day.
+    Clock,
+    /// A sheet has another header, or a row of another length.
+    BadSheet,
+    /// The caller's desk key is none that the desk knows.
+    UnknownKey,
+    /// It is for the staff, and the caller is not of the staff.
+    StaffOnly,
+    /// No image stands at the accession.
+    NoAccession,
+}
+
+impl Refusal {
+    /// The name that is printed, with the rule where it is by one.
+    pub fn name(self) -> &'static str
+        ensures { result.now ≡ name_of self }
+    {
+        match self {
+            Refusal::Usage => "usage",
+            Refusal::Device => "device",
+            Refusal::NoMemory => "no-memory",
+            Refusal::WrongSize => "wrong-size",
+            Refusal::NoFile => "no-file",
+            Refusal::ListedOnly => "listed-only",
+            Refusal::Faulty(_, _) => "faulty",
+            Refusal::Exists => "exists",
+            Refusal::NotADesk => "not-a-desk",
+            Refusal::Version => "version",
+            Refusal::Inconsistent => "inconsistent",
+            Refusal::Store => "store",
+            Refusal::Clock => "clock",
+            Refusal::BadSheet => "bad-sheet",
+            Refusal::UnknownKey => "unknown-key K0",
+            Refusal::StaffOnly => "staff-only S0",
+            Refusal::NoAccession => "no-accession",
+        }
+    }
+
+    /// The exit status, 1 to 3.
+    pub fn status(self) -> u8
+        ensures { result ≡ status_of self }
+    {
+        match self {
+            Refusal::WrongSize | Refusal::NoFile => 1,
+            Refusal::ListedOnly | Refusal::Faulty(_, _) => 1,
+            Refusal::Exists | Refusal::BadSheet => 1,
+            Refusal::UnknownKey | Refusal::StaffOnly | Refusal::NoAccession => 1,
+            Refusal::Usage => 2,
+            Refusal::Device | Refusal::NoMemory | Refusal::Clock => 3,
+            Refusal::NotADesk | Refusal::Version => 3,
+            Refusal::Inconsistent | Refusal::Store => 3,
+        }
+    }
+}
+
+impl From<AllocError> for Refusal {
+    ghost from_gives = { λ _ refused. refused ≡ refusal.NoMemory };
+
+    fn from(_error: AllocError) -> Refusal {
+        Refusal::NoMemory
+    }
+}
+
+impl From<NoMemory> for Refusal {
+    ghost from_gives = { λ _ refused. refused ≡ refusal.NoMemory };
+
+    fn from(_error: NoMemory) -> Refusal {
+        Refusal::NoMemory
+    }
+}
+
+impl From<WrongSize> for Refusal {
+    ghost from_gives = { λ _ refused. refused ≡ refusal.WrongSize };
+
+    fn from(_error: WrongSize) -> Refusal {
+        Refusal::WrongSize
+    }
+}
+
+impl From<CreateFault> for Refusal {
+    ghost from_gives = { λ fault refused. refused ≡ refusal_to_create fault };
+
+    fn from(fault: CreateFault) -> Refusal {
+        match fault {
+            CreateFault::Exists => Refusal::Exists,
+            CreateFault::Sql => Refusal::Store,
+        }
+    }
+}
+
+impl From<OpenFault> for Refusal {
+    ghost from_gives = { λ fault refused. refused ≡ refusal_to_open fault };
+
+    fn from(fault: OpenFault) -> Refusal {
+        match fault {
+            OpenFault::NotADesk => Refusal::NotADesk,
+            OpenFault::Version => Refusal::Version,
+            OpenFault::Inconsistent => Refusal::Inconsistent,
+            OpenFault::Sql => Refusal::Store,
+        }
+    }
+}

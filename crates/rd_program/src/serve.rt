@@ -1,0 +1,104 @@
+ghost use Rattle.std.specs.Prelude.{◌≡◌, IfErr, IfOk, OnErr, OnOk};
+ghost use Rattle.std.specs.Io.KnownBytes.{Appends};
+ghost use Rattle.rd_policy.specs.Days.{IsOffset};
+ghost use Rattle.rd_program.specs.Output.{AppendsPart};
+ghost use Rattle.rd_program.specs.Refusals.{IsOfDevice};
+ghost use Rattle.rd_program.specs.Serving.{RefusesServe, RefusesToEnd, listening_line, serve_text, served_line};
+
+use crate::machine::Machine;
+use crate::opened::open_desk;
+use crate::output::write_whole;
+use crate::refusal::Refusal;
+use crate::words::ServeAsk;
+use rd_desk::Desk;
+use rd_http::{Ended, Served, serve_many};
+use std::alloc::Global;
+use std::io::Write;
+
+/// Tells at which port visits come, and flushes the output.
+///
+/// It fails with `NoMemory`, and with `Device` where a write or the flush failed.
+fn tell_listening<W: Write>(alloc: Global, port: u16, output: &mut W) -> Result<(), Refusal>
+    ensures done { OnOk result (Appends (W.contents output.old) (W.contents output.new) (listening_line port)) }
+    ensures cut { OnErr result (AppendsPart (W.contents output.old) (W.contents output.new) (listening_line port)) }
+    ensures refused { IfErr result IsOfDevice }
+{
+    let mut line = String::new(alloc);
+    write!(line, "listening 127.0.0.1:{port}\n")?;
+    write_whole(output, line.as_bytes())
+}
+
+/// Tells how many visits were served, and flushes the output.
+///
+/// It fails with `NoMemory`, and with `Device` where a write or the flush failed.
+fn tell_served<W: Write>(alloc: Global, count: u32, output: &mut W) -> Result<(), Refusal>
+    ensures done { OnOk result (Appends (W.contents output.old) (W.contents output.new) (served_line count)) }
+    ensures cut { OnErr result (AppendsPart (W.contents output.old) (W.contents output.new) (served_line count)) }
+    ensures refused { IfErr result IsOfDevice }
+{
+    let mut line = String::new(alloc);
+    write!(line, "served {count}\n")?;
+    write_whole(output, line.as_bytes())
+}
+
+/// Serves visits at the port that is asked for.
+///
+/// It fails with `Device` where the port is not to be had or a write failed, and with `NoMemory`.
+fn serve_visits<W: Write, M: Machine>(
+    alloc: Global,
+    ask: ServeAsk,
+    desk: &mut Desk<M::Disk>,
+    output: &mut W,
+    machine: &mut M,
+) -> Result<Served, Refusal>
+    ensures listening { OnOk result (Appends (W.contents output.old) (W.contents output.new) (listening_line ask.entry.port)) }
+    ensures cut { OnErr result (AppendsPart (W.contents output.old) (W.contents output.new) (listening_line ask.entry.port)) }
+    ensures refused { IfErr result IsOfDevice }
+    ensures count { IfOk result (λ served. served.ended ≡ Ended.Count → served.visits ≡ ask.entry.count) }
+{
+    let door = match machine.listen(ask.port) {
+        Ok(door) => door,
+        Err(fault) => return Err(fault.or(Refusal::Device)),
+    };
+    tell_listening(alloc, ask.port, output)?;
+    Ok(serve_many(alloc, door, desk, ask.count))
+}
+
+/// Tells how a run of visits ended.
+///
+/// It fails with `Clock` where a moment had no day, with `Device` where the door shut or a write failed, and
+/// with `NoMemory`.
+fn tell_ended<W: Write>(alloc: Global, served: Served, output: &mut W) -> Result<(), Refusal>
+    ensures done { OnOk result (Appends (W.contents output.old) (W.contents output.new) (served_line served.visits)) }
+    ensures count { OnOk result (served.ended ≡ Ended.Count) }
+    ensures refused { IfErr result (RefusesToEnd served.ended served.visits (W.contents output.old) (W.contents output.new)) }
+{
+    match served.ended {
+        Ended::Count => tell_served(alloc, served.visits, output),
+        Ended::Clock => Err(Refusal::Clock),
+        Ended::Shut => Err(Refusal::Device),
+    }
+}
+
+/// Serves visits of the desk in the file of a store, tells at which port they come and, at the end, how many
+/// there were. Each line is flushed.
+///
+/// It fails with `NotADesk`, `Version`, `Inconsistent` and `Store` where the desk cannot be opened, then with
+/// `Device` where the port is not to be had, a write failed or the door shut, with `Clock` where a moment had
+/// no day, and with `NoMemory`.
+pub(crate) fn serve<W: Write, M: Machine>(
+    alloc: Global,
+    ask: ServeAsk,
+    output: &mut W,
+    machine: &mut M,
+) -> Result<(), Refusal>
+    requires offset { IsOffset ask.offset_minutes }
+    ensures done { OnOk result (Appends (W.contents output.old) (W.contents output.new) (serve_text ask.entry.port ask.entry.count)) }
+    ensures refused { IfErr result (λ refusal. RefusesServe refusal ask.entry.port ask.entry.count
+        (W.contents output.old) (W.contents output.new)) }
+{
+    let mut desk = open_desk(alloc, ask.store, ask.offset_minutes, machine)?;
+    let served = serve_visits(alloc, ask, &mut desk, output, machine);
+    machine.release(&mut Some(desk.into_store().into_connection()));
+    tell_ended(alloc, served?, output)
+}

@@ -1,0 +1,140 @@
+//! What is told on the standard error: the line of a refusal, or what is wrong with the words.
+
+ghost use Rattle.std.specs.Prelude.{◌≡◌, ◌≢◌, ◌≤◌, ◌++◌, ⊤, IfErr, OnErr, OnOk, codes};
+ghost use Rattle.std.specs.Io.KnownBytes.{Appends, Keeps};
+ghost use Rattle.clap.specs.Values.{kind_of};
+ghost use Rattle.clap.specs.declared.error.Error.{Error};
+ghost use Rattle.clap.specs.declared.error.kind.ErrorKind.TheVariants.{DisplayHelp};
+ghost use Rattle.rd_volume.specs.Words.{words_left};
+ghost use Rattle.rd_program.specs.Asks.{IsHelp};
+ghost use Rattle.rd_program.specs.Output.{AppendsPart};
+ghost use Rattle.rd_program.specs.Printed.{blanked, refusal_line, words_after};
+ghost use Rattle.rd_program.specs.Refusals.{status_of};
+ghost use Rattle.rd_program.specs.Told.{Tells};
+ghost use Rattle.rd_program.specs.declared.refusal.Refusal.TheVariants.{NoMemory};
+ghost use Rattle.rd_program.specs.declared.words.Unread.TheVariants as Unread;
+
+use crate::output::{flush, write_bytes};
+use crate::refusal::Refusal;
+use crate::words::Unread;
+use clap::Error;
+use clap::error::ErrorKind;
+use rd_volume::{FaultWords, fault_words};
+use std::io::Write;
+
+/// What is told of an offset that is none.
+const OFFSET_MISTAKE: &[u8] =
+    b"error: --offset takes E or W, hours 00 to 23 and minutes 00 to 59, as in E0100\n\nFor more information, try '--help'.\n";
+
+/// Writes a word after a blank.
+///
+/// It fails with `Device` where a write failed: then a front part was written.
+fn write_word<E: Write>(errors: &mut E, word: &str) -> Result<(), Refusal>
+    ensures done { OnOk result (Appends (E.contents errors.old) (E.contents errors.new)
+        (codes " " ++ word.now)) }
+    ensures cut { OnErr result (AppendsPart (E.contents errors.old) (E.contents errors.new)
+        (codes " " ++ word.now)) }
+{
+    write_bytes(errors, b" ")?;
+    write_bytes(errors, word.as_bytes())
+}
+
+/// Writes words, each after a blank.
+///
+/// It fails with `Device` where a write failed: then a front part was written.
+fn write_words<E: Write>(errors: &mut E, words: FaultWords) -> Result<(), Refusal>
+    ensures done { OnOk result (Appends (E.contents errors.old) (E.contents errors.new)
+        (blanked (words_left words))) }
+    ensures cut { OnErr result (AppendsPart (E.contents errors.old) (E.contents errors.new)
+        (blanked (words_left words))) }
+{
+    for word in words {
+        write_word(errors, word)?;
+    }
+    Ok(())
+}
+
+/// Writes the words that follow the name of a refusal, each after a blank: those of the faults of a file.
+///
+/// It fails with `Device` where a write failed: then a front part was written.
+fn write_words_after<E: Write>(errors: &mut E, refused: Refusal) -> Result<(), Refusal>
+    ensures done { OnOk result (Appends (E.contents errors.old) (E.contents errors.new)
+        (blanked (words_after refused))) }
+    ensures cut { OnErr result (AppendsPart (E.contents errors.old) (E.contents errors.new)
+        (blanked (words_after refused))) }
+{
+    match refused {
+        Refusal::Faulty(kind, faults) => write_words(errors, fault_words(kind, faults)),
+        _ => Ok(()),
+    }
+}
+
+/// Writes the line that tells a refusal.
+///
+/// It fails with `Device` where a write failed: then a front part was written.
+fn write_line<E: Write>(errors: &mut E, refused: Refusal) -> Result<(), Refusal>
+    ensures done { OnOk result (Appends (E.contents errors.old) (E.contents errors.new)
+        (refusal_line refused)) }
+    ensures cut { OnErr result (AppendsPart (E.contents errors.old) (E.contents errors.new)
+        (refusal_line refused)) }
+{
+    write_bytes(errors, b"desk:")?;
+    write_word(errors, refused.name())?;
+    write_words_after(errors, refused)?;
+    write_bytes(errors, b"\n")
+}
+
+/// Tells a refusal in one line, and gives its status. A write that fails ends the line and is not told.
+pub fn tell_refusal<E: Write>(refused: Refusal, errors: &mut E) -> u8
+    ensures status { result ≡ status_of refused }
+    ensures told { AppendsPart (E.contents errors.old) (E.contents errors.new) (refusal_line refused) }
+{
+    let _ = write_line(errors, refused);
+    refused.status()
+}
+
+/// Writes the help that was asked for.
+///
+/// It fails with `Device` where a write failed.
+fn tell_help<W: Write>(help: &Error, output: &mut W) -> Result<(), Refusal>
+    ensures { IfErr result (λ refused. refused ≡ Refusal.Device) }
+{
+    if write!(output, "{help}").is_err() {
+        return Err(Refusal::Device);
+    }
+    flush(output)
+}
+
+/// Tells why words ask for nothing that can be done, and gives the status: 0 where help was asked for and written,
+/// 2 where the words are no command, else 3.
+pub(crate) fn tell_unread<W: Write, E: Write>(unread: Unread, output: &mut W, errors: &mut E) -> u8
+    ensures status { result ≤ 3 }
+    ensures not_refused { result ≢ 1 }
+    ensures help { result ≡ 0 → IsHelp unread }
+    ensures silent { result ≡ 0 → Keeps (E.contents errors.old) (E.contents errors.new) }
+    ensures usage { result ≡ 2 → Keeps (W.contents output.old) (W.contents output.new) }
+    ensures mistake { (error : Error) → unread ≡ Unread.Told error → kind_of error ≢ DisplayHelp
+        → result ≡ 2 }
+    ensures memory { unread ≡ Unread.NoMemory
+        → (result ≡ 3) × Keeps (W.contents output.old) (W.contents output.new) }
+    ensures no_memory { unread ≡ Unread.NoMemory
+        → AppendsPart (E.contents errors.old) (E.contents errors.new) (refusal_line NoMemory) }
+    ensures told { result ≡ 3
+        → Tells (λ _. ⊤) 3 (E.contents errors.old) (E.contents errors.new) }
+{
+    match unread {
+        Unread::NoMemory => tell_refusal(Refusal::NoMemory, errors),
+        Unread::Usage => {
+            let _ = write_bytes(errors, OFFSET_MISTAKE);
+            2
+        }
+        Unread::Told(error) if error.kind() != ErrorKind::DisplayHelp => {
+            let _ = write!(errors, "{error}");
+            2
+        }
+        Unread::Told(help) => match tell_help(&help, output) {
+            Ok(()) => 0,
+            Err(refused) => tell_refusal(refused, errors),
+        },
+    }
+}
