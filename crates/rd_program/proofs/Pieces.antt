@@ -24,8 +24,7 @@ module _ (P : Type 0) (all left : List (List ℕ)) (rest piece : List ℕ) (befo
   -- what is left after a piece with which both begin
   pub left_after : (after : List ℕ) → bytes_eq (take (length piece) rest) piece ≡ true → after ≡ drop (length piece) rest → P ↔ (concat left ≡ after)
   left_after after same is =
-      let whole = begins rest piece after same is in
-      (
+      let whole = begins rest piece after same is in (
         λ p. append_cancel_left piece (concat left) after (sym (ap concat steps) ∙ before.0 p ∙ whole),
         λ ends. before.1 (ap concat steps ∙ ap (λ back. piece ++ back) ends ∙ sym whole),
       )

@@ -112,11 +112,12 @@ abbrev pub IsCheckOf : ℕ → Question → Type 0
 IsCheckOf acc (question.Check accession) = accession ≡ acc
 IsCheckOf acc question.Catalogue = ⊥
 
+-- a desk is asked what a check of this accession finds
 abbrev pub AsksCheckOf : ℕ → Ask → Type 0
 AsksCheckOf acc (Once ask) = IsCheckOf acc ask.question
 AsksCheckOf acc _ = ⊥
 
--- it is asked for the catalogue, or for a check
+-- it is asked for a check
 abbrev pub IsCheck : Question → Type 0
 IsCheck (question.Check accession) = ⊤
 IsCheck question.Catalogue = ⊥

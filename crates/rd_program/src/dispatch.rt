@@ -91,8 +91,9 @@ fn perform<R: Read, W: Write, M: Machine>(
 }
 
 /// Runs the program on its words, which come without its name, and gives its exit status: 0 where
-/// it did what was asked for, 1 where the image or its file is refused or a desk stands already, 2 where
-/// the words are no command, and 3 where the device, the clock, memory or the store failed.
+/// it did what was asked for, 1 where the image, its file, a sheet, a row of it or a request is refused, a desk
+/// stands already or a check finds an image changed, 2 where the words are no command, and 3 where the device,
+/// the clock, memory or the store failed.
 ///
 /// The image `-` is read from the input, any other by the machine. What is asked for is written to
 /// the output; a refusal is told in one line on `errors`, and a mistake in the words by a text.
@@ -176,8 +177,8 @@ pub fn run<R: Read, W: Write, E: Write, M: Machine>(
         → Tells (λ refusal. RefusesServe refusal port count (W.contents output.old) (W.contents output.new))
         result (E.contents errors.old) (E.contents errors.new) }
 
-    // An `import`: at 0 it has written a line for each row, that its image was taken in. Not at 0 it has told each
-    // row on its line, or its refusal is told after the lines of the rows before.
+    // An `import`: at 0 it has written only lines that tell that an image was taken in. Not at 0 it has written only
+    // lines of rows, and its refusal is told after them or, at 1, nothing.
     ensures imported { result ≡ 0 → IsImport (map (λ word. word.now) words.entry.now)
         → GainsLines IsDoneLine (W.contents output.old) (W.contents output.new) }
     ensures import_told { result ≢ 0 → IsImport (map (λ word. word.now) words.entry.now)

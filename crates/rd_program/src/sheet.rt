@@ -115,7 +115,8 @@ pub(crate) fn is_header(fields: &ByteRecord) -> bool
 
 /// Reads the next row of a sheet. Where there is one it has as many fields as the first that was read.
 ///
-/// It fails with `BadSheet` where a row has another number of fields, and with `NoMemory`.
+/// It fails with `BadSheet` where a row has another number of fields, with `NoMemory`, and with `Device` where the
+/// reader does, as one over a slice never does.
 pub(crate) fn next_row(reader: &mut Reader<&[u8]>, fields: &mut ByteRecord) -> Result<bool, Refusal>
     ensures { IfErr result IsReadRefusal }
 {

@@ -229,6 +229,7 @@ const ENDINGS: &[Step] = table![
     like!(Step, REFUSED, label: "a clock after all days", words: &["import", "--store", "museum.sqlite", "--key", "abc", "--sheet", "images.csv"], moment: Ok(i64::MAX), sheet: Sheet::Fails(MachineFault::Failed), errors: "desk: clock\n");
     like!(Step, REFUSED, label: "a moment after all days", words: &["import", "--store", "museum.sqlite", "--key", "abc", "--sheet", "images.csv", "--at", "9223372036854775807"], moment: Ok(AFTER), errors: "desk: clock\n");
     like!(Step, REFUSED, label: "the first moment after all days", words: &["import", "--store", "museum.sqlite", "--key", "abc", "--sheet", "images.csv", "--at", "253402300800"], errors: "desk: clock\n");
+    like!(Step, REFUSED, label: "after all days by its own clocks", words: &["import", "--store", "museum.sqlite", "--key", "abc", "--sheet", "images.csv", "--at", "253402300799", "--offset", "E0001"], errors: "desk: clock\n");
     like!(Step, REFUSED, label: "no sheet", sheet: Sheet::Fails(MachineFault::Failed));
     like!(Step, REFUSED, label: "no memory for a sheet", sheet: Sheet::Fails(MachineFault::NoMemory), errors: "desk: no-memory\n");
     like!(Step, REFUSED, label: "another sheet", words: &["import", "--store", "museum.sqlite", "--key", "abc", "--sheet", "other.csv", "--at", "0"]);

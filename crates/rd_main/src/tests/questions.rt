@@ -111,6 +111,8 @@ const OUTPUTS: &[&[Step]] = table![
     &[INIT, DESK, TWELVE, like!(Step, FAILED, label: "no byte of a catalogue", room: 0), EXPORT];
     &[INIT, DESK, TWELVE, like!(Step, FAILED, label: "a part of a catalogue", room: 9, output: "accession"), EXPORT];
     &[INIT, DESK, TWELVE, like!(Step, FAILED, label: "a catalogue that is not flushed", flush_fails: true, output: "accession,deed,kind,slot,user,name,type,size,faults,rule,effect\n12,7,d64,0,,HELLO,PRG,258,,R7.20,read\n")];
+    &[INIT, DESK, TWELVE, like!(Step, CHECK, label: "no byte of a line", room: 0, status: 3, output: "", errors: "desk: device\n"), CHECK];
+    &[INIT, DESK, TWELVE, like!(Step, CHECK, label: "a line that is not flushed", flush_fails: true, status: 3, errors: "desk: device\n"), CHECK];
     &[INIT, DESK, TWELVE, like!(Step, CHECK, label: "a part of a line", room: 4, status: 3, output: "12 s", errors: "desk: device\n"), CHECK];
 ];
 
