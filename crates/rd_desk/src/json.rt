@@ -266,15 +266,17 @@ pub(crate) fn checked(outcome: Outcome) -> Reply
     }
 }
 
-/// The reply where the database fails or memory is wanting. It takes no memory.
-pub(crate) fn unavailable() -> Reply
+/// The reply where the database fails or memory is wanting: status 503 and `{"error":"unavailable"}`. It
+/// takes no memory.
+pub fn unavailable() -> Reply
     ensures { result ≡ UNAVAILABLE }
 {
     fixed_reply(503, "{\"error\":\"unavailable\"}")
 }
 
-/// The reply that says what is said. It fails only where memory is refused.
-pub(crate) fn reply_to(alloc: Global, said: Said) -> Result<Reply, NoMemory>
+/// The reply that says what is said: its status, and its body as JSON by RFC 8259, as CSV by RFC 4180 for a
+/// catalogue, or as the bytes of a file. It fails only where memory is refused.
+pub fn reply_to(alloc: Global, said: Said) -> Result<Reply, NoMemory>
     ensures { IfOk result (λ reply. reply ≡ reply_of said) }
 {
     match said {

@@ -15,13 +15,12 @@ mod refusal;
 mod request;
 mod said;
 mod surveys;
-#[cfg(test)]
-mod tests;
 mod words;
 
 pub use body::{Body, BodyPieces};
 pub use checks::check_row;
 pub use desk::{Desk, answer_in_memory};
+pub use json::{reply_to, unavailable};
 pub use laws::{answers_step, one_reply, same_again};
 pub use rd_geometry::{Items, Kind, NoMemory, Text};
 pub use rd_store::Outcome;

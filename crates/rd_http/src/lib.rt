@@ -18,8 +18,6 @@ mod serve;
 mod taking;
 mod target;
 mod tcp;
-#[cfg(test)]
-mod tests;
 mod visit;
 mod wire;
 mod write;

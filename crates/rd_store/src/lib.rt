@@ -21,8 +21,6 @@ mod rule_laws;
 mod rules;
 mod store;
 mod tested;
-#[cfg(test)]
-mod tests;
 mod version;
 
 pub use faults::{CreateFault, OpenFault, Refused, StoreFault};

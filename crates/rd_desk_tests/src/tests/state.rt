@@ -5,7 +5,7 @@ ghost use Rattle.std.specs.Prelude.{◌≡◌, false, IfOk};
 use super::cases::told;
 use super::images::PROGRAM_12;
 use super::requests::{ALL, Ask, Files, Key, NOT_STAFF, NewRule, STAFF, request_of};
-use crate::{Desk, Reply, Request};
+use rd_desk::{Desk, Reply, Request};
 use rd_geometry::NoMemory;
 use rd_policy::{Audience, Band, Effect};
 use rd_store::{Refused, Store};

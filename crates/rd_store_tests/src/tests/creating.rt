@@ -2,8 +2,8 @@
 
 use super::steps::{Case, Digest, Question, Start, Step, assert_cases, started};
 use super::{ROOM, assert_filled, filled, into_connection, new_connection, number, open_desk, run};
-use crate::{CreateFault, Refused, Store};
 use rd_policy::Audience;
+use rd_store::{CreateFault, Refused, Store};
 use sqlite::{Connection, MemStore};
 use std::alloc::Global;
 use std::process::Abort;

@@ -2,7 +2,7 @@
 
 use super::steps::{Call, DONE, MISSING, Step, assert_steps};
 use super::{Desk, PROGRAM, into_connection, new_desk, open_desk, put_check};
-use crate::{Outcome, StoreFault};
+use rd_store::{Outcome, StoreFault};
 use sqlite::{Connection, Error, MemStore, Row};
 use std::alloc::Global;
 use std::process::Abort;

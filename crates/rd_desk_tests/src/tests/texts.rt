@@ -1,8 +1,10 @@
 //! The text of each reply, byte for byte. A script runs these tests under an allocator that refuses one
 //! growth: a reply that is then not made is made again, and must be as ever.
 
-use crate::json::{reply_to, unavailable};
-use crate::{Body, Form, ImageLine, Line, Listing, Outcome, Refusal, Reply, Said, Survey};
+use rd_desk::{
+    Body, Form, ImageLine, Line, Listing, Outcome, Refusal, Reply, Said, Survey, reply_to,
+    unavailable,
+};
 use rd_geometry::{Items, Kind, NoMemory, Text};
 use rd_policy::{Effect, Label, Verdict};
 use rd_volume::{End, Found, MapReport, Report};

@@ -4,11 +4,11 @@ use super::{
     ALL, DIGEST, Desk, NOT_STAFF, OTHER_DIGEST, ROOM, ROOM_ALONE, STAFF, filled, new_desk,
     put_check, put_deed, put_rule,
 };
-use crate::{DeedRow, ImageRow, Outcome, Store, StoreFault};
 use rd_geometry::{Kind, NoMemory, Text};
 use rd_policy::{Audience, Band, Effect, Rule, Select, is_scope};
 use rd_rows::cbm::{looped, one_program};
 use rd_rows::cpm::hello;
+use rd_store::{DeedRow, ImageRow, Outcome, Store, StoreFault};
 use sqlite::Alter;
 use std::alloc::Global;
 use std::process::Abort;

@@ -11,9 +11,9 @@ mod steps;
 
 ghost use Rattle.std.specs.Prelude.{◌≡◌, false, IfOk};
 
-use crate::{OpenFault, Outcome, Refused, Store, StoreFault, is_donor};
 use rd_geometry::NoMemory;
 use rd_policy::{Audience, Audiences, Rule, is_day, is_scope};
+use rd_store::{OpenFault, Outcome, Refused, Store, StoreFault, is_donor};
 use sqlite::{Alter, Connection, Error, MemStore};
 use std::alloc::Global;
 use std::process::Abort;

@@ -3,7 +3,7 @@
 use super::{
     Desk, assert_filled, filled, into_connection, new_connection, new_desk, number, open_desk, run,
 };
-use crate::OpenFault;
+use rd_store::OpenFault;
 use sqlite::{Connection, Error, MemStore, Row, params};
 use std::alloc::Global;
 use std::process::Abort;

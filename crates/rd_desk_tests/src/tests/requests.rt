@@ -1,7 +1,7 @@
 //! Requests in words that a table can hold.
 
 use super::images::{NewImage, Picture, bytes_of};
-use crate::{Request, What};
+use rd_desk::{Request, What};
 use rd_geometry::{Items, NoMemory, Text};
 use rd_policy::{Audience, Audiences, Band, Effect, Rule, Select};
 use sha2::{Digest, Sha256};

@@ -2,7 +2,7 @@
 
 use super::cases::{CLOSED, FOR_HELLO, HELLO, Wanted, bytes_of, filled_desk, text_of};
 use super::state::{AFTER, BEFORE, add_visit, new_door, out_of, run};
-use crate::{Ended, MemoryDoor, Served};
+use rd_http::{Ended, MemoryDoor, Served};
 use std::alloc::Global;
 use std::process::Abort;
 use std::test::Fail;

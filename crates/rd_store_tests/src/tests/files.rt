@@ -1,7 +1,7 @@
 //! A desk in a file.
 
 use super::{STAFF, assert_filled, fill, into_connection, open_desk};
-use crate::{Refused, Store};
+use rd_store::{Refused, Store};
 use sqlite::{Alter, Connection, Error, File, FileStore};
 use std::alloc::Global;
 use std::process::Abort;

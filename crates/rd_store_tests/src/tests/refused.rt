@@ -3,9 +3,9 @@
 
 use super::steps::{Call, DONE, Digest, Named, Question, Step, answer, assert_steps, tells_so};
 use super::{Desk, PROGRAM, STAFF, into_connection, new_connection, number, open_desk, put_check};
-use crate::{OpenFault, Outcome, Refused, Store, StoreFault};
 use rd_geometry::NoMemory;
 use rd_policy::Audience;
+use rd_store::{OpenFault, Outcome, Refused, Store, StoreFault};
 use sqlite::{Connection, Error, MemStore};
 use std::alloc::Global;
 use std::process::Abort;

@@ -2,9 +2,9 @@
 
 ghost use Rattle.std.specs.Prelude.{◌≡◌, false, IfOk};
 
-use crate::{Door, MemoryDoor, Served, serve_many};
 use rd_desk::{Desk, Items};
 use rd_geometry::NoMemory;
+use rd_http::{Door, MemoryDoor, Served, serve_many};
 use rd_store::{Refused, Store};
 use sqlite::{Connection, MemStore};
 use std::alloc::{AllocError, Global};

@@ -5,7 +5,7 @@ use super::cases::{
 };
 use super::fakes::{Fragile, Plan, Visitors};
 use super::state::{AFTER, Memory, add_visit, new_desk, new_door, out_of, run};
-use crate::{Ended, MemoryDoor, Served, WireFault, serve_one};
+use rd_http::{Ended, MemoryDoor, Served, WireFault, serve_one};
 use std::alloc::{AllocError, Global};
 use std::process::Abort;
 use std::test::Fail;

@@ -8,8 +8,8 @@ use super::cases::{
     Visit, Wanted, bytes_of, door_of, text_of,
 };
 use super::state::{AFTER, Memory, new_desk, out_of};
-use crate::{Door, MemoryDoor, WireFault, serve_one};
 use rd_geometry::NoMemory;
+use rd_http::{Door, MemoryDoor, WireFault, serve_one};
 use std::alloc::Global;
 use std::process::Abort;
 use std::test::Fail;

@@ -2,10 +2,10 @@
 
 use super::steps::{image, is_given};
 use super::{PROGRAM, filled, into_connection, number, open_desk, run};
-use crate::OpenFault;
 use rd_geometry::NoMemory;
 use rd_rows::bytes::put;
 use rd_rows::cbm::one_program;
+use rd_store::OpenFault;
 use sqlite::types::ValueRef;
 use sqlite::{Connection, Error, MemStore};
 use std::alloc::Global;

@@ -4,7 +4,7 @@ use super::cases::{
     BAD_HEAD, CLOSED, Came, FOR_HELLO, HELLO, Wanted, bytes_of, filled_desk, text_of,
 };
 use super::state::{AFTER, BEFORE, Memory};
-use crate::{Clock, Ended, Served, TcpDoor, serve_in_memory};
+use rd_http::{Clock, Ended, Served, TcpDoor, serve_in_memory};
 use std::alloc::AllocGlobal;
 use std::io::{Read, Write};
 use std::net::{Net, Shutdown, TcpListener, TcpStream};

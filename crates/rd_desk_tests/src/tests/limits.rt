@@ -5,7 +5,7 @@ use super::requests::{Ask, Files, NewRule, PUBLIC, digest_of, digest_of_picture,
 use super::state::{
     AFTER, BEFORE, CLOSED, OPEN, OPENING, STAFF_DIGEST, TAKEDOWN, create, new_connection,
 };
-use crate::{Desk, Request, What};
+use rd_desk::{Desk, Request, What};
 use rd_geometry::{NoMemory, Text};
 use rd_policy::{Audience, Audiences, Band, Effect, OutOfRange};
 use rd_store::Store;

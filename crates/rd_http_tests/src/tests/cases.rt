@@ -1,8 +1,8 @@
 //! Cases: visits of a desk, and what has to go out at each.
 
 use super::state::{AFTER, Memory, add_visit, new_desk, new_door, out_of, run};
-use crate::{Ended, MemoryDoor, Served};
 use rd_geometry::NoMemory;
+use rd_http::{Ended, MemoryDoor, Served};
 use rd_rows::cbm::{looped, one_program};
 use rd_rows::cpm::hello;
 use std::alloc::Global;

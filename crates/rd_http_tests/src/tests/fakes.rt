@@ -2,7 +2,7 @@
 
 ghost use Rattle.std.specs.Prelude.{◌≡◌, None, false};
 
-use crate::{Broken, Door, Shut, Wire};
+use rd_http::{Broken, Door, Shut, Wire};
 use std::alloc::Global;
 
 /// How a connection behaves: its moment; how many bytes a read gives at most, and how many reads there are

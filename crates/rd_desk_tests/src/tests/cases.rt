@@ -2,7 +2,7 @@
 
 use super::requests::{Ask, Key, NOBODY, PUBLIC, ROOM, STAFF};
 use super::state::{AFTER, BEFORE, Memory, desk_with, into_connection, reply_to, tables_of};
-use crate::{Form, Reply};
+use rd_desk::{Form, Reply};
 use rd_geometry::NoMemory;
 use std::alloc::Global;
 use std::process::Abort;

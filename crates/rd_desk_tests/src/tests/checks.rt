@@ -7,7 +7,7 @@ use super::state::{
     AFTER, BEFORE, Memory, NEXT_DAY, STAFF_DIGEST, THAT_NIGHT, desk_with, into_connection, opened,
     rows,
 };
-use crate::{Outcome, check_row};
+use rd_desk::{Outcome, check_row};
 use sqlite::{Connection, Error, MemStore, Row, params};
 use std::alloc::Global;
 use std::process::Abort;

@@ -11,7 +11,7 @@ use super::state::{
     AFTER, BEFORE, CLOSED, Memory, OPEN, TAKEDOWN, answer, create, desk_over, into_connection,
     new_connection, opened, tables_of,
 };
-use crate::{Reply, Request};
+use rd_desk::{Reply, Request};
 use rd_geometry::NoMemory;
 use rd_policy::{Audience, Band};
 use rd_store::Store;

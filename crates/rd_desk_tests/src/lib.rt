@@ -1,0 +1,5 @@
+//! The tests of the desk, on its public calls alone.
+#![tactic(auto)]
+
+#[cfg(test)]
+mod tests;
