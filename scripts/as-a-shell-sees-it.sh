@@ -11,6 +11,7 @@ hello=crates/rd_main/stdin
 passed=0 failed=0
 : >"$work/nothing"
 printf '0\t0\tTXT\t128\t\tHELLO.TXT\nfiles\t1\tend\n' >"$work/list"
+echo 'desk 0.1.0' >"$work/version"
 head -c 256255 "$hello" >"$work/short" && { cat "$hello"; printf x; } >"$work/long" || exit 1
 
 # ends STATUS TOLD WRITTEN COMMAND..: the command has to end with this status, tell this line on its standard
@@ -47,6 +48,8 @@ ends 0 "" crates/rd_main/stdout "$desk" cat cpm8 "$hello" 0
 ends 0 "" "$work/list" from "$hello" "$desk" list cpm8 -
 ends 0 "" "$work/list" "$desk" list cpm8 -- "$hello"
 ends 0 "" '*' "$desk" --help
+ends 0 "" "$work/version" "$desk" --version
+ends 0 "" "$work/version" "$desk" -V list
 ends 1 "desk: wrong-size" "$work/nothing" from "$work/short" "$desk" list cpm8 -
 ends 1 "desk: wrong-size" "$work/nothing" "$desk" cat cpm8 "$work/long" 0
 ends 1 "desk: no-file" "$work/nothing" "$desk" cat cpm8 "$hello" 1
@@ -61,6 +64,7 @@ ends 3 "desk: device" "$work/nothing" "$desk" cat cpm8 "$work" 0
 ends 3 "desk: device" "$work/nothing" into /dev/full "$desk" cat cpm8 "$hello" 0
 ends 3 "desk: device" "$work/nothing" into /dev/full "$desk" list cpm8 "$hello"
 ends 3 "desk: device" "$work/nothing" into /dev/full "$desk" --help
+ends 3 "desk: device" "$work/nothing" into /dev/full "$desk" --version
 ends 3 "desk: device" "$work/nothing" closed "$desk" cat cpm8 "$hello" 0
 ends 3 "desk: device" "$work/nothing" closed "$desk" list cpm8 "$hello"
 

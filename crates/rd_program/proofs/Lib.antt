@@ -2,6 +2,7 @@ pub mod Operands
 pub mod Texts
 pub mod CatLine
 pub mod ListLine
+pub mod VersionLine
 pub mod Asked
 pub mod Written
 pub mod ReadUpTo

@@ -5,7 +5,7 @@ use Rattle.std.specs.Str.Parse.{ParsesSigned, ParsesUnsigned}
 use Rattle.std.specs.declared.num.ParseIntError.{ParseIntError}
 use Rattle.clap.specs.Values.{kind_of}
 use Rattle.clap.specs.Words.{Row, Text, first_of, one_of}
-use Rattle.clap.specs.declared.error.kind.ErrorKind.TheVariants.{DisplayHelp}
+use Rattle.clap.specs.declared.error.kind.ErrorKind.TheVariants.{DisplayHelp, DisplayVersion}
 use Rattle.rd_geometry.specs.declared.kind.Kind.{Kind}
 use Rattle.httparse.specs.Grammar.{trim_ows}
 use Rattle.rd_geometry.specs.Kinds.{size_of, word_of}
@@ -159,6 +159,12 @@ abbrev pub IsHelp : Unread → Type 0
 IsHelp (Told error) = kind_of error ≡ DisplayHelp
 IsHelp Usage = ⊥
 IsHelp NoMemory = ⊥
+
+-- what is told of the words is the version
+abbrev pub IsVersion : Unread → Type 0
+IsVersion (Told error) = kind_of error ≡ DisplayVersion
+IsVersion Usage = ⊥
+IsVersion NoMemory = ⊥
 
 -- what is told of the words is a fault that `clap` finds in them
 abbrev pub IsFaultOf : List Text → Unread → Type 0

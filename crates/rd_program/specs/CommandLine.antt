@@ -4,7 +4,7 @@ use Rattle.std.specs.Borrow.{Bor}
 use Rattle.clap.specs.Simple.{on_top}
 use Rattle.clap.specs.Words.{App, IsAmong, Row, Rule, Shape, Text, fault_of, new_app, new_rule, subcommand_of, with_rule, with_subcommand}
 use Rattle.clap.specs.declared.error.kind.ErrorKind.{ErrorKind}
-use Rattle.clap.specs.declared.error.kind.ErrorKind.TheVariants.{DisplayHelp}
+use Rattle.clap.specs.declared.error.kind.ErrorKind.TheVariants.{DisplayHelp, DisplayVersion}
 use Rattle.clap.specs.declared.builder.value_parser.ValueParser.{ValueParser}
 use Rattle.clap.specs.declared.builder.value_parser.ValueParser.TheVariants.{Names, Signed}
 
@@ -112,10 +112,11 @@ check_app =
     with_rule (with_rule (with_rule (with_rule (with_rule (new_app (codes "check")) store_rule) key_rule) accession_rule)
     moment_rule) offset_rule
 
--- the words come without the program's name, and one of them is a command's
+-- the words come without the program's name, one of them is a command's, and there is a version to tell
 abbrev pub wants_command : Shape → Shape
 wants_command s = record s {
   no_binary_name = true;
+  has_version = true;
   arg_required_else_help = true;
   subcommand_required = true;
 }
@@ -173,7 +174,7 @@ pub record IsTakenAs (name : Text) (words : List Text) : Type 0 where
 abbrev pub IsTakenTelling : List Text → Type 0
 IsTakenTelling words = IsTakenAs (codes "import") words ⊎ IsTakenAs (codes "check") words
 
--- `clap` finds a fault of a kind in the words; a call for help is one
+-- `clap` finds a fault of a kind in the words; a call for help or the version is one
 pub record HasFault (words : List Text) (kind : ErrorKind) : Type 0 where
   pub app : App
   pub is_desk : IsDeskApp app
@@ -188,3 +189,7 @@ pub record Enters (words : List Text) (name : Text) (rows : List Row) : Type 0 w
 -- the words ask for help
 abbrev pub AsksForHelp : List Text → Type 0
 AsksForHelp words = HasFault words DisplayHelp
+
+-- the words ask for the version
+abbrev pub AsksForVersion : List Text → Type 0
+AsksForVersion words = HasFault words DisplayVersion

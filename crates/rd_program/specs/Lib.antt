@@ -15,3 +15,4 @@ pub mod Serving
 pub mod Sheets
 pub mod Importing
 pub mod Asking
+pub mod Versions

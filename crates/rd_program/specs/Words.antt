@@ -39,3 +39,7 @@ pub record AsksList (words : List (List ℕ)) (kind : Kind) (image : List ℕ) :
 abbrev pub AsksOfKind : List (List ℕ) → Kind → Type 0
 AsksOfKind words kind = ((image : List ℕ) × (slot : ℕ) × AsksCat words kind image slot)
     ⊎ ((image : List ℕ) × AsksList words kind image)
+
+-- the first of the words asks for the version, whatever follows it
+abbrev pub AsksVersion : List (List ℕ) → Type 0
+AsksVersion words = (rest : List (List ℕ)) × ((words ≡ codes "--version" ∷ rest) ⊎ (words ≡ codes "-V" ∷ rest))

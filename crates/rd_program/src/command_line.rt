@@ -3,6 +3,7 @@ ghost use Rattle.clap.specs.Words.{app_of, rule_of};
 ghost use Rattle.clap.specs.declared.builder.command.Command.TheViews.{out-Command as fields_of};
 ghost use Rattle.rd_program.specs.CommandLine.{IsCatApp, IsDeskApp, IsKindRule, IsListApp, accession_rule, bare_app, check_app, count_rule, export_app, image_rule, import_app, init_app, key_rule, moment_rule, offset_rule, optional_key_rule, port_rule, serve_app, sheet_rule, slot_rule, store_rule};
 
+use crate::version::VERSION;
 use clap::{Arg, Command, value_parser};
 use std::alloc::{AllocError, Global};
 
@@ -257,6 +258,7 @@ fn bare_desk<'a>(alloc: Global) -> Result<Command<'a>, AllocError>
     ensures { IfOk result (λ desk. app_of desk ≡ bare_app) }
 {
     let desk = Command::new(alloc, "desk")
+        .version(VERSION)
         .about("Reads files from disk images, and serves those of a museum by its rules")
         .after_help(
             "Examples:\n  desk list cpm8 disk.img\n  desk cat cpm8 disk.img 0\n  desk list d64 disk.d64\n  desk init --store museum.sqlite --key 'a long phrase'\n  desk serve --store museum.sqlite --port 8041 --count 1000\n  desk import --store museum.sqlite --key 'a long phrase' --sheet images.csv\n  desk export --store museum.sqlite\n  desk check --store museum.sqlite --key 'a long phrase' --acc 12",

@@ -8,7 +8,7 @@ ghost use Rattle.rd_geometry.specs.declared.kind.Kind.TheVariants as kinds;
 ghost use Rattle.rd_program.specs.Asking.{RefusesOnce, TellsCheck};
 ghost use Rattle.rd_program.specs.Asks.{AsksADesk, AsksCheckOf, HasOffset, IsFileAsk, IsFilesAsk, IsInitAsk, IsServeAsk, TellsInRows, TellsOnOutput, most_read};
 ghost use Rattle.rd_program.specs.Cat.{HasNoSoundFile, IsCut, Refuses, Serves};
-ghost use Rattle.rd_program.specs.CommandLine.{AsksForHelp, IsTaken, IsTakenTelling};
+ghost use Rattle.rd_program.specs.CommandLine.{AsksForHelp, AsksForVersion, IsTaken, IsTakenTelling};
 ghost use Rattle.rd_program.specs.Commands.{AsksInit, AsksOfStore, AsksServe, IsCheckOf, IsCommand, IsExport, IsImport};
 ghost use Rattle.rd_program.specs.Importing.{GainsLines, IsDoneLine, IsRowLine, RefusesImport, TellsRows};
 ghost use Rattle.rd_program.specs.Inits.{LeavesInit, MakesDesk, RefusesInit, done_line};
@@ -17,7 +17,8 @@ ghost use Rattle.rd_program.specs.Listed.{Lists, RefusesList};
 ghost use Rattle.rd_program.specs.Refusals.{status_of};
 ghost use Rattle.rd_program.specs.Serving.{RefusesServe, serve_text};
 ghost use Rattle.rd_program.specs.Told.{Tells};
-ghost use Rattle.rd_program.specs.Words.{AsksCat, AsksList, AsksOfKind};
+ghost use Rattle.rd_program.specs.Versions.{RefusesVersion, version_line};
+ghost use Rattle.rd_program.specs.Words.{AsksCat, AsksList, AsksOfKind, AsksVersion};
 
 use crate::cat::cat;
 use crate::done::{Done, whole};
@@ -106,9 +107,12 @@ pub fn run<R: Read, W: Write, E: Write, M: Machine>(
     machine: &mut M,
 ) -> u8
     ensures status { result ≤ 3 }
-    // At 0 and 1 the words are a command; at 0 they may ask for help too.
+    // At 0 and 1 the words are a command; at 0 they may ask for help too, or for the version, of which exactly the
+    // line is written.
     ensures command { result ≡ 0 → IsTaken (map (λ word. word.now) words.entry.now)
-        ⊎ AsksForHelp (map (λ word. word.now) words.entry.now) }
+        ⊎ (AsksForHelp (map (λ word. word.now) words.entry.now)
+        ⊎ (AsksForVersion (map (λ word. word.now) words.entry.now)
+        × Appends (W.contents output.old) (W.contents output.new) version_line)) }
     ensures refused_command { result ≡ 1 → IsTaken (map (λ word. word.now) words.entry.now) }
     // At 0 nothing is told; at 1 and 3 no more than the line of a refusal with this status, and nothing at 1 where
     // an `import` told each row that was refused, or a `check` that an image is changed, on the output.
@@ -198,6 +202,13 @@ pub fn run<R: Read, W: Write, E: Write, M: Machine>(
         result (E.contents errors.old) (E.contents errors.new) }
     ensures export_told { result ≢ 0 → IsExport (map (λ word. word.now) words.entry.now)
         → Tells (RefusesOnce (W.contents output.old) (W.contents output.new))
+        result (E.contents errors.old) (E.contents errors.new) }
+
+    // The version, where the first word asks for it: at 0 exactly its line is written, and else why not is told.
+    ensures version { result ≡ 0 → AsksVersion (map (λ word. word.now) words.entry.now)
+        → Appends (W.contents output.old) (W.contents output.new) version_line }
+    ensures version_told { result ≢ 0 → AsksVersion (map (λ word. word.now) words.entry.now)
+        → Tells (RefusesVersion (W.contents output.old) (W.contents output.new))
         result (E.contents errors.old) (E.contents errors.new) }
 
     // At 2 nothing is written, and the words are none of the forms of a command.

@@ -23,6 +23,7 @@ mod serve;
 mod sheet;
 mod source;
 mod tell;
+mod version;
 mod words;
 
 pub use dispatch::run;

@@ -1,21 +1,23 @@
 //! What is told on the standard error: the line of a refusal, or what is wrong with the words.
 
-ghost use Rattle.std.specs.Prelude.{◌≡◌, ◌≢◌, ◌≤◌, ◌++◌, ⊤, IfErr, OnErr, OnOk, codes};
+ghost use Rattle.std.specs.Prelude.{◌≡◌, ◌≢◌, ◌≤◌, ◌⊎◌, ◌++◌, ⊤, IfErr, OnErr, OnOk, codes};
 ghost use Rattle.std.specs.Io.KnownBytes.{Appends, Keeps};
 ghost use Rattle.clap.specs.Values.{kind_of};
 ghost use Rattle.clap.specs.declared.error.Error.{Error};
-ghost use Rattle.clap.specs.declared.error.kind.ErrorKind.TheVariants.{DisplayHelp};
+ghost use Rattle.clap.specs.declared.error.kind.ErrorKind.TheVariants.{DisplayHelp, DisplayVersion};
 ghost use Rattle.rd_volume.specs.Words.{words_left};
-ghost use Rattle.rd_program.specs.Asks.{IsHelp};
+ghost use Rattle.rd_program.specs.Asks.{IsHelp, IsVersion};
 ghost use Rattle.rd_program.specs.Output.{AppendsPart};
 ghost use Rattle.rd_program.specs.Printed.{blanked, refusal_line, words_after};
 ghost use Rattle.rd_program.specs.Refusals.{status_of};
 ghost use Rattle.rd_program.specs.Told.{Tells};
+ghost use Rattle.rd_program.specs.Versions.{RefusesVersion, version_line};
 ghost use Rattle.rd_program.specs.declared.refusal.Refusal.TheVariants.{NoMemory};
 ghost use Rattle.rd_program.specs.declared.words.Unread.TheVariants as Unread;
 
 use crate::output::{flush, write_bytes};
 use crate::refusal::Refusal;
+use crate::version::tell_version;
 use crate::words::Unread;
 use clap::Error;
 use clap::error::ErrorKind;
@@ -105,22 +107,26 @@ fn tell_help<W: Write>(help: &Error, output: &mut W) -> Result<(), Refusal>
     flush(output)
 }
 
-/// Tells why words ask for nothing that can be done, and gives the status: 0 where help was asked for and written,
-/// 2 where the words are no command, else 3.
+/// Tells why words ask for nothing that can be done, and gives the status: 0 where help or the version was asked for
+/// and written, 2 where the words are no command, else 3.
 pub(crate) fn tell_unread<W: Write, E: Write>(unread: Unread, output: &mut W, errors: &mut E) -> u8
     ensures status { result ≤ 3 }
     ensures not_refused { result ≢ 1 }
-    ensures help { result ≡ 0 → IsHelp unread }
+    ensures shown { result ≡ 0 → IsHelp unread
+        ⊎ (IsVersion unread × Appends (W.contents output.old) (W.contents output.new) version_line) }
     ensures silent { result ≡ 0 → Keeps (E.contents errors.old) (E.contents errors.new) }
     ensures usage { result ≡ 2 → Keeps (W.contents output.old) (W.contents output.new) }
     ensures mistake { (error : Error) → unread ≡ Unread.Told error → kind_of error ≢ DisplayHelp
-        → result ≡ 2 }
+        → kind_of error ≢ DisplayVersion → result ≡ 2 }
     ensures memory { unread ≡ Unread.NoMemory
         → (result ≡ 3) × Keeps (W.contents output.old) (W.contents output.new) }
     ensures no_memory { unread ≡ Unread.NoMemory
         → AppendsPart (E.contents errors.old) (E.contents errors.new) (refusal_line NoMemory) }
     ensures told { result ≡ 3
         → Tells (λ _. ⊤) 3 (E.contents errors.old) (E.contents errors.new) }
+    ensures version { IsVersion unread → result ≢ 0
+        → (result ≡ 3) × Tells (RefusesVersion (W.contents output.old) (W.contents output.new)) 3
+        (E.contents errors.old) (E.contents errors.new) }
 {
     match unread {
         Unread::NoMemory => tell_refusal(Refusal::NoMemory, errors),
@@ -128,13 +134,19 @@ pub(crate) fn tell_unread<W: Write, E: Write>(unread: Unread, output: &mut W, er
             let _ = write_bytes(errors, OFFSET_MISTAKE);
             2
         }
-        Unread::Told(error) if error.kind() != ErrorKind::DisplayHelp => {
-            let _ = write!(errors, "{error}");
-            2
+        Unread::Told(error) => {
+            let told = match error.kind() {
+                ErrorKind::DisplayHelp => tell_help(&error, output),
+                ErrorKind::DisplayVersion => tell_version(output),
+                _ => {
+                    let _ = write!(errors, "{error}");
+                    return 2;
+                }
+            };
+            match told {
+                Ok(()) => 0,
+                Err(refused) => tell_refusal(refused, errors),
+            }
         }
-        Unread::Told(help) => match tell_help(&help, output) {
-            Ok(()) => 0,
-            Err(refused) => tell_refusal(refused, errors),
-        },
     }
 }

@@ -11,11 +11,11 @@ ghost use Rattle.rd_policy.specs.Rules.{IsScope};
 ghost use Rattle.rd_program.specs.Asks.{AreCatRows, AreCheckRows, AreExportRows, AreImportRows, AreInitRows, AreListRows, AreServeRows, IsMomentTold};
 ghost use Rattle.rd_program.specs.Asks.{AsksFile, AsksFiles, AsksImages, AsksNew, AsksOnce, AsksVisits, AsksWhen, IsAskable};
 ghost use Rattle.rd_program.specs.Asks.{EntersCat, EntersCheck, EntersExport, EntersImport, EntersInit, EntersList, EntersServe, EntersTelling};
-ghost use Rattle.rd_program.specs.Asks.{HasOffset, IsFaultOf, IsFileAsk, IsFilesAsk, IsImportAsk, IsInitAsk, IsOnceAsk, IsServeAsk, TellsOnOutput};
+ghost use Rattle.rd_program.specs.Asks.{HasOffset, IsFaultOf, IsFileAsk, IsFilesAsk, IsImportAsk, IsInitAsk, IsOnceAsk, IsServeAsk, IsVersion, TellsOnOutput};
 ghost use Rattle.rd_program.specs.CommandLine.{IsTaken, IsTakenTelling};
 ghost use Rattle.rd_program.specs.Commands.{IsAskOf, IsCommand};
 ghost use Rattle.rd_program.specs.Offsets.{offset_told};
-ghost use Rattle.rd_program.specs.Words.{IsSlotText};
+ghost use Rattle.rd_program.specs.Words.{AsksVersion, IsSlotText};
 ghost use Rattle.rd_program.specs.declared.words.Unread.TheVariants as Unread;
 
 use crate::blanks::trimmed;
@@ -133,7 +133,7 @@ pub(crate) enum Ask<'a> {
 /// Why words ask for nothing that can be done.
 #[derive(Debug, Drop)]
 pub(crate) enum Unread {
-    /// The text to tell: help that was asked for, or what is wrong with the words.
+    /// The text to tell: help or the version that was asked for, or what is wrong with the words.
     Told(Error),
     /// The words are no command, though `clap` takes them: of what it takes, only an offset does not read.
     Usage,
@@ -402,7 +402,7 @@ fn ask_found<'a>(matches: &ArgMatches<'a>) -> Option<Ask<'a>>
 
 /// Reads the words of a command, which come without the program's name.
 ///
-/// It fails with `Told` where they ask for help or are no command, with `Usage` where the parse gives no
+/// It fails with `Told` where they ask for help or the version or are no command, with `Usage` where the parse gives no
 /// command or not all its operands, or an offset is none, and with `NoMemory`.
 pub(crate) fn read_words<'a>(alloc: Global, words: &'a [&'a str]) -> Result<Ask<'a>, Unread>
     ensures read { IfOk result (IsAskOf (map (λ word. word.now) words.entry.now)) }
@@ -412,6 +412,8 @@ pub(crate) fn read_words<'a>(alloc: Global, words: &'a [&'a str]) -> Result<Ask<
     ensures told { IfErr result (IsFaultOf (map (λ word. word.now) words.entry.now)) }
     ensures unread { IfErr result (λ fault. IsCommand (map (λ word. word.now) words.entry.now)
         → fault ≡ Unread.NoMemory) }
+    ensures version { IfErr result (λ fault. AsksVersion (map (λ word. word.now) words.entry.now)
+        → (fault ≡ Unread.NoMemory) ⊎ IsVersion fault) }
 {
     let desk: Command<'a> = desk_command(alloc)?;
     match desk.try_get_matches_from(words) {

@@ -16,7 +16,7 @@ struct Stumble {
     first: End,
 }
 
-const STUMBLES: [Stumble; 6] = [
+const STUMBLES: [Stumble; 8] = [
     Stumble {
         label: "list, the first write fails",
         words: &["list", "cpm8", "-"],
@@ -45,6 +45,16 @@ const STUMBLES: [Stumble; 6] = [
     Stumble {
         label: "help, the first write takes no byte",
         words: &["list", "--help"],
+        first: End::TakesNone,
+    },
+    Stumble {
+        label: "version, the first write fails",
+        words: &["--version"],
+        first: End::Fails,
+    },
+    Stumble {
+        label: "version, the first write takes no byte",
+        words: &["-V"],
         first: End::TakesNone,
     },
 ];

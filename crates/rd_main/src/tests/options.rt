@@ -1,4 +1,5 @@
-//! The words of `init`, `serve` and `import`: which are taken, which are not, and which give help.
+//! The words of `init`, `serve` and `import`: which are taken, which are not, and which give help. Words that ask for
+//! the version.
 
 use super::steps::{INIT, SERVE, Step, assert_steps};
 use super::{is_refused, is_usage_fault, run_on};
@@ -228,7 +229,7 @@ fn the_words_give_the_port_and_the_count(rt: HostRuntime) -> Result<(), Fail> {
 
 /// Words that ask for help, and texts in it.
 const HELPS: &[(Words, &[&str])] = table![
-    (&["--help"], &["init", "serve", "import", "desk init --store museum.sqlite --key 'a long phrase'", "desk serve --store museum.sqlite --port 8041 --count 1000", "desk import --store museum.sqlite --key 'a long phrase' --sheet images.csv"]);
+    (&["--help"], &["init", "serve", "import", "--version", "desk init --store museum.sqlite --key 'a long phrase'", "desk serve --store museum.sqlite --port 8041 --count 1000", "desk import --store museum.sqlite --key 'a long phrase' --sheet images.csv"]);
     (&["cat", "--help"], &["desk cat d64 disk.d64 0"]);
     (&["list", "--help"], &["desk list d64 disk.d64"]);
     (&["init", "--help"], &["--store <FILE>", "--key <KEY>", "desk init --store museum.sqlite --key 'a long phrase'"]);
@@ -246,5 +247,57 @@ fn help_names_the_options(rt: HostRuntime) {
         for part in *parts {
             assert!(rt; text.contains(part), "{words:?}: {part}");
         }
+    }
+}
+
+/// A run that asks for the version.
+const VERSION: Step =
+    like!(Step, INIT, label: "version", words: &["--version"], output: "desk 0.1.0\n");
+
+/// A run that asks for it, with an output that fails.
+const UNTOLD: Step = like!(Step, VERSION, status: 3, errors: "desk: device\n");
+
+/// Words whose first asks for the version, and outputs that fail.
+const VERSIONS: &[Step] = table![
+    VERSION;
+    like!(Step, VERSION, label: "the short flag", words: &["-V"]);
+    like!(Step, VERSION, label: "before a command", words: &["--version", "list", "cpm8", "-"]);
+    like!(Step, VERSION, label: "before no command", words: &["-V", "lists"]);
+    like!(Step, VERSION, label: "before help", words: &["--version", "--help"]);
+    like!(Step, VERSION, label: "twice", words: &["--version", "--version"]);
+    like!(Step, VERSION, label: "in a bundle", words: &["-Vh"]);
+    like!(Step, UNTOLD, label: "no byte is taken", room: 0, output: "");
+    like!(Step, UNTOLD, label: "a part of the line is taken", words: &["-V"], room: 4, output: "desk");
+    like!(Step, UNTOLD, label: "all but the line feed is taken", room: 10, output: "desk 0.1.0");
+    like!(Step, UNTOLD, label: "the output is not flushed", flush_fails: true);
+];
+
+#[test]
+fn the_version_is_told(rt: HostRuntime) -> Result<(), Fail> {
+    assert_steps(&rt, rt.alloc(), VERSIONS)
+}
+
+/// Words that do not ask for the version, though they are close to it, and are no command.
+const NO_VERSIONS: &[Words] = table![
+    &["list", "--version"];
+    &["cat", "-V"];
+    &["serve", "--store", "f", "--version"];
+    &["list", "cpm8", "-", "--version"];
+    &["--version=1"];
+    &["--Version"];
+    &["--versio"];
+    &["-version"];
+    &["-v"];
+    &["version"];
+    &["V"];
+    &["--", "--version"];
+    &["", "--version"];
+];
+
+#[test]
+fn the_version_is_asked_for_by_its_flag_alone(rt: HostRuntime) {
+    for words in NO_VERSIONS {
+        let ran = run_on(rt.alloc(), words, &[]);
+        assert!(rt; is_usage_fault(&ran), "{words:?}");
     }
 }

@@ -141,6 +141,17 @@ fn usage_when_memory_is_refused(rt: HostRuntime) -> Result<(), Fail> {
     Ok(())
 }
 
+#[test]
+fn version_when_memory_is_refused(rt: HostRuntime) -> Result<(), Fail> {
+    let mut output = [0; 16];
+    assert_eq!(rt;
+        run_again(rt.alloc(), Kind::Cpm8, &["--version"], &mut output)?,
+        0
+    );
+    assert!(rt; says(&output, "desk 0.1.0\n"));
+    Ok(())
+}
+
 /// What a run on a museum left: its status, and what was written and told, with zeros after it.
 #[derive(Drop)]
 struct Left {

@@ -5,6 +5,7 @@ use Rattle.rd_program.specs.Input.{ReadsUpTo}
 use Rattle.rd_program.specs.Refusals.{status_of}
 use Rattle.rd_program.specs.Serving.{serve_text}
 use Rattle.rd_program.specs.Told.{Tells}
+use Rattle.rd_program.specs.Versions.{RefusesVersion}
 use Rattle.rd_program.specs.declared.refusal.Refusal.TheVariants.{NoMemory}
 use Rattle.rd_program.proofs.Asked.{help_asked}
 use Rattle.std.proofs.KnownBytes.{Keeps-refl}
@@ -12,6 +13,7 @@ use Rattle.rd_program.proofs.Answered.{check_asks, check_of_desk, export_asks, e
 use Rattle.rd_program.proofs.Imported.{done_lines, import_tells, in_part_is_one, not_in_rows, one_is_some, rows_of, rows_tell}
 use Rattle.rd_program.proofs.Ran.{is_cut, kept_is_cut, no_sound_file, not_done, of_all, of_known, reads_few, reads_no_input, reads_of_kind, tells}
 use Rattle.rd_program.proofs.ReadUpTo.{reads_none, reads_within}
+use Rattle.rd_program.proofs.VersionLine.{version_asked, version_no_help, version_not_taken}
 use Rattle.rd_program.proofs.Written.{none_written}
 use Rattle.rd_program.proofs.dispatch.run.Goals as goal
 
@@ -101,7 +103,10 @@ returns-in-Err-perform-clause-list_told g c = λ some kind asked.
     (c.in-Err-perform.ensures.list_refused kind (c.in-Ok.ensures.read.files kind (codes "-") asked))
 
 pub returns-in-Err-clause-command : goal.returns-in-Err-clause-command
-returns-in-Err-clause-command g c = λ zero. inr (help_asked _ c.in-Err.unread (c.tell_unread.ensures.help zero) c.in-Err.ensures.told)
+returns-in-Err-clause-command g c = λ zero. inr (elim (c.tell_unread.ensures.shown zero) [
+  | inl help ↦ inl (help_asked _ c.in-Err.unread help c.in-Err.ensures.told)
+  | inr version ↦ inr (version_asked _ c.in-Err.unread version.0 c.in-Err.ensures.told, version.1)
+])
 
 pub returns-in-Err-clause-refused_command : goal.returns-in-Err-clause-refused_command
 returns-in-Err-clause-refused_command g c = λ one. absurd (c.tell_unread.ensures.not_refused one)
@@ -327,3 +332,35 @@ returns-in-Err-clause-export_told g c = λ some asks.
     let none = c.in-Err.ensures.unread (inr (inr (inr (inr (inr (inl asks)))))) in
     let memory = c.tell_unread.ensures.memory none in
     tells _ NoMemory _ _ _ (inl (inr (inl (inr refl)), memory.1)) memory.0 (c.tell_unread.ensures.no_memory none)
+
+-- ---- the version
+
+pub returns-in-Ok-perform-clause-version : goal.returns-in-Ok-perform-clause-version
+returns-in-Ok-perform-clause-version g c = λ zero asks. absurd (version_not_taken _ c.in-Ok.ensures.taken asks)
+
+pub returns-in-Ok-perform-clause-version_told : goal.returns-in-Ok-perform-clause-version_told
+returns-in-Ok-perform-clause-version_told g c = λ some asks. absurd (version_not_taken _ c.in-Ok.ensures.taken asks)
+
+pub returns-in-Err-perform-clause-version : goal.returns-in-Err-perform-clause-version
+returns-in-Err-perform-clause-version g c = λ zero asks. absurd (version_not_taken _ c.in-Ok.ensures.taken asks)
+
+pub returns-in-Err-perform-clause-version_told : goal.returns-in-Err-perform-clause-version_told
+returns-in-Err-perform-clause-version_told g c = λ some asks. absurd (version_not_taken _ c.in-Ok.ensures.taken asks)
+
+pub returns-in-Err-clause-version : goal.returns-in-Err-clause-version
+returns-in-Err-clause-version g c = λ zero asks. elim (c.tell_unread.ensures.shown zero) [
+  | inl help ↦ elim (c.in-Err.ensures.version asks) [
+    | inl none ↦ let three : c.tell_unread.result ≡ 3 = (c.tell_unread.ensures.memory none).0 in absurd (omega arith)
+    | inr shown ↦ absurd (version_no_help c.in-Err.unread shown help)
+  ]
+  | inr version ↦ version.1
+]
+
+pub returns-in-Err-clause-version_told : goal.returns-in-Err-clause-version_told
+returns-in-Err-clause-version_told g c = λ some asks. elim (c.in-Err.ensures.version asks) [
+  | inl none ↦ let memory = c.tell_unread.ensures.memory none in
+      tells _ NoMemory _ _ _ (memory.1, refl) memory.0 (c.tell_unread.ensures.no_memory none)
+  | inr shown ↦ let told = c.tell_unread.ensures.version shown some in
+      subst (λ s. Tells (RefusesVersion (g.W.Write.contents c.args.output.now) (g.W.Write.contents c.tell_unread.new.output)) s (g.E.Write.contents c.args.errors.now)
+      (g.E.Write.contents c.tell_unread.new.errors)) (sym told.0) told.1
+]

@@ -2,6 +2,7 @@ use Rattle.std.proofs.Common.{◌≡◌, map}
 use Rattle.clap.specs.Words.{app_of, subcommand_rows_of}
 use Rattle.rd_program.specs.declared.words.Unread.TheVariants.{NoMemory, Usage}
 use Rattle.rd_program.proofs.Asked.{GivesRows, ask_given, ask_offset, ask_read, ask_unread, fails_for_memory, taken_on_output, words_at_fault, words_taken}
+use Rattle.rd_program.proofs.VersionLine.{version_not_parsed, version_unread}
 use Rattle.rd_program.proofs.words.read_words.Goals as goal
 
 pub returns-in-Ok-clause-read : goal.returns-in-Ok-clause-read
@@ -36,3 +37,10 @@ pub returns-in-Ok-clause-told_on_output : goal.returns-in-Ok-clause-told_on_outp
 returns-in-Ok-clause-told_on_output c =
     taken_on_output (app_of c.in_ok-desk.desk) _ c.in-Ok.matches c.in_ok-desk.ensures c.in-Ok.ensures.matches c.in-Ok.ensures.kinds c.ask_found.result Usage c.ok_or.result
     c.ok_or.ensures.value c.ask_found.ensures.told_on_output
+
+pub returns-in-Ok-clause-version : goal.returns-in-Ok-clause-version
+returns-in-Ok-clause-version c = version_not_parsed c.ok_or.result _ (app_of c.in_ok-desk.desk) _ c.in_ok-desk.ensures c.in-Ok.ensures.kinds
+
+pub returns-in-Err-clause-version : goal.returns-in-Err-clause-version
+returns-in-Err-clause-version c =
+    version_unread (app_of c.in_ok-desk.desk) _ c.in-Err.error c.from.result c.in_ok-desk.ensures c.in-Err.ensures.kinds c.from.ensures.0 c.from.ensures.1
