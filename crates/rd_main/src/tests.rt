@@ -29,8 +29,10 @@ macro_rules! reply {
     };
 }
 
+mod checks;
 mod d64;
 mod edges;
+mod failing;
 mod fakes;
 mod imports;
 mod lists;
@@ -50,7 +52,7 @@ use std::alloc::{Alloc, AllocGlobal, Global};
 use std::process::Abort;
 
 /// What a run left behind.
-#[derive(Drop)]
+#[derive(Debug, Drop)]
 struct Ran {
     status: u8,
     output: Vec<u8>,
@@ -262,7 +264,7 @@ fn passes_over_interruptions(rt: HostRuntime) {
         room: 128,
         is_interrupted: true,
         end: End::Fails,
-        flush_fails: false,
+        flushes: 1,
     };
     let mut errors = Vec::new(alloc);
     let status = run(
@@ -286,7 +288,7 @@ fn run_narrow(alloc: Global, room: usize, end: End) -> Result<(u8, Narrow, Vec<u
         room,
         is_interrupted: false,
         end,
-        flush_fails: room == 128,
+        flushes: if room == 128 { 0 } else { 1 },
     };
     let mut errors = Vec::new(alloc);
     let status = run(

@@ -1,6 +1,7 @@
 //! Writers that fail once, files of a length too many or too few, and files of the real machine.
 
 use super::fakes::{End, OneFile, Stumbling};
+use super::imports::HEADER;
 use super::{Ran, is_refused, no_file, run_with};
 use crate::host::Host;
 use rd_program::{Machine, MachineFault, run};
@@ -157,5 +158,94 @@ fn the_machine_reads_a_file(rt: HostRuntime) -> Result<(), Fail> {
     .read_file(rt.alloc(), path.as_str());
     fs::remove_file(&rt, path.as_str())?;
     assert!(rt; given.is_ok_and(|bytes| bytes.as_slice() == b"BYTES".as_slice()));
+    Ok(())
+}
+
+/// What the real machine gives of the path of a sheet: so many bytes, or a fault.
+const SHEETS: [(&str, Result<usize, MachineFault>); 3] = [
+    ("/", Err(MachineFault::Failed)),
+    ("/no-such-file", Err(MachineFault::Failed)),
+    ("/dev/null", Ok(0)),
+];
+
+#[test]
+fn the_machine_reads_no_folder_as_a_sheet(rt: HostRuntime) {
+    let mut host = Host {
+        rt: &rt,
+        door: None,
+    };
+    for (path, wanted) in SHEETS {
+        let given = host.read_sheet(rt.alloc(), path);
+        assert!(rt; given.map(|bytes| bytes.len()) == wanted, "{path}");
+    }
+}
+
+#[test]
+fn the_machine_reads_a_sheet_whole(rt: HostRuntime) -> Result<(), Fail> {
+    let path = fresh_path(&rt)?;
+    let bytes = vec![in rt.alloc(); b','; 300_000]?;
+    fs::write(&rt, path.as_str(), bytes.as_slice())?;
+    let given = Host {
+        rt: &rt,
+        door: None,
+    }
+    .read_sheet(rt.alloc(), path.as_str());
+    fs::remove_file(&rt, path.as_str())?;
+    assert!(rt; given.is_ok_and(|given| given == bytes));
+    Ok(())
+}
+
+/// Removes a database, if it stands.
+fn remove(rt: &HostRuntime, path: &str) -> Result<(), Fail> {
+    for end in ["", "-wal", "-shm"] {
+        let file = format!(in rt.alloc(); "{path}{end}")?;
+        let _ = fs::remove_file(rt, file.as_str());
+    }
+    Ok(())
+}
+
+/// What a run on the real machine left behind.
+fn run_on_host(rt: &HostRuntime, words: &[&str]) -> Ran {
+    let mut output = Vec::new(rt.alloc());
+    let mut errors = Vec::new(rt.alloc());
+    let status = run(
+        rt.alloc(),
+        words,
+        &mut [].as_slice(),
+        &mut output,
+        &mut errors,
+        &mut Host { rt, door: None },
+    );
+    Ran {
+        status,
+        output,
+        errors,
+    }
+}
+
+/// What an `import` on the real machine left behind.
+fn import_on_host(rt: &HostRuntime, store: &str, sheet: &str) -> Ran {
+    let words = ["import", "--store", store, "--key", "abc", "--sheet", sheet];
+    run_on_host(rt, words.as_slice())
+}
+
+/// A row whose file is a folder.
+const FOLDER_ROW: &str =
+    "12,d64,7,ee352834e06f2b572e65490eb845939724cc38542aed18acdf81eded76912afb,/\n";
+
+#[test]
+fn a_folder_is_neither_a_sheet_nor_an_image(rt: HostRuntime) -> Result<(), Fail> {
+    let store = fresh_path(&rt)?;
+    let sheet = fresh_path(&rt)?;
+    let rows = format!(in rt.alloc(); "{HEADER}{FOLDER_ROW}{FOLDER_ROW}")?;
+    fs::write(&rt, sheet.as_str(), rows.as_bytes())?;
+    let init = run_on_host(&rt, &["init", "--store", store.as_str(), "--key", "abc"]);
+    let of_a_folder = import_on_host(&rt, store.as_str(), "/");
+    let with_a_folder = import_on_host(&rt, store.as_str(), sheet.as_str());
+    remove(&rt, store.as_str())?;
+    remove(&rt, sheet.as_str())?;
+    assert!(rt; init.status == 0 && init.errors.is_empty());
+    assert!(rt; is_refused(&of_a_folder, 3, "desk: device\n"));
+    assert!(rt; is_refused(&with_a_folder, 3, "desk: device\n"));
     Ok(())
 }

@@ -2,11 +2,13 @@
 
 ghost use Rattle.std.specs.Prelude.{None};
 
+use super::visits::repeated;
 use rd_http::MemoryDoor;
 use rd_program::{Machine, MachineFault};
 use rd_rows::cbm::one_program;
 use rd_rows::cpm::hello;
-use sqlite::{Connection, MemStore};
+use rd_volume::NoMemory;
+use sqlite::{Alter, Connection, MemStore};
 use std::alloc::{AllocError, Global};
 use std::io;
 use std::io::{ErrorKind, Read, Write};
@@ -46,7 +48,8 @@ pub(crate) struct Narrow {
     pub(crate) room: usize,
     pub(crate) is_interrupted: bool,
     pub(crate) end: End,
-    pub(crate) flush_fails: bool,
+    /// How often it can be flushed.
+    pub(crate) flushes: usize,
 }
 
 impl Write for Narrow {
@@ -68,9 +71,10 @@ impl Write for Narrow {
     }
 
     fn flush(&mut self) -> io::Result<()> {
-        if self.flush_fails {
+        if self.flushes == 0 {
             return Err(io::Error::from(ErrorKind::Other));
         }
+        self.flushes -= 1;
         Ok(())
     }
 }
@@ -155,6 +159,8 @@ pub(crate) const SHEET: &str = "images.csv";
 pub(crate) enum Sheet {
     /// Texts, one after the other.
     Texts(&'static [&'static str]),
+    /// Texts, each so many times.
+    Repeated(&'static [(&'static str, usize)]),
     Bytes(&'static [u8]),
     /// It is not given.
     Fails(MachineFault),
@@ -172,6 +178,7 @@ fn joined(alloc: Global, texts: &[&str]) -> Result<Vec<u8>, AllocError> {
 fn image_at(alloc: Global, path: &str) -> Result<Vec<u8>, MachineFault> {
     let image = match path {
         "hello.d64" | "hello world.d64" | "h\u{e9}llo,\"1\".d64" => one_program(alloc),
+        "empty.d64" => return Ok(Vec::new(alloc)),
         "short.d64" => one_program(alloc).map(|mut image| {
             image.truncate(174_847);
             image
@@ -183,12 +190,12 @@ fn image_at(alloc: Global, path: &str) -> Result<Vec<u8>, MachineFault> {
     image.map_err(|_| MachineFault::NoMemory)
 }
 
-/// A machine with one store in memory, which stays between runs, with some files of images, and with visits to
-/// come.
+/// A machine with one store, which stays between runs, with some files of images, and with visits to come. The store
+/// is in memory where no type says otherwise.
 #[derive(Drop)]
-pub(crate) struct Museum {
+pub(crate) struct Museum<S: Alter + Drop = MemStore> {
     /// The store; `None` while a command has it.
-    pub(crate) conn: Option<Connection<MemStore>>,
+    pub(crate) conn: Option<Connection<S>>,
     pub(crate) door: MemoryDoor,
     /// Whether the store is given, and why not.
     pub(crate) connects: Result<(), MachineFault>,
@@ -196,13 +203,15 @@ pub(crate) struct Museum {
     pub(crate) listens: Result<(), MachineFault>,
     /// What the clock shows.
     pub(crate) moment: Result<i64, MachineFault>,
+    /// Whether it was read.
+    pub(crate) is_clock_read: bool,
     pub(crate) sheet: Sheet,
     /// The port that was asked for last.
     pub(crate) port: Option<u16>,
 }
 
-impl Machine for Museum {
-    type Disk = MemStore;
+impl<S: Alter + Drop> Machine for Museum<S> {
+    type Disk = S;
 
     type Door = MemoryDoor;
 
@@ -220,6 +229,10 @@ impl Machine for Museum {
         }
         match self.sheet {
             Sheet::Texts(texts) => joined(alloc, texts).map_err(|_| MachineFault::NoMemory),
+            Sheet::Repeated(texts) => match repeated(alloc, texts) {
+                Ok(text) => Ok(text.into_bytes()),
+                Err(NoMemory) => Err(MachineFault::NoMemory),
+            },
             Sheet::Bytes(bytes) => Vec::from_slice(alloc, bytes).map_err(
                 |_| MachineFault::NoMemory,
             ),
@@ -228,7 +241,7 @@ impl Machine for Museum {
     }
 
     /// It fails at a path of no store too, and where the store was not given back, or inside a transaction.
-    fn connect(&mut self, path: &str) -> Result<Connection<MemStore>, MachineFault> {
+    fn connect(&mut self, path: &str) -> Result<Connection<S>, MachineFault> {
         self.connects?;
         if path != STORE {
             return Err(MachineFault::Failed);
@@ -239,11 +252,12 @@ impl Machine for Museum {
         }
     }
 
-    fn release(&mut self, conn: &mut Option<Connection<MemStore>>) {
+    fn release(&mut self, conn: &mut Option<Connection<S>>) {
         self.conn = conn.take();
     }
 
     fn now(&mut self) -> Result<i64, MachineFault> {
+        self.is_clock_read = true;
         self.moment
     }
 

@@ -7,7 +7,7 @@ use rd_program::MachineFault;
 use std::test::Fail;
 
 /// The names of the columns.
-const HEADER: &str = "accession,kind,deed,sha256,file\n";
+pub(super) const HEADER: &str = "accession,kind,deed,sha256,file\n";
 
 /// A sheet with the names of the columns and these rows.
 macro_rules! sheet {
@@ -40,19 +40,22 @@ macro_rules! digest {
     };
 }
 
+/// The row of the disk with the program `HELLO` as accession 12.
+pub(super) const HELLO_12: &str = program!("12");
+
 /// The row of accession 12 with the SHA-256 of `abc`.
-const OTHER_DIGEST: &str =
+pub(super) const OTHER_DIGEST: &str =
     "12,d64,7,ba7816bf8f01cfea414140de5dae2223b00361a396177a9cb410ff61f20015ad,hello.d64\n";
 
 /// The row of the disk with the text `HELLO.TXT`, as accession 13.
-const THIRTEEN: &str =
+pub(super) const THIRTEEN: &str =
     "13,cpm8,7,e29a4c10d2d4fb7d396600cdbd0f1c946c6ead6fe1a36febe3f0993d73e52627,hello.img\n";
 
 /// A row of five empty fields.
-const EMPTY: &str = ",,,,\n";
+pub(super) const EMPTY: &str = ",,,,\n";
 
 /// An `import` of accession 12.
-const IMPORT: Step = like!(Step, INIT,
+pub(super) const IMPORT: Step = like!(Step, INIT,
     label: "import",
     words: &["import", "--store", "museum.sqlite", "--key", "abc", "--sheet", "images.csv", "--at", "1893452400", "--offset", "E0100"],
     moment: Err(MachineFault::Failed),
@@ -70,7 +73,7 @@ const REFUSED: Step = like!(Step, IMPORT,
     errors: "desk: device\n"
 );
 
-/// A key for the reading room, and two deeds.
+/// A key for the reading room, a deed, and its rule.
 const GIVEN: &[Visit] = table![
     ("key", AFTER, Came::Asked("PUT /badges/2cf24dba5fb0a30e26e83b2ac5b9e29e1b161e5c1fa7425e73043362938b9824", STAFF, r#"{"audience":"room"}"#), DONE);
     ("deed 7", AFTER, Came::Asked("PUT /deeds/7", STAFF, r#"{"donor":"A. Curator","signed":"2019-05-04"}"#), DONE);
@@ -78,7 +81,7 @@ const GIVEN: &[Visit] = table![
 ];
 
 /// A desk with deed 7, whose files anyone may read.
-const DESK: Step = like!(Step, SERVE,
+pub(super) const DESK: Step = like!(Step, SERVE,
     label: "desk",
     words: &["serve", "--store", "museum.sqlite", "--port", "8041", "--count", "3"],
     visits: GIVEN,
@@ -258,7 +261,11 @@ const OUTPUTS: &[&[Step]] = table![
         images!("both images", TWELVE_AND_13),
         IMPORT,
     ];
-    &[INIT, DESK, like!(Step, REFUSED, label: "no flush", flush_fails: true, sheet: sheet!(program!("12"), THIRTEEN), output: "12 done\n"), images!("one image", TWELVE)];
+    &[INIT, DESK, like!(Step, REFUSED, label: "no flush", flushes: 0, sheet: sheet!(program!("12"), THIRTEEN), output: "12 done\n"), images!("one image", TWELVE)];
+    &[INIT, DESK, like!(Step, REFUSED, label: "no second flush", flushes: 1, sheet: sheet!(program!("12"), THIRTEEN), output: "12 done\n13 done\n"), images!("both images", TWELVE_AND_13), IMPORT];
+    &[INIT, DESK, like!(Step, REFUSED, label: "a bad row that is not flushed", flushes: 1, sheet: sheet!(program!("12"), EMPTY, THIRTEEN), output: "12 done\nrow 2 bad-row\n"), images!("one image", TWELVE)];
+    &[INIT, DESK, like!(Step, REFUSED, label: "a refused row that is not flushed", flushes: 0, sheet: sheet!(OTHER_DIGEST, program!("12")), output: "12 digest-differs\n"), images!("no image", NO_IMAGES)];
+    &[INIT, DESK, like!(Step, IMPORT, label: "two flushes for two rows", flushes: 2, sheet: sheet!(program!("12"), THIRTEEN), output: "12 done\n13 done\n"), images!("both images", TWELVE_AND_13)];
     &[INIT, DESK, like!(Step, REFUSED, label: "a bad row is not told", room: 3, sheet: sheet!(EMPTY, program!("12")), output: "row"), images!("no image", NO_IMAGES)];
     &[INIT, DESK, like!(Step, REFUSED, label: "a refused row is not told", room: 3, sheet: sheet!(OTHER_DIGEST, program!("12")), output: "12 "), images!("no image", NO_IMAGES)];
 ];
@@ -266,4 +273,21 @@ const OUTPUTS: &[&[Step]] = table![
 #[test]
 fn what_was_taken_in_stays_where_the_output_fails(rt: HostRuntime) -> Result<(), Fail> {
     assert_each(&rt, rt.alloc(), OUTPUTS)
+}
+
+/// A sheet of 10,000 rows of one accession, each with an empty file.
+const LONG: Sheet = Sheet::Repeated(&[(HEADER, 1), (program!("12", "empty.d64"), 10_000)]);
+
+/// Each row of a sheet is told on a line and flushed, however many there are.
+const LONG_SHEETS: &[Step] = table![
+    INIT;
+    DESK;
+    like!(Step, IMPORT, label: "50 rows", sheet: Sheet::Repeated(&[(HEADER, 1), (HELLO_12, 50)]), flushes: 50, times: 50);
+    like!(Step, IN_PART, label: "10,000 rows", sheet: LONG, room: 140_000, flushes: 10_000, output: "12 wrong-size\n", times: 10_000);
+    images!("one image", TWELVE);
+];
+
+#[test]
+fn long_sheets_are_taken_in_row_by_row(rt: HostRuntime) -> Result<(), Fail> {
+    assert_steps(&rt, rt.alloc(), LONG_SHEETS)
 }

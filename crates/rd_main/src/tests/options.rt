@@ -1,4 +1,4 @@
-//! The words of `init`, `serve` and `import`: which are taken, which are not, and which give help. Words that ask for
+//! The words of the commands on a store: which are taken, which are not, and which give help. Words that ask for
 //! the version.
 
 use super::steps::{INIT, SERVE, Step, assert_steps};
@@ -133,7 +133,14 @@ const NO_IMPORTS: &[Words] = table![
     &["import"];
     &["import", "--store", "f", "--sheet", "s"];
     &["import", "--key", "k", "--sheet", "s"];
+    import_with!();
     import_with!("--sheet");
+    &["import", "--sheet", "s", "--key", "k", "--store"];
+    &["import", "--store", "f", "--sheet", "s", "--key"];
+    import_with!("--sheet", "s", "--store", "f");
+    import_with!("--sheet", "s", "--count", "1");
+    import_with!("--sheet", "s", "--verbose");
+    import_with!("--sheet", "s", "-s", "s");
     import_with!("--sheet", "s", "--sheet", "s");
     import_with!("--sheet", "s", "--key", "k");
     import_with!("--sheet", "s", "more");
@@ -167,9 +174,91 @@ fn other_words_are_no_command(rt: HostRuntime) {
     }
 }
 
+/// `export` with these words after the store.
+macro_rules! export_with {
+    ($($word:literal),*) => {
+        &["export", "--store", "f" $(, $word)*]
+    };
+}
+
+/// Words of `export` that are no command.
+const NO_EXPORTS: &[Words] = table![
+    &["export"];
+    &["export", "--store"];
+    &["export", "--key", "k"];
+    &["exports", "--store", "f"];
+    export_with!("--store", "f");
+    export_with!("--key");
+    export_with!("--key", "k", "--key", "k");
+    export_with!("--at");
+    export_with!("--at", "");
+    export_with!("--at=");
+    export_with!("--at", "-1");
+    export_with!("--at", "9223372036854775808");
+    export_with!("--at", "1", "--at", "1");
+    export_with!("--offset");
+    export_with!("--offset", "");
+    export_with!("--offset", "E2400");
+    export_with!("--offset", "E0100", "--offset", "E0100");
+    export_with!("--acc", "12");
+    export_with!("--sheet", "s");
+    export_with!("--port", "80");
+    export_with!("--verbose");
+    export_with!("more");
+    export_with!("check", "--key", "k", "--acc", "12");
+];
+
+/// `check` with these words after the store and the key.
+macro_rules! check_with {
+    ($($word:literal),*) => {
+        &["check", "--store", "f", "--key", "k" $(, $word)*]
+    };
+}
+
+/// Words of `check` that are no command.
+const NO_CHECKS: &[Words] = table![
+    &["check"];
+    &["check", "--store", "f", "--acc", "12"];
+    &["check", "--key", "k", "--acc", "12"];
+    &["check", "--store", "f", "--acc", "12", "--key"];
+    &["check", "--key", "k", "--acc", "12", "--store"];
+    &["checks", "--store", "f", "--key", "k", "--acc", "12"];
+    check_with!();
+    check_with!("--acc");
+    check_with!("--acc", "");
+    check_with!("--acc=");
+    check_with!("--acc", "0");
+    check_with!("--acc", "000");
+    check_with!("--acc", "1000000");
+    check_with!("--acc", "4294967297");
+    check_with!("--acc", "-1");
+    check_with!("--acc=-1");
+    check_with!("--acc", "twelve");
+    check_with!("--acc", "12.0");
+    check_with!("--acc", " 12");
+    check_with!("--acc", "0x0c");
+    check_with!("--acc", "12", "--acc", "12");
+    check_with!("--acc", "12", "--key", "k");
+    check_with!("--acc", "12", "--store", "f");
+    check_with!("--acc", "12", "--at");
+    check_with!("--acc", "12", "--at", "");
+    check_with!("--acc", "12", "--at", "-1");
+    check_with!("--acc", "12", "--at", "1", "--at", "1");
+    check_with!("--acc", "12", "--offset", "0100");
+    check_with!("--acc", "12", "--offset", "E0100", "--offset", "E0100");
+    check_with!("--acc", "12", "--sheet", "s");
+    check_with!("--acc", "12", "--verbose");
+    check_with!("--acc", "12", "more");
+    check_with!("12");
+];
+
 #[test]
-fn other_words_are_no_import(rt: HostRuntime) {
-    for words in NO_IMPORTS {
+fn other_words_are_no_import_export_or_check(rt: HostRuntime) {
+    for words in [NO_IMPORTS, NO_EXPORTS, NO_CHECKS]
+        .iter()
+        .copied()
+        .flatten()
+    {
         let ran = run_on(rt.alloc(), words, &[]);
         assert!(rt; is_usage_fault(&ran), "{words:?}");
     }
@@ -206,9 +295,26 @@ const TAKEN: &[Words] = table![
     &["import", "--offset", "E0100", "--at", "1", "--sheet", "s", "--key", "", "--store", "f"];
 ];
 
+/// Words of a question that a machine without a store cannot ask.
+const ASKED: &[Words] = table![
+    export_with!();
+    export_with!("--key", "");
+    export_with!("--key=");
+    export_with!("--key=--store");
+    export_with!("--at", "0", "--offset", "W2359");
+    export_with!("--at", "+9223372036854775807");
+    &["export", "--offset=E0000", "--at=1", "--key=k", "--store="];
+    check_with!("--acc", "1");
+    check_with!("--acc", "999999");
+    check_with!("--acc", "+12");
+    check_with!("--acc=000012");
+    check_with!("--acc", "12", "--at", "0", "--offset", "E2359");
+    &["check", "--offset=W0000", "--at=9223372036854775807", "--acc=12", "--key=", "--store=f"];
+];
+
 #[test]
 fn words_are_taken_in_any_order(rt: HostRuntime) {
-    for words in TAKEN {
+    for words in [TAKEN, ASKED].iter().copied().flatten() {
         let ran = run_on(rt.alloc(), words, &[]);
         assert!(rt; is_refused(&ran, 3, "desk: store\n"), "{words:?}");
     }
@@ -235,6 +341,11 @@ const HELPS: &[(Words, &[&str])] = table![
     (&["init", "--help"], &["--store <FILE>", "--key <KEY>", "desk init --store museum.sqlite --key 'a long phrase'"]);
     (&["init", "--store", "f", "-h"], &["--store <FILE>", "--key <KEY>"]);
     (&["import", "--help"], &["--store <FILE>", "--key <KEY>", "--sheet <SHEET>", "--at <SECONDS>", "--offset <OFFSET>", "accession,kind,deed,sha256,file", "desk import --store museum.sqlite --key 'a long phrase' --sheet images.csv"]);
+    (&["--help"], &["export", "check", "desk export --store museum.sqlite", "desk check --store museum.sqlite --key 'a long phrase' --acc 12"]);
+    (&["export", "--help"], &["--store <FILE>", "--key <KEY>", "--at <SECONDS>", "--offset <OFFSET>", "desk export --store museum.sqlite"]);
+    (&["export", "--store", "f", "-h"], &["--store <FILE>", "--key <KEY>"]);
+    (&["check", "--help"], &["--store <FILE>", "--key <KEY>", "--acc <ACCESSION>", "--at <SECONDS>", "--offset <OFFSET>", "desk check --store museum.sqlite --key 'a long phrase' --acc 12"]);
+    (&["check", "--help", "--acc", "0"], &["--acc <ACCESSION>"]);
     (&["serve", "--help"], &["--store <FILE>", "--port <PORT>", "--count <COUNT>", "--offset <OFFSET>", "desk serve --store museum.sqlite --port 8041 --count 1000 --offset E0100"]);
 ];
 
@@ -269,7 +380,7 @@ const VERSIONS: &[Step] = table![
     like!(Step, UNTOLD, label: "no byte is taken", room: 0, output: "");
     like!(Step, UNTOLD, label: "a part of the line is taken", words: &["-V"], room: 4, output: "desk");
     like!(Step, UNTOLD, label: "all but the line feed is taken", room: 10, output: "desk 0.1.0");
-    like!(Step, UNTOLD, label: "the output is not flushed", flush_fails: true);
+    like!(Step, UNTOLD, label: "the output is not flushed", flushes: 0);
 ];
 
 #[test]

@@ -1,6 +1,7 @@
 //! `export` and `check`: what is written, what is told, and in which order things are judged.
 
 use super::fakes::Sheet;
+use super::imports::{HEADER, HELLO_12, THIRTEEN};
 use super::steps::{INIT, SERVE, Step, assert_each, assert_steps};
 use super::visits::{AFTER, Came, DONE, STAFF, Visit};
 use rd_program::MachineFault;
@@ -15,7 +16,7 @@ const GIVEN: &[Visit] = table![
 ];
 
 /// A desk with deed 7.
-const DESK: Step = like!(Step, SERVE,
+pub(super) const DESK: Step = like!(Step, SERVE,
     label: "desk",
     words: &["serve", "--store", "museum.sqlite", "--port", "8041", "--count", "4"],
     visits: GIVEN,
@@ -23,7 +24,7 @@ const DESK: Step = like!(Step, SERVE,
 );
 
 /// Accession 12: the disk with the program `HELLO`.
-const TWELVE: Step = like!(Step, INIT,
+pub(super) const TWELVE: Step = like!(Step, INIT,
     label: "accession 12",
     words: &["import", "--store", "museum.sqlite", "--key", "abc", "--sheet", "images.csv"],
     sheet: Sheet::Texts(&["accession,kind,deed,sha256,file\n", "12,d64,7,ee352834e06f2b572e65490eb845939724cc38542aed18acdf81eded76912afb,hello.d64\n"]),
@@ -31,7 +32,7 @@ const TWELVE: Step = like!(Step, INIT,
 );
 
 /// An `export` without a key, on the first day of 2030 by the clocks of the desk.
-const EXPORT: Step = like!(Step, INIT,
+pub(super) const EXPORT: Step = like!(Step, INIT,
     label: "export",
     words: &["export", "--store", "museum.sqlite", "--at", "1893452400", "--offset", "E0100"],
     moment: Err(MachineFault::Failed),
@@ -44,7 +45,7 @@ const NOTHING: Step = like!(Step, EXPORT,
 );
 
 /// A `check` of accession 12.
-const CHECK: Step = like!(Step, INIT,
+pub(super) const CHECK: Step = like!(Step, INIT,
     label: "check",
     words: &["check", "--store", "museum.sqlite", "--key", "abc", "--acc", "12", "--at", "1893452400", "--offset", "E0100"],
     moment: Err(MachineFault::Failed),
@@ -106,13 +107,22 @@ fn an_image_is_checked(rt: HostRuntime) -> Result<(), Fail> {
     assert_steps(&rt, rt.alloc(), CHECKS)
 }
 
+/// An `import` of accession 12 again, and of 13, the disk with the text `HELLO.TXT`.
+const BOTH: Step = like!(Step, TWELVE,
+    label: "accessions 12 and 13",
+    sheet: Sheet::Texts(&[HEADER, HELLO_12, THIRTEEN]),
+    output: "12 done\n13 done\n"
+);
+
 /// Outputs that take so much.
 const OUTPUTS: &[&[Step]] = table![
     &[INIT, DESK, TWELVE, like!(Step, FAILED, label: "no byte of a catalogue", room: 0), EXPORT];
     &[INIT, DESK, TWELVE, like!(Step, FAILED, label: "a part of a catalogue", room: 9, output: "accession"), EXPORT];
-    &[INIT, DESK, TWELVE, like!(Step, FAILED, label: "a catalogue that is not flushed", flush_fails: true, output: "accession,deed,kind,slot,user,name,type,size,faults,rule,effect\n12,7,d64,0,,HELLO,PRG,258,,R7.20,read\n")];
+    &[INIT, DESK, BOTH, like!(Step, FAILED, label: "one file of two", room: 102, output: "accession,deed,kind,slot,user,name,type,size,faults,rule,effect\n12,7,d64,0,,HELLO,PRG,258,,R7.20,read\n")];
+    &[INIT, DESK, BOTH, like!(Step, FAILED, label: "a part of the second file", room: 104, output: "accession,deed,kind,slot,user,name,type,size,faults,rule,effect\n12,7,d64,0,,HELLO,PRG,258,,R7.20,read\n13"), CHECK];
+    &[INIT, DESK, TWELVE, like!(Step, FAILED, label: "a catalogue that is not flushed", flushes: 0, output: "accession,deed,kind,slot,user,name,type,size,faults,rule,effect\n12,7,d64,0,,HELLO,PRG,258,,R7.20,read\n")];
     &[INIT, DESK, TWELVE, like!(Step, CHECK, label: "no byte of a line", room: 0, status: 3, output: "", errors: "desk: device\n"), CHECK];
-    &[INIT, DESK, TWELVE, like!(Step, CHECK, label: "a line that is not flushed", flush_fails: true, status: 3, errors: "desk: device\n"), CHECK];
+    &[INIT, DESK, TWELVE, like!(Step, CHECK, label: "a line that is not flushed", flushes: 0, status: 3, errors: "desk: device\n"), CHECK];
     &[INIT, DESK, TWELVE, like!(Step, CHECK, label: "a part of a line", room: 4, status: 3, output: "12 s", errors: "desk: device\n"), CHECK];
 ];
 

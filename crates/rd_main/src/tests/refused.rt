@@ -1,9 +1,10 @@
 //! Runs that a script makes under an allocator that refuses one growth. A run that tells that memory was
 //! refused is made again, and then has to end as ever. Outputs are arrays, which ask for no memory.
 
-use super::fakes::Museum;
+use super::fakes::{Museum, Sheet};
+use super::imports::{EMPTY, HEADER, HELLO_12, OTHER_DIGEST};
 use super::no_file;
-use super::steps::{museum, new_connection, run_on_museum};
+use super::steps::{museum, new_connection, recorded, run_on_museum, write_over};
 use super::visits::{AFTER, Came, DONE, STAFF, Visit, door_of};
 use rd_http::MemoryDoor;
 use rd_program::run;
@@ -156,12 +157,12 @@ fn version_when_memory_is_refused(rt: HostRuntime) -> Result<(), Fail> {
 #[derive(Drop)]
 struct Left {
     status: u8,
-    output: [u8; 64],
+    output: [u8; 128],
     errors: [u8; 64],
 }
 
 fn run_once(alloc: Global, words: &[&str], museum: &mut Museum) -> Left {
-    let mut output = [0; 64];
+    let mut output = [0; 128];
     let mut errors = [0; 64];
     let mut room = output.as_mut_slice();
     let mut told = errors.as_mut_slice();
@@ -252,9 +253,9 @@ const FIRST_LINE: &str = "listening 127.0.0.1:8041\n";
 
 const BOTH_LINES: &str = "listening 127.0.0.1:8041\nserved 1\n";
 
-/// `serve` of the visit, at a new door.
-fn serve_once(alloc: Global, museum: &mut Museum) -> Result<Left, NoMemory> {
-    museum.door = door_again(alloc, DEED)?;
+/// `serve` of a visit, at a new door.
+fn serve_once(alloc: Global, museum: &mut Museum, visits: &[Visit]) -> Result<Left, NoMemory> {
+    museum.door = door_again(alloc, visits)?;
     let words = [
         "serve",
         "--store",
@@ -293,15 +294,191 @@ fn is_served(left: &Left, museum: &Museum) -> bool {
         && (is_left(left, 0, BOTH_LINES, "") || is_left(left, 3, FIRST_LINE, "desk: no-memory\n"))
 }
 
+/// A `serve` of a visit ends as ever, at the second time where memory is refused at the first.
+fn assert_serve(
+    rt: &impl Abort,
+    museum: &mut Museum,
+    alloc: Global,
+    visits: &[Visit],
+) -> Result<(), NoMemory> {
+    let first = serve_once(alloc, museum, visits)?;
+    if !is_whole(&first, museum) {
+        assert!(rt; is_served(&first, museum));
+        let second = serve_once(alloc, museum, visits)?;
+        assert!(rt; is_whole(&second, museum));
+    }
+    Ok(())
+}
+
 #[test]
 fn serve_when_memory_is_refused(rt: HostRuntime) -> Result<(), Fail> {
     let mut museum = museum_again(rt.alloc())?;
     assert_init(&rt, &mut museum, rt.alloc(), (0, "done\n", ""));
-    let first = serve_once(rt.alloc(), &mut museum)?;
-    if !is_whole(&first, &museum) {
-        assert!(rt; is_served(&first, &museum));
-        let second = serve_once(rt.alloc(), &mut museum)?;
-        assert!(rt; is_whole(&second, &museum));
-    }
+    assert_serve(&rt, &mut museum, rt.alloc(), DEED)?;
     Ok(())
+}
+
+/// A visit at which the staff lets anyone read the files under the deed.
+const RULE: &[Visit] = &[(
+    "rule",
+    AFTER,
+    Came::Asked(
+        "PUT /deeds/7/rules/20",
+        STAFF,
+        r#"{"audiences":["public"],"effect":"read","select":{"all":true}}"#,
+    ),
+    DONE,
+)];
+
+/// A museum whose desk has a deed and its rule.
+fn desk_again(rt: &impl Abort, alloc: Global) -> Result<Museum, NoMemory> {
+    let mut museum = museum_again(alloc)?;
+    assert_init(rt, &mut museum, alloc, (0, "done\n", ""));
+    assert_serve(rt, &mut museum, alloc, DEED)?;
+    assert_serve(rt, &mut museum, alloc, RULE)?;
+    Ok(museum)
+}
+
+const IMPORT: &[&str] = &[
+    "import",
+    "--store",
+    "museum.sqlite",
+    "--key",
+    "abc",
+    "--sheet",
+    "images.csv",
+    "--at",
+    "1893452400",
+];
+
+/// What an `import` of three rows writes, and its fronts of whole lines.
+const LINES: [&str; 4] = [
+    "12 done\n12 digest-differs\nrow 3 bad-row\n",
+    "12 done\n12 digest-differs\n",
+    "12 done\n",
+    "",
+];
+
+/// Whether the store of a museum has accession 12, asked for again where memory was refused.
+fn stands(museum: &mut Museum) -> bool {
+    let Some(conn) = &mut museum.conn else {
+        return false;
+    };
+    conn.query_row("SELECT acc FROM image WHERE acc = 12", &[])
+        .is_ok()
+        || conn
+            .query_row("SELECT acc FROM image WHERE acc = 12", &[])
+            .is_ok()
+}
+
+/// An `import` of three rows ends as ever, at the second time where memory is refused at the first, which tells
+/// what it did: a row that is told as done stands.
+fn assert_import(rt: &impl Abort, museum: &mut Museum, alloc: Global) {
+    museum.sheet = Sheet::Texts(&[HEADER, HELLO_12, OTHER_DIGEST, EMPTY]);
+    let first = run_once(alloc, IMPORT, museum);
+    if is_left(&first, 1, LINES[0], "") {
+        return;
+    }
+    assert!(rt; LINES.iter().any(|lines| is_refused(&first, lines)));
+    assert!(rt; is_refused(&first, "") || stands(museum));
+    let second = run_once(alloc, IMPORT, museum);
+    assert!(rt; is_left(&second, 1, LINES[0], ""));
+}
+
+#[test]
+fn import_when_memory_is_refused(rt: HostRuntime) -> Result<(), Fail> {
+    let mut museum = desk_again(&rt, rt.alloc())?;
+    assert_import(&rt, &mut museum, rt.alloc());
+    assert!(rt; stands(&mut museum));
+    Ok(())
+}
+
+/// What a desk is asked once: the words, the status and the output, and what is recorded of checks before and
+/// after it.
+#[derive(Clone, Copy)]
+struct Asked {
+    words: &'static [&'static str],
+    status: u8,
+    output: &'static str,
+    before: &'static str,
+    after: &'static str,
+}
+
+const EXPORT: Asked = Asked {
+    words: &["export", "--store", "museum.sqlite", "--at", "1893452400"],
+    status: 0,
+    output: "accession,deed,kind,slot,user,name,type,size,faults,rule,effect\n12,7,d64,0,,HELLO,PRG,258,,R7.20,read\n",
+    before: "",
+    after: "",
+};
+
+const CHECK: Asked = Asked {
+    words: &[
+        "check",
+        "--store",
+        "museum.sqlite",
+        "--key",
+        "abc",
+        "--acc",
+        "12",
+        "--at",
+        "1893452400",
+    ],
+    status: 0,
+    output: "12 sound\n",
+    before: "",
+    after: "12 21914 0;",
+};
+
+/// The same where the image is changed.
+const CHANGED: Asked = like!(Asked, CHECK,
+    status: 1,
+    output: "12 changed\n",
+    before: "12 21914 0;",
+    after: "12 21914 1;"
+);
+
+fn recorded_again(alloc: Global, museum: &mut Museum) -> Option<String> {
+    recorded(alloc, museum).or_else(|| recorded(alloc, museum))
+}
+
+/// What is asked ends as ever, at the second time where memory is refused at the first, which writes nothing and
+/// records nothing.
+fn assert_asked(
+    rt: &impl Abort,
+    museum: &mut Museum,
+    alloc: Global,
+    asked: &Asked,
+) -> Result<(), Fail> {
+    let first = run_once(alloc, asked.words, museum);
+    if is_refused(&first, "") {
+        let told = recorded(alloc, museum).ok_or("nothing can be read")?;
+        assert_eq!(rt; told.as_str(), asked.before);
+        let second = run_once(alloc, asked.words, museum);
+        assert!(rt; is_left(&second, asked.status, asked.output, ""));
+    } else {
+        assert!(rt; is_left(&first, asked.status, asked.output, ""));
+    }
+    let told = recorded_again(alloc, museum).ok_or("nothing can be read")?;
+    assert_eq!(rt; told.as_str(), asked.after);
+    Ok(())
+}
+
+#[test]
+fn export_when_memory_is_refused(rt: HostRuntime) -> Result<(), Fail> {
+    let mut museum = desk_again(&rt, rt.alloc())?;
+    assert_import(&rt, &mut museum, rt.alloc());
+    assert_asked(&rt, &mut museum, rt.alloc(), &EXPORT)
+}
+
+#[test]
+fn check_when_memory_is_refused(rt: HostRuntime) -> Result<(), Fail> {
+    let mut museum = desk_again(&rt, rt.alloc())?;
+    assert_import(&rt, &mut museum, rt.alloc());
+    assert_asked(&rt, &mut museum, rt.alloc(), &CHECK)?;
+    assert!(rt;
+        write_over(rt.alloc(), &mut museum, 86_018, b"B")
+            || write_over(rt.alloc(), &mut museum, 86_018, b"B")
+    );
+    assert_asked(&rt, &mut museum, rt.alloc(), &CHANGED)
 }

@@ -1,11 +1,13 @@
 //! Steps: runs of the program on a museum, one after the other, and what each has to leave.
 
 use super::fakes::{End, Museum, Narrow, Sheet};
-use super::visits::{AFTER, Visit, door_of, out_of, text_of};
+use super::visits::{AFTER, Visit, door_of, out_of, repeated, text_of};
 use rd_http::MemoryDoor;
 use rd_program::{MachineFault, run};
+use rd_rows::bytes::put;
+use rd_rows::cbm::one_program;
 use rd_volume::NoMemory;
-use sqlite::{Connection, Error, MemStore};
+use sqlite::{Alter, Connection, Error, MemStore, Row, params};
 use std::alloc::Global;
 use std::io::Write;
 use std::process::Abort;
@@ -23,20 +25,25 @@ pub(super) struct Step {
     pub(super) connects: Result<(), MachineFault>,
     /// Whether the machine lends the door, and why not.
     pub(super) listens: Result<(), MachineFault>,
-    /// How many bytes the output takes, and whether it can be flushed.
+    /// What is written over the image that the store has as accession 12, and from which byte on.
+    pub(super) over: Option<(usize, &'static [u8])>,
+    /// How many bytes the output takes, and how often it can be flushed.
     pub(super) room: usize,
-    pub(super) flush_fails: bool,
+    pub(super) flushes: usize,
     /// What the clock shows.
     pub(super) moment: Result<i64, MachineFault>,
     pub(super) sheet: Sheet,
     pub(super) visits: &'static [Visit],
     pub(super) status: u8,
-    /// What is written.
+    /// What is written, so many times.
     pub(super) output: &'static str,
+    pub(super) times: usize,
     /// What is told.
     pub(super) errors: &'static str,
     /// The port that the machine is asked for.
     pub(super) port: Option<u16>,
+    /// What is recorded of checks: of each the accession, the day and the outcome.
+    pub(super) recorded: Option<&'static str>,
 }
 
 /// An `init` of a new desk, with the key `abc`.
@@ -46,15 +53,18 @@ pub(super) const INIT: Step = Step {
     words: &["init", "--store", "museum.sqlite", "--key", "abc"],
     connects: Ok(()),
     listens: Ok(()),
+    over: None,
     room: 1_000,
-    flush_fails: false,
+    flushes: 1_000,
     moment: Ok(AFTER),
     sheet: Sheet::Fails(MachineFault::Failed),
     visits: &[],
     status: 0,
     output: "done\n",
+    times: 1,
     errors: "",
     port: None,
+    recorded: None,
 };
 
 /// A `serve` of one visit, at port 8041.
@@ -73,13 +83,14 @@ pub(super) fn new_connection(alloc: Global) -> Result<Connection<MemStore>, NoMe
 }
 
 /// A museum whose store is an empty database, and at which nothing fails.
-pub(super) fn museum(conn: Connection<MemStore>, door: MemoryDoor) -> Museum {
+pub(super) fn museum<S: Alter + Drop>(conn: Connection<S>, door: MemoryDoor) -> Museum<S> {
     Museum {
         conn: Some(conn),
         door,
         connects: Ok(()),
         listens: Ok(()),
         moment: Ok(0),
+        is_clock_read: false,
         sheet: Sheet::Fails(MachineFault::Failed),
         port: None,
     }
@@ -93,13 +104,53 @@ fn change(museum: &mut Museum, sql: &str) -> Result<(), Error> {
     }
 }
 
+fn put_bytes(conn: &mut Connection<MemStore>, bytes: &[u8]) -> Result<usize, Error> {
+    conn.execute("UPDATE image SET bytes = ?1 WHERE acc = 12", params![bytes])
+}
+
+/// Writes over the image that the store of a museum has as accession 12, which is the disk with the program
+/// `HELLO`, from a byte on. Says whether it was done.
+pub(super) fn write_over(alloc: Global, museum: &mut Museum, place: usize, bytes: &[u8]) -> bool {
+    let Ok(mut image) = one_program(alloc) else {
+        return false;
+    };
+    put(&mut image, place, bytes);
+    match &mut museum.conn {
+        Some(conn) => matches!(put_bytes(conn, image.as_slice()), Ok(1)),
+        None => false,
+    }
+}
+
+fn rows_of(conn: &mut Connection<MemStore>) -> Result<Vec<Row>, Error> {
+    conn.query_all(
+        "SELECT acc || ' ' || day || ' ' || outcome || ';' FROM checked ORDER BY acc, day",
+        &[],
+    )
+}
+
+fn first_text(row: &Row) -> Result<String, Error> {
+    row.get(0)
+}
+
+/// What the store of a museum has recorded of checks: of each the accession, the day and the outcome. `None` where
+/// it cannot be read.
+pub(super) fn recorded(alloc: Global, museum: &mut Museum) -> Option<String> {
+    let rows = rows_of(museum.conn.as_mut()?).ok()?;
+    let mut told = String::new(alloc);
+    for row in &rows {
+        let text = first_text(row).ok()?;
+        told.push_str(text.as_str()).ok()?;
+    }
+    Some(told)
+}
+
 /// Runs the program on words without input, and gives its status.
-pub(super) fn run_on_museum<W: Write, E: Write>(
+pub(super) fn run_on_museum<W: Write, E: Write, S: Alter + Drop>(
     alloc: Global,
     words: &[&str],
     output: &mut W,
     errors: &mut E,
-    museum: &mut Museum,
+    museum: &mut Museum<S>,
 ) -> u8 {
     run(alloc, words, &mut [].as_slice(), output, errors, museum)
 }
@@ -112,6 +163,11 @@ fn text(alloc: Global, bytes: &[u8]) -> Result<String, NoMemory> {
 /// Makes a museum ready for a step.
 fn prepare(alloc: Global, museum: &mut Museum, step: &Step) -> Result<(), Fail> {
     change(museum, step.sql)?;
+    if let Some((place, bytes)) = step.over {
+        if !write_over(alloc, museum, place, bytes) {
+            return Err(Fail::new("no image 12"));
+        }
+    }
     museum.door = door_of(alloc, step.visits)?;
     museum.connects = step.connects;
     museum.listens = step.listens;
@@ -130,6 +186,22 @@ fn assert_outs(rt: &impl Abort, alloc: Global, museum: &Museum, step: &Step) -> 
     Ok(())
 }
 
+/// After a step the store is given back, the port was asked for, and the visits and checks are as they have to be.
+fn assert_stands(
+    rt: &impl Abort,
+    alloc: Global,
+    museum: &mut Museum,
+    step: &Step,
+) -> Result<(), Fail> {
+    assert_eq!(rt; museum.port, step.port, "{}", step.label);
+    assert!(rt; museum.conn.is_some(), "{}", step.label);
+    if let Some(wanted) = step.recorded {
+        let told = recorded(alloc, museum).ok_or("nothing can be read")?;
+        assert_eq!(rt; told.as_str(), wanted, "{}", step.label);
+    }
+    assert_outs(rt, alloc, museum, step)
+}
+
 /// A step leaves what it has to, and the store is given back.
 fn assert_step(
     rt: &impl Abort,
@@ -144,7 +216,7 @@ fn assert_step(
         room: step.room,
         is_interrupted: false,
         end: End::Fails,
-        flush_fails: step.flush_fails,
+        flushes: step.flushes,
     };
     let mut errors = Vec::new(alloc);
     let status = run_on_museum(alloc, step.words, &mut output, &mut errors, museum);
@@ -155,13 +227,11 @@ fn assert_step(
     );
     assert_eq!(rt; status, step.status, "{label}");
     assert_eq!(rt;
-        text(alloc, output.taken.as_slice())?.as_str(),
-        step.output,
+        text(alloc, output.taken.as_slice())?,
+        repeated(alloc, &[(step.output, step.times)])?,
         "{label}"
     );
-    assert_eq!(rt; museum.port, step.port, "{label}");
-    assert!(rt; museum.conn.is_some(), "{label}");
-    assert_outs(rt, alloc, museum, step)
+    assert_stands(rt, alloc, museum, step)
 }
 
 /// The steps, one after the other on one new museum, leave what they have to.

@@ -56,7 +56,7 @@ const INITS: &[&[Step]] = table![
     ];
     &[like!(Step, INIT, label: "init, no byte is taken", room: 0, status: 3, output: "", errors: "desk: device\n"), EXISTS, KEYS];
     &[like!(Step, INIT, label: "init, three bytes are taken", room: 3, status: 3, output: "don", errors: "desk: device\n"), EXISTS, KEYS];
-    &[like!(Step, INIT, label: "init, no flush", flush_fails: true, status: 3, errors: "desk: device\n"), EXISTS, KEYS];
+    &[like!(Step, INIT, label: "init, no flush", flushes: 0, status: 3, errors: "desk: device\n"), EXISTS, KEYS];
     &[like!(Step, EXISTS, label: "init where another table `desk` stands", sql: "CREATE TABLE desk (id INTEGER PRIMARY KEY) STRICT"), EXISTS];
     &[like!(Step, INIT, label: "init where a view `desk` stands", sql: "CREATE VIEW desk AS SELECT 1 AS id", status: 3, output: "", errors: "desk: store\n")];
 ];
@@ -154,7 +154,7 @@ const ENDINGS: &[Step] = table![
     like!(Step, NOT_OPENED, label: "another path", words: &["serve", "--store", "other.sqlite", "--port", "8041", "--count", "1"]);
     like!(Step, REFUSED, label: "no byte is taken", room: 0);
     like!(Step, REFUSED, label: "a part of the first line is taken", room: 24, output: "listening 127.0.0.1:8041");
-    like!(Step, REFUSED, label: "no flush", flush_fails: true, output: "listening 127.0.0.1:8041\n");
+    like!(Step, REFUSED, label: "no flush", flushes: 0, output: "listening 127.0.0.1:8041\n");
     like!(Step, REFUSED, label: "the first line is taken", room: 25, visits: &[images_at!("first", AFTER, NO_IMAGES)], output: "listening 127.0.0.1:8041\n");
     like!(Step, REFUSED, label: "a part of the second line is taken", room: 33, visits: &[images_at!("first", AFTER, NO_IMAGES)], output: "listening 127.0.0.1:8041\nserved 1");
     KEYS;

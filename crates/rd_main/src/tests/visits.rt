@@ -72,7 +72,7 @@ fn push_times(text: &mut String, part: &str, count: usize) -> Result<(), AllocEr
 }
 
 /// Texts, each so many times, one after the other.
-fn joined(alloc: Global, texts: &[(&str, usize)]) -> Result<String, NoMemory> {
+pub(super) fn repeated(alloc: Global, texts: &[(&str, usize)]) -> Result<String, NoMemory> {
     let mut all = String::new(alloc);
     for (text, count) in texts {
         push_times(&mut all, text, *count)?;
@@ -115,7 +115,7 @@ fn json_reply(alloc: Global, status: &str, line: &str, body: &str) -> Result<Str
 pub(super) fn text_of(alloc: Global, wanted: Wanted) -> Result<Option<String>, NoMemory> {
     match wanted {
         Wanted::Json(status, line, body) => Ok(Some(json_reply(alloc, status, line, body)?)),
-        Wanted::Texts(texts) => Ok(Some(joined(alloc, texts)?)),
+        Wanted::Texts(texts) => Ok(Some(repeated(alloc, texts)?)),
         Wanted::NotAdmitted => Ok(None),
     }
 }

@@ -1,0 +1,159 @@
+//! Stores whose disk fails from some call on, so that the desk is unavailable: what `import`, `export` and `check`
+//! write and tell, for each call at which it may begin.
+
+use super::Ran;
+use super::fakes::{Museum, Sheet};
+use super::imports::{EMPTY, HEADER, HELLO_12};
+use super::steps::{INIT, Step, museum, run_on_museum};
+use super::visits::door_of;
+use sqlite::{Connection, FileStore, Files, Options};
+use sqlite_disk::{Disk, Fuse, Memory};
+use std::alloc::{Alloc, Global};
+use std::process::Abort;
+use std::test::Fail;
+
+/// A database on a disk in memory that fails after so many calls.
+type Failing = FileStore<Fuse<Memory>>;
+
+/// A new database, of which two pages are kept in memory; `None` where it cannot be opened.
+fn connection(alloc: Global, calls: u64) -> Option<Connection<Failing>> {
+    let log = Fuse::new(Memory::new(alloc), calls);
+    let db = Fuse::new(Memory::new(alloc), calls);
+    if !log.may_be_used() || !db.may_be_used() {
+        return None;
+    }
+    let options = Options {
+        cache_pages: 2,
+        ..Options::new(1)
+    };
+    Connection::open_files(alloc, Files { log, db }, options).ok()
+}
+
+/// A run, and what may be written of its output where the desk is unavailable.
+type Trial = (Step, &'static [&'static str]);
+
+/// An `import` of accession 12 under a deed that is given before it, and of a row that is none.
+const FIRST: Step = like!(Step, INIT,
+    label: "import",
+    sql: "INSERT INTO deed VALUES (7, 'A. Curator', 18020); INSERT INTO rule VALUES (1, 7, 20, 1, NULL, NULL, 0, 0, '', 2)",
+    words: &["import", "--store", "museum.sqlite", "--key", "abc", "--sheet", "images.csv"],
+    sheet: Sheet::Texts(&[HEADER, EMPTY, HELLO_12]),
+    status: 1,
+    output: "row 1 bad-row\n12 done\n"
+);
+
+/// An `import` of accession 12 again, and then of 13.
+const SECOND: Step = like!(Step, INIT,
+    label: "import of another",
+    words: &["import", "--store", "museum.sqlite", "--key", "abc", "--sheet", "images.csv"],
+    sheet: Sheet::Texts(&[HEADER, HELLO_12, "13,d64,7,ee352834e06f2b572e65490eb845939724cc38542aed18acdf81eded76912afb,hello.d64\n"]),
+    output: "12 done\n13 done\n"
+);
+
+const EXPORT: Step = like!(Step, INIT,
+    label: "export",
+    words: &["export", "--store", "museum.sqlite"],
+    output: "accession,deed,kind,slot,user,name,type,size,faults,rule,effect\n12,7,d64,0,,HELLO,PRG,258,,R7.20,read\n13,7,d64,0,,HELLO,PRG,258,,R7.20,read\n"
+);
+
+const CHECK: Step = like!(Step, INIT,
+    label: "check",
+    words: &["check", "--store", "museum.sqlite", "--key", "abc", "--acc", "12"],
+    output: "12 sound\n"
+);
+
+/// Runs on one museum, one after the other.
+const TRIALS: [Trial; 5] = [
+    (INIT, &[""]),
+    (FIRST, &["", "row 1 bad-row\n"]),
+    (SECOND, &["", "12 done\n"]),
+    (EXPORT, &[""]),
+    (CHECK, &[""]),
+];
+
+/// Does to the store of a museum what a step does before it, and says whether it was done.
+fn is_changed(museum: &mut Museum<Failing>, step: &Step) -> bool {
+    match &mut museum.conn {
+        Some(conn) => conn.execute_batch(step.sql).is_ok(),
+        None => false,
+    }
+}
+
+/// What the run of a step left behind.
+fn ran(alloc: Global, museum: &mut Museum<Failing>, step: &Step) -> Ran {
+    museum.moment = step.moment;
+    museum.is_clock_read = false;
+    museum.sheet = step.sheet;
+    let mut output = Vec::new(alloc);
+    let mut errors = Vec::new(alloc);
+    let status = run_on_museum(alloc, step.words, &mut output, &mut errors, museum);
+    Ran {
+        status,
+        output,
+        errors,
+    }
+}
+
+/// The run left this status, and wrote and told these texts.
+fn is_left(ran: &Ran, status: u8, output: &str, errors: &str) -> bool {
+    ran.status == status
+        && ran.output.as_slice() == output.as_bytes()
+        && ran.errors.as_slice() == errors.as_bytes()
+}
+
+/// How the runs ended.
+#[derive(Clone, Copy, PartialEq, Eq)]
+enum Ended {
+    /// All as ever.
+    Whole,
+    /// Before a desk was open.
+    Unopened,
+    /// In the run of this place, after its desk was open.
+    Unavailable(usize),
+}
+
+/// The runs on a museum whose disk fails after so many calls end as ever, up to one that tells of the store.
+fn assert_trials(rt: &impl Abort, alloc: Global, calls: u64) -> Result<Ended, Fail> {
+    let Some(conn) = connection(alloc, calls) else {
+        return Ok(Ended::Unopened);
+    };
+    let mut museum = museum(conn, door_of(alloc, &[])?);
+    for (n, (step, fronts)) in TRIALS.iter().enumerate() {
+        if !is_changed(&mut museum, step) {
+            return Ok(Ended::Unopened);
+        }
+        let ran = ran(alloc, &mut museum, step);
+        if !is_left(&ran, step.status, step.output, "") {
+            let is_told = fronts
+                .iter()
+                .any(|front| is_left(&ran, 3, front, "desk: store\n"));
+            assert!(rt; is_told, "{} at {calls} calls: {ran:?}", step.label);
+            return Ok(if museum.is_clock_read {
+                Ended::Unavailable(n)
+            } else {
+                Ended::Unopened
+            });
+        }
+    }
+    Ok(Ended::Whole)
+}
+
+#[test]
+fn a_disk_that_fails_is_told(rt: HostRuntime) -> Result<(), Fail> {
+    let mut seen = [false; 5];
+    for calls in 0..20_000 {
+        match assert_trials(&rt, rt.alloc(), calls)? {
+            Ended::Whole => {
+                assert_eq!(rt; seen, [false, true, true, true, true], "{calls}");
+                return Ok(());
+            }
+            Ended::Unopened => {}
+            Ended::Unavailable(n) => {
+                if let Some(seen) = seen.get_mut(n) {
+                    *seen = true;
+                }
+            }
+        }
+    }
+    Err(Fail::new("a disk of many calls fails still"))
+}
