@@ -602,6 +602,10 @@ RULE_ROWS = (
     "SELECT band, scope, rank, audiences, quote(day_from), quote(day_until), how, number, quote(word), effect"
     " FROM rule ORDER BY band, scope, rank"
 )
+FILE_ROWS = (
+    "SELECT acc, slot, name, ty, quote(user_no), served, quote(size), faults, hex(units), last_len"
+    " FROM found ORDER BY acc, slot"
+)
 CHECK_ROWS = "SELECT acc, outcome FROM checked ORDER BY acc, outcome"
 BADGE_ROWS = "SELECT lower(hex(digest)), audience FROM badge ORDER BY audience"
 COUNTS = "SELECT " + ", ".join(
@@ -614,10 +618,11 @@ BADGES = [f"{digest(b'hello')}|1", f"{digest(b'abc')}|2"]
 # What sqlite3 shows after the first cases: a question and its lines.
 FIRST_ROWS = [
     ("how many rows", COUNTS, ["1|2|1|2|2|0"]),
-    ("the version", "SELECT id, version FROM desk", ["1|0"]),
+    ("the version", "SELECT id, version FROM desk", ["1|1"]),
     ("the deeds", DEED_ROWS, FIRST_DEEDS),
     ("the image", IMAGE_ROWS, [f"12|1|7|{digest(PROGRAM_DISK)}|174848"]),
     ("its bytes", "SELECT lower(hex(bytes)) FROM image", [PROGRAM_DISK.hex()]),
+    ("its files", FILE_ROWS, ["12|0|HELLO|PRG|NULL|1|258|0|0150015A|4"]),
     ("the rules", RULE_ROWS, FIRST_RULES),
     ("the keys", BADGE_ROWS, BADGES),
 ]
@@ -660,6 +665,9 @@ CHANGED = [
     ("a takedown that lets read", "UPDATE rule SET effect = 2 WHERE scope = 13", "inconsistent"),
     ("an image that is cut", "UPDATE image SET bytes = substr(bytes, 1, 174847) WHERE acc = 12", "inconsistent"),
     ("an image of another kind", "UPDATE image SET kind = 0 WHERE acc = 12", "inconsistent"),
+    ("a file of another name", "UPDATE found SET name = 'HELLP' WHERE acc = 12", "inconsistent"),
+    ("a file that is not told", "DELETE FROM found WHERE acc = 12", "inconsistent"),
+    ("a file of no accession", "UPDATE found SET acc = 99 WHERE acc = 12", "inconsistent"),
     ("digests of 31 bytes", "UPDATE badge SET digest = substr(digest, 1, 31)", "inconsistent"),
     ("no key of the staff", "UPDATE badge SET audience = 1", "inconsistent"),
     ("a table less", "DROP TABLE image", "store"),

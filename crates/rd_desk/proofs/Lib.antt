@@ -17,3 +17,4 @@ pub mod Checking
 pub mod OneReport
 pub mod Cataloguing
 pub mod Tables
+pub mod Slicing

@@ -1,18 +1,19 @@
 -- What is said of a file is what is said to the request for it.
-use Rattle.std.proofs.Common.{◌≡◌, ℕ, ℤ, List, Option, Some, None, Result, Ok, Err, IfOk, Contains, IsSomeAnd, IfSome, true, false, refl, sym, ap, subst}
+use Rattle.std.proofs.Common.{◌≡◌, ℕ, ℤ, List, Option, Some, None, Result, Ok, Err, IfOk, Contains, IsSomeAnd, IfSome, true, false, refl, sym, ap, subst, ◌∙◌}
 use Rattle.std.specs.FinMap.{get}
 use Rattle.rd_policy.specs.Verdicts.{IsVerdict}
 use Rattle.rd_policy.specs.declared.audience.Audience.{Audience}
 use Rattle.rd_policy.specs.declared.rule.Rule.{Rule}
 use Rattle.rd_policy.specs.declared.verdict.Verdict.{Verdict}
 use Rattle.rd_volume.specs.Told.{told_slot}
-use Rattle.rd_volume.specs.Volumes.{IsFound, IsFoundAt, IsSlotOfFile}
+use Rattle.rd_geometry.specs.declared.kind.Kind.{Kind}
+use Rattle.rd_volume.specs.Volumes.{AreBytesOf, IsFound, IsSlotOfFile}
 use Rattle.rd_volume.specs.declared.found.Found.{Found}
 use Rattle.rd_store.specs.State.{Desk, rules_for}
 use Rattle.rd_store.specs.declared.rows.ImageRow.{ImageRow}
 use Rattle.rd_desk.specs.Calls.{IsHolding}
 use Rattle.rd_desk.specs.Judged.{Conflicts, IsAccepted, IsJudgedFile, IsRefused, JudgedFile, PassesTo, accession_of, audience_of, deed_of, file_of, image_of}
-use Rattle.rd_desk.specs.Queries.{IsAtSlot, IsRead}
+use Rattle.rd_desk.specs.Queries.{IsAtSlot, IsRead, IsWithheld, IsWithheldBy, Standing}
 use Rattle.rd_desk.specs.Replies.{IsAnswered}
 use Rattle.rd_desk.specs.declared.asking.Holding.{Holding}
 use Rattle.rd_desk.specs.declared.refusal.Refusal.{Refusal}
@@ -31,18 +32,36 @@ if_ok (Err fault) P Q then h = tt
 
 -- what is held of an accession that stands
 pub held_some : (desk : Desk) (acc : ℕ) (found : Option Holding) (holding : Holding) → found ≡ Some holding → IsHolding desk acc found
-    → (get desk.images acc ≡ Some holding.image) × (holding.rules ≡ rules_for desk acc)
+    → (image : ImageRow) × (get desk.images acc ≡ Some image) × (holding.kind ≡ image.kind) × (holding.deed ≡ image.deed) × (holding.rules ≡ rules_for desk acc)
 held_some desk acc found holding is held = subst (IsHolding desk acc) is held
 
--- the file that is found at a slot, with the verdict on it
-pub at_slot : (holding : Holding) (audience : Audience) (day : ℤ) (slot : ℕ) (rules : List Rule) (answer : Option Found) (file : Found) (verdict : Verdict)
-    → rules ≡ holding.rules → answer ≡ Some file → IsFoundAt holding.image.kind holding.image.bytes slot answer
-    → IsVerdict (Contains rules) audience day file verdict → IsAtSlot holding audience day slot file verdict
-at_slot holding audience day slot rules answer file verdict rules_are is at decided = record {
-  told = subst (λ a. IfSome a (IsFound holding.image.kind holding.image.bytes)) is at.told;
-  at_slot = subst (λ a. IfSome a (λ found. found.slot ≡ slot)) is at.same_slot;
-  decided = subst (λ r. IsVerdict (Contains r) audience day file verdict) rules_are decided;
-}
+-- where a file stands in an image, with the verdict on it
+at_slot : (standing : Standing) (audience : Audience) (day : ℤ) (file : Found) (verdict : Verdict)
+    → IsFound standing.image.kind standing.image.bytes file → IsVerdict (Contains standing.rules) audience day file verdict → IsAtSlot standing audience day file.slot file verdict
+at_slot standing audience day file verdict told decided = record { told = told; at_slot = refl; decided = decided }
+
+-- a file that is withheld is told of by the reason
+pub withheld_read : (standing : Standing) (kind : Kind) (audience : Audience) (day : ℤ) (file : Found) (refusal : Refusal) → kind ≡ standing.image.kind
+    → IsFound standing.image.kind standing.image.bytes file → IsWithheld kind standing.rules audience day file (Some refusal) → IsRead standing audience day file.slot (Refused refusal)
+withheld_read standing kind audience day file (Denied label) same told (verdict, decided, why) = (file, verdict, at_slot standing audience day file verdict told decided, why)
+withheld_read standing kind audience day file ListedOnly same told (verdict, decided, why) = (file, verdict, at_slot standing audience day file verdict told decided, why)
+withheld_read standing kind audience day file (Faulty other faults) same told (verdict, decided, why) =
+    (file, verdict, at_slot standing audience day file verdict told decided, (why.0, why.1, why.2, why.3 ∙ same, why.4))
+withheld_read standing kind audience day file UnknownKey same told (verdict, decided, why) = absurd why
+withheld_read standing kind audience day file StaffOnly same told (verdict, decided, why) = absurd why
+withheld_read standing kind audience day file BadBody same told (verdict, decided, why) = absurd why
+withheld_read standing kind audience day file NoAccession same told (verdict, decided, why) = absurd why
+withheld_read standing kind audience day file NoFile same told (verdict, decided, why) = absurd why
+withheld_read standing kind audience day file NoDeed same told (verdict, decided, why) = absurd why
+withheld_read standing kind audience day file WrongSize same told (verdict, decided, why) = absurd why
+withheld_read standing kind audience day file DigestDiffers same told (verdict, decided, why) = absurd why
+withheld_read standing kind audience day file Conflict same told (verdict, decided, why) = absurd why
+
+-- and one that is not is told of by its bytes
+pub served_read : (standing : Standing) (kind : Kind) (audience : Audience) (day : ℤ) (file : Found) (bytes : List ℕ)
+    → IsFound standing.image.kind standing.image.bytes file → IsWithheld kind standing.rules audience day file None → AreBytesOf standing.image.kind standing.image.bytes file.slot bytes
+    → IsRead standing audience day file.slot (File bytes)
+served_read standing kind audience day file bytes told (verdict, decided, why) are = (file, verdict, at_slot standing audience day file verdict told decided, (why.0, why.1, are))
 
 first_of : Option (ℕ × ℕ) → ℕ
 first_of None = 0
@@ -56,7 +75,7 @@ same_pair : (a b c d : ℕ) → (let one : Option (ℕ × ℕ) = Some (a, b) in 
 unfolding first_of second_of
 same_pair a b c d is = (ap first_of is, ap second_of is)
 
-module _ (desk : Desk) (day : ℤ) (badge : Option (List ℕ)) (audience : Audience) (acc slot : ℕ) (holding : Holding) (caller : audience_of desk badge ≡ Some audience) (standing : get desk.images acc ≡ Some holding.image) (rules_are : holding.rules ≡ rules_for desk acc) where
+module _ (desk : Desk) (day : ℤ) (badge : Option (List ℕ)) (audience : Audience) (acc slot : ℕ) (holding : Standing) (caller : audience_of desk badge ≡ Some audience) (standing : get desk.images acc ≡ Some holding.image) (rules_are : holding.rules ≡ rules_for desk acc) where
   abbrev request : Request
   request = record { badge = badge; what = Bytes acc slot }
 

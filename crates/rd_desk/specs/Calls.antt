@@ -9,6 +9,7 @@ use Rattle.rd_policy.specs.declared.rule.Band.{Band}
 use Rattle.rd_policy.specs.declared.rule.Band.TheVariants.{Takedown, Deed}
 use Rattle.rd_store.specs.Held.{IsClean, IsLeft, IsOpen, Lasts, LeavesOnly, LeavesOpen, desk}
 use Rattle.rd_store.specs.State.{Desk, rules_for}
+use Rattle.rd_store.specs.declared.rows.ImageRow.{ImageRow}
 use Rattle.rd_desk.specs.Judged.{Holds, IsAccepted, IsRefused}
 use Rattle.rd_desk.specs.Replies.{IsAnswered, IsStep, IsSurvey, Tells, carried_out}
 use Rattle.rd_desk.specs.declared.asking.Holding.{Holding}
@@ -34,10 +35,11 @@ pub record Looks {S T X : Type 0} (g : Ghosts S) (old new : Held S) (result : Re
   pub answer : IsOpen g new → IfOk result Answers
   pub ends_open : LeavesOpen g new result
 
--- what was looked up of an accession: its image and the rules for it, or nothing, where it does not stand
+-- what was looked up of an accession: the kind of its image, its deed and the rules for it, or nothing, where it does
+-- not stand
 abbrev pub IsHolding : Desk → ℕ → Option Holding → Type 0
 IsHolding desk acc found = MatchOption found (get desk.images acc ≡ None)
-    (λ holding. (get desk.images acc ≡ Some holding.image) × (holding.rules ≡ rules_for desk acc))
+    (λ holding. (image : ImageRow) × (get desk.images acc ≡ Some image) × (holding.kind ≡ image.kind) × (holding.deed ≡ image.deed) × (holding.rules ≡ rules_for desk acc))
 
 -- the survey of an accession, or nothing, where it does not stand
 abbrev pub IsSurveyAt : Desk → ℕ → Option Survey → Type 0

@@ -1,6 +1,9 @@
 pub mod Requests
 pub mod Refusals
+pub mod Lent
+pub mod Kept
 pub mod Bodies
+pub mod Slices
 pub mod BodyPieces
 pub mod Texts
 pub mod Checks

@@ -2,6 +2,7 @@
 -- without them.
 use Rattle.std.specs.Prelude.{◌≡◌, ◌≢◌, ◌⊎◌, ℕ, ℤ, List, [], ◌∷◌, Contains, MatchOption, Option, None, Some, length, true, false}
 use Rattle.std.specs.FinMap.{get}
+use Rattle.rd_geometry.specs.declared.kind.Kind.{Kind}
 use Rattle.rd_policy.specs.Verdicts.{IsVerdict}
 use Rattle.rd_policy.specs.declared.audience.Audience.{Audience}
 use Rattle.rd_policy.specs.declared.rule.Effect.TheVariants.{Deny, Read}
@@ -13,7 +14,7 @@ use Rattle.rd_volume.specs.declared.found.Found.{Found}
 use Rattle.rd_store.specs.State.{Desk, rules_for}
 use Rattle.rd_store.specs.declared.rows.ImageRow.{ImageRow}
 use Rattle.rd_desk.specs.Replies.{AreLines, IsListing}
-use Rattle.rd_desk.specs.declared.asking.Holding.{Holding}
+use Rattle.rd_desk.specs.declared.refusal.Refusal.{Refusal}
 use Rattle.rd_desk.specs.declared.refusal.Refusal.TheVariants.{NoFile, Denied, ListedOnly, Faulty}
 use Rattle.rd_desk.specs.declared.said.ImageLine.{ImageLine}
 use Rattle.rd_desk.specs.declared.said.Line.{Line}
@@ -23,19 +24,38 @@ use Rattle.rd_desk.specs.declared.said.Said.TheVariants.{Refused, File}
 
 -- ---- one file
 
+-- An accession that stands: its image, and the rules for its files.
+pub record Standing : Type 0 where
+  pub image : ImageRow
+  pub rules : List Rule
+
+-- why a file of an image of a kind is not read, or nothing, where it is
+abbrev pub IsWithheldBy : Kind → Found → Verdict → Option Refusal → Type 0
+IsWithheldBy kind file verdict None = (verdict.effect ≡ Read) × IsSoundFile file
+IsWithheldBy kind file verdict (Some (Denied label)) = (verdict.effect ≢ Read) × (verdict.label ≡ label)
+IsWithheldBy kind file verdict (Some ListedOnly) = (verdict.effect ≡ Read) × (file.served_class ≡ false)
+IsWithheldBy kind file verdict (Some (Faulty other faults)) =
+    (verdict.effect ≡ Read) × (file.served_class ≡ true) × (file.faults ≢ 0) × (other ≡ kind) × (faults ≡ file.faults)
+IsWithheldBy kind file verdict other = ⊥
+
+-- by the verdict of these rules on it
+abbrev pub IsWithheld : Kind → List Rule → Audience → ℤ → Found → Option Refusal → Type 0
+IsWithheld kind rules audience day file refusal =
+    (verdict : Verdict) × IsVerdict (Contains rules) audience day file verdict × IsWithheldBy kind file verdict refusal
+
 -- This file has the slot, and this is the verdict on it.
-pub record IsAtSlot (holding : Holding) (audience : Audience) (day : ℤ) (slot : ℕ) (file : Found) (verdict : Verdict) : Type 0 where
+pub record IsAtSlot (holding : Standing) (audience : Audience) (day : ℤ) (slot : ℕ) (file : Found) (verdict : Verdict) : Type 0 where
   pub told : IsFound holding.image.kind holding.image.bytes file
   pub at_slot : file.slot ≡ slot
   pub decided : IsVerdict (Contains holding.rules) audience day file verdict
 
 -- this holds of the file at the slot, and of the verdict on it
-abbrev pub OfFile : Holding → Audience → ℤ → ℕ → (Found → Verdict → Type 0) → Type 0
+abbrev pub OfFile : Standing → Audience → ℤ → ℕ → (Found → Verdict → Type 0) → Type 0
 OfFile holding audience day slot P =
     (file : Found) × (verdict : Verdict) × IsAtSlot holding audience day slot file verdict × P file verdict
 
 -- what is said of the file at a slot
-abbrev pub IsRead : Holding → Audience → ℤ → ℕ → Said → Type 0
+abbrev pub IsRead : Standing → Audience → ℤ → ℕ → Said → Type 0
 IsRead holding audience day slot (Refused NoFile) = ¬ IsSlotOfFile holding.image.kind holding.image.bytes slot
 IsRead holding audience day slot (Refused (Denied label)) =
     OfFile holding audience day slot (λ file verdict. (verdict.effect ≢ Read) × (verdict.label ≡ label))

@@ -1,23 +1,27 @@
 //! What the desk asks of its store: each call fails with `Unavailable` where the store or memory fails.
 
-ghost use Rattle.std.specs.Prelude.{◌≡◌, ◌++◌, IfOk, IfSome, is_some};
+ghost use Rattle.std.specs.Prelude.{◌≡◌, ◌++◌, IfOk, IfSome, is_some, option_map};
 ghost use Rattle.std.specs.FinMap.{get, keys};
 ghost use Rattle.rd_policy.specs.Verdicts.{AreInOrder};
 ghost use Rattle.rd_store.specs.Held.{desk};
+ghost use Rattle.rd_store.specs.Index.{AreFilesIn, IsFileIn};
+ghost use Rattle.rd_store.specs.Shown.{accession_of};
 ghost use Rattle.rd_store.specs.State.{rules_at};
 ghost use Rattle.rd_desk.specs.Calls.{IsHolding, Looks};
 
 use crate::said::Unavailable;
-use rd_geometry::{Items, NoMemory};
+use rd_geometry::{Items, Kind, NoMemory};
 use rd_policy::{Audience, Band, Rule, in_order};
-use rd_store::{DeedRow, ImageRow, Store, StoreFault};
+use rd_store::{Accession, DeedRow, ImageRow, Store, StoreFault};
+use rd_volume::Found;
 use sqlite::Alter;
 use std::alloc::{AllocError, Global};
 
-/// An accession: its image, and the rules for its files in order.
+/// An accession: the kind of its image, its deed, and the rules for its files in order.
 #[derive(Drop)]
 pub(crate) struct Holding {
-    pub image: ImageRow,
+    pub kind: Kind,
+    pub deed: u32,
     pub rules: Items<Rule>,
 }
 
@@ -84,6 +88,36 @@ pub(crate) fn image<S: Alter>(
     Ok(store.image(alloc, acc)?)
 }
 
+/// The kind and the deed of an accession, if it stands.
+fn accession<S: Alter>(store: &mut Store<S>, acc: u32) -> Result<Option<Accession>, Unavailable>
+    ensures looks { Looks S.Store store.old store.new result (λ found. found ≡ option_map accession_of (get (desk S.Store store.old).images acc)) }
+{
+    Ok(store.accession(acc)?)
+}
+
+/// The files of an accession, by slot; none where it does not stand.
+pub(crate) fn files<S: Alter>(
+    store: &mut Store<S>,
+    alloc: Global,
+    acc: u32,
+) -> Result<Items<Found>, Unavailable>
+    ensures looks { Looks S.Store store.old store.new result (AreFilesIn (get (desk S.Store store.old).images acc)) }
+{
+    Ok(Items::of(store.found(alloc, acc)?))
+}
+
+/// The file at a slot of an accession, if there is one.
+pub(crate) fn file_at<S: Alter>(
+    store: &mut Store<S>,
+    alloc: Global,
+    acc: u32,
+    slot: u16,
+) -> Result<Option<Found>, Unavailable>
+    ensures looks { Looks S.Store store.old store.new result (IsFileIn (get (desk S.Store store.old).images acc) slot) }
+{
+    Ok(store.found_at(alloc, acc, slot)?)
+}
+
 /// The takedowns of an accession and then the rules of its deed, in order. That they are is tested: of a
 /// connection that a fault has shut, nothing is known.
 fn rules<S: Alter>(
@@ -104,8 +138,8 @@ fn rules<S: Alter>(
     }
 }
 
-/// The image of an accession and the rules for its files, in order; `None` where the accession does not
-/// stand.
+/// What is held of an accession: the kind of its image, its deed and the rules for its files, in order; `None`
+/// where it does not stand. Its image is not read.
 pub(crate) fn look_up<S: Alter>(
     store: &mut Store<S>,
     alloc: Global,
@@ -114,9 +148,9 @@ pub(crate) fn look_up<S: Alter>(
     ensures looks { Looks S.Store store.old store.new result (IsHolding (desk S.Store store.old) acc) }
     ensures order { IfOk result (λ found. IfSome found (λ holding. AreInOrder holding.rules)) }
 {
-    let Some(image) = image(store, alloc, acc)? else {
+    let Some(Accession { kind, deed }) = accession(store, acc)? else {
         return Ok(None);
     };
-    let rules = rules(store, alloc, acc, image.deed)?;
-    Ok(Some(Holding { image, rules }))
+    let rules = rules(store, alloc, acc, deed)?;
+    Ok(Some(Holding { kind, deed, rules }))
 }

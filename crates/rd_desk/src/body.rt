@@ -1,6 +1,13 @@
-ghost use Rattle.std.specs.Prelude.{◌≡◌, length};
+ghost use Rattle.std.specs.Prelude.{◌≡◌, ◌<◌, All, length};
+ghost use Rattle.std.specs.Iterator.{YieldsFirstBy};
+ghost use Rattle.std.specs.List.{concat};
+ghost use Rattle.rd_volume.specs.PiecesLeft.{pieces_left as pieces_of_file_left};
+ghost use Rattle.rd_desk.specs.BodyPieces.{AreSlices, in_one_piece, pieces_left};
+ghost use Rattle.rd_desk.specs.Slices.{not_empty};
 
+use crate::contents::Contents;
 use rd_geometry::{Items, Text};
+use rd_volume::Pieces;
 use std::marker::Model;
 use std::mem;
 
@@ -17,8 +24,10 @@ enum Inner {
     Fixed(&'static str),
     /// A text that was written for the reply.
     Written(Text),
-    /// Bytes that are no text of JSON: those of a file, or of a table.
-    Bytes(Items<u8>),
+    /// A table that was written for the reply.
+    Table(Items<u8>),
+    /// The contents of a file, as its image and what is told of it.
+    File(Contents),
 }
 
 impl Model for Body {
@@ -32,10 +41,6 @@ impl Model for Body {
 }
 
 impl Body {
-    ghost use Rattle.std.specs.Prelude.{◌<◌, All};
-    ghost use Rattle.std.specs.List.{concat};
-    ghost use Rattle.rd_desk.specs.BodyPieces.{pieces_left};
-
     /// A text of the program itself. It takes no memory.
     pub(crate) fn fixed(text: &'static str) -> Body
         ensures { result ≡ text.entry.now }
@@ -54,22 +59,21 @@ impl Body {
         }
     }
 
-    /// The bytes of a file, or of a table.
-    pub(crate) fn octets(bytes: Items<u8>) -> Body
+    /// A table that was written.
+    pub(crate) fn table(bytes: Items<u8>) -> Body
         ensures { result ≡ bytes }
     {
         Body {
-            inner: Inner::Bytes(bytes),
+            inner: Inner::Table(bytes),
         }
     }
 
-    fn bytes(&self) -> &[u8]
-        ensures { result.now ≡ self.now }
+    /// The contents of a file.
+    pub(crate) fn file(contents: Contents) -> Body
+        ensures { result ≡ contents }
     {
-        match &self.inner {
-            Inner::Fixed(text) => text.as_bytes(),
-            Inner::Written(text) => text.as_str().as_bytes(),
-            Inner::Bytes(bytes) => bytes.as_slice(),
+        Body {
+            inner: Inner::File(contents),
         }
     }
 
@@ -77,15 +81,28 @@ impl Body {
     pub fn len(&self) -> usize
         ensures { result ≡ length self.now }
     {
-        self.bytes().len()
+        match &self.inner {
+            Inner::Fixed(text) => text.len(),
+            Inner::Written(text) => text.as_str().len(),
+            Inner::Table(bytes) => bytes.as_slice().len(),
+            Inner::File(contents) => contents.len(),
+        }
     }
 
-    /// Its bytes in pieces, in order. No piece is empty, so an empty body has none.
+    /// Its bytes in pieces, in order. No piece is empty, so an empty body has none. A text or a table is one piece;
+    /// of a file each is a slice of its image, which the body keeps: of the unit of the disk that holds these bytes,
+    /// from its first byte on in a CP/M sector, and from its third, past the link, in a 1541 block.
     pub fn pieces(&self) -> BodyPieces<'_>
         ensures whole { concat (pieces_left result) ≡ self.now }
         ensures filled { All (λ piece. 0 < length piece) (pieces_left result) }
+        ensures slices { AreSlices result }
     {
-        BodyPieces { rest: self.bytes() }
+        match &self.inner {
+            Inner::Fixed(text) => pieces_of_text(text.as_bytes()),
+            Inner::Written(text) => pieces_of_text(text.as_str().as_bytes()),
+            Inner::Table(bytes) => pieces_of_text(bytes.as_slice()),
+            Inner::File(contents) => pieces_of_file(contents),
+        }
     }
 }
 
@@ -93,12 +110,64 @@ impl Body {
 /// empty. They take no memory.
 #[derive(Drop)]
 pub struct BodyPieces<'a> {
-    rest: &'a [u8],
+    left: Left<'a>,
+}
+
+/// What is left of a body.
+#[derive(Drop)]
+enum Left<'a> {
+    /// Of a text or a table.
+    Text(&'a [u8]),
+    /// Of the contents of a file.
+    File(Pieces<'a>),
+}
+
+/// A text as one piece, or as none where it is empty.
+fn pieces_of_text(text: &[u8]) -> BodyPieces<'_>
+    ensures whole { concat (pieces_left result) ≡ text.now }
+    ensures filled { All (λ piece. 0 < length piece) (pieces_left result) }
+    ensures slices { AreSlices result }
+{
+    BodyPieces {
+        left: Left::Text(text),
+    }
+}
+
+/// The pieces of a file.
+fn pieces_of_file(contents: &Contents) -> BodyPieces<'_>
+    ensures whole { concat (pieces_left result) ≡ contents.now }
+    ensures filled { All (λ piece. 0 < length piece) (pieces_left result) }
+    ensures slices { AreSlices result }
+{
+    BodyPieces {
+        left: Left::File(contents.pieces()),
+    }
+}
+
+/// What is left of a text, where it is anything.
+fn next_of_text<'a>(rest: &mut &'a [u8]) -> Option<&'a [u8]>
+    ensures { YieldsFirstBy (λ piece. piece.now) (λ rest. in_one_piece rest.now) rest.old result rest.new }
+{
+    if rest.is_empty() {
+        return None;
+    }
+    Some(mem::take(rest))
+}
+
+/// The next piece of a file that is not empty.
+fn next_of_file<'a>(pieces: &mut Pieces<'a>) -> Option<&'a [u8]>
+    ensures { YieldsFirstBy (λ piece. piece.now) (λ pieces. not_empty (pieces_of_file_left pieces)) pieces.old result pieces.new }
+{
+    while let Some(piece) = pieces.next() {
+        if !piece.is_empty() {
+            return Some(piece);
+        }
+    }
+    None
 }
 
 impl<'a> Iterator for BodyPieces<'a> {
-    ghost use Rattle.std.specs.Iterator.{YieldsFirstBy, item_count};
-    ghost use Rattle.rd_desk.specs.BodyPieces.{pieces_left};
+    ghost use Rattle.std.specs.Iterator.{item_count};
 
     type Item = &'a [u8];
 
@@ -107,9 +176,9 @@ impl<'a> Iterator for BodyPieces<'a> {
     ghost remaining = { item_count pieces_left };
 
     fn next(&mut self) -> Option<&'a [u8]> {
-        if self.rest.is_empty() {
-            return None;
+        match &mut self.left {
+            Left::Text(rest) => next_of_text(rest),
+            Left::File(pieces) => next_of_file(pieces),
         }
-        Some(mem::take(&mut self.rest))
     }
 }

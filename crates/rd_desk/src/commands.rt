@@ -124,6 +124,7 @@ fn drop_key<S: Alter>(
 /// Puts an image whose length, SHA-256 and deed were found right.
 fn commit_image<S: Alter>(
     store: &mut Store<S>,
+    alloc: Global,
     badge: &Option<[u8; 32]>,
     acc: u32,
     kind: Kind,
@@ -138,7 +139,7 @@ fn commit_image<S: Alter>(
     requires same { sha256 bytes.now ≡ digest.now }
     ensures { (day : ℤ) → Carries S.Store store.old store.new day (record { badge = badge.now; what = What.PutImage acc kind deed digest.now bytes.now }) result }
 {
-    match store.put_image(acc, kind, deed, digest, bytes.as_slice()) {
+    match store.put_image(alloc, acc, kind, deed, digest, bytes.as_slice()) {
         Ok(()) => Ok(Said::Done),
         Err(StoreFault::Conflict) => Ok(Said::Refused(Refusal::Conflict)),
         Err(StoreFault::Missing | StoreFault::Sql) => Err(Unavailable),
@@ -148,6 +149,7 @@ fn commit_image<S: Alter>(
 /// Puts an image. Its bytes are digested once.
 fn put_image<S: Alter>(
     store: &mut Store<S>,
+    alloc: Global,
     badge: &Option<[u8; 32]>,
     acc: u32,
     kind: Kind,
@@ -168,7 +170,7 @@ fn put_image<S: Alter>(
     if !has_digest(bytes.as_slice(), digest) {
         return Ok(Said::Refused(Refusal::DigestDiffers));
     }
-    commit_image(store, badge, acc, kind, deed, digest, bytes)
+    commit_image(store, alloc, badge, acc, kind, deed, digest, bytes)
 }
 
 /// Refuses a command of which the body was not understood.
@@ -225,7 +227,7 @@ pub(crate) fn command<S: Alter>(
             deed,
             digest,
             bytes,
-        } => put_image(store, badge, *acc, *kind, *deed, digest, bytes),
+        } => put_image(store, alloc, badge, *acc, *kind, *deed, digest, bytes),
         What::PutDeed { num, donor, signed } => put_deed(store, badge, *num, donor, *signed),
         What::PutRule(rule) => put_rule(store, badge, rule),
         What::DropRule { band, scope, rank } => drop_rule(store, badge, *band, *scope, *rank),

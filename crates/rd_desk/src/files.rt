@@ -1,57 +1,43 @@
-//! The files of an image that stands: what a listing is made of, and what is read of one file.
+//! The contents of a file, from the image of its accession.
 
-ghost use Rattle.std.specs.Prelude.{◌≡◌, IfOk, IfSome};
-ghost use Rattle.rd_volume.specs.Founds.{Fits, IsSoundFile};
-ghost use Rattle.rd_volume.specs.Volumes.{AreBytesOf, AreFounds, IsFound, IsFoundAt};
+ghost use Rattle.std.specs.Prelude.{◌≡◌, IfOk, Some};
+ghost use Rattle.std.specs.FinMap.{get};
+ghost use Rattle.rd_volume.specs.Volumes.{AreBytesOf, IsFound};
+ghost use Rattle.rd_store.specs.Held.{desk};
+ghost use Rattle.rd_store.specs.declared.rows.ImageRow.{ImageRow as Row};
+ghost use Rattle.rd_desk.specs.Calls.{Looks};
 
+use crate::asking::image;
+use crate::contents::Contents;
 use crate::said::Unavailable;
-use rd_geometry::{Image, Items};
-use rd_store::ImageRow;
-use rd_volume::{Found, find, pieces, survey};
+use rd_store::{ImageRow, Store};
+use rd_volume::Found;
+use sqlite::Alter;
 use std::alloc::Global;
 
-/// The files of an image, by slot.
-pub(crate) fn files(alloc: Global, image: &ImageRow) -> Result<Items<Found>, Unavailable>
-    ensures { IfOk result (AreFounds image.now.kind image.now.bytes) }
+/// The contents of a file of an image, which keep its bytes. That the file is sound and lies in the image is
+/// tested: of a connection that a fault has shut, nothing is known.
+fn contents_in(image: ImageRow, file: Found) -> Result<Contents, Unavailable>
+    ensures { IsFound image.kind image.bytes file → IfOk result (AreBytesOf image.kind image.bytes file.slot) }
 {
-    let Ok(disk) = Image::new(image.kind, image.bytes.as_slice()) else {
-        return Err(Unavailable);
-    };
-    Ok(survey(alloc, &disk)?)
-}
-
-/// The file at a slot of an image; `None` where no file has the slot.
-pub(crate) fn file_at(
-    alloc: Global,
-    image: &ImageRow,
-    slot: u16,
-) -> Result<Option<Found>, Unavailable>
-    ensures file { IfOk result (IsFoundAt image.now.kind image.now.bytes slot) }
-    ensures fits { IfOk result (λ answer. IfSome answer (Fits image.now.kind)) }
-{
-    let Ok(disk) = Image::new(image.kind, image.bytes.as_slice()) else {
-        return Err(Unavailable);
-    };
-    Ok(find(alloc, &disk, slot)?)
-}
-
-/// The contents of a file that has no fault.
-pub(crate) fn contents(
-    alloc: Global,
-    image: &ImageRow,
-    file: &Found,
-) -> Result<Items<u8>, Unavailable>
-    requires sound { IsSoundFile file.now }
-    requires fits { Fits image.now.kind file.now }
-    ensures { IsFound image.now.kind image.now.bytes file.now
-        → IfOk result (AreBytesOf image.now.kind image.now.bytes file.now.slot) }
-{
-    let Ok(disk) = Image::new(image.kind, image.bytes.as_slice()) else {
-        return Err(Unavailable);
-    };
-    let mut bytes = Vec::new(alloc);
-    for piece in pieces(&disk, file) {
-        bytes.extend_from_slice(piece)?;
+    match Contents::of(image.kind, image.bytes, file) {
+        Some(contents) => Ok(contents),
+        None => Err(Unavailable),
     }
-    Ok(Items::of(bytes))
+}
+
+/// The contents of a file of an accession.
+pub(crate) fn contents<S: Alter>(
+    store: &mut Store<S>,
+    alloc: Global,
+    acc: u32,
+    file: Found,
+) -> Result<Contents, Unavailable>
+    ensures { Looks S.Store store.old store.new result (λ bytes. (row : Row) → get (desk S.Store store.old).images acc ≡ Some row
+        → IsFound row.kind row.bytes file → AreBytesOf row.kind row.bytes file.slot bytes) }
+{
+    let Some(image) = image(store, alloc, acc)? else {
+        return Err(Unavailable);
+    };
+    contents_in(image, file)
 }

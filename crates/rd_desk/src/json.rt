@@ -286,15 +286,15 @@ pub fn reply_to(alloc: Global, said: Said) -> Result<Reply, NoMemory>
         Said::Done => Ok(done()),
         Said::Images(lines) => json_reply(alloc, 200, &images_value(alloc, lines.as_slice())?),
         Said::Listed(listing) => json_reply(alloc, 200, &listing_value(alloc, &listing)?),
-        Said::File(bytes) => Ok(Reply {
+        Said::File(contents) => Ok(Reply {
             status: 200,
             form: Form::Octets,
-            body: Body::octets(bytes),
+            body: Body::file(contents),
         }),
         Said::Catalogue(listings) => Ok(Reply {
             status: 200,
             form: Form::Csv,
-            body: Body::octets(table(alloc, listings.as_slice())?),
+            body: Body::table(table(alloc, listings.as_slice())?),
         }),
         Said::Surveyed(survey) => json_reply(alloc, 200, &surveyed_value(alloc, &survey)?),
         Said::Checked(outcome) => Ok(checked(outcome)),

@@ -6,6 +6,7 @@ mod body;
 mod catalogue;
 mod checks;
 mod commands;
+mod contents;
 mod desk;
 mod files;
 mod json;
@@ -19,6 +20,7 @@ mod words;
 
 pub use body::{Body, BodyPieces};
 pub use checks::check_row;
+pub use contents::Contents;
 pub use desk::{Desk, answer_in_memory};
 pub use json::{reply_to, unavailable};
 pub use laws::{answers_step, one_reply, same_again};

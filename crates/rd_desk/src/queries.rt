@@ -1,17 +1,20 @@
 //! What a caller may see and read.
 
 ghost use Rattle.std.specs.Prelude.{◌≡◌, Contains, IfOk, Some};
+ghost use Rattle.std.specs.FinMap.{get};
 ghost use Rattle.std.specs.List.{AllZip};
 ghost use Rattle.rd_policy.specs.Verdicts.{AreInOrder, IsVerdict};
 ghost use Rattle.rd_store.specs.Held.{IsClean, IsOpen, desk};
+ghost use Rattle.rd_store.specs.declared.rows.ImageRow.{ImageRow};
+ghost use Rattle.rd_volume.specs.Volumes.{IsFound};
 ghost use Rattle.rd_desk.specs.Calls.{Looks};
 ghost use Rattle.rd_desk.specs.Judged.{audience_of};
-ghost use Rattle.rd_desk.specs.Queries.{AreLinesOf, AreLinesOfEach, IsCounted, IsListedAt, IsRead};
+ghost use Rattle.rd_desk.specs.Queries.{AreLinesOf, AreLinesOfEach, IsCounted, IsListedAt, IsRead, IsWithheld};
 ghost use Rattle.rd_desk.specs.Replies.{AreLines, IsAnswered, IsListing};
 ghost use Rattle.rd_desk.specs.Requests.{IsForStaff};
 
-use crate::asking::{Holding, accessions, look_up};
-use crate::files::{contents, file_at, files};
+use crate::asking::{Holding, accessions, file_at, files, look_up};
+use crate::files::contents;
 use crate::refusal::Refusal;
 use crate::request::{Request, What};
 use crate::said::{ImageLine, Line, Listing, Said, Unavailable};
@@ -37,25 +40,64 @@ fn judge(rules: &[Rule], caller: &Caller, file: &Found) -> Verdict
     decide(rules, caller.audience, caller.day, file)
 }
 
-/// What is said of the file at a slot of an accession. The verdict comes before the class and the faults.
-fn read(alloc: Global, holding: &Holding, caller: &Caller, slot: u16) -> Result<Said, Unavailable>
+/// Why a file is not read; `None` where it is. The verdict comes before the class and the faults.
+fn withheld(holding: &Holding, caller: &Caller, file: &Found) -> Option<Refusal>
     requires order { AreInOrder holding.now.rules }
-    ensures { IfOk result (IsRead holding.now caller.now.audience caller.now.day slot) }
+    ensures { IsWithheld holding.now.kind holding.now.rules caller.now.audience caller.now.day file.now result }
 {
-    let Some(file) = file_at(alloc, &holding.image, slot)? else {
-        return Ok(Said::Refused(Refusal::NoFile));
-    };
-    let verdict = judge(holding.rules.as_slice(), caller, &file);
+    let verdict = judge(holding.rules.as_slice(), caller, file);
     if verdict.effect != Effect::Read {
-        return Ok(Said::Refused(Refusal::Denied(verdict.label)));
+        return Some(Refusal::Denied(verdict.label));
     }
     if !file.served_class {
-        return Ok(Said::Refused(Refusal::ListedOnly));
+        return Some(Refusal::ListedOnly);
     }
     if file.faults != 0 {
-        return Ok(Said::Refused(Refusal::Faulty(holding.image.kind, file.faults)));
+        return Some(Refusal::Faulty(holding.kind, file.faults));
     }
-    Ok(Said::File(contents(alloc, &holding.image, &file)?))
+    None
+}
+
+/// What is said of a file of an accession. Its image is read where the file is served, and not else.
+fn said_of<S: Alter>(
+    store: &mut Store<S>,
+    alloc: Global,
+    holding: &Holding,
+    caller: &Caller,
+    acc: u32,
+    file: Found,
+) -> Result<Said, Unavailable>
+    requires order { AreInOrder holding.now.rules }
+    requires awake { IsClean S.Store store.old → IsOpen S.Store store.old }
+    ensures { Looks S.Store store.old store.new result (λ said. (image : ImageRow) → get (desk S.Store store.old).images acc ≡ Some image
+        → holding.now.kind ≡ image.kind → IsFound image.kind image.bytes file
+        → IsRead (record { image = image; rules = holding.now.rules }) caller.now.audience caller.now.day file.slot said) }
+{
+    store.rests();
+    if let Some(refusal) = withheld(holding, caller, &file) {
+        return Ok(Said::Refused(refusal));
+    }
+    Ok(Said::File(contents(store, alloc, acc, file)?))
+}
+
+/// What is said of the file at a slot of an accession.
+fn read<S: Alter>(
+    store: &mut Store<S>,
+    alloc: Global,
+    holding: &Holding,
+    caller: &Caller,
+    acc: u32,
+    slot: u16,
+) -> Result<Said, Unavailable>
+    requires order { AreInOrder holding.now.rules }
+    ensures { Looks S.Store store.old store.new result (λ said. (image : ImageRow) → get (desk S.Store store.old).images acc ≡ Some image
+        → holding.now.kind ≡ image.kind
+        → IsRead (record { image = image; rules = holding.now.rules }) caller.now.audience caller.now.day slot said) }
+{
+    match file_at(store, alloc, acc, slot)? {
+        Some(file) => said_of(store, alloc, holding, caller, acc, file),
+        None => Ok(Said::Refused(Refusal::NoFile)),
+    }
 }
 
 /// The bytes of the file at a slot of an accession.
@@ -73,7 +115,7 @@ fn bytes<S: Alter>(
 {
     let _ = badge;
     match look_up(store, alloc, acc)? {
-        Some(holding) => read(alloc, &holding, caller, slot),
+        Some(holding) => read(store, alloc, &holding, caller, acc, slot),
         None => Ok(Said::Refused(Refusal::NoAccession)),
     }
 }
@@ -101,11 +143,18 @@ fn listed(
 }
 
 /// The files of an accession that are listed.
-fn lines(alloc: Global, holding: &Holding, caller: &Caller) -> Result<Items<Line>, Unavailable>
+fn lines<S: Alter>(
+    store: &mut Store<S>,
+    alloc: Global,
+    holding: &Holding,
+    caller: &Caller,
+    acc: u32,
+) -> Result<Items<Line>, Unavailable>
     requires order { AreInOrder holding.now.rules }
-    ensures { IfOk result (AreLines holding.now.image holding.now.rules caller.now.audience caller.now.day) }
+    ensures { Looks S.Store store.old store.new result (λ lines. (image : ImageRow) → get (desk S.Store store.old).images acc ≡ Some image
+        → AreLines image holding.now.rules caller.now.audience caller.now.day lines) }
 {
-    let files = files(alloc, &holding.image)?;
+    let files = files(store, alloc, acc)?;
     listed(alloc, holding.rules.as_slice(), caller, files)
 }
 
@@ -121,11 +170,11 @@ fn listed_at<S: Alter>(
     let Some(holding) = look_up(store, alloc, acc)? else {
         return Ok(None);
     };
-    let files = lines(alloc, &holding, caller)?;
+    let files = lines(store, alloc, &holding, caller, acc)?;
     Ok(Some(Listing {
         accession: acc,
-        deed: holding.image.deed,
-        kind: holding.image.kind,
+        deed: holding.deed,
+        kind: holding.kind,
         files,
     }))
 }
@@ -161,11 +210,11 @@ fn image_line<S: Alter>(
     let Some(holding) = look_up(store, alloc, acc)? else {
         return Err(Unavailable);
     };
-    let files = lines(alloc, &holding, caller)?;
+    let files = lines(store, alloc, &holding, caller, acc)?;
     Ok(ImageLine {
         accession: acc,
-        deed: holding.image.deed,
-        kind: holding.image.kind,
+        deed: holding.deed,
+        kind: holding.kind,
         files: files.as_slice().len(),
     })
 }

@@ -1,4 +1,5 @@
 use crate::body::Body;
+use crate::contents::Contents;
 use crate::refusal::Refusal;
 use rd_geometry::{Items, Kind, Text};
 use rd_policy::Verdict;
@@ -38,8 +39,8 @@ pub enum Said {
     Images(Items<ImageLine>),
     /// The files of an accession that the caller may see.
     Listed(Listing),
-    /// The bytes of a file.
-    File(Items<u8>),
+    /// The contents of a file.
+    File(Contents),
     /// All accessions by ascending number, each with those of its files that the caller may see.
     Catalogue(Items<Listing>),
     /// What an image has on it, and by whose deed it came.

@@ -10,6 +10,7 @@ macro_rules! table {
     ($($row:expr;)+) => { &[$($row),+] };
 }
 
+mod bodies;
 mod cases;
 mod catalogue;
 mod checks;

@@ -17,6 +17,17 @@ on_err P (Ok value) is = absurd (true≢false (sym is))
 pub refused : {S T X : Type 0} (g : Ghosts S) (a b : Held S) → Stays g a b → Laws g → HoldsDesk (state g a) → (after : Desk) (r : Result T X) → IsErr r → Changes g a b after r
 refused g a b stays laws holds after r is = stays_changes g a b stays laws holds after r (λ o. on_err _ r is) (λ clean. on_err _ r is)
 
+-- the same change, told by a desk that is the same where the connection was open
+pub changes_as : {S T X : Type 0} (g : Ghosts S) (old new : Held S) (after other : Desk) (r : Result T X) → (IsOpen g old → after ≡ other) → Changes g old new after r → Changes g old new other r
+changes_as g old new after other r same h = record {
+  lasts = h.lasts;
+  ok = λ o. subst (λ (d : Desk). OnOk r (desk g new ≡ d)) (same (h.lasts.was_open o)) (h.ok o);
+  err = h.err;
+  ends_open = h.ends_open;
+  crash = λ was clean left may. subst (λ (d : Desk). IsLeft (desk g old) left ⊎ IsLeft d left) (same was) (h.crash was clean left may);
+  durable = h.durable;
+}
+
 module _ {S : Type 0} (g : Ghosts S) (a b c : Held S) (stays : Stays g a b) (opens : IsClean g b → IsOpen g b) where
   same : IsOpen g b → desk g b ≡ desk g a
   same o = ap (λ (db : Database). desk_of db.trees) (stays.now o)

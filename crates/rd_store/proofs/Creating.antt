@@ -26,12 +26,13 @@ use Rattle.rd_tables.proofs.StatementTexts.{put_version_writes}
 use Rattle.rd_tables.proofs.Steps.{went, same_value}
 use Rattle.rd_store.specs.State.{digest_cmp}
 use Rattle.rd_store.specs.Lawful.{IsLawful, IsKey}
-use Rattle.rd_store.specs.Spelled.{deed_sheet, image_sheet, rule_sheet, key_sheet, check_sheet, HasVersion}
+use Rattle.rd_store.specs.Index.{IsFileIn, IsIndexOf}
+use Rattle.rd_store.specs.Spelled.{deed_sheet, image_sheet, rule_sheet, key_sheet, check_sheet, file_sheet, HasVersion}
 use Rattle.rd_store.specs.Held.{IsOf, IsDeskAt, HoldsDesk, IsOpen, LeavesOnly, desk}
 use Rattle.rd_store.specs.Created.{IsAt, IsMade, LeavesOldOrNew, Turns, empty_desk, new_desk}
 use Rattle.rd_store.proofs.Laws.{Laws, leaves_only, left_is}
 use Rattle.rd_store.proofs.Single.{rests_on}
-use Rattle.rd_store.proofs.Orders.{number_order, place_order, digest_order, checkup_order}
+use Rattle.rd_store.proofs.Orders.{number_order, place_order, digest_order, checkup_order, file_order}
 use Rattle.rd_store.proofs.Lawful.{found_after}
 
 -- ---- the tables
@@ -62,7 +63,7 @@ module _ (before : Schema) (text : List ℕ) (after : Schema) (m : Creates befor
       let tables : AllByRecursion (λ table. first.0.trees table.tree ≡ []) (created before m.table).tables = all_push (λ table. first.0.trees table.tree ≡ []) before.tables new others fresh in
       (ap (λ (d : Database). d.schema) is ∙ schema, subst₂ (λ (d : Database) (x : Schema). AllByRecursion (λ table. d.trees table.tree ≡ []) x.tables) (sym is) m.is tables)
 
-pub makes_table : (i : ℕ) (low : i < 6) → Makes (schema_after i) (get_or create_texts i []) CreateTable (creates_writes i low) [] (IsMade i) (IsMade (i + 1))
+pub makes_table : (i : ℕ) (low : i < 7) → Makes (schema_after i) (get_or create_texts i []) CreateTable (creates_writes i low) [] (IsMade i) (IsMade (i + 1))
 makes_table i low limit db after tally made does sound =
     let m = creates i low in
     let it = one_table (schema_after i) (get_or create_texts i []) (schema_after (i + 1)) m limit db after tally made.schema made.empty (subst (λ text. Does limit plain_mode [] db text None CreateTable (Ok (tally, after))) m.whole does) in
@@ -80,7 +81,13 @@ none_spell sheet rows is = subst (Spells sheet) (sym is) (record { spelled = tt;
 none_have : (rows : List Row) → rows ≡ [] → HaveRowids rows
 none_have rows is = subst HaveRowids (sym is) (record { keyed = λ row here. absurd here; apart = λ row other here there tie. absurd here })
 
-pub makes_version : Makes desk_schema put_version_text put_version put_version_writes [] (IsMade 6) (IsOf empty_desk)
+-- nothing is the index of no images
+empty_index : (rows : List Row) → rows ≡ [] → IsIndexOf empty_desk.images (map_of file_sheet rows)
+empty_index rows is acc slot =
+    subst (λ image. IsFileIn image slot (get (map_of file_sheet rows) (record { acc = acc; slot = slot }))) (sym (get-from_entries number_order.total [] acc))
+    (ap (λ l. get (map_of file_sheet l) (record { acc = acc; slot = slot })) is ∙ get-from_entries file_order.total [] (record { acc = acc; slot = slot }))
+
+pub makes_version : Makes desk_schema put_version_text put_version put_version_writes [] (IsMade 7) (IsOf empty_desk)
 makes_version limit db after tally made does sound =
     let h = puts_version (statement_of put_version_text (understood desk_schema put_version_text)) limit db after tally made.schema does in
     let e = made.empty in
@@ -89,20 +96,23 @@ makes_version limit db after tally made does sound =
     let rules = h.1.stays 3 refl refl ∙ e.1.1.1.0 in
     let keys = h.1.stays 5 refl refl ∙ e.1.1.1.1.0 in
     let checks = h.1.stays 7 refl refl ∙ e.1.1.1.1.1.0 in
+    let files = h.1.stays 9 refl refl ∙ e.1.1.1.1.1.1.0 in
     let version : after.trees 0 ≡ version_row ∷ [] = h.1.now ∙ ap (put_row version_row) e.0 in
     record {
       schema = h.1.schema;
       rows = record {
-        version = subst (HasVersion 0) (sym version) refl;
+        version = subst (HasVersion 1) (sym version) refl;
         deeds = none_spell deed_sheet _ deeds;
         images = none_spell image_sheet _ images;
         rules = none_spell rule_sheet _ rules;
         keys = none_spell key_sheet _ keys;
         checks = none_spell check_sheet _ checks;
+        files = none_spell file_sheet _ files;
       };
-      rowids = record { rules = none_have _ rules; keys = none_have _ keys; checks = none_have _ checks };
+      rowids = record { rules = none_have _ rules; keys = none_have _ keys; checks = none_have _ checks; files = none_have _ files };
       sound = sound;
       is = λ i. record { deeds = map_of deed_sheet (deeds i); images = map_of image_sheet (images i); rules = map_of rule_sheet (rules i); keys = map_of key_sheet (keys i); checks = map_of check_sheet (checks i) };
+      index = empty_index (after.trees 9) files;
     }
 
 -- ---- a new desk is lawful

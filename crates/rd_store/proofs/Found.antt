@@ -22,7 +22,7 @@ use Rattle.sqlite_sql.specs.declared.ops.BinaryOp.TheVariants.{Compare}
 use Rattle.sqlite_sql.specs.declared.ops.CompareOp.TheVariants.{Eq}
 use Rattle.sqlite_value.proofs.OrderLemmas.{value_cmp-Int, then-Equal}
 use Rattle.rd_tables.specs.Asked.{IsPicked, rising}
-use Rattle.rd_tables.specs.Queries.{deed_query, image_query, heading_query, accessions_query, audience_query, rules_query, keys_query}
+use Rattle.rd_tables.specs.Queries.{deed_query, image_query, heading_query, accession_query, accessions_query, audience_query, rules_query, keys_query}
 use Rattle.rd_tables.specs.Sheets.{Spells, map_of, natural, seen}
 use Rattle.rd_tables.proofs.Lists.{map_map, and_true, both, in_map, from_map}
 use Rattle.rd_tables.proofs.Values.{equal_numbers, equal_blobs}
@@ -32,7 +32,7 @@ use Rattle.rd_policy.specs.declared.rule.Band.{Band}
 use Rattle.rd_store.specs.Codes.{band_code, is_at}
 use Rattle.rd_store.specs.State.{Desk, Place, Terms, digest_cmp, rule_of, HasOtherStaff}
 use Rattle.rd_store.specs.declared.rows.ImageRow.{ImageRow}
-use Rattle.rd_store.specs.Shown.{deed_shown, image_shown, heading_shown, accession_shown, audience_shown, ShowsOther, IsOtherKey}
+use Rattle.rd_store.specs.Shown.{deed_shown, image_shown, heading_shown, given_shown, accession_shown, audience_shown, ShowsOther, IsOtherKey}
 use Rattle.rd_store.specs.Spelled.{deed_sheet, image_sheet, key_sheet, rule_sheet}
 use Rattle.rd_store.proofs.Orders.{number_order, digest_order, place_order, rule_back, key_back}
 
@@ -52,6 +52,10 @@ module _ (n : ℕ) (table rows : List Row) where
   pub heading_found : Spells image_sheet table → IsPicked heading_query (Int (pos n) ∷ []) table rows → rows ≡ map heading_shown (option_to_list (get (map_of image_sheet table) n))
   heading_found spells picks = looked_up image_sheet number_order heading_query (Int (pos n) ∷ []) table rows spells picks n heading_shown
       (λ row is. ap (λ s. is_true (binary (Compare Eq Binary) (column s 0) (Int (pos n))) && true) is ∙ first_is n _) (λ row is. ap (λ s. ([], column s 1 ∷ column s 2 ∷ column s 3 ∷ [])) is)
+
+  pub given_found : Spells image_sheet table → IsPicked accession_query (Int (pos n) ∷ []) table rows → rows ≡ map given_shown (option_to_list (get (map_of image_sheet table) n))
+  given_found spells picks = looked_up image_sheet number_order accession_query (Int (pos n) ∷ []) table rows spells picks n given_shown
+      (λ row is. ap (λ s. is_true (binary (Compare Eq Binary) (column s 0) (Int (pos n))) && true) is ∙ first_is n _) (λ row is. ap (λ s. ([], column s 1 ∷ column s 2 ∷ [])) is)
 
 -- ORDER BY a number, whose numbers differ
 numbers_rise : (a b : ℕ) → true ≡ true → true ≡ true → is_lt (key_cmp 0 (rising ∷ []) (Int (pos b) ∷ []) (Int (pos a) ∷ [])) ≡ false → eq_by_cmp nat_cmp a b ≡ false → nat_cmp a b ≡ Less

@@ -66,6 +66,23 @@ and_then g a b c P Q R x first r next = record {
 pub moves_from : {S T X : Type 0} (g : Ghosts S) (old new : Held S) (P Q R : Database → Type 0) (r : Result T X) → ((db : Database) → P db → Q db) → Moves g old new Q R r → Moves g old new P R r
 moves_from g old new P Q R r more h = record { quiet = h.quiet; kept = h.kept; ok = λ clean is_open inside held. h.ok clean is_open inside (more (state g old).now held) }
 
+-- a step after which more is known
+pub moves_to : {S T X : Type 0} (g : Ghosts S) (old new : Held S) (P Q R : Database → Type 0) (r : Result T X) → ((db : Database) → Q db → R db) → Moves g old new P Q r → Moves g old new P R r
+moves_to {S} {T} {X} g old new P Q R r more h = record { quiet = h.quiet; kept = h.kept; ok = λ clean is_open inside held. go r (h.ok clean is_open inside held) }
+  where
+    go : (q : Result T X) → OnOk q (IsOpen g new × IsTrue new.in_transaction × Q (state g new).now) → OnOk q (IsOpen g new × IsTrue new.in_transaction × R (state g new).now)
+    go (Ok value) at = (at.0, at.1, more (state g new).now at.2)
+    go (Err e) at = tt
+
+-- a step that is not taken
+pub none_taken : {S T X : Type 0} (g : Ghosts S) (h : Held S) (P Q : Database → Type 0) (r : Result T X) → IsErr r → Moves g h h P Q r
+none_taken g h P Q (Err e) is = record {
+  quiet = record { clean = omega arith; shield = λ s. s; counts = omega arith; limit = refl; closes = λ clean is_open. inl is_open; crash = λ clean trees may. inl may };
+  kept = λ clean. record { was_open = λ o. o; committed = λ _. refl };
+  ok = λ clean is_open inside held. tt;
+}
+none_taken g h P Q (Ok value) is = absurd (true≢false (sym is))
+
 pub stopped : {S T U X Y : Type 0} (g : Ghosts S) (old new : Held S) (P Q R : Database → Type 0) (e : X) (q : Result U Y) → IsErr q → Moves {T = T} g old new P Q (Err e) → Moves g old new P R q
 stopped g old new P Q R e (Err b) is h = record { quiet = h.quiet; kept = h.kept; ok = h.ok }
 stopped g old new P Q R e (Ok b) is h = absurd (true≢false (sym is))

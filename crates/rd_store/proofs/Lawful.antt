@@ -87,7 +87,7 @@ module _ (acc : ℕ) (image : ImageRow) (desk : Desk) (is : IsImage acc image) (
   stands_too Takedown scope some = still_some nat_cmp number_order desk.images acc image scope some
   stands_too Deed scope some = some
 
-  lawful_insert : IsLawful (record desk { images = insert desk.images acc image })
+  pub lawful_insert : IsLawful (record desk { images = insert desk.images acc image })
   lawful_insert = record {
     deeds = lawful.deeds;
     images = λ n other found. elim (found_after nat_cmp number_order desk.images acc image n other found) [

@@ -115,6 +115,10 @@ asks_reads g laws old new holds r Answers asks = record {
   fault = asks.fault;
 }
 
+-- no query at all
+pub stays_still : {S : Type 0} (g : Ghosts S) (h : Held S) → HoldsTables (state g h) → Stays g h h
+stays_still g h held = record { lasts = lasts_still g h; now = λ o. refl; committed = λ o. refl; autocommit = λ o. (held o).autocommit; quiet = λ was clean left may. may }
+
 -- one query after another
 pub stays_then : {S : Type 0} (g : Ghosts S) (a b c : Held S) → Stays g a b → (IsClean g b → IsOpen g b) → Stays g b c → Stays g a c
 stays_then g a b c first opens next = record {

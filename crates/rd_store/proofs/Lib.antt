@@ -2,11 +2,13 @@ pub mod Laws
 pub mod Querying
 pub mod Orders
 pub mod Found
+pub mod FilesFound
 pub mod Single
 pub mod Changing
 pub mod Inside
 pub mod Whole
 pub mod Making
+pub mod Depositing
 pub mod Lawful
 pub mod Creating
 pub mod Columns
@@ -16,3 +18,5 @@ pub mod Sequels
 pub mod Listings
 pub mod RulesFor
 pub mod Searching
+pub mod Filed
+pub mod FilesTold

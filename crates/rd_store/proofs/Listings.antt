@@ -8,10 +8,10 @@ use Rattle.rd_tables.specs.Asked.{IsPicked}
 use Rattle.sqlite.specs.Schema.{Schema}
 use Rattle.sqlite.specs.Table.{Table}
 use Rattle.rd_tables.specs.Schemas.{desk_schema, desk_table, SharesFirstTable}
-use Rattle.rd_tables.proofs.QueryTexts.{all_deeds_asks, all_images_asks, all_rules_asks, all_keys_asks, all_checks_asks}
+use Rattle.rd_tables.proofs.QueryTexts.{all_deeds_asks, all_images_asks, all_rules_asks, all_keys_asks, all_checks_asks, all_files_asks}
 use Rattle.rd_tables.proofs.Reading.{shown_picks}
 use Rattle.rd_store.specs.declared.opening.Listing.{Listing}
-use Rattle.rd_store.specs.declared.opening.Listing.TheVariants.{Deeds, Images, Rules, Keys, Checks}
+use Rattle.rd_store.specs.declared.opening.Listing.TheVariants.{Deeds, Images, Rules, Keys, Checks, Files}
 use Rattle.rd_store.specs.Opened.{HasDeskFirst, IsSettledAt, StartsWithDesk, listing_text, listing_query, listing_tree}
 
 pub listing_plain : (table : Listing) → IsPlain (understood desk_schema (listing_text table))
@@ -20,6 +20,7 @@ listing_plain Images = all_images_asks.plain
 listing_plain Rules = all_rules_asks.plain
 listing_plain Keys = all_keys_asks.plain
 listing_plain Checks = all_checks_asks.plain
+listing_plain Files = all_files_asks.plain
 
 pub listing_picks : (table : Listing) (old new : State) → old.now.schema ≡ desk_schema → (rows : List Row) → Shown (listing_text table) [] old new rows → IsPicked (listing_query table) [] (old.now.trees (listing_tree table)) rows
 listing_picks Deeds old new schema rows shown = shown_picks all_deeds_asks [] old new schema rows shown
@@ -27,6 +28,7 @@ listing_picks Images old new schema rows shown = shown_picks all_images_asks [] 
 listing_picks Rules old new schema rows shown = shown_picks all_rules_asks [] old new schema rows shown
 listing_picks Keys old new schema rows shown = shown_picks all_keys_asks [] old new schema rows shown
 listing_picks Checks old new schema rows shown = shown_picks all_checks_asks [] old new schema rows shown
+listing_picks Files old new schema rows shown = shown_picks all_files_asks [] old new schema rows shown
 
 -- the desk's own table comes first where it does in a desk's schema
 pub desk_first : (schema other : Schema) → other ≡ desk_schema → SharesFirstTable schema other → HasDeskFirst schema
@@ -55,7 +57,7 @@ below_or_at (suc m) (suc n) low = elim (below_or_at m n (omega (arith, low))) [
 ]
 
 -- within a list the default does not matter
-any_default : {A : Type 0} (xs : List A) (k : ℕ) (d e : A) → k < length xs → slice_index_or xs k d ≡ slice_index_or xs k e
+pub any_default : {A : Type 0} (xs : List A) (k : ℕ) (d e : A) → k < length xs → slice_index_or xs k d ≡ slice_index_or xs k e
 any_default [] k d e low = absurd (omega (arith, low))
 any_default (x ∷ xs) zero d e low = refl
 any_default (x ∷ xs) (suc k) d e low = any_default xs k d e (omega (arith, low))

@@ -1,5 +1,5 @@
 -- What the statements make of a database of a desk.
-use Rattle.std.proofs.Common.{◌≡◌, ◌==◌, ℕ, ℤ, pos, List, filter, Bool, true, false, not, ◌&&◌, None, refl, sym, ap, subst, ◌∙◌, IsTrue, Equal, nat_cmp, int_cmp, arith}
+use Rattle.std.proofs.Common.{◌≡◌, ◌==◌, ◌+◌, ◌<◌, ◌∷◌, AllPairs, get_or, length, option_map, ℕ, ℤ, pos, List, filter, Bool, true, false, not, ◌&&◌, None, refl, sym, ap, subst, ◌∙◌, IsTrue, Equal, nat_cmp, int_cmp, arith}
 use Rattle.std.specs.List.{AllByRecursion}
 use Rattle.std.specs.Ordering.{eq_by_cmp}
 use Rattle.std.specs.FinMap.{FinMap, get, insert, remove}
@@ -22,7 +22,7 @@ use Rattle.sqlite_value.specs.Keys.{first_key}
 use Rattle.rd_policy.specs.declared.audience.Audience.{Audience}
 use Rattle.rd_tables.specs.Schemas.{desk_schema}
 use Rattle.rd_tables.specs.Sheets.{Sheet, Spells, IsSpelled, HaveRowids, entry_of, map_of}
-use Rattle.rd_tables.specs.Statements.{put_deed_text, put_deed, put_image_text, put_image, put_rule_text, put_rule, drop_rule_text, drop_rule, put_key_text, put_key, drop_key_text, drop_key, put_check_text, put_check, drop_check_text, drop_check}
+use Rattle.rd_tables.specs.Statements.{put_deed_text, put_deed, put_image_text, put_image, put_rule_text, put_rule, drop_rule_text, drop_rule, put_key_text, put_key, drop_key_text, drop_key, put_check_text, put_check, drop_check_text, drop_check, put_file_text, put_file}
 use Rattle.rd_tables.proofs.Lists.{and_true, one_row}
 use Rattle.rd_tables.proofs.Values.{equal_numbers, equal_integers, equal_blobs}
 use Rattle.rd_tables.proofs.Entries.{insert_removed}
@@ -30,16 +30,20 @@ use Rattle.rd_tables.proofs.Changed.{spells_put, map_put, none_at, map_left, spe
 use Rattle.rd_tables.proofs.Removed.{rowids_left, rowids_put}
 use Rattle.rd_tables.proofs.Running.{Makes}
 use Rattle.rd_tables.proofs.Setting.{Sets, is_index_tree, not_taken}
-use Rattle.rd_tables.proofs.StatementTexts.{put_deed_writes, put_image_writes, put_rule_writes, drop_rule_writes, put_key_writes, drop_key_writes, put_check_writes, drop_check_writes}
-use Rattle.rd_tables.proofs.Statements.{deed_params, deed_row, has_number, by_rowid, puts_deed, image_params, image_row, puts_image, place_params, has_place, drops_rule, rule_row, puts_rule, digest_params, has_digest, drops_key, key_params, key_row, puts_key, checkup_params, has_checkup, drops_check, check_params, check_row, puts_check}
+use Rattle.rd_tables.proofs.StatementTexts.{put_deed_writes, put_image_writes, put_rule_writes, drop_rule_writes, put_key_writes, drop_key_writes, put_check_writes, drop_check_writes, put_file_writes}
+use Rattle.rd_tables.proofs.Statements.{deed_params, deed_row, has_number, by_rowid, puts_deed, image_params, image_row, puts_image, place_params, has_place, drops_rule, rule_row, puts_rule, digest_params, has_digest, drops_key, key_params, key_row, puts_key, checkup_params, has_checkup, drops_check, check_params, check_row, puts_check, file_row, puts_file}
 use Rattle.rd_store.specs.declared.rows.DeedRow.{DeedRow}
 use Rattle.rd_store.specs.declared.rows.ImageRow.{ImageRow}
 use Rattle.rd_store.specs.declared.rows.Outcome.{Outcome}
-use Rattle.rd_store.specs.Codes.{kind_code, band_code, audiences_code, audience_code, effect_code, outcome_code, how, number, word}
-use Rattle.rd_store.specs.State.{Desk, Place, Terms, Checkup, place_cmp, digest_cmp, checkup_cmp, put_or_kept, with_deed, with_image, with_rule, without_rule, with_check, without_check, with_key, without_key}
-use Rattle.rd_store.specs.Spelled.{HaveOwnRowids, deed_sheet, image_sheet, rule_sheet, key_sheet, check_sheet, HasVersion}
-use Rattle.rd_store.specs.Held.{IsOf}
-use Rattle.rd_store.proofs.Orders.{number_order, place_order, digest_order, checkup_order, kind_back, audience_back, outcome_back, rule_back}
+use Rattle.rd_store.specs.Codes.{kind_code, band_code, audiences_code, audience_code, effect_code, outcome_code, how, number, word, class_code, units_code}
+use Rattle.rd_store.specs.State.{Desk, Place, Terms, Checkup, place_cmp, digest_cmp, checkup_cmp, with_deed, with_rule, without_rule, with_check, without_check, with_key, without_key}
+use Rattle.rd_volume.specs.Volumes.{AreFounds}
+use Rattle.rd_volume.specs.declared.found.Found.{Found}
+use Rattle.rd_store.specs.Index.{FileAt, file_cmp, IsFiledTo, IsIndexOf, with_new_image}
+use Rattle.rd_store.specs.Spelled.{HaveOwnRowids, deed_sheet, image_sheet, rule_sheet, key_sheet, check_sheet, file_sheet, file_shown, index_of, HasVersion}
+use Rattle.rd_store.specs.Held.{IsOf, IsOfWith, LacksImage}
+use Rattle.rd_store.proofs.Filed.{none_filed, next_free, one_filed, all_filed}
+use Rattle.rd_store.proofs.Orders.{number_order, place_order, digest_order, checkup_order, file_order, kind_back, audience_back, outcome_back, rule_back, entry_back}
 
 -- ---- one table is set, and the others stay
 
@@ -54,20 +58,21 @@ set sheet tree db after rows h spells m are = record { spells = subst (Spells sh
 stays : {K X : Type 0} (sheet : Sheet K X) (tree : ℕ) (db after : Database) (m : FinMap sheet.cmp X) → after.trees tree ≡ db.trees tree → Part sheet tree db m → Part sheet tree after m
 stays sheet tree db after m same part = record { spells = subst (Spells sheet) (sym same) part.spells; is = ap (map_of sheet) same ∙ part.is }
 
--- the parts of a desk
-whole : (desk : Desk) (db : Database) → db.schema ≡ desk_schema → HasVersion 0 (db.trees 0) → Part deed_sheet 1 db desk.deeds → Part image_sheet 2 db desk.images → Part rule_sheet 3 db desk.rules
-    → Part key_sheet 5 db desk.keys → Part check_sheet 7 db desk.checks → HaveOwnRowids db.trees → IsDatabase db → IsOf desk db
-whole desk db schema version deeds images rules keys checks rowids sound = record {
+-- the parts of a desk and of an index
+whole : (desk : Desk) (Index : FinMap file_cmp Found → Type 0) (db : Database) → db.schema ≡ desk_schema → HasVersion 1 (db.trees 0) → Part deed_sheet 1 db desk.deeds → Part image_sheet 2 db desk.images → Part rule_sheet 3 db desk.rules
+    → Part key_sheet 5 db desk.keys → Part check_sheet 7 db desk.checks → Spells file_sheet (db.trees 9) → Index (index_of db.trees) → HaveOwnRowids db.trees → IsDatabase db → IsOfWith desk Index db
+whole desk Index db schema version deeds images rules keys checks files index rowids sound = record {
   schema = schema;
-  rows = record { version = version; deeds = deeds.spells; images = images.spells; rules = rules.spells; keys = keys.spells; checks = checks.spells };
+  rows = record { version = version; deeds = deeds.spells; images = images.spells; rules = rules.spells; keys = keys.spells; checks = checks.spells; files = files };
   rowids = rowids;
   sound = sound;
   is = λ i. record { deeds = deeds.is i; images = images.is i; rules = rules.is i; keys = keys.is i; checks = checks.is i };
+  index = index;
 }
 
-module _ (desk : Desk) (db after : Database) (rows : List Row) (of : IsOf desk db) (sound : IsDatabase after) where
-  version_stays : after.trees 0 ≡ db.trees 0 → HasVersion 0 (after.trees 0)
-  version_stays same = subst (HasVersion 0) (sym same) of.rows.version
+module _ (desk : Desk) (Index : FinMap file_cmp Found → Type 0) (db after : Database) (rows : List Row) (of : IsOfWith desk Index db) (sound : IsDatabase after) where
+  version_stays : after.trees 0 ≡ db.trees 0 → HasVersion 1 (after.trees 0)
+  version_stays same = subst (HasVersion 1) (sym same) of.rows.version
 
   deeds_stay : after.trees 1 ≡ db.trees 1 → Part deed_sheet 1 after desk.deeds
   deeds_stay same = stays deed_sheet 1 db after desk.deeds same (record { spells = of.rows.deeds; is = ap (λ (d : Desk). d.deeds) of.is })
@@ -84,44 +89,68 @@ module _ (desk : Desk) (db after : Database) (rows : List Row) (of : IsOf desk d
   checks_stay : after.trees 7 ≡ db.trees 7 → Part check_sheet 7 after desk.checks
   checks_stay same = stays check_sheet 7 db after desk.checks same (record { spells = of.rows.checks; is = ap (λ (d : Desk). d.checks) of.is })
 
-  rowids_stay : after.trees 3 ≡ db.trees 3 → after.trees 5 ≡ db.trees 5 → after.trees 7 ≡ db.trees 7 → HaveOwnRowids after.trees
-  rowids_stay rules keys checks = record { rules = subst HaveRowids (sym rules) of.rowids.rules; keys = subst HaveRowids (sym keys) of.rowids.keys; checks = subst HaveRowids (sym checks) of.rowids.checks }
+  files_stay : after.trees 9 ≡ db.trees 9 → Spells file_sheet (after.trees 9)
+  files_stay same = subst (Spells file_sheet) (sym same) of.rows.files
 
-  of_deeds : Sets 1 db after rows → Spells deed_sheet rows → (m : FinMap nat_cmp DeedRow) → map_of deed_sheet rows ≡ m → IsOf (record desk { deeds = m }) after
+  index_stays : after.trees 9 ≡ db.trees 9 → Index (index_of after.trees)
+  index_stays same = subst Index (ap (map_of file_sheet) (sym same)) of.index
+
+  -- rowids, where the tables have these rows
+  rowids_of : (rules keys checks files : List Row) → after.trees 3 ≡ rules → after.trees 5 ≡ keys → after.trees 7 ≡ checks → after.trees 9 ≡ files → HaveRowids rules → HaveRowids keys → HaveRowids checks → HaveRowids files → HaveOwnRowids after.trees
+  rowids_of rules keys checks files r k c f hr hk hc hf = record {
+    rules = subst HaveRowids (sym r) hr;
+    keys = subst HaveRowids (sym k) hk;
+    checks = subst HaveRowids (sym c) hc;
+    files = subst HaveRowids (sym f) hf;
+  }
+
+  of_deeds : Sets 1 db after rows → Spells deed_sheet rows → (m : FinMap nat_cmp DeedRow) → map_of deed_sheet rows ≡ m → IsOfWith (record desk { deeds = m }) Index after
   of_deeds h spells m are =
       let at = λ (t : ℕ) (other : (t == 1) ≡ false) (table : is_index_tree t ≡ false). h.stays t other table in
-      whole (record desk { deeds = m }) after h.schema (version_stays (at 0 refl refl)) (set deed_sheet 1 db after rows h spells m are) (images_stay (at 2 refl refl)) (rules_stay (at 3 refl refl)) (keys_stay (at 5 refl refl))
-      (checks_stay (at 7 refl refl)) (rowids_stay (at 3 refl refl) (at 5 refl refl) (at 7 refl refl)) sound
+      whole (record desk { deeds = m }) Index after h.schema (version_stays (at 0 refl refl)) (set deed_sheet 1 db after rows h spells m are) (images_stay (at 2 refl refl)) (rules_stay (at 3 refl refl)) (keys_stay (at 5 refl refl))
+      (checks_stay (at 7 refl refl)) (files_stay (at 9 refl refl)) (index_stays (at 9 refl refl))
+      (rowids_of _ _ _ _ (at 3 refl refl) (at 5 refl refl) (at 7 refl refl) (at 9 refl refl) of.rowids.rules of.rowids.keys of.rowids.checks of.rowids.files) sound
 
-  of_images : Sets 2 db after rows → Spells image_sheet rows → (m : FinMap nat_cmp ImageRow) → map_of image_sheet rows ≡ m → IsOf (record desk { images = m }) after
+  of_images : Sets 2 db after rows → Spells image_sheet rows → (m : FinMap nat_cmp ImageRow) → map_of image_sheet rows ≡ m → IsOfWith (record desk { images = m }) Index after
   of_images h spells m are =
       let at = λ (t : ℕ) (other : (t == 2) ≡ false) (table : is_index_tree t ≡ false). h.stays t other table in
-      whole (record desk { images = m }) after h.schema (version_stays (at 0 refl refl)) (deeds_stay (at 1 refl refl)) (set image_sheet 2 db after rows h spells m are) (rules_stay (at 3 refl refl)) (keys_stay (at 5 refl refl))
-      (checks_stay (at 7 refl refl)) (rowids_stay (at 3 refl refl) (at 5 refl refl) (at 7 refl refl)) sound
+      whole (record desk { images = m }) Index after h.schema (version_stays (at 0 refl refl)) (deeds_stay (at 1 refl refl)) (set image_sheet 2 db after rows h spells m are) (rules_stay (at 3 refl refl)) (keys_stay (at 5 refl refl))
+      (checks_stay (at 7 refl refl)) (files_stay (at 9 refl refl)) (index_stays (at 9 refl refl))
+      (rowids_of _ _ _ _ (at 3 refl refl) (at 5 refl refl) (at 7 refl refl) (at 9 refl refl) of.rowids.rules of.rowids.keys of.rowids.checks of.rowids.files) sound
 
-  of_rules : Sets 3 db after rows → Spells rule_sheet rows → HaveRowids rows → (m : FinMap place_cmp Terms) → map_of rule_sheet rows ≡ m → IsOf (record desk { rules = m }) after
+  of_rules : Sets 3 db after rows → Spells rule_sheet rows → HaveRowids rows → (m : FinMap place_cmp Terms) → map_of rule_sheet rows ≡ m → IsOfWith (record desk { rules = m }) Index after
   of_rules h spells rowids m are =
       let at = λ (t : ℕ) (other : (t == 3) ≡ false) (table : is_index_tree t ≡ false). h.stays t other table in
-      whole (record desk { rules = m }) after h.schema (version_stays (at 0 refl refl)) (deeds_stay (at 1 refl refl)) (images_stay (at 2 refl refl)) (set rule_sheet 3 db after rows h spells m are) (keys_stay (at 5 refl refl))
-      (checks_stay (at 7 refl refl))
-      (record { rules = subst HaveRowids (sym h.now) rowids; keys = subst HaveRowids (sym (at 5 refl refl)) of.rowids.keys; checks = subst HaveRowids (sym (at 7 refl refl)) of.rowids.checks }) sound
+      whole (record desk { rules = m }) Index after h.schema (version_stays (at 0 refl refl)) (deeds_stay (at 1 refl refl)) (images_stay (at 2 refl refl)) (set rule_sheet 3 db after rows h spells m are) (keys_stay (at 5 refl refl))
+      (checks_stay (at 7 refl refl)) (files_stay (at 9 refl refl)) (index_stays (at 9 refl refl))
+      (rowids_of _ _ _ _ h.now (at 5 refl refl) (at 7 refl refl) (at 9 refl refl) rowids of.rowids.keys of.rowids.checks of.rowids.files) sound
 
-  of_keys : Sets 5 db after rows → Spells key_sheet rows → HaveRowids rows → (m : FinMap digest_cmp Audience) → map_of key_sheet rows ≡ m → IsOf (record desk { keys = m }) after
+  of_keys : Sets 5 db after rows → Spells key_sheet rows → HaveRowids rows → (m : FinMap digest_cmp Audience) → map_of key_sheet rows ≡ m → IsOfWith (record desk { keys = m }) Index after
   of_keys h spells rowids m are =
       let at = λ (t : ℕ) (other : (t == 5) ≡ false) (table : is_index_tree t ≡ false). h.stays t other table in
-      whole (record desk { keys = m }) after h.schema (version_stays (at 0 refl refl)) (deeds_stay (at 1 refl refl)) (images_stay (at 2 refl refl)) (rules_stay (at 3 refl refl)) (set key_sheet 5 db after rows h spells m are)
-      (checks_stay (at 7 refl refl))
-      (record { rules = subst HaveRowids (sym (at 3 refl refl)) of.rowids.rules; keys = subst HaveRowids (sym h.now) rowids; checks = subst HaveRowids (sym (at 7 refl refl)) of.rowids.checks }) sound
+      whole (record desk { keys = m }) Index after h.schema (version_stays (at 0 refl refl)) (deeds_stay (at 1 refl refl)) (images_stay (at 2 refl refl)) (rules_stay (at 3 refl refl)) (set key_sheet 5 db after rows h spells m are)
+      (checks_stay (at 7 refl refl)) (files_stay (at 9 refl refl)) (index_stays (at 9 refl refl))
+      (rowids_of _ _ _ _ (at 3 refl refl) h.now (at 7 refl refl) (at 9 refl refl) of.rowids.rules rowids of.rowids.checks of.rowids.files) sound
 
-  of_checks : Sets 7 db after rows → Spells check_sheet rows → HaveRowids rows → (m : FinMap checkup_cmp Outcome) → map_of check_sheet rows ≡ m → IsOf (record desk { checks = m }) after
+  of_checks : Sets 7 db after rows → Spells check_sheet rows → HaveRowids rows → (m : FinMap checkup_cmp Outcome) → map_of check_sheet rows ≡ m → IsOfWith (record desk { checks = m }) Index after
   of_checks h spells rowids m are =
       let at = λ (t : ℕ) (other : (t == 7) ≡ false) (table : is_index_tree t ≡ false). h.stays t other table in
-      whole (record desk { checks = m }) after h.schema (version_stays (at 0 refl refl)) (deeds_stay (at 1 refl refl)) (images_stay (at 2 refl refl)) (rules_stay (at 3 refl refl)) (keys_stay (at 5 refl refl))
-      (set check_sheet 7 db after rows h spells m are)
-      (record { rules = subst HaveRowids (sym (at 3 refl refl)) of.rowids.rules; keys = subst HaveRowids (sym (at 5 refl refl)) of.rowids.keys; checks = subst HaveRowids (sym h.now) rowids }) sound
+      whole (record desk { checks = m }) Index after h.schema (version_stays (at 0 refl refl)) (deeds_stay (at 1 refl refl)) (images_stay (at 2 refl refl)) (rules_stay (at 3 refl refl)) (keys_stay (at 5 refl refl))
+      (set check_sheet 7 db after rows h spells m are) (files_stay (at 9 refl refl)) (index_stays (at 9 refl refl))
+      (rowids_of _ _ _ _ (at 3 refl refl) (at 5 refl refl) h.now (at 9 refl refl) of.rowids.rules of.rowids.keys rowids of.rowids.files) sound
+
+  of_files : Sets 9 db after rows → Spells file_sheet rows → HaveRowids rows → (Next : FinMap file_cmp Found → Type 0) → Next (map_of file_sheet rows) → IsOfWith desk Next after
+  of_files h spells rowids Next next =
+      let at = λ (t : ℕ) (other : (t == 9) ≡ false) (table : is_index_tree t ≡ false). h.stays t other table in
+      whole desk Next after h.schema (version_stays (at 0 refl refl)) (deeds_stay (at 1 refl refl)) (images_stay (at 2 refl refl)) (rules_stay (at 3 refl refl)) (keys_stay (at 5 refl refl)) (checks_stay (at 7 refl refl))
+      (subst (Spells file_sheet) (sym h.now) spells) (subst Next (ap (map_of file_sheet) (sym h.now)) next)
+      (rowids_of _ _ _ _ (at 3 refl refl) (at 5 refl refl) (at 7 refl refl) h.now of.rowids.rules of.rowids.keys of.rowids.checks rowids) sound
 
 pub of_schema : (desk : Desk) (db : Database) → IsOf desk db → db.schema ≡ desk_schema
 of_schema desk db of = of.schema
+
+pub with_schema : (desk : Desk) (Index : FinMap file_cmp Found → Type 0) (db : Database) → IsOfWith desk Index db → db.schema ≡ desk_schema
+with_schema desk Index db of = of.schema
 
 -- ---- deeds
 
@@ -163,7 +192,7 @@ module _ (num : ℕ) (deed : DeedRow) where
       let put = spells_put deed_sheet number_order new_deed kept left refl none free in
       let are = map_put deed_sheet number_order new_deed kept left refl none free ∙ ap (λ m. insert m num deed) (map_left deed_sheet number_order num test rows spells numbered)
       ∙ insert_removed nat_cmp number_order (map_of deed_sheet rows) num deed ∙ ap (λ (d : Desk). insert d.deeds num deed) of.is in
-      of_deeds desk db after (put_row new_deed kept) of sound h put (insert desk.deeds num deed) are
+      of_deeds desk (IsIndexOf desk.images) db after (put_row new_deed kept) of sound h put (insert desk.deeds num deed) are
 
 -- ---- images
 
@@ -174,9 +203,9 @@ module _ (acc : ℕ) (image : ImageRow) where
   image_read : entry_of image_sheet new_image ≡ (acc, image)
   image_read = λ i. (acc, record { kind = kind_back image.kind i; deed = image.deed; digest = image.digest; bytes = image.bytes })
 
-  pub makes_image : (desk : Desk) → get desk.images acc ≡ None
-      → Makes desk_schema put_image_text put_image put_image_writes (image_params acc (kind_code image.kind) image.deed image.digest image.bytes) (IsOf desk) (IsOf (with_image acc image desk))
-  makes_image desk free limit db after tally of does sound =
+  pub makes_image : (desk : Desk) (files : List Found)
+      → Makes desk_schema put_image_text put_image put_image_writes (image_params acc (kind_code image.kind) image.deed image.digest image.bytes) (LacksImage acc desk) (IsOfWith (with_new_image acc image desk) (IsFiledTo desk.images acc files 0))
+  makes_image desk files limit db after tally (of, free) does sound =
       let rows = db.trees 2 in
       let h = puts_image acc (kind_code image.kind) image.deed image.digest image.bytes (statement_of put_image_text (understood desk_schema put_image_text)) limit db after tally of.schema does in
       let is : IsSpelled image_sheet new_image = sym (ap image_sheet.columns image_read) in
@@ -185,7 +214,40 @@ module _ (acc : ℕ) (image : ImageRow) where
       let put = spells_put image_sheet number_order new_image rows of.rows.images is none h.0 in
       let are = map_put image_sheet number_order new_image rows of.rows.images is none h.0 ∙ ap (λ (e : ℕ × ImageRow). insert (map_of image_sheet rows) e.0 e.1) image_read
       ∙ ap (λ (d : Desk). insert d.images acc image) of.is in
-      subst (λ found. IsOf (put_or_kept found acc image desk) after) (sym free) (of_images desk db after (put_row new_image rows) of sound h.1 put (insert desk.images acc image) are)
+      let filed : IsOfWith desk (IsFiledTo desk.images acc files 0) db =
+      record { schema = of.schema; rows = of.rows; rowids = of.rowids; sound = of.sound; is = of.is; index = none_filed desk.images acc files (index_of db.trees) free of.index } in
+      of_images desk (IsFiledTo desk.images acc files 0) db after (put_row new_image rows) filed sound h.1 put (insert desk.images acc image) are
+
+  pub lacks_schema : (desk : Desk) (db : Database) → LacksImage acc desk db → db.schema ≡ desk_schema
+  lacks_schema desk db lacks = lacks.0.schema
+
+  -- once all its files are filed, the index is that of the images
+  pub filed_whole : (desk : Desk) (files : List Found) → AreFounds image.kind image.bytes files → (db : Database) → IsOfWith (with_new_image acc image desk) (IsFiledTo desk.images acc files (length files)) db → IsOf (with_new_image acc image desk) db
+  filed_whole desk files are db of =
+      record { schema = of.schema; rows = of.rows; rowids = of.rowids; sound = of.sound; is = of.is; index = all_filed desk.images acc image files (index_of db.trees) are of.index }
+
+-- ---- files
+
+module _ (acc : ℕ) (file : Found) where
+  abbrev pub new_file : List Row → Row
+  new_file = file_row acc file.slot file.name file.ty (option_map pos file.user) (class_code file.served_class) (option_map pos file.size) file.faults (units_code file.units) file.last_len
+
+  -- the next of its accession's files
+  pub makes_file : (desk : Desk) (images : FinMap nat_cmp ImageRow) (files : List Found) (count : ℕ) → AllPairs (λ f g. f.slot < g.slot) files → count < length files → get_or files count file ≡ file
+      → Makes desk_schema put_file_text put_file put_file_writes (Int (pos acc) ∷ file_shown file) (IsOfWith desk (IsFiledTo images acc files count)) (IsOfWith desk (IsFiledTo images acc files (count + 1)))
+  makes_file desk images files count ascend low this limit db after tally of does sound =
+      let rows = db.trees 9 in
+      let new = new_file rows in
+      let at : FileAt = record { acc = acc; slot = file.slot } in
+      let h = puts_file acc file.slot file.name file.ty (option_map pos file.user) (class_code file.served_class) (option_map pos file.size) file.faults (units_code file.units) file.last_len (statement_of put_file_text (understood desk_schema put_file_text)) limit db after tally of.schema does in
+      let read : entry_of file_sheet new ≡ (at, file) = entry_back acc file in
+      let is : IsSpelled file_sheet new = sym (ap file_sheet.columns read) in
+      let free = next_free images acc files (index_of db.trees) ascend count file low this of.index in
+      let none = subst (λ (e : FileAt × Found). AllByRecursion (λ row. eq_by_cmp file_cmp e.0 (entry_of file_sheet row).0 ≡ false) rows) (sym read) (none_at file_sheet file_order at rows free) in
+      let put = spells_put file_sheet file_order new rows of.rows.files is none h.0 in
+      let are = map_put file_sheet file_order new rows of.rows.files is none h.0 ∙ ap (λ (e : FileAt × Found). insert (map_of file_sheet rows) e.0 e.1) read in
+      of_files desk (IsFiledTo images acc files count) db after (put_row new rows) of sound h.1 put (rowids_put new rows refl h.0 of.rowids.files) (IsFiledTo images acc files (count + 1))
+      (subst (IsFiledTo images acc files (count + 1)) (sym are) (one_filed images acc files (index_of db.trees) ascend count file low this of.index))
 
 -- ---- rules
 
@@ -205,7 +267,7 @@ module _ (place : Place) where
       let h = drops_rule (band_code place.band) place.scope place.rank (statement_of drop_rule_text (understood desk_schema drop_rule_text)) limit db after tally of.schema of.rowids.rules does in
       let left = spells_left rule_sheet place_order place at_place rows of.rows.rules placed in
       let are = map_left rule_sheet place_order place at_place rows of.rows.rules placed ∙ ap (λ (d : Desk). remove d.rules place) of.is in
-      of_rules desk db after (filter (λ row. not (at_place row)) rows) of sound h left (rowids_left (λ row. not (at_place row)) rows of.rowids.rules) (remove desk.rules place) are
+      of_rules desk (IsIndexOf desk.images) db after (filter (λ row. not (at_place row)) rows) of sound h left (rowids_left (λ row. not (at_place row)) rows of.rowids.rules) (remove desk.rules place) are
 
   module _ (terms : Terms) where
     abbrev new_rule : List Row → Row
@@ -224,7 +286,7 @@ module _ (place : Place) where
         let put = spells_put rule_sheet place_order new rows of.rows.rules is none h.0 in
         let are = map_put rule_sheet place_order new rows of.rows.rules is none h.0 ∙ ap (λ (e : Place × Terms). insert (map_of rule_sheet rows) e.0 e.1) read
         ∙ ap (λ (d : Desk). insert d.rules place terms) of.is in
-        of_rules desk db after (put_row new rows) of sound h.1 put (rowids_put new rows refl h.0 of.rowids.rules) (insert desk.rules place terms) are
+        of_rules desk (IsIndexOf desk.images) db after (put_row new rows) of sound h.1 put (rowids_put new rows refl h.0 of.rowids.rules) (insert desk.rules place terms) are
 
 -- ---- desk keys
 
@@ -238,7 +300,7 @@ module _ (digest : List ℕ) where
       let h = drops_key digest (statement_of drop_key_text (understood desk_schema drop_key_text)) limit db after tally of.schema of.rowids.keys does in
       let left = spells_left key_sheet digest_order digest (has_digest digest) rows of.rows.keys digested in
       let are = map_left key_sheet digest_order digest (has_digest digest) rows of.rows.keys digested ∙ ap (λ (d : Desk). remove d.keys digest) of.is in
-      of_keys desk db after (filter (λ row. not (has_digest digest row)) rows) of sound h left (rowids_left (λ row. not (has_digest digest row)) rows of.rowids.keys) (remove desk.keys digest) are
+      of_keys desk (IsIndexOf desk.images) db after (filter (λ row. not (has_digest digest row)) rows) of sound h left (rowids_left (λ row. not (has_digest digest row)) rows of.rowids.keys) (remove desk.keys digest) are
 
   module _ (audience : Audience) where
     pub makes_key : (desk : Desk) → get desk.keys digest ≡ None → Makes desk_schema put_key_text put_key put_key_writes (key_params digest (audience_code audience)) (IsOf desk) (IsOf (with_key digest audience desk))
@@ -253,7 +315,7 @@ module _ (digest : List ℕ) where
         let put = spells_put key_sheet digest_order new rows of.rows.keys is none h.0 in
         let are = map_put key_sheet digest_order new rows of.rows.keys is none h.0 ∙ ap (λ (e : List ℕ × Audience). insert (map_of key_sheet rows) e.0 e.1) read
         ∙ ap (λ (d : Desk). insert d.keys digest audience) of.is in
-        of_keys desk db after (put_row new rows) of sound h.1 put (rowids_put new rows refl h.0 of.rowids.keys) (insert desk.keys digest audience) are
+        of_keys desk (IsIndexOf desk.images) db after (put_row new rows) of sound h.1 put (rowids_put new rows refl h.0 of.rowids.keys) (insert desk.keys digest audience) are
 
 -- ---- checks
 
@@ -273,7 +335,7 @@ module _ (acc : ℕ) (day : ℤ) where
       let h = drops_check acc day (statement_of drop_check_text (understood desk_schema drop_check_text)) limit db after tally of.schema of.rowids.checks does in
       let left = spells_left check_sheet checkup_order checkup (has_checkup acc day) rows of.rows.checks checked in
       let are = map_left check_sheet checkup_order checkup (has_checkup acc day) rows of.rows.checks checked ∙ ap (λ (d : Desk). remove d.checks checkup) of.is in
-      of_checks desk db after (filter (λ row. not (has_checkup acc day row)) rows) of sound h left (rowids_left (λ row. not (has_checkup acc day row)) rows of.rowids.checks) (remove desk.checks checkup) are
+      of_checks desk (IsIndexOf desk.images) db after (filter (λ row. not (has_checkup acc day row)) rows) of sound h left (rowids_left (λ row. not (has_checkup acc day row)) rows of.rowids.checks) (remove desk.checks checkup) are
 
   module _ (outcome : Outcome) where
     pub makes_check : (desk : Desk) → get desk.checks checkup ≡ None
@@ -289,4 +351,4 @@ module _ (acc : ℕ) (day : ℤ) where
         let put = spells_put check_sheet checkup_order new rows of.rows.checks is none h.0 in
         let are = map_put check_sheet checkup_order new rows of.rows.checks is none h.0 ∙ ap (λ (e : Checkup × Outcome). insert (map_of check_sheet rows) e.0 e.1) read
         ∙ ap (λ (d : Desk). insert d.checks checkup outcome) of.is in
-        of_checks desk db after (put_row new rows) of sound h.1 put (rowids_put new rows refl h.0 of.rowids.checks) (insert desk.checks checkup outcome) are
+        of_checks desk (IsIndexOf desk.images) db after (put_row new rows) of sound h.1 put (rowids_put new rows refl h.0 of.rowids.checks) (insert desk.checks checkup outcome) are

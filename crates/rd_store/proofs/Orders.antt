@@ -1,5 +1,5 @@
 -- The orders of the keys, and that columns spell the entry that they come from.
-use Rattle.std.proofs.Common.{◌≡◌, ℕ, ℤ, List, Option, Some, None, true, false, refl, arith, nat_cmp}
+use Rattle.std.proofs.Common.{◌≡◌, ◌+◌, ◌*◌, map, ◌/◌, ◌%◌, ◌∙◌, ap₂, ℕ, ℤ, pos, List, [], ◌∷◌, Bool, Option, Some, None, true, false, option_map, refl, sym, arith, nat_cmp}
 use Rattle.std.specs.FinMap.{nat_cmp-IsAntisymmetric, int_cmp-IsAntisymmetric, slice_cmp-IsAntisymmetric}
 use Rattle.std.proofs.lemmas.Cmp.{nat_cmp_total, nat_list_cmp_total, int_cmp_total, then_total, on_total}
 use Rattle.sqlite.specs.declared.types.Value.TheVariants.{Int}
@@ -19,9 +19,11 @@ use Rattle.rd_policy.specs.declared.select.Select.TheVariants.{All, Slot, Prefix
 use Rattle.rd_tables.proofs.Entries.{IsKeyOrder}
 use Rattle.rd_store.specs.declared.rows.Outcome.{Outcome}
 use Rattle.rd_store.specs.declared.rows.Outcome.TheVariants.{Sound, Changed}
-use Rattle.rd_store.specs.Codes.{kind_code, kind_in, band_code, band_in, effect_code, effect_in, audiences_code, audiences_in, audience_code, audience_in, outcome_code, outcome_in, how, number, word, select_in, day_in}
+use Rattle.rd_store.specs.Codes.{kind_code, kind_in, band_code, band_in, effect_code, effect_in, audiences_code, audiences_in, audience_code, audience_in, outcome_code, outcome_in, how, number, word, select_in, day_in, number_in, units_code, units_in, class_code, class_in}
+use Rattle.rd_store.specs.Index.{FileAt, file_cmp}
 use Rattle.rd_store.specs.State.{Place, Terms, Checkup, place_cmp, digest_cmp, checkup_cmp}
-use Rattle.rd_store.specs.Spelled.{key_sheet, rule_sheet}
+use Rattle.rd_volume.specs.declared.found.Found.{Found}
+use Rattle.rd_store.specs.Spelled.{key_sheet, rule_sheet, file_sheet, file_shown, file_in}
 
 pub number_order : IsKeyOrder nat_cmp
 number_order = record { total = nat_cmp_total; same = nat_cmp-IsAntisymmetric }
@@ -55,6 +57,16 @@ checkup_order = record {
       let acc = nat_cmp-IsAntisymmetric _ _ both.0 in
       let day = int_cmp-IsAntisymmetric _ _ both.1 in
       λ i. record { acc = acc i; day = day i };
+}
+
+pub file_order : IsKeyOrder file_cmp
+file_order = record {
+  total = then_total (on_total (λ (at : FileAt). at.acc) nat_cmp_total) (on_total (λ (at : FileAt). at.slot) nat_cmp_total);
+  same = λ x y tied.
+      let both = then_tied _ _ tied in
+      let acc = nat_cmp-IsAntisymmetric _ _ both.0 in
+      let slot = nat_cmp-IsAntisymmetric _ _ both.1 in
+      λ i. record { acc = acc i; slot = slot i };
 }
 
 -- ---- what is written is read back
@@ -113,3 +125,36 @@ rule_back e = λ i. (
   record { band = band_back e.0.band i; scope = e.0.scope; rank = e.0.rank },
   record { audiences = audiences_back e.1.audiences i; from = day_back e.1.from i; until = day_back e.1.until i; select = select_back e.1.select i; effect = effect_back e.1.effect i },
 )
+
+number_back : (number : Option ℕ) → number_in (or_null Int (option_map pos number)) ≡ number
+number_back None = refl
+number_back (Some number) = refl
+
+class_back : (served : Bool) → class_in (class_code served) ≡ served
+class_back true = refl
+class_back false = refl
+
+units_back : (units : List ℕ) → units_in (units_code units) ≡ units
+units_back [] = refl
+units_back (unit ∷ units) = ap₂ (λ n ns. n ∷ ns) (let whole : 256 * (unit / 256) + unit % 256 ≡ unit = omega arith in whole) (units_back units)
+
+pub file_back : (file : Found) → file_in (file_shown file) ≡ file
+file_back file = λ i. record {
+  slot = file.slot;
+  name = file.name;
+  ty = file.ty;
+  user = number_back file.user i;
+  served_class = class_back file.served_class i;
+  size = number_back file.size i;
+  faults = file.faults;
+  units = units_back file.units i;
+  last_len = file.last_len;
+}
+
+pub files_back : (files : List Found) → map file_in (map file_shown files) ≡ files
+files_back [] = refl
+files_back (file ∷ files) = ap₂ (λ f fs. f ∷ fs) (file_back file) (files_back files)
+
+-- a file at its own slot
+pub entry_back : (acc : ℕ) (file : Found) → file_sheet.entry (file_sheet.columns (record { acc = acc; slot = file.slot }, file)) ≡ (record { acc = acc; slot = file.slot }, file)
+entry_back acc file = λ i. (record { acc = acc; slot = file.slot }, file_back file i)

@@ -11,8 +11,11 @@ use Rattle.rd_store.specs.declared.faults.OpenFault.{OpenFault}
 use Rattle.rd_store.specs.declared.faults.OpenFault.TheVariants.{NotADesk, Version, Inconsistent, Sql}
 use Rattle.rd_store.specs.State.{Stands}
 use Rattle.rd_store.specs.Lawful.{IsImage}
-use Rattle.rd_store.specs.Opened.{IsConsistent, Denied, Judged, AreKeys, AreNumbers, StandsAmong, IsImageOf, LawfulDeeds, LawfulImages, LawfulGiven, LawfulOthers}
+use Rattle.rd_store.specs.Opened.{IsConsistent, Denied, Judged, JudgedPart, AreKeys, AreNumbers, StandsAmong, IsImageOf, LawfulDeeds, LawfulFiles, LawfulImages, LawfulGiven, LawfulOthers}
 use Rattle.rd_store.specs.Spelled.{HasVersion, desk_of, deed_sheet, image_sheet}
+
+pub files_in : (trees : Trees) → IsConsistent trees → LawfulFiles trees
+files_in trees all = (all.spelled.files, all.index)
 
 -- what a test refuses, a wider one refuses
 pub denied_part : (P Q : Type 0) (fault : OpenFault) → (Q → P) → Denied P fault → Denied Q fault
@@ -22,12 +25,15 @@ denied_part P Q Inconsistent part denied = λ q. denied (part q)
 denied_part P Q Sql part denied = tt
 
 -- a refusal that is passed on
+pub part_err : {T : Type 0} (Part Q : Type 0) (result : Result T OpenFault) (fault : OpenFault) → IsErrAnd result (λ other. other ≡ fault) → Denied Q fault → JudgedPart Part Q result
+part_err Part Q (Ok value) fault is denied = absurd is
+part_err Part Q (Err other) fault is denied = subst (Denied Q) (sym is) denied
+
 pub judged_err : {T : Type 0} (Q : Type 0) (result : Result T OpenFault) (fault : OpenFault) → IsErrAnd result (λ other. other ≡ fault) → Denied Q fault → Judged Q result
-judged_err Q (Ok value) fault is denied = absurd is
-judged_err Q (Err other) fault is denied = subst (Denied Q) (sym is) denied
+judged_err Q = part_err Q Q
 
 -- tests that say the same where one holds
-pub judged_same : {T : Type 0} (P Q : Type 0) (result : Result T OpenFault) → (P → Q) → (Q → P) → Judged P result → Judged Q result
+pub judged_same : {T : Type 0} {Part : Type 0} (P Q : Type 0) (result : Result T OpenFault) → (Part → Q) → (Q → P) → JudgedPart Part P result → Judged Q result
 judged_same P Q (Ok value) to from judged = to judged
 judged_same P Q (Err fault) to from judged = denied_part P Q fault from judged
 
@@ -63,9 +69,9 @@ module _ (trees : Trees) (deeds accessions : List ℕ) (are : AreNumbers trees d
     record { spells = all.spelled.checks; lawful = λ checkup outcome is. let it = all.lawful.checks checkup outcome is in (it.0, (are.1 checkup.acc).1 it.1) },
   )
 
-  pub consistent : HasVersion 0 (trees 0) → LawfulGiven trees → LawfulOthers accessions deeds trees → IsConsistent trees
-  consistent version first others = record {
-    spelled = record { version = version; deeds = first.0.spells; images = first.1.spells; rules = others.0.spells; keys = others.1.0.spells; checks = others.2.spells };
+  pub consistent : HasVersion 1 (trees 0) → LawfulGiven trees → LawfulOthers accessions deeds trees → LawfulFiles trees → IsConsistent trees
+  consistent version first others files = record {
+    spelled = record { version = version; deeds = first.0.spells; images = first.1.spells; rules = others.0.spells; keys = others.1.0.spells; checks = others.2.spells; files = files.0 };
     lawful = record {
       deeds = first.0.lawful;
       images = first.1.lawful;
@@ -74,4 +80,5 @@ module _ (trees : Trees) (deeds accessions : List ℕ) (are : AreNumbers trees d
       staff = others.1.1;
       checks = λ checkup outcome is. let it = others.2.lawful checkup outcome is in (it.0, (are.1 checkup.acc).0 it.1);
     };
+    index = files.1;
   }

@@ -44,11 +44,11 @@ versions_listed : (table rows : List Row) → IsPicked version_query [] table ro
 versions_listed table rows picks =
     subst (λ l. IsPermutation l (map (λ row. column row 0) rows)) (map_map (λ row. column row 0) (show 0 (col 1 2) [] [] table rows) table) (IsPermutation-map (λ row. column row 0) _ _ (all_shown 0 (col 1 2) [] [] table rows picks))
 
-pub version_told : (b : Bool) (table rows : List Row) → IsPicked version_query [] table rows → MatchBool b (map (λ row. column row 0) rows ≡ Int (pos 0) ∷ []) (¬ (map (λ row. column row 0) rows ≡ Int (pos 0) ∷ []))
-    → MatchBool b (map (λ row. column row 2) table ≡ Int (pos 0) ∷ []) (¬ (map (λ row. column row 2) table ≡ Int (pos 0) ∷ []))
+pub version_told : (b : Bool) (table rows : List Row) → IsPicked version_query [] table rows → MatchBool b (map (λ row. column row 0) rows ≡ Int (pos 1) ∷ []) (¬ (map (λ row. column row 0) rows ≡ Int (pos 1) ∷ []))
+    → MatchBool b (map (λ row. column row 2) table ≡ Int (pos 1) ∷ []) (¬ (map (λ row. column row 2) table ≡ Int (pos 1) ∷ []))
 version_told true table rows picks is =
-    one_permutation (Int (pos 0)) _ (IsPermutation-sym _ _ (subst (IsPermutation (map (λ row. column row 2) table)) is (versions_listed table rows picks)))
-version_told false table rows picks isnt = λ is. isnt (one_permutation (Int (pos 0)) _ (subst (λ l. IsPermutation l (map (λ row. column row 0) rows)) is (versions_listed table rows picks)))
+    one_permutation (Int (pos 1)) _ (IsPermutation-sym _ _ (subst (IsPermutation (map (λ row. column row 2) table)) is (versions_listed table rows picks)))
+version_told false table rows picks isnt = λ is. isnt (one_permutation (Int (pos 1)) _ (subst (λ l. IsPermutation l (map (λ row. column row 0) rows)) is (versions_listed table rows picks)))
 
 -- ---- a table
 

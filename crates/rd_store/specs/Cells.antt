@@ -1,11 +1,14 @@
 -- Inside: what a row of a table may show, column by column, its rowid first. It shows this exactly where it
 -- spells a lawful entry; the rule itself is IsConsistent.
-use Rattle.std.specs.Prelude.{◌≡◌, ◌⊎◌, ℕ, pos, negsuc, List, codes, Bool, true, false, not, ◌&&◌, ◌||◌, ◌==◌, nat_le, int_lt, length}
+use Rattle.std.specs.Prelude.{◌≡◌, ◌⊎◌, ◌<◌, get_or, option_map, ℕ, pos, negsuc, List, codes, Bool, true, false, not, ◌&&◌, ◌||◌, ◌==◌, nat_le, int_lt, length}
 use Rattle.std.specs.List.{list_any}
 use Rattle.sqlite.specs.declared.types.Value.{Value}
 use Rattle.sqlite.specs.declared.types.Value.TheVariants.{Null, Int, Text, Blob}
 use Rattle.sqlite.specs.Order.{Row, column}
 use Rattle.rd_policy.specs.Rules.{IsPlainText}
+use Rattle.sqlite.specs.Values.{or_null}
+use Rattle.rd_volume.specs.declared.found.Found.{Found}
+use Rattle.rd_store.specs.Codes.{class_code, units_code}
 use Rattle.rd_store.specs.Lawful.{IsDonor}
 
 -- ---- one column
@@ -92,6 +95,33 @@ pub record IsCheckRow (accessions : List ℕ) (row : Row) : Type 0 where
   pub acc : is_one_of accessions (column row 1) ≡ true
   pub day : is_day (column row 2) ≡ true
   pub outcome : is_number 0 1 (column row 3) ≡ true
+
+-- the row is for one of the accessions
+abbrev pub IsFiledRow : List ℕ → Row → Type 0
+IsFiledRow accessions row = is_one_of accessions (column row 1) ≡ true
+
+-- The row shows where a file stands and what it is called.
+pub record IsNameRow (file : Found) (row : Row) : Type 0 where
+  pub slot : column row 0 ≡ Int (pos file.slot)
+  pub name : column row 1 ≡ Text file.name
+  pub type : column row 2 ≡ Text file.ty
+  pub user : column row 3 ≡ or_null Int (option_map pos file.user)
+
+-- The row shows what else is told of a file.
+pub record IsContentsRow (file : Found) (row : Row) : Type 0 where
+  pub class : column row 4 ≡ Int (pos (class_code file.served_class))
+  pub size : column row 5 ≡ or_null Int (option_map pos file.size)
+  pub faults : column row 6 ≡ Int (pos file.faults)
+  pub units : column row 7 ≡ Blob (units_code file.units)
+  pub last : column row 8 ≡ Int (pos file.last_len)
+
+-- the row shows a file
+abbrev pub IsFileRow : Found → Row → Type 0
+IsFileRow file row = IsNameRow file row × IsContentsRow file row
+
+-- the rows show the files, one by one
+abbrev pub ShowFiles : List Found → List Row → Type 0
+ShowFiles files rows = (length rows ≡ length files) × ((k : ℕ) (file : Found) (row : Row) → k < length files → IsFileRow (get_or files k file) (get_or rows k row))
 
 -- the row shows a staff key
 abbrev pub IsStaffRow : Row → Type 0

@@ -1,7 +1,8 @@
 -- The numbers and texts by which columns stand for values.
-use Rattle.std.specs.Prelude.{ℕ, zero, suc, ◌+◌, ◌/◌, ◌%◌, ◌==◌, ◌&&◌, ℤ, List, [], Bool, cond, Option, Some, None}
+use Rattle.std.specs.Prelude.{ℕ, zero, suc, ◌+◌, ◌*◌, ◌/◌, ◌%◌, ◌==◌, ◌&&◌, ℤ, List, [], ◌∷◌, Bool, cond, flat_map, Option, Some, None}
 use Rattle.sqlite.specs.declared.types.Value.{Value}
 use Rattle.sqlite.specs.declared.types.Value.TheVariants.{Null, Int, Real, Text, Blob}
+use Rattle.rd_tables.specs.Sheets.{natural_of}
 use Rattle.rd_geometry.specs.declared.kind.Kind.{Kind}
 use Rattle.rd_geometry.specs.declared.kind.Kind.TheVariants.{Cpm8, D64}
 use Rattle.rd_policy.specs.declared.audience.Audience.{Audience}
@@ -110,3 +111,29 @@ day_in (Int day) = Some day
 day_in (Real x) = None
 day_in (Text text) = None
 day_in (Blob bytes) = None
+
+-- ---- a number that may be absent
+
+abbrev pub number_in : Value → Option ℕ
+number_in Null = None
+number_in (Int number) = Some (natural_of number)
+number_in (Real x) = None
+number_in (Text text) = None
+number_in (Blob bytes) = None
+
+-- ---- the units of a file are two bytes each, the high byte first
+
+abbrev pub units_code : List ℕ → List ℕ
+units_code = flat_map (λ unit. unit / 256 ∷ unit % 256 ∷ [])
+
+abbrev pub units_in : List ℕ → List ℕ
+units_in [] = []
+units_in (high ∷ []) = []
+units_in (high ∷ low ∷ more) = (256 * high + low) ∷ units_in more
+
+-- 1 for a file of the class that is served
+abbrev pub class_code : Bool → ℕ
+class_code served = cond served 1 0
+
+abbrev pub class_in : ℕ → Bool
+class_in code = code == 1

@@ -1,5 +1,6 @@
 -- What a store holds, what a call makes of it, and what a crash leaves.
-use Rattle.std.specs.Prelude.{◌≡◌, ◌⊎◌, ◌≤◌, false, IsTrue, Result, Ok, Err, OnOk, OnErr, IfOk, IfErr, ⊤}
+use Rattle.std.specs.Prelude.{◌≡◌, ◌⊎◌, ◌≤◌, ℕ, None, false, IsTrue, Result, Ok, Err, OnOk, OnErr, IfOk, IfErr, ⊤}
+use Rattle.std.specs.FinMap.{FinMap, get}
 use Rattle.sqlite_disk.specs.Disk.{MoreFaults}
 use Rattle.sqlite.specs.Tree.{Trees}
 use Rattle.sqlite.specs.Store.{Ghosts}
@@ -7,20 +8,31 @@ use Rattle.sqlite.specs.Schema.{Schema}
 use Rattle.sqlite.specs.Effect.{Database, IsDatabase}
 use Rattle.sqlite.specs.State.{State, HasCleanDisk, Survives, KeepsCommit}
 use Rattle.sqlite.specs.Held.{Held, state}
+use Rattle.rd_volume.specs.declared.found.Found.{Found}
 use Rattle.rd_tables.specs.Schemas.{desk_schema}
 use Rattle.rd_store.specs.declared.faults.StoreFault.{StoreFault}
 use Rattle.rd_store.specs.declared.faults.StoreFault.TheVariants.{Sql, Missing, Conflict}
 use Rattle.rd_store.specs.State.{Desk}
 use Rattle.rd_store.specs.Lawful.{IsLawful}
-use Rattle.rd_store.specs.Spelled.{SpellDesk, HaveOwnRowids, desk_of}
+use Rattle.rd_store.specs.Index.{IsIndexOf, file_cmp}
+use Rattle.rd_store.specs.Spelled.{SpellDesk, HaveOwnRowids, desk_of, index_of}
 
--- The database has the tables of a desk, and their rows spell this one.
-pub record IsOf (desk : Desk) (db : Database) : Type 0 where
+-- The database has the tables of a desk, and their rows spell this one, and an index of which this is true.
+pub record IsOfWith (desk : Desk) (Index : FinMap file_cmp Found → Type 0) (db : Database) : Type 0 where
   pub schema : db.schema ≡ desk_schema
   pub rows : SpellDesk db.trees
   pub rowids : HaveOwnRowids db.trees
   pub sound : IsDatabase db
   pub is : desk_of db.trees ≡ desk
+  pub index : Index (index_of db.trees)
+
+-- and the index is that of its images
+abbrev pub IsOf : Desk → Database → Type 0
+IsOf desk = IsOfWith desk (IsIndexOf desk.images)
+
+-- and no image stands at an accession
+abbrev pub LacksImage : ℕ → Desk → Database → Type 0
+LacksImage acc desk db = IsOf desk db × (get desk.images acc ≡ None)
 
 -- and the desk is a lawful one
 pub record Holds (desk : Desk) (db : Database) : Type 0 where

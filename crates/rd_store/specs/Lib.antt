@@ -1,5 +1,6 @@
 pub mod State
 pub mod Codes
+pub mod Index
 pub mod Lawful
 pub mod Spelled
 pub mod Held

@@ -1,7 +1,9 @@
 -- When a database is that of a desk, and why it is not opened as one.
-use Rattle.std.specs.Prelude.{◌≡◌, ◌≢◌, ◌↔◌, ℕ, List, true, false, Some, IsSome, IsTrue, Result, Ok, Err, IfErr, OnOk, MatchBool, ⊤}
+use Rattle.std.specs.Prelude.{◌≡◌, ◌≢◌, ◌↔◌, ℕ, pos, List, true, false, Some, IsSome, IsTrue, Result, Ok, Err, IfErr, OnOk, MatchBool, ⊤}
 use Rattle.std.specs.Ordering.{nat_cmp}
 use Rattle.std.specs.FinMap.{FinMap, get}
+use Rattle.sqlite.specs.declared.types.Value.TheVariants.{Int}
+use Rattle.sqlite.specs.Order.{Row, column}
 use Rattle.sqlite.specs.Tree.{Trees}
 use Rattle.sqlite.specs.Store.{Ghosts}
 use Rattle.sqlite.specs.Table.{Table}
@@ -18,9 +20,11 @@ use Rattle.rd_policy.specs.Rules.{IsRule}
 use Rattle.rd_policy.specs.declared.audience.Audience.TheVariants.{Staff}
 use Rattle.rd_policy.specs.declared.rule.Band.{Band}
 use Rattle.rd_policy.specs.declared.rule.Band.TheVariants.{Takedown, Deed}
+use Rattle.rd_tables.specs.Asked.{IsListed}
 use Rattle.rd_tables.specs.Queries as ask
 use Rattle.rd_tables.specs.Schemas.{desk_schema, has_desk_columns, has_foreign_desk, may_be_desk, starts_with_desk}
-use Rattle.rd_tables.specs.Sheets.{SpellLawful, map_of}
+use Rattle.rd_volume.specs.declared.found.Found.{Found}
+use Rattle.rd_tables.specs.Sheets.{HaveRowids, Spells, SpellLawful, map_of, seen}
 use Rattle.rd_store.specs.declared.faults.OpenFault.{OpenFault}
 use Rattle.rd_store.specs.declared.faults.OpenFault.TheVariants.{NotADesk, Version, Inconsistent, Sql}
 use Rattle.rd_store.specs.declared.opening.Listing.{Listing}
@@ -29,14 +33,17 @@ use Rattle.rd_store.specs.declared.rows.ImageRow.{ImageRow}
 use Rattle.rd_store.specs.declared.rows.Outcome.{Outcome}
 use Rattle.rd_store.specs.State.{Place, Terms, Checkup, rule_of}
 use Rattle.rd_store.specs.Lawful.{IsDeed, IsImage, IsKey, IsLawful}
-use Rattle.rd_store.specs.Spelled.{SpellDesk, HasVersion, desk_of, deed_sheet, image_sheet, rule_sheet, key_sheet, check_sheet}
+use Rattle.rd_store.specs.Cells.{is_one_of}
+use Rattle.rd_store.specs.Index.{AreFilesIn, IsIndexOf}
+use Rattle.rd_store.specs.Spelled.{SpellDesk, HasVersion, desk_of, index_of, deed_sheet, image_sheet, rule_sheet, key_sheet, check_sheet, file_sheet}
 use Rattle.rd_store.specs.Created.{IsUntouched}
 use Rattle.rd_store.specs.Held.{RestsOver, IsDeskAt, IsOpen, IsClean, Lasts, LeavesOld, LeavesOnly, LeavesOpen, Stays, desk as desk_at}
 
--- The rows spell a desk, and it is a lawful one.
+-- The rows spell a desk, it is a lawful one, and the index is that of its images.
 pub record IsConsistent (trees : Trees) : Type 0 where
   pub spelled : SpellDesk trees
   pub lawful : IsLawful (desk_of trees)
+  pub index : IsIndexOf (map_of image_sheet (trees 2)) (index_of trees)
 
 -- the desk's own table comes first, as it is declared in each desk
 pub record HasDeskFirst (schema : Schema) : Type 0 where
@@ -48,8 +55,8 @@ pub record HasDeskFirst (schema : Schema) : Type 0 where
 -- what is told of a database by each refusal; why Sql is answered is not told
 abbrev pub Refuses : OpenFault → Database → Type 0
 Refuses NotADesk db = may_be_desk db.schema ≡ false
-Refuses Version db = (has_desk_columns db.schema ≡ true) × HasDeskFirst db.schema × ¬ HasVersion 0 (db.trees 0)
-Refuses Inconsistent db = (db.schema ≡ desk_schema) × HasVersion 0 (db.trees 0) × ¬ IsConsistent db.trees
+Refuses Version db = (has_desk_columns db.schema ≡ true) × HasDeskFirst db.schema × ¬ HasVersion 1 (db.trees 0)
+Refuses Inconsistent db = (db.schema ≡ desk_schema) × HasVersion 1 (db.trees 0) × ¬ IsConsistent db.trees
 Refuses Sql db = may_be_desk db.schema ≡ true
 
 -- A desk was opened: a table `desk` with its columns stands, and where the connection is open, all tables are
@@ -109,18 +116,26 @@ Denied P Version = ⊥
 Denied P Inconsistent = ¬ P
 Denied P Sql = ⊤
 
--- and after Ok it holds
-abbrev pub Judged : {T : Type 0} → Type 0 → Result T OpenFault → Type 0
-Judged P (Ok value) = P
-Judged P (Err fault) = Denied P fault
+-- and after Ok it, or a part of it, holds
+abbrev pub JudgedPart : {T : Type 0} → Type 0 → Type 0 → Result T OpenFault → Type 0
+JudgedPart Part P (Ok value) = Part
+JudgedPart Part P (Err fault) = Denied P fault
 
--- A test of the rows that a connection shows: after Ok this holds of them, and after Inconsistent it does not.
-pub record Tests {S T : Type 0} (g : Ghosts S) (old new : Held S) (result : Result T OpenFault) (P : Trees → Type 0) : Type 0 where
+abbrev pub Judged : {T : Type 0} → Type 0 → Result T OpenFault → Type 0
+Judged P = JudgedPart P P
+
+-- A test of the rows that a connection shows: after Ok a part of this holds of them, and after Inconsistent
+-- it does not hold.
+pub record TestsPart {S T : Type 0} (g : Ghosts S) (old new : Held S) (result : Result T OpenFault) (Part P : Trees → Type 0) : Type 0 where
   pub stays : Stays g old new
-  pub judges : IsOpen g new → Judged (P (state g old).now.trees) result
+  pub judges : IsOpen g new → JudgedPart (Part (state g old).now.trees) (P (state g old).now.trees) result
   pub ends_open : LeavesOpen g new result
   pub refuses : RefusesOpen g new result
   pub named : IfErr result (λ fault. fault ≢ NotADesk)
+
+-- after Ok all of it holds
+abbrev pub Tests : {S T : Type 0} → Ghosts S → Held S → Held S → Result T OpenFault → (Trees → Type 0) → Type 0
+Tests g old new result P = TestsPart g old new result P P
 
 -- A test of a database: after Ok it is that of a desk, and each refusal says why it is none.
 pub record TestsDesk {S T : Type 0} (g : Ghosts S) (old new : Held S) (result : Result T OpenFault) : Type 0 where
@@ -142,6 +157,7 @@ listing_text all.Images = ask.all_images_text
 listing_text all.Rules = ask.all_rules_text
 listing_text all.Keys = ask.all_keys_text
 listing_text all.Checks = ask.all_checks_text
+listing_text all.Files = ask.all_files_text
 
 abbrev pub listing_query : Listing → Query
 listing_query all.Deeds = ask.all_deeds_query
@@ -149,6 +165,7 @@ listing_query all.Images = ask.all_images_query
 listing_query all.Rules = ask.all_rules_query
 listing_query all.Keys = ask.all_keys_query
 listing_query all.Checks = ask.all_checks_query
+listing_query all.Files = ask.all_files_query
 
 abbrev pub listing_tree : Listing → ℕ
 listing_tree all.Deeds = 1
@@ -156,6 +173,7 @@ listing_tree all.Images = 2
 listing_tree all.Rules = 3
 listing_tree all.Keys = 5
 listing_tree all.Checks = 7
+listing_tree all.Files = 9
 
 -- ---- the rows of one table spell lawful entries
 
@@ -188,6 +206,33 @@ IsCheckOf accessions e = IsDay e.0.day × Has accessions e.0.acc
 abbrev pub LawfulChecks : List ℕ → Trees → Type 0
 LawfulChecks accessions trees = SpellLawful check_sheet (IsCheckOf accessions) (trees 7)
 
+-- the index is that of the images
+abbrev pub LawfulFiles : Trees → Type 0
+LawfulFiles trees = Spells file_sheet (trees 9) × IsIndexOf (map_of image_sheet (trees 2)) (index_of trees)
+
+-- each row of the index is for one of these accessions
+abbrev pub AreFiledUnder : List ℕ → Trees → Type 0
+AreFiledUnder accessions trees = (row : Row) → Has (trees 9) row → is_one_of accessions (column row 1) ≡ true
+
+-- all rows of the index were listed, and each has a rowid of its own
+abbrev pub AreListed : Trees → Type 0
+AreListed trees = (rows : List Row) × IsListed ask.all_files_query (trees 9) rows
+
+-- each row of the index has the number of an accession
+abbrev pub HaveAccessions : Trees → Type 0
+HaveAccessions trees = (row : Row) → Has (trees 9) row → (acc : ℕ) × (column row 1 ≡ Int (pos acc))
+
+-- Of an accession the rows of the index are those of the files of its image.
+pub record HasFiles (acc : ℕ) (trees : Trees) : Type 0 where
+  pub files : List Found
+  pub are : AreFilesIn (get (map_of image_sheet (trees 2)) acc) files
+  pub each : (row : Row) → Has (trees 9) row → column row 1 ≡ Int (pos acc) → (file : Found) × Has files file × (seen file_sheet.places row ≡ file_sheet.columns (record { acc = acc; slot = file.slot }, file))
+  pub all : (file : Found) → Has files file → (row : Row) × Has (trees 9) row × (seen file_sheet.places row ≡ file_sheet.columns (record { acc = acc; slot = file.slot }, file))
+
+-- and so they are of each of these accessions
+abbrev pub HaveFiles : List ℕ → Trees → Type 0
+HaveFiles accessions trees = (acc : ℕ) → Has accessions acc → HasFiles acc trees
+
 -- ---- and those of several tables
 
 -- the deeds, and images each of a deed that stands
@@ -197,6 +242,10 @@ LawfulGiven trees = LawfulDeeds trees × SpellLawful image_sheet (λ e. IsImage 
 -- the numbers of the deeds and the accessions
 abbrev pub AreNumbers : Trees → List ℕ → List ℕ → Type 0
 AreNumbers trees deeds accessions = AreKeys (map_of deed_sheet (trees 1)) deeds × AreKeys (map_of image_sheet (trees 2)) accessions
+
+-- in their tables no two rows share a rowid
+abbrev pub HaveOtherRowids : Trees → Type 0
+HaveOtherRowids trees = HaveRowids (trees 3) × HaveRowids (trees 5) × HaveRowids (trees 7)
 
 -- the rules, the desk keys and the checks
 abbrev pub LawfulOthers : List ℕ → List ℕ → Trees → Type 0

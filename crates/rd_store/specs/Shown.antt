@@ -5,6 +5,7 @@ use Rattle.sqlite.specs.Order.{Row}
 use Rattle.rd_policy.specs.declared.audience.Audience.{Audience}
 use Rattle.rd_policy.specs.declared.audience.Audience.TheVariants.{Staff}
 use Rattle.rd_store.specs.declared.images.Heading.{Heading}
+use Rattle.rd_store.specs.declared.rows.Accession.{Accession}
 use Rattle.rd_store.specs.declared.rows.DeedRow.{DeedRow}
 use Rattle.rd_store.specs.declared.rows.ImageRow.{ImageRow}
 use Rattle.rd_store.specs.Codes.{kind_code, audience_code}
@@ -20,11 +21,21 @@ image_shown image = Int (pos (kind_code image.kind)) ∷ Int (pos image.deed) �
 abbrev pub heading_of : ImageRow → Heading
 heading_of image = record { kind = image.kind; deed = image.deed; digest = image.digest }
 
+abbrev pub image_with : Heading → List ℕ → ImageRow
+image_with heading bytes = record { kind = heading.kind; deed = heading.deed; digest = heading.digest; bytes = bytes }
+
 abbrev pub heading_shown : ImageRow → Row
 heading_shown image = Int (pos (kind_code image.kind)) ∷ Int (pos image.deed) ∷ Blob image.digest ∷ []
 
 abbrev pub audience_shown : Audience → Row
 audience_shown audience = Int (pos (audience_code audience)) ∷ []
+
+-- and without its digest
+abbrev pub accession_of : ImageRow → Accession
+accession_of image = record { kind = image.kind; deed = image.deed }
+
+abbrev pub given_shown : ImageRow → Row
+given_shown image = Int (pos (kind_code image.kind)) ∷ Int (pos image.deed) ∷ []
 
 abbrev pub accession_shown : ℕ → Row
 accession_shown acc = Int (pos acc) ∷ []

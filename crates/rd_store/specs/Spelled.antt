@@ -1,6 +1,7 @@
 -- How the rows of the tables spell a desk.
-use Rattle.std.specs.Prelude.{◌≡◌, ℕ, pos, List, [], ◌∷◌, map}
+use Rattle.std.specs.Prelude.{◌≡◌, ℕ, pos, List, [], ◌∷◌, map, option_map}
 use Rattle.std.specs.Ordering.{nat_cmp}
+use Rattle.std.specs.FinMap.{FinMap}
 use Rattle.sqlite.specs.declared.types.Value.TheVariants.{Int, Text, Blob}
 use Rattle.sqlite.specs.Order.{Row, column}
 use Rattle.sqlite.specs.Values.{or_null}
@@ -8,11 +9,13 @@ use Rattle.sqlite.specs.Tree.{Trees}
 use Rattle.sqlite_value.specs.Order.{bytes}
 use Rattle.sqlite_rules.specs.Edit.{id_in}
 use Rattle.rd_policy.specs.declared.audience.Audience.{Audience}
+use Rattle.rd_volume.specs.declared.found.Found.{Found}
 use Rattle.rd_tables.specs.Sheets.{Sheet, Spells, HaveRowids, map_of, natural}
 use Rattle.rd_store.specs.declared.rows.DeedRow.{DeedRow}
 use Rattle.rd_store.specs.declared.rows.ImageRow.{ImageRow}
 use Rattle.rd_store.specs.declared.rows.Outcome.{Outcome}
-use Rattle.rd_store.specs.Codes.{kind_code, kind_in, band_code, band_in, effect_code, effect_in, audiences_code, audiences_in, audience_code, audience_in, outcome_code, outcome_in, how, number, word, select_in, day_in}
+use Rattle.rd_store.specs.Codes.{kind_code, kind_in, band_code, band_in, effect_code, effect_in, audiences_code, audiences_in, audience_code, audience_in, outcome_code, outcome_in, how, number, word, select_in, day_in, number_in, units_code, units_in, class_code, class_in}
+use Rattle.rd_store.specs.Index.{FileAt, file_cmp}
 use Rattle.rd_store.specs.State.{Desk, Place, Terms, Checkup, place_cmp, digest_cmp, checkup_cmp}
 
 abbrev pub deed_sheet : Sheet ℕ DeedRow
@@ -68,20 +71,52 @@ check_sheet = record {
   entry = λ row. (record { acc = natural (column row 0); day = id_in (column row 1) }, outcome_in (natural (column row 2)));
 }
 
+-- what is told of a file, its slot first
+abbrev pub file_shown : Found → Row
+file_shown file = Int (pos file.slot) ∷ Text file.name ∷ Text file.ty ∷ or_null Int (option_map pos file.user) ∷ Int (pos (class_code file.served_class))
+    ∷ or_null Int (option_map pos file.size) ∷ Int (pos file.faults) ∷ Blob (units_code file.units) ∷ Int (pos file.last_len) ∷ []
+
+abbrev pub file_in : Row → Found
+file_in row = record {
+  slot = natural (column row 0);
+  name = bytes (column row 1);
+  ty = bytes (column row 2);
+  user = number_in (column row 3);
+  served_class = class_in (natural (column row 4));
+  size = number_in (column row 5);
+  faults = natural (column row 6);
+  units = units_in (bytes (column row 7));
+  last_len = natural (column row 8);
+}
+
+-- the columns without the first
+abbrev pub later : Row → Row
+later [] = []
+later (first ∷ row) = row
+
+abbrev pub file_sheet : Sheet FileAt Found
+file_sheet = record {
+  places = 1 ∷ 2 ∷ 3 ∷ 4 ∷ 5 ∷ 6 ∷ 7 ∷ 8 ∷ 9 ∷ 10 ∷ [];
+  cmp = file_cmp;
+  columns = λ e. Int (pos e.0.acc) ∷ file_shown e.1;
+  entry = λ row. (record { acc = natural (column row 0); slot = natural (column row 1) }, file_in (later row));
+}
+
 -- the desk has its one row, which says this version
 abbrev pub HasVersion : ℕ → List Row → Type 0
 HasVersion version rows = map (λ row. column row 2) rows ≡ Int (pos version) ∷ []
 
--- The rows spell a desk of version 0.
+-- The rows spell a desk of version 1, and an index.
 pub record SpellDesk (trees : Trees) : Type 0 where
-  pub version : HasVersion 0 (trees 0)
+  pub version : HasVersion 1 (trees 0)
   pub deeds : Spells deed_sheet (trees 1)
   pub images : Spells image_sheet (trees 2)
   pub rules : Spells rule_sheet (trees 3)
   pub keys : Spells key_sheet (trees 5)
   pub checks : Spells check_sheet (trees 7)
+  pub files : Spells file_sheet (trees 9)
 
--- and this is the desk
+-- and these are the desk and the index
 abbrev pub desk_of : Trees → Desk
 desk_of trees = record {
   deeds = map_of deed_sheet (trees 1);
@@ -91,8 +126,12 @@ desk_of trees = record {
   checks = map_of check_sheet (trees 7);
 }
 
+abbrev pub index_of : Trees → FinMap file_cmp Found
+index_of trees = map_of file_sheet (trees 9)
+
 -- In the tables whose key is not the rowid, no two rows share a rowid.
 pub record HaveOwnRowids (trees : Trees) : Type 0 where
   pub rules : HaveRowids (trees 3)
   pub keys : HaveRowids (trees 5)
   pub checks : HaveRowids (trees 7)
+  pub files : HaveRowids (trees 9)

@@ -1,7 +1,8 @@
-ghost use Rattle.std.specs.Prelude.{◌≡◌, false, MatchBool, MatchOption, pos};
+ghost use Rattle.std.specs.Prelude.{◌≡◌, false, MatchBool, MatchOption, option_map, pos};
 ghost use Rattle.std.specs.List.Sorted.{IsNonDecreasing};
-ghost use Rattle.sqlite.specs.declared.types.Value.TheVariants.{Int, Text};
+ghost use Rattle.sqlite.specs.declared.types.Value.TheVariants.{Int, Text, Blob};
 ghost use Rattle.sqlite.specs.Order.{column};
+ghost use Rattle.sqlite.specs.Values.{or_null};
 ghost use Rattle.sqlite_trees.specs.View.{is_int};
 ghost use Rattle.rd_store.specs.Cells.{IsDonorAt, IsWordAt, is_day, is_digest, is_number, is_one_of, is_some_day, blob_name};
 
@@ -108,6 +109,46 @@ pub(crate) fn names_blob(row: &Row, at: usize) -> bool
 {
     match row.get_ref(at) {
         Ok(ValueRef::Text(bytes)) => bytes == b"blob".as_slice(),
+        _ => false,
+    }
+}
+
+/// Whether a column has this number.
+pub(crate) fn has_just(row: &Row, at: usize, number: u32) -> bool
+    ensures { MatchBool result (column row.now at ≡ Int (pos number)) (¬ (column row.now at ≡ Int (pos number))) }
+{
+    match row.get_ref(at) {
+        Ok(ValueRef::Int(found)) => found == i64::from(number),
+        _ => false,
+    }
+}
+
+/// Whether a column has this number, or NULL where there is none.
+pub(crate) fn has_or_null(row: &Row, at: usize, number: Option<u32>) -> bool
+    ensures { MatchBool result (column row.now at ≡ or_null Int (option_map pos number)) (¬ (column row.now at ≡ or_null Int (option_map pos number))) }
+{
+    match number {
+        Some(number) => has_just(row, at, number),
+        None => matches!(row.get_ref(at), Ok(ValueRef::Null) | Err(_)),
+    }
+}
+
+/// Whether a column has this text.
+pub(crate) fn has_text(row: &Row, at: usize, text: &str) -> bool
+    ensures { MatchBool result (column row.now at ≡ Text text.now) (¬ (column row.now at ≡ Text text.now)) }
+{
+    match row.get_ref(at) {
+        Ok(ValueRef::Text(bytes)) => bytes == text.as_bytes(),
+        _ => false,
+    }
+}
+
+/// Whether a column has these bytes.
+pub(crate) fn has_bytes(row: &Row, at: usize, bytes: &[u8]) -> bool
+    ensures { MatchBool result (column row.now at ≡ Blob bytes.now) (¬ (column row.now at ≡ Blob bytes.now)) }
+{
+    match row.get_ref(at) {
+        Ok(ValueRef::Blob(found)) => found == bytes,
         _ => false,
     }
 }

@@ -1,9 +1,11 @@
-ghost use Rattle.std.specs.Prelude.{◌≡◌};
-ghost use Rattle.rd_store.specs.Codes.{kind_code, band_code, effect_code, audiences_code, audience_code, outcome_code, how as how_of, number as number_of, word as word_of};
+ghost use Rattle.std.specs.Prelude.{◌≡◌, IfOk, IfErr};
+ghost use Rattle.rd_store.specs.Codes.{kind_code, band_code, effect_code, audiences_code, audience_code, outcome_code, class_code, units_code, how as how_of, number as number_of, word as word_of};
 
+use crate::faults::StoreFault;
 use crate::rows::Outcome;
 use rd_geometry::Kind;
 use rd_policy::{Audience, Audiences, Band, Effect, Select};
+use std::alloc::Global;
 
 /// The number of a kind in the tables.
 pub(crate) fn of_kind(kind: Kind) -> u32
@@ -100,4 +102,33 @@ pub(crate) fn word(select: &Select) -> &str
         Select::Kind(text) => text.as_str(),
         _ => "",
     }
+}
+
+/// The number of the class of a file in the tables: 1 where it is served.
+pub(crate) fn of_class(served: bool) -> u32
+    ensures { result ≡ class_code served }
+{
+    if served { 1 } else { 0 }
+}
+
+/// The user of a file in the tables.
+pub(crate) fn of_user(user: Option<u8>) -> Option<u32>
+    ensures { result ≡ user }
+{
+    user.map(u32::from)
+}
+
+/// The units of a file in the tables: two bytes each, the high byte first.
+pub(crate) fn of_units(alloc: Global, units: &[u16]) -> Result<Vec<u8>, StoreFault>
+    ensures code { IfOk result (λ code. code.items ≡ units_code units.now) }
+    ensures fault { IfErr result (λ fault. fault ≡ StoreFault.Sql) }
+{
+    let mut code = Vec::new(alloc);
+    for unit in units {
+        let pair = [(*unit / 256) as u8, (*unit % 256) as u8];
+        if code.extend_from_slice(&pair).is_err() {
+            return Err(StoreFault::Sql);
+        }
+    }
+    Ok(code)
 }

@@ -10,7 +10,7 @@ use sqlite::{Alter, Connection, Error, Transaction};
 
 /// The text that declares a table, in the order in which they are made.
 fn create_text(at: usize) -> &'static str
-    requires { at < 6 }
+    requires { at < 7 }
     ensures { result.now ≡ get_or create_texts at [] }
 {
     match at {
@@ -24,14 +24,16 @@ fn create_text(at: usize) -> &'static str
             "CREATE TABLE rule (band INTEGER NOT NULL CHECK (band BETWEEN 0 AND 1), scope INTEGER NOT NULL, rank INTEGER NOT NULL, audiences INTEGER NOT NULL CHECK (audiences BETWEEN 1 AND 7), day_from INTEGER, day_until INTEGER, how INTEGER NOT NULL CHECK (how BETWEEN 0 AND 4), number INTEGER NOT NULL, word TEXT NOT NULL, effect INTEGER NOT NULL CHECK (effect BETWEEN 0 AND 2), PRIMARY KEY (band, scope, rank)) STRICT",
         4 =>
             "CREATE TABLE badge (digest BLOB NOT NULL PRIMARY KEY, audience INTEGER NOT NULL CHECK (audience BETWEEN 1 AND 2)) STRICT",
-        _ =>
+        5 =>
             "CREATE TABLE checked (acc INTEGER NOT NULL, day INTEGER NOT NULL, outcome INTEGER NOT NULL CHECK (outcome BETWEEN 0 AND 1), PRIMARY KEY (acc, day)) STRICT",
+        _ =>
+            "CREATE TABLE found (acc INTEGER NOT NULL, slot INTEGER NOT NULL, name TEXT NOT NULL, ty TEXT NOT NULL, user_no INTEGER, served INTEGER NOT NULL CHECK (served BETWEEN 0 AND 1), size INTEGER, faults INTEGER NOT NULL CHECK (faults BETWEEN 0 AND 127), units BLOB NOT NULL, last_len INTEGER NOT NULL, PRIMARY KEY (acc, slot)) STRICT",
     }
 }
 
 /// Makes one table.
 fn make_table<S: Alter>(tx: &mut Transaction<'_, S>, at: usize) -> Result<usize, Error>
-    requires { at < 6 }
+    requires { at < 7 }
     ensures same_reference { tx.new.conn.ghost_name ≡ tx.old.conn.ghost_name }
     ensures moves { Moves S.Store tx.old.conn.now tx.new.conn.now (IsMade at) (IsMade (at + 1)) result }
 {
@@ -41,9 +43,9 @@ fn make_table<S: Alter>(tx: &mut Transaction<'_, S>, at: usize) -> Result<usize,
 /// Makes all tables.
 fn make_tables<S: Alter>(tx: &mut Transaction<'_, S>) -> Result<(), Error>
     ensures same_reference { tx.new.conn.ghost_name ≡ tx.old.conn.ghost_name }
-    ensures moves { Moves S.Store tx.old.conn.now tx.new.conn.now (IsMade 0) (IsMade 6) result }
+    ensures moves { Moves S.Store tx.old.conn.now tx.new.conn.now (IsMade 0) (IsMade 7) result }
 {
-    for at in 0..6 {
+    for at in 0..7 {
         make_table(tx, at)?;
     }
     Ok(())
@@ -52,9 +54,9 @@ fn make_tables<S: Alter>(tx: &mut Transaction<'_, S>) -> Result<(), Error>
 /// Writes the version of the tables.
 fn insert_version<S: Alter>(tx: &mut Transaction<'_, S>) -> Result<usize, Error>
     ensures same_reference { tx.new.conn.ghost_name ≡ tx.old.conn.ghost_name }
-    ensures moves { Moves S.Store tx.old.conn.now tx.new.conn.now (IsMade 6) (IsOf empty_desk) result }
+    ensures moves { Moves S.Store tx.old.conn.now tx.new.conn.now (IsMade 7) (IsOf empty_desk) result }
 {
-    tx.execute("INSERT INTO desk (id, version) VALUES (1, 0)", &[])
+    tx.execute("INSERT INTO desk (id, version) VALUES (1, 1)", &[])
 }
 
 /// Makes a new desk in a blank database.

@@ -1,10 +1,10 @@
-ghost use Rattle.std.specs.Prelude.{◌≡◌, IfOk, IfErr, pos, string_bytes};
+ghost use Rattle.std.specs.Prelude.{◌≡◌, IfOk, IfErr, option_map, pos, string_bytes};
 ghost use Rattle.sqlite.specs.declared.types.Value.TheVariants.{Int, Text as Words, Blob};
 ghost use Rattle.sqlite.specs.Order.{column};
 ghost use Rattle.sqlite.specs.Values.{or_null};
 ghost use Rattle.sqlite_value.specs.Order.{bytes};
 ghost use Rattle.rd_tables.specs.Sheets.{natural};
-ghost use Rattle.rd_store.specs.Codes.{kind_in, band_in, effect_in, audiences_in, audience_in, select_in};
+ghost use Rattle.rd_store.specs.Codes.{kind_in, band_in, effect_in, audiences_in, audience_in, class_in, select_in, units_in};
 
 use crate::faults::StoreFault;
 use rd_geometry::{Kind, Text};
@@ -16,6 +16,14 @@ use std::alloc::Global;
 /// The natural number in a column.
 pub(crate) fn number_at(row: &Row, at: usize) -> Result<u32, StoreFault>
     ensures value { IfOk result (λ number. column row.now at ≡ Int (pos number)) }
+    ensures fault { IfErr result (λ fault. fault ≡ StoreFault.Sql) }
+{
+    row.get(at).map_err(|_| StoreFault::Sql)
+}
+
+/// The natural number in a column that may be NULL.
+pub(crate) fn some_number_at(row: &Row, at: usize) -> Result<Option<u32>, StoreFault>
+    ensures value { IfOk result (λ number. column row.now at ≡ or_null Int (option_map pos number)) }
     ensures fault { IfErr result (λ fault. fault ≡ StoreFault.Sql) }
 {
     row.get(at).map_err(|_| StoreFault::Sql)
@@ -138,4 +146,28 @@ pub(crate) fn select(how: u32, number: u32, word: String) -> Result<Select, Stor
         },
         _ => Ok(Select::Kind(Text::of(word))),
     }
+}
+
+/// Whether the class with a number is that which is served.
+pub(crate) fn class(code: u32) -> bool
+    ensures { result ≡ class_in code }
+{
+    code == 1
+}
+
+/// The units that bytes spell, two for each, the high byte first.
+pub(crate) fn units(alloc: Global, bytes: &[u8]) -> Result<Vec<u16>, StoreFault>
+    ensures value { IfOk result (λ units. units.items ≡ units_in bytes.now) }
+    ensures fault { IfErr result (λ fault. fault ≡ StoreFault.Sql) }
+{
+    let mut units = Vec::new(alloc);
+    let mut at = 0;
+    while at + 1 < bytes.len() {
+        let unit = 256 * u16::from(bytes[at]) + u16::from(bytes[at + 1]);
+        if units.push(unit).is_err() {
+            return Err(StoreFault::Sql);
+        }
+        at += 2;
+    }
+    Ok(units)
 }

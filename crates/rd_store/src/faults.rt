@@ -30,8 +30,8 @@ pub enum OpenFault {
     NotADesk,
     /// The table `desk` does not have its one row, or the row says another version.
     Version,
-    /// The rows are not those of a desk: a value is out of its range, what it refers to is not there, or
-    /// no staff key is there.
+    /// The rows are not those of a desk: a value is out of its range, what it refers to is not there, no staff
+    /// key is there, or the index of the files is not that of the images.
     Inconsistent,
     /// Tables are declared otherwise, the database failed, or memory was wanting.
     Sql,

@@ -1,23 +1,32 @@
-ghost use Rattle.std.specs.Prelude.{◌≡◌, IfOk, IfErr, IsSome, None, map, option_map, false};
+ghost use Rattle.std.specs.Prelude.{◌≡◌, ◌∷◌, [], IfOk, IfErr, IsSome, Option, None, map, option_map, pos, false};
 ghost use Rattle.std.specs.FinMap.{get, keys};
 ghost use Rattle.std.specs.Option.{option_to_list};
 ghost use Rattle.sqlite.specs.Held.{state};
+ghost use Rattle.sqlite.specs.declared.types.Value.TheVariants.{Int};
 ghost use Rattle.sqlite.specs.Order.{column};
-ghost use Rattle.rd_tables.specs.Sheets.{natural};
-ghost use Rattle.rd_store.specs.Held.{Asks, Changes, HoldsDesk, IsOpen, Judges, desk};
+ghost use Rattle.rd_volume.specs.Volumes.{AreFounds};
+ghost use Rattle.rd_store.specs.declared.rows.ImageRow.{ImageRow};
+ghost use Rattle.rd_tables.specs.Asked.{IsPicked};
+ghost use Rattle.rd_tables.specs.Queries.{image_query};
+ghost use Rattle.rd_tables.specs.Sheets.{Spells, map_of, natural};
+ghost use Rattle.rd_store.specs.Held.{Asks, Changes, HoldsDesk, HoldsTables, IsOfWith, IsOpen, Judges, LacksImage, Moves, desk};
+ghost use Rattle.rd_store.specs.Index.{AreFilesIn, IsFiledTo, with_new_image};
 ghost use Rattle.rd_store.specs.Lawful.{IsImage};
-ghost use Rattle.rd_store.specs.Shown.{accession_shown, image_shown, heading_of, heading_shown};
+ghost use Rattle.rd_store.specs.Shown.{accession_of, accession_shown, given_shown, image_shown, image_with, heading_of, heading_shown};
+ghost use Rattle.rd_store.specs.Spelled.{image_sheet};
 ghost use Rattle.rd_store.specs.State.{HasOtherImage, with_image};
 
 use crate::decode::{bytes_at, digest_at, kind, number_at};
 use crate::faults::StoreFault;
+use crate::files::insert_files;
 use crate::outside::outside;
 use crate::read::read_all;
-use crate::rows::ImageRow;
+use crate::rows::{Accession, ImageRow};
 use crate::{codes, deeds};
-use rd_geometry::{Items, Kind};
+use rd_geometry::{Image, Items, Kind};
+use rd_volume::{Found, survey};
 use sqlite::types::ToSql;
-use sqlite::{Alter, Connection, Error, Row, params};
+use sqlite::{Alter, Connection, Error, Row, Transaction, params};
 use std::alloc::Global;
 
 /// An image without its bytes.
@@ -30,10 +39,9 @@ pub(crate) struct Heading {
 
 /// The rows for the image of an accession.
 fn image_rows<S: Alter>(conn: &mut Connection<S>, acc: u32) -> Result<Vec<Row>, StoreFault>
-    requires holds { HoldsDesk (state S.Store conn.old) }
+    requires tables { HoldsTables (state S.Store conn.old) }
     ensures asks { Asks S.Store conn.old conn.new result StoreFault.Sql (λ rows.
-        rows.items ≡ map image_shown (option_to_list (get (desk S.Store conn.old).images acc))) }
-    ensures kept { HoldsDesk (state S.Store conn.new) }
+        IsPicked image_query (Int (pos acc) ∷ []) ((state S.Store conn.old).now.trees 2) rows.items) }
 {
     let key = acc.to_sql();
     read_all(
@@ -60,6 +68,32 @@ fn read_image(alloc: Global, row: &Row) -> Result<ImageRow, StoreFault>
     })
 }
 
+/// The image that the first of some rows shows, `None` where there are none.
+fn first_image(alloc: Global, rows: &[Row]) -> Result<Option<ImageRow>, StoreFault>
+    ensures image { IfOk result (λ read. (found : Option ImageRow) → rows.now ≡ map image_shown (option_to_list found) → read ≡ found) }
+    ensures fault { IfErr result (λ fault. fault ≡ StoreFault.Sql) }
+{
+    match rows.first() {
+        Some(row) => Ok(Some(read_image(alloc, row)?)),
+        None => Ok(None),
+    }
+}
+
+/// The image of an accession, `None` where there is none. The rows of the images need not be those of a desk.
+fn image_at<S: Alter>(
+    alloc: Global,
+    conn: &mut Connection<S>,
+    acc: u32,
+) -> Result<Option<ImageRow>, StoreFault>
+    requires tables { HoldsTables (state S.Store conn.old) }
+    ensures asks { Asks S.Store conn.old conn.new result StoreFault.Sql (λ found.
+        Spells image_sheet ((state S.Store conn.old).now.trees 2)
+        → found ≡ get (map_of image_sheet ((state S.Store conn.old).now.trees 2)) acc) }
+{
+    let rows = image_rows(conn, acc)?;
+    first_image(alloc, &rows)
+}
+
 /// The image of an accession, `None` where there is none.
 pub(crate) fn image<S: Alter>(
     alloc: Global,
@@ -71,11 +105,7 @@ pub(crate) fn image<S: Alter>(
         found ≡ get (desk S.Store conn.old).images acc) }
     ensures kept { HoldsDesk (state S.Store conn.new) }
 {
-    let rows = image_rows(conn, acc)?;
-    match rows.first() {
-        Some(row) => Ok(Some(read_image(alloc, row)?)),
-        None => Ok(None),
-    }
+    image_at(alloc, conn, acc)
 }
 
 /// The rows for the image of an accession without its bytes.
@@ -121,6 +151,44 @@ pub(crate) fn heading_at<S: Alter>(
     }
 }
 
+/// The rows for an accession without its image.
+fn given_rows<S: Alter>(conn: &mut Connection<S>, acc: u32) -> Result<Vec<Row>, StoreFault>
+    requires holds { HoldsDesk (state S.Store conn.old) }
+    ensures asks { Asks S.Store conn.old conn.new result StoreFault.Sql (λ rows.
+        rows.items ≡ map given_shown (option_to_list (get (desk S.Store conn.old).images acc))) }
+    ensures kept { HoldsDesk (state S.Store conn.new) }
+{
+    let key = acc.to_sql();
+    read_all(conn, "SELECT kind, deed FROM image WHERE acc = ?1", &[key])
+}
+
+/// The accession that a row shows.
+fn read_given(row: &Row) -> Result<Accession, StoreFault>
+    ensures accession { IfOk result (λ read. (image : ImageRow) → row.now ≡ given_shown image → read ≡ accession_of image) }
+    ensures fault { IfErr result (λ fault. fault ≡ StoreFault.Sql) }
+{
+    let kind = kind(number_at(row, 0)?);
+    let deed = number_at(row, 1)?;
+    Ok(Accession { kind, deed })
+}
+
+/// An accession without its image, `None` where it is not there.
+pub(crate) fn accession<S: Alter>(
+    conn: &mut Connection<S>,
+    acc: u32,
+) -> Result<Option<Accession>, StoreFault>
+    requires holds { HoldsDesk (state S.Store conn.old) }
+    ensures asks { Asks S.Store conn.old conn.new result StoreFault.Sql (λ found.
+        found ≡ option_map accession_of (get (desk S.Store conn.old).images acc)) }
+    ensures kept { HoldsDesk (state S.Store conn.new) }
+{
+    let rows = given_rows(conn, acc)?;
+    match rows.first() {
+        Some(row) => Ok(Some(read_given(row)?)),
+        None => Ok(None),
+    }
+}
+
 /// The rows for all accessions.
 fn accession_rows<S: Alter>(conn: &mut Connection<S>) -> Result<Vec<Row>, StoreFault>
     requires holds { HoldsDesk (state S.Store conn.old) }
@@ -161,34 +229,80 @@ pub(crate) fn accessions<S: Alter>(
     read_numbers(alloc, &rows)
 }
 
-/// Puts an image where none stands.
-pub(crate) fn insert_image<S: Alter>(
+/// The files of an image.
+fn survey_of(alloc: Global, kind: Kind, bytes: &[u8]) -> Result<Items<Found>, StoreFault>
+    ensures files { IfOk result (AreFounds kind bytes.now) }
+    ensures fault { IfErr result (λ fault. fault ≡ StoreFault.Sql) }
+{
+    let Ok(image) = Image::new(kind, bytes) else {
+        return Err(StoreFault::Sql);
+    };
+    survey(alloc, &image).map_err(|_| StoreFault::Sql)
+}
+
+/// The files of the image of an accession, walked anew; none where it is not there.
+pub(crate) fn survey_at<S: Alter>(
+    alloc: Global,
     conn: &mut Connection<S>,
     acc: u32,
-    kind: Kind,
-    deed: u32,
-    digest: &[u8; 32],
+) -> Result<Items<Found>, StoreFault>
+    requires tables { HoldsTables (state S.Store conn.old) }
+    ensures asks { Asks S.Store conn.old conn.new result StoreFault.Sql (λ files.
+        Spells image_sheet ((state S.Store conn.old).now.trees 2)
+        → AreFilesIn (get (map_of image_sheet ((state S.Store conn.old).now.trees 2)) acc) files) }
+{
+    match image_at(alloc, conn, acc)? {
+        Some(image) => survey_of(alloc, image.kind, image.bytes.as_slice()),
+        None => Ok(Items::of(Vec::new(alloc))),
+    }
+}
+
+/// Puts an image where none stands, inside a transaction; of its files none is in the index yet.
+fn insert_image<S: Alter>(
+    tx: &mut Transaction<'_, S>,
+    acc: u32,
+    heading: &Heading,
     bytes: &[u8],
 ) -> Result<usize, Error>
+    ensures same_reference { tx.new.conn.ghost_name ≡ tx.old.conn.ghost_name }
+    ensures moves { (before : _) (files : _) → Moves S.Store tx.old.conn.now tx.new.conn.now
+        (LacksImage acc before) (IsOfWith (with_new_image acc (image_with heading.now bytes.now) before) (IsFiledTo before.images acc files 0)) result }
+{
+    let code = codes::of_kind(heading.kind);
+    let sum = heading.digest.as_slice();
+    tx.execute(
+        "INSERT INTO image (acc, kind, deed, digest, bytes) VALUES (?1, ?2, ?3, ?4, ?5)",
+        params![acc, code, heading.deed, sum, bytes],
+    )
+}
+
+/// Puts an image where none stands, and its files into the index, in one transaction.
+fn write_image<S: Alter>(
+    alloc: Global,
+    conn: &mut Connection<S>,
+    acc: u32,
+    heading: &Heading,
+    bytes: &[u8],
+    files: &[Found],
+) -> Result<(), Error>
     requires mode { conn.old.in_transaction ≡ false }
     requires holds { HoldsDesk (state S.Store conn.old) }
-    requires image { IsImage acc (record { kind = kind; deed = deed; digest = digest.now; bytes = bytes.now }) }
-    requires deed { IsOpen S.Store conn.old → IsSome (get (desk S.Store conn.old).deeds deed) }
+    requires image { IsImage acc (image_with heading.now bytes.now) }
+    requires files { AreFounds heading.now.kind bytes.now files.now }
+    requires deed { IsOpen S.Store conn.old → IsSome (get (desk S.Store conn.old).deeds heading.now.deed) }
     requires free { IsOpen S.Store conn.old → get (desk S.Store conn.old).images acc ≡ None }
     ensures kept { HoldsDesk (state S.Store conn.new) }
-    ensures changes { Changes S.Store conn.old conn.new
-        (with_image acc (record { kind = kind; deed = deed; digest = digest.now; bytes = bytes.now }) (desk S.Store conn.old)) result }
+    ensures changes { Changes S.Store conn.old conn.new (with_image acc (image_with heading.now bytes.now) (desk S.Store conn.old)) result }
 {
-    let code = codes::of_kind(kind);
-    let sum = digest.as_slice();
-    conn.execute(
-        "INSERT INTO image (acc, kind, deed, digest, bytes) VALUES (?1, ?2, ?3, ?4, ?5)",
-        params![acc, code, deed, sum, bytes],
-    )
+    let mut tx = conn.transaction();
+    insert_image(&mut tx, acc, heading, bytes)?;
+    insert_files(alloc, &mut tx, acc, files)?;
+    tx.commit()
 }
 
 /// Puts an image where none stands. The same kind, deed and digest again change nothing.
 pub(crate) fn put_image<S: Alter>(
+    alloc: Global,
     conn: &mut Connection<S>,
     acc: u32,
     kind: Kind,
@@ -217,8 +331,14 @@ pub(crate) fn put_image<S: Alter>(
         }
         None => {
             outside(conn)?;
-            match insert_image(conn, acc, kind, deed, digest, bytes) {
-                Ok(_) => Ok(()),
+            let files = survey_of(alloc, kind, bytes)?;
+            let heading = Heading {
+                kind,
+                deed,
+                digest: *digest,
+            };
+            match write_image(alloc, conn, acc, &heading, bytes, files.as_slice()) {
+                Ok(()) => Ok(()),
                 Err(_) => Err(StoreFault::Sql),
             }
         }

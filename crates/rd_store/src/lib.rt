@@ -9,6 +9,8 @@ mod create;
 mod decode;
 mod deeds;
 mod faults;
+mod files;
+mod filing;
 mod images;
 mod judging;
 mod keys;
@@ -25,6 +27,6 @@ mod version;
 
 pub use faults::{CreateFault, OpenFault, Refused, StoreFault};
 pub use limits::is_donor;
-pub use rows::{DeedRow, ImageRow, Outcome};
+pub use rows::{Accession, DeedRow, ImageRow, Outcome};
 pub use rule_laws::{rules_are_in_order, rules_are_those};
 pub use store::{Store, memory_stays_open};

@@ -8,9 +8,10 @@ ghost use Rattle.rd_tables.specs.Asked.{AreRising, IsListed};
 ghost use Rattle.rd_tables.specs.Sheets.{HaveRowids, map_of};
 ghost use Rattle.rd_store.specs.Spelled.{HasVersion, HaveOwnRowids, deed_sheet, image_sheet};
 ghost use Rattle.rd_store.specs.Held.{Asks, HoldsTables, IsOpen};
-ghost use Rattle.rd_store.specs.Opened.{AreKeys, AreNumbers, IsConsistent, IsSoundAt, LawfulChecks, LawfulDeeds, LawfulGiven, LawfulImages, LawfulKeys, LawfulOthers, LawfulRules, Tests, listing_query, listing_text, listing_tree};
+ghost use Rattle.rd_store.specs.Opened.{AreKeys, AreNumbers, IsConsistent, IsSoundAt, LawfulChecks, LawfulDeeds, LawfulGiven, LawfulImages, LawfulKeys, LawfulOthers, LawfulRules, HaveOtherRowids, Tests, listing_query, listing_text, listing_tree};
 
 use crate::faults::OpenFault;
+use crate::filing::check_index;
 use crate::images::read_numbers;
 use crate::read::read_all;
 use crate::tested::{are_checks, are_deeds, are_images, are_keys, are_rules};
@@ -26,6 +27,7 @@ pub(crate) enum Listing {
     Rules,
     Keys,
     Checks,
+    Files,
 }
 
 /// The text that asks for all rows of a table, each with its rowid first.
@@ -40,6 +42,7 @@ fn listing_text(table: Listing) -> &'static str
             "SELECT rowid, band, scope, rank, audiences, day_from, day_until, how, number, word, effect FROM rule ORDER BY rowid",
         Listing::Keys => "SELECT rowid, digest, audience FROM badge ORDER BY rowid",
         Listing::Checks => "SELECT rowid, acc, day, outcome FROM checked ORDER BY rowid",
+        Listing::Files => "SELECT rowid, acc FROM found ORDER BY rowid",
     }
 }
 
@@ -75,7 +78,10 @@ fn are_rising(rows: &[Row]) -> bool
 }
 
 /// All rows of a table.
-fn read_listing<S: Alter>(conn: &mut Connection<S>, table: Listing) -> Result<Vec<Row>, OpenFault>
+pub(crate) fn read_listing<S: Alter>(
+    conn: &mut Connection<S>,
+    table: Listing,
+) -> Result<Vec<Row>, OpenFault>
     requires tables { HoldsTables (state S.Store conn.old) }
     ensures asks { Asks S.Store conn.old conn.new result OpenFault.Sql (λ rows.
         IsListed (listing_query table) ((state S.Store conn.old).now.trees (listing_tree table)) rows.items) }
@@ -204,7 +210,7 @@ fn check_others<S: Alter>(
     requires deeds { IsNonDecreasing deeds.now }
     requires sound { IsSoundAt (state S.Store conn.old) }
     ensures tests { Tests S.Store conn.old conn.new result (LawfulOthers accessions.now deeds.now) }
-    ensures rowids { IsOpen S.Store conn.new → IfOk result (λ done. HaveOwnRowids (state S.Store conn.old).now.trees) }
+    ensures rowids { IsOpen S.Store conn.new → IfOk result (λ done. HaveOtherRowids (state S.Store conn.old).now.trees) }
 {
     check_rules(conn, accessions, deeds)?;
     check_keys(conn)?;
@@ -215,10 +221,11 @@ fn check_others<S: Alter>(
 pub(crate) fn check_rows<S: Alter>(alloc: Global, conn: &mut Connection<S>) -> Result<(), OpenFault>
     requires tables { HoldsTables (state S.Store conn.old) }
     requires sound { IsSoundAt (state S.Store conn.old) }
-    requires version { IsOpen S.Store conn.old → HasVersion 0 ((state S.Store conn.old).now.trees 0) }
+    requires version { IsOpen S.Store conn.old → HasVersion 1 ((state S.Store conn.old).now.trees 0) }
     ensures tests { Tests S.Store conn.old conn.new result IsConsistent }
     ensures rowids { IsOpen S.Store conn.new → IfOk result (λ done. HaveOwnRowids (state S.Store conn.old).now.trees) }
 {
     let (deeds, accessions) = check_given(alloc, conn)?;
-    check_others(conn, &accessions, &deeds)
+    check_others(conn, &accessions, &deeds)?;
+    check_index(alloc, conn, &accessions)
 }

@@ -9,6 +9,15 @@ pub struct DeedRow {
     pub signed: i32,
 }
 
+/// An accession without its image.
+#[derive(Clone, Copy, Debug, PartialEq, Eq)]
+pub struct Accession {
+    /// The kind of its disk image.
+    pub kind: Kind,
+    /// The number of its deed, 1 to 999,999.
+    pub deed: u32,
+}
+
 /// An accession: an image as it was given.
 #[derive(Debug, Drop)]
 pub struct ImageRow {

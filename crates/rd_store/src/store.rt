@@ -1,4 +1,4 @@
-ghost use Rattle.std.specs.Prelude.{◌≡◌, ◌≢◌, ◌++◌, ⊤, false, IfOk, IfErr, IsSome};
+ghost use Rattle.std.specs.Prelude.{◌≡◌, ◌≢◌, ◌++◌, ⊤, false, IfOk, IfErr, IsSome, option_map};
 ghost use Rattle.std.specs.FinMap.{get, keys};
 ghost use Rattle.sqlite.specs.Held.{Held, state};
 ghost use Rattle.sqlite_trees.specs.declared.memory.MemStore.{MemStore};
@@ -8,22 +8,26 @@ ghost use Rattle.rd_policy.specs.Verdicts.{AreInOrder};
 ghost use Rattle.rd_store.specs.Created.{IsCreated, IsNotCreated};
 ghost use Rattle.sqlite.specs.Steps.{over_memory};
 ghost use Rattle.rd_store.specs.Held.{Changes, HoldsDesk, IsClean, IsOpen, Judges, Reads, Rests, desk};
+ghost use Rattle.rd_store.specs.Index.{AreFilesIn, IsFileIn};
 ghost use Rattle.rd_store.specs.Opened.{IsNotOpened, IsOpened};
+ghost use Rattle.rd_store.specs.Shown.{accession_of};
 ghost use Rattle.rd_store.specs.Lawful.{IsDeed, IsImage, IsKey};
 ghost use Rattle.rd_store.specs.State.{HasOtherImage, IsLastStaff, Stands, place_of, rules_at, rules_for, terms_of, with_check, with_deed, with_image, with_key, with_rule, without_key, without_rule};
 
 use crate::faults::{CreateFault, OpenFault, Refused, StoreFault};
 use crate::outside::outside;
-use crate::rows::{DeedRow, ImageRow, Outcome};
-use crate::{checks, create, deeds, images, judging, keys, rules};
+use crate::rows::{Accession, DeedRow, ImageRow, Outcome};
+use crate::{checks, create, deeds, files, images, judging, keys, rules};
 use rd_geometry::Kind;
 use rd_policy::{Audience, Band, Rule};
 use rd_tables::{has_desk as has_desk_table, is_blank};
+use rd_volume::Found;
 use sqlite::{Alter, Connection};
 use std::alloc::Global;
 use std::marker::Model;
 
-/// The tables of a desk over a connection: deeds, images, rules, desk keys and checks.
+/// The tables of a desk over a connection: deeds, images with an index of their files, rules, desk keys and
+/// checks.
 #[derive(Drop)]
 pub struct Store<S: Alter> {
     conn: Connection<S>,
@@ -133,6 +137,43 @@ impl<S: Alter> Store<S> {
         images::image(alloc, &mut self.conn, acc)
     }
 
+    /// The kind of the image and the deed of an accession, 1 to 999,999; `None` where it is not there. Its bytes
+    /// are not asked for.
+    ///
+    /// It fails with `Sql`.
+    pub fn accession(&mut self, acc: u32) -> Result<Option<Accession>, StoreFault>
+        ensures reads { Reads S.Store self.old self.new result (λ found.
+            found ≡ option_map accession_of (get (desk S.Store self.old).images acc)) }
+    {
+        images::accession(&mut self.conn, acc)
+    }
+
+    /// The files of the image of an accession, 1 to 999,999, by slot, as `survey` tells them; none where there
+    /// is no such accession. They come from the index, and no image is read.
+    ///
+    /// It fails with `Sql`.
+    pub fn found(&mut self, alloc: Global, acc: u32) -> Result<Vec<Found>, StoreFault>
+        ensures reads { Reads S.Store self.old self.new result (λ files.
+            AreFilesIn (get (desk S.Store self.old).images acc) files.items) }
+    {
+        files::found(alloc, &mut self.conn, acc)
+    }
+
+    /// The file at a slot, 0 to 5,463, of the image of an accession, 1 to 999,999, as `survey` tells it; `None`
+    /// where there is no such file or accession. It comes from the index, and no image is read.
+    ///
+    /// It fails with `Sql`.
+    pub fn found_at(
+        &mut self,
+        alloc: Global,
+        acc: u32,
+        slot: u16,
+    ) -> Result<Option<Found>, StoreFault>
+        ensures reads { Reads S.Store self.old self.new result (IsFileIn (get (desk S.Store self.old).images acc) slot) }
+    {
+        files::found_at(alloc, &mut self.conn, acc, slot)
+    }
+
     /// All accessions, ascending.
     ///
     /// It fails with `Sql`.
@@ -173,12 +214,14 @@ impl<S: Alter> Store<S> {
 
     /// Puts an image of its kind's length where none stands, at an accession, 1 to 999,999, under the deed
     /// with a number, with the SHA-256 that was given for it. The same kind, deed and digest again are done,
-    /// and change nothing, whatever the bytes.
+    /// and change nothing, whatever the bytes. What `survey` tells of its files goes into the index in the same
+    /// transaction.
     ///
     /// It fails with `Missing` where there is no such deed, with `Conflict` where another kind, deed or
     /// digest stands at the accession, and with `Sql`.
     pub fn put_image(
         &mut self,
+        alloc: Global,
         acc: u32,
         kind: Kind,
         deed: u32,
@@ -191,7 +234,7 @@ impl<S: Alter> Store<S> {
         ensures judges { Judges S.Store self.new result (IsSome (get (desk S.Store self.old).deeds deed))
             (HasOtherImage (desk S.Store self.old) acc (record { kind = kind; deed = deed; digest = digest.now; bytes = bytes.now })) }
     {
-        images::put_image(&mut self.conn, acc, kind, deed, digest, bytes)
+        images::put_image(alloc, &mut self.conn, acc, kind, deed, digest, bytes)
     }
 
     /// Puts a rule, in place of one of its band, number and rank. Its values are within their limits

@@ -1,7 +1,7 @@
 ghost use Rattle.std.specs.Prelude.{◌≡◌, ◌↔◌, All, Any, MatchBool};
 ghost use Rattle.std.specs.List.Sorted.{IsNonDecreasing};
 ghost use Rattle.sqlite.specs.Order.{column};
-ghost use Rattle.rd_store.specs.Cells.{HasParts, IsCheckRow, IsDeedRow, IsImageRow, IsKeyRow, IsRuleRow, IsSelectAt, IsStaffRow, is_band, is_size_of};
+ghost use Rattle.rd_store.specs.Cells.{HasParts, IsCheckRow, IsDeedRow, IsFiledRow, IsImageRow, IsKeyRow, IsRuleRow, IsSelectAt, IsStaffRow, is_band, is_size_of};
 
 use crate::cells::{
     has_day, has_digest, has_donor, has_number, has_one_of, has_some_day, has_word, names_blob,
@@ -96,6 +96,14 @@ pub(crate) fn is_check(row: &Row, accessions: &[u32]) -> bool
     has_one_of(row, 1, accessions) && has_day(row, 2) && has_number(row, 3, 0, 1)
 }
 
+/// Whether a row of the index shows one of these accessions.
+fn is_filed(row: &Row, accessions: &[u32]) -> bool
+    requires { IsNonDecreasing accessions.now }
+    ensures { MatchBool result (IsFiledRow accessions.now row.now) (¬ IsFiledRow accessions.now row.now) }
+{
+    has_one_of(row, 1, accessions)
+}
+
 /// Whether a row of the desk keys shows one of the staff.
 fn is_staff(row: &Row) -> bool
     ensures { MatchBool result (IsStaffRow row.now) (¬ IsStaffRow row.now) }
@@ -140,4 +148,12 @@ pub(crate) fn are_checks(rows: &[Row], accessions: &[u32]) -> bool
     ensures { MatchBool result (All (IsCheckRow accessions.now) rows.now) (¬ All (IsCheckRow accessions.now) rows.now) }
 {
     rows.iter().all(|row| is_check(row, accessions))
+}
+
+/// Whether each row shows one of these accessions.
+pub(crate) fn are_filed(rows: &[Row], accessions: &[u32]) -> bool
+    requires { IsNonDecreasing accessions.now }
+    ensures { MatchBool result (All (IsFiledRow accessions.now) rows.now) (¬ All (IsFiledRow accessions.now) rows.now) }
+{
+    rows.iter().all(|row| is_filed(row, accessions))
 }

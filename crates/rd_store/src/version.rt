@@ -24,22 +24,22 @@ fn version_rows<S: Alter>(conn: &mut Connection<S>) -> Result<Vec<Row>, OpenFaul
     }
 }
 
-/// Whether there is one row, which says version 0.
+/// Whether there is one row, which says version 1.
 fn is_version(rows: &[Row]) -> bool
-    ensures { MatchBool result (map (λ row. column row 0) rows.now ≡ Int (pos 0) ∷ [])
-        (¬ (map (λ row. column row 0) rows.now ≡ Int (pos 0) ∷ [])) }
+    ensures { MatchBool result (map (λ row. column row 0) rows.now ≡ Int (pos 1) ∷ [])
+        (¬ (map (λ row. column row 0) rows.now ≡ Int (pos 1) ∷ [])) }
 {
     match rows {
-        [row] => has_number(row, 0, 0, 0),
+        [row] => has_number(row, 0, 1, 1),
         _ => false,
     }
 }
 
-/// Whether the table `desk` has its one row, which says version 0.
+/// Whether the table `desk` has its one row, which says version 1.
 pub(crate) fn has_version<S: Alter>(conn: &mut Connection<S>) -> Result<bool, OpenFault>
     requires first { StartsWithDesk (state S.Store conn.old) }
     ensures asks { Asks S.Store conn.old conn.new result OpenFault.Sql (λ said.
-        MatchBool said (HasVersion 0 ((state S.Store conn.old).now.trees 0)) (¬ HasVersion 0 ((state S.Store conn.old).now.trees 0))) }
+        MatchBool said (HasVersion 1 ((state S.Store conn.old).now.trees 0)) (¬ HasVersion 1 ((state S.Store conn.old).now.trees 0))) }
 {
     let rows = version_rows(conn)?;
     Ok(is_version(&rows))

@@ -1,13 +1,16 @@
 mod checks;
 mod creating;
 mod files;
+mod found;
 mod images;
 mod inconsistent;
+mod index;
 mod keys;
 mod opening;
 mod refused;
 mod rules;
 mod steps;
+mod told;
 
 ghost use Rattle.std.specs.Prelude.{◌≡◌, false, IfOk};
 
@@ -19,6 +22,7 @@ use std::alloc::Global;
 use std::process::Abort;
 use std::test::Fail;
 use steps::{Call, DONE, Digest, Given, Named, Picture, Question, Step, assert_steps};
+use told::HELLO;
 
 /// A desk in memory.
 type Desk = Store<MemStore>;
@@ -131,6 +135,20 @@ fn put_check<S: Alter>(
 /// The image with one program, under deed 7.
 const PROGRAM: Given = (Picture::Program, 7, Digest::Program);
 
+/// The image with a loop, under deed 7.
+const LOOPED: Given = (Picture::Looped, 7, Digest::Other);
+
+/// The CP/M image with one file, under deed 7.
+const CPM: Given = (Picture::Hello, 7, Digest::Other);
+
+/// Puts deed 7, and images 12, 14 and 15 under it.
+const SHELVE: &[Step<'static>] = &[
+    Step::Does(Call::PutDeed(7, "A. Curator", 18_020), DONE),
+    Step::Does(Call::PutImage(12, PROGRAM), DONE),
+    Step::Does(Call::PutImage(14, LOOPED), DONE),
+    Step::Does(Call::PutImage(15, CPM), DONE),
+];
+
 /// Puts deeds 7 and 8, a key for the room, two rules of deed 7, and image 12 under it.
 const FILL: &[Step<'static>] = &[
     Step::Does(Call::PutDeed(7, "A. Curator", 18_020), DONE),
@@ -151,6 +169,8 @@ const FILLED: &[Step<'static>] = &[
     Step::Tells(Question::AudienceOf(Digest::Other, None)),
     Step::Tells(Question::RulesFor(12, &[(Named::Closed, 7), (Named::Open, 7)])),
     Step::Tells(Question::Accessions(&[12])),
+    Step::Tells(Question::Files(12, &[HELLO])),
+    Step::Tells(Question::FileAt(12, 0, Some(HELLO))),
 ];
 
 /// Puts what `FILL` puts.
@@ -171,6 +191,13 @@ fn assert_filled<S: Alter>(
 fn filled(rt: &impl Abort, alloc: Global) -> Result<Desk, Fail> {
     let mut desk = new_desk(alloc)?;
     fill(rt, alloc, &mut desk)?;
+    Ok(desk)
+}
+
+/// A new desk with three images.
+fn shelved(rt: &impl Abort, alloc: Global) -> Result<Desk, Fail> {
+    let mut desk = new_desk(alloc)?;
+    assert_steps(rt, alloc, &mut desk, "images", SHELVE)?;
     Ok(desk)
 }
 

@@ -123,7 +123,7 @@ module _ {K X : Type 0} (cmp : K → K → Ordering) (order : IsKeyOrder cmp) wh
     | inr other ↦ inr (found_has q v es (let it : cond (eq_by_cmp cmp q e.0) (Some e.1) (find cmp q es) ≡ Some v = is in rw other at it))
   ]
 
-  below_has : (x q : K) (v : X) (es : List (K × X)) → T (below_all cmp x es) → Has es (q, v) → T (is_lt (cmp x q))
+  pub below_has : (x q : K) (v : X) (es : List (K × X)) → T (below_all cmp x es) → Has es (q, v) → T (is_lt (cmp x q))
   below_has x q v [] below here = absurd here
   below_has x q v (e ∷ es) below (inl is) = subst (λ (f : K × X). T (is_lt (cmp x f.0))) (sym is) (parts (is_lt (cmp x e.0)) (below_all cmp x es) below).0
   below_has x q v (e ∷ es) below (inr there) = below_has x q v es (parts (is_lt (cmp x e.0)) (below_all cmp x es) below).1 there

@@ -15,7 +15,7 @@ use Rattle.sqlite.proofs.Callers.{IsPlain, command_of}
 use Rattle.sqlite_tied.specs.Compute.{everything}
 use Rattle.rd_tables.specs.Asked.{asks_of}
 use Rattle.rd_tables.specs.Schemas.{desk_schema, starts_with_desk}
-use Rattle.rd_tables.specs.Queries.{deed_text, deed_query, image_text, image_query, heading_text, heading_query, audience_text, audience_query, rules_text, rules_query, accessions_text, accessions_query, keys_text, keys_query, all_deeds_text, all_deeds_query, all_images_text, all_images_query, all_rules_text, all_rules_query, all_keys_text, all_keys_query, all_checks_text, all_checks_query, version_text, version_query}
+use Rattle.rd_tables.specs.Queries.{deed_text, deed_query, image_text, image_query, heading_text, heading_query, accession_text, accession_query, audience_text, audience_query, rules_text, rules_query, accessions_text, accessions_query, keys_text, keys_query, all_deeds_text, all_deeds_query, all_images_text, all_images_query, all_rules_text, all_rules_query, all_keys_text, all_keys_query, all_checks_text, all_checks_query, file_text, file_query, files_text, files_query, all_files_text, all_files_query, version_text, version_query}
 
 -- Over these tables the text asks this of the rows on one tree.
 pub record AsksOver (schema : Schema) (text : List ℕ) (tree : ℕ) (tests shown : List Term) (order : List (Term × Key)) : Type 0 where
@@ -44,6 +44,10 @@ image_asks = record { names = codes "kind" ∷ codes "deed" ∷ codes "digest" �
 pub heading_asks : AsksBy heading_text 2 heading_query
 unfolding understood everything
 heading_asks = record { names = codes "kind" ∷ codes "deed" ∷ codes "digest" ∷ []; means = refl; plain = (refl, refl); stored = refl; here = λ trees. refl }
+
+pub accession_asks : AsksBy accession_text 2 accession_query
+unfolding understood everything
+accession_asks = record { names = codes "kind" ∷ codes "deed" ∷ []; means = refl; plain = (refl, refl); stored = refl; here = λ trees. refl }
 
 pub audience_asks : AsksBy audience_text 5 audience_query
 unfolding understood everything
@@ -86,6 +90,22 @@ all_keys_asks = record { names = codes "rowid" ∷ codes "digest" ∷ codes "aud
 pub all_checks_asks : AsksBy all_checks_text 7 all_checks_query
 unfolding understood everything
 all_checks_asks = record { names = codes "rowid" ∷ codes "acc" ∷ codes "day" ∷ codes "outcome" ∷ []; means = refl; plain = (refl, refl); stored = refl; here = λ trees. refl }
+
+-- what is told of a file, in the order of the columns
+file_names : List (List ℕ)
+file_names = codes "slot" ∷ codes "name" ∷ codes "ty" ∷ codes "user_no" ∷ codes "served" ∷ codes "size" ∷ codes "faults" ∷ codes "units" ∷ codes "last_len" ∷ []
+
+pub file_asks : AsksBy file_text 9 file_query
+unfolding understood everything file_names
+file_asks = record { names = file_names; means = refl; plain = (refl, refl); stored = refl; here = λ trees. refl }
+
+pub files_asks : AsksBy files_text 9 files_query
+unfolding understood everything file_names
+files_asks = record { names = file_names; means = refl; plain = (refl, refl); stored = refl; here = λ trees. refl }
+
+pub all_files_asks : AsksBy all_files_text 9 all_files_query
+unfolding understood everything
+all_files_asks = record { names = codes "rowid" ∷ codes "acc" ∷ []; means = refl; plain = (refl, refl); stored = refl; here = λ trees. refl }
 
 -- the version is read in one way whatever tables follow the first
 pub version_asks : (more : List Table) (indexes : List Index) (views : List View) → AsksOver (starts_with_desk more indexes views) version_text 0 version_query.filter version_query.project version_query.order

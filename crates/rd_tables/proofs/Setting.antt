@@ -12,7 +12,7 @@ use Rattle.rd_tables.proofs.Steps.{SetsRows, went, same_value}
 
 -- the trees of the indexes
 abbrev pub is_index_tree : ℕ → Bool
-is_index_tree t = (t == 4) || ((t == 6) || (t == 8))
+is_index_tree t = (t == 4) || ((t == 6) || ((t == 8) || (t == 10)))
 
 no_index : (t : ℕ) → is_index_tree t ≡ false → IsNoIndex desk_schema t
 no_index t h = grind arith

@@ -20,8 +20,8 @@ use Rattle.sqlite_schema.specs.Rules.{agree}
 use Rattle.sqlite_value.specs.Keys.{plain, first_key}
 use Rattle.sqlite_rules.specs.Keys.{AreConflicts}
 use Rattle.rd_tables.specs.Sheets.{HaveRowids}
-use Rattle.rd_tables.specs.Schemas.{desk_schema, desk_table, deed_table, image_table, rule_table, badge_table, checked_table}
-use Rattle.rd_tables.specs.Statements.{put_version, put_deed, put_image, put_rule, drop_rule, by_place, put_key, drop_key, by_digest, put_check, drop_check, by_checkup}
+use Rattle.rd_tables.specs.Schemas.{desk_schema, desk_table, deed_table, image_table, rule_table, badge_table, checked_table, found_table}
+use Rattle.rd_tables.specs.Statements.{put_version, put_deed, put_image, put_rule, drop_rule, by_place, put_key, drop_key, by_digest, put_check, drop_check, by_checkup, put_file}
 use Rattle.rd_tables.proofs.Lists.{and_true, or_false}
 use Rattle.rd_tables.proofs.Values.{cast_int, cast_null, cast_or_null, equal_int}
 use Rattle.rd_tables.proofs.Removed.{Picks, removed_rows}
@@ -53,15 +53,15 @@ TakesOut tree db after test = Sets tree db after (filter (λ row. not (test row)
 -- ---- the first row of the desk
 
 abbrev pub version_row : Row
-version_row = Int (pos 1) ∷ Null ∷ Int (pos 0) ∷ []
+version_row = Int (pos 1) ∷ Null ∷ Int (pos 1) ∷ []
 
 pub puts_version : (statement : List ℕ) (limit : Option ℕ) (db after : Database) (tally : Tally) → db.schema ≡ desk_schema → Runs statement limit [] put_version db after tally → PutsIn 0 db after (λ _. version_row)
 puts_version statement limit db after tally schema h =
     let task = task_on limit (desk_table 0) [] in
     let done = went (over_desk statement limit [] put_version db after tally schema h) in
     let end = concluded task plain_mode done.0 (tally, after) done.2 in
-    let terms : List Term = lit (Int (pos 1)) ∷ lit Null ∷ lit (Int (pos 0)) ∷ [] in
-    let is : with_rowid Chosen (db.trees 0) (cast_row (desk_table 0) version_row) ≡ version_row = rw (cast_int (pos 1), cast_int (pos 0), cast_null) refl in
+    let terms : List Term = lit (Int (pos 1)) ∷ lit Null ∷ lit (Int (pos 1)) ∷ [] in
+    let is : with_rowid Chosen (db.trees 0) (cast_row (desk_table 0) version_row) ≡ version_row = rw (cast_int (pos 1), cast_null) refl in
     let it = inserts task (λ olds. refl) (λ olds row. refl) refl terms 3 version_row db.trees done.0 refl done.1 version_row is in
     (it.0, sets_rows 0 db after done.0.trees (put_row version_row (db.trees 0)) it.1 end)
 
@@ -228,3 +228,24 @@ module _ (acc : ℕ) (day : ℤ) where
         let is : with_rowid Chosen rows (cast_row (checked_table 7) (Null ∷ check_params)) ≡ check_row rows = rw (cast_null, cast_int (pos acc), cast_int day, cast_int (pos outcome)) refl in
         let it = inserts task (λ olds. refl) (λ olds row. refl) refl terms 4 (Null ∷ check_params) db.trees done.0 refl done.1 (check_row rows) is in
         (it.0, sets_rows 7 db after done.0.trees (put_row (check_row rows) rows) it.1 end)
+
+-- ---- files
+
+module _ (acc slot : ℕ) (name type : List ℕ) (user : Option ℤ) (served : ℕ) (size : Option ℤ) (faults : ℕ) (units : List ℕ) (last : ℕ) where
+  abbrev pub file_params : Row
+  file_params = Int (pos acc) ∷ Int (pos slot) ∷ Text name ∷ Text type ∷ or_null Int user ∷ Int (pos served) ∷ or_null Int size ∷ Int (pos faults) ∷ Blob units ∷ Int (pos last) ∷ []
+
+  abbrev pub file_row : List Row → Row
+  file_row rows = Int (next_rowid rows) ∷ file_params
+
+  pub puts_file : (statement : List ℕ) (limit : Option ℕ) (db after : Database) (tally : Tally) → db.schema ≡ desk_schema → Runs statement limit file_params put_file db after tally → PutsIn 9 db after file_row
+  puts_file statement limit db after tally schema h =
+      let task = task_on limit (found_table 9) file_params in
+      let done = went (over_desk statement limit file_params put_file db after tally schema h) in
+      let end = concluded task plain_mode done.0 (tally, after) done.2 in
+      let rows = db.trees 9 in
+      let terms : List Term = lit Null ∷ col 0 0 ∷ col 0 1 ∷ col 0 2 ∷ col 0 3 ∷ col 0 4 ∷ col 0 5 ∷ col 0 6 ∷ col 0 7 ∷ col 0 8 ∷ col 0 9 ∷ [] in
+      let is : with_rowid Chosen rows (cast_row (found_table 9) (Null ∷ file_params)) ≡ file_row rows =
+      rw (cast_null, cast_int (pos acc), cast_int (pos slot), cast_or_null user, cast_int (pos served), cast_or_null size, cast_int (pos faults), cast_int (pos last)) refl in
+      let it = inserts task (λ olds. refl) (λ olds row. refl) refl terms 11 (Null ∷ file_params) db.trees done.0 refl done.1 (file_row rows) is in
+      (it.0, sets_rows 9 db after done.0.trees (put_row (file_row rows) rows) it.1 end)

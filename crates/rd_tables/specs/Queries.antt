@@ -1,6 +1,6 @@
 -- The questions that the store asks of its tables, and the queries that their texts are.
 use Rattle.std.specs.Prelude.{ℕ, List, [], ◌∷◌, codes}
-use Rattle.sqlite.specs.Term.{col, op1}
+use Rattle.sqlite.specs.Term.{Term, col, op1}
 use Rattle.sqlite_sql.specs.declared.ops.UnaryOp.TheVariants.{Length, TypeOf}
 use Rattle.sqlite.specs.Query.{Query}
 use Rattle.rd_tables.specs.Asked.{asks_of, equals, rising}
@@ -27,13 +27,36 @@ heading_text = codes "SELECT kind, deed, digest FROM image WHERE acc = ?1"
 abbrev pub heading_query : Query
 heading_query = asks_of 2 (equals 0 0 ∷ []) (col 1 2 ∷ col 1 3 ∷ col 1 4 ∷ []) []
 
+-- and without its digest
+abbrev pub accession_text : List ℕ
+accession_text = codes "SELECT kind, deed FROM image WHERE acc = ?1"
+
+abbrev pub accession_query : Query
+accession_query = asks_of 2 (equals 0 0 ∷ []) (col 1 2 ∷ col 1 3 ∷ []) []
+
 abbrev pub audience_text : List ℕ
 audience_text = codes "SELECT audience FROM badge WHERE digest = ?1"
 
 abbrev pub audience_query : Query
 audience_query = asks_of 5 by_digest (col 1 2 ∷ []) []
 
+-- what is told of a file
+abbrev pub file_columns : List Term
+file_columns = col 1 2 ∷ col 1 3 ∷ col 1 4 ∷ col 1 5 ∷ col 1 6 ∷ col 1 7 ∷ col 1 8 ∷ col 1 9 ∷ col 1 10 ∷ []
+
+abbrev pub file_text : List ℕ
+file_text = codes "SELECT slot, name, ty, user_no, served, size, faults, units, last_len FROM found WHERE acc = ?1 AND slot = ?2"
+
+abbrev pub file_query : Query
+file_query = asks_of 9 (equals 1 0 ∷ equals 2 1 ∷ []) file_columns []
+
 -- ---- many entries, in the order of their keys
+
+abbrev pub files_text : List ℕ
+files_text = codes "SELECT slot, name, ty, user_no, served, size, faults, units, last_len FROM found WHERE acc = ?1 ORDER BY slot"
+
+abbrev pub files_query : Query
+files_query = asks_of 9 (equals 1 0 ∷ []) file_columns ((col 1 2, rising) ∷ [])
 
 abbrev pub rules_text : List ℕ
 rules_text = codes "SELECT band, scope, rank, audiences, day_from, day_until, how, number, word, effect FROM rule WHERE band = ?1 AND scope = ?2 ORDER BY rank"
@@ -87,6 +110,13 @@ all_checks_text = codes "SELECT rowid, acc, day, outcome FROM checked ORDER BY r
 
 abbrev pub all_checks_query : Query
 all_checks_query = asks_of 7 [] (col 1 0 ∷ col 1 1 ∷ col 1 2 ∷ col 1 3 ∷ []) ((col 1 0, rising) ∷ [])
+
+-- of a file its accession
+abbrev pub all_files_text : List ℕ
+all_files_text = codes "SELECT rowid, acc FROM found ORDER BY rowid"
+
+abbrev pub all_files_query : Query
+all_files_query = asks_of 9 [] (col 1 0 ∷ col 1 1 ∷ []) ((col 1 0, rising) ∷ [])
 
 -- ---- the version, whatever tables follow the first
 

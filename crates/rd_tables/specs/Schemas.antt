@@ -99,6 +99,17 @@ abbrev pub checked_table : ℕ → Table
 checked_table tree = keyed (codes "checked") tree (column_of (codes "acc") Integer true ∷ column_of (codes "day") Integer true ∷ column_of (codes "outcome") Integer true ∷ [])
     checked_key (between 3 0 1 ∷ [])
 
+abbrev pub found_key : List ℕ
+found_key = 1 ∷ 2 ∷ []
+
+-- a file that is told of an image
+abbrev pub found_table : ℕ → Table
+found_table tree = keyed (codes "found") tree
+    (column_of (codes "acc") Integer true ∷ column_of (codes "slot") Integer true ∷ column_of (codes "name") Text true ∷ column_of (codes "ty") Text true
+    ∷ column_of (codes "user_no") Integer false ∷ column_of (codes "served") Integer true ∷ column_of (codes "size") Integer false
+    ∷ column_of (codes "faults") Integer true ∷ column_of (codes "units") Blob true ∷ column_of (codes "last_len") Integer true ∷ [])
+    found_key (between 6 0 1 ∷ between 8 0 127 ∷ [])
+
 abbrev pub rule_index : Index
 rule_index = index_of (codes "sqlite_autoindex_rule_1") 4 3 rule_key
 
@@ -108,11 +119,14 @@ badge_index = index_of (codes "sqlite_autoindex_badge_1") 6 5 badge_key
 abbrev pub checked_index : Index
 checked_index = index_of (codes "sqlite_autoindex_checked_1") 8 7 checked_key
 
+abbrev pub found_index : Index
+found_index = index_of (codes "sqlite_autoindex_found_1") 10 9 found_key
+
 -- the tables of a desk, in the order in which a new desk makes them
 abbrev pub desk_schema : Schema
 desk_schema = record {
-  tables = desk_table 0 ∷ deed_table 1 ∷ image_table 2 ∷ rule_table 3 ∷ badge_table 5 ∷ checked_table 7 ∷ [];
-  indexes = rule_index ∷ badge_index ∷ checked_index ∷ [];
+  tables = desk_table 0 ∷ deed_table 1 ∷ image_table 2 ∷ rule_table 3 ∷ badge_table 5 ∷ checked_table 7 ∷ found_table 9 ∷ [];
+  indexes = rule_index ∷ badge_index ∷ checked_index ∷ found_index ∷ [];
   views = [];
 }
 

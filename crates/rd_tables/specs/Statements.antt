@@ -9,7 +9,7 @@ use Rattle.sqlite.specs.Command.{Command}
 use Rattle.sqlite.specs.Command.TheVariants.{Insert, InsertOr, Delete}
 use Rattle.sqlite_schema.specs.declared.command.Conflict.TheVariants.{Replace}
 use Rattle.rd_tables.specs.Asked.{asks_of, equals}
-use Rattle.rd_tables.specs.Schemas.{desk_table, deed_table, image_table, rule_table, badge_table, rule_index, badge_index, desk_schema}
+use Rattle.rd_tables.specs.Schemas.{desk_table, deed_table, image_table, rule_table, badge_table, checked_table, rule_index, badge_index, checked_index, desk_schema}
 
 -- ---- CREATE TABLE
 
@@ -31,9 +31,12 @@ badge_text = codes "CREATE TABLE badge (digest BLOB NOT NULL PRIMARY KEY, audien
 abbrev pub checked_text : List ℕ
 checked_text = codes "CREATE TABLE checked (acc INTEGER NOT NULL, day INTEGER NOT NULL, outcome INTEGER NOT NULL CHECK (outcome BETWEEN 0 AND 1), PRIMARY KEY (acc, day)) STRICT"
 
+abbrev pub found_text : List ℕ
+found_text = codes "CREATE TABLE found (acc INTEGER NOT NULL, slot INTEGER NOT NULL, name TEXT NOT NULL, ty TEXT NOT NULL, user_no INTEGER, served INTEGER NOT NULL CHECK (served BETWEEN 0 AND 1), size INTEGER, faults INTEGER NOT NULL CHECK (faults BETWEEN 0 AND 127), units BLOB NOT NULL, last_len INTEGER NOT NULL, PRIMARY KEY (acc, slot)) STRICT"
+
 -- in the order in which a new desk makes them
 abbrev pub create_texts : List (List ℕ)
-create_texts = desk_text ∷ deed_text ∷ image_text ∷ rule_text ∷ badge_text ∷ checked_text ∷ []
+create_texts = desk_text ∷ deed_text ∷ image_text ∷ rule_text ∷ badge_text ∷ checked_text ∷ found_text ∷ []
 
 -- the tables once so many are made
 abbrev pub schema_after : ℕ → Schema
@@ -44,7 +47,9 @@ schema_after (suc (suc (suc zero))) = record { tables = desk_table 0 ∷ deed_ta
 schema_after (suc (suc (suc (suc zero)))) = record { tables = desk_table 0 ∷ deed_table 1 ∷ image_table 2 ∷ rule_table 3 ∷ []; indexes = rule_index ∷ []; views = [] }
 schema_after (suc (suc (suc (suc (suc zero))))) =
     record { tables = desk_table 0 ∷ deed_table 1 ∷ image_table 2 ∷ rule_table 3 ∷ badge_table 5 ∷ []; indexes = rule_index ∷ badge_index ∷ []; views = [] }
-schema_after (suc (suc (suc (suc (suc (suc count)))))) = desk_schema
+schema_after (suc (suc (suc (suc (suc (suc zero)))))) =
+    record { tables = desk_table 0 ∷ deed_table 1 ∷ image_table 2 ∷ rule_table 3 ∷ badge_table 5 ∷ checked_table 7 ∷ []; indexes = rule_index ∷ badge_index ∷ checked_index ∷ []; views = [] }
+schema_after (suc (suc (suc (suc (suc (suc (suc count))))))) = desk_schema
 
 -- ---- INSERT and DELETE
 
@@ -53,10 +58,10 @@ abbrev pub rowids_of : ℕ → List Term → Query
 rowids_of tree tests = asks_of tree tests (col 1 0 ∷ []) []
 
 abbrev pub put_version_text : List ℕ
-put_version_text = codes "INSERT INTO desk (id, version) VALUES (1, 0)"
+put_version_text = codes "INSERT INTO desk (id, version) VALUES (1, 1)"
 
 abbrev pub put_version : Command
-put_version = Insert 0 (Values (lit (Int (pos 1)) ∷ lit Null ∷ lit (Int (pos 0)) ∷ []) 3)
+put_version = Insert 0 (Values (lit (Int (pos 1)) ∷ lit Null ∷ lit (Int (pos 1)) ∷ []) 3)
 
 abbrev pub put_deed_text : List ℕ
 put_deed_text = codes "INSERT OR REPLACE INTO deed (num, donor, signed) VALUES (?1, ?2, ?3)"
@@ -114,3 +119,9 @@ by_checkup = equals 1 0 ∷ equals 2 1 ∷ []
 
 abbrev pub drop_check : Command
 drop_check = Delete 5 (record { lets = []; body = rowids_of 7 by_checkup })
+
+abbrev pub put_file_text : List ℕ
+put_file_text = codes "INSERT INTO found (acc, slot, name, ty, user_no, served, size, faults, units, last_len) VALUES (?1, ?2, ?3, ?4, ?5, ?6, ?7, ?8, ?9, ?10)"
+
+abbrev pub put_file : Command
+put_file = Insert 6 (Values (lit Null ∷ col 0 0 ∷ col 0 1 ∷ col 0 2 ∷ col 0 3 ∷ col 0 4 ∷ col 0 5 ∷ col 0 6 ∷ col 0 7 ∷ col 0 8 ∷ col 0 9 ∷ []) 11)

@@ -32,19 +32,22 @@ const MARKED_100: NewImage = like!(NewImage, PROGRAM_12, acc: 100, bytes: MARKED
 const FREE: NewEntry<'static> = like!(NewEntry, FILE, user: 0xe5);
 
 /// Files at the slots 0, 2, 8 and 10.
-const SLOTS: Picture = Picture::Cpm(&[
-    like!(NewEntry, FILE, user: 3, name: b"A,B", extension: b"C\"D"),
-    FREE,
-    like!(NewEntry, FILE, user: 15, name: b"GAP", ex: 2, rc: 1, pointers: b"\x01"),
-    FREE,
-    FREE,
-    FREE,
-    FREE,
-    FREE,
-    like!(NewEntry, FILE, name: b"HIDDEN"),
-    FREE,
-    like!(NewEntry, FILE, name: b"SALE 50%", extension: b"TXT", rc: 1, pointers: b"\x02"),
-]);
+const SLOTS: Picture = Picture::Cpm(
+    &[
+        like!(NewEntry, FILE, user: 3, name: b"A,B", extension: b"C\"D"),
+        FREE,
+        like!(NewEntry, FILE, user: 15, name: b"GAP", ex: 2, rc: 1, pointers: b"\x01"),
+        FREE,
+        FREE,
+        FREE,
+        FREE,
+        FREE,
+        like!(NewEntry, FILE, name: b"HIDDEN"),
+        FREE,
+        like!(NewEntry, FILE, name: b"SALE 50%", extension: b"TXT", rc: 1, pointers: b"\x02"),
+    ],
+    &[],
+);
 
 const SLOTS_2: NewImage = like!(NewImage, HELLO_15, acc: 2, deed: 8, bytes: SLOTS, digest: SLOTS);
 

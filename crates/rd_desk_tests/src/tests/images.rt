@@ -3,8 +3,8 @@
 use rd_geometry::{Kind, NoMemory};
 use rd_rows::bytes::put;
 use rd_rows::cbm::{
-    DIRECTORY, NewCbmEntry, PROGRAM, crossed, formatted, looped, mixed, one_program, put_block,
-    put_cbm_entry,
+    DIRECTORY, NewCbmEntry, PROGRAM, crossed, formatted, full, looped, mixed, one_program,
+    put_block, put_cbm_entry,
 };
 use rd_rows::cpm::{FILE, NewEntry, filled, hello, with_entries};
 use std::alloc::Global;
@@ -40,8 +40,10 @@ pub(super) enum Picture {
     Altered(Patches),
     /// A 1541 disk with these entries from slot 0 on, of which eight are taken, and then these bytes.
     Cbm(&'static [NewCbmEntry<'static>], Patches),
-    /// A CP/M disk with these entries from slot 0 on.
-    Cpm(&'static [NewEntry<'static>]),
+    /// A 1541 disk with the program `LONG`, which has all blocks that files can have, with these bytes over its own.
+    Full(Patches),
+    /// A CP/M disk with these entries from slot 0 on, and then these bytes.
+    Cpm(&'static [NewEntry<'static>], Patches),
 }
 
 /// An image to be put.
@@ -149,6 +151,22 @@ fn with_cbm_entries(
     Ok(image)
 }
 
+fn full_with(alloc: Global, patches: &[(usize, &[u8])]) -> Result<Vec<u8>, NoMemory> {
+    let mut image = full(alloc)?;
+    put_patches(&mut image, patches);
+    Ok(image)
+}
+
+fn with_cpm_entries(
+    alloc: Global,
+    entries: &[NewEntry<'_>],
+    patches: &[(usize, &[u8])],
+) -> Result<Vec<u8>, NoMemory> {
+    let mut image = with_entries(alloc, entries)?;
+    put_patches(&mut image, patches);
+    Ok(image)
+}
+
 fn cut(alloc: Global) -> Result<Vec<u8>, NoMemory> {
     let mut image = one_program(alloc)?;
     image.truncate(174_847);
@@ -169,6 +187,7 @@ pub(super) fn bytes_of(alloc: Global, picture: Picture) -> Result<Vec<u8>, NoMem
         Picture::Ones => filled(alloc, 1),
         Picture::Altered(patches) => altered(alloc, patches),
         Picture::Cbm(entries, patches) => with_cbm_entries(alloc, entries, patches),
-        Picture::Cpm(entries) => with_entries(alloc, entries),
+        Picture::Full(patches) => full_with(alloc, patches),
+        Picture::Cpm(entries, patches) => with_cpm_entries(alloc, entries, patches),
     }
 }

@@ -195,6 +195,7 @@ const TABLES: &[&str] = &[
     "SELECT * FROM rule ORDER BY band, scope, rank",
     "SELECT digest, audience FROM badge ORDER BY digest",
     "SELECT acc, day, outcome FROM checked ORDER BY acc, day",
+    "SELECT * FROM found ORDER BY acc, slot",
 ];
 
 pub(super) fn rows(conn: &mut Connection<MemStore>, sql: &str) -> Result<Vec<Row>, Error> {

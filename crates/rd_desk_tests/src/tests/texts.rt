@@ -2,11 +2,13 @@
 //! growth: a reply that is then not made is made again, and must be as ever.
 
 use rd_desk::{
-    Body, Form, ImageLine, Line, Listing, Outcome, Refusal, Reply, Said, Survey, reply_to,
-    unavailable,
+    Body, Contents, Form, ImageLine, Line, Listing, Outcome, Refusal, Reply, Said, Survey,
+    reply_to, unavailable,
 };
 use rd_geometry::{Items, Kind, NoMemory, Text};
 use rd_policy::{Effect, Label, Verdict};
+use rd_rows::bytes::put;
+use rd_rows::cbm::formatted;
 use rd_volume::{End, Found, MapReport, Report};
 use std::alloc::Global;
 use std::process::Abort;
@@ -22,7 +24,7 @@ enum Told<'a> {
     Images(&'a [(u32, u32, Kind, usize)]),
     /// An accession: number, deed, kind and files.
     Listed(u32, u32, Kind, &'a [File<'a>]),
-    /// The bytes of a text.
+    /// The contents of a file that has this text.
     File(&'a str),
     /// Accessions, each as one that is listed.
     Catalogue(&'a [(u32, u32, Kind, &'a [File<'a>])]),
@@ -426,6 +428,24 @@ fn survey(alloc: Global, counts: &Counts<'_>) -> Result<Survey, NoMemory> {
     })
 }
 
+/// The contents of a program that has this text, which follows the link of the first block of a 1541 disk.
+fn contents(alloc: Global, bytes: &str) -> Result<Contents, NoMemory> {
+    let mut image = formatted(alloc)?;
+    put(&mut image, 2, bytes.as_bytes());
+    let file = Found {
+        slot: 0,
+        name: text(alloc, "FILE")?,
+        ty: text(alloc, "PRG")?,
+        user: None,
+        served_class: true,
+        size: None,
+        faults: 0,
+        units: Items::of(Vec::from_slice(alloc, &[0])?),
+        last_len: u16::try_from(bytes.len()).unwrap_or(0),
+    };
+    Contents::of(Kind::D64, Items::of(image), file).ok_or(NoMemory)
+}
+
 /// The reply that is made for what is said.
 fn reply(alloc: Global, told: Told<'_>) -> Result<Reply, NoMemory> {
     let said = match told {
@@ -436,7 +456,7 @@ fn reply(alloc: Global, told: Told<'_>) -> Result<Reply, NoMemory> {
         Told::Listed(accession, deed, kind, files) => {
             Said::Listed(listing(alloc, (accession, deed, kind, files))?)
         }
-        Told::File(bytes) => Said::File(Items::of(Vec::from_slice(alloc, bytes.as_bytes())?)),
+        Told::File(text) => Said::File(contents(alloc, text)?),
         Told::Catalogue(accessions) => Said::Catalogue(listings(alloc, accessions)?),
         Told::Surveyed(counts) => Said::Surveyed(survey(alloc, &counts)?),
         Told::Checked(outcome) => Said::Checked(outcome),

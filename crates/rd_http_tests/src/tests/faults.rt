@@ -21,6 +21,13 @@ const REPLY: &[u8] =
 /// More bytes, reads and writes than any visit has.
 const ALL: usize = 10_000;
 
+/// A request of 47 bytes for the program `HELLO`.
+const FOR_FILE: &[u8] = b"GET /images/12/files/0 HTTP/1.1\r\nHost: desk\r\n\r\n";
+
+/// The head of its reply, of 99 bytes; the file has 258.
+const FILE_HEAD: &[u8] =
+    b"HTTP/1.1 200 OK\r\nContent-Type: application/octet-stream\r\nContent-Length: 258\r\nConnection: close\r\n\r\n";
+
 /// A visit: its name, its connection, how it ends, how many bytes of the reply go out, and how many reads
 /// are left.
 type Case = (&'static str, Plan, Result<(), WireFault>, usize, usize);
@@ -44,6 +51,16 @@ const WRITES: &[Case] = table![
     ("a write fails at the last byte", (AFTER, ALL, 1, 1, 102), Err(WireFault::Write), 102, 0);
 ];
 
+/// Of a file of two slices, of 254 bytes and of 4.
+const SLICES: &[Case] = table![
+    ("the head and each slice in one write", (AFTER, ALL, 1, ALL, 3), Ok(()), 357, 0);
+    ("a write fails before the first slice", (AFTER, ALL, 1, ALL, 1), Err(WireFault::Write), 99, 0);
+    ("a write fails in the first slice", (AFTER, ALL, 1, 127, 2), Err(WireFault::Write), 226, 0);
+    ("a write fails between the slices", (AFTER, ALL, 1, ALL, 2), Err(WireFault::Write), 353, 0);
+    ("a write fails in the last slice", (AFTER, ALL, 1, 2, 178), Err(WireFault::Write), 355, 0);
+    ("three bytes a write", (AFTER, ALL, 1, 3, 120), Ok(()), 357, 0);
+];
+
 const MOMENTS: &[Case] = table![
     ("the last second of 9999", (253_402_297_199, ALL, 1, ALL, ALL), Ok(()), 103, 0);
     ("the second after", (253_402_297_200, ALL, 1, ALL, ALL), Err(WireFault::Clock), 0, 1);
@@ -57,24 +74,38 @@ const MOMENTS: &[Case] = table![
 fn visit(
     alloc: Global,
     desk: &mut Memory,
+    came: &'static [u8],
     plan: Plan,
 ) -> (Result<(), WireFault>, Fragile<'static>) {
-    let mut conn = Fragile::new(alloc, REQUEST, plan);
+    let mut conn = Fragile::new(alloc, came, plan);
     (serve_one(alloc, &mut conn, plan.0, desk), conn)
 }
 
-fn assert_cases(rt: &impl Abort, alloc: Global, cases: &[Case]) -> Result<(), Fail> {
-    let mut desk = new_desk(rt, alloc)?;
+/// Visits at which a request comes, and of which the reply, or a front part of it, goes out.
+fn assert_cases(
+    rt: &impl Abort,
+    alloc: Global,
+    desk: &mut Memory,
+    (came, reply): (&'static [u8], &[u8]),
+    cases: &[Case],
+) {
     for (label, plan, wanted, went, reads) in cases {
-        let (result, conn) = visit(alloc, &mut desk, *plan);
+        let (result, conn) = visit(alloc, desk, came, *plan);
         assert_eq!(rt;
             (result, conn.out.len(), conn.reads),
             (*wanted, *went, *reads),
             "{label}"
         );
-        assert!(rt; REPLY.starts_with(&conn.out), "{label}");
+        assert!(rt; reply.starts_with(&conn.out), "{label}");
     }
-    Ok(())
+}
+
+/// The reply to the request for the program `HELLO`.
+fn file_reply(alloc: Global) -> Result<Vec<u8>, AllocError> {
+    let mut reply = Vec::from_slice(alloc, FILE_HEAD)?;
+    reply.extend_from_slice(&[b'A'; 254])?;
+    reply.extend_from_slice(b"BCDE")?;
+    Ok(reply)
 }
 
 const WHOLE: Plan = (AFTER, ALL, 1, ALL, ALL);
@@ -168,9 +199,21 @@ fn door_of_fronts(alloc: Global) -> Result<MemoryDoor, Fail> {
 
 #[test]
 fn a_visit_ends_by_its_fault(rt: HostRuntime) -> Result<(), Fail> {
-    assert_cases(&rt, rt.alloc(), READS)?;
-    assert_cases(&rt, rt.alloc(), WRITES)?;
-    assert_cases(&rt, rt.alloc(), MOMENTS)
+    let alloc = rt.alloc();
+    let mut desk = new_desk(&rt, alloc)?;
+    assert_cases(&rt, alloc, &mut desk, (REQUEST, REPLY), READS);
+    assert_cases(&rt, alloc, &mut desk, (REQUEST, REPLY), WRITES);
+    assert_cases(&rt, alloc, &mut desk, (REQUEST, REPLY), MOMENTS);
+    Ok(())
+}
+
+#[test]
+fn the_slices_of_a_file_go_out_one_by_one(rt: HostRuntime) -> Result<(), Fail> {
+    let alloc = rt.alloc();
+    let reply = file_reply(alloc)?;
+    let mut desk = filled_desk(&rt, alloc)?;
+    assert_cases(&rt, alloc, &mut desk, (FOR_FILE, reply.as_slice()), SLICES);
+    Ok(())
 }
 
 #[test]

@@ -172,7 +172,7 @@ const STORES: &[Step] = table![
     like!(Step, INIT, label: "init without the list", sql: "DROP TABLE list");
     like!(Step, NOT_OPENED, label: "another version", sql: "UPDATE desk SET version = 9", errors: "desk: version\n");
     like!(Step, NOT_OPENED, label: "no version", sql: "DELETE FROM desk", errors: "desk: version\n");
-    like!(Step, NOT_OPENED, label: "no keys", sql: "INSERT INTO desk VALUES (1, 0); DELETE FROM badge", errors: "desk: inconsistent\n");
+    like!(Step, NOT_OPENED, label: "no keys", sql: "INSERT INTO desk VALUES (1, 1); DELETE FROM badge", errors: "desk: inconsistent\n");
     like!(Step, NOT_OPENED, label: "no key of the staff", sql: "INSERT INTO badge VALUES (x'ba7816bf8f01cfea414140de5dae2223b00361a396177a9cb410ff61f20015ad', 1)", errors: "desk: inconsistent\n");
     like!(Step, KEYS, label: "a key of the staff again", sql: "UPDATE badge SET audience = 2");
     like!(Step, NOT_OPENED, label: "a further table", sql: "CREATE TABLE list (id INTEGER PRIMARY KEY) STRICT");

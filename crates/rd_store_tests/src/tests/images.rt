@@ -4,6 +4,8 @@ use super::PROGRAM;
 use super::steps::{
     CONFLICT, Call, Case, DONE, Digest, MISSING, Picture, Question, Start, Step, assert_cases,
 };
+use rd_geometry::Kind;
+use rd_store::Accession;
 use std::test::Fail;
 
 const DEEDS: &[Case] = &[
@@ -41,6 +43,37 @@ const DEEDS: &[Case] = &[
         ],
     },
 ];
+
+/// A 1541 disk under deed 7.
+const COMMODORE: Option<Accession> = Some(Accession {
+    kind: Kind::D64,
+    deed: 7,
+});
+
+/// A CP/M disk under deed 8.
+const CONTROL_PROGRAM: Option<Accession> = Some(Accession {
+    kind: Kind::Cpm8,
+    deed: 8,
+});
+
+const ACCESSIONS: &[Case] = &[Case {
+    label: "the kind and the deed of an accession",
+    start: Start::Filled,
+    steps: &[
+        Step::Does(Call::PutImage(1, (Picture::Hello, 8, Digest::Other)), DONE),
+        Step::Does(
+            Call::PutImage(999_999, (Picture::Looped, 7, Digest::Other)),
+            DONE,
+        ),
+        Step::Tells(Question::Accession(1, CONTROL_PROGRAM)),
+        Step::Tells(Question::Accession(12, COMMODORE)),
+        Step::Tells(Question::Accession(999_999, COMMODORE)),
+        Step::Tells(Question::Accession(0, None)),
+        Step::Tells(Question::Accession(13, None)),
+        Step::Tells(Question::Accession(1_000_000, None)),
+        Step::Tells(Question::Accession(4_294_967_295, None)),
+    ],
+}];
 
 const IMAGES: &[Case] = &[
     Case {
@@ -152,5 +185,6 @@ fn deeds_are_kept(rt: HostRuntime) -> Result<(), Fail> {
 
 #[test]
 fn images_are_kept(rt: HostRuntime) -> Result<(), Fail> {
-    assert_cases(&rt, rt.alloc(), IMAGES)
+    assert_cases(&rt, rt.alloc(), IMAGES)?;
+    assert_cases(&rt, rt.alloc(), ACCESSIONS)
 }

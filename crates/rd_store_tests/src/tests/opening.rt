@@ -132,7 +132,7 @@ const NO_DESKS: &[Made] = &[
         OpenFault::NotADesk,
     ),
     (
-        &["CREATE VIEW desk AS SELECT 1 AS id, 0 AS version"],
+        &["CREATE VIEW desk AS SELECT 1 AS id, 1 AS version"],
         OpenFault::NotADesk,
     ),
     (&[DEED], OpenFault::NotADesk),
@@ -141,13 +141,13 @@ const NO_DESKS: &[Made] = &[
 /// The same, where the table of the version stands.
 const PARTS: &[Made] = &[
     (&[DESK], OpenFault::Version),
-    (&[DESK, VERSION_1], OpenFault::Version),
-    (&[DESK, DEED, VERSION_1], OpenFault::Version),
+    (&[DESK, VERSION_0], OpenFault::Version),
+    (&[DESK, DEED, VERSION_0], OpenFault::Version),
     (&[DESK, VERSION_9], OpenFault::Version),
     (&[DESK, DEED, VERSION_9], OpenFault::Version),
     (&[DEED, DESK, VERSION_9], OpenFault::Sql),
-    (&[DESK, VERSION_0], OpenFault::Sql),
-    (&[DESK, DEED, VERSION_0], OpenFault::Sql),
+    (&[DESK, VERSION_1], OpenFault::Sql),
+    (&[DESK, DEED, VERSION_1], OpenFault::Sql),
 ];
 
 fn assert_made(rt: &impl Abort, alloc: Global, cases: &[Made]) -> Result<(), Fail> {
@@ -177,30 +177,33 @@ fn parts_of_a_desk_are_told_by_their_version(rt: HostRuntime) -> Result<(), Fail
 const VERSIONS: &[&[&str]] = &[
     &["DELETE FROM desk"],
     &["UPDATE desk SET version = 9"],
-    &["UPDATE desk SET version = 1"],
+    &["UPDATE desk SET version = 0"],
     &["UPDATE desk SET version = -1"],
     &["UPDATE desk SET version = 9223372036854775807"],
-    &[SET_VERSION_1, MORE_TABLE],
-    &[SET_VERSION_1, MORE_VIEW],
-    &[SET_VERSION_1, MORE_INDEX],
-    &[SET_VERSION_1, LESS_IMAGE],
+    &[SET_VERSION_0, MORE_TABLE],
+    &[SET_VERSION_0, MORE_VIEW],
+    &[SET_VERSION_0, MORE_INDEX],
+    &[SET_VERSION_0, LESS_IMAGE],
+    &[SET_VERSION_0, LESS_FOUND],
     &[SET_VERSION_9, MORE_TABLE],
     &[SET_VERSION_9, MORE_VIEW],
     &[SET_VERSION_9, MORE_INDEX],
     &[SET_VERSION_9, LESS_IMAGE],
 ];
 
-const SET_VERSION_1: &str = "UPDATE desk SET version = 1";
+const SET_VERSION_0: &str = "UPDATE desk SET version = 0";
 
 const SET_VERSION_9: &str = "UPDATE desk SET version = 9";
 
-const MORE_TABLE: &str = "CREATE TABLE found (id INTEGER PRIMARY KEY) STRICT";
+const MORE_TABLE: &str = "CREATE TABLE note (id INTEGER PRIMARY KEY) STRICT";
 
-const MORE_VIEW: &str = "CREATE VIEW found AS SELECT 1";
+const MORE_VIEW: &str = "CREATE VIEW note AS SELECT 1";
 
-const MORE_INDEX: &str = "CREATE INDEX found ON deed (donor)";
+const MORE_INDEX: &str = "CREATE INDEX note ON deed (donor)";
 
 const LESS_IMAGE: &str = "DROP TABLE image";
+
+const LESS_FOUND: &str = "DROP TABLE found";
 
 /// Statements that change a filled desk, after which it has other tables.
 const OTHER_TABLES: &[&[&str]] = &[
@@ -208,6 +211,7 @@ const OTHER_TABLES: &[&[&str]] = &[
     &["DROP TABLE rule"],
     &["DROP TABLE badge"],
     &["DROP TABLE checked"],
+    &[LESS_FOUND],
     &[MORE_TABLE],
     &[MORE_VIEW],
     &[MORE_INDEX],
@@ -246,52 +250,97 @@ fn a_desk_of_this_version_has_its_tables_alone(rt: HostRuntime) -> Result<(), Fa
 type Declared = (&'static str, &'static str, &'static str, Option<OpenFault>);
 
 const DECLARED: &[Declared] = &[
-    ("signed", "signed", VERSION_0, None),
-    ("signed", "dated", VERSION_1, Some(OpenFault::Version)),
+    ("signed", "signed", VERSION_1, None),
+    ("signed", "dated", VERSION_0, Some(OpenFault::Version)),
     ("signed", "dated", VERSION_9, Some(OpenFault::Version)),
-    ("signed", "dated", VERSION_0, OTHERWISE),
-    ("donor TEXT", "donor BLOB", VERSION_0, OTHERWISE),
+    ("signed", "dated", VERSION_1, OTHERWISE),
+    ("donor TEXT", "donor BLOB", VERSION_1, OTHERWISE),
     (
         "signed INTEGER NOT NULL)",
         "signed INTEGER NOT NULL, note TEXT)",
-        VERSION_0,
+        VERSION_1,
         OTHERWISE,
     ),
-    (" CHECK (id = 1)", "", VERSION_0, OTHERWISE),
-    ("version INTEGER", "version TEXT", VERSION_0, OTHERWISE),
+    (" CHECK (id = 1)", "", VERSION_1, OTHERWISE),
+    ("version INTEGER", "version TEXT", VERSION_1, OTHERWISE),
 ];
 
 const DECLARED_ON: &[Declared] = &[
-    (" REFERENCES deed (num)", "", VERSION_0, OTHERWISE),
-    ("CHECK (kind BETWEEN 0 AND 1)", "", VERSION_0, OTHERWISE),
+    (" REFERENCES deed (num)", "", VERSION_1, OTHERWISE),
+    ("CHECK (kind BETWEEN 0 AND 1)", "", VERSION_1, OTHERWISE),
     (
         "audiences BETWEEN 1 AND 7",
         "audiences BETWEEN 1 AND 15",
-        VERSION_0,
+        VERSION_1,
         OTHERWISE,
     ),
     (
         "day_from INTEGER",
         "day_from INTEGER NOT NULL",
-        VERSION_0,
+        VERSION_1,
         OTHERWISE,
     ),
     (
         "PRIMARY KEY (band, scope, rank)",
         "PRIMARY KEY (band, rank, scope)",
-        VERSION_0,
+        VERSION_1,
         OTHERWISE,
     ),
     (
         "digest BLOB NOT NULL PRIMARY KEY",
         "digest BLOB NOT NULL",
-        VERSION_0,
+        VERSION_1,
         OTHERWISE,
     ),
     (
         "CREATE TABLE checked",
+        "CREATE TABLE note",
+        VERSION_1,
+        OTHERWISE,
+    ),
+];
+
+/// The same, of the table of the files.
+const DECLARED_FOUND: &[Declared] = &[
+    ("units BLOB", "units TEXT", VERSION_1, OTHERWISE),
+    ("units BLOB NOT NULL", "units BLOB", VERSION_1, OTHERWISE),
+    (" CHECK (served BETWEEN 0 AND 1)", "", VERSION_1, OTHERWISE),
+    (
+        " CHECK (faults BETWEEN 0 AND 127)",
+        "",
+        VERSION_1,
+        OTHERWISE,
+    ),
+    (
+        "faults BETWEEN 0 AND 127",
+        "faults BETWEEN 0 AND 255",
+        VERSION_1,
+        OTHERWISE,
+    ),
+    (
+        "PRIMARY KEY (acc, slot)",
+        "PRIMARY KEY (slot, acc)",
+        VERSION_1,
+        OTHERWISE,
+    ),
+    (", PRIMARY KEY (acc, slot)", "", VERSION_1, OTHERWISE),
+    (
+        "last_len INTEGER NOT NULL",
+        "last_len INTEGER",
+        VERSION_1,
+        OTHERWISE,
+    ),
+    (
+        "size INTEGER",
+        "size INTEGER NOT NULL",
+        VERSION_1,
+        OTHERWISE,
+    ),
+    ("user_no", "user", VERSION_1, OTHERWISE),
+    (
         "CREATE TABLE found",
-        VERSION_0,
+        "CREATE TABLE note",
+        VERSION_1,
         OTHERWISE,
     ),
 ];
@@ -314,7 +363,8 @@ fn assert_declared(rt: &impl Abort, alloc: Global, cases: &[Declared]) -> Result
 #[test]
 fn tables_declared_otherwise_are_refused(rt: HostRuntime) -> Result<(), Fail> {
     assert_declared(&rt, rt.alloc(), DECLARED)?;
-    assert_declared(&rt, rt.alloc(), DECLARED_ON)
+    assert_declared(&rt, rt.alloc(), DECLARED_ON)?;
+    assert_declared(&rt, rt.alloc(), DECLARED_FOUND)
 }
 
 #[test]

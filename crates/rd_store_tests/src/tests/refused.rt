@@ -2,6 +2,7 @@
 //! answers `Sql` has changed nothing. It is made again, and must then answer as ever.
 
 use super::steps::{Call, DONE, Digest, Named, Question, Step, answer, assert_steps, tells_so};
+use super::told::HELLO;
 use super::{Desk, PROGRAM, STAFF, into_connection, new_connection, number, open_desk, put_check};
 use rd_geometry::NoMemory;
 use rd_policy::Audience;
@@ -86,12 +87,15 @@ const BARE: &[Step<'static>] = &[
     Step::Tells(Question::AudienceOf(Digest::Staff, Some(Audience::Staff))),
     Step::Tells(Question::Accessions(&[])),
     Step::Tells(Question::RulesFor(12, &[])),
+    Step::Tells(Question::Files(12, &[])),
+    Step::Tells(Question::FileAt(12, 0, None)),
 ];
 
 /// Tells that image 12 and no other stands.
 const IMAGE: &[Step<'static>] = &[
     Step::Tells(Question::Image(12, Some(PROGRAM))),
     Step::Tells(Question::Accessions(&[12])),
+    Step::Tells(Question::Files(12, &[HELLO])),
 ];
 
 #[test]
@@ -105,6 +109,21 @@ fn an_image_when_memory_is_refused(rt: HostRuntime) -> Result<(), Fail> {
         assert_again(&rt, alloc, &mut desk, &[PUT_IMAGE])?;
     }
     assert_again(&rt, alloc, &mut desk, IMAGE)
+}
+
+/// Puts an image, and asks for its files.
+const FILES: &[Step<'static>] = &[
+    PUT_IMAGE,
+    Step::Tells(Question::Files(12, &[HELLO])),
+    Step::Tells(Question::FileAt(12, 0, Some(HELLO))),
+    Step::Tells(Question::FileAt(12, 1, None)),
+    Step::Tells(Question::Files(13, &[])),
+];
+
+#[test]
+fn files_when_memory_is_refused(rt: HostRuntime) -> Result<(), Fail> {
+    let mut desk = desk_again(&rt, rt.alloc())?;
+    assert_again(&rt, rt.alloc(), &mut desk, FILES)
 }
 
 /// Puts an image, its rules and its takedown, and asks for them.
@@ -155,6 +174,7 @@ const SMALL: &[Step<'static>] = &[
     Step::Tells(Question::Image(12, Some(PROGRAM))),
     Step::Tells(Question::Accessions(&[12])),
     Step::Tells(Question::RulesFor(12, &[(Named::Takedown, 12), (Named::Open, 7)])),
+    Step::Tells(Question::Files(12, &[HELLO])),
 ];
 
 #[test]

@@ -1,14 +1,16 @@
 //! Calls of a store in tables: what is called, and what it has to answer.
 
+use super::told::{Told, are_told, is_told};
 use super::{
     ALL, DIGEST, Desk, NOT_STAFF, OTHER_DIGEST, ROOM, ROOM_ALONE, STAFF, filled, new_desk,
-    put_check, put_deed, put_rule,
+    put_check, put_deed, put_rule, shelved,
 };
 use rd_geometry::{Kind, NoMemory, Text};
 use rd_policy::{Audience, Band, Effect, Rule, Select, is_scope};
-use rd_rows::cbm::{looped, one_program};
-use rd_rows::cpm::hello;
-use rd_store::{DeedRow, ImageRow, Outcome, Store, StoreFault};
+use rd_rows::cbm::{crossed, formatted, full, looped, mixed, one_program};
+use rd_rows::cpm::{hello, scattered};
+use rd_store::{Accession, DeedRow, ImageRow, Outcome, Store, StoreFault};
+use rd_volume::Found;
 use sqlite::Alter;
 use std::alloc::Global;
 use std::process::Abort;
@@ -34,8 +36,18 @@ pub(super) enum Picture {
     Program,
     /// The 1541 image with a loop.
     Looped,
+    /// The 1541 image without files.
+    Formatted,
+    /// The 1541 image with three programs, of which two share a block.
+    Crossed,
+    /// The 1541 image with a relative file, a separator and a program that was never closed.
+    Mixed,
+    /// The 1541 image with a program of all blocks.
+    Full,
     /// The CP/M image with one file.
     Hello,
+    /// The CP/M image with a file of all blocks.
+    Scattered,
 }
 
 /// An image: its bytes, its deed and its digest.
@@ -87,11 +99,16 @@ pub(super) enum Call<'a> {
 pub(super) enum Question<'a> {
     Deed(u32, Option<(&'a str, i32)>),
     Image(u32, Option<Given>),
+    /// Of an accession: the kind and the deed.
+    Accession(u32, Option<Accession>),
     Accessions(&'a [u32]),
     AudienceOf(Digest, Option<Audience>),
     RulesFor(u32, &'a [Ruled]),
     /// Of an accession and a deed.
     RulesUnder(u32, u32, &'a [Ruled]),
+    Files(u32, &'a [Told]),
+    /// Of an accession and a slot.
+    FileAt(u32, u16, Option<Told>),
 }
 
 /// A call with its answer, or a question with what it has to tell.
@@ -123,14 +140,19 @@ fn bytes_of(alloc: Global, picture: Picture) -> Result<Vec<u8>, NoMemory> {
     match picture {
         Picture::Program => one_program(alloc),
         Picture::Looped => looped(alloc),
+        Picture::Formatted => formatted(alloc),
+        Picture::Crossed => crossed(alloc),
+        Picture::Mixed => mixed(alloc),
+        Picture::Full => full(alloc),
         Picture::Hello => hello(alloc),
+        Picture::Scattered => scattered(alloc),
     }
 }
 
 fn kind_of(picture: Picture) -> Kind {
     match picture {
-        Picture::Program | Picture::Looped => Kind::D64,
-        Picture::Hello => Kind::Cpm8,
+        Picture::Hello | Picture::Scattered => Kind::Cpm8,
+        _ => Kind::D64,
     }
 }
 
@@ -224,6 +246,7 @@ fn are_rules(alloc: Global, rules: &[Rule], wanted: &[Ruled]) -> Result<bool, No
 
 fn put_image<S: Alter>(
     rt: &impl Abort,
+    alloc: Global,
     desk: &mut Store<S>,
     acc: u32,
     kind: Kind,
@@ -233,7 +256,7 @@ fn put_image<S: Alter>(
 ) -> Result<(), StoreFault> {
     assert!(rt; is_scope(acc));
     assert!(rt; bytes.len() == kind.size());
-    desk.put_image(acc, kind, deed, digest, bytes)
+    desk.put_image(alloc, acc, kind, deed, digest, bytes)
 }
 
 fn drop_rule<S: Alter>(
@@ -268,7 +291,7 @@ fn put_given<S: Alter>(
     let bytes = bytes_of(alloc, picture)?;
     let kind = kind_of(picture);
     let digest = digest_of(digest);
-    let answer = put_image(rt, desk, acc, kind, deed, digest, bytes.as_slice());
+    let answer = put_image(rt, alloc, desk, acc, kind, deed, digest, bytes.as_slice());
     Ok(answer)
 }
 
@@ -349,6 +372,14 @@ fn has_image<S: Alter>(
     }
 }
 
+fn has_accession<S: Alter>(
+    desk: &mut Store<S>,
+    acc: u32,
+    wanted: Option<Accession>,
+) -> Result<bool, StoreFault> {
+    Ok(desk.accession(acc)? == wanted)
+}
+
 fn accessions<S: Alter>(alloc: Global, desk: &mut Store<S>) -> Result<Vec<u32>, StoreFault> {
     desk.accessions(alloc)
 }
@@ -405,6 +436,48 @@ fn has_rules(
     }
 }
 
+fn files<S: Alter>(alloc: Global, desk: &mut Store<S>, acc: u32) -> Result<Vec<Found>, StoreFault> {
+    desk.found(alloc, acc)
+}
+
+fn has_files<S: Alter>(
+    alloc: Global,
+    desk: &mut Store<S>,
+    acc: u32,
+    wanted: &[Told],
+) -> Result<bool, StoreFault> {
+    let found = files(alloc, desk, acc)?;
+    Ok(are_told(found.as_slice(), wanted))
+}
+
+fn file_at<S: Alter>(
+    alloc: Global,
+    desk: &mut Store<S>,
+    acc: u32,
+    slot: u16,
+) -> Result<Option<Found>, StoreFault> {
+    desk.found_at(alloc, acc, slot)
+}
+
+fn is_file(found: Option<&Found>, wanted: Option<&Told>) -> bool {
+    match (found, wanted) {
+        (Some(file), Some(told)) => is_told(file, told),
+        (None, None) => true,
+        _ => false,
+    }
+}
+
+fn has_file_at<S: Alter>(
+    alloc: Global,
+    desk: &mut Store<S>,
+    acc: u32,
+    slot: u16,
+    wanted: Option<Told>,
+) -> Result<bool, StoreFault> {
+    let found = file_at(alloc, desk, acc, slot)?;
+    Ok(is_file(found.as_ref(), wanted.as_ref()))
+}
+
 /// Whether a question tells what it has to.
 pub(super) fn tells_so<S: Alter>(
     alloc: Global,
@@ -414,12 +487,15 @@ pub(super) fn tells_so<S: Alter>(
     Ok(match question {
         Question::Deed(num, wanted) => has_deed(desk, num, wanted),
         Question::Image(acc, wanted) => has_image(alloc, desk, acc, wanted)?,
+        Question::Accession(acc, wanted) => has_accession(desk, acc, wanted),
         Question::Accessions(wanted) => has_accessions(alloc, desk, wanted),
         Question::AudienceOf(digest, wanted) => has_audience(desk, digest, wanted),
         Question::RulesFor(acc, wanted) => has_rules(alloc, rules_for(alloc, desk, acc), wanted)?,
         Question::RulesUnder(acc, deed, wanted) => {
             has_rules(alloc, rules_under(alloc, desk, acc, deed), wanted)?
         }
+        Question::Files(acc, wanted) => has_files(alloc, desk, acc, wanted),
+        Question::FileAt(acc, slot, wanted) => has_file_at(alloc, desk, acc, slot, wanted),
     })
 }
 
@@ -472,6 +548,8 @@ pub(super) enum Start {
     New,
     /// It has what `FILL` puts.
     Filled,
+    /// It has what `SHELVE` puts: three images.
+    Shelved,
 }
 
 /// A desk, and steps of it.
@@ -486,6 +564,7 @@ pub(super) fn started(rt: &impl Abort, alloc: Global, start: Start) -> Result<De
     match start {
         Start::New => new_desk(alloc),
         Start::Filled => filled(rt, alloc),
+        Start::Shelved => shelved(rt, alloc),
     }
 }
 

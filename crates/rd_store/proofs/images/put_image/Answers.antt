@@ -56,8 +56,8 @@ returns-then-eq-2-clause-changes g c =
     stays_changes g.S.Store old new stays laws c.requires.holds (with_image acc image (desk g.S.Store old)) (Ok tt) (λ o. kept_image (desk g.S.Store old) acc image (get (desk g.S.Store old).images acc) heading (found o))
     c.in_ok-heading.ensures.asks.ends_open
 
-pub returns-else-eq-clause-changes : goal.returns-else-eq-clause-changes
-returns-else-eq-clause-changes g c =
+pub returns-in-Some-clause-changes : goal.returns-in-Some-clause-changes
+returns-in-Some-clause-changes g c =
     let laws : Laws g.S.Store = record { settles = g.met.S.Store.settled; shuts = g.met.S.Store.shut_if_dirty } in
     let image : ImageRow = record { kind = c.args.kind; deed = c.args.deed; digest = c.args.digest.now; bytes = c.args.bytes.now } in
     let old = c.args.conn.now in
@@ -80,12 +80,21 @@ returns-in-Ok-clause-changes g c =
     let old = c.args.conn.now in
     let new = c.heading_at.new.conn in
     let stays : Stays g.S.Store old new = stays_then g.S.Store old c.deed.new.conn new c.deed.ensures.asks.stays c.in_ok-deed.ensures.asks.ends_open c.heading_at.ensures.asks.stays in
-    then_told g.S.Store old new c.insert_image.new.conn stays c.in_ok-heading.ensures.asks.ends_open (with_image c.args.acc image) c.insert_image.result (Ok tt) (ap is_ok c.in-Ok.is) c.insert_image.ensures.changes
+    then_told g.S.Store old new c.write_image.new.conn stays c.in_ok-heading.ensures.asks.ends_open (with_image c.args.acc image) c.write_image.result (Ok tt) (ap is_ok c.in-Ok.is) c.write_image.ensures.changes
 
-pub returns-in-Err-clause-changes : goal.returns-in-Err-clause-changes
-returns-in-Err-clause-changes g c =
+pub returns-clause-changes : goal.returns-clause-changes
+returns-clause-changes g c =
     let image : ImageRow = record { kind = c.args.kind; deed = c.args.deed; digest = c.args.digest.now; bytes = c.args.bytes.now } in
     let old = c.args.conn.now in
     let new = c.heading_at.new.conn in
     let stays : Stays g.S.Store old new = stays_then g.S.Store old c.deed.new.conn new c.deed.ensures.asks.stays c.in_ok-deed.ensures.asks.ends_open c.heading_at.ensures.asks.stays in
-    then_told g.S.Store old new c.insert_image.new.conn stays c.in_ok-heading.ensures.asks.ends_open (with_image c.args.acc image) c.insert_image.result (Err Sql) (ap is_ok c.in-Err.is) c.insert_image.ensures.changes
+    then_told g.S.Store old new c.write_image.new.conn stays c.in_ok-heading.ensures.asks.ends_open (with_image c.args.acc image) c.write_image.result (Err Sql) (ap is_ok c.in-Err.is) c.write_image.ensures.changes
+
+pub returns-in_err-files-in-None-clause-changes : goal.returns-in_err-files-in-None-clause-changes
+returns-in_err-files-in-None-clause-changes g c =
+    let laws : Laws g.S.Store = record { settles = g.met.S.Store.settled; shuts = g.met.S.Store.shut_if_dirty } in
+    let image : ImageRow = record { kind = c.args.kind; deed = c.args.deed; digest = c.args.digest.now; bytes = c.args.bytes.now } in
+    let old = c.args.conn.now in
+    let new = c.heading_at.new.conn in
+    let stays : Stays g.S.Store old new = stays_then g.S.Store old c.deed.new.conn new c.deed.ensures.asks.stays c.in_ok-deed.ensures.asks.ends_open c.heading_at.ensures.asks.stays in
+    refused g.S.Store old new stays laws c.requires.holds (with_image c.args.acc image (desk g.S.Store old)) c.from_residual-in_err-files-in-None.result c.from_residual-in_err-files-in-None.ensures.0

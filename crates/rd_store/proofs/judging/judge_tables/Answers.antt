@@ -21,7 +21,7 @@ returns-then-not-branch-clause-tests g c = record {
   refused = λ is_open.
       let old = state g.S.Store c.args.conn.now in
       let first = desk_first old.now.schema (state over_memory c.in_ok-sample.sample).now.schema c.in_ok-sample.ensures.schema (subst₂ SharesFirstTable c.schema.ensures.value c.schema-2.ensures.value (c.if-not-same_first_table.ensures refl)) in
-      let told = subst (λ said. MatchBool said (HasVersion 0 (old.now.trees 0)) (¬ HasVersion 0 (old.now.trees 0))) c.if-not-branch.true (c.in_ok-has_version.ensures.asks.answer is_open) in
+      let told = subst (λ said. MatchBool said (HasVersion 1 (old.now.trees 0)) (¬ HasVersion 1 (old.now.trees 0))) c.if-not-branch.true (c.in_ok-has_version.ensures.asks.answer is_open) in
       (c.requires.desk, first, told);
   ends_open = λ clean. tt;
   refuses = λ not_desk not_sql. c.in_ok-has_version.ensures.asks.ends_open;

@@ -1,9 +1,9 @@
-use Rattle.std.proofs.Common.{rules, sym, subst}
+use Rattle.std.proofs.Common.{rules, IfOk, Result, Ok, Err, sym, subst}
 use Rattle.sqlite.specs.Effect.{Database}
 use Rattle.sqlite.specs.Held.{state}
-use Rattle.rd_store.specs.Opened.{IsConsistent, LawfulGiven, LawfulOthers}
+use Rattle.rd_store.specs.Opened.{IsConsistent, LawfulFiles, LawfulGiven, LawfulOthers}
 use Rattle.rd_store.proofs.Laws.{stays_then}
-use Rattle.rd_store.proofs.Sequels.{denied_part, judged_err, judged_same, given_in, others_in, consistent}
+use Rattle.rd_store.proofs.Sequels.{denied_part, judged_err, judged_same, files_in, given_in, others_in, consistent}
 use Rattle.rd_store.proofs.opening.check_rows.Goals as goal
 
 pub returns-in_err-deeds-clause-tests : goal.returns-in_err-deeds-clause-tests
@@ -18,8 +18,8 @@ returns-in_err-deeds-clause-tests g c = record {
       (denied_part (LawfulGiven trees) (IsConsistent trees) c.in_err-deeds.field-0.0 (given_in trees) (c.in_err-deeds.ensures.tests.judges is_open));
 }
 
-pub returns-clause-tests : goal.returns-clause-tests
-returns-clause-tests g c = record {
+pub returns-in_err-check_others-clause-tests : goal.returns-in_err-check_others-clause-tests
+returns-in_err-check_others-clause-tests g c = record {
   stays = stays_then g.S.Store c.args.conn.now c.check_given.new.conn c.check_others.new.conn c.check_given.ensures.tests.stays c.in_ok-deeds.ensures.tests.ends_open c.check_others.ensures.tests.stays;
   ends_open = search rules;
   refuses = search rules;
@@ -32,10 +32,38 @@ returns-clause-tests g c = record {
       let deeds = c.in_ok-deeds.deeds.items in
       let accessions = c.in_ok-deeds.accessions.items in
       let are = c.in_ok-deeds.ensures.numbers was in
-      let asked = LawfulOthers c.deref.result.now c.deref-2.result.now middle in
-      let to = λ (others : asked). consistent trees deeds accessions are (c.requires.version (c.check_given.ensures.tests.stays.lasts.was_open was)) (c.in_ok-deeds.ensures.tests.judges was)
-      (subst (λ (db : Database). LawfulOthers accessions deeds db.trees) same (subst (λ l. LawfulOthers accessions l middle) c.deref-2.ensures.value (subst (λ l. LawfulOthers l c.deref-2.result.now middle) c.deref.ensures.value others))) in
       let from = λ (all : IsConsistent trees).
       subst (λ l. LawfulOthers l c.deref-2.result.now middle) (sym c.deref.ensures.value) (subst (λ l. LawfulOthers accessions l middle) (sym c.deref-2.ensures.value) (subst (λ (db : Database). LawfulOthers accessions deeds db.trees) (sym same) (others_in trees deeds accessions are all))) in
-      judged_same asked (IsConsistent trees) c.check_others.result to from (c.check_others.ensures.tests.judges is_open);
+      judged_err (IsConsistent trees) c.from_residual-in_err-check_others.result c.in_err-check_others.field-0.0 c.from_residual-in_err-check_others.ensures.1
+      (denied_part (LawfulOthers c.deref.result.now c.deref-2.result.now middle) (IsConsistent trees) c.in_err-check_others.field-0.0 from (c.in_err-check_others.ensures.tests.judges is_open));
 }
+
+pub returns-clause-tests : goal.returns-clause-tests
+returns-clause-tests g c =
+    let old = c.args.conn.now in
+    let first = c.check_given.new.conn in
+    let second = c.check_others.new.conn in
+    let last = c.check_index.new.conn in
+    let to_second = stays_then g.S.Store old first second c.check_given.ensures.tests.stays c.in_ok-deeds.ensures.tests.ends_open c.check_others.ensures.tests.stays in
+    record {
+      stays = stays_then g.S.Store old second last to_second c.in_ok-check_others.ensures.tests.ends_open c.check_index.ensures.tests.stays;
+      ends_open = search rules;
+      refuses = search rules;
+      named = search rules;
+      judges = λ is_open.
+          let then = c.check_index.ensures.tests.stays.lasts.was_open is_open in
+          let was = c.check_others.ensures.tests.stays.lasts.was_open then in
+          let same = c.check_given.ensures.tests.stays.now was in
+          let both = to_second.now then in
+          let trees = (state g.S.Store old).now.trees in
+          let middle = (state g.S.Store first).now.trees in
+          let late = (state g.S.Store second).now.trees in
+          let deeds = c.in_ok-deeds.deeds.items in
+          let accessions = c.in_ok-deeds.accessions.items in
+          let are = c.in_ok-deeds.ensures.numbers was in
+          let others = subst (λ (db : Database). LawfulOthers accessions deeds db.trees) same (subst (λ l. LawfulOthers accessions l middle) c.deref-2.ensures.value (subst (λ l. LawfulOthers l c.deref-2.result.now middle) c.deref.ensures.value (c.in_ok-check_others.ensures.tests.judges then))) in
+          let to = λ (files : LawfulFiles late). consistent trees deeds accessions are (c.requires.version (c.check_given.ensures.tests.stays.lasts.was_open was)) (c.in_ok-deeds.ensures.tests.judges was) others
+          (subst (λ (db : Database). LawfulFiles db.trees) both files) in
+          let from = λ (all : IsConsistent trees). subst (λ (db : Database). LawfulFiles db.trees) (sym both) (files_in trees all) in
+          judged_same (LawfulFiles late) (IsConsistent trees) c.check_index.result to from (c.check_index.ensures.tests.judges is_open);
+    }

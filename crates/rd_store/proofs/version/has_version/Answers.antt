@@ -13,6 +13,6 @@ returns g c = record {
     fault = search rules;
     answer = λ is_open.
         version_told c.is_version.result _ c.in_ok-rows.rows.items (c.in_ok-rows.ensures.asks.answer is_open)
-        (subst (λ rows. MatchBool c.is_version.result (map (λ row. column row 0) rows ≡ Int (pos 0) ∷ []) (¬ (map (λ row. column row 0) rows ≡ Int (pos 0) ∷ []))) c.deref.ensures.value c.is_version.ensures);
+        (subst (λ rows. MatchBool c.is_version.result (map (λ row. column row 0) rows ≡ Int (pos 1) ∷ []) (¬ (map (λ row. column row 0) rows ≡ Int (pos 1) ∷ []))) c.deref.ensures.value c.is_version.ensures);
   };
 }

@@ -1,0 +1,6 @@
+use Rattle.std.proofs.Common.{◌≡◌, take}
+use Rattle.rd_store.specs.Codes.{units_code}
+use Rattle.rd_store.proofs.codes.of_units.Given as goal
+
+abbrev pub invariant-loop-unit : goal.invariant-loop-unit
+invariant-loop-unit l = l.code.items ≡ units_code (take l.unit-index l.units)

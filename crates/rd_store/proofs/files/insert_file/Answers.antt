@@ -1,0 +1,10 @@
+use Rattle.std.proofs.Common.{◌≡◌, get_or, sym}
+use Rattle.rd_volume.specs.declared.found.Found.{Found}
+use Rattle.rd_store.proofs.Listings.{any_default}
+use Rattle.rd_store.proofs.files.insert_file.Goals as goal
+
+pub returns-in-Ok-clause-moves : goal.returns-in-Ok-clause-moves
+returns-in-Ok-clause-moves g c desk images =
+    let file : Found = c.index-files-at.result in
+    let this : get_or c.args.files.now c.args.at file ≡ file = sym c.index-files-at.is in
+    c.put_file.ensures.moves desk images c.args.files.now c.args.at c.requires.inside this c.requires.ascending

@@ -1,0 +1,34 @@
+use Rattle.std.proofs.Common.{◌≡◌, ◌⊎◌, inl, inr, ℕ, zero, suc, ◌+◌, ◌<◌, List, [], ◌∷◌, arith, length, refl, slice_index, subst, sym, take}
+use Rattle.sqlite.specs.Effect.{Database}
+use Rattle.sqlite.specs.Held.{state}
+use Rattle.sqlite_rules.specs.Lists.{Has}
+use Rattle.rd_store.specs.Opened.{HasFiles}
+use Rattle.rd_store.proofs.Laws.{stays_then}
+use Rattle.rd_store.proofs.filing.check_each.Goals as goal
+
+-- what is taken up to a place is taken before it, or stands there
+has_taken : (xs : List ℕ) (i n : ℕ) → i < length xs → Has (take (suc i) xs) n → Has (take i xs) n ⊎ (n ≡ slice_index xs i)
+has_taken [] i n low here = absurd (omega (arith, low))
+has_taken (x ∷ xs) zero n low (inl is) = inr is
+has_taken (x ∷ xs) zero n low (inr there) = absurd there
+has_taken (x ∷ xs) (suc i) n low (inl is) = inl (inl is)
+has_taken (x ∷ xs) (suc i) n low (inr there) = elim (has_taken xs i n (omega (arith, low)) there) [
+  | inl before ↦ inl (inr before)
+  | inr is ↦ inr is
+]
+
+pub loop-acc-preserved : goal.loop-acc-preserved
+loop-acc-preserved g c = (
+  stays_then g.S.Store c.args.conn.now c.loop-acc.conn c.check_files.new.conn c.loop-acc.invariant.0 c.loop-acc.invariant.1 c.check_files.ensures.tests.stays,
+  c.in_ok-check_files.ensures.tests.ends_open,
+  λ is_open acc here.
+      let accessions = c.args.accessions.now in
+      let at = c.loop-acc.acc-index in
+      let was = c.check_files.ensures.tests.stays.lasts.was_open is_open in
+      let next : at + 1 ≡ suc at = omega arith in
+      elim (has_taken accessions at acc c.loop-acc-test.true (subst (λ n. Has (take n accessions) acc) next here)) [
+        | inl before ↦ c.loop-acc.invariant.2 was acc before
+        | inr is ↦ subst (λ n. HasFiles n (state g.S.Store c.args.conn.now).now.trees) (sym is)
+            (subst (λ (db : Database). HasFiles (slice_index accessions at) db.trees) (c.loop-acc.invariant.0.now was) (c.in_ok-check_files.ensures.tests.judges is_open))
+      ],
+)

@@ -1,0 +1,253 @@
+//! The index of the files: what is told of each file of the images that stand.
+
+ghost use Rattle.std.specs.Prelude.{◌≡◌, ◌<◌, ◌+◌, ◌∷◌, [], AllPairs, IfOk, IfErr, Option, get_or, length, map, pos};
+ghost use Rattle.std.specs.FinMap.{get};
+ghost use Rattle.std.specs.Option.{option_to_list};
+ghost use Rattle.sqlite.specs.Held.{state};
+ghost use Rattle.sqlite.specs.Order.{column};
+ghost use Rattle.sqlite.specs.declared.types.Value.TheVariants.{Int};
+ghost use Rattle.sqlite_value.specs.Order.{bytes};
+ghost use Rattle.rd_volume.specs.declared.found.Found.{Found as FoundFile};
+ghost use Rattle.rd_tables.specs.Asked.{IsPicked};
+ghost use Rattle.rd_tables.specs.Queries.{files_query};
+ghost use Rattle.rd_tables.specs.Sheets.{natural};
+ghost use Rattle.rd_store.specs.Codes.{number_in, units_code, units_in};
+ghost use Rattle.rd_store.specs.Held.{Asks, HoldsDesk, HoldsTables, IsOfWith, Moves, desk};
+ghost use Rattle.rd_store.specs.Index.{AreFilesIn, IsFileIn, IsFiledTo};
+ghost use Rattle.rd_store.specs.Spelled.{file_in, file_shown, index_of};
+
+use crate::codes;
+use crate::decode::{class, number_at, some_number_at, text_at, units};
+use crate::faults::StoreFault;
+use crate::read::read_all;
+use rd_geometry::{Items, Text};
+use rd_volume::Found;
+use sqlite::types::{ToSql, ValueRef};
+use sqlite::{Alter, Connection, Error, ErrorCode, Row, Transaction, params};
+use std::alloc::Global;
+
+/// The rows of the index for an accession, by slot.
+pub(crate) fn file_rows<S: Alter>(
+    conn: &mut Connection<S>,
+    acc: u32,
+) -> Result<Vec<Row>, StoreFault>
+    requires tables { HoldsTables (state S.Store conn.old) }
+    ensures asks { Asks S.Store conn.old conn.new result StoreFault.Sql (λ rows.
+        IsPicked files_query (Int (pos acc) ∷ []) ((state S.Store conn.old).now.trees 9) rows.items) }
+{
+    let key = acc.to_sql();
+    read_all(
+        conn,
+        "SELECT slot, name, ty, user_no, served, size, faults, units, last_len FROM found WHERE acc = ?1 ORDER BY slot",
+        &[key],
+    )
+}
+
+/// The number below 65,536 in a column.
+fn small_at(row: &Row, at: usize) -> Result<u16, StoreFault>
+    ensures value { IfOk result (λ number. number ≡ natural (column row.now at)) }
+    ensures fault { IfErr result (λ fault. fault ≡ StoreFault.Sql) }
+{
+    u16::try_from(number_at(row, at)?).map_err(|_| StoreFault::Sql)
+}
+
+/// The number below 256 in a column.
+fn byte_at(row: &Row, at: usize) -> Result<u8, StoreFault>
+    ensures value { IfOk result (λ number. number ≡ natural (column row.now at)) }
+    ensures fault { IfErr result (λ fault. fault ≡ StoreFault.Sql) }
+{
+    u8::try_from(number_at(row, at)?).map_err(|_| StoreFault::Sql)
+}
+
+/// The user in a column that may be NULL.
+fn user_at(row: &Row, at: usize) -> Result<Option<u8>, StoreFault>
+    ensures value { IfOk result (λ user. user ≡ number_in (column row.now at)) }
+    ensures fault { IfErr result (λ fault. fault ≡ StoreFault.Sql) }
+{
+    match some_number_at(row, at)? {
+        Some(_) => Ok(Some(byte_at(row, at)?)),
+        None => Ok(None),
+    }
+}
+
+/// The units in a column.
+fn units_at(alloc: Global, row: &Row, at: usize) -> Result<Items<u16>, StoreFault>
+    ensures value { IfOk result (λ items. items ≡ units_in (bytes (column row.now at))) }
+    ensures fault { IfErr result (λ fault. fault ≡ StoreFault.Sql) }
+{
+    match row.get_ref(at) {
+        Ok(ValueRef::Blob(bytes)) => Ok(Items::of(units(alloc, bytes)?)),
+        _ => Err(StoreFault::Sql),
+    }
+}
+
+/// The file that a row shows.
+fn read_file(alloc: Global, row: &Row) -> Result<Found, StoreFault>
+    ensures file { IfOk result (λ file. file ≡ file_in row.now) }
+    ensures fault { IfErr result (λ fault. fault ≡ StoreFault.Sql) }
+{
+    let slot = small_at(row, 0)?;
+    let name = Text::of(text_at(row, 1)?);
+    let ty = Text::of(text_at(row, 2)?);
+    let user = user_at(row, 3)?;
+    let served_class = class(number_at(row, 4)?);
+    let size = some_number_at(row, 5)?;
+    let faults = byte_at(row, 6)?;
+    let units = units_at(alloc, row, 7)?;
+    let last_len = small_at(row, 8)?;
+    Ok(Found {
+        slot,
+        name,
+        ty,
+        user,
+        served_class,
+        size,
+        faults,
+        units,
+        last_len,
+    })
+}
+
+/// The files that rows show.
+fn read_files(alloc: Global, rows: &[Row]) -> Result<Vec<Found>, StoreFault>
+    ensures files { IfOk result (λ files. files.items ≡ map file_in rows.now) }
+    ensures fault { IfErr result (λ fault. fault ≡ StoreFault.Sql) }
+{
+    let mut files = Vec::new(alloc);
+    for row in rows {
+        let file = read_file(alloc, row)?;
+        if files.push(file).is_err() {
+            return Err(StoreFault::Sql);
+        }
+    }
+    Ok(files)
+}
+
+/// The files of the image of an accession, by slot, from the index; none where it is not there.
+pub(crate) fn found<S: Alter>(
+    alloc: Global,
+    conn: &mut Connection<S>,
+    acc: u32,
+) -> Result<Vec<Found>, StoreFault>
+    requires holds { HoldsDesk (state S.Store conn.old) }
+    ensures asks { Asks S.Store conn.old conn.new result StoreFault.Sql (λ files.
+        AreFilesIn (get (desk S.Store conn.old).images acc) files.items) }
+    ensures kept { HoldsDesk (state S.Store conn.new) }
+{
+    let rows = file_rows(conn, acc)?;
+    read_files(alloc, &rows)
+}
+
+/// The row of the index for a slot of an accession.
+fn slot_rows<S: Alter>(
+    conn: &mut Connection<S>,
+    acc: u32,
+    slot: u16,
+) -> Result<Vec<Row>, StoreFault>
+    requires holds { HoldsDesk (state S.Store conn.old) }
+    ensures asks { Asks S.Store conn.old conn.new result StoreFault.Sql (λ rows.
+        rows.items ≡ map file_shown (option_to_list (get (index_of (state S.Store conn.old).now.trees) (record { acc = acc; slot = slot })))) }
+    ensures kept { HoldsDesk (state S.Store conn.new) }
+{
+    let first = acc.to_sql();
+    let second = u32::from(slot).to_sql();
+    read_all(
+        conn,
+        "SELECT slot, name, ty, user_no, served, size, faults, units, last_len FROM found WHERE acc = ?1 AND slot = ?2",
+        &[first, second],
+    )
+}
+
+/// The file that the first of some rows shows, `None` where there are none.
+fn first_file(alloc: Global, rows: &[Row]) -> Result<Option<Found>, StoreFault>
+    ensures file { IfOk result (λ read. (found : Option FoundFile) → rows.now ≡ map file_shown (option_to_list found) → read ≡ found) }
+    ensures fault { IfErr result (λ fault. fault ≡ StoreFault.Sql) }
+{
+    match rows.first() {
+        Some(row) => Ok(Some(read_file(alloc, row)?)),
+        None => Ok(None),
+    }
+}
+
+/// The file at a slot of the image of an accession, from the index; `None` where there is none.
+pub(crate) fn found_at<S: Alter>(
+    alloc: Global,
+    conn: &mut Connection<S>,
+    acc: u32,
+    slot: u16,
+) -> Result<Option<Found>, StoreFault>
+    requires holds { HoldsDesk (state S.Store conn.old) }
+    ensures asks { Asks S.Store conn.old conn.new result StoreFault.Sql (IsFileIn (get (desk S.Store conn.old).images acc) slot) }
+    ensures kept { HoldsDesk (state S.Store conn.new) }
+{
+    let rows = slot_rows(conn, acc, slot)?;
+    first_file(alloc, &rows)
+}
+
+/// Puts a file into the index, inside a transaction: the next of its accession's files, whose units are
+/// spelled by these bytes.
+fn put_file<S: Alter>(
+    tx: &mut Transaction<'_, S>,
+    acc: u32,
+    file: &Found,
+    units: &[u8],
+) -> Result<usize, Error>
+    requires units { units.now ≡ units_code file.now.units }
+    ensures same_reference { tx.new.conn.ghost_name ≡ tx.old.conn.ghost_name }
+    ensures moves { (desk : _) (images : _) (files : _) (count : _) → count < length files → get_or files count file.now ≡ file.now
+        → AllPairs (λ f g. f.slot < g.slot) files → Moves S.Store tx.old.conn.now tx.new.conn.now
+        (IsOfWith desk (IsFiledTo images acc files count)) (IsOfWith desk (IsFiledTo images acc files (count + 1))) result }
+{
+    let slot = u32::from(file.slot);
+    let name = file.name.as_str();
+    let ty = file.ty.as_str();
+    let user = codes::of_user(file.user);
+    let class = codes::of_class(file.served_class);
+    let faults = u32::from(file.faults);
+    let last = u32::from(file.last_len);
+    tx.execute(
+        "INSERT INTO found (acc, slot, name, ty, user_no, served, size, faults, units, last_len) VALUES (?1, ?2, ?3, ?4, ?5, ?6, ?7, ?8, ?9, ?10)",
+        params![
+            acc, slot, name, ty, user, class, file.size, faults, units, last
+        ],
+    )
+}
+
+/// Puts one of an accession's files into the index, inside a transaction; those before it stand there.
+fn insert_file<S: Alter>(
+    alloc: Global,
+    tx: &mut Transaction<'_, S>,
+    acc: u32,
+    files: &[Found],
+    at: usize,
+) -> Result<usize, Error>
+    requires inside { at < length files.now }
+    requires ascending { AllPairs (λ f g. f.slot < g.slot) files.now }
+    ensures same_reference { tx.new.conn.ghost_name ≡ tx.old.conn.ghost_name }
+    ensures moves { (desk : _) (images : _) → Moves S.Store tx.old.conn.now tx.new.conn.now
+        (IsOfWith desk (IsFiledTo images acc files.now at)) (IsOfWith desk (IsFiledTo images acc files.now (at + 1))) result }
+{
+    let file = &files[at];
+    match codes::of_units(alloc, file.units.as_slice()) {
+        Ok(units) => put_file(tx, acc, file, &units),
+        Err(_) => Err(Error::SqliteFailure(ErrorCode::OutOfMemory)),
+    }
+}
+
+/// Puts an accession's files into the index, inside a transaction.
+pub(crate) fn insert_files<S: Alter>(
+    alloc: Global,
+    tx: &mut Transaction<'_, S>,
+    acc: u32,
+    files: &[Found],
+) -> Result<(), Error>
+    requires ascending { AllPairs (λ f g. f.slot < g.slot) files.now }
+    ensures same_reference { tx.new.conn.ghost_name ≡ tx.old.conn.ghost_name }
+    ensures moves { (desk : _) (images : _) → Moves S.Store tx.old.conn.now tx.new.conn.now
+        (IsOfWith desk (IsFiledTo images acc files.now 0)) (IsOfWith desk (IsFiledTo images acc files.now (length files.now))) result }
+{
+    for at in 0..files.len() {
+        insert_file(alloc, tx, acc, files, at)?;
+    }
+    Ok(())
+}

@@ -1,0 +1,141 @@
+//! Whether the index is that of the images, which are walked anew, one at a time.
+
+ghost use Rattle.std.specs.Prelude.{◌≡◌, IfOk, IfErr, MatchBool};
+ghost use Rattle.std.specs.List.Sorted.{IsNonDecreasing};
+ghost use Rattle.sqlite.specs.Held.{state};
+ghost use Rattle.rd_tables.specs.Sheets.{HaveRowids, Spells, map_of};
+ghost use Rattle.rd_store.specs.Cells.{IsContentsRow, IsFileRow, IsNameRow, ShowFiles};
+ghost use Rattle.rd_store.specs.Codes.{units_code};
+ghost use Rattle.rd_store.specs.Held.{HoldsTables, IsClean, IsOpen};
+ghost use Rattle.rd_store.specs.Opened.{AreFiledUnder, AreKeys, AreListed, HasFiles, HaveAccessions, HaveFiles, IsSoundAt, LawfulFiles, Tests, TestsPart};
+ghost use Rattle.rd_store.specs.Spelled.{image_sheet};
+
+use crate::cells::{has_bytes, has_just, has_or_null, has_text};
+use crate::codes;
+use crate::faults::OpenFault;
+use crate::files::file_rows;
+use crate::images::survey_at;
+use crate::opening::{Listing, read_listing};
+use crate::tested::are_filed;
+use rd_volume::Found;
+use sqlite::{Alter, Connection, Row};
+use std::alloc::Global;
+
+/// Whether a row shows where a file stands and what it is called.
+fn shows_name(row: &Row, file: &Found) -> bool
+    ensures { MatchBool result (IsNameRow file.now row.now) (¬ IsNameRow file.now row.now) }
+{
+    has_just(row, 0, u32::from(file.slot))
+        && has_text(row, 1, file.name.as_str())
+        && has_text(row, 2, file.ty.as_str())
+        && has_or_null(row, 3, codes::of_user(file.user))
+}
+
+/// Whether a row shows what else is told of a file, whose units are spelled by these bytes.
+fn shows_contents(row: &Row, file: &Found, units: &[u8]) -> bool
+    requires { units.now ≡ units_code file.now.units }
+    ensures { MatchBool result (IsContentsRow file.now row.now) (¬ IsContentsRow file.now row.now) }
+{
+    has_just(row, 4, codes::of_class(file.served_class))
+        && has_or_null(row, 5, file.size)
+        && has_just(row, 6, u32::from(file.faults))
+        && has_bytes(row, 7, units)
+        && has_just(row, 8, u32::from(file.last_len))
+}
+
+/// Whether a row shows a file.
+fn shows_file(alloc: Global, row: &Row, file: &Found) -> Result<bool, OpenFault>
+    ensures shows { IfOk result (λ shows. MatchBool shows (IsFileRow file.now row.now) (¬ IsFileRow file.now row.now)) }
+    ensures fault { IfErr result (λ fault. fault ≡ OpenFault.Sql) }
+{
+    match codes::of_units(alloc, file.units.as_slice()) {
+        Ok(units) => Ok(shows_name(row, file) && shows_contents(row, file, &units)),
+        Err(_) => Err(OpenFault::Sql),
+    }
+}
+
+/// Whether rows show files, one by one.
+fn show_files(alloc: Global, rows: &[Row], files: &[Found]) -> Result<bool, OpenFault>
+    ensures show { IfOk result (λ show. MatchBool show (ShowFiles files.now rows.now) (¬ ShowFiles files.now rows.now)) }
+    ensures fault { IfErr result (λ fault. fault ≡ OpenFault.Sql) }
+{
+    if rows.len() != files.len() {
+        return Ok(false);
+    }
+    for at in 0..files.len() {
+        if !shows_file(alloc, &rows[at], &files[at])? {
+            return Ok(false);
+        }
+    }
+    Ok(true)
+}
+
+/// Whether the rows of the index for an accession are those of the files of its image.
+fn check_files<S: Alter>(alloc: Global, conn: &mut Connection<S>, acc: u32) -> Result<(), OpenFault>
+    requires tables { HoldsTables (state S.Store conn.old) }
+    requires numbered { IsOpen S.Store conn.old → HaveAccessions (state S.Store conn.old).now.trees }
+    requires images { IsOpen S.Store conn.old → Spells image_sheet ((state S.Store conn.old).now.trees 2) }
+    ensures tests { TestsPart S.Store conn.old conn.new result (HasFiles acc) LawfulFiles }
+{
+    let Ok(files) = survey_at(alloc, conn, acc) else {
+        return Err(OpenFault::Sql);
+    };
+    let Ok(rows) = file_rows(conn, acc) else {
+        return Err(OpenFault::Sql);
+    };
+    if show_files(alloc, &rows, files.as_slice())? {
+        Ok(())
+    } else {
+        Err(OpenFault::Inconsistent)
+    }
+}
+
+/// Whether the rows of the index for each of these accessions are those of the files of its image.
+fn check_each<S: Alter>(
+    alloc: Global,
+    conn: &mut Connection<S>,
+    accessions: &[u32],
+) -> Result<(), OpenFault>
+    requires tables { HoldsTables (state S.Store conn.old) }
+    requires numbered { IsOpen S.Store conn.old → HaveAccessions (state S.Store conn.old).now.trees }
+    requires images { IsOpen S.Store conn.old → Spells image_sheet ((state S.Store conn.old).now.trees 2) }
+    requires awake { IsClean S.Store conn.old → IsOpen S.Store conn.old }
+    ensures tests { TestsPart S.Store conn.old conn.new result (HaveFiles accessions.now) LawfulFiles }
+{
+    for acc in accessions {
+        check_files(alloc, conn, *acc)?;
+    }
+    Ok(())
+}
+
+/// Whether each row of the index is for one of these accessions, which ascend.
+fn check_filed<S: Alter>(conn: &mut Connection<S>, accessions: &[u32]) -> Result<(), OpenFault>
+    requires tables { HoldsTables (state S.Store conn.old) }
+    requires accessions { IsNonDecreasing accessions.now }
+    ensures tests { Tests S.Store conn.old conn.new result (AreFiledUnder accessions.now) }
+    ensures listed { IsOpen S.Store conn.new → IfOk result (λ done. AreListed (state S.Store conn.old).now.trees) }
+{
+    let rows = read_listing(conn, Listing::Files)?;
+    if !are_filed(&rows, accessions) {
+        return Err(OpenFault::Inconsistent);
+    }
+    Ok(())
+}
+
+/// Whether the index is that of the images, whose accessions these are.
+pub(crate) fn check_index<S: Alter>(
+    alloc: Global,
+    conn: &mut Connection<S>,
+    accessions: &[u32],
+) -> Result<(), OpenFault>
+    requires tables { HoldsTables (state S.Store conn.old) }
+    requires accessions { IsNonDecreasing accessions.now }
+    requires images { IsOpen S.Store conn.old → Spells image_sheet ((state S.Store conn.old).now.trees 2) }
+    requires numbers { IsOpen S.Store conn.old → AreKeys (map_of image_sheet ((state S.Store conn.old).now.trees 2)) accessions.now }
+    requires sound { IsSoundAt (state S.Store conn.old) }
+    ensures tests { Tests S.Store conn.old conn.new result LawfulFiles }
+    ensures rowids { IsOpen S.Store conn.new → IfOk result (λ done. HaveRowids ((state S.Store conn.old).now.trees 9)) }
+{
+    check_filed(conn, accessions)?;
+    check_each(alloc, conn, accessions)
+}
