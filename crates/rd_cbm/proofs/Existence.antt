@@ -7,13 +7,15 @@ use Rattle.rd_cbm.specs.declared.chains.Link.{Link}
 use Rattle.rd_cbm.specs.declared.chains.Link.TheVariants.{Last, Next, Off}
 use Rattle.rd_cbm.specs.declared.chains.End.{End}
 use Rattle.rd_cbm.specs.declared.chains.End.TheVariants as end
-use Rattle.rd_cbm.specs.Walks.{Links, next_of, at, EndsBy, Loops, EndsOnce}
+use Rattle.rd_cbm.specs.Walks.{Links, next_of, at, EndsBy, Loops, EndsOnce, IsChain}
 use Rattle.rd_cbm.proofs.Marks.{IsAt, Leads, unmarked}
 use Rattle.rd_cbm.proofs.WalkLaws.{at-zero, over_later, one_way}
-use Rattle.rd_cbm.proofs.Steps.{noted_more, noted_reached, walk_on, loops, first_block, one_fewer}
+use Rattle.rd_cbm.proofs.Steps.{noted_more, noted_reached, walk_on, loops, first_block, one_fewer, chain_none, chain_stopped, chain_looped}
 
--- How a walk ends, and that it is over at place 683 unless it loops.
+-- The chain of a walk, how the walk ends, and that it is over at place 683 unless it loops.
 pub record HasEnd (link : Links) (s : Option ℕ) : Type 0 where
+  pub blocks : List ℕ
+  pub chain : IsChain link s blocks
   pub way : End
   pub holds : EndsBy link s way
   pub over : (at link s CBM_BLOCKS ≡ None) ⊎ (way ≡ end.Loop)
@@ -33,11 +35,15 @@ by_link : (link : Links) (s : Option ℕ) → StaysInside link → (block : ℕ)
     → ((next : ℕ) → IsAt link s next blocks marks → HasEnd link s) → (l : Link) → link block ≡ l → HasEnd link s
 unfolding StaysInside
 by_link link s stays block blocks marks w go_on (Last e) is = record {
+  blocks = blocks;
+  chain = chain_stopped link s block blocks marks (Last e) w is refl;
   way = end.Last e;
   holds = record { block = block; reached = noted_reached link s blocks marks block w.noted w.reached; last = is };
   over = inl (over_at_end link s block blocks marks (Last e) w is refl);
 }
 by_link link s stays block blocks marks w go_on Off is = record {
+  blocks = blocks;
+  chain = chain_stopped link s block blocks marks Off w is refl;
   way = end.Off;
   holds = inr (record { block = block; reached = noted_reached link s blocks marks block w.noted w.reached; off = is });
   over = inl (over_at_end link s block blocks marks Off w is refl);
@@ -48,13 +54,19 @@ set_or_clear : (b : Bool) → (b ≡ true) ⊎ (b ≡ false)
 set_or_clear true = inl refl
 set_or_clear false = inr refl
 
--- with fewer blocks left than fuel the walk from a block has an end
+-- with fewer blocks left than fuel the walk from a block has a chain and an end
 end_from : (link : Links) (s : Option ℕ) → StaysInside link → (fuel block : ℕ) (blocks : List ℕ) (marks : List Bool)
     → IsAt link s block blocks marks → unmarked marks < fuel → HasEnd link s
 end_from link s stays zero block blocks marks w less = absurd (omega arith)
 end_from link s stays (suc fuel) block blocks marks w less =
     elim (set_or_clear (slice_index_or marks block false)) [
-      | inl mark ↦ record { way = end.Loop; holds = loops link s block blocks marks w mark; over = inr refl }
+      | inl mark ↦ record {
+        blocks = blocks;
+        chain = chain_looped link s block blocks marks w mark;
+        way = end.Loop;
+        holds = loops link s block blocks marks w mark;
+        over = inr refl;
+      }
       | inr new ↦
           let low : block < length marks = omega (arith, w.on_disk, w.noted.whole) in
           let fewer : unmarked (set marks block true) + 1 ≡ unmarked marks = one_fewer marks block low new in
@@ -63,8 +75,15 @@ end_from link s stays (suc fuel) block blocks marks w less =
           (link block) refl
     ]
 
-has_end : (link : Links) (s : Option ℕ) → StaysInside link → IfSome s (λ n. n < CBM_BLOCKS) → HasEnd link s
-has_end link None stays low = record { way = end.Off; holds = inl refl; over = inl (over_later link None 0 CBM_BLOCKS (omega arith) (at-zero link None)) }
+-- each walk has a chain and an end
+pub has_end : (link : Links) (s : Option ℕ) → StaysInside link → IfSome s (λ n. n < CBM_BLOCKS) → HasEnd link s
+has_end link None stays low = record {
+  blocks = [];
+  chain = chain_none link None refl;
+  way = end.Off;
+  holds = inl refl;
+  over = inl (over_later link None 0 CBM_BLOCKS (omega arith) (at-zero link None));
+}
 has_end link (Some n) stays low = end_from link (Some n) stays 684 n [] (replicate CBM_BLOCKS false) (first_block link (Some n) n refl low) (lit< tt)
 
 pub ends_once : (link : Links) (s : Option ℕ) → StaysInside link → IfSome s (λ n. n < CBM_BLOCKS) → EndsOnce link s

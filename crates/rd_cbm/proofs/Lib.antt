@@ -1,6 +1,8 @@
 pub mod Marks
 pub mod WalkLaws
 pub mod OneChain
+pub mod AlikeWalks
+pub mod AlikeFiles
 pub mod Steps
 pub mod Existence
 pub mod Inside

@@ -7,3 +7,4 @@ pub mod SectorLemmas
 pub mod FaultLemmas
 pub mod ListingLemmas
 pub mod OneSectors
+pub mod AlikeDirectories

@@ -23,6 +23,7 @@ mod chains;
 mod cpm_files;
 mod entries;
 mod geometry;
+mod needed;
 mod refused;
 mod reports;
 mod sample;

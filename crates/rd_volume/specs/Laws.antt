@@ -48,7 +48,7 @@ record_on_disk image k r u sound is =
     let sector : u ≡ 8 * pointer_of (slot_of image is.entry) (r % 128 / 8) + r % 8 = is.sector in
     omega arith
 
-last_at_most : (sectors : List ℕ) → last_sector_length sectors ≤ CPM_UNIT_LENGTH
+pub last_at_most : (sectors : List ℕ) → last_sector_length sectors ≤ CPM_UNIT_LENGTH
 last_at_most [] = omega arith
 last_at_most (sector ∷ sectors) = omega arith
 

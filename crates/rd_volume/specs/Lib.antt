@@ -12,3 +12,11 @@ pub mod Tallies
 pub mod Reports
 pub mod Laws
 pub mod Told
+pub mod Parts
+pub mod Ranges
+pub mod AlikePieces
+pub mod Needed
+pub mod TellsAll
+pub mod AlikeCpm
+pub mod AlikeCbm
+pub mod NeededLaw

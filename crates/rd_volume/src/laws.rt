@@ -1,11 +1,14 @@
 //! Laws of what is told of an image, which no code calls. They hold of every list of bytes, whatever its
 //! length.
 
-ghost use Rattle.std.specs.Prelude.{◌≡◌, ◌↔◌, ℕ, List};
+ghost use Rattle.std.specs.Prelude.{◌≡◌, ◌+◌, ◌≤◌, ◌↔◌, ℕ, List, All, length, map};
+ghost use Rattle.rd_geometry.specs.Kinds.{size_of};
 ghost use Rattle.rd_geometry.specs.declared.kind.Kind.{Kind};
-ghost use Rattle.rd_volume.specs.Founds.{IsSoundFile};
+ghost use Rattle.rd_volume.specs.Founds.{Fits, IsSoundFile};
+ghost use Rattle.rd_volume.specs.Needed.{AgreesOnNeeded, TellTheSame};
+ghost use Rattle.rd_volume.specs.Parts.{bytes_of_part, parts_of};
 ghost use Rattle.rd_volume.specs.Reports.{IsSoundSlot};
-ghost use Rattle.rd_volume.specs.Volumes.{AreBytesOf, AreFounds, IsFound, IsSlotOfFile};
+ghost use Rattle.rd_volume.specs.Volumes.{AreBytesOf, AreFounds, IsFound, IsSlotOfFile, pieces_of};
 ghost use Rattle.rd_volume.specs.declared.found.Found.{Found};
 
 /// A law: a file that is told is at a file's slot, and it is sound exactly where the file there is.
@@ -28,4 +31,25 @@ pub fn each_image_has_one_survey()
 pub fn each_sound_file_has_one_content()
     ensures { (kind : Kind) (image : List ℕ) (slot : ℕ) (one other : List ℕ) → IsSoundSlot kind image slot
         → AreBytesOf kind image slot one → AreBytesOf kind image slot other → one ≡ other }
+{}
+
+/// A law: the pieces of a file that fits its image are slices of the image, one for each unit of the file.
+/// On a CP/M disk a slice begins where its unit does, on a 1541 disk two bytes later, behind the link. It
+/// has all bytes that follow in the unit, the last one only as many as the last unit holds of the file. In
+/// an image of the right size no slice reaches past the end.
+pub fn each_piece_is_a_slice_of_its_image()
+    ensures slices { (kind : Kind) (image : List ℕ) (found : Found) → Fits kind found
+        → pieces_of kind image found.units found.last_len
+        ≡ map (bytes_of_part image) (parts_of kind found.units found.last_len) }
+    ensures inside { (kind : Kind) (image : List ℕ) (found : Found) → length image ≡ size_of kind → Fits kind found
+        → All (λ part. part.start + part.count ≤ length image) (parts_of kind found.units found.last_len) }
+{}
+
+/// A law: the needed bytes of an image decide what is told of it. Whichever files are served: where an image
+/// of the same kind and length has these bytes too, the same bytes of both are needed, both have the same
+/// files, told alike in every field, the same of them are sound, and the served ones have the same bytes.
+/// So no other byte of an image shows in what is told.
+pub fn needed_bytes_decide_what_is_told()
+    ensures { (kind : Kind) (image other served : List ℕ)
+        → AgreesOnNeeded kind image other served → TellTheSame kind image other served }
 {}

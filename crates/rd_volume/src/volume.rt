@@ -1,7 +1,8 @@
-ghost use Rattle.std.specs.Prelude.{◌≡◌, ◌<◌, List, [], AllPairs, IfOk, Some, length, slice_index_or};
+ghost use Rattle.std.specs.Prelude.{◌≡◌, ◌<◌, ℕ, List, [], AllPairs, IfOk, Some, length, slice_index_or};
 ghost use Rattle.rd_geometry.specs.declared.kind.Kind.{Kind};
 ghost use Rattle.rd_geometry.specs.declared.kind.Kind.TheVariants.{Cpm8, D64};
 ghost use Rattle.rd_volume.specs.Founds.{Fits, IsSoundFile};
+ghost use Rattle.rd_volume.specs.Needed.{AgreesOnNeeded, TellTheSame};
 ghost use Rattle.rd_volume.specs.Reports.{IsReport};
 ghost use Rattle.rd_volume.specs.Volumes.{AreFounds, IsFound, contents_of, pieces_of};
 ghost use Rattle.rd_volume.specs.declared.found.Found.{Found};
@@ -47,6 +48,12 @@ pub trait Volume<'a>: Geometry<'a> {
     ghost total: { (disk : Self) (found : Found)
         → IsFound (volume_kind disk) (Self.image_bytes disk) found → IsSoundFile found
         → found.size ≡ Some (length (contents_of (volume_kind disk) (Self.image_bytes disk) found)) };
+
+    /// An image that agrees with that of the disk on the needed bytes tells the same, whatever its other
+    /// bytes are, and whichever files are served.
+    ghost hidden: { (disk : Self) (image served : List ℕ)
+        → AgreesOnNeeded (volume_kind disk) image (Self.image_bytes disk) served
+        → TellTheSame (volume_kind disk) image (Self.image_bytes disk) served };
 }
 
 impl<'a> Volume<'a> for CpmDisk<'a> {
@@ -80,6 +87,10 @@ impl<'a> Volume<'a> for CpmDisk<'a> {
     ghost fitting = { λ disk. cpm_fits (cpm_bytes disk) };
 
     ghost total = { λ disk. cpm_total (cpm_bytes disk) };
+
+    ghost use Rattle.rd_volume.specs.NeededLaw.{tell_the_same};
+
+    ghost hidden = { λ disk image served. tell_the_same Cpm8 image (cpm_bytes disk) served };
 }
 
 impl<'a> Volume<'a> for CbmDisk<'a> {
@@ -113,4 +124,8 @@ impl<'a> Volume<'a> for CbmDisk<'a> {
     ghost fitting = { λ disk. cbm_fits (cbm_bytes disk) };
 
     ghost total = { λ disk. cbm_total (cbm_bytes disk) };
+
+    ghost use Rattle.rd_volume.specs.NeededLaw.{tell_the_same};
+
+    ghost hidden = { λ disk image served. tell_the_same D64 image (cbm_bytes disk) served };
 }

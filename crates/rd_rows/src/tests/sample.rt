@@ -39,12 +39,15 @@ pub(super) struct Sample {
     pub(super) entries: &'static [(u16, u8, NewCbmEntry<'static>)],
     /// Bytes that are then written into it, each from the beginning of a block of a 1541 disk on.
     pub(super) blocks: &'static [(u16, &'static [u8])],
+    /// Bytes that are last written into it, each from a place on.
+    pub(super) bytes: &'static [(usize, &'static [u8])],
 }
 
 pub(super) const BLANK: Sample = Sample {
     base: Base::Blank,
     entries: &[],
     blocks: &[],
+    bytes: &[],
 };
 
 pub(super) const CPM_00: Sample = like!(Sample, BLANK, base: Base::Filled(0));
@@ -178,11 +181,19 @@ fn put_blocks(image: &mut [u8], blocks: &[(u16, &[u8])]) {
     }
 }
 
+/// Writes bytes into an image, each from a place on.
+fn put_bytes(image: &mut [u8], bytes: &[(usize, &[u8])]) {
+    for (place, bytes) in bytes {
+        put(image, *place, *bytes);
+    }
+}
+
 /// The bytes of an image.
 pub(super) fn image_of(alloc: Global, sample: &Sample) -> Result<Vec<u8>, NoMemory> {
     let mut image = base_of(alloc, sample.base)?;
     put_entries(&mut image, sample.entries);
     put_blocks(&mut image, sample.blocks);
+    put_bytes(&mut image, sample.bytes);
     Ok(image)
 }
 

@@ -16,7 +16,7 @@ use std::alloc::Global;
 
 /// The bytes of a sound file.
 #[derive(Clone, Copy)]
-enum Contents {
+pub(super) enum Contents {
     /// The file is not sound, and none are given.
     None,
     /// These, joined.
@@ -31,21 +31,21 @@ enum Contents {
 #[derive(Clone, Copy)]
 pub(super) struct Told {
     /// How many files are told so, and the slot of the first.
-    count: usize,
-    slot: u16,
-    user: Option<u8>,
-    ty: &'static [u8],
-    name: &'static [u8],
-    served: bool,
-    faults: u8,
-    size: Option<u32>,
-    units: Runs,
-    last_len: u16,
-    contents: Contents,
+    pub(super) count: usize,
+    pub(super) slot: u16,
+    pub(super) user: Option<u8>,
+    pub(super) ty: &'static [u8],
+    pub(super) name: &'static [u8],
+    pub(super) served: bool,
+    pub(super) faults: u8,
+    pub(super) size: Option<u32>,
+    pub(super) units: Runs,
+    pub(super) last_len: u16,
+    pub(super) contents: Contents,
 }
 
 /// What is told of the file `FILE` of a CP/M disk, where it is not sound.
-const CPM_FILE: Told = Told {
+pub(super) const CPM_FILE: Told = Told {
     count: 1,
     slot: 0,
     user: Some(0),
@@ -62,7 +62,7 @@ const CPM_FILE: Told = Told {
 /// What is told of it, where it is sound and has no records.
 const EMPTY: Told = like!(Told, CPM_FILE, size: Some(0), contents: Contents::Joined(&[]));
 
-const HELLO_TXT: Told =
+pub(super) const HELLO_TXT: Told =
     like!(Told, CPM_FILE, ty: b"TXT", name: b"HELLO.TXT", size: Some(128), units: &[(16, 1)], last_len: 128, contents: Contents::Joined(&[b"HELLO FROM CP/M\r\n", &[0x1a; 111]]));
 
 /// An entry of one record, in block 2.
@@ -118,7 +118,7 @@ fn cpm_files_are_surveyed(rt: HostRuntime) {
 }
 
 /// What is told of the program `FILE` of a 1541 disk, where it is not sound.
-const CBM_FILE: Told = like!(Told, CPM_FILE, user: None, ty: b"PRG");
+pub(super) const CBM_FILE: Told = like!(Told, CPM_FILE, user: None, ty: b"PRG");
 
 /// What is told of the one program `HELLO`.
 pub(super) const HELLO_TOLD: Told =
