@@ -12,6 +12,7 @@ pub mod OneAnswer
 pub mod Stepping
 pub mod Telling
 pub mod Responding
+pub mod Hiding
 pub mod Serving
 pub mod Checking
 pub mod OneReport

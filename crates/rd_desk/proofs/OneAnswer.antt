@@ -43,7 +43,7 @@ use Rattle.rd_desk.proofs.Telling.{told_bytes, told_catalogue, told_check, told_
 
 -- ---- the file that is asked for
 
-abbrev named : Option (ℕ × ℕ) → ℕ × ℕ
+abbrev pub named : Option (ℕ × ℕ) → ℕ × ℕ
 named None = (0, 0)
 named (Some at) = at
 
@@ -162,7 +162,7 @@ module _ (desk : Desk) (day : ℤ) (badge : Option (List ℕ)) where
       sound = elim (cases_eq judged.file.faults 0) [ inl none ↦ none | inr some ↦ absurd (accepted (Faulty judged.kind judged.file.faults) (some, refl, refl)) ];
     }
 
-    sound_slot : (judged : JudgedFile) (image : ImageRow) → IsJudgedFile desk day asking judged → IsAccepted desk asking (Some judged)
+    pub sound_slot : (judged : JudgedFile) (image : ImageRow) → IsJudgedFile desk day asking judged → IsAccepted desk asking (Some judged)
         → get desk.images acc ≡ Some image → IsSoundSlot image.kind image.bytes slot
     sound_slot judged image is accepted standing =
         let at : named (Some (acc, slot)) ≡ named (Some (is.accession, judged.file.slot)) = ap named is.asked in

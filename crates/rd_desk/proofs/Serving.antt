@@ -19,6 +19,7 @@ use Rattle.rd_desk.specs.declared.said.Reply.{Reply}
 use Rattle.rd_desk.specs.declared.said.Said.{Said}
 use Rattle.rd_desk.specs.declared.said.Said.TheVariants as said
 use Rattle.rd_desk.proofs.Again.{same_again}
+use Rattle.rd_desk.proofs.Hiding.{hides}
 
 pub is_for_staff : (what : What) → IsForStaff what ⊎ (IsForStaff what → ⊥)
 is_for_staff Images = inr (λ h. h)
@@ -89,4 +90,5 @@ module _ {S : Type 0} (g : Ghosts S) (old new : Held S) (day : ℤ) (request : R
     staffed = λ o. (rests.lawful o).staff;
     again = λ o told command key.
         answered_again (desk g old) day request reply (desk g new) (replied (desk g old) day request result reply (desk g new) written (responds.judged o)) told command key;
+    hides = λ o. hides (desk g old) day request reply (desk g new) (replied (desk g old) day request result reply (desk g new) written (responds.judged o));
   }

@@ -5,6 +5,7 @@ use Rattle.sqlite.specs.Held.{Held}
 use Rattle.rd_store.specs.Held.{IsClean, IsOpen, Lasts, LeavesOnly, desk}
 use Rattle.rd_store.specs.State.{IsStaff}
 use Rattle.rd_desk.specs.Calls.{LeavesStep}
+use Rattle.rd_desk.specs.Hidden.{HidesTheRest}
 use Rattle.rd_desk.specs.Judged.{audience_of}
 use Rattle.rd_desk.specs.Replies.{Answers, IsReply}
 use Rattle.rd_desk.specs.Requests.{IsForStaff}
@@ -25,7 +26,8 @@ pub record IsTurnedAway {S : Type 0} (old new : Held S) (request : Request) (rep
 -- anything but the desk as it now is, the staff has a key, and what is for the staff and left its caller's
 -- key as it was has the same reply once more. Where all that was written came back from the disk, the connection is
 -- open after any reply but that of unavailability, unless the caller was turned away and the store not used; and
--- if it was open before the call, a crash leaves the old desk or that of the step.
+-- if it was open before the call, a crash leaves the old desk or that of the step. The reply to a question rests on
+-- nothing that is hidden from its caller.
 pub record Serves {S : Type 0} (g : Ghosts S) (old new : Held S) (day : ℤ) (request : Request) (reply : Reply) : Type 0 where
   pub lasts : Lasts g old new
   pub answers : IsOpen g new → Answers (desk g old) day request reply (desk g new)
@@ -36,3 +38,4 @@ pub record Serves {S : Type 0} (g : Ghosts S) (old new : Held S) (day : ℤ) (re
   pub again : IsOpen g new → reply ≢ UNAVAILABLE → IsForStaff request.what
       → audience_of (desk g new) request.badge ≡ audience_of (desk g old) request.badge
       → IsReply (desk g new) day request reply (desk g new)
+  pub hides : IsOpen g new → HidesTheRest (desk g old) day request reply

@@ -1,5 +1,6 @@
 //! Laws of requests and replies, which no code calls.
 
+ghost use Rattle.rd_desk.specs.Hidden.{HiddenBytesAreNotTold};
 ghost use Rattle.rd_desk.specs.Laws.{AnswersStep, OneReply, SameAgain};
 
 /// Law: a request on a day has at most one reply, and with it one desk that it leaves.
@@ -17,4 +18,11 @@ pub fn answers_step()
 /// caller's own key is what it changed.
 pub fn same_again()
     ensures { SameAgain }
+{}
+
+/// Law: what is replied to a question is replied in each desk that looks alike to its caller: with the same keys and rules,
+/// and at the same accessions images of the same kinds and deeds that agree on the bytes needed to tell their files and
+/// to serve those that he may read. So no other byte of an image reaches him.
+pub fn hidden_bytes_are_not_told()
+    ensures { HiddenBytesAreNotTold }
 {}

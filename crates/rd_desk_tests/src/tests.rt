@@ -15,6 +15,7 @@ mod cases;
 mod catalogue;
 mod checks;
 mod done;
+mod hidden;
 mod images;
 mod limits;
 mod refusals;

@@ -1,6 +1,7 @@
 pub mod OneAsked
 pub mod ReadLemmas
 pub mod RunLemmas
+pub mod Hiding
 pub mod FramingLemmas
 pub mod HeadLemmas
 pub mod TakenLemmas

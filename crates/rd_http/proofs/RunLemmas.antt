@@ -304,7 +304,7 @@ module _ {S : Type 0} (g : Ghosts S) (minutes : ℤ) where
   was_open stream old new day text (inr wanting) is_open = subst (IsOpen g) wanting.same is_open
 
   -- what is answered over an open store is the reply of the desk that it holds
-  replied : (stream : List ℕ) (old new : Held S) (day : ℤ) (text : List ℕ) → IsAnswer g stream old new day text → IsOpen g new
+  pub replied : (stream : List ℕ) (old new : Held S) (day : ℤ) (text : List ℕ) → IsAnswer g stream old new day text → IsOpen g new
       → IsReplied stream (desk g old) (desk g new) day text
   replied stream old new day text (inl (request asked, is, (reply, serves, told))) is_open = elim (serves.answers is_open) [
     | inl answered ↦ inl (request asked, is, (reply, answered, told))

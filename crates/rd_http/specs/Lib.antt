@@ -2,6 +2,7 @@ pub mod Told
 pub mod Faults
 pub mod Asked
 pub mod Visits
+pub mod Hidden
 pub mod Readings
 pub mod Runs
 pub mod Fields

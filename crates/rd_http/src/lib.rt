@@ -22,7 +22,7 @@ mod visit;
 mod wire;
 mod write;
 
-pub use laws::one_asked;
+pub use laws::{hidden_bytes_reach_no_visitor, one_asked};
 pub use memory::{MemoryDoor, MemoryVisit, MemoryWire, memory_reads};
 pub use serve::{Ended, Served, serve_in_memory, serve_many};
 pub use tcp::{Clock, TcpDoor, TcpWire};

@@ -2,7 +2,8 @@
 
 ghost use Rattle.std.specs.Prelude.{◌≡◌, ◌≢◌, ◌↔◌, ◌≤◌, ℕ, List, Option, Err, true, false, IfSome, IfOk, IsErr, length};
 ghost use Rattle.rd_policy.specs.Days.{HasDay, day_number};
-ghost use Rattle.rd_store.specs.Held.{Lasts};
+ghost use Rattle.rd_store.specs.Held.{IsOpen, Lasts, desk as tables};
+ghost use Rattle.rd_http.specs.Hidden.{HidesFromVisitor};
 ghost use Rattle.rd_http.specs.Readings.{Fits, IsReading, text_of};
 ghost use Rattle.rd_http.specs.Sent.{Sends};
 ghost use Rattle.rd_http.specs.Taken.{TakesUpTo};
@@ -74,7 +75,7 @@ fn send<W: Wire>(wire: &mut W, answer: Answer) -> Result<(), Broken>
 /// Serves one visit at a moment, in seconds since 1970-01-01T00:00:00 UTC: reads one request, and no byte
 /// beyond what a head and a body may have (270,336), has the desk answer it, and writes the reply. Where the
 /// bytes are no request, the reply says why; where memory is wanting or the store fails, that the desk is
-/// unavailable.
+/// unavailable. What goes to who asks a question rests on no byte of an image that is hidden from him (`hidden`).
 ///
 /// It fails with `Clock` exactly where the moment has no day; with `Read` exactly where a read failed, and
 /// with `Write` exactly where a write failed or took no byte. After a fault no read or write is made.
@@ -88,6 +89,10 @@ pub fn serve_one<S: Alter, W: Wire>(
     requires put_ready { W.put_failed wire.old ≡ false }
     ensures served { IfSome (W.incoming wire.old) (λ stream.
         Visits (IsAnswer S.Store stream desk.old.store desk.new.store (day_number seconds desk.old.offset_minutes))
+        desk.old.store desk.new.store (W.outgoing wire.old) (W.outgoing wire.new) result) }
+    ensures hidden { IfSome (W.incoming wire.old) (λ stream.
+        Visits (λ text. IsOpen S.Store desk.new.store
+        → HidesFromVisitor stream (tables S.Store desk.old.store) (day_number seconds desk.old.offset_minutes) text)
         desk.old.store desk.new.store (W.outgoing wire.old) (W.outgoing wire.new) result) }
     ensures clock { (result ≢ Err WireFault.Clock) ↔ HasDay seconds desk.old.offset_minutes }
     ensures read { (result ≡ Err WireFault.Read) ↔ (W.take_failed wire.new ≡ true) }

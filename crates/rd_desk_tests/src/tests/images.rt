@@ -124,7 +124,7 @@ const DOTTED: &[NewEntry<'static>] = &[
     like!(NewEntry, FILE, user: 3, name: b"A", extension: b"B"),
 ];
 
-fn put_patches(image: &mut [u8], patches: &[(usize, &[u8])]) {
+pub(super) fn put_patches(image: &mut [u8], patches: &[(usize, &[u8])]) {
     for (place, bytes) in patches {
         put(image, *place, *bytes);
     }
