@@ -1,0 +1,366 @@
+#!/usr/bin/env python3
+"""scripts/behind-nginx.py [PROGRAM]: visits a desk from outside, through the real nginx as operate/ configures it.
+
+It wants Python 3 with its standard library alone, Linux, and Debian's nginx, openssl and sqlite3, which it installs
+where it runs as root and they are missing. PROGRAM is ./desk of this repository where none is named.
+
+What clients ask of the desk in scripts/as-a-client-sees-it.py is asked again: each GET through nginx, and status, body
+and fields have to be those that the desk gives; each other request through nginx too, which has to answer 403, and then
+of the desk itself, as the staff does on the machine, so that the next cases find what it did. After that come the
+limits, visitors who send or take a byte a second, and a desk that is down. Each group comes from an address of its own,
+so that none uses up what nginx allows another."""
+
+import contextlib
+import http.client
+import re
+import socket
+import ssl
+import subprocess
+import sys
+import threading
+import time
+
+import reading_room
+
+from client_cases import (
+    ALL, EVERY, HOST, KEYS, LONG, LONG_FILE, NO_ROUTES, NOBODY, OTHER_METHODS, QUESTION, READ_BACK, RECORD, REFUSALS,
+    ROUTES, RULES, SAMPLES, STAFF, Asked, badge, bytes_of, drop, get, head, put, put_image, put_rule, with_fields,
+)
+from reading_room import fields_of
+
+# Paths that the configuration hands on to the desk.
+HANDED_ON = re.compile(r"/(images|accessions|deeds|badges|catalogue)(/|\?|$)")
+# What nginx adds to every reply, also to one of its own.
+ADDED = {
+    "Strict-Transport-Security": "max-age=31536000",
+    "X-Content-Type-Options": "nosniff",
+    "Referrer-Policy": "no-referrer",
+    "Cache-Control": "no-store",
+    "Cross-Origin-Resource-Policy": "same-origin",
+    "Cross-Origin-Opener-Policy": "same-origin",
+}
+# In what time a visitor is answered while others are slow, in seconds, and for how long they are slow.
+SOON = 3
+SLOW = 22
+# The configuration's own numbers: requests of an address in a second and beyond that, and its connections.
+RATE, BURST, CONNECTIONS = 20, 60, 20
+
+
+def parsed(reply):
+    """The status, body and fields of the bytes of a reply."""
+    lines, _, body = reply.partition(b"\r\n\r\n")
+    first, *fields = lines.decode().split("\r\n")
+    return int(first.split()[1]), body, dict(field.split(": ", 1) for field in fields)
+
+
+def ask(room, asked, address):
+    """The same of what comes through nginx."""
+    with contextlib.closing(room.visitor(address)) as connection:
+        connection.request(asked.method, asked.path, asked.body, fields_of(asked))
+        reply = connection.getresponse()
+        return reply.status, reply.read(), dict(reply.getheaders())
+
+
+def see_reply(seen, label, wanted, came):
+    """A reply has the status, the body and the fields of the desk's own, and what nginx adds."""
+    status, body, fields = parsed(wanted)
+    seen.same(f"{label}: status and body", (status, body), came[:2])
+    names = ("Content-Type", "WWW-Authenticate", "Allow")
+    seen.same(f"{label}: fields", [fields.get(name) for name in names], [came[2].get(name) for name in names])
+    see_added(seen, label, came[2])
+
+
+def see_added(seen, label, fields):
+    seen.same(f"{label}: what nginx adds", ADDED, {name: fields.get(name) for name in ADDED})
+    policy = fields.get("Content-Security-Policy", "")
+    strict = "default-src 'none'" in policy and "unsafe" not in policy and "*" not in policy
+    seen.same(f"{label}: the policy is strict", True, strict)
+
+
+def see_question(seen, room, label, asked, wanted, address):
+    came = ask(room, asked, address)
+    if HANDED_ON.match(asked.path):
+        see_reply(seen, label, wanted, came)
+    else:
+        seen.same(f"{label}: nginx has no such file", 200 if asked.path == "/" else 404, came[0])
+
+
+def see_command(seen, room, label, asked, wanted, address):
+    """nginx refuses a command, also one whose method is in small letters, and the desk itself takes it."""
+    status, body, fields = ask(room, asked, address)
+    refused = 403 if asked.method.isupper() else 400
+    seen.same(f"{label}: refused from outside", (refused, True), (status, body.startswith(b"<html>")))
+    seen.same(f"{label}: on the machine", parsed(wanted)[:2], room.ask_desk(asked))
+
+
+def see_cases(seen, room, name, cases, address):
+    """Cases come slower than nginx's rate."""
+    for label, asked, wanted in cases:
+        see = see_question if asked.method == "GET" else see_command
+        see(seen, room, f"{name}: {label}", asked, wanted, address)
+        time.sleep(1 / RATE)
+
+
+def see_routes(seen, room):
+    groups = [
+        ("what was filled", READ_BACK), ("routes", ROUTES), ("other methods", OTHER_METHODS), ("no routes", NO_ROUTES),
+        ("refusals", REFUSALS), ("rules", RULES), ("keys", KEYS), ("long files", LONG),
+    ]
+    for number, (name, cases) in enumerate(groups):
+        see_cases(seen, room, name, cases, f"127.0.1.{number + 1}")
+
+
+# Files of places, what is done to the good one of them, and what `configure` tells.
+BAD_PLACES = [
+    ("a place less", lambda text: text.replace("SITE=", "#SITE="), "configure: no place SITE\n"),
+    ("a value with a blank", lambda text: text + "WEB=/a b\n", "configure: not a place: WEB=/a b\n"),
+    ("a value that ends a line of nginx", lambda text: text + "WEB=/a;\n", "configure: not a place: WEB=/a;\n"),
+    ("no value", lambda text: text + "WEB=\n", "configure: not a place: WEB=\n"),
+]
+
+
+def see_places(seen, room):
+    """Nothing is written where the places are not well."""
+    folder = room.folder / "places-of-others"
+    folder.mkdir()
+    good = (room.folder / "places").read_text()
+    for label, change, told in BAD_PLACES:
+        (room.folder / "bad").write_text(change(good))
+        seen.same(f"places: {label}", (1, told), configured(room.folder / "bad", folder))
+    seen.same("places: no such file", 1, configured(room.folder / "none", folder)[0])
+    seen.same("places: nothing is written", [], list(folder.iterdir()))
+    seen.same("places: no such folder", 1, configured(room.folder / "places", room.folder / "none")[0])
+    seen.same("places: good ones", (0, ""), configured(room.folder / "places", folder))
+    seen.same("places: what is written", ["desk.service", "nginx.conf"], sorted(path.name for path in folder.iterdir()))
+
+
+def configured(places, folder):
+    """The status of `configure`, and what it tells."""
+    words = [reading_room.CONFIGURE, str(places), str(folder)]
+    ran = subprocess.run(words, capture_output=True, text=True)
+    return ran.returncode, ran.stderr
+
+
+def see_page(seen, room):
+    kinds = {"index.html": "text/html; charset=utf-8", "room.css": "text/css; charset=utf-8"}
+    for name, kind in {**kinds, "room.js": "text/javascript; charset=utf-8"}.items():
+        status, body, fields = ask(room, get(f"/{name}"), "127.0.2.1")
+        seen.same(f"the page's {name}", (200, bytes_of("web", name), kind), (status, body, fields.get("Content-Type")))
+        see_added(seen, f"the page's {name}", fields)
+    seen.same("the page at /", bytes_of("web", "index.html"), ask(room, get("/"), "127.0.2.1")[1])
+    for path in ("/../museum.sqlite", "/%2e%2e/museum.sqlite", "/museum.sqlite", "/.git/config", "/web/room.js"):
+        seen.same(f"no file {path}", True, ask(room, get(path), "127.0.2.1")[0] in (400, 404))
+
+
+def see_unchanged(seen, room):
+    """Commands from outside with the key of the staff change no row."""
+    room.stop_desk()
+    before = room.tables()
+    room.start_desk()
+    commands = [
+        put("/deeds/77", {"donor": "X", "signed": "2020-01-01"}), put_rule("/deeds/9/rules/1", "deny", EVERY, *ALL),
+        put_image(77, "d64", 9, SAMPLES[0][1]), put_rule("/images/15/rules/1", "deny", EVERY, *ALL),
+        put(badge("x"), {"audience": "staff"}), drop(badge("hello")), Asked("POST", "/images/12/check", STAFF),
+    ]
+    came = [ask(room, asked, "127.0.2.2")[0] for asked in commands]
+    seen.same("commands with the key of the staff, from outside", [403] * len(commands), came)
+    room.stop_desk()
+    seen.same("no row is changed", before, room.tables())
+    room.start_desk()
+
+
+def see_fields(seen, room):
+    """Fields reach the desk as they came: an empty key is a key, and two are none."""
+    cases = [
+        ("an empty key", [("Desk-Key", "")], 401), ("two keys", [("Desk-Key", "abc"), ("Desk-Key", "abc")], 400),
+        ("a key of other bytes", [("Desk-Key", "\xc3\xbc")], 401), ("70 fields", [("A", "b")] * 70, 400),
+        ("a cookie", [("Cookie", "a=b")], 200), ("Expect", [("Expect", "100-continue")], 200),
+    ]
+    for label, fields, status in cases:
+        with contextlib.closing(room.visitor("127.0.2.3")) as connection:
+            connection.putrequest("GET", "/images")
+            for name, value in fields:
+                connection.putheader(name, value.encode("latin-1"))
+            connection.endheaders()
+            seen.same(f"fields: {label}", status, connection.getresponse().status)
+
+
+def see_head(seen, room):
+    """HEAD is the desk's to refuse."""
+    status, body, fields = ask(room, Asked("HEAD", "/images"), "127.0.2.3")
+    seen.same("HEAD", (405, b"", "GET"), (status, body, fields.get("Allow")))
+
+
+def see_sizes(seen, room):
+    cases = [
+        ("a body of 1,025 bytes", get("/images")._replace(body=bytes(1025)), 413),
+        ("a target of 9,000 bytes", get("/images/" + "1" * 9000), 414),
+        ("a key of 9,000 bytes", get("/images", "k" * 9000), 400),
+        ("a command of 300,000 bytes", Asked("PUT", "/deeds/7", STAFF, bytes(300000)), 403),
+    ]
+    for label, asked, status in cases:
+        try:
+            came = ask(room, asked, "127.0.2.4")[0]
+        except (BrokenPipeError, ConnectionResetError, ssl.SSLError):
+            # nginx has answered and closed before the client had sent all
+            came = status if asked.body and len(asked.body) > 100000 else "a reset"
+        seen.same(f"sizes: {label}", status, came)
+
+
+def see_rate(seen, room):
+    """An address that asks faster than it may is told so, and another one is answered meanwhile."""
+    statuses = []
+    with contextlib.closing(room.visitor("127.0.2.5")) as connection:
+        started = time.monotonic()
+        for _ in range(BURST * 4):
+            connection.request("GET", "/room.css")
+            reply = connection.getresponse()
+            reply.read()
+            statuses.append(reply.status)
+        seconds = time.monotonic() - started
+    allowed = BURST + 1 + int(RATE * seconds) + 1
+    seen.same("rate: some are answered", True, BURST < statuses.count(200) <= allowed)
+    seen.same("rate: the others are told 429", {200, 429}, set(statuses))
+    seen.same("rate: another address", 200, ask(room, get("/images"), "127.0.2.6")[0])
+
+
+def see_tls(seen, room):
+    """Plain HTTP is sent on to HTTPS, which is TLS 1.2 at least."""
+    with contextlib.closing(http.client.HTTPConnection(HOST, room.http_port, timeout=reading_room.LIMIT)) as connection:
+        connection.request("GET", "/images/12?x=y")
+        reply = connection.getresponse()
+        where = f"https://{reading_room.SITE}:{room.https_port}/images/12?x=y"
+        seen.same("plain HTTP", (301, where), (reply.status, reply.getheader("Location")))
+    with contextlib.closing(room.visitor("127.0.2.13")) as connection:
+        connection.connect()
+        seen.same("TLS", True, connection.sock.version() in ("TLSv1.2", "TLSv1.3"))
+
+
+def sockets(room, count, address, small=False):
+    """Plain connections of TLS from an address, with little room for what comes where they are small."""
+    for _ in range(count):
+        connection = socket.socket()
+        connection.settimeout(reading_room.LIMIT)
+        if small:
+            connection.setsockopt(socket.SOL_SOCKET, socket.SO_RCVBUF, 2048)
+        connection.bind((address, 0))
+        connection.connect((HOST, room.https_port))
+        yield room.trusting().wrap_socket(connection, server_hostname=HOST)
+
+
+def drip(connection, begun, ended, lasted):
+    """Sends a head of which each second one byte comes, and keeps how long that went."""
+    started = time.monotonic()
+    begun.release()
+    with contextlib.suppress(OSError), connection:
+        for byte in with_fields("Host: localhost", "A: " + "b" * 500):
+            if ended.wait(1):
+                break
+            connection.sendall(bytes([byte]))
+    lasted.append(time.monotonic() - started)
+
+
+def sip(connection, begun, ended, taken):
+    """Takes a long file, each second one byte, and keeps how many."""
+    connection.sendall(head("GET /images/21/files/0 HTTP/1.1", "Host: localhost"))
+    count = len(connection.recv(1))
+    begun.release()
+    with contextlib.suppress(OSError), connection:
+        while not ended.wait(1):
+            count += len(connection.recv(1))
+    taken.append(count)
+
+
+def start_slow(walk, connections, ended, kept):
+    """Starts a visitor on each connection, and waits until all have begun."""
+    begun = threading.Semaphore(0)
+    threads = [threading.Thread(target=walk, args=(one, begun, ended, kept)) for one in connections]
+    for thread in threads:
+        thread.start()
+    began = [begun.acquire(timeout=reading_room.LIMIT) for _ in threads]
+    if not all(began):
+        raise TimeoutError("a slow visitor does not begin")
+    return threads
+
+
+def see_others(seen, room, label, seconds):
+    """While others are slow, a visitor is answered soon, each time."""
+    longest, end, statuses = 0, time.monotonic() + seconds, set()
+    while time.monotonic() < end:
+        started = time.monotonic()
+        statuses.add(ask(room, get("/images/15/files/0"), "127.0.2.7")[:2])
+        longest = max(longest, time.monotonic() - started)
+        time.sleep(0.1)
+    seen.same(f"{label}: the others are answered", {parsed(RECORD)[:2]}, statuses)
+    seen.same(f"{label}: soon", True, longest < SOON)
+
+
+def see_slow(seen, room):
+    """Ten visitors who send a byte a second and ten who take one stop nobody; nginx ends the first within its time."""
+    ended, lasted, taken = threading.Event(), [], []
+    sips = start_slow(sip, sockets(room, 10, "127.0.2.9", small=True), ended, taken)
+    drips = start_slow(drip, sockets(room, 10, "127.0.2.8"), ended, lasted)
+    see_others(seen, room, "slow visitors", SLOW)
+    ended.set()
+    for thread in sips + drips:
+        thread.join()
+    seen.same("a byte a second is ended before the others are done", (10, True), (len(lasted), max(lasted) < SLOW - 2))
+    seen.same("who takes a byte a second has some", (10, True), (len(taken), min(taken) > SLOW / 2))
+
+
+def see_why(seen, room):
+    """Without nginx such a visitor stops all others: so the case above can fail."""
+    with socket.create_connection((HOST, room.desk_port)) as slow:
+        slow.sendall(QUESTION[:30])
+        time.sleep(0.3)
+        with contextlib.closing(http.client.HTTPConnection(HOST, room.desk_port, timeout=SOON)) as other:
+            try:
+                other.request("GET", "/images")
+                came = other.getresponse().status
+            except TimeoutError:
+                came = "no answer"
+        seen.same("at the desk itself a slow visitor stops the others", "no answer", came)
+    seen.same("until he goes", 200, ask(room, get("/images"), "127.0.2.10")[0])
+
+
+def see_down(seen, room):
+    """A desk that is down gives 502, the page is still there, and the desk is served again when it comes back."""
+    for turn in ("first", "second"):
+        room.stop_desk()
+        status, body, fields = ask(room, get("/images", NOBODY), "127.0.2.11")
+        seen.same(f"down, the {turn} time", (502, True), (status, b"502 Bad Gateway" in body))
+        see_added(seen, f"down, the {turn} time", fields)
+        seen.same("the page of a desk that is down", 200, ask(room, get("/"), "127.0.2.11")[0])
+        seen.same("a command to it", 403, ask(room, put("/deeds/7", {}), "127.0.2.11")[0])
+        room.start_desk()
+        came = ask(room, get("/images/21/files/0"), "127.0.2.11")
+        seen.same(f"back, the {turn} time", (200, LONG_FILE), came[:2])
+
+
+def see_logs(seen, room):
+    """The keys of a whole day are in no log of nginx."""
+    key = "a key that no log may have"
+    ask(room, get("/images", key), "127.0.2.12")
+    logs = room.logs()
+    seen.same("visits are logged", True, b'"GET /images HTTP/1.1" 401' in logs)
+    seen.same("keys are not", False, key.encode() in logs)
+
+
+GROUPS = [
+    see_places, see_page, see_routes, see_unchanged, see_fields, see_head, see_sizes, see_rate, see_tls, see_why,
+    see_slow, see_down, see_logs,
+]
+
+
+def main():
+    reading_room.install()
+    seen = reading_room.Seen()
+    with reading_room.Room(reading_room.program(sys.argv[1:])) as room:
+        room.fill()
+        room.start_nginx()
+        for see in GROUPS:
+            see(seen, room)
+    sys.exit(seen.told())
+
+
+main()

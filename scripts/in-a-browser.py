@@ -1,0 +1,501 @@
+#!/usr/bin/env python3
+"""scripts/in-a-browser.py [--pictures] [PROGRAM]: opens the page for readers in headless Chromium, through nginx.
+
+It wants Python 3 with its standard library alone, Linux, and Debian's nginx, openssl, sqlite3, chromium and
+chromium-driver, which it installs where it runs as root and they are missing. PROGRAM is ./desk of this repository
+where none is named. With --pictures it also writes docs/page-files.png and docs/page-text.png.
+
+It looks at what the public, the room and the staff see before and after a takedown; at denied, faulty and listed files;
+at names that are markup; at the bytes of files as text, in hexadecimal digits and as a download; at where a key is
+left; at the page by keyboard and on a small screen; and at what the browser refuses. It speaks WebDriver."""
+
+import base64
+import contextlib
+import json
+import os
+import pathlib
+import re
+import subprocess
+import sys
+import time
+import urllib.error
+import urllib.request
+
+import reading_room
+
+from client_cases import (
+    CLOSED, EVERY, HOST, LIMIT, NOBODY, PUBLIC, ROOM, ROOT, STAFF, TAKEDOWN, badge, disk, drop, get, pattern, put,
+    put_image, put_rule,
+)
+
+ELEMENT = "element-6066-11e4-a52e-4f735466cecf"
+TAB, ENTER = "\ue004", "\ue007"
+UMLAUTS = "Schlüssel für den Raum"
+
+# A 1541 disk whose names are markup, or as long as they can be, with two texts and one that is none.
+SMALL_LETTERS = b"\xc7UTEN \xd4AG,\x8d\xd7ELT!\x0d\\ ^ _\xa0."
+MARKUP = disk(
+    [
+        (0x81, (17, 0), b"<script>alert(1)", 1),
+        (0x81, (17, 1), b"<img src=x onerr", 1),
+        (0x82, (17, 2), b"\"&amp;'%/\x00\xff\x8d.JS ", 2),
+    ],
+    {
+        (17, 0): b"\x00\x11<B>NO MARKUP</B>",
+        (17, 1): bytes([0, len(SMALL_LETTERS) + 1]) + SMALL_LETTERS,
+        (17, 2): bytes([17, 3]) + pattern(254),
+        (17, 3): bytes([0, 31]) + pattern(30),
+    },
+)
+MORE_CASES = [
+    ("a disk of markup", put_image(19, "d64", 9, MARKUP), None),
+    ("a key of other letters", put(badge(UMLAUTS), {"audience": "room"}), None),
+]
+
+
+class Browser:
+    """A session of headless Chromium."""
+
+    def __init__(self, folder):
+        self.port, = reading_room.free_ports(1)
+        self.folder = folder
+        (folder / "home").mkdir()
+        (folder / "downloads").mkdir()
+        home = {**os.environ, "HOME": str(folder / "home"), "TMPDIR": str(folder)}
+        words = ["chromedriver", f"--port={self.port}", f"--log-path={folder / 'chromedriver.out'}"]
+        self.driver = subprocess.Popen(words, env=home, stdout=subprocess.DEVNULL, stderr=subprocess.DEVNULL)
+        reading_room.wait_for(self.port)
+        self.session = self.ask("POST", "/session", {"capabilities": {"alwaysMatch": self.wishes()}})["sessionId"]
+        self.cdp("Browser.setDownloadBehavior", {"behavior": "allow", "downloadPath": str(folder / "downloads")})
+
+    def wishes(self):
+        words = ["--headless=new", "--disable-gpu", "--disable-dev-shm-usage", "--lang=en", "--hide-scrollbars"]
+        words += [f"--user-data-dir={self.folder / 'profile'}", "--window-size=1100,900"]
+        if os.geteuid() == 0:
+            words.append("--no-sandbox")
+        logs = {"goog:loggingPrefs": {"browser": "ALL"}}
+        return {"acceptInsecureCerts": True, "goog:chromeOptions": {"args": words}, **logs}
+
+    def close(self):
+        with contextlib.suppress(OSError, KeyError):
+            self.command("DELETE", "")
+        self.driver.terminate()
+        self.driver.wait(timeout=LIMIT)
+
+    def ask(self, method, path, body=None):
+        """What the driver answers; a fault of it is raised."""
+        data = None if body is None else json.dumps(body).encode()
+        fields = {"Content-Type": "application/json"}
+        request = urllib.request.Request(f"http://{HOST}:{self.port}{path}", data, fields, method=method)
+        try:
+            with urllib.request.urlopen(request, timeout=LIMIT) as reply:
+                return json.load(reply)["value"]
+        except urllib.error.HTTPError as fault:
+            raise KeyError(json.load(fault)["value"]["message"].splitlines()[0]) from fault
+
+    def command(self, method, path, body=None):
+        return self.ask(method, f"/session/{self.session}{path}", body)
+
+    def cdp(self, name, values):
+        return self.command("POST", "/goog/cdp/execute", {"cmd": name, "params": values})
+
+    def open(self, address):
+        self.command("POST", "/url", {"url": address})
+
+    def script(self, text, *values):
+        """What a script gives that the driver runs in the page, beside the page's own."""
+        return self.command("POST", "/execute/sync", {"script": text, "args": values})
+
+    def find(self, selector):
+        return self.command("POST", "/element", {"using": "css selector", "value": selector})[ELEMENT]
+
+    def click(self, selector):
+        self.command("POST", f"/element/{self.find(selector)}/click", {})
+
+    def type(self, selector, text):
+        self.command("POST", f"/element/{self.find(selector)}/value", {"text": text})
+
+    def press(self, *keys):
+        """Presses keys wherever the focus is."""
+        steps = [{"type": kind, "value": key} for key in keys for kind in ("keyDown", "keyUp")]
+        self.command("POST", "/actions", {"actions": [{"type": "key", "id": "keys", "actions": steps}]})
+
+    def focus(self):
+        """What has the focus: its id, else its text."""
+        return self.script("const at = document.activeElement; return at.id || at.textContent;")
+
+    def logs(self):
+        return [line["message"] for line in self.command("POST", "/se/log", {"type": "browser"})]
+
+    def picture(self, path):
+        pathlib.Path(path).write_bytes(base64.b64decode(self.command("GET", "/screenshot")))
+
+
+READ = """
+const texts = (selector) => Array.from(document.querySelectorAll(selector), (one) => one.textContent);
+return {
+  busy: document.getElementById("view").getAttribute("aria-busy"),
+  heading: texts("h1")[0], status: texts("#status")[0], caller: texts("#caller")[0],
+  rows: Array.from(document.querySelectorAll("tbody tr"), (row) => Array.from(row.cells, (cell) => cell.textContent)),
+  links: Array.from(document.querySelectorAll("tbody a"), (one) => one.getAttribute("href")),
+  refusal: texts(".refused p"), bytes: texts("#bytes")[0] ?? null, told: texts("#told")[0] ?? null,
+  here: location.hash,
+};
+"""
+
+
+class Page:
+    """The page in the browser, as a reader uses it."""
+
+    def __init__(self, browser, address):
+        self.browser = browser
+        self.address = address
+        self.browser.open(address)
+        self.read()
+
+    def read(self):
+        """What the page shows when the desk has answered."""
+        end = time.monotonic() + LIMIT
+        while time.monotonic() < end:
+            shown = self.browser.script(READ)
+            if shown["busy"] == "false":
+                return shown
+            time.sleep(0.05)
+        raise TimeoutError("the page is busy")
+
+    def go(self, place):
+        """Goes to a place by its address, as a link or a bookmark does, and asks anew where it is there already."""
+        self.browser.script("document.getElementById('view').setAttribute('aria-busy', 'true');")
+        here = self.browser.script("return location.hash")
+        if here == f"#/{place}":
+            self.browser.script("window.dispatchEvent(new HashChangeEvent('hashchange'));")
+        else:
+            self.browser.script("location.hash = arguments[0];", f"#/{place}")
+        return self.read()
+
+    def give(self, key):
+        """Gives a key, or takes back the one that was given where it is None."""
+        if key is None:
+            if self.browser.script("return !document.getElementById('forget').hidden"):
+                self.browser.click("#forget")
+        else:
+            self.browser.type("#key", key)
+            self.browser.click("#key-form button")
+        return self.read()
+
+
+def numbers(shown):
+    return [row[0] for row in shown["rows"]]
+
+
+def files_of(shown):
+    """Of each row its slot, its name, what the reader may, and the rule."""
+    return [(row[0], row[1], row[5], row[6]) for row in shown["rows"]]
+
+
+HELLO_ROW = ("0", "HELLO", "read it", "R7.20")
+RECORD_ROW = ("0", "HELLO.TXT", "read it", "R9.20")
+OPEN_DISKS = ["Disk 14", "Disk 15", "Disk 16", "Disk 17", "Disk 18", "Disk 19"]
+# What each caller sees of disk 12, whose deed closes it to others than the staff until 2030.
+CALLERS = [
+    ("the public", PUBLIC, "You ask as the public.", CLOSED), ("the room", ROOM, "You ask with a desk key.", CLOSED),
+    ("the staff", STAFF, "You ask with a desk key.", False),
+    ("the room, by other letters", UMLAUTS, "You ask with a desk key.", CLOSED),
+]
+
+
+def see_callers(seen, page, room):
+    for label, key, caller, closed in CALLERS:
+        shown = page.give(key)
+        seen.same(f"{label}: who asks", caller, shown["caller"])
+        wanted = OPEN_DISKS if closed else ["Disk 12", *OPEN_DISKS]
+        seen.same(f"{label}: the disks", wanted, numbers(page.go("")))
+        seen.same(f"{label}: disk 12", [] if closed else [HELLO_ROW], files_of(page.go("12")))
+        seen.same(f"{label}: disk 15", [RECORD_ROW], files_of(page.go("15")))
+        shown = page.go("12/0")
+        wanted = ["You may not read this file.", "Refusal: denied", "Rule: R7.10, rule 10 of deed 7"] if closed else []
+        seen.same(f"{label}: its file", wanted, shown["refusal"])
+        seen.same(f"{label}: its bytes", None if closed else "A" * 254 + "BCDE", shown["bytes"])
+        shown = page.go("13/0")
+        wanted = ["You may not read this file.", "Refusal: denied", "Rule: D0, no rule lets anybody see it"]
+        seen.same(f"{label}: a file without a rule", (wanted, None), (shown["refusal"], shown["bytes"]))
+        page.give(None)
+
+
+def see_takedown(seen, page, room):
+    """A takedown of disk 15 for the public and the room, and another that lets the public see that a file is there."""
+    denied = ["You may not read this file.", "Refusal: denied", "Rule: T15.1, takedown 1 of disk 15"]
+    room.ask_desk(TAKEDOWN)
+    for label, key, taken in [("the public", PUBLIC, True), ("the room", ROOM, True), ("the staff", STAFF, False)]:
+        page.give(key)
+        seen.same(f"takedown: {label}: disks", not taken, "Disk 15" in numbers(page.go("")))
+        shown = page.go("15")
+        seen.same(f"takedown: {label}: files", [] if taken else [RECORD_ROW], files_of(shown))
+        told = "There is no file on it that you may see." if taken else "You may see 1 file."
+        seen.same(f"takedown: {label}: told", told, shown["status"])
+        page.browser.type("#slot", "0")
+        page.browser.press(ENTER)
+        shown = wait_for_place(page, "#/15/0")
+        seen.same(f"takedown: {label}: asked for by its slot", denied if taken else [], shown["refusal"])
+        page.give(None)
+    room.ask_desk(put_rule("/images/15/rules/1", "list", EVERY, "public"))
+    shown = page.go("15")
+    seen.same("a takedown that lets list", [("0", "HELLO.TXT", "see that it is there", "T15.1")], files_of(shown))
+    seen.same("it has no link", [], shown["links"])
+    room.ask_desk(drop("/images/15/rules/1"))
+    seen.same("without a takedown", [RECORD_ROW], files_of(page.go("15")))
+
+
+def wait_for_place(page, place):
+    """What the page shows when it has gone to a place."""
+    end = time.monotonic() + LIMIT
+    while time.monotonic() < end:
+        shown = page.read()
+        if shown["here"] == place and (shown["refusal"] or shown["bytes"] is not None or "file" in shown["status"]):
+            return shown
+        time.sleep(0.05)
+    raise TimeoutError(f"the page does not go to {place}")
+
+
+REFUSED = [
+    ("14/0", ["Refusal: faulty", "Faults: loop (its blocks lead back into themselves)"]),
+    ("16/1", ["Refusal: listed-only"]), ("15/9", ["Refusal: no-file"]), ("99", ["Refusal: no-accession"]),
+    ("012", ["Refusal: no-route"]), ("12/0/0", ["Refusal: no-route"]), ("<b>", ["Refusal: no-route"]),
+]
+
+
+def see_refusals(seen, page, room):
+    for place, wanted in REFUSED:
+        shown = page.go(place)
+        seen.same(f"refused: {place}", (wanted, None), (shown["refusal"][1:], shown["bytes"]))
+    rows = page.go("14")["rows"]
+    faulty = ["0", "LOOP", "PRG", "", "", "not read it: loop (its blocks lead back into themselves)", "R9.20"]
+    seen.same("a faulty file is listed", [faulty], rows)
+    listed = ["1", "-" * 16, "DEL", "", "", "see that it is there: its kind is not given out", "R9.20"]
+    shown = page.go("16")
+    seen.same("a file that is listed alone", listed, shown["rows"][1])
+    seen.same("only what is read has a link", ["#/16/0", "#/16/2"], shown["links"])
+    shown = page.give(NOBODY)
+    seen.same("a key that nobody has", ["Refusal: unknown-key", "Rule: K0, the key is unknown"], shown["refusal"][1:])
+    page.give(None)
+
+
+def see_markup(seen, page, room):
+    """A name that is markup is shown, and does nothing."""
+    shown = page.go("19")
+    names = ["<script>alert(1)", "<img src=x onerr", "\"&amp;'%25/%00%FF%8D.JS "]
+    seen.same("markup: names", names, [row[1] for row in shown["rows"]])
+    counted = "return ['script', 'img', 'b', 'iframe'].map((name) => document.querySelectorAll(name).length)"
+    seen.same("markup: elements", [1, 0, 0, 0], page.browser.script(counted))
+    shown = page.go("19/0")
+    seen.same("markup: the heading", names[0], shown["heading"])
+    seen.same("markup: the bytes", "<B>NO MARKUP</B>", shown["bytes"])
+    seen.same("markup: elements of a file", [1, 0, 0, 0], page.browser.script(counted))
+
+
+def hexed(data):
+    """Bytes as the page shows them."""
+    lines = []
+    for at in range(0, len(data), 16):
+        line = data[at : at + 16]
+        shown = "".join(chr(byte) if 32 <= byte < 127 else "." for byte in line)
+        lines.append(f"{at:06X}  {line.hex(' ').upper():47}  {shown}")
+    return "\n".join(lines)
+
+
+def see_bytes(seen, page, room):
+    """Texts by the line ends of their machines, other files in digits, and all as they are by a download."""
+    welcome = bytes_by_desk(room, "18/files/0")
+    text = welcome.partition(b"\x1a")[0].decode().replace("\r\n", "\n")
+    shown = page.go("18/0")
+    seen.same("bytes: a CP/M text", (text, "Shown as text."), (shown["bytes"], shown["told"]))
+    page.browser.click("#as-hex")
+    seen.same("bytes: the same in digits", hexed(welcome), page.read()["bytes"])
+    page.browser.click("#as-text")
+    seen.same("bytes: and back", text, page.read()["bytes"])
+    guide = bytes_by_desk(room, "16/files/2").decode().replace("\r", "\n")
+    seen.same("bytes: a 1541 text", guide, page.go("16/2")["bytes"])
+    seen.same("bytes: small letters", "Guten Tag,\nWelt!\n\u00a3 \u2191 \u2190 .", page.go("19/1")["bytes"])
+    for place, data in [("16/0", bytes_by_desk(room, "16/files/0")), ("19/2", pattern(254) + pattern(30))]:
+        shown = page.go(place)
+        seen.same(f"bytes: {place} is no text", hexed(data), shown["bytes"])
+        disabled = page.browser.script("return document.getElementById('as-text').disabled")
+        seen.same(f"bytes: {place} is not shown as one", True, disabled)
+        see_download(seen, page, place, data)
+    page.go("18/0")
+    see_download(seen, page, "18/0", welcome)
+
+
+# Bytes of a CP/M file and its text, or None where it is none.
+CPM_TEXTS = [
+    ("CR LF", b"A\r\nB\x1a", "A\nB"), ("CR and LF alone", b"A\rB\nC", "A\nB\nC"), ("no ^Z", b"A\r\n", "A\n"),
+    ("tabs and form feeds", b"\tA\x0cB", "\tA\x0cB"), ("the rest of a record", b"A\x1a" + b"\xff" * 127, "A"),
+    ("more than that", b"A\x1a" + b"\xff" * 128, None), ("^Z alone", b"A" + b"\x1a" * 300, "A"),
+    ("zeros", b"A\x1a" + bytes(300), "A"), ("a high bit", b"A\xc1", None), ("a byte 0", b"A\x00", None),
+    ("nothing before a ^Z", b"\x1a" * 128, None), ("no byte", b"", None),
+]
+# The same of a file of a 1541 disk.
+CBM_TEXTS = [
+    ("CR", b"A\rB", "A\nB"), ("a shifted CR", b"A\x8dB", "A\nB"), ("capitals", b"A TEXT.", "A TEXT."),
+    ("a shifted letter", b"\xc1 TEXT.", "A text."), ("signs of PETSCII", b"\\ ^ _\xa0.", "\u00a3 \u2191 \u2190 ."),
+    ("LF", b"A\nB", None), ("a ^Z", b"A\x1a", None), ("a colour", b"\x05A", None), ("no byte", b"", None),
+]
+
+
+def see_texts(seen, page, room):
+    """What is a text, and where its lines end: asked of the page's own functions."""
+    for function, cases in (("cpmText", CPM_TEXTS), ("cbmText", CBM_TEXTS)):
+        for label, data, text in cases:
+            asked = f"return {function}(new Uint8Array(arguments[0]))"
+            seen.same(f"{function}: {label}", text, page.browser.script(asked, list(data)))
+
+
+def bytes_by_desk(room, path):
+    return room.ask_desk(get(f"/images/{path}"))[1]
+
+
+def see_download(seen, page, place, data):
+    """The name of a download is the page's own, not the disk's."""
+    page.browser.click("#download")
+    path = page.browser.folder / "downloads" / f"{place.replace('/', '-')}.bin"
+    end = time.monotonic() + LIMIT
+    while time.monotonic() < end and not (path.exists() and path.stat().st_size == len(data)):
+        time.sleep(0.05)
+    seen.same(f"download: {place}", data, path.read_bytes() if path.exists() else None)
+
+
+# All places of the page in which something could be left.
+LEFT = """
+return [location.href, document.referrer, document.cookie, JSON.stringify({...localStorage}),
+    JSON.stringify({...sessionStorage}), JSON.stringify(history.state), document.documentElement.outerHTML,
+    ...Array.from(document.querySelectorAll("input"), (field) => field.value)].join(" ");
+"""
+
+
+def see_key(seen, page, room):
+    """A key is in no address, no storage, no field and no log, and is gone when the page is loaded again."""
+    key = "the key of a quiet reader"
+    room.ask_desk(put(badge(key), {"audience": "staff"}))
+    page.give(key)
+    seen.same("key: it is used", ["0"], numbers(page.go("12")))
+    seen.same("key: it is left nowhere", False, key in page.browser.script(LEFT))
+    kept = page.browser.script("return [document.cookie, localStorage.length, sessionStorage.length]")
+    seen.same("key: nothing is stored", ["", 0, 0], kept)
+    page.browser.command("POST", "/refresh", {})
+    seen.same("key: it is gone", "You ask as the public.", page.read()["caller"])
+    words = (key.encode(), key.replace(" ", "%20").encode(), key.replace(" ", "+").encode())
+    seen.same("key: it is in no log", [False] * 3, [word in room.logs() for word in words])
+    room.ask_desk(drop(badge(key)))
+
+
+def see_keyboard(seen, page, room):
+    """From the top of the page to a file's bytes by keys alone."""
+    page.go("")
+    page.browser.open(page.address)
+    page.read()
+    order = []
+    for _ in range(5):
+        page.browser.press(TAB)
+        order.append(page.browser.focus())
+    seen.same("keyboard: the order", ["skip", "The reading room", "key", "Use it", "Disks"], order)
+    page.browser.press(TAB)
+    seen.same("keyboard: then the first disk", "Disk 14", page.browser.focus())
+    page.browser.press(TAB, ENTER)
+    shown = wait_for_place(page, "#/15")
+    seen.same("keyboard: Enter opens a disk", ("Disk 15", "heading"), (shown["heading"], page.browser.focus()))
+    page.browser.press(TAB, ENTER)
+    shown = wait_for_place(page, "#/15/0")
+    seen.same("keyboard: and a file", ("HELLO.TXT", "heading"), (shown["heading"], page.browser.focus()))
+    reached = []
+    for _ in range(4):
+        page.browser.press(TAB)
+        reached.append(page.browser.focus())
+    seen.same("keyboard: its bytes", ["as-text", "as-hex", "download", "bytes"], reached)
+    outline = "return getComputedStyle(document.activeElement).outlineStyle"
+    seen.same("keyboard: the focus is seen", "solid", page.browser.script(outline))
+    page.browser.command("POST", "/back", {})
+    seen.same("keyboard: back", "Disk 15", wait_for_place(page, "#/15")["heading"])
+
+
+def see_small(seen, page, room):
+    """On a screen of 360 points nothing is wider than it; what is long scrolls in its own box."""
+    measured = {"width": 360, "height": 640, "deviceScaleFactor": 1, "mobile": True}
+    page.browser.cdp("Emulation.setDeviceMetricsOverride", measured)
+    wide = "return [document.documentElement.scrollWidth, window.innerWidth]"
+    for place in ("", "16", "19", "19/2", "14/0", "18/0"):
+        page.go(place)
+        seen.same(f"small screen: {place or 'the disks'}", [360, 360], page.browser.script(wide))
+    page.go("16")
+    label = "return getComputedStyle(document.querySelector('tbody td'), '::before').content"
+    seen.same("small screen: each cell has its label", '"Slot"', page.browser.script(label))
+    hidden = "return ['thead', 'td.empty'].map((one) => document.querySelector(one).getBoundingClientRect().width)"
+    seen.same("small screen: no heads, and no empty cells", [0, 0], page.browser.script(hidden))
+    page.browser.cdp("Emulation.clearDeviceMetricsOverride", {})
+
+
+def see_down(seen, page, room):
+    room.stop_desk()
+    shown = page.go("")
+    wanted = ["The desk is closed at the moment. Ask again later."]
+    seen.same("a desk that is down", (wanted, []), (shown["refusal"], shown["rows"]))
+    room.start_desk()
+    seen.same("it is back", OPEN_DISKS if CLOSED else ["Disk 12", *OPEN_DISKS], numbers(page.go("")))
+
+
+# Statuses that the desk told are told by the browser's log too; nothing else may be there.
+EXPECTED = re.compile(r"Failed to load resource: the server responded with a status of (401|403|404|422|502) ")
+
+
+def see_strict(seen, page, room):
+    """The page does nothing that its policy forbids, and the browser refuses what is tried beside it."""
+    others = [line for line in page.browser.logs() if not EXPECTED.search(line)]
+    seen.same("strict: the browser's log", [], others)
+    inline = """
+        const made = document.createElement("script");
+        try { made.textContent = "window.broken = 1"; } catch (fault) { return fault.name; }
+        document.body.append(made);
+        return window.broken ?? "nothing";
+    """
+    seen.same("strict: a script in the page", "TypeError", page.browser.script(inline))
+    markup = "try { document.body.innerHTML = '<b>x</b>'; } catch (fault) { return fault.name; } return 'markup'"
+    seen.same("strict: markup", "TypeError", page.browser.script(markup))
+    other = "return fetch('https://localhost:1/').then(() => 'fetched', (fault) => fault.name)"
+    seen.same("strict: another host", "TypeError", page.browser.script(other))
+    refused = " ".join(page.browser.logs())
+    seen.same("strict: it is the policy", True, "violates" in refused and "connect-src" in refused)
+
+
+def take_pictures(page):
+    measures = {"width": 900, "height": 560, "deviceScaleFactor": 1, "mobile": False}
+    page.browser.cdp("Emulation.setDeviceMetricsOverride", measures)
+    for place, name in (("17", "page-files.png"), ("18/0", "page-text.png")):
+        page.go(place)
+        page.browser.script("document.activeElement.blur();")
+        page.browser.picture(os.path.join(ROOT, "docs", name))
+    page.browser.cdp("Emulation.clearDeviceMetricsOverride", {})
+
+
+GROUPS = [
+    see_callers, see_takedown, see_refusals, see_markup, see_bytes, see_texts, see_key, see_keyboard, see_small,
+    see_down, see_strict,
+]
+
+
+def main():
+    words = [word for word in sys.argv[1:] if word != "--pictures"]
+    reading_room.install(["chromium", "chromedriver"], ["chromium", "chromium-driver", "fonts-dejavu-core"])
+    seen = reading_room.Seen()
+    with reading_room.Room(reading_room.program(words)) as room, contextlib.ExitStack() as stack:
+        room.fill([*reading_room.FIRST, *reading_room.MORE, *MORE_CASES])
+        room.start_nginx()
+        browser = Browser(room.folder)
+        stack.callback(browser.close)
+        page = Page(browser, f"https://{reading_room.SITE}:{room.https_port}/")
+        if "--pictures" in sys.argv:
+            take_pictures(page)
+        for see in GROUPS:
+            see(seen, page, room)
+    sys.exit(seen.told())
+
+
+main()

@@ -1,0 +1,205 @@
+"""A reading room as a museum runs it, in a folder of its own: a store, the desk that serves it, and the real nginx
+before it, configured by operate/configure. The scripts that look at it from outside share this."""
+
+import contextlib
+import getpass
+import http.client
+import os
+import pathlib
+import shutil
+import signal
+import socket
+import ssl
+import subprocess
+import tempfile
+import threading
+import time
+
+import tools
+from client_cases import FIRST, HOST, LIMIT, MORE, ROOT
+
+PACKAGES = ["nginx", "openssl", "sqlite3"]
+NGINX = "/usr/sbin/nginx"
+NEEDED = [NGINX, "openssl", "sqlite3"]
+CONFIGURE = os.path.join(ROOT, "operate", "configure")
+SITE = "localhost"
+# The tables of a store, of which a visit from outside may change none.
+TABLES = ("desk", "deed", "image", "rule", "badge", "checked", "found")
+
+
+def install(needed=(), packages=()):
+    tools.install([*NEEDED, *needed], [*PACKAGES, *packages])
+
+
+def program(words):
+    """The path of the program that a script is given, or ./desk of this repository."""
+    return os.path.abspath(words[0]) if words else os.path.join(ROOT, "desk")
+
+
+def free_ports(count):
+    """Ports at which nobody listens now, each another."""
+    with contextlib.ExitStack() as stack:
+        probes = [stack.enter_context(socket.socket()) for _ in range(count)]
+        for probe in probes:
+            probe.bind((HOST, 0))
+        return [probe.getsockname()[1] for probe in probes]
+
+
+def wait_for(port):
+    """Waits until somebody listens at a port."""
+    end = time.monotonic() + LIMIT
+    while time.monotonic() < end:
+        with socket.socket() as probe:
+            if probe.connect_ex((HOST, port)) == 0:
+                return
+        time.sleep(0.05)
+    raise TimeoutError(f"nobody listens at port {port}")
+
+
+class Seen:
+    """What was compared so far."""
+
+    def __init__(self):
+        self.passed = 0
+        self.failed = 0
+
+    def same(self, label, wanted, came):
+        if wanted == came:
+            self.passed += 1
+            return
+        self.failed += 1
+        wanted, came = (text if len(text) < 600 else f"{text[:600]} .." for text in map(repr, (wanted, came)))
+        print(f"FAILED: {label}: wanted {wanted}, came {came}", flush=True)
+
+    def told(self):
+        """Prints the counts, and gives the status with which a script ends."""
+        print(f"{self.passed} passed, {self.failed} failed")
+        return 1 if self.failed or not self.passed else 0
+
+
+class Room:
+    """A folder with a store, a certificate, the page and the places; and the processes that it has started."""
+
+    def __init__(self, program):
+        self.program = program
+        self.folder = pathlib.Path(tempfile.mkdtemp(prefix="reading-room-"))
+        # nginx gives up the rights of root, and then still has to read the page
+        self.folder.chmod(0o755)
+        self.store = self.folder / "museum.sqlite"
+        self.desk_port, self.https_port, self.http_port = free_ports(3)
+        self.desk = self.nginx = None
+
+    def __enter__(self):
+        return self
+
+    def __exit__(self, *_):
+        self.stop_desk()
+        self.stop_nginx()
+        shutil.rmtree(self.folder, ignore_errors=True)
+
+    # The desk
+
+    def run(self, *words):
+        """How the program ends: its status, and what it writes to its standard output and errors."""
+        ran = subprocess.run([self.program, *words], capture_output=True, stdin=subprocess.DEVNULL, timeout=LIMIT)
+        return ran.returncode, ran.stdout.decode(), ran.stderr.decode()
+
+    def start_desk(self, count=1000000):
+        """Starts the desk, and waits until it listens."""
+        words = ["serve", "--store", str(self.store), "--port", str(self.desk_port), "--count", str(count)]
+        self.desk = subprocess.Popen([self.program, *words], stdin=subprocess.DEVNULL, stdout=subprocess.PIPE)
+        watch = threading.Timer(LIMIT, self.desk.kill)
+        watch.start()
+        line = self.desk.stdout.readline().decode()
+        watch.cancel()
+        if line != f"listening {HOST}:{self.desk_port}\n":
+            raise RuntimeError(f"the desk does not listen: {line!r}")
+
+    def stop_desk(self):
+        """Ends the desk as a loss of power would."""
+        if self.desk:
+            self.desk.kill()
+            self.desk.communicate()
+        self.desk = None
+
+    def ask_desk(self, asked):
+        """The status and the body of the desk's own reply, as the staff has it on the machine itself."""
+        with contextlib.closing(http.client.HTTPConnection(HOST, self.desk_port, timeout=LIMIT)) as connection:
+            connection.request(asked.method, asked.path, asked.body, fields_of(asked))
+            reply = connection.getresponse()
+            return reply.status, reply.read()
+
+    def fill(self, cases=(*FIRST, *MORE)):
+        """Makes the store, starts the desk, and has it take commands."""
+        if self.run("init", "--store", str(self.store), "--key", "abc") != (0, "done\n", ""):
+            raise RuntimeError("no store was made")
+        self.start_desk()
+        for label, asked, _ in cases:
+            status, body = self.ask_desk(asked)
+            if status != 200:
+                raise RuntimeError(f"{label}: {status} {body!r}")
+
+    def tables(self):
+        """All rows of the store, read from a copy of its files while the desk is stopped."""
+        copy = self.folder / "copy.sqlite"
+        for suffix in ("", "-wal"):
+            if pathlib.Path(f"{self.store}{suffix}").exists():
+                shutil.copy(f"{self.store}{suffix}", f"{copy}{suffix}")
+        script = "\n".join(f".dump {table}" for table in TABLES)
+        ran = subprocess.run(["sqlite3", "-batch", str(copy)], input=script.encode(), capture_output=True, check=True)
+        return ran.stdout
+
+    # nginx
+
+    def places(self):
+        """The places of operate/places, below this folder."""
+        return {
+            "SITE": SITE, "HTTPS_PORT": self.https_port, "HTTP_PORT": self.http_port,
+            "CERTIFICATE": self.folder / "site.crt", "CERTIFICATE_KEY": self.folder / "site.key",
+            "PROGRAM": self.program, "STORE": self.store, "DESK_PORT": self.desk_port, "OFFSET": "E0000",
+            "WEB": self.folder / "web", "NGINX_RUN": self.folder, "NGINX_WORK": self.folder / "work",
+            "NGINX_LOG": self.folder, "NGINX_USER": "www-data" if os.geteuid() == 0 else getpass.getuser(),
+        }
+
+    def configure(self):
+        """Makes a certificate, copies the page, and writes the configuration."""
+        (self.folder / "work").mkdir()
+        shutil.copytree(os.path.join(ROOT, "web"), self.folder / "web")
+        lines = [f"{name}={value}\n" for name, value in self.places().items()]
+        (self.folder / "places").write_text("".join(lines))
+        alternatives = f"subjectAltName=DNS:{SITE},IP:{HOST}"
+        names = ["-subj", f"/CN={SITE}", "-addext", alternatives, "-days", "2", "-nodes"]
+        keys = ["-newkey", "ec", "-pkeyopt", "ec_paramgen_curve:P-256"]
+        files = ["-keyout", str(self.folder / "site.key"), "-out", str(self.folder / "site.crt")]
+        subprocess.run(["openssl", "req", "-x509", *keys, *names, *files], check=True, capture_output=True)
+        subprocess.run([CONFIGURE, str(self.folder / "places"), str(self.folder)], check=True)
+
+    def start_nginx(self):
+        if not (self.folder / "nginx.conf").exists():
+            self.configure()
+        words = [NGINX, "-p", str(self.folder), "-c", str(self.folder / "nginx.conf"), "-g", "daemon off;"]
+        with open(self.folder / "nginx.out", "ab") as out:
+            self.nginx = subprocess.Popen(words, stdin=subprocess.DEVNULL, stdout=out, stderr=out)
+        wait_for(self.https_port)
+
+    def stop_nginx(self):
+        if self.nginx:
+            self.nginx.send_signal(signal.SIGTERM)
+            self.nginx.wait(timeout=LIMIT)
+        self.nginx = None
+
+    def trusting(self):
+        """A context of TLS that trusts the room's certificate and no other."""
+        return ssl.create_default_context(cafile=str(self.folder / "site.crt"))
+
+    def visitor(self, address=HOST, timeout=LIMIT):
+        """A connection to nginx from an address of this machine: each is another visitor to nginx's limits."""
+        words = {"timeout": timeout, "context": self.trusting(), "source_address": (address, 0)}
+        return http.client.HTTPSConnection(HOST, self.https_port, **words)
+
+    def logs(self):
+        return b"".join(path.read_bytes() for path in self.folder.glob("*.log"))
+
+
+def fields_of(asked):
+    return {} if asked.key is None else {"Desk-Key": asked.key}
