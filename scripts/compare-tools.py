@@ -20,6 +20,7 @@ import tempfile
 import cbm_image
 import cpm_image
 import tools
+from tools import bytes_of, write
 
 IMAGES = 24
 FORMAT = ["-f", "ibm-3740"]
@@ -46,16 +47,6 @@ def listed(desk, kind, image):
     lines = run(desk, "list", kind, image)[0].decode().splitlines()
     assert lines[-1] == f"files\t{len(lines) - 1}\tend", lines[-1]
     return [line.split("\t") for line in lines[:-1]]
-
-
-def bytes_of(path):
-    with open(path, "rb") as file:
-        return file.read()
-
-
-def write(path, data):
-    with open(path, "wb") as file:
-        file.write(data)
 
 
 class Differences:

@@ -13,6 +13,18 @@ def arguments(usage):
     return os.path.abspath(sys.argv[1]), sys.argv[2:] or ["cpm8", "d64"]
 
 
+def bytes_of(path):
+    """The bytes of a file."""
+    with open(path, "rb") as file:
+        return file.read()
+
+
+def write(path, data):
+    """Makes a file of these bytes."""
+    with open(path, "wb") as file:
+        file.write(data)
+
+
 def missing(needed):
     """Which of some programs, and of files that are named by their whole paths, are not there."""
     return [name for name in needed if not (os.path.exists(name) if os.path.isabs(name) else shutil.which(name))]

@@ -1,0 +1,210 @@
+"""Stores that a desk fills by its own commands, servers over them, and visitors: what the benches of visits share."""
+
+import ctypes
+import hashlib
+import json
+import os
+import socket
+import sqlite3
+import subprocess
+import sys
+import time
+
+HERE = os.path.dirname(os.path.abspath(__file__))
+sys.path.insert(0, os.path.join(HERE, "..", "scripts"))
+import cbm_image
+import images
+
+HOST = "127.0.0.1"
+STAFF = "open sesame"
+ROOM = "room 3"
+DEED = 7
+LIMIT = 600
+C_PACKAGES = ["gcc", "libc6-dev", "libsqlite3-dev"]
+C_NEEDED = ["gcc", "/usr/include/stdio.h", "/usr/include/sqlite3.h"]
+
+# The files of the store for the questions about one accession: which slot of which, and what it is.
+LONG, SHORT, DENIED, CROWD = (1, 0), (2, 0), (2, 1), 3
+LONG_SIZE, SHORT_SIZE = 168656, 258
+
+
+# Images
+
+
+def numbered(count, step=7):
+    """Bytes that tell their places apart."""
+    return bytes((step * n + n // 256) % 251 for n in range(count))
+
+
+def disk(files):
+    """A 1541 disk of one directory block with these programs: names and contents, at most eight."""
+    image = bytearray(174848)
+    free = [(track, sector) for track in cbm_image.SECTORS if track != 18 for sector in range(cbm_image.SECTORS[track])]
+    entries = b""
+    for name, data in files:
+        parts = cbm_image.parts_of(data)
+        blocks, free = free[: len(parts)], free[len(parts) :]
+        cbm_image.put_chain(image, blocks, parts)
+        size = len(parts).to_bytes(2, "little")
+        entries += b"\0\0\x82" + bytes(blocks[0]) + cbm_image.padded(name) + bytes(9) + size
+    at = cbm_image.place(18, 1)
+    image[at : at + len(entries)] = b"\x00\xff" + entries[2:]
+    head = b"\x12\x01A\x00" + cbm_image.free_map(set(free)) + cbm_image.padded(b"MUSEUM") + b"\xa0\xa0RD\xa02A"
+    image[cbm_image.place(18, 0) : cbm_image.place(18, 0) + len(head)] = head
+    return bytes(image)
+
+
+def marked(image, number):
+    """An image that differs from others by a number in a place that no file has."""
+    at = cbm_image.place(18, 0) + 200
+    return image[:at] + number.to_bytes(4, "big") + image[at + 4 :]
+
+
+def few_files():
+    """The images of the store for the questions about one accession, by accession."""
+    short = [(b"HELLO", numbered(SHORT_SIZE)), (b"SECRET PLANS", numbered(1000)), (b"OTHER", numbered(5000))]
+    return {1: disk([(b"LONG", numbered(LONG_SIZE))]), 2: disk(short), CROWD: images.crowded_d64()}
+
+
+def shelf(count):
+    """As many accessions, each of a 1541 disk with eight files."""
+    image = disk([(b"FILE %d" % n, numbered(2000 + 500 * n, n + 3)) for n in range(7)] + [(b"SECRET", numbered(900))])
+    return {acc: marked(image, acc) for acc in range(1, count + 1)}
+
+
+# Visits
+
+
+def question(method, path, key=ROOM, body=None):
+    """The bytes of a request."""
+    lines = [f"{method} {path} HTTP/1.1", f"Host: {HOST}", f"Desk-Key: {key}"]
+    if body is not None:
+        lines.append(f"Content-Length: {len(body)}")
+    return "\r\n".join(lines).encode() + b"\r\n\r\n" + (body or b"")
+
+
+def visit(port, asked):
+    """The bytes that come back of a visit."""
+    with socket.create_connection((HOST, port), timeout=LIMIT) as connection:
+        connection.sendall(asked)
+        came = []
+        while part := connection.recv(262144):
+            came.append(part)
+    return b"".join(came)
+
+
+def body_of(reply):
+    return reply.partition(b"\r\n\r\n")[2]
+
+
+def free_port():
+    with socket.socket() as probe:
+        probe.bind((HOST, 0))
+        return probe.getsockname()[1]
+
+
+class Server:
+    """A server that this script started, which serves so many visits and ends."""
+
+    def __init__(self, command, store, count, before=()):
+        """The command is a function of the store's path, a port and the number of visits; before it come the words of
+        a program that runs it."""
+        self.port = free_port()
+        self.count = count
+        words = [*before, *command(store, self.port, count)]
+        self.process = subprocess.Popen(words, stdout=subprocess.PIPE, stderr=subprocess.PIPE, stdin=subprocess.DEVNULL)
+        said = self.process.stdout.readline()
+        if said != f"listening {HOST}:{self.port}\n".encode():
+            self.process.kill()
+            sys.exit(f"{words} says {said!r}, {self.process.communicate()[1]!r}")
+
+    def visit(self, asked):
+        return visit(self.port, asked)
+
+    def spent(self):
+        """The seconds of processor time that it has taken, of its own and of the system for it."""
+        library = ctypes.CDLL(None, use_errno=True)
+        clock = ctypes.c_int()
+        if library.clock_getcpuclockid(self.process.pid, ctypes.byref(clock)):
+            sys.exit("no clock of the server's processor time")
+        return time.clock_gettime(clock.value)
+
+    def most_memory(self):
+        """The most memory that it has had, in kilobytes."""
+        with open(f"/proc/{self.process.pid}/status") as status:
+            return next(int(line.split()[1]) for line in status if line.startswith("VmHWM"))
+
+    def end(self):
+        """Waits for its end, after its last visit."""
+        told, errors = self.process.communicate(timeout=LIMIT)
+        if self.process.returncode or told != f"served {self.count}\n".encode():
+            sys.exit(f"the server ends with status {self.process.returncode}: {told!r} {errors[-500:]!r}")
+
+
+# Programs and stores
+
+
+def desk_serves(program):
+    """The command by which a desk serves a store."""
+    return lambda store, port, count: [program, "serve", "--store", store, "--port", str(port), "--count", str(count)]
+
+
+def compiled_c(folder):
+    """The C program, compiled into a folder; the command by which it serves a store."""
+    path = os.path.join(folder, "visits")
+    source = os.path.join(HERE, "visits.c")
+    subprocess.run(["gcc", "-O2", "-g", "-o", path, source, "-lsqlite3"], check=True)
+    return lambda store, port, count: [path, store, str(port), str(count)]
+
+
+def rule(audiences, effect, **select):
+    return json.dumps({"audiences": audiences.split(), "effect": effect, "select": select}).encode()
+
+
+def filling(accessions):
+    """The requests that fill a store: a deed with its rules, a key, images, and a takedown of each."""
+    everybody = "public room staff"
+    yield "PUT", f"/deeds/{DEED}", b'{"donor":"A. Curator","signed":"2019-05-04"}'
+    yield "PUT", f"/deeds/{DEED}/rules/10", rule("public room", "deny", prefix="SECRET")
+    yield "PUT", f"/deeds/{DEED}/rules/20", rule("public", "list", type="USR")
+    yield "PUT", f"/deeds/{DEED}/rules/30", rule(everybody, "read", all=True)
+    yield "PUT", f"/badges/{hashlib.sha256(ROOM.encode()).hexdigest()}", b'{"audience":"room"}'
+    for acc, image in accessions.items():
+        yield "PUT", f"/accessions/{acc}/d64/{DEED}/{hashlib.sha256(image).hexdigest()}", image
+        yield "PUT", f"/images/{acc}/rules/1", rule(everybody, "deny", slot=150)
+
+
+def fill(program, store, accessions):
+    """Makes a store and fills it, by the desk's own commands."""
+    subprocess.run([program, "init", "--store", store, "--key", STAFF], check=True, stdout=subprocess.DEVNULL)
+    asked = list(filling(accessions))
+    server = Server(desk_serves(program), store, len(asked))
+    for method, path, body in asked:
+        reply = server.visit(question(method, path, STAFF, body))
+        if body_of(reply) != b'{"done":true}':
+            sys.exit(f"{method} {path}: {reply[:500]!r}")
+    server.end()
+
+
+def copied(store, target):
+    """A copy of a store that nobody serves, with all that its log holds in the file; False where it has no index of
+    files."""
+    for end in ("", "-wal"):
+        if os.path.exists(store + end):
+            with open(store + end, "rb") as here, open(target + end, "wb") as there:
+                there.write(here.read())
+    connection = sqlite3.connect(target)
+    has_index = connection.execute("SELECT count(*) FROM sqlite_schema WHERE name = 'found'").fetchone()[0] == 1
+    connection.execute("PRAGMA wal_checkpoint(TRUNCATE)")
+    connection.close()
+    return has_index
+
+
+def named_programs(words):
+    """The programs that a script is called with, as NAME=PROGRAM, by their names."""
+    named = [word.partition("=") for word in words]
+    programs = {name: os.path.abspath(path) for name, _, path in named}
+    for path in programs.values():
+        if not os.access(path, os.X_OK):
+            sys.exit(f"no program: {path}")
+    return programs

@@ -1,0 +1,325 @@
+#!/usr/bin/env python3
+"""scripts/as-strangers-see-it.py [PROGRAM]: takes in 100 images by sheets that other programs write, and has other
+programs read what desk exports.
+
+It makes 50 images with cpmtools and 50 with cc1541, of which some are then damaged. Python's csv writes one sheet of
+them and `sqlite3 -csv` another; their paths have blanks, commas and quotation marks. desk imports both under three
+deeds. Then it exports as the public, the reading room and the staff, on the last day of an embargo and on the day
+after. Each export is read by Python's csv and by sqlite3's .import, and both have to read the same table: the one that
+`desk list` of each image and the rules, as the plain function `verdict` below reads them, make together.
+
+PROGRAM is crates/rd_main/out/rd_main of this repository where none is named. Run as root, it installs Debian's packages
+where one is missing."""
+
+import contextlib
+import csv
+import hashlib
+import http.client
+import io
+import json
+import os
+import random
+import socket
+import subprocess
+import sys
+import tempfile
+
+import cbm_image
+import cpm_image
+import tools
+from tools import bytes_of, write
+
+ROOT = os.path.join(os.path.dirname(os.path.abspath(__file__)), "..")
+HOST = "127.0.0.1"
+LIMIT = 300
+COLUMNS = ["accession", "deed", "kind", "slot", "user", "name", "type", "size", "faults", "rule", "effect"]
+SHEET = ["accession", "kind", "deed", "sha256", "file"]
+KEYS = {"public": None, "room": "room 3", "staff": "open sesame"}
+FORMAT = ["-f", "ibm-3740"]
+
+# The embargo ends with the last second of 2029 on clocks that are an hour ahead of UTC.
+EMBARGO_ENDS = "2030-01-01"
+OFFSET = ["--offset", "E0100"]
+MOMENTS = {"before": (1893452399, "2029-12-31"), "after": (1893452400, EMBARGO_ENDS)}
+
+
+def rule(rank, audiences, effect, select, begins=None, until=None):
+    return {
+        "rank": rank, "audiences": audiences.split(), "effect": effect, "select": select, "from": begins, "until": until
+    }
+
+
+ALL = {"all": True}
+EVERYBODY = "public room staff"
+
+# The rules of each deed, by rank.
+DEEDS = {
+    31: [rule(10, "public room", "deny", ALL, until=EMBARGO_ENDS), rule(20, EVERYBODY, "read", ALL)],
+    32: [
+        rule(5, "public", "list", {"type": "TXT"}),
+        rule(7, "public", "list", {"type": "SEQ"}, begins=EMBARGO_ENDS),
+        rule(10, "public room", "deny", {"user": 3}),
+        rule(20, "room staff", "read", ALL),
+    ],
+    33: [
+        rule(10, "public", "deny", {"prefix": "SECRET"}),
+        rule(20, "room", "list", {"slot": 0}, until=EMBARGO_ENDS),
+        rule(9999, EVERYBODY, "read", ALL, begins="1990-01-01"),
+    ],
+}
+
+
+def takedowns(acc):
+    """The takedowns of an accession."""
+    told = []
+    if acc % 7 == 0:
+        told.append(rule(1, "public room", "deny", {"slot": 1}))
+    if acc % 11 == 0:
+        told.append(rule(5, EVERYBODY, "list", ALL, begins=EMBARGO_ENDS))
+    return told
+
+
+# What the rules say of a file, told by hand
+
+
+def matches(rule, audience, day, file):
+    """Whether a rule speaks of a file, for an audience and a day: dates of this form are in order as texts are."""
+    if audience not in rule["audiences"] or (rule["from"] or "") > day or (rule["until"] or "9999-99-99") <= day:
+        return False
+    [(how, value)] = rule["select"].items()
+    if how == "prefix":
+        return file["name"].startswith(value)
+    return how == "all" or file[how] == str(value)
+
+
+def verdict(acc, deed, audience, day, file):
+    """The label of the rule that decides on a file, and its effect."""
+    for label, rules in ((f"T{acc}", takedowns(acc)), (f"R{deed}", DEEDS[deed])):
+        for rule in rules:
+            if matches(rule, audience, day, file):
+                return f"{label}.{rule['rank']}", rule["effect"]
+    return "D0", "deny"
+
+
+def table(holdings, audience, day):
+    """The rows that a caller is to be shown on a day."""
+    rows = []
+    for acc, (kind, deed, files) in sorted(holdings.items()):
+        for file in files:
+            label, effect = verdict(acc, deed, audience, day, file)
+            if effect != "deny":
+                row = {**file, "accession": str(acc), "deed": str(deed), "kind": kind, "rule": label, "effect": effect}
+                rows.append([row[column] for column in COLUMNS])
+    return rows
+
+
+# Images
+
+
+def run(*command, **options):
+    """What a command, which has to succeed, writes to its standard output."""
+    ran = subprocess.run(command, capture_output=True, timeout=LIMIT, **options)
+    if ran.returncode:
+        sys.exit(f"{command} ends with status {ran.returncode}: {ran.stderr.decode(errors='replace')}")
+    return ran.stdout
+
+
+def new_cpm(random_, path, local):
+    """A CP/M disk of some files of some users; on one of five a block is named twice."""
+    run("mkfs.cpm", *FORMAT, path)
+    write(path, bytes_of(path).ljust(cpm_image.SIZE, b"\xe5"))
+    for n in range(random_.randint(1, 9)):
+        write(local, random_.randbytes(random_.choice([0, 1, 128, 1000, 5000, 20000])))
+        name = random_.choice(["SECRET", "NOTE-", "A$B", "LETTER"]) + str(n)
+        kind = random_.choice(["TXT", "COM", "DAT", ""])
+        run("cpmcp", *FORMAT, path, local, f"{random_.choice([0, 0, 3, 15])}:{name}{'.' + kind if kind else ''}")
+    if random_.random() < 0.2:
+        image = bytearray(bytes_of(path))
+        at = cpm_image.slot_place(0) + 16
+        image[at + 1] = image[at] = 2
+        write(path, bytes(image))
+
+
+def new_cbm(random_, path, local):
+    """A 1541 disk of some files of each type; on one of five the first was never closed."""
+    for n in range(random_.randint(1, 9)):
+        write(local, random_.randbytes(random_.choice([1, 254, 255, 3000, 20000])))
+        name = random_.choice(["secret", "hi, you", 'the "real" one', "game", "="]) + str(n)
+        kind = random_.choice(["PRG", "PRG", "SEQ", "USR", "DEL"])
+        run("cc1541", "-q", "-n", "museum", "-T", kind, "-f", name, "-w", local, path)
+    if random_.random() < 0.2:
+        image = bytearray(bytes_of(path))
+        image[cbm_image.place(18, 1) + 2] &= 0x7F
+        write(path, bytes(image))
+
+
+def new_images(folder):
+    """A hundred images with awkward paths: by accession the kind, the deed and the path."""
+    random_ = random.Random(1)
+    local = os.path.join(folder, "local")
+    told = {}
+    for acc in range(1, 101):
+        kind = "cpm8" if acc % 2 else "d64"
+        path = os.path.join(folder, random_.choice([f"disk {acc}", f"a, {acc}", f'the "{acc}"', f"'{acc}'"]) + "." + kind)
+        (new_cpm if kind == "cpm8" else new_cbm)(random_, path, local)
+        told[acc] = kind, 31 + acc // 2 % 3, path
+    return told
+
+
+# Sheets and tables, as others write and read them
+
+
+def by_python(rows):
+    """A sheet that Python's csv writes."""
+    sheet = io.StringIO(newline="")
+    csv.writer(sheet).writerows([SHEET, *rows])
+    return sheet.getvalue().encode()
+
+
+def sql_text(value):
+    return "'" + str(value).replace("'", "''") + "'"
+
+
+def by_sqlite3(rows):
+    """A sheet that the shell sqlite3 writes."""
+    values = ", ".join("(" + ", ".join(map(sql_text, row)) + ")" for row in rows)
+    asked = f"CREATE TABLE sheet ({', '.join(SHEET)}); INSERT INTO sheet VALUES {values}; SELECT * FROM sheet;"
+    return run("sqlite3", "-batch", "-bail", "-csv", "-header", ":memory:", input=asked.encode())
+
+
+def read_by_python(path):
+    with open(path, newline="", encoding="utf-8") as file:
+        return list(csv.reader(file))
+
+
+def read_by_sqlite3(path):
+    """The rows that the shell sqlite3 imports, with its columns first."""
+    asked = f'.import --csv "{path}" catalogue\n.mode json\nSELECT * FROM catalogue ORDER BY rowid;\n'
+    columns = run("sqlite3", "-batch", "-bail", ":memory:", input=f'.import --csv "{path}" catalogue\n'
+                  "SELECT name FROM pragma_table_info('catalogue');\n".encode()).decode().split()
+    rows = json.loads(run("sqlite3", "-batch", "-bail", ":memory:", input=asked.encode()) or b"[]")
+    return [columns, *([row[column] for column in columns] for row in rows)]
+
+
+# The desk
+
+
+class Desk:
+    """The program, its store, and what was seen so far."""
+
+    def __init__(self, program, folder):
+        self.program = program
+        self.store = os.path.join(folder, "desk.sqlite")
+        self.passed = self.failed = 0
+
+    def same(self, what, wanted, came):
+        if wanted == came:
+            self.passed += 1
+            return
+        self.failed += 1
+        where = ""
+        if isinstance(wanted, list) and isinstance(came, list):
+            first = next((n for n, pair in enumerate(zip(wanted, came)) if pair[0] != pair[1]), min(len(wanted), len(came)))
+            where, wanted, came = f", at {first} of {len(wanted)} and {len(came)}", wanted[first:][:1], came[first:][:1]
+        print(f"FAILED: {what}{where}: wanted {wanted!r}, came {came!r}", flush=True)
+
+    def run(self, *words):
+        return run(self.program, *words)
+
+    def put(self, requests):
+        """Serves a desk, and puts what each path and body say by the key of the staff."""
+        with socket.socket() as probe:
+            probe.bind((HOST, 0))
+            port = probe.getsockname()[1]
+        words = ["serve", "--store", self.store, "--port", str(port), "--count", str(len(requests))]
+        with subprocess.Popen([self.program, *words], stdout=subprocess.PIPE) as server:
+            if server.stdout.readline() != f"listening {HOST}:{port}\n".encode():
+                sys.exit("the desk does not listen")
+            for path, body in requests:
+                with contextlib.closing(http.client.HTTPConnection(HOST, port, timeout=LIMIT)) as connection:
+                    connection.request("PUT", path, json.dumps(body), {"Desk-Key": KEYS["staff"]})
+                    self.same(f"PUT {path}", b'{"done":true}', connection.getresponse().read())
+            told, _ = server.communicate(timeout=LIMIT)
+            self.same("the end of a server", (f"served {len(requests)}\n".encode(), 0), (told, server.returncode))
+
+    def listed(self, kind, path):
+        """The files of an image as `list` tells them, by the names of the catalogue's columns."""
+        lines = self.run("list", kind, path).decode().splitlines()
+        self.same(f"the last line of the list of {path}", f"files\t{len(lines) - 1}\tend", lines[-1])
+        return [dict(zip(["slot", "user", "type", "size", "faults", "name"], line.split("\t"))) for line in lines[:-1]]
+
+    def import_sheet(self, folder, who, sheet, accessions):
+        """Imports a sheet, of which each row has to be done."""
+        path = os.path.join(folder, who + ".csv")
+        write(path, sheet)
+        told = self.run("import", "--store", self.store, "--key", KEYS["staff"], "--sheet", path).decode().splitlines()
+        self.same(f"the sheet of {who}", [f"{acc} done" for acc in accessions], told)
+
+    def export(self, audience, moment, path):
+        key = KEYS[audience]
+        words = ["export", "--store", self.store, "--at", str(moment), *OFFSET]
+        write(path, self.run(*words, *(["--key", key] if key else [])))
+
+
+def fill(desk, folder, images):
+    """Makes a desk with its deeds and a key, imports the sheets, and takes down what is taken down."""
+    desk.same("init", b"done\n", desk.run("init", "--store", desk.store, "--key", KEYS["staff"]))
+    deeds = [(f"/deeds/{num}", {"donor": f'D. "Donor" {num}, esq.', "signed": "2019-05-04"}) for num in DEEDS]
+    rules = [(f"/deeds/{num}/rules/{rule['rank']}", body_of(rule)) for num in DEEDS for rule in DEEDS[num]]
+    key = hashlib.sha256(KEYS["room"].encode()).hexdigest()
+    desk.put([*deeds, *rules, (f"/badges/{key}", {"audience": "room"})])
+    rows = [[acc, *images[acc][:2], hashlib.sha256(bytes_of(images[acc][2])).hexdigest(), images[acc][2]] for acc in images]
+    for who, writes, some in (("Python", by_python, rows[:50]), ("sqlite3", by_sqlite3, rows[50:])):
+        desk.import_sheet(folder, who, writes(some), [row[0] for row in some])
+    desk.put([(f"/images/{acc}/rules/{rule['rank']}", body_of(rule)) for acc in images for rule in takedowns(acc)])
+
+
+def body_of(rule):
+    return {name: value for name, value in rule.items() if name != "rank"}
+
+
+def compare(desk, folder, holdings):
+    """Exports as each caller before and after the embargo's end, and compares. It gives the tables that are due."""
+    tables = {}
+    for when, (moment, day) in MOMENTS.items():
+        for audience in KEYS:
+            path = os.path.join(folder, f"{audience}-{when}.csv")
+            desk.export(audience, moment, path)
+            wanted = tables[audience, when] = [COLUMNS, *table(holdings, audience, day)]
+            desk.same(f"{audience} {when}, read by Python", wanted, read_by_python(path))
+            desk.same(f"{audience} {when}, read by sqlite3", wanted, read_by_sqlite3(path))
+    return tables
+
+
+def check_cases(desk, files, tables):
+    """That the images and the rules are such that a mistake would be seen."""
+    faults = {file["faults"] for file in files}
+    desk.same("files with faults and without", [], [word for word in ("", "not-closed", "crossed") if word not in faults])
+    names = "".join(file["name"] for file in files)
+    desk.same("names that CSV has to quote", [], [sign for sign in ',"' if sign not in names])
+    labels = {row[COLUMNS.index("rule")] for rows in tables.values() for row in rows[1:]}
+    shows = [f"R{num}.{rule['rank']}" for num in DEEDS for rule in DEEDS[num] if rule["effect"] != "deny"]
+    desk.same("rules that show nothing", [], [label for label in shows if label not in labels])
+    desk.same("takedowns that show something", True, any(label.startswith("T") for label in labels))
+    desk.same("six different tables", 6, len({repr(rows) for rows in tables.values()}))
+
+
+def main():
+    program = os.path.abspath(sys.argv[1] if len(sys.argv) > 1 else os.path.join(ROOT, "crates/rd_main/out/rd_main"))
+    tools.install(["mkfs.cpm", "cpmcp", "cc1541", "sqlite3"], ["cpmtools", "cc1541", "sqlite3"])
+    with tempfile.TemporaryDirectory() as folder:
+        images = new_images(folder)
+        desk = Desk(program, folder)
+        fill(desk, folder, images)
+        holdings = {acc: (kind, deed, desk.listed(kind, path)) for acc, (kind, deed, path) in images.items()}
+        tables = compare(desk, folder, holdings)
+    files = [file for _, _, files in holdings.values() for file in files]
+    check_cases(desk, files, tables)
+    print(f"{len(images)} images with {len(files)} files; rows shown:", end=" ")
+    print(", ".join(f"{audience} {when} {len(rows) - 1}" for (audience, when), rows in tables.items()))
+    print(f"{desk.passed} passed, {desk.failed} failed")
+    sys.exit(1 if desk.failed else 0)
+
+
+if __name__ == "__main__":
+    main()
