@@ -22,7 +22,7 @@ pub fn same_again()
 
 /// Law: what is replied to a question is replied in each desk that looks alike to its caller: with the same keys and rules,
 /// and at the same accessions images of the same kinds and deeds that agree on the bytes needed to tell their files and
-/// to serve those that he may read. So no other byte of an image reaches him.
+/// to serve those that he may read. So no other byte of an image reaches him by the reply to a question.
 pub fn hidden_bytes_are_not_told()
     ensures { HiddenBytesAreNotTold }
 {}

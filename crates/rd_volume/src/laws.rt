@@ -48,7 +48,8 @@ pub fn each_piece_is_a_slice_of_its_image()
 /// A law: the needed bytes of an image decide what is told of it. Whichever files are served: where an image
 /// of the same kind and length has these bytes too, the same bytes of both are needed, both have the same
 /// files, told alike in every field, the same of them are sound, and the served ones have the same bytes.
-/// So no other byte of an image shows in what is told.
+/// So no other byte of an image shows in what is told of its files, or in the bytes of the served ones. What
+/// `report` tells rests on the whole image.
 pub fn needed_bytes_decide_what_is_told()
     ensures { (kind : Kind) (image other served : List ℕ)
         → AgreesOnNeeded kind image other served → TellTheSame kind image other served }

@@ -13,9 +13,10 @@ macro_rules! changed {
 const HIDDEN_ON_CPM: &[Case] = table![
     ("system tracks", changed!(HELLO, 0, &[0x5a; 6_656]), Wanted::Survey(&[HELLO_TXT]));
     ("S1 of an entry", changed!(HELLO, 6_669, b"\x5a"), Wanted::Survey(&[HELLO_TXT]));
-    ("an unused entry past byte 0", changed!(HELLO, 6_689, &[0x5a; 31]), Wanted::Survey(&[HELLO_TXT]));
+    ("an entry that is no file's past byte 0", changed!(HELLO, 6_689, &[0x5a; 31]), Wanted::Survey(&[HELLO_TXT]));
+    ("an unused entry past byte 0", like!(Sample, HELLO, bytes: &[(6_688, b"\xe5"), (6_689, &[0x5a; 31])]), Wanted::Survey(&[HELLO_TXT]));
     ("a record that the count of its block does not reach", changed!(HELLO, 9_856, &[0x5a; 128]), Wanted::Survey(&[HELLO_TXT]));
-    ("a block that no file claims", changed!(HELLO, 254_336, &[0x5a; 128]), Wanted::Survey(&[HELLO_TXT]));
+    ("the last track, with two whole blocks that no file claims", changed!(HELLO, 252_928, &[0x5a; 3_328]), Wanted::Survey(&[HELLO_TXT]));
 ];
 
 const NEEDED_ON_CPM: &[Case] = table![

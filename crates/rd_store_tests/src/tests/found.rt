@@ -187,7 +187,7 @@ const AGAIN: &[Step<'static>] = &[
 /// Questions of the connection of a desk with three images, and what each tells.
 const ROWS: &[(&str, i64)] = &[
     ("SELECT count(*) FROM found", 3),
-    ("SELECT sum(slot) FROM found", 0),
+    ("SELECT count(*) FROM found WHERE slot = 0", 3),
     ("SELECT name = 'HELLO' FROM found WHERE acc = 12", 1),
     ("SELECT ty = 'PRG' FROM found WHERE acc = 12", 1),
     ("SELECT user_no IS NULL FROM found WHERE acc = 12", 1),
