@@ -10,8 +10,8 @@ function counts as that function's. Copies by the C library (memcpy, memmove) ar
 counts one instruction for each byte of `rep movsb`, so a copy looks dearer than it is. What is printed are shares of the
 whole of the C program, its copies left out. --tree also prints the functions of each crate.
 
-It fails where desk's own crates take more than the whole of the C program for a question, or where a function of rd_cpm
-or rd_cbm is called at such a visit of the program that is named last. Where two programs are named, it also prints the
+It fails where, of the desk that is named last, the crates of its own take more than the whole of the C program for a
+question, or a function of rd_cpm or rd_cbm is called at such a visit. Where two desks are named, it also prints the
 ratio of the last to the first without what reading rows of the table `image` takes."""
 
 import argparse
@@ -181,7 +181,7 @@ def measure(bench, case, folder, shows_tree):
     beside = told.get(visits.C_NAME)
     desks = [name for name in profiles if name != visits.C_NAME]
     for name in desks:
-        if tell_desk(case, name, told[name], beside):
+        if tell_desk(case, name, told[name], beside) and name == desks[-1]:
             missed.append(f"{case.title}: the crates of {name} take more than the C program")
         readers, has_answer = called_readers(profiles[name])
         print("    of rd_cpm and rd_cbm " + (", ".join(readers) or "nothing") + " is called" +

@@ -1,5 +1,5 @@
 -- What a door tells of its visits.
-use Rattle.std.specs.Prelude.{◌≡◌, ℕ, ℤ, List, [], ◌∷◌, ◌++◌, Bool, Option, None, Some, ⊤, map}
+use Rattle.std.specs.Prelude.{◌≡◌, ℕ, ℤ, List, [], ◌∷◌, ◌++◌, Bool, Option, None, Some, ⊤}
 
 -- A visit that is over: its moment, all bytes that came, read or not, those that went out, and whether a read
 -- and whether a write failed.

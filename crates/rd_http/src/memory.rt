@@ -9,7 +9,7 @@ use std::marker::Model;
 use std::vec::IntoIter;
 
 /// Copies as many bytes as both slices hold to the front of the second, and says how many they are.
-fn copy_front(from: &[u8], into: &mut [u8]) -> usize
+pub(crate) fn copy_front(from: &[u8], into: &mut [u8]) -> usize
     ensures from { result ≤ length from.now }
     ensures into { result ≤ length into.new }
     ensures copied { take result into.new ≡ take result from.now }

@@ -1,7 +1,8 @@
 //! Visits over TCP.
 
-ghost use Rattle.std.specs.Prelude.{◌≡◌, None, false};
+ghost use Rattle.std.specs.Prelude.{◌≡◌, ◌≤◌, None, false};
 
+use crate::memory::copy_front;
 use crate::wire::{Broken, Door, Shut, Wire};
 use std::io::{Read, Write};
 use std::net::{TcpListener, TcpStream};
@@ -14,11 +15,46 @@ pub trait Clock {
 
 /// A connection over TCP, and whether a read and whether a write of it has failed. A call that was interrupted
 /// has failed.
+///
+/// It holds back up to 16,384 bytes that were put, so that a file's many short slices take few calls of the system.
+/// They are sent as soon as there is no room for more, and the last of them by `leave` of its door; that this last
+/// sending fails is not told.
 #[derive(Drop)]
 pub struct TcpWire {
     stream: TcpStream,
+    held: [u8; 16_384],
+    len: usize,
     take_failed: bool,
     put_failed: bool,
+    ghost within: { len ≤ 16384 },
+}
+
+/// Sends bytes over a stream. It fails with `Broken` where a write fails or takes no byte.
+fn send(stream: &mut TcpStream, bytes: &[u8]) -> Result<(), Broken> {
+    let mut sent = 0;
+    while sent < bytes.len() {
+        match stream.write(&bytes[sent..]) {
+            Ok(count) if count > 0 => sent += count,
+            _ => return Err(Broken),
+        }
+    }
+    Ok(())
+}
+
+impl TcpWire {
+    /// A connection over a stream, over which nothing has failed yet.
+    fn new(stream: TcpStream) -> TcpWire
+        ensures take { result.take_failed ≡ false }
+        ensures put { result.put_failed ≡ false }
+    {
+        TcpWire {
+            stream,
+            held: [0; 16_384],
+            len: 0,
+            take_failed: false,
+            put_failed: false,
+        }
+    }
 }
 
 impl Wire for TcpWire {
@@ -43,13 +79,16 @@ impl Wire for TcpWire {
     }
 
     fn put(&mut self, bytes: &[u8]) -> Result<usize, Broken> {
-        match self.stream.write(bytes) {
-            Ok(count) if count > 0 || bytes.is_empty() => Ok(count),
-            _ => {
+        if self.len == self.held.len() {
+            if send(&mut self.stream, &self.held).is_err() {
                 self.put_failed = true;
-                Err(Broken)
+                return Err(Broken);
             }
+            self.len = 0;
         }
+        let count = copy_front(bytes, &mut self.held[self.len..]);
+        self.len += count;
+        Ok(count)
     }
 }
 
@@ -96,14 +135,7 @@ impl<C: Clock> Door for TcpDoor<C> {
             return Err(Shut);
         }
         match next_visitor(&self.listener, &mut self.clock) {
-            Some((moment, stream)) => Ok((
-                moment,
-                TcpWire {
-                    stream,
-                    take_failed: false,
-                    put_failed: false,
-                },
-            )),
+            Some((moment, stream)) => Ok((moment, TcpWire::new(stream))),
             None => {
                 self.has_shut = true;
                 Err(Shut)
@@ -112,6 +144,15 @@ impl<C: Clock> Door for TcpDoor<C> {
     }
 
     fn leave(&mut self, conn: TcpWire) {
-        let _closed = conn;
+        let TcpWire {
+            mut stream,
+            held,
+            len,
+            put_failed,
+            ..
+        } = conn;
+        if !put_failed {
+            let _ = send(&mut stream, &held[..len]);
+        }
     }
 }
