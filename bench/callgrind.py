@@ -29,7 +29,8 @@ FEW, MANY = 2, 12
 COPIES = re.compile(r"_*(memcpy|memmove|mempcpy)")
 OWN = re.compile(r"rd_[a-z]+")
 READERS = ("rd_cpm", "rd_cbm")
-ROW_READER = "rd_store::images::"
+# Where rows of the table `image` are asked for, and the functions that the compiler moves this into.
+ROW_READERS = re.compile(r"rd_store::images::|rd_desk::asking::(image|accession|look_up)\b")
 NEEDED = ["valgrind", *rooms.C_NEEDED]
 PACKAGES = ["valgrind", *rooms.C_PACKAGES]
 
@@ -54,7 +55,7 @@ class Profile:
     def row_reads(self):
         """The instructions below the calls by which rows of the table `image` are read."""
         return sum(cost for (caller, callee), cost in self.below.items()
-                   if caller.startswith(ROW_READER) and (callee.startswith("sqlite") or "read_all" in names_of(callee)))
+                   if ROW_READERS.match(caller) and (callee.startswith("sqlite") or "read_all" in names_of(callee)))
 
     def below_of(self, roots):
         """The functions that are called below some functions, them among these."""
