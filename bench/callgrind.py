@@ -29,8 +29,9 @@ FEW, MANY = 2, 12
 COPIES = re.compile(r"_*(memcpy|memmove|mempcpy)")
 OWN = re.compile(r"rd_[a-z]+")
 READERS = ("rd_cpm", "rd_cbm")
-# Where rows of the table `image` are asked for, and the functions that the compiler moves this into.
-ROW_READERS = re.compile(r"rd_store::images::|rd_desk::asking::(image|accession|look_up)\b")
+# Where rows of the table `image` are asked for, and the functions that the compiler moves this into, also of desks of
+# before.
+ROW_READERS = re.compile(r"rd_store::images::|rd_desk::asking::(image|accession|register|look_up)\b")
 NEEDED = ["valgrind", *rooms.C_NEEDED]
 PACKAGES = ["valgrind", *rooms.C_PACKAGES]
 

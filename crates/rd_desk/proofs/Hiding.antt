@@ -1,5 +1,5 @@
 -- Desks that look alike to a caller reply alike to what he may ask.
-use Rattle.std.proofs.Common.{◌≡◌, ◌≢◌, inl, inr, ◌∙◌, ◌↔◌, ◌<◌, ℕ, ℤ, List, [], ◌++◌, All, Contains, IfSome, IsSomeAnd, Option, Some, None, ap, get_or, length, refl, subst, sym}
+use Rattle.std.proofs.Common.{◌≡◌, ◌≢◌, inl, inr, ◌∙◌, ℕ, ℤ, List, ◌++◌, Contains, IfSome, IsSomeAnd, Option, Some, None, ap, get_or, length, refl, subst, sym}
 use Rattle.std.specs.FinMap.{get}
 use Rattle.std.proofs.lemmas.Option.{none-some}
 use Rattle.sha2.specs.Sha256.{sha256}
@@ -10,24 +10,22 @@ use Rattle.rd_policy.specs.declared.audience.Audience.{Audience}
 use Rattle.rd_policy.specs.declared.rule.Band.TheVariants.{Takedown, Deed as OfDeed}
 use Rattle.rd_policy.specs.declared.rule.Effect.TheVariants.{Read}
 use Rattle.rd_policy.specs.declared.rule.Rule.{Rule}
-use Rattle.rd_policy.specs.declared.verdict.Verdict.{Verdict}
 use Rattle.rd_volume.specs.NeededLaw.{tell_the_same}
-use Rattle.rd_volume.specs.Needed.{AgreesOnNeeded, TellTheSame}
+use Rattle.rd_volume.specs.Needed.{TellTheSame}
 use Rattle.rd_volume.specs.Reports.{IsSoundSlot}
 use Rattle.rd_volume.specs.Volumes.{AreBytesOf, IsFound, IsSlotOfFile}
 use Rattle.rd_volume.specs.declared.found.Found.{Found}
 use Rattle.rd_store.specs.State.{Desk, rules_at, rules_for, rules_with}
 use Rattle.rd_store.specs.declared.rows.ImageRow.{ImageRow}
 use Rattle.rd_desk.specs.Hidden.{HiddenBytesAreNotTold, HidesTheRest, IsCallerOf, IsReadFile, LooksAlike, LooksLike, LooksLikeAt}
-use Rattle.rd_desk.specs.Judged.{Conflicts, Holds, IsAccepted, IsAsked, IsJudgedFile, IsRefused, IsRefusedOn, JudgedFile, audience_of, accession_of, deed_of, file_of, image_of}
-use Rattle.rd_desk.specs.Refusals.{number_of}
-use Rattle.rd_desk.specs.Replies.{AreFileBytes, AreImageLines, AreLines, AreListings, Answers, IsAnswered, IsDone, IsImageLine, IsLine, IsListing, IsReply, Tells, carried_out}
+use Rattle.rd_desk.specs.Judged.{Conflicts, Holds, IsAccepted, IsAsked, IsJudgedFile, IsRefusedOn, JudgedFile, audience_of, accession_of, deed_of, file_of, image_of}
+use Rattle.rd_desk.specs.Replies.{AreFileBytes, AreImageLines, AreLines, AreListings, Answers, IsAnswered, IsDone, IsImageLine, IsLine, IsListing, Tells, carried_out}
 use Rattle.rd_desk.specs.Requests.{IsForStaff}
 use Rattle.rd_desk.specs.declared.refusal.Refusal.{Refusal}
 use Rattle.rd_desk.specs.declared.refusal.Refusal.TheVariants.{UnknownKey, StaffOnly, BadBody, NoAccession, NoFile, NoDeed, Denied, ListedOnly, Faulty, WrongSize, DigestDiffers, Conflict}
 use Rattle.rd_desk.specs.declared.request.Request.{Request}
 use Rattle.rd_desk.specs.declared.request.What.{What}
-use Rattle.rd_desk.specs.declared.request.What.TheVariants.{Images, Listing, Bytes, Catalogue, PutImage, PutDeed, PutRule, DropRule, PutKey, DropKey}
+use Rattle.rd_desk.specs.declared.request.What.TheVariants.{Images, Listing, Bytes, Catalogue}
 use Rattle.rd_desk.specs.declared.said.ImageLine.{ImageLine}
 use Rattle.rd_desk.specs.declared.said.Line.{Line}
 use Rattle.rd_desk.specs.declared.said.Listing.{Listing as Lines}

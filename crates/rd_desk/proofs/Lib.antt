@@ -19,3 +19,5 @@ pub mod OneReport
 pub mod Cataloguing
 pub mod Tables
 pub mod Slicing
+pub mod Register
+pub mod Sending

@@ -1,9 +1,10 @@
 -- The keys of a map from numbers: they ascend, and each number that has a value is among them.
-use Rattle.std.proofs.Common.{◌≡◌, ◌<◌, ◌&&◌, ℕ, zero, suc, Bool, true, false, cond, List, [], ◌∷◌, All, AllPairs, Contains, Some, T, map, length, arith, refl, sym, ◌∙◌}
+use Rattle.std.proofs.Common.{◌≡◌, ◌<◌, ◌&&◌, ℕ, zero, suc, Bool, true, false, cond, List, [], ◌∷◌, All, AllPairs, Contains, Some, T, map, length, get_or, subst, ap, arith, refl, sym, ◌∙◌}
 use Rattle.std.specs.FinMap.{FinMap, entries, entries_sorted, get, get-entries, keys}
 use Rattle.std.specs.FinMap.Entries.{below_all, find, is_sorted}
 use Rattle.std.specs.Ordering.{eq_by_cmp, is_lt, nat_cmp}
 use Rattle.std.proofs.lemmas.Bool.Decides.{nat_tests}
+use Rattle.std.proofs.lemmas.List.{get_or-map, length-map}
 use Rattle.std.proofs.lemmas.List.Elements.{All-cons}
 use Rattle.std.proofs.lemmas.List.Kept.{AllPairs-cons}
 
@@ -20,6 +21,12 @@ lower m n is = grind (arith, nat_tests)
 
 tied : (m n : ℕ) → eq_by_cmp nat_cmp m n ≡ true → n ≡ m
 tied m n is = grind (arith, nat_tests)
+
+apart : (m n : ℕ) → m < n → eq_by_cmp nat_cmp n m ≡ false
+apart m n low = grind (arith, nat_tests)
+
+itself : (n : ℕ) → eq_by_cmp nat_cmp n n ≡ true
+itself n = grind (arith, nat_tests)
 
 module _ {X : Type 0} where
   above : (k : ℕ) (es : List (ℕ × X)) → T (below_all nat_cmp k es) → All (λ n. k < n) (map (λ e. e.0) es)
@@ -48,3 +55,15 @@ module _ {X : Type 0} where
 
   pub among_keys : (m : FinMap nat_cmp X) (k : ℕ) (v : X) → get m k ≡ Some v → Contains (keys m) k
   among_keys m k v is = among k v (entries m) (sym (get-entries m k) ∙ is)
+
+  -- each entry is found by its number
+  pub each_found : (es : List (ℕ × X)) → T (is_sorted nat_cmp es) → All (λ e. find nat_cmp e.0 es ≡ Some e.1) es
+  each_found [] sorted = λ i d within. absurd (omega (arith, within))
+  each_found (e ∷ es) sorted =
+      let parts = halves (below_all nat_cmp e.0 es) (is_sorted nat_cmp es) sorted in
+      let low : All (λ n. e.0 < n) (map (λ f. f.0) es) = above e.0 es parts.0 in
+      All-cons (λ f. find nat_cmp f.0 (e ∷ es) ≡ Some f.1) e es
+      (ap (λ b. cond b (Some e.1) (find nat_cmp e.0 es)) (itself e.0))
+      (λ k f within.
+      let later : e.0 < (get_or es k f).0 = subst (λ n. e.0 < n) (get_or-map (λ (g : ℕ × X). g.0) es k f f.0 within) (low k f.0 (subst (λ n. k < n) (sym (length-map es (λ (g : ℕ × X). g.0))) within)) in
+      ap (λ b. cond b (Some e.1) (find nat_cmp (get_or es k f).0 es)) (apart e.0 (get_or es k f).0 later) ∙ each_found es parts.1 k f within)

@@ -1,9 +1,8 @@
 -- What is said of a file is what is said to the request for it.
-use Rattle.std.proofs.Common.{◌≡◌, ℕ, ℤ, List, Option, Some, None, Result, Ok, Err, IfOk, Contains, IsSomeAnd, IfSome, true, false, refl, sym, ap, subst, ◌∙◌}
+use Rattle.std.proofs.Common.{◌≡◌, ℕ, ℤ, List, Option, Some, None, Result, Ok, Err, IfOk, Contains, IsSomeAnd, true, false, refl, sym, ap, subst, ◌∙◌}
 use Rattle.std.specs.FinMap.{get}
 use Rattle.rd_policy.specs.Verdicts.{IsVerdict}
 use Rattle.rd_policy.specs.declared.audience.Audience.{Audience}
-use Rattle.rd_policy.specs.declared.rule.Rule.{Rule}
 use Rattle.rd_policy.specs.declared.verdict.Verdict.{Verdict}
 use Rattle.rd_volume.specs.Told.{told_slot}
 use Rattle.rd_geometry.specs.declared.kind.Kind.{Kind}
@@ -11,11 +10,9 @@ use Rattle.rd_volume.specs.Volumes.{AreBytesOf, IsFound, IsSlotOfFile}
 use Rattle.rd_volume.specs.declared.found.Found.{Found}
 use Rattle.rd_store.specs.State.{Desk, rules_for}
 use Rattle.rd_store.specs.declared.rows.ImageRow.{ImageRow}
-use Rattle.rd_desk.specs.Calls.{IsHolding}
 use Rattle.rd_desk.specs.Judged.{Conflicts, IsAccepted, IsJudgedFile, IsRefused, JudgedFile, PassesTo, accession_of, audience_of, deed_of, file_of, image_of}
-use Rattle.rd_desk.specs.Queries.{IsAtSlot, IsRead, IsWithheld, IsWithheldBy, Standing}
+use Rattle.rd_desk.specs.Queries.{IsAtSlot, IsRead, IsWithheld, Standing}
 use Rattle.rd_desk.specs.Replies.{IsAnswered}
-use Rattle.rd_desk.specs.declared.asking.Holding.{Holding}
 use Rattle.rd_desk.specs.declared.refusal.Refusal.{Refusal}
 use Rattle.rd_desk.specs.declared.refusal.Refusal.TheVariants.{UnknownKey, StaffOnly, BadBody, NoAccession, NoFile, NoDeed, Denied, ListedOnly, Faulty, WrongSize, DigestDiffers, Conflict}
 use Rattle.rd_desk.specs.Requests.{IsForStaff}
@@ -29,11 +26,6 @@ use Rattle.rd_desk.proofs.Passes.{to_6, to_7, to_8, to_9, to_10, to_11, to_12, t
 pub if_ok : {T X : Type 0} → (r : Result T X) → (P Q : T → Type 0) → ((value : T) → P value → Q value) → IfOk r P → IfOk r Q
 if_ok (Ok value) P Q then h = then value h
 if_ok (Err fault) P Q then h = tt
-
--- what is held of an accession that stands
-pub held_some : (desk : Desk) (acc : ℕ) (found : Option Holding) (holding : Holding) → found ≡ Some holding → IsHolding desk acc found
-    → (image : ImageRow) × (get desk.images acc ≡ Some image) × (holding.kind ≡ image.kind) × (holding.deed ≡ image.deed) × (holding.rules ≡ rules_for desk acc)
-held_some desk acc found holding is held = subst (IsHolding desk acc) is held
 
 -- where a file stands in an image, with the verdict on it
 at_slot : (standing : Standing) (audience : Audience) (day : ℤ) (file : Found) (verdict : Verdict)

@@ -1,5 +1,5 @@
 -- What is said of the store by the functions of which an answer is made.
-use Rattle.std.specs.Prelude.{◌≡◌, ◌⊎◌, ℕ, ℤ, Option, Some, None, Result, Ok, Err, IfOk, MatchOption}
+use Rattle.std.specs.Prelude.{◌≡◌, ◌⊎◌, ℕ, ℤ, List, All, Option, Some, None, Result, Ok, Err, IfOk, MatchOption, map, option_map}
 use Rattle.std.specs.FinMap.{get}
 use Rattle.sqlite.specs.Store.{Ghosts}
 use Rattle.sqlite.specs.Tree.{Trees}
@@ -9,6 +9,8 @@ use Rattle.rd_policy.specs.declared.rule.Band.{Band}
 use Rattle.rd_policy.specs.declared.rule.Band.TheVariants.{Takedown, Deed}
 use Rattle.rd_store.specs.Held.{IsClean, IsLeft, IsOpen, Lasts, LeavesOnly, LeavesOpen, desk}
 use Rattle.rd_store.specs.State.{Desk, rules_for}
+use Rattle.rd_store.specs.Shown.{accession_of}
+use Rattle.rd_store.specs.declared.rows.Accession.{Accession}
 use Rattle.rd_store.specs.declared.rows.ImageRow.{ImageRow}
 use Rattle.rd_desk.specs.Judged.{Holds, IsAccepted, IsRefused}
 use Rattle.rd_desk.specs.Replies.{IsAnswered, IsStep, IsSurvey, Tells, carried_out}
@@ -35,11 +37,20 @@ pub record Looks {S T X : Type 0} (g : Ghosts S) (old new : Held S) (result : Re
   pub answer : IsOpen g new → IfOk result Answers
   pub ends_open : LeavesOpen g new result
 
--- what was looked up of an accession: the kind of its image, its deed and the rules for it, or nothing, where it does
--- not stand
-abbrev pub IsHolding : Desk → ℕ → Option Holding → Type 0
-IsHolding desk acc found = MatchOption found (get desk.images acc ≡ None)
-    (λ holding. (image : ImageRow) × (get desk.images acc ≡ Some image) × (holding.kind ≡ image.kind) × (holding.deed ≡ image.deed) × (holding.rules ≡ rules_for desk acc))
+-- the accession stands, and its image is of this kind and came by this deed
+abbrev pub IsRegistered : Desk → ℕ → Accession → Type 0
+IsRegistered desk acc given = option_map accession_of (get desk.images acc) ≡ Some given
+
+abbrev pub AreRegistered : Desk → List (ℕ × Accession) → Type 0
+AreRegistered desk register = All (λ one. IsRegistered desk one.0 one.1) register
+
+abbrev pub numbers_of : List (ℕ × Accession) → List ℕ
+numbers_of register = map (λ one. one.0) register
+
+-- what is held of an accession that stands: the kind of its image, its deed and the rules for it
+abbrev pub IsHolding : Desk → ℕ → Holding → Type 0
+IsHolding desk acc holding =
+    (image : ImageRow) × (get desk.images acc ≡ Some image) × (holding.kind ≡ image.kind) × (holding.deed ≡ image.deed) × (holding.rules ≡ rules_for desk acc)
 
 -- the survey of an accession, or nothing, where it does not stand
 abbrev pub IsSurveyAt : Desk → ℕ → Option Survey → Type 0

@@ -1,6 +1,6 @@
 -- What the steps of a query tell, in the order in which they are taken; what a query answers as a whole is said
 -- without them.
-use Rattle.std.specs.Prelude.{◌≡◌, ◌≢◌, ◌⊎◌, ℕ, ℤ, List, [], ◌∷◌, Contains, MatchOption, Option, None, Some, length, true, false}
+use Rattle.std.specs.Prelude.{◌≡◌, ◌≢◌, ◌⊎◌, ℕ, ℤ, List, [], ◌∷◌, Contains, Option, None, Some, length, true, false}
 use Rattle.std.specs.FinMap.{get}
 use Rattle.rd_geometry.specs.declared.kind.Kind.{Kind}
 use Rattle.rd_policy.specs.Verdicts.{IsVerdict}
@@ -13,12 +13,11 @@ use Rattle.rd_volume.specs.Volumes.{AreBytesOf, IsFound, IsSlotOfFile}
 use Rattle.rd_volume.specs.declared.found.Found.{Found}
 use Rattle.rd_store.specs.State.{Desk, rules_for}
 use Rattle.rd_store.specs.declared.rows.ImageRow.{ImageRow}
-use Rattle.rd_desk.specs.Replies.{AreLines, IsListing}
+use Rattle.rd_desk.specs.Replies.{AreLines}
 use Rattle.rd_desk.specs.declared.refusal.Refusal.{Refusal}
 use Rattle.rd_desk.specs.declared.refusal.Refusal.TheVariants.{NoFile, Denied, ListedOnly, Faulty}
 use Rattle.rd_desk.specs.declared.said.ImageLine.{ImageLine}
 use Rattle.rd_desk.specs.declared.said.Line.{Line}
-use Rattle.rd_desk.specs.declared.said.Listing.{Listing}
 use Rattle.rd_desk.specs.declared.said.Said.{Said}
 use Rattle.rd_desk.specs.declared.said.Said.TheVariants.{Refused, File}
 
@@ -95,7 +94,3 @@ AreLinesOfEach desk audience day (acc ∷ accs) lines =
     (line : ImageLine) × (rest : List ImageLine)
     × IsCounted desk audience day acc line × AreLinesOfEach desk audience day accs rest
     × (((line.files ≢ 0) × (lines ≡ line ∷ rest)) ⊎ ((line.files ≡ 0) × (lines ≡ rest)))
-
--- an accession as it is listed, or nothing, where it does not stand
-abbrev pub IsListedAt : Desk → Audience → ℤ → ℕ → Option Listing → Type 0
-IsListedAt desk audience day acc found = MatchOption found (get desk.images acc ≡ None) (IsListing desk audience day acc)

@@ -1,13 +1,13 @@
 //! What the desk asks of its store: each call fails with `Unavailable` where the store or memory fails.
 
-ghost use Rattle.std.specs.Prelude.{◌≡◌, ◌++◌, IfOk, IfSome, is_some, option_map};
-ghost use Rattle.std.specs.FinMap.{get, keys};
+ghost use Rattle.std.specs.Prelude.{◌≡◌, ◌++◌, IfOk, is_some, map, option_map};
+ghost use Rattle.std.specs.FinMap.{entries, get};
 ghost use Rattle.rd_policy.specs.Verdicts.{AreInOrder};
-ghost use Rattle.rd_store.specs.Held.{desk};
+ghost use Rattle.rd_store.specs.Held.{IsOpen, desk};
 ghost use Rattle.rd_store.specs.Index.{AreFilesIn, IsFileIn};
-ghost use Rattle.rd_store.specs.Shown.{accession_of};
+ghost use Rattle.rd_store.specs.Shown.{accession_of, registered};
 ghost use Rattle.rd_store.specs.State.{rules_at};
-ghost use Rattle.rd_desk.specs.Calls.{IsHolding, Looks};
+ghost use Rattle.rd_desk.specs.Calls.{IsHolding, IsRegistered, Looks};
 
 use crate::said::Unavailable;
 use rd_geometry::{Items, Kind, NoMemory};
@@ -67,14 +67,14 @@ pub(crate) fn has_deed<S: Alter>(store: &mut Store<S>, num: u32) -> Result<bool,
     Ok(store.deed(num)?.is_some())
 }
 
-/// All accessions, ascending.
-pub(crate) fn accessions<S: Alter>(
+/// The register: all accessions, ascending, each with the kind of its image and its deed.
+pub(crate) fn register<S: Alter>(
     store: &mut Store<S>,
     alloc: Global,
-) -> Result<Vec<u32>, Unavailable>
-    ensures looks { Looks S.Store store.old store.new result (λ found. found.items ≡ keys (desk S.Store store.old).images) }
+) -> Result<Vec<(u32, Accession)>, Unavailable>
+    ensures looks { Looks S.Store store.old store.new result (λ found. found.items ≡ map registered (entries (desk S.Store store.old).images)) }
 {
-    Ok(store.accessions(alloc)?)
+    Ok(store.register(alloc)?)
 }
 
 /// The image at an accession, if one stands there.
@@ -89,7 +89,10 @@ pub(crate) fn image<S: Alter>(
 }
 
 /// The kind and the deed of an accession, if it stands.
-fn accession<S: Alter>(store: &mut Store<S>, acc: u32) -> Result<Option<Accession>, Unavailable>
+pub(crate) fn accession<S: Alter>(
+    store: &mut Store<S>,
+    acc: u32,
+) -> Result<Option<Accession>, Unavailable>
     ensures looks { Looks S.Store store.old store.new result (λ found. found ≡ option_map accession_of (get (desk S.Store store.old).images acc)) }
 {
     Ok(store.accession(acc)?)
@@ -138,19 +141,18 @@ fn rules<S: Alter>(
     }
 }
 
-/// What is held of an accession: the kind of its image, its deed and the rules for its files, in order; `None`
-/// where it does not stand. Its image is not read.
-pub(crate) fn look_up<S: Alter>(
+/// What is held of an accession that stands, whose kind and deed these are: with the rules for its files, in order.
+pub(crate) fn hold<S: Alter>(
     store: &mut Store<S>,
     alloc: Global,
     acc: u32,
-) -> Result<Option<Holding>, Unavailable>
+    given: Accession,
+) -> Result<Holding, Unavailable>
+    requires known { IsOpen S.Store store.old → IsRegistered (desk S.Store store.old) acc given }
     ensures looks { Looks S.Store store.old store.new result (IsHolding (desk S.Store store.old) acc) }
-    ensures order { IfOk result (λ found. IfSome found (λ holding. AreInOrder holding.rules)) }
+    ensures order { IfOk result (λ holding. AreInOrder holding.rules) }
 {
-    let Some(Accession { kind, deed }) = accession(store, acc)? else {
-        return Ok(None);
-    };
+    let Accession { kind, deed } = given;
     let rules = rules(store, alloc, acc, deed)?;
-    Ok(Some(Holding { kind, deed, rules }))
+    Ok(Holding { kind, deed, rules })
 }

@@ -1,21 +1,22 @@
 //! What is said, as a reply: texts of JSON, the table of the catalogue, and the bytes of files.
 
-ghost use Rattle.std.specs.Prelude.{◌≡◌, false, IfOk, map};
-ghost use Rattle.serde_json.specs.Data.{array, no_members, string};
-ghost use Rattle.serde_json.specs.View.{items_of, view};
+ghost use Rattle.std.specs.Prelude.{◌≡◌, false, IfOk};
+ghost use Rattle.serde_json.specs.Data.{no_members, string};
+ghost use Rattle.serde_json.specs.View.{view};
 ghost use Rattle.serde_json.specs.Written.{has_float};
 ghost use Rattle.rd_volume.specs.Words.{words_of};
 ghost use Rattle.rd_desk.specs.Refusals.{name_of};
-ghost use Rattle.rd_desk.specs.Texts.{DONE, UNAVAILABLE, counts_data, detail_of, error_data, file_data, image_data, images_data, in_json, line_data, listing_data, map_data, natural_or_null, outcome_data, reply_of, rule_member, survey_data, surveyed_data, texts};
+ghost use Rattle.rd_desk.specs.Texts.{DONE, UNAVAILABLE, counts_data, detail_of, error_data, in_json, map_data, outcome_data, reply_of, rule_member, survey_data, surveyed_data, texts};
 
 use crate::body::Body;
 use crate::catalogue::table;
+use crate::lists::{images_reply, listing_reply};
 use crate::refusal::Refusal;
-use crate::said::{Form, ImageLine, Line, Listing, Reply, Said, Survey};
-use crate::words::{effect_name, end_name};
+use crate::said::{Form, Reply, Said, Survey};
+use crate::words::end_name;
 use rd_geometry::{Kind, NoMemory, Text};
 use rd_store::Outcome;
-use rd_volume::{Found, MapReport, fault_words};
+use rd_volume::{MapReport, fault_words};
 use serde_json::{Value, json};
 use std::alloc::{AllocError, Global};
 
@@ -23,15 +24,6 @@ fn text_value(alloc: Global, text: &str) -> Result<Value, AllocError>
     ensures { IfOk result (λ value. view value ≡ string text.now) }
 {
     Ok(Value::String(String::from_str(alloc, text)?))
-}
-
-fn number_or_null(number: Option<u32>) -> Value
-    ensures { view result ≡ natural_or_null number }
-{
-    match number {
-        Some(number) => Value::from(number),
-        None => Value::Null,
-    }
 }
 
 /// The words of the faults whose bits are set, in the order of the bits.
@@ -79,86 +71,6 @@ fn refusal_value(alloc: Global, refusal: Refusal) -> Result<Value, AllocError>
         | Refusal::DigestDiffers
         | Refusal::Conflict => plain_error(alloc, name),
     }
-}
-
-/// A file, with the word of an effect, the words of its faults and the label of a rule.
-fn file_value(
-    alloc: Global,
-    effect: &str,
-    faults: Value,
-    rule: &str,
-    file: &Found,
-) -> Result<Value, AllocError>
-    ensures { IfOk result (λ value. view value ≡ file_data effect.now (view faults) rule.now file.now) }
-{
-    json!(in alloc; {
-        "effect": effect,
-        "faults": faults,
-        "name": file.name.as_str(),
-        "rule": rule,
-        "size": number_or_null(file.size),
-        "slot": file.slot,
-        "type": file.ty.as_str(),
-        "user": number_or_null(file.user.map(u32::from))
-    })
-}
-
-/// A file of an image of a kind.
-fn line_value(alloc: Global, kind: Kind, line: &Line) -> Result<Value, AllocError>
-    ensures { IfOk result (λ value. view value ≡ line_data kind line.now) }
-{
-    let effect = effect_name(line.verdict.effect);
-    let faults = fault_values(alloc, kind, line.file.faults)?;
-    let rule = line.verdict.label.to_string(alloc)?;
-    file_value(alloc, effect, faults, rule.as_str(), &line.file)
-}
-
-fn line_values(alloc: Global, kind: Kind, lines: &[Line]) -> Result<Value, AllocError>
-    ensures { IfOk result (λ value. view value ≡ array (items_of (map (line_data kind) lines.now))) }
-{
-    let mut list = Vec::new(alloc);
-    for line in lines {
-        list.push(line_value(alloc, kind, line)?)?;
-    }
-    Ok(Value::Array(list))
-}
-
-fn listing_value(alloc: Global, listing: &Listing) -> Result<Value, AllocError>
-    ensures { IfOk result (λ value. view value ≡ listing_data listing.now) }
-{
-    json!(in alloc; {
-        "accession": listing.accession,
-        "deed": listing.deed,
-        "files": line_values(alloc, listing.kind, listing.files.as_slice())?,
-        "kind": listing.kind.word()
-    })
-}
-
-fn image_value(alloc: Global, line: &ImageLine) -> Result<Value, AllocError>
-    ensures { IfOk result (λ value. view value ≡ image_data line.now) }
-{
-    json!(in alloc; {
-        "accession": line.accession,
-        "deed": line.deed,
-        "files": line.files as u64,
-        "kind": line.kind.word()
-    })
-}
-
-fn image_values(alloc: Global, lines: &[ImageLine]) -> Result<Value, AllocError>
-    ensures { IfOk result (λ value. view value ≡ array (items_of (map image_data lines.now))) }
-{
-    let mut list = Vec::new(alloc);
-    for line in lines {
-        list.push(image_value(alloc, line)?)?;
-    }
-    Ok(Value::Array(list))
-}
-
-fn images_value(alloc: Global, lines: &[ImageLine]) -> Result<Value, AllocError>
-    ensures { IfOk result (λ value. view value ≡ images_data lines.now) }
-{
-    json!(in alloc; {"images": image_values(alloc, lines)?})
 }
 
 fn counts_value(alloc: Global, map: &MapReport) -> Result<Value, AllocError>
@@ -284,8 +196,8 @@ pub fn reply_to(alloc: Global, said: Said) -> Result<Reply, NoMemory>
             json_reply(alloc, refusal.status(), &refusal_value(alloc, refusal)?)
         }
         Said::Done => Ok(done()),
-        Said::Images(lines) => json_reply(alloc, 200, &images_value(alloc, lines.as_slice())?),
-        Said::Listed(listing) => json_reply(alloc, 200, &listing_value(alloc, &listing)?),
+        Said::Images(lines) => images_reply(alloc, lines.as_slice()),
+        Said::Listed(listing) => listing_reply(alloc, &listing),
         Said::File(contents) => Ok(Reply {
             status: 200,
             form: Form::Octets,

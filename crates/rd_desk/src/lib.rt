@@ -11,6 +11,7 @@ mod desk;
 mod files;
 mod json;
 mod laws;
+mod lists;
 mod queries;
 mod refusal;
 mod request;

@@ -7,20 +7,20 @@ ghost use Rattle.rd_policy.specs.Verdicts.{AreInOrder, IsVerdict};
 ghost use Rattle.rd_store.specs.Held.{IsClean, IsOpen, desk};
 ghost use Rattle.rd_store.specs.declared.rows.ImageRow.{ImageRow};
 ghost use Rattle.rd_volume.specs.Volumes.{IsFound};
-ghost use Rattle.rd_desk.specs.Calls.{Looks};
+ghost use Rattle.rd_desk.specs.Calls.{AreRegistered, IsRegistered, Looks, numbers_of};
 ghost use Rattle.rd_desk.specs.Judged.{audience_of};
-ghost use Rattle.rd_desk.specs.Queries.{AreLinesOf, AreLinesOfEach, IsCounted, IsListedAt, IsRead, IsWithheld};
+ghost use Rattle.rd_desk.specs.Queries.{AreLinesOf, AreLinesOfEach, IsCounted, IsRead, IsWithheld};
 ghost use Rattle.rd_desk.specs.Replies.{AreLines, IsAnswered, IsListing};
 ghost use Rattle.rd_desk.specs.Requests.{IsForStaff};
 
-use crate::asking::{Holding, accessions, file_at, files, look_up};
+use crate::asking::{Holding, accession, file_at, files, hold, register};
 use crate::files::contents;
 use crate::refusal::Refusal;
 use crate::request::{Request, What};
 use crate::said::{ImageLine, Line, Listing, Said, Unavailable};
 use rd_geometry::Items;
 use rd_policy::{Audience, Effect, Rule, Verdict, decide};
-use rd_store::Store;
+use rd_store::{Accession, Store};
 use rd_volume::Found;
 use sqlite::Alter;
 use std::alloc::Global;
@@ -114,8 +114,11 @@ fn bytes<S: Alter>(
         IsAnswered (desk S.Store store.old) caller.now.day (record { badge = badge.now; what = What.Bytes acc slot }) said (desk S.Store store.old)) }
 {
     let _ = badge;
-    match look_up(store, alloc, acc)? {
-        Some(holding) => read(store, alloc, &holding, caller, acc, slot),
+    match accession(store, acc)? {
+        Some(given) => {
+            let holding = hold(store, alloc, acc, given)?;
+            read(store, alloc, &holding, caller, acc, slot)
+        }
         None => Ok(Said::Refused(Refusal::NoAccession)),
     }
 }
@@ -158,25 +161,25 @@ fn lines<S: Alter>(
     listed(alloc, holding.rules.as_slice(), caller, files)
 }
 
-/// An accession with its files that are listed; `None` where it does not stand.
+/// An accession that stands, of this kind and this deed, with its files that are listed.
 fn listed_at<S: Alter>(
     store: &mut Store<S>,
     alloc: Global,
     caller: &Caller,
     acc: u32,
-) -> Result<Option<Listing>, Unavailable>
-    ensures { Looks S.Store store.old store.new result (IsListedAt (desk S.Store store.old) caller.now.audience caller.now.day acc) }
+    given: Accession,
+) -> Result<Listing, Unavailable>
+    requires known { IsOpen S.Store store.old → IsRegistered (desk S.Store store.old) acc given }
+    ensures { Looks S.Store store.old store.new result (IsListing (desk S.Store store.old) caller.now.audience caller.now.day acc) }
 {
-    let Some(holding) = look_up(store, alloc, acc)? else {
-        return Ok(None);
-    };
+    let holding = hold(store, alloc, acc, given)?;
     let files = lines(store, alloc, &holding, caller, acc)?;
-    Ok(Some(Listing {
+    Ok(Listing {
         accession: acc,
         deed: holding.deed,
         kind: holding.kind,
         files,
-    }))
+    })
 }
 
 /// The accession that is asked for, with its files that are listed.
@@ -192,8 +195,8 @@ fn listing<S: Alter>(
         IsAnswered (desk S.Store store.old) caller.now.day (record { badge = badge.now; what = What.Listing acc }) said (desk S.Store store.old)) }
 {
     let _ = badge;
-    match listed_at(store, alloc, caller, acc)? {
-        Some(listing) => Ok(Said::Listed(listing)),
+    match accession(store, acc)? {
+        Some(given) => Ok(Said::Listed(listed_at(store, alloc, caller, acc, given)?)),
         None => Ok(Said::Refused(Refusal::NoAccession)),
     }
 }
@@ -204,35 +207,36 @@ fn image_line<S: Alter>(
     alloc: Global,
     caller: &Caller,
     acc: u32,
+    given: Accession,
 ) -> Result<ImageLine, Unavailable>
+    requires known { IsOpen S.Store store.old → IsRegistered (desk S.Store store.old) acc given }
     ensures { Looks S.Store store.old store.new result (IsCounted (desk S.Store store.old) caller.now.audience caller.now.day acc) }
 {
-    let Some(holding) = look_up(store, alloc, acc)? else {
-        return Err(Unavailable);
-    };
-    let files = lines(store, alloc, &holding, caller, acc)?;
+    let listing = listed_at(store, alloc, caller, acc, given)?;
     Ok(ImageLine {
         accession: acc,
-        deed: holding.deed,
-        kind: holding.kind,
-        files: files.as_slice().len(),
+        deed: listing.deed,
+        kind: listing.kind,
+        files: listing.files.as_slice().len(),
     })
 }
 
-/// Of these accessions those of which a file is listed.
+/// Of the accessions of a register those of which a file is listed.
 fn image_lines<S: Alter>(
     store: &mut Store<S>,
     alloc: Global,
     caller: &Caller,
-    accessions: &[u32],
+    register: &[(u32, Accession)],
 ) -> Result<Items<ImageLine>, Unavailable>
     requires awake { IsClean S.Store store.old → IsOpen S.Store store.old }
-    ensures { Looks S.Store store.old store.new result (AreLinesOfEach (desk S.Store store.old) caller.now.audience caller.now.day accessions.now) }
+    requires known { IsOpen S.Store store.old → AreRegistered (desk S.Store store.old) register.now }
+    ensures { Looks S.Store store.old store.new result (AreLinesOfEach (desk S.Store store.old) caller.now.audience caller.now.day (numbers_of register.now)) }
 {
     let mut lines = Vec::new(alloc);
     store.rests();
-    for acc in accessions {
-        let line = image_line(store, alloc, caller, *acc)?;
+    for one in register {
+        let (acc, given) = *one;
+        let line = image_line(store, alloc, caller, acc, given)?;
         if line.files > 0 {
             let Ok(()) = lines.push(line) else {
                 return Err(Unavailable);
@@ -254,26 +258,26 @@ fn images<S: Alter>(
         IsAnswered (desk S.Store store.old) caller.now.day (record { badge = badge.now; what = What.Images }) said (desk S.Store store.old)) }
 {
     let _ = badge;
-    let accessions = accessions(store, alloc)?;
-    Ok(Said::Images(image_lines(store, alloc, caller, accessions.as_slice())?))
+    let register = register(store, alloc)?;
+    Ok(Said::Images(image_lines(store, alloc, caller, register.as_slice())?))
 }
 
-/// These accessions, each with its files that are listed.
+/// The accessions of a register, each with its files that are listed.
 fn listings<S: Alter>(
     store: &mut Store<S>,
     alloc: Global,
     caller: &Caller,
-    accessions: &[u32],
+    register: &[(u32, Accession)],
 ) -> Result<Items<Listing>, Unavailable>
     requires awake { IsClean S.Store store.old → IsOpen S.Store store.old }
-    ensures { Looks S.Store store.old store.new result (λ listings. AllZip (IsListing (desk S.Store store.old) caller.now.audience caller.now.day) accessions.now listings) }
+    requires known { IsOpen S.Store store.old → AreRegistered (desk S.Store store.old) register.now }
+    ensures { Looks S.Store store.old store.new result (λ listings. AllZip (IsListing (desk S.Store store.old) caller.now.audience caller.now.day) (numbers_of register.now) listings) }
 {
     let mut listings = Vec::new(alloc);
     store.rests();
-    for acc in accessions {
-        let Some(listing) = listed_at(store, alloc, caller, *acc)? else {
-            return Err(Unavailable);
-        };
+    for one in register {
+        let (acc, given) = *one;
+        let listing = listed_at(store, alloc, caller, acc, given)?;
         let Ok(()) = listings.push(listing) else {
             return Err(Unavailable);
         };
@@ -293,8 +297,8 @@ fn catalogue<S: Alter>(
         IsAnswered (desk S.Store store.old) caller.now.day (record { badge = badge.now; what = What.Catalogue }) said (desk S.Store store.old)) }
 {
     let _ = badge;
-    let accessions = accessions(store, alloc)?;
-    Ok(Said::Catalogue(listings(store, alloc, caller, accessions.as_slice())?))
+    let register = register(store, alloc)?;
+    Ok(Said::Catalogue(listings(store, alloc, caller, register.as_slice())?))
 }
 
 /// Answers a query.

@@ -22,7 +22,7 @@ use Rattle.sqlite_sql.specs.declared.ops.BinaryOp.TheVariants.{Compare}
 use Rattle.sqlite_sql.specs.declared.ops.CompareOp.TheVariants.{Eq}
 use Rattle.sqlite_value.proofs.OrderLemmas.{value_cmp-Int, then-Equal}
 use Rattle.rd_tables.specs.Asked.{IsPicked, rising}
-use Rattle.rd_tables.specs.Queries.{deed_query, image_query, heading_query, accession_query, accessions_query, audience_query, rules_query, keys_query}
+use Rattle.rd_tables.specs.Queries.{deed_query, image_query, heading_query, accession_query, accessions_query, audience_query, register_query, rules_query, keys_query}
 use Rattle.rd_tables.specs.Sheets.{Spells, map_of, natural, seen}
 use Rattle.rd_tables.proofs.Lists.{map_map, and_true, both, in_map, from_map}
 use Rattle.rd_tables.proofs.Values.{equal_numbers, equal_blobs}
@@ -32,9 +32,9 @@ use Rattle.rd_policy.specs.declared.rule.Band.{Band}
 use Rattle.rd_store.specs.Codes.{band_code, is_at}
 use Rattle.rd_store.specs.State.{Desk, Place, Terms, digest_cmp, rule_of, HasOtherStaff}
 use Rattle.rd_store.specs.declared.rows.ImageRow.{ImageRow}
-use Rattle.rd_store.specs.Shown.{deed_shown, image_shown, heading_shown, given_shown, accession_shown, audience_shown, ShowsOther, IsOtherKey}
+use Rattle.rd_store.specs.Shown.{deed_shown, image_shown, heading_shown, given_shown, accession_shown, registered, registered_shown, registered_in, audience_shown, ShowsOther, IsOtherKey}
 use Rattle.rd_store.specs.Spelled.{deed_sheet, image_sheet, key_sheet, rule_sheet}
-use Rattle.rd_store.proofs.Orders.{number_order, digest_order, place_order, rule_back, key_back}
+use Rattle.rd_store.proofs.Orders.{number_order, digest_order, place_order, kind_back, rule_back, key_back}
 
 -- the first column equals the parameter
 first_is : (n : ℕ) (k : ℕ) → (is_true (binary (Compare Eq Binary) (Int (pos k)) (Int (pos n))) && true) ≡ eq_by_cmp nat_cmp n k
@@ -72,6 +72,16 @@ accessions_found table rows spells picks =
 pub numbers_back : (numbers : List ℕ) → map (λ row. natural (column row 0)) (map accession_shown numbers) ≡ numbers
 numbers_back [] = refl
 numbers_back (n ∷ numbers) = ap (λ more. n ∷ more) (numbers_back numbers)
+
+pub register_found : (table rows : List Row) → Spells image_sheet table → IsPicked register_query [] table rows → rows ≡ map registered_shown (entries (map_of image_sheet table))
+register_found table rows spells picks =
+    in_order image_sheet number_order register_query [] table rows spells picks (λ _. true) registered_shown accession_shown (λ row is. refl)
+    (λ row is. ap (λ s. (column s 0 ∷ [], column s 0 ∷ column s 1 ∷ column s 2 ∷ [])) is) numbers_rise
+    ∙ ap (λ m. map registered_shown (entries m)) (retain_all nat_cmp number_order (map_of image_sheet table))
+
+pub register_back : (es : List (ℕ × ImageRow)) → map registered_in (map registered_shown es) ≡ map registered es
+register_back [] = refl
+register_back (e ∷ es) = λ i. (e.0, record { kind = kind_back e.1.kind i; deed = e.1.deed }) ∷ register_back es i
 
 module _ (digest : List ℕ) (table rows : List Row) where
   pub audience_found : Spells key_sheet table → IsPicked audience_query (Blob digest ∷ []) table rows → rows ≡ map audience_shown (option_to_list (get (map_of key_sheet table) digest))

@@ -1,14 +1,15 @@
 -- How the queries show entries.
 use Rattle.std.specs.Prelude.{◌≡◌, ◌≢◌, ℕ, pos, List, [], ◌∷◌}
 use Rattle.sqlite.specs.declared.types.Value.TheVariants.{Int, Text, Blob}
-use Rattle.sqlite.specs.Order.{Row}
+use Rattle.sqlite.specs.Order.{Row, column}
 use Rattle.rd_policy.specs.declared.audience.Audience.{Audience}
 use Rattle.rd_policy.specs.declared.audience.Audience.TheVariants.{Staff}
+use Rattle.rd_tables.specs.Sheets.{natural}
 use Rattle.rd_store.specs.declared.images.Heading.{Heading}
 use Rattle.rd_store.specs.declared.rows.Accession.{Accession}
 use Rattle.rd_store.specs.declared.rows.DeedRow.{DeedRow}
 use Rattle.rd_store.specs.declared.rows.ImageRow.{ImageRow}
-use Rattle.rd_store.specs.Codes.{kind_code, audience_code}
+use Rattle.rd_store.specs.Codes.{kind_code, kind_in, audience_code}
 use Rattle.rd_store.specs.Spelled.{key_sheet}
 
 abbrev pub deed_shown : DeedRow → Row
@@ -39,6 +40,16 @@ given_shown image = Int (pos (kind_code image.kind)) ∷ Int (pos image.deed) �
 
 abbrev pub accession_shown : ℕ → Row
 accession_shown acc = Int (pos acc) ∷ []
+
+-- an accession with its number, its kind and its deed
+abbrev pub registered : ℕ × ImageRow → ℕ × Accession
+registered e = (e.0, accession_of e.1)
+
+abbrev pub registered_shown : ℕ × ImageRow → Row
+registered_shown e = Int (pos e.0) ∷ given_shown e.1
+
+abbrev pub registered_in : Row → ℕ × Accession
+registered_in row = (natural (column row 0), record { kind = kind_in (natural (column row 1)); deed = natural (column row 2) })
 
 -- a key of the staff with another digest
 abbrev pub IsOtherKey : List ℕ → List ℕ × Audience → Type 0

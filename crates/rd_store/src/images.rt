@@ -1,5 +1,5 @@
 ghost use Rattle.std.specs.Prelude.{◌≡◌, ◌∷◌, [], IfOk, IfErr, IsSome, Option, None, map, option_map, pos, false};
-ghost use Rattle.std.specs.FinMap.{get, keys};
+ghost use Rattle.std.specs.FinMap.{entries, get, keys};
 ghost use Rattle.std.specs.Option.{option_to_list};
 ghost use Rattle.sqlite.specs.Held.{state};
 ghost use Rattle.sqlite.specs.declared.types.Value.TheVariants.{Int};
@@ -12,7 +12,7 @@ ghost use Rattle.rd_tables.specs.Sheets.{Spells, map_of, natural};
 ghost use Rattle.rd_store.specs.Held.{Asks, Changes, HoldsDesk, HoldsTables, IsOfWith, IsOpen, Judges, LacksImage, Moves, desk};
 ghost use Rattle.rd_store.specs.Index.{AreFilesIn, IsFiledTo, with_new_image};
 ghost use Rattle.rd_store.specs.Lawful.{IsImage};
-ghost use Rattle.rd_store.specs.Shown.{accession_of, accession_shown, given_shown, image_shown, image_with, heading_of, heading_shown};
+ghost use Rattle.rd_store.specs.Shown.{accession_of, accession_shown, given_shown, image_shown, image_with, heading_of, heading_shown, registered, registered_in, registered_shown};
 ghost use Rattle.rd_store.specs.Spelled.{image_sheet};
 ghost use Rattle.rd_store.specs.State.{HasOtherImage, with_image};
 
@@ -227,6 +227,56 @@ pub(crate) fn accessions<S: Alter>(
 {
     let rows = accession_rows(conn)?;
     read_numbers(alloc, &rows)
+}
+
+/// The rows for all accessions, each with its kind and its deed.
+fn register_rows<S: Alter>(conn: &mut Connection<S>) -> Result<Vec<Row>, StoreFault>
+    requires holds { HoldsDesk (state S.Store conn.old) }
+    ensures asks { Asks S.Store conn.old conn.new result StoreFault.Sql (λ rows.
+        rows.items ≡ map registered_shown (entries (desk S.Store conn.old).images)) }
+    ensures kept { HoldsDesk (state S.Store conn.new) }
+{
+    read_all(conn, "SELECT acc, kind, deed FROM image ORDER BY acc", &[])
+}
+
+/// The accession that a row shows, with its number.
+fn read_registered(row: &Row) -> Result<(u32, Accession), StoreFault>
+    ensures registered { IfOk result (λ read. read ≡ registered_in row.now) }
+    ensures fault { IfErr result (λ fault. fault ≡ StoreFault.Sql) }
+{
+    let number = number_at(row, 0)?;
+    let kind = kind(number_at(row, 1)?);
+    let deed = number_at(row, 2)?;
+    Ok((number, Accession { kind, deed }))
+}
+
+/// The accessions that rows show, each with its number.
+fn read_register(alloc: Global, rows: &[Row]) -> Result<Vec<(u32, Accession)>, StoreFault>
+    ensures register { IfOk result (λ register. register.items ≡ map registered_in rows.now) }
+    ensures fault { IfErr result (λ fault. fault ≡ StoreFault.Sql) }
+{
+    let mut register = Vec::new(alloc);
+    for row in rows {
+        let registered = read_registered(row)?;
+        if register.push(registered).is_err() {
+            return Err(StoreFault::Sql);
+        }
+    }
+    Ok(register)
+}
+
+/// All accessions, ascending, each with its kind and its deed.
+pub(crate) fn register<S: Alter>(
+    alloc: Global,
+    conn: &mut Connection<S>,
+) -> Result<Vec<(u32, Accession)>, StoreFault>
+    requires holds { HoldsDesk (state S.Store conn.old) }
+    ensures asks { Asks S.Store conn.old conn.new result StoreFault.Sql (λ register.
+        register.items ≡ map registered (entries (desk S.Store conn.old).images)) }
+    ensures kept { HoldsDesk (state S.Store conn.new) }
+{
+    let rows = register_rows(conn)?;
+    read_register(alloc, &rows)
 }
 
 /// The files of an image.

@@ -1,5 +1,5 @@
-ghost use Rattle.std.specs.Prelude.{◌≡◌, ◌≢◌, ◌++◌, ⊤, false, IfOk, IfErr, IsSome, option_map};
-ghost use Rattle.std.specs.FinMap.{get, keys};
+ghost use Rattle.std.specs.Prelude.{◌≡◌, ◌≢◌, ◌++◌, ⊤, false, IfOk, IfErr, IsSome, map, option_map};
+ghost use Rattle.std.specs.FinMap.{entries, get, keys};
 ghost use Rattle.sqlite.specs.Held.{Held, state};
 ghost use Rattle.sqlite_trees.specs.declared.memory.MemStore.{MemStore};
 ghost use Rattle.rd_policy.specs.Days.{IsDay};
@@ -10,7 +10,7 @@ ghost use Rattle.sqlite.specs.Steps.{over_memory};
 ghost use Rattle.rd_store.specs.Held.{Changes, HoldsDesk, IsClean, IsOpen, Judges, Reads, Rests, desk};
 ghost use Rattle.rd_store.specs.Index.{AreFilesIn, IsFileIn};
 ghost use Rattle.rd_store.specs.Opened.{IsNotOpened, IsOpened};
-ghost use Rattle.rd_store.specs.Shown.{accession_of};
+ghost use Rattle.rd_store.specs.Shown.{accession_of, registered};
 ghost use Rattle.rd_store.specs.Lawful.{IsDeed, IsImage, IsKey};
 ghost use Rattle.rd_store.specs.State.{HasOtherImage, IsLastStaff, Stands, place_of, rules_at, rules_for, terms_of, with_check, with_deed, with_image, with_key, with_rule, without_key, without_rule};
 
@@ -182,6 +182,17 @@ impl<S: Alter> Store<S> {
             numbers.items ≡ keys (desk S.Store self.old).images) }
     {
         images::accessions(alloc, &mut self.conn)
+    }
+
+    /// The register: all accessions, ascending, each with the kind of its image and its deed. The bytes of the
+    /// images are not asked for.
+    ///
+    /// It fails with `Sql`.
+    pub fn register(&mut self, alloc: Global) -> Result<Vec<(u32, Accession)>, StoreFault>
+        ensures reads { Reads S.Store self.old self.new result (λ register.
+            register.items ≡ map registered (entries (desk S.Store self.old).images)) }
+    {
+        images::register(alloc, &mut self.conn)
     }
 
     /// The audience of the desk key that has a digest, its SHA-256; `None` where there is no such key.

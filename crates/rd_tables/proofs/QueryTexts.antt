@@ -15,7 +15,7 @@ use Rattle.sqlite.proofs.Callers.{IsPlain, command_of}
 use Rattle.sqlite_tied.specs.Compute.{everything}
 use Rattle.rd_tables.specs.Asked.{asks_of}
 use Rattle.rd_tables.specs.Schemas.{desk_schema, starts_with_desk}
-use Rattle.rd_tables.specs.Queries.{deed_text, deed_query, image_text, image_query, heading_text, heading_query, accession_text, accession_query, audience_text, audience_query, rules_text, rules_query, accessions_text, accessions_query, keys_text, keys_query, all_deeds_text, all_deeds_query, all_images_text, all_images_query, all_rules_text, all_rules_query, all_keys_text, all_keys_query, all_checks_text, all_checks_query, file_text, file_query, files_text, files_query, all_files_text, all_files_query, version_text, version_query}
+use Rattle.rd_tables.specs.Queries.{deed_text, deed_query, image_text, image_query, heading_text, heading_query, accession_text, accession_query, audience_text, audience_query, rules_text, rules_query, accessions_text, accessions_query, register_text, register_query, keys_text, keys_query, all_deeds_text, all_deeds_query, all_images_text, all_images_query, all_rules_text, all_rules_query, all_keys_text, all_keys_query, all_checks_text, all_checks_query, file_text, file_query, files_text, files_query, all_files_text, all_files_query, version_text, version_query}
 
 -- Over these tables the text asks this of the rows on one tree.
 pub record AsksOver (schema : Schema) (text : List ℕ) (tree : ℕ) (tests shown : List Term) (order : List (Term × Key)) : Type 0 where
@@ -66,6 +66,10 @@ rules_asks = record {
 pub accessions_asks : AsksBy accessions_text 2 accessions_query
 unfolding understood everything
 accessions_asks = record { names = codes "acc" ∷ []; means = refl; plain = (refl, refl); stored = refl; here = λ trees. refl }
+
+pub register_asks : AsksBy register_text 2 register_query
+unfolding understood everything
+register_asks = record { names = codes "acc" ∷ codes "kind" ∷ codes "deed" ∷ []; means = refl; plain = (refl, refl); stored = refl; here = λ trees. refl }
 
 pub keys_asks : AsksBy keys_text 5 keys_query
 unfolding understood everything

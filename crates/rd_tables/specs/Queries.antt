@@ -71,6 +71,13 @@ accessions_text = codes "SELECT acc FROM image ORDER BY acc"
 abbrev pub accessions_query : Query
 accessions_query = asks_of 2 [] (col 1 0 ∷ []) ((col 1 0, rising) ∷ [])
 
+-- each with its kind and its deed
+abbrev pub register_text : List ℕ
+register_text = codes "SELECT acc, kind, deed FROM image ORDER BY acc"
+
+abbrev pub register_query : Query
+register_query = asks_of 2 [] (col 1 0 ∷ col 1 2 ∷ col 1 3 ∷ []) ((col 1 0, rising) ∷ [])
+
 abbrev pub keys_text : List ℕ
 keys_text = codes "SELECT digest, audience FROM badge ORDER BY digest"
 

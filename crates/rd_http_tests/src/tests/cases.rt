@@ -4,7 +4,7 @@ use super::state::{AFTER, Memory, add_visit, new_desk, new_door, out_of, run};
 use rd_geometry::NoMemory;
 use rd_http::{Ended, MemoryDoor, Served};
 use rd_rows::cbm::{looped, one_program};
-use rd_rows::cpm::hello;
+use rd_rows::cpm::{hello, two_extents};
 use std::alloc::Global;
 use std::process::Abort;
 use std::test::Fail;
@@ -35,6 +35,8 @@ pub(super) enum Picture {
     Looped,
     /// A CP/M disk with `HELLO.TXT` of one record.
     Record,
+    /// A CP/M disk with `FILE` of 128 records, each of other bytes.
+    Extent,
 }
 
 /// The bytes that come.
@@ -168,6 +170,7 @@ fn image_of(alloc: Global, picture: Picture) -> Result<Vec<u8>, NoMemory> {
         Picture::Program => one_program(alloc),
         Picture::Looped => looped(alloc),
         Picture::Record => hello(alloc),
+        Picture::Extent => two_extents(alloc),
         Picture::Cut => {
             let mut image = one_program(alloc)?;
             image.truncate(174_847);

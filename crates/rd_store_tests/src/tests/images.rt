@@ -45,16 +45,16 @@ const DEEDS: &[Case] = &[
 ];
 
 /// A 1541 disk under deed 7.
-const COMMODORE: Option<Accession> = Some(Accession {
+const COMMODORE: Accession = Accession {
     kind: Kind::D64,
     deed: 7,
-});
+};
 
 /// A CP/M disk under deed 8.
-const CONTROL_PROGRAM: Option<Accession> = Some(Accession {
+const CONTROL_PROGRAM: Accession = Accession {
     kind: Kind::Cpm8,
     deed: 8,
-});
+};
 
 const ACCESSIONS: &[Case] = &[Case {
     label: "the kind and the deed of an accession",
@@ -65,9 +65,14 @@ const ACCESSIONS: &[Case] = &[Case {
             Call::PutImage(999_999, (Picture::Looped, 7, Digest::Other)),
             DONE,
         ),
-        Step::Tells(Question::Accession(1, CONTROL_PROGRAM)),
-        Step::Tells(Question::Accession(12, COMMODORE)),
-        Step::Tells(Question::Accession(999_999, COMMODORE)),
+        Step::Tells(Question::Accession(1, Some(CONTROL_PROGRAM))),
+        Step::Tells(Question::Accession(12, Some(COMMODORE))),
+        Step::Tells(Question::Accession(999_999, Some(COMMODORE))),
+        Step::Tells(Question::Register(&[
+            (1, CONTROL_PROGRAM),
+            (12, COMMODORE),
+            (999_999, COMMODORE),
+        ])),
         Step::Tells(Question::Accession(0, None)),
         Step::Tells(Question::Accession(13, None)),
         Step::Tells(Question::Accession(1_000_000, None)),
@@ -128,6 +133,7 @@ const IMAGES: &[Case] = &[
         start: Start::New,
         steps: &[
             Step::Tells(Question::Accessions(&[])),
+            Step::Tells(Question::Register(&[])),
             Step::Does(Call::PutDeed(7, "A. Curator", 18_020), DONE),
             Step::Does(
                 Call::PutImage(13, (Picture::Looped, 7, Digest::Other)),
@@ -142,6 +148,11 @@ const IMAGES: &[Case] = &[
                 DONE,
             ),
             Step::Tells(Question::Accessions(&[12, 13, 999_999])),
+            Step::Tells(Question::Register(&[
+                (12, COMMODORE),
+                (13, COMMODORE),
+                (999_999, COMMODORE),
+            ])),
             Step::Tells(Question::Image(13, Some((Picture::Looped, 7, Digest::Other)))),
         ],
     },

@@ -4,9 +4,9 @@
 use super::steps::{Call, DONE, Digest, Named, Question, Step, answer, assert_steps, tells_so};
 use super::told::HELLO;
 use super::{Desk, PROGRAM, STAFF, into_connection, new_connection, number, open_desk, put_check};
-use rd_geometry::NoMemory;
+use rd_geometry::{Kind, NoMemory};
 use rd_policy::Audience;
-use rd_store::{OpenFault, Outcome, Refused, Store, StoreFault};
+use rd_store::{Accession, OpenFault, Outcome, Refused, Store, StoreFault};
 use sqlite::{Connection, Error, MemStore};
 use std::alloc::Global;
 use std::process::Abort;
@@ -79,6 +79,12 @@ fn desk_again(rt: &impl Abort, alloc: Global) -> Result<Desk, Fail> {
 
 const PUT_DEED: Step<'static> = Step::Does(Call::PutDeed(7, "A. Curator", 18_020), DONE);
 
+/// A 1541 disk under deed 7.
+const COMMODORE: Accession = Accession {
+    kind: Kind::D64,
+    deed: 7,
+};
+
 const PUT_IMAGE: Step<'static> = Step::Does(Call::PutImage(12, PROGRAM), DONE);
 
 /// Tells that a desk has deed 7 and the staff key, and nothing else.
@@ -86,6 +92,7 @@ const BARE: &[Step<'static>] = &[
     Step::Tells(Question::Deed(7, Some(("A. Curator", 18_020)))),
     Step::Tells(Question::AudienceOf(Digest::Staff, Some(Audience::Staff))),
     Step::Tells(Question::Accessions(&[])),
+    Step::Tells(Question::Register(&[])),
     Step::Tells(Question::RulesFor(12, &[])),
     Step::Tells(Question::Files(12, &[])),
     Step::Tells(Question::FileAt(12, 0, None)),
@@ -95,6 +102,7 @@ const BARE: &[Step<'static>] = &[
 const IMAGE: &[Step<'static>] = &[
     Step::Tells(Question::Image(12, Some(PROGRAM))),
     Step::Tells(Question::Accessions(&[12])),
+    Step::Tells(Question::Register(&[(12, COMMODORE)])),
     Step::Tells(Question::Files(12, &[HELLO])),
 ];
 

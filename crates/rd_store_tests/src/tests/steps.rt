@@ -102,6 +102,7 @@ pub(super) enum Question<'a> {
     /// Of an accession: the kind and the deed.
     Accession(u32, Option<Accession>),
     Accessions(&'a [u32]),
+    Register(&'a [(u32, Accession)]),
     AudienceOf(Digest, Option<Audience>),
     RulesFor(u32, &'a [Ruled]),
     /// Of an accession and a deed.
@@ -393,6 +394,22 @@ fn has_accessions<S: Alter>(
     Ok(found.as_slice() == wanted)
 }
 
+fn register<S: Alter>(
+    alloc: Global,
+    desk: &mut Store<S>,
+) -> Result<Vec<(u32, Accession)>, StoreFault> {
+    desk.register(alloc)
+}
+
+fn has_register<S: Alter>(
+    alloc: Global,
+    desk: &mut Store<S>,
+    wanted: &[(u32, Accession)],
+) -> Result<bool, StoreFault> {
+    let found = register(alloc, desk)?;
+    Ok(found.as_slice() == wanted)
+}
+
 fn audience_of<S: Alter>(
     desk: &mut Store<S>,
     digest: &[u8; 32],
@@ -489,6 +506,7 @@ pub(super) fn tells_so<S: Alter>(
         Question::Image(acc, wanted) => has_image(alloc, desk, acc, wanted)?,
         Question::Accession(acc, wanted) => has_accession(desk, acc, wanted),
         Question::Accessions(wanted) => has_accessions(alloc, desk, wanted),
+        Question::Register(wanted) => has_register(alloc, desk, wanted),
         Question::AudienceOf(digest, wanted) => has_audience(desk, digest, wanted),
         Question::RulesFor(acc, wanted) => has_rules(alloc, rules_for(alloc, desk, acc), wanted)?,
         Question::RulesUnder(acc, deed, wanted) => {

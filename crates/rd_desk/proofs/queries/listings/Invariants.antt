@@ -1,14 +1,14 @@
 use Rattle.std.proofs.Common.{take}
 use Rattle.std.specs.List.{AllZip}
 use Rattle.rd_store.specs.Held.{IsClean, IsOpen, desk}
-use Rattle.rd_desk.specs.Calls.{Keeps}
+use Rattle.rd_desk.specs.Calls.{Keeps, numbers_of}
 use Rattle.rd_desk.specs.Replies.{IsListing}
 use Rattle.rd_desk.proofs.queries.listings.Given as goal
 
-abbrev pub invariant-loop-acc : goal.invariant-loop-acc
-invariant-loop-acc g l = record {
+abbrev pub invariant-loop-one : goal.invariant-loop-one
+invariant-loop-one g l = record {
   keeps : Keeps g.S.Store l.fn.store l.store;
   awake : IsClean g.S.Store l.store → IsOpen g.S.Store l.store;
   told : IsOpen g.S.Store l.store
-      → AllZip (IsListing (desk g.S.Store l.fn.store) l.caller.audience l.caller.day) (take l.acc-index l.accessions) l.listings.items;
+      → AllZip (IsListing (desk g.S.Store l.fn.store) l.caller.audience l.caller.day) (numbers_of (take l.one-index l.register)) l.listings.items;
 }
