@@ -1,0 +1,103 @@
+"""docs/OPERATING.md as commands in their order, a shell that is given them, and a copy of what they need of this
+repository. The scripts that run the page share this."""
+
+import contextlib
+import os
+import pathlib
+import re
+import shutil
+import subprocess
+import threading
+import time
+
+from client_cases import LIMIT, ROOT
+
+PAGE = "docs/OPERATING.md"
+COPIED = ("operate", "web", "images", "docs", "README.md")
+# What a shell tells of its jobs, and what nginx tells an ordinary user of its line `user`.
+NOISE = re.compile(rb"^(\S*: line \d+: +\d+ Terminated|\[\d+\]|.*\[warn\].* the \"user\" directive ).*\n", re.M)
+
+
+def text():
+    """The page."""
+    return pathlib.Path(ROOT, PAGE).read_text()
+
+
+def commands():
+    """The commands of the page in their order: the line of each, its prompt, its words, and the lines that it gives."""
+    found, inside = [], False
+    for number, line in enumerate(text().splitlines(), 1):
+        if line.startswith("```"):
+            inside = not inside
+        elif inside and line[:2] in ("$ ", "# "):
+            found.append([number, line[0], line[2:], []])
+        elif inside and line.startswith("> ") and found and not found[-1][3]:
+            found[-1][2] += f"\n{line[2:]}"
+        elif inside and found:
+            found[-1][3].append(line)
+    return found
+
+
+class Shell:
+    """A shell that is given commands one after the other, and the words that start it."""
+
+    def __init__(self, folder, *words):
+        clean = {name: value for name, value in os.environ.items() if not name.startswith(("LC_", "BASH"))}
+        settings = {**clean, "LANG": "C", "no_proxy": "*"}
+        streams = {"stdin": subprocess.PIPE, "stdout": subprocess.PIPE, "stderr": subprocess.STDOUT}
+        self.process = subprocess.Popen(words, cwd=folder, env=settings, bufsize=0, **streams)
+        self.came = b""
+        threading.Thread(target=self.listen, daemon=True).start()
+        self.count = 0
+
+    def listen(self):
+        while part := self.process.stdout.read(65536):
+            self.came += part
+
+    def run(self, words, wanted):
+        """What a command gives. One that goes on in the background is given time to write what is wanted of it."""
+        self.count += 1
+        mark = f"-- {self.count} is done --\n".encode()
+        self.came = b""
+        self.process.stdin.write(words.encode() + b"\necho '" + mark[:-1] + b"'\n")
+        end = time.monotonic() + LIMIT
+        while time.monotonic() < end and self.process.poll() is None:
+            came = NOISE.sub(b"", self.came.replace(mark, b""))
+            stays = re.search(r"&( \w+=\$!)?$", words) and came != shown(wanted)
+            if mark in self.came and not stays:
+                return came
+            time.sleep(0.02)
+        return self.came + b"\n(it does not end)"
+
+    def close(self):
+        with contextlib.suppress(OSError):
+            self.process.stdin.write(b"kill $(jobs -p) 2>/dev/null; wait 2>/dev/null; exit\n")
+        with contextlib.suppress(subprocess.TimeoutExpired):
+            self.process.wait(timeout=LIMIT)
+        self.process.kill()
+        self.process.wait()
+
+
+def shown(lines):
+    """Lines as a command writes them."""
+    return "".join(f"{line}\n" for line in lines).encode()
+
+
+def built(program):
+    """Has ./desk build the program where it is missing, before its copy is taken."""
+    subprocess.run([program, "--version"], stdout=subprocess.DEVNULL, check=False)
+    return program
+
+
+def copied(program, folder):
+    """What the page's commands need of this repository, with the program in its places."""
+    for name in COPIED:
+        source = os.path.join(ROOT, name)
+        (shutil.copytree if os.path.isdir(source) else shutil.copy)(source, folder / name)
+    made = folder / "crates" / "rd_main" / "out"
+    made.mkdir(parents=True)
+    proved = os.path.join(ROOT, "crates", "rd_main", "out", "rd_main")
+    shutil.copy(proved if program == os.path.join(ROOT, "desk") else program, made / "rd_main")
+    (folder / "desk").symlink_to(os.path.join("crates", "rd_main", "out", "rd_main"))
+    # the workers of nginx read the page
+    folder.chmod(0o755)

@@ -1,0 +1,195 @@
+#!/usr/bin/env python3
+"""scripts/under-systemd.py [PROGRAM]: boots a small Debian by systemd, types there what docs/OPERATING.md has a museum
+type on its machine, and looks at the service that comes of it.
+
+It wants Python 3 with its standard library alone, Linux, the rights of root, and Debian's debootstrap and
+systemd-container, which it installs where they are missing. PROGRAM is ./desk of this repository where none is named.
+The Debian is kept in /var/tmp/desk-under-systemd for the next run, and no run changes it.
+
+What is looked at: what the page's commands give; the files, the process and their rights; what a process in the place
+of the service may do; visits through nginx; a desk that is killed, stopped, or ends by its count; a setting that is
+changed; an import; a store that cannot be opened; and the machine's next start."""
+
+import sys
+import time
+
+import booted
+import operating_page
+import reading_room
+
+from client_cases import bytes_of, digest
+
+HOME = "/root/desk"
+UNIT = "/etc/systemd/system/desk.service"
+RELOAD = "systemctl daemon-reload; systemctl reset-failed desk; systemctl restart desk"
+PID = "$(systemctl show -p MainPID --value desk)"
+SITE = "desk.museum.example"
+VISIT = f"curl -s --max-time 10 --cacert /etc/desk/site.crt --resolve {SITE}:443:127.0.0.1 https://{SITE}"
+STATUS = f"{VISIT}/images -o /dev/null -w '%{{http_code}}'"
+# The desk may still be starting.
+SOON = "--fail --retry 30 --retry-delay 1 --retry-max-time 40"
+FILE = f"{VISIT}/images/12/files/0 {SOON} | head -n 1 | tr -d '\\r'"
+FIRST_LINE = "WELCOME TO THE READING ROOM"
+IMAGE = "images/welcome.img"
+PUT = "curl -s --max-time 10 -X PUT -H 'Desk-Key: open sesame' http://127.0.0.1:8041"
+RULE = '{"audiences":["public","room","staff"],"select":{"all":true},"effect":"read"}'
+DONE = '{"done":true}'
+
+# Tables of a label, what is typed, and what it writes.
+STARTED = [
+    ("the desk is enabled", "systemctl is-enabled desk", "enabled"),
+    ("both are active", "systemctl is-active desk nginx", "active\nactive"),
+    ("a visit through nginx", f"{VISIT}/images {SOON}", '{"images":[]}'),
+    ("where it listens", "ss -ltnH 'sport = :8041' | awk '{ print $4 }'", "127.0.0.1:8041"),
+    ("its line in the journal", "journalctl -u desk -o cat | grep listening | uniq", "listening 127.0.0.1:8041"),
+    ("a deed", f"""{PUT}/deeds/7 -d '{{"donor":"A. Curator","signed":"2019-05-04"}}'""", DONE),
+    ("a rule", f"{PUT}/deeds/7/rules/20 -d '{RULE}'", DONE),
+    ("an image", f"{PUT}/accessions/12/cpm8/7/{digest(bytes_of(IMAGE))} --data-binary @{HOME}/{IMAGE}", DONE),
+    ("a file of it through nginx", FILE, FIRST_LINE),
+    ("the page for readers", f"{VISIT}/ | grep -o '<title>.*</title>'", "<title>The reading room</title>"),
+    ("a command from outside", f"{STATUS} -X PUT", "403"),
+]
+FILES = {
+    "/var/lib/desk": "desk:desk 700", "/var/lib/desk/museum.sqlite": "desk:desk 600",
+    "/var/lib/desk/museum.sqlite-wal": "desk:desk 600", "/usr/local/bin/desk": "root:root 755",
+    "/usr/local/share/desk/web/index.html": "root:root 644", "/etc/desk": "root:root 700",
+    "/etc/desk/site.key": "root:root 600", UNIT: "root:root 644",
+}
+PROCESS = {"Umask": "0077", "NoNewPrivs": "1", "CapEff": "0" * 16, "CapBnd": "0" * 16, "Seccomp": "2"}
+RIGHTS = [
+    ("the process is of", f"stat -c %U:%G /proc/{PID}", "desk:desk"),
+    *((name, f"stat -c '%U:%G %a' {name}", wanted) for name, wanted in FILES.items()),
+    *((name, f"sed -n 's/^{name}:[[:space:]]*//p' /proc/{PID}/status", wanted) for name, wanted in PROCESS.items()),
+]
+OFFSET = f"tr '\\0' '\\n' </proc/{PID}/cmdline | sed -n '/^--offset$/{{ n; p }}'"
+SETTING = [
+    ("a visit before", FILE, FIRST_LINE),
+    ("it is", OFFSET, "E0000"),
+    ("places are changed", f"cd {HOME} && sed -i s/^OFFSET=.*/OFFSET=E0100/ operate/places; echo $?", "0"),
+    ("configure", f"cd {HOME} && operate/configure operate/places /etc/desk; echo $?", "0"),
+    ("the service's file", f"install -m 644 /etc/desk/desk.service {UNIT}; echo $?", "0"),
+    ("restart without daemon-reload", "systemctl restart desk 2>/dev/null; echo $?", "0"),
+    ("a visit after it", FILE, FIRST_LINE),
+    ("it is the old one", OFFSET, "E0000"),
+    ("daemon-reload and restart", "systemctl daemon-reload && systemctl restart desk; echo $?", "0"),
+    ("a visit after these", FILE, FIRST_LINE),
+    ("it is the new one", OFFSET, "E0100"),
+]
+STORE, BACKUP = "/var/lib/desk/museum.sqlite", "/var/lib/desk/backup.sqlite"
+AS_DESK = "runuser -u desk -- desk"
+IMPORT = f"cd {HOME} && {AS_DESK} import --store {STORE} --key 'open sesame' --sheet images/shelf.csv"
+STOPPED = [
+    ("an import while the desk serves", IMPORT, "desk: store"),
+    ("stop", "systemctl stop desk; sleep 4; systemctl is-active desk", "inactive"),
+    ("readers are told", STATUS, "502"),
+    ("the page is there", STATUS.replace("/images", "/"), "200"),
+    ("the page's backup opens", f"{AS_DESK} serve --store {BACKUP} --port 8041 --count 0 | tail -n 1", "served 0"),
+    ("an import", IMPORT, "12 done\n13 done\n14 no-deed"),
+    ("start", "systemctl start desk", ""),
+    ("a visit", FILE, FIRST_LINE),
+]
+FAILED = "for _ in $(seq 300); do systemctl is-failed --quiet desk && break; sleep 0.1; done; systemctl is-active desk"
+NO_STORE = [
+    ("it is taken away", "systemctl stop desk; mkdir /srv/away; mv /var/lib/desk/museum* /srv/away", ""),
+    ("start", "systemctl reset-failed desk; systemctl start desk; echo $?", "0"),
+    ("it is left as failed", FAILED, "failed"),
+    ("after five starts", "journalctl -u desk -o cat | grep -c '^desk: not-a-desk$'", "5"),
+    ("status says so", "systemctl status desk | grep -o 'Active: failed'", "Active: failed"),
+    ("readers are told", STATUS, "502"),
+    ("it is back", "mv /srv/away/* /var/lib/desk", ""),
+    ("start is refused", "systemctl start desk 2>/dev/null; echo $?", "1"),
+    ("reset-failed and start", "systemctl reset-failed desk && systemctl start desk; echo $?", "0"),
+    ("a visit", FILE, FIRST_LINE),
+]
+NEXT_START = [("both are active", "systemctl is-active desk nginx", "active\nactive"), ("a visit", FILE, FIRST_LINE)]
+# What is tried, and how it ends in the place of the service, and for the same user outside of it.
+TRIED = [
+    (">/var/lib/desk/tried", "done", "done"),
+    (">/srv/open/tried", "Read-only file system", "done"),
+    ("</etc/passwd", "done", "done"),
+    ("ls /home >/dev/null", "Permission denied", "done"),
+    ("</dev/tcp/127.0.0.1/80", "done", "done"),
+    ("</dev/tcp/::1/80", "Address family not supported by protocol", "Connection refused"),
+]
+
+
+def see_page(seen, machine):
+    """The page's commands after `#`, in their order. `systemctl status` has to tell that both services run."""
+    shell = operating_page.Shell("/", *machine.inside, "--norc")
+    shell.run(f"cd {HOME}", [])
+    for number, prompt, words, wanted in operating_page.commands():
+        if prompt == "#":
+            came = shell.run(words, wanted)
+            if words == "systemctl status desk nginx":
+                wanted, came = ["both run"], b"both run\n" if came.count(b"Active: active (running)") == 2 else came
+            seen.same(f"{operating_page.PAGE}, line {number}: {words}", operating_page.shown(wanted), came)
+    shell.close()
+
+
+def see_cases(seen, machine, name, cases):
+    for label, words, wanted in cases:
+        seen.same(f"{name}: {label}", wanted, machine.says(words))
+
+
+def see_confined(seen, machine):
+    """What a process may do in the place of the desk: the service's own file, with another command in it."""
+    lines = [f"{{ {words} && echo done; }} 2>&1 | head -n 1 | sed 's/.*: //'\n" for words, _, _ in TRIED]
+    script = machine.root / "usr/local/share/tried"
+    script.write_text("exec >/var/lib/desk/told\n" + "".join(lines))
+    change = "s|^ExecStart=.*|ExecStart=/bin/bash /usr/local/share/tried|; s/^Restart=.*/Restart=no/"
+    machine.says(f"install -d -m 777 /srv/open; sed '{change}' {UNIT} >/etc/systemd/system/tried.service")
+    ways = ["systemctl daemon-reload; systemctl start --wait tried", "runuser -u desk -- bash /usr/local/share/tried"]
+    for column, words in enumerate(ways, 1):
+        machine.says(words)
+        came = machine.says("cat /var/lib/desk/told; rm -f /var/lib/desk/t* /srv/open/t*")
+        seen.same(f"confined: {words}", [tried[column] for tried in TRIED], came.splitlines())
+
+
+def see_end(seen, machine, name, words):
+    """A desk that ends by what is typed: 502 to readers, and after two seconds another process serves them."""
+    before, started = machine.says(f"echo {PID}"), time.monotonic()
+    machine.says(words)
+    seen.same(f"{name}: readers are told", "502", machine.says(STATUS))
+    seen.same(f"{name}: a visit", FIRST_LINE, machine.says(FILE))
+    seen.same(f"{name}: not before two seconds", True, time.monotonic() - started >= 2)
+    seen.same(f"{name}: another process", False, machine.says(f"echo {PID}") == before)
+    seen.same(f"{name}: started again", "1", machine.says("systemctl show -p NRestarts --value desk"))
+
+
+def see_ends(seen, machine):
+    """A desk ends by a signal, as where memory is lost or after a fault, or by its count, here of three visits."""
+    for signal in ("KILL", "SEGV"):
+        machine.says(RELOAD)
+        seen.same(f"SIG{signal}: a visit before", FIRST_LINE, machine.says(FILE))
+        see_end(seen, machine, f"SIG{signal}", f"kill -{signal} {PID}")
+    machine.says(f"sed -i 's/--count 1000000/--count 3/' {UNIT}; {RELOAD}")
+    seen.same("count: a visit before", FIRST_LINE, machine.says(FILE))
+    see_end(seen, machine, "count", f"{STATUS}; {STATUS}")
+    seen.same("count: told", "served 3", machine.says("journalctl -u desk -o cat | grep ^served"))
+    machine.says(f"sed -i 's/--count 3/--count 1000000/' {UNIT}; {RELOAD}")
+
+
+def main():
+    booted.install()
+    program = operating_page.built(reading_room.program(sys.argv[1:]))
+    seen = reading_room.Seen()
+    with booted.Machine() as machine:
+        home = machine.root / HOME[1:]
+        home.mkdir()
+        operating_page.copied(program, home)
+        machine.boot()
+        see_page(seen, machine)
+        see_cases(seen, machine, "started", STARTED)
+        see_cases(seen, machine, "rights", RIGHTS)
+        see_confined(seen, machine)
+        see_ends(seen, machine)
+        see_cases(seen, machine, "a setting", SETTING)
+        see_cases(seen, machine, "stopped", STOPPED)
+        see_cases(seen, machine, "no store", NO_STORE)
+        machine.halt()
+        machine.boot()
+        see_cases(seen, machine, "the next start", NEXT_START)
+    sys.exit(seen.told())
+
+
+main()
