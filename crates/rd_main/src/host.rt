@@ -1,16 +1,11 @@
-ghost use Rattle.std.specs.Prelude.{◌≡◌, IfErr, IfOk, None, OnOk};
-ghost use Rattle.std.specs.Io.KnownBytes.{Keeps};
-ghost use Rattle.std.specs.Process.{exit_status};
-ghost use Rattle.rd_program.specs.Output.{AppendsPart};
-ghost use Rattle.rd_program.specs.Printed.{refusal_line};
-ghost use Rattle.rd_program.specs.Refusals.{status_of};
+ghost use Rattle.std.specs.Prelude.{None};
 
 use rd_http::{Clock, TcpDoor};
-use rd_program::{Machine, MachineFault, Refusal, read_front, run, tell_refusal};
+use rd_program::{Machine, MachineFault, Refusal, exit_code, read_front, run};
 use rd_volume::Kind;
 use sqlite::{Connection, File, FileStore};
 use std::alloc::{AllocError, Global};
-use std::io::{BufWriter, ErrorKind, Read, Write};
+use std::io::{BufWriter, ErrorKind, Read};
 use std::net::{Ipv4Addr, TcpListener};
 use std::process::ExitCode;
 use std::time::{SystemTime, UNIX_EPOCH};
@@ -122,22 +117,6 @@ fn run_here(rt: &HostRuntime) -> Result<u8, Refusal> {
         &mut rt.stderr(),
         &mut Host { rt, door: None },
     ))
-}
-
-/// The exit status of the process: the status of `run` where it ran, and else that of the refusal, which
-/// is told.
-fn exit_code<E: Write>(ran: Result<u8, Refusal>, errors: &mut E) -> ExitCode
-    ensures ran { IfOk ran (λ status. exit_status result ≡ status) }
-    ensures silent { OnOk ran (Keeps (E.contents errors.old) (E.contents errors.new)) }
-    ensures refused { IfErr ran (λ refused. exit_status result ≡ status_of refused) }
-    ensures told { IfErr ran (λ refused.
-        AppendsPart (E.contents errors.old) (E.contents errors.new) (refusal_line refused)) }
-{
-    let status = match ran {
-        Ok(status) => status,
-        Err(refused) => tell_refusal(refused, errors),
-    };
-    ExitCode::from(status)
 }
 
 /// Runs the program in the process, tells why where it cannot run, and gives its exit status.

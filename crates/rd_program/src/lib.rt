@@ -30,4 +30,4 @@ pub use dispatch::run;
 pub use input::read_front;
 pub use machine::{Machine, MachineFault};
 pub use refusal::Refusal;
-pub use tell::tell_refusal;
+pub use tell::exit_code;

@@ -1,7 +1,8 @@
 //! What is told on the standard error: the line of a refusal, or what is wrong with the words.
 
-ghost use Rattle.std.specs.Prelude.{◌≡◌, ◌≢◌, ◌≤◌, ◌⊎◌, ◌++◌, ⊤, IfErr, OnErr, OnOk, codes};
+ghost use Rattle.std.specs.Prelude.{◌≡◌, ◌≢◌, ◌≤◌, ◌⊎◌, ◌++◌, ⊤, IfErr, IfOk, OnErr, OnOk, codes};
 ghost use Rattle.std.specs.Io.KnownBytes.{Appends, Keeps};
+ghost use Rattle.std.specs.Process.{exit_status};
 ghost use Rattle.clap.specs.Values.{kind_of};
 ghost use Rattle.clap.specs.declared.error.Error.{Error};
 ghost use Rattle.clap.specs.declared.error.kind.ErrorKind.TheVariants.{DisplayHelp, DisplayVersion};
@@ -23,6 +24,7 @@ use clap::Error;
 use clap::error::ErrorKind;
 use rd_volume::{FaultWords, fault_words};
 use std::io::Write;
+use std::process::ExitCode;
 
 /// What is told of an offset that is none.
 const OFFSET_MISTAKE: &[u8] =
@@ -87,12 +89,28 @@ fn write_line<E: Write>(errors: &mut E, refused: Refusal) -> Result<(), Refusal>
 }
 
 /// Tells a refusal in one line, and gives its status. A write that fails ends the line and is not told.
-pub fn tell_refusal<E: Write>(refused: Refusal, errors: &mut E) -> u8
+pub(crate) fn tell_refusal<E: Write>(refused: Refusal, errors: &mut E) -> u8
     ensures status { result ≡ status_of refused }
     ensures told { AppendsPart (E.contents errors.old) (E.contents errors.new) (refusal_line refused) }
 {
     let _ = write_line(errors, refused);
     refused.status()
+}
+
+/// The exit status of the process: the status of `run` where it ran, and else that of the refusal, which
+/// is told.
+pub fn exit_code<E: Write>(ran: Result<u8, Refusal>, errors: &mut E) -> ExitCode
+    ensures ran { IfOk ran (λ status. exit_status result ≡ status) }
+    ensures silent { OnOk ran (Keeps (E.contents errors.old) (E.contents errors.new)) }
+    ensures refused { IfErr ran (λ refused. exit_status result ≡ status_of refused) }
+    ensures told { IfErr ran (λ refused.
+        AppendsPart (E.contents errors.old) (E.contents errors.new) (refusal_line refused)) }
+{
+    let status = match ran {
+        Ok(status) => status,
+        Err(refused) => tell_refusal(refused, errors),
+    };
+    ExitCode::from(status)
 }
 
 /// Writes the help that was asked for.

@@ -21,7 +21,7 @@ use sqlite::{Alter, Connection, Error, MemStore};
 use std::alloc::Global;
 use std::process::Abort;
 use std::test::Fail;
-use steps::{Call, DONE, Digest, Given, Named, Picture, Question, Step, assert_steps};
+use steps::{COMMODORE, Call, DONE, Digest, Given, Named, Picture, Question, Step, assert_steps};
 use told::HELLO;
 
 /// A desk in memory.
@@ -149,6 +149,16 @@ const SHELVE: &[Step<'static>] = &[
     Step::Does(Call::PutImage(15, CPM), DONE),
 ];
 
+/// Puts deed 7, and images 13 and 16 under it, which have three files each.
+const CROWD: &[Step<'static>] = &[
+    Step::Does(Call::PutDeed(7, "A. Curator", 18_020), DONE),
+    Step::Does(Call::PutImage(13, (Picture::Mixed, 7, Digest::Other)), DONE),
+    Step::Does(
+        Call::PutImage(16, (Picture::Crossed, 7, Digest::Program)),
+        DONE,
+    ),
+];
+
 /// Puts deeds 7 and 8, a key for the room, two rules of deed 7, and image 12 under it.
 const FILL: &[Step<'static>] = &[
     Step::Does(Call::PutDeed(7, "A. Curator", 18_020), DONE),
@@ -168,7 +178,10 @@ const FILLED: &[Step<'static>] = &[
     Step::Tells(Question::AudienceOf(Digest::Room, Some(Audience::Room))),
     Step::Tells(Question::AudienceOf(Digest::Other, None)),
     Step::Tells(Question::RulesFor(12, &[(Named::Closed, 7), (Named::Open, 7)])),
+    Step::Tells(Question::RulesUnder(12, 7, &[(Named::Closed, 7), (Named::Open, 7)])),
+    Step::Tells(Question::Accession(12, Some(COMMODORE))),
     Step::Tells(Question::Accessions(&[12])),
+    Step::Tells(Question::Register(&[(12, COMMODORE)])),
     Step::Tells(Question::Files(12, &[HELLO])),
     Step::Tells(Question::FileAt(12, 0, Some(HELLO))),
 ];
@@ -198,6 +211,13 @@ fn filled(rt: &impl Abort, alloc: Global) -> Result<Desk, Fail> {
 fn shelved(rt: &impl Abort, alloc: Global) -> Result<Desk, Fail> {
     let mut desk = new_desk(alloc)?;
     assert_steps(rt, alloc, &mut desk, "images", SHELVE)?;
+    Ok(desk)
+}
+
+/// A new desk with two images of three files each.
+fn crowded(rt: &impl Abort, alloc: Global) -> Result<Desk, Fail> {
+    let mut desk = new_desk(alloc)?;
+    assert_steps(rt, alloc, &mut desk, "images of several files", CROWD)?;
     Ok(desk)
 }
 

@@ -131,12 +131,18 @@ pub(super) const FILE_OF_12: Wanted = Wanted::Table(&[COLUMNS, LINE_12]);
 /// A reply: its status, its form, the length that it tells of its body, and the body.
 pub(super) type Told = (u16, Form, usize, String);
 
-/// A reply, whose body is text.
-pub(super) fn told(alloc: Global, reply: &Reply) -> Result<Told, NoMemory> {
+/// The bytes of the body of a reply.
+pub(super) fn sent(alloc: Global, reply: &Reply) -> Result<Vec<u8>, NoMemory> {
     let mut bytes = Vec::new(alloc);
     for piece in reply.body.pieces() {
         bytes.extend_from_slice(piece)?;
     }
+    Ok(bytes)
+}
+
+/// A reply, whose body is text.
+pub(super) fn told(alloc: Global, reply: &Reply) -> Result<Told, NoMemory> {
+    let bytes = sent(alloc, reply)?;
     let text = String::from_utf8_lossy(alloc, bytes.as_slice())?;
     Ok((reply.status, reply.form, reply.body.len(), text))
 }

@@ -1,10 +1,12 @@
 //! Bytes of an image on which no reply to a visitor rests, and bytes on which one does.
 
-use super::cases::{Told, told};
+use super::cases::sent;
 use super::images::{Patches, Picture, bytes_of, put_patches};
-use super::requests::{Ask, Files, Key, NOT_STAFF, NewRule, PUBLIC, STAFF, digest_of, request_of};
+use super::requests::{
+    Ask, Files, Key, NOT_STAFF, NewRule, PUBLIC, ROOM, STAFF, digest_of, request_of,
+};
 use super::state::{AFTER, BEFORE, Memory, OPEN, answer, desk_with, reply_to};
-use rd_desk::{Request, What};
+use rd_desk::{Form, Request, What};
 use rd_geometry::{Items, Kind, NoMemory};
 use rd_policy::{Band, Effect};
 use rd_rows::cbm::{NewCbmEntry, PROGRAM};
@@ -106,6 +108,7 @@ const CBM_HIDDEN: &[Change] = &[
 
 const CBM_CONTENTS: &[Change] = &[
     like!(Change, NEW, label: "a denied file", patches: &[(86_530, &[0x5a; 254])]),
+    like!(Change, NEW, label: "a denied file, to the room", key: ROOM, patches: &[(86_530, &[0x5a; 254])]),
     like!(Change, NEW, label: "a listed file", patches: &[(86_786, &[0x5a; 254])]),
     like!(Change, NEW, label: "a file that was never closed", patches: &[(87_042, &[0x5a; 254])]),
     like!(Change, NEW, label: "a relative file", patches: &[(87_554, &[0x5a; 254])]),
@@ -124,6 +127,8 @@ const CBM_TOLD: &[Change] = &[
     like!(Change, NEW, label: "the first side sector", patches: &[(91_830, b"\x00")]),
     like!(Change, NEW, label: "the link of a file that is read", patches: &[(88_577, b"\x06")]),
     like!(Change, NEW, label: "the link of a denied file", patches: &[(86_528, b"\x11")]),
+    like!(Change, NEW, label: "the link of a relative file", patches: &[(87_552, b"\x11\x0a")]),
+    like!(Change, NEW, label: "the link of a side sector", patches: &[(87_808, b"\x11\x0a")]),
     like!(Change, NEW, label: "the first byte of a file", patches: &[(86_018, b"B")]),
     like!(Change, NEW, label: "its last byte", patches: &[(88_581, b"F")]),
     like!(Change, NEW, label: "a denied file, to the staff", key: STAFF, patches: &[(86_530, b"D")]),
@@ -244,17 +249,21 @@ const QUESTIONS: &[Ask] = &[
     Ask::Bytes(ACC, 6),
 ];
 
+/// A reply, byte for byte: its status, its form, the length that it tells of its body, and the body.
+type Sent = (u16, Form, usize, Vec<u8>);
+
 /// The replies to these questions, in turn.
 fn replies(
     rt: &impl Abort,
     alloc: Global,
     desk: &mut Memory,
     (key, seconds): (Key, i64),
-) -> Result<Vec<Told>, Fail> {
+) -> Result<Vec<Sent>, Fail> {
     let mut replies = Vec::new(alloc);
     for question in QUESTIONS {
         let reply = reply_to(rt, alloc, desk, (key, seconds, *question))?;
-        replies.push(told(alloc, &reply)?)?;
+        let bytes = sent(alloc, &reply)?;
+        replies.push((reply.status, reply.form, reply.body.len(), bytes))?;
     }
     Ok(replies)
 }

@@ -2,7 +2,8 @@
 
 use super::PROGRAM;
 use super::steps::{
-    CONFLICT, Call, Case, DONE, Digest, MISSING, Picture, Question, Start, Step, assert_cases,
+    COMMODORE, CONFLICT, Call, Case, DONE, Digest, MISSING, Picture, Question, Start, Step,
+    assert_cases,
 };
 use rd_geometry::Kind;
 use rd_store::Accession;
@@ -43,12 +44,6 @@ const DEEDS: &[Case] = &[
         ],
     },
 ];
-
-/// A 1541 disk under deed 7.
-const COMMODORE: Accession = Accession {
-    kind: Kind::D64,
-    deed: 7,
-};
 
 /// A CP/M disk under deed 8.
 const CONTROL_PROGRAM: Accession = Accession {

@@ -108,6 +108,24 @@ const SEVERAL: &[&[&str]] = &[
     ],
 ];
 
+/// Rows of images with several files: of one file, and of two that change places.
+const CROWDED: &[&[&str]] = &[
+    &["UPDATE found SET faults = 0 WHERE acc = 16 AND slot = 1"],
+    &["UPDATE found SET faults = 8 WHERE acc = 16 AND slot = 2"],
+    &["UPDATE found SET served = 1 WHERE acc = 13 AND slot = 0"],
+    &["DELETE FROM found WHERE acc = 16 AND slot = 0"],
+    &["DELETE FROM found WHERE acc = 16 AND slot = 2"],
+    &[
+        "UPDATE found SET name = 'B' WHERE acc = 16 AND slot = 0",
+        "UPDATE found SET name = 'A' WHERE acc = 16 AND slot = 1",
+    ],
+    &[
+        "UPDATE found SET slot = 9 WHERE acc = 16 AND slot = 0",
+        "UPDATE found SET slot = 0 WHERE acc = 16 AND slot = 1",
+        "UPDATE found SET slot = 1 WHERE acc = 16 AND slot = 9",
+    ],
+];
+
 /// Changes after which the rows are again those of the images.
 const ALIKE: &[&[&str]] = &[
     &["UPDATE found SET slot = 0"],
@@ -149,7 +167,8 @@ fn a_row_of_other_units_is_refused(rt: HostRuntime) -> Result<(), Fail> {
 #[test]
 fn rows_of_other_files_are_refused(rt: HostRuntime) -> Result<(), Fail> {
     assert_after(&rt, rt.alloc(), Start::Shelved, NUMBERS, INCONSISTENT)?;
-    assert_after_all(&rt, rt.alloc(), Start::Shelved, SEVERAL, INCONSISTENT)
+    assert_after_all(&rt, rt.alloc(), Start::Shelved, SEVERAL, INCONSISTENT)?;
+    assert_after_all(&rt, rt.alloc(), Start::Crowded, CROWDED, INCONSISTENT)
 }
 
 #[test]

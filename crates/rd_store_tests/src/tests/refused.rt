@@ -1,12 +1,14 @@
 //! Calls that allocate, which a script runs under an allocator that refuses one growth. A call that
 //! answers `Sql` has changed nothing. It is made again, and must then answer as ever.
 
-use super::steps::{Call, DONE, Digest, Named, Question, Step, answer, assert_steps, tells_so};
+use super::steps::{
+    COMMODORE, Call, DONE, Digest, Named, Question, Step, answer, assert_steps, tells_so,
+};
 use super::told::HELLO;
 use super::{Desk, PROGRAM, STAFF, into_connection, new_connection, number, open_desk, put_check};
-use rd_geometry::{Kind, NoMemory};
+use rd_geometry::NoMemory;
 use rd_policy::Audience;
-use rd_store::{Accession, OpenFault, Outcome, Refused, Store, StoreFault};
+use rd_store::{OpenFault, Outcome, Refused, Store, StoreFault};
 use sqlite::{Connection, Error, MemStore};
 use std::alloc::Global;
 use std::process::Abort;
@@ -78,12 +80,6 @@ fn desk_again(rt: &impl Abort, alloc: Global) -> Result<Desk, Fail> {
 }
 
 const PUT_DEED: Step<'static> = Step::Does(Call::PutDeed(7, "A. Curator", 18_020), DONE);
-
-/// A 1541 disk under deed 7.
-const COMMODORE: Accession = Accession {
-    kind: Kind::D64,
-    deed: 7,
-};
 
 const PUT_IMAGE: Step<'static> = Step::Does(Call::PutImage(12, PROGRAM), DONE);
 
