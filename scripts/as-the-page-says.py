@@ -109,13 +109,14 @@ def main():
     seen = reading_room.Seen()
     seen.same("blocks without a command", PAGES[page].plain, plain_blocks(page))
     program = reading_room.program(words)
-    with tempfile.TemporaryDirectory(prefix="as-the-page-says-") as name, contextlib.ExitStack() as stack:
+    # not in /tmp, which may be another one for the page's commands
+    with tempfile.TemporaryDirectory(prefix="as-the-page-says-", dir="/var/tmp") as name, contextlib.ExitStack() as stack:
         folder = pathlib.Path(name)
         operating_page.copied(program, folder)
         stack.callback(end_nginx, folder)
         left = run_page(seen, stack, page, folder)
     for words in left:
-        print(f"not run: {words}")
+        print(f"not run: {words.splitlines()[0]}")
     sys.exit(seen.told())
 
 
