@@ -15,6 +15,7 @@ import json
 import os
 import pathlib
 import re
+import signal
 import subprocess
 import sys
 import time
@@ -64,7 +65,9 @@ class Browser:
         (folder / "downloads").mkdir()
         home = {**os.environ, "HOME": str(folder / "home"), "TMPDIR": str(folder)}
         words = ["chromedriver", f"--port={self.port}", f"--log-path={folder / 'chromedriver.out'}"]
-        self.driver = subprocess.Popen(words, env=home, stdout=subprocess.DEVNULL, stderr=subprocess.DEVNULL)
+        streams = {name: subprocess.DEVNULL for name in ("stdin", "stdout", "stderr")}
+        # the browser that the driver starts is of the same group of processes
+        self.driver = subprocess.Popen(words, env=home, start_new_session=True, **streams)
         self.session = None
 
     def begin(self):
@@ -86,8 +89,8 @@ class Browser:
         if self.session:
             with contextlib.suppress(OSError, KeyError):
                 self.command("DELETE", "")
-        self.driver.terminate()
-        self.driver.wait(timeout=LIMIT)
+        os.killpg(self.driver.pid, signal.SIGKILL)
+        self.driver.wait()
 
     def ask(self, method, path, body=None):
         """What the driver answers; a fault of it is raised."""
