@@ -2,17 +2,18 @@
 """bench/callgrind.py NAME=PROGRAM [NAME=PROGRAM ..] [--tree]: which crates a visit's instructions are spent in.
 
 Each PROGRAM is a desk. The visits of bench/visits.py are made of it under valgrind's callgrind, and of the C program
-beside it (visits.c): 12 of them in one run and 2 in another, and the difference is that of 10 visits. It wants valgrind,
-gcc and the headers of SQLite; run as root, it installs them where they are missing.
+beside it (visits.c): 12 of them in one run and 2 in another, and the difference is that of 10 visits. It wants
+valgrind, gcc and the headers of SQLite; run as root, it installs them where they are missing.
 
 Instructions are counted by the crate of the symbol that they lie in, so that what the compiler has moved into another
 function counts as that function's. Copies by the C library (memcpy, memmove) are told apart on both sides: callgrind
-counts one instruction for each byte of `rep movsb`, so a copy looks dearer than it is. What is printed are shares of the
-whole of the C program, its copies left out. --tree also prints the functions of each crate.
+counts one instruction for each byte of `rep movsb`, so a copy looks dearer than it is. What is printed are shares of
+the whole of the C program, its copies left out. --tree also prints the functions of each crate.
 
 It fails where, of the desk that is named last, the crates of its own take more than the whole of the C program for a
-question, or a function of rd_cpm or rd_cbm is called at such a visit. Where two desks are named, it also prints the
-ratio of the last to the first without what reading rows of the table `image` takes."""
+question, or a function of rd_cpm or rd_cbm is called at such a visit; and where there is no C program beside it. Where
+two desks are named, it also prints the ratio of the last to the first without what reading rows of the table `image`
+takes."""
 
 import argparse
 import collections
@@ -181,6 +182,8 @@ def measure(bench, case, folder, shows_tree):
     profiles = {name: profile_of(bench, name, case, folder) for name in bench.commands}
     told = {name: by_crate(profile) for name, profile in profiles.items()}
     beside = told.get(visits.C_NAME)
+    if beside is None:
+        missed.append(f"{case.title}: there is no C program to compare with")
     desks = [name for name in profiles if name != visits.C_NAME]
     for name in desks:
         if tell_desk(case, name, told[name], beside) and name == desks[-1]:

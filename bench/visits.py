@@ -16,7 +16,8 @@ With --thousand it also asks a store of 1,000 accessions for all of them; --part
 Before it measures, it sees that all programs reply with the same bytes, and with those that are due. Last it prints how
 the most memory that a server has had grows from the first to the tenth visit for the longest file.
 
-It fails where a desk that is not named first takes more than the first for a question in each of the runs."""
+It fails where a desk that is not named first takes more than the first for a question in each of the runs. Of one desk
+alone it only tells ratios, and fails where a reply is not due."""
 
 import argparse
 import os
@@ -183,7 +184,8 @@ def main():
         missed = measure(bench, told, words.runs, words.part)
         for name in bench.commands:
             first, tenth = bench.memory_of(name, told[2])
-            print(f"most memory of {name}: after the first visit {first:.2f} of that before, after the tenth {tenth:.2f} of that")
+            told_first = f"after the first visit {first:.2f} of that before"
+            print(f"most memory of {name}: {told_first}, after the tenth {tenth:.2f} of that")
     for what in missed:
         print("missed:", what)
     sys.exit(1 if missed else 0)

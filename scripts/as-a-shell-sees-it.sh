@@ -3,8 +3,8 @@
 # errors, and its exit status, for each of the statuses 0 to 3; a closed standard output and a full device are
 # among the cases. Wants `rt run` in crates/rd_main, or the program as an argument.
 set -u
+desk=$(realpath "${1:-$(dirname "$0")/../crates/rd_main/out/rd_main}") || exit 1
 cd "$(dirname "$0")/.." || exit 1
-desk=$(realpath "${1:-crates/rd_main/out/rd_main}") || exit 1
 work=$(mktemp -d) || exit 1
 trap 'rm -rf "$work"' EXIT
 hello=crates/rd_main/stdin

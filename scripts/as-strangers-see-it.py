@@ -160,7 +160,8 @@ def new_images(folder):
     told = {}
     for acc in range(1, 101):
         kind = "cpm8" if acc % 2 else "d64"
-        path = os.path.join(folder, random_.choice([f"disk {acc}", f"a, {acc}", f'the "{acc}"', f"'{acc}'"]) + "." + kind)
+        name = random_.choice([f"disk {acc}", f"a, {acc}", f'the "{acc}"', f"'{acc}'"])
+        path = os.path.join(folder, f"{name}.{kind}")
         (new_cpm if kind == "cpm8" else new_cbm)(random_, path, local)
         told[acc] = kind, 31 + acc // 2 % 3, path
     return told
@@ -219,7 +220,8 @@ class Desk:
         self.failed += 1
         where = ""
         if isinstance(wanted, list) and isinstance(came, list):
-            first = next((n for n, pair in enumerate(zip(wanted, came)) if pair[0] != pair[1]), min(len(wanted), len(came)))
+            differing = (n for n, (one, other) in enumerate(zip(wanted, came)) if one != other)
+            first = next(differing, min(len(wanted), len(came)))
             where, wanted, came = f", at {first} of {len(wanted)} and {len(came)}", wanted[first:][:1], came[first:][:1]
         print(f"FAILED: {what}{where}: wanted {wanted!r}, came {came!r}", flush=True)
 
@@ -233,14 +235,21 @@ class Desk:
             port = probe.getsockname()[1]
         words = ["serve", "--store", self.store, "--port", str(port), "--count", str(len(requests))]
         with subprocess.Popen([self.program, *words], stdout=subprocess.PIPE) as server:
-            if server.stdout.readline() != f"listening {HOST}:{port}\n".encode():
-                sys.exit("the desk does not listen")
-            for path, body in requests:
-                with contextlib.closing(http.client.HTTPConnection(HOST, port, timeout=LIMIT)) as connection:
-                    connection.request("PUT", path, json.dumps(body), {"Desk-Key": KEYS["staff"]})
-                    self.same(f"PUT {path}", b'{"done":true}', connection.getresponse().read())
-            told, _ = server.communicate(timeout=LIMIT)
-            self.same("the end of a server", (f"served {len(requests)}\n".encode(), 0), (told, server.returncode))
+            try:
+                self.put_to(server, port, requests)
+            except BaseException:
+                server.kill()
+                raise
+
+    def put_to(self, server, port, requests):
+        if server.stdout.readline() != f"listening {HOST}:{port}\n".encode():
+            sys.exit("the desk does not listen")
+        for path, body in requests:
+            with contextlib.closing(http.client.HTTPConnection(HOST, port, timeout=LIMIT)) as connection:
+                connection.request("PUT", path, json.dumps(body), {"Desk-Key": KEYS["staff"]})
+                self.same(f"PUT {path}", b'{"done":true}', connection.getresponse().read())
+        told, _ = server.communicate(timeout=LIMIT)
+        self.same("the end of a server", (f"served {len(requests)}\n".encode(), 0), (told, server.returncode))
 
     def listed(self, kind, path):
         """The files of an image as `list` tells them, by the names of the catalogue's columns."""
@@ -268,7 +277,10 @@ def fill(desk, folder, images):
     rules = [(f"/deeds/{num}/rules/{rule['rank']}", body_of(rule)) for num in DEEDS for rule in DEEDS[num]]
     key = hashlib.sha256(KEYS["room"].encode()).hexdigest()
     desk.put([*deeds, *rules, (f"/badges/{key}", {"audience": "room"})])
-    rows = [[acc, *images[acc][:2], hashlib.sha256(bytes_of(images[acc][2])).hexdigest(), images[acc][2]] for acc in images]
+    rows = [
+        [acc, kind, deed, hashlib.sha256(bytes_of(path)).hexdigest(), path]
+        for acc, (kind, deed, path) in images.items()
+    ]
     for who, writes, some in (("Python", by_python, rows[:50]), ("sqlite3", by_sqlite3, rows[50:])):
         desk.import_sheet(folder, who, writes(some), [row[0] for row in some])
     desk.put([(f"/images/{acc}/rules/{rule['rank']}", body_of(rule)) for acc in images for rule in takedowns(acc)])
@@ -294,7 +306,8 @@ def compare(desk, folder, holdings):
 def check_cases(desk, files, tables):
     """That the images and the rules are such that a mistake would be seen."""
     faults = {file["faults"] for file in files}
-    desk.same("files with faults and without", [], [word for word in ("", "not-closed", "crossed") if word not in faults])
+    lacking = [word for word in ("", "not-closed", "crossed") if word not in faults]
+    desk.same("files with faults and without", [], lacking)
     names = "".join(file["name"] for file in files)
     desk.same("names that CSV has to quote", [], [sign for sign in ',"' if sign not in names])
     labels = {row[COLUMNS.index("rule")] for rows in tables.values() for row in rows[1:]}
@@ -306,6 +319,8 @@ def check_cases(desk, files, tables):
 
 def main():
     program = os.path.abspath(sys.argv[1] if len(sys.argv) > 1 else os.path.join(ROOT, "crates/rd_main/out/rd_main"))
+    if tools.missing([program]):
+        sys.exit(f"missing: {program}")
     tools.install(["mkfs.cpm", "cpmcp", "cc1541", "sqlite3"], ["cpmtools", "cc1541", "sqlite3"])
     with tempfile.TemporaryDirectory() as folder:
         images = new_images(folder)

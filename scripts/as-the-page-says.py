@@ -1,29 +1,36 @@
 #!/usr/bin/env python3
-"""scripts/as-the-page-says.py [PROGRAM]: runs every command of docs/OPERATING.md and compares what it gives with what
-the page shows.
+"""scripts/as-the-page-says.py [PAGE] [PROGRAM]: runs every command of a page and compares what it gives with what the
+page shows.
 
-It wants Python 3 with its standard library alone, Linux, and Debian's nginx, openssl, sqlite3, curl, adduser and
-systemd, which it installs where it runs as root and they are missing. PROGRAM is ./desk of this repository where none
-is named. The ports 8041, 8042, 8080 and 8443 have to be free.
+PAGE is docs/OPERATING.md, which it is where none is named, or README.md. PROGRAM is ./desk of this repository where
+none is named. It wants Python 3 with its standard library alone, Linux, and Debian's packages, which it installs where
+it runs as root and they are missing: nginx, openssl, sqlite3, curl, logrotate, adduser and systemd for the first page,
+sqlite3, curl and cpmtools for the other. The ports 8041, 8042, 8080 and 8443 have to be free.
 
-Commands after `$` run in one shell, in a copy of what they need of this repository. Those after `#` need the rights of
-root; where it has them, they run in another shell, in a mount namespace whose /etc, /usr and /var are throw-away layers
-over the machine's. Those that need a systemd that runs are named and not run; scripts/under-systemd.py runs them."""
+Commands after `$` run in one shell, in a copy of what they need of this repository; those of README.md have a /tmp of
+their own. Commands after `#` need the rights of root. Where it has them, they run in another shell, in a mount
+namespace whose /etc, /usr and /var are throw-away layers over the machine's.
 
+Some commands are named and not run: those that prove, build or measure, that want a network, and, from the first on
+that wants a systemd which runs, those of root. scripts/under-systemd.py runs these last ones."""
+
+import collections
 import contextlib
 import os
 import pathlib
 import re
+import signal
 import sys
 import tempfile
 
 import operating_page
 import reading_room
+import tools
 
-from operating_page import PAGE, Shell, shown
+from operating_page import LEFT_OUT, Shell, shows
 
-# What needs a systemd that runs.
-NEEDS_SYSTEMD = re.compile(r"systemctl (daemon-reload|restart|status|start|stop)\b")
+NEEDS_SYSTEMD = re.compile(r"systemctl (daemon-reload|reload|restart|status|start|stop)\b")
+OWN_TMP = "mount -t tmpfs tmpfs /tmp"
 LAYERS = """
 set -e
 mount --make-rprivate /
@@ -36,47 +43,80 @@ for folder in etc usr var; do
 done
 set +e
 """
+# What a shell of each prompt is given before the page's own commands, with mounts of its own where it is given some;
+# what blocks without a command begin with; and the programs and packages that are wanted.
+Page = collections.namedtuple("Page", "prepares plain needed packages")
+PAGES = {
+    operating_page.PAGE: Page(
+        {"$": "", "#": LAYERS}, ["readers"],
+        [*reading_room.NEEDED, "curl", "/usr/sbin/logrotate", "adduser", "systemd-analyze"],
+        [*reading_room.PACKAGES, "curl", "logrotate", "adduser", "systemd"],
+    ),
+    "README.md": Page({"$": OWN_TMP}, [], ["sqlite3", "curl", "cpmcp"], ["sqlite3", "curl", "cpmtools"]),
+}
 
 
-def blocks_without_commands(text):
-    """Blocks that show no command."""
-    blocks = re.findall(r"^```.*?\n(.*?)^```", text, re.M | re.S)
-    return [block for block in blocks if not block.startswith(("$ ", "# "))]
+def plain_blocks(page):
+    """What the blocks without a command begin with."""
+    blocks = re.findall(r"^```.*?\n(.*?)^```", operating_page.text(page), re.M | re.S)
+    return [block.split()[0] for block in blocks if not block.startswith(("$ ", "# "))]
 
 
-def shells(stack, folder):
-    """A shell for each prompt; none for `#` without the rights of root."""
-    found = {"$": Shell(folder, "bash", "--norc")}
-    stack.callback(found["$"].close)
-    if os.geteuid() == 0:
-        found["#"] = Shell(folder, "unshare", "--mount", "bash", "--norc")
-        stack.callback(found["#"].close)
-        came = found["#"].run(LAYERS, [])
-        if came:
-            print(f"no layers: {came.decode()}")
-            del found["#"]
-    return found
+def begun(seen, stack, folder, prompt, prepares):
+    """A shell that is prepared. An ordinary user has mounts of his own as the root of a namespace of users."""
+    own = ["unshare", "--mount"] if os.geteuid() == 0 else ["unshare", "--user", "--map-root-user", "--mount"]
+    shell = Shell(folder, *(own if prepares else []), "bash", "--norc")
+    stack.callback(shell.close)
+    seen.same(f"the shell of {prompt}", b"", shell.run(prepares, []))
+    return shell
+
+
+def end_nginx(folder):
+    """Ends the nginx of a page whose own command for that was not come to."""
+    with contextlib.suppress(OSError, ValueError):
+        os.kill(int((folder / "room" / "nginx.pid").read_text()), signal.SIGTERM)
+
+
+def run_page(seen, stack, page, folder):
+    """Runs the commands of a page up to the first that does not end, and gives those that are not run."""
+    prompts = {prompt: words for prompt, words in PAGES[page].prepares.items() if prompt == "$" or os.geteuid() == 0}
+    running = {prompt: begun(seen, stack, folder, prompt, words) for prompt, words in prompts.items()}
+    left = []
+    for number, prompt, words, wanted in operating_page.commands(page):
+        if prompt == "#" and NEEDS_SYSTEMD.match(words):
+            running.pop(prompt, None)
+        if prompt not in running or LEFT_OUT.match(words):
+            left.append(words)
+            continue
+        # a terminal does not show that a line ends with CR LF
+        came = running[prompt].run(words, wanted).replace(b"\r\n", b"\n")
+        seen.same(f"{page}, line {number}: {words}", *told(wanted, came))
+        if running[prompt].hangs:
+            break
+    return left
+
+
+def told(wanted, came):
+    """What is wanted and what came, which are the same where the page shows what came."""
+    return (came, came) if shows(wanted, came) else (operating_page.shown(wanted), came)
 
 
 def main():
-    reading_room.install(["curl", "adduser", "systemd-analyze"], ["curl", "adduser", "systemd"])
-    seen, left = reading_room.Seen(), []
-    plain = blocks_without_commands(operating_page.text())
-    seen.same("blocks without a command", [True], ["readers" in block for block in plain])
-    with tempfile.TemporaryDirectory(prefix="as-the-page-says-") as folder, contextlib.ExitStack() as stack:
-        program = operating_page.built(reading_room.program(sys.argv[1:]))
-        operating_page.copied(program, pathlib.Path(folder))
-        running = shells(stack, folder)
-        for number, prompt, words, wanted in operating_page.commands():
-            if prompt not in running or NEEDS_SYSTEMD.match(words):
-                left.append(words)
-                continue
-            came = running[prompt].run(words, wanted)
-            # a line of JSON lacks its end
-            whole = came if came.endswith(b"\n") or not came else came + b"\n"
-            seen.same(f"{PAGE}, line {number}: {words}", shown(wanted), whole)
+    words = sys.argv[1:]
+    page = words.pop(0) if words and words[0] in PAGES else operating_page.PAGE
+    tools.install(PAGES[page].needed, PAGES[page].packages)
+    signal.signal(signal.SIGTERM, lambda *_: sys.exit(1))
+    seen = reading_room.Seen()
+    seen.same("blocks without a command", PAGES[page].plain, plain_blocks(page))
+    program = reading_room.program(words)
+    # not in /tmp, which may be another one for the page's commands
+    with tempfile.TemporaryDirectory(prefix="as-the-page-says-", dir="/var/tmp") as name, contextlib.ExitStack() as stack:
+        folder = pathlib.Path(name)
+        operating_page.copied(program, folder)
+        stack.callback(end_nginx, folder)
+        left = run_page(seen, stack, page, folder)
     for words in left:
-        print(f"not run: {words}")
+        print(f"not run: {words.splitlines()[0]}")
     sys.exit(seen.told())
 
 

@@ -4,13 +4,16 @@
 # which it installs where it runs as root and they are missing. Each backup has to give the catalogue of its moment,
 # images with the SHA-256 that they came with, and the last change before it, which is in the log alone.
 set -u
+desk=$(realpath "${1:-$(dirname "$0")/../desk}") || exit 1
 cd "$(dirname "$0")/.." || exit 1
-desk=$(realpath "${1:-desk}") || exit 1
 there() { command -v sqlite3 >/dev/null && command -v curl >/dev/null; }
-there || { apt-get update -qq && apt-get install -y -qq --no-install-recommends sqlite3 curl; }
+install() { DEBIAN_FRONTEND=noninteractive apt-get install -y -qq --no-install-recommends sqlite3 curl </dev/null; }
+there || { apt-get update -qq && install; }
 there || { echo "missing: sqlite3 or curl; run as root: apt-get install sqlite3 curl" >&2; exit 1; }
 work=$(mktemp -d) || exit 1
-port=$((20000 + RANDOM % 10000))
+# a port at which nobody listens, below those that the system gives to connections
+port=20000
+while (: <>"/dev/tcp/127.0.0.1/$port") 2>/dev/null; do port=$((port + 1)); done
 room=http://127.0.0.1:$port
 serving=
 passed=0 failed=0

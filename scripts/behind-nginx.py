@@ -7,12 +7,13 @@ where it runs as root and they are missing. PROGRAM is ./desk of this repository
 What clients ask of the desk in scripts/as-a-client-sees-it.py is asked again: each GET through nginx, and status, body
 and fields have to be those that the desk gives; each other request through nginx too, which has to answer 403, and then
 of the desk itself, as the staff does on the machine, so that the next cases find what it did. After that come the
-limits, visitors who send or take a byte a second, and a desk that is down. Each group comes from an address of its own,
-so that none uses up what nginx allows another."""
+limits, visitors who send or take a byte a second or nothing at all, and a desk that is down. Each group comes from an
+address of its own, so that none uses up what nginx allows another."""
 
 import contextlib
 import http.client
 import re
+import select
 import socket
 import ssl
 import subprocess
@@ -30,8 +31,14 @@ from reading_room import fields_of
 
 # Paths that the configuration hands on to the desk.
 HANDED_ON = re.compile(r"/(images|accessions|deeds|badges|catalogue)(/|\?|$)")
+# What the page may do. What may have the page in a frame is said by the field alone, and not by the page itself.
+POLICY = [
+    "default-src 'none'", "script-src 'self'", "style-src 'self'", "connect-src 'self'", "base-uri 'none'",
+    "form-action 'none'", "frame-ancestors 'none'", "require-trusted-types-for 'script'", "trusted-types 'none'",
+]
 # What nginx adds to every reply, also to one of its own.
 ADDED = {
+    "Content-Security-Policy": "; ".join(POLICY),
     "Strict-Transport-Security": "max-age=31536000",
     "X-Content-Type-Options": "nosniff",
     "Referrer-Policy": "no-referrer",
@@ -41,9 +48,12 @@ ADDED = {
 }
 # In what time a visitor is answered while others are slow, in seconds, and for how long they are slow.
 SOON = 3
-SLOW = 22
-# The configuration's own numbers: requests of an address in a second and beyond that, and its connections.
-RATE, BURST, CONNECTIONS = 20, 60, 20
+SLOW = 38
+# The configuration's own numbers. Of an address: its requests in a second, beyond that, and at a time; and the same of
+# those for a whole collection. In seconds: of a head, until the next part of a body, and until a reader takes some.
+RATE, BURST, AT_A_TIME = 20, 60, 20
+COLLECTIONS_RATE, COLLECTIONS_BURST = 1, 20
+HEAD_TIME, BODY_TIME, READER_TIME = 15, 10, 30
 
 
 def parsed(reply):
@@ -72,9 +82,6 @@ def see_reply(seen, label, wanted, came):
 
 def see_added(seen, label, fields):
     seen.same(f"{label}: what nginx adds", ADDED, {name: fields.get(name) for name in ADDED})
-    policy = fields.get("Content-Security-Policy", "")
-    strict = "default-src 'none'" in policy and "unsafe" not in policy and "*" not in policy
-    seen.same(f"{label}: the policy is strict", True, strict)
 
 
 def see_question(seen, room, label, asked, wanted, address):
@@ -116,6 +123,8 @@ BAD_PLACES = [
     ("a value with a blank", lambda text: text + "WEB=/a b\n", "configure: not a place: WEB=/a b\n"),
     ("a value that ends a line of nginx", lambda text: text + "WEB=/a;\n", "configure: not a place: WEB=/a;\n"),
     ("no value", lambda text: text + "WEB=\n", "configure: not a place: WEB=\n"),
+    ("a value twice", lambda text: text + "WEB=/a\n", "configure: given twice: WEB\n"),
+    ("an offset that is none", lambda text: text.replace("=E0000", "=CET"), "configure: not an offset: CET\n"),
 ]
 
 
@@ -127,7 +136,7 @@ def see_places(seen, room):
     for label, change, told in BAD_PLACES:
         (room.folder / "bad").write_text(change(good))
         seen.same(f"places: {label}", (1, told), configured(room.folder / "bad", folder))
-    seen.same("places: no such file", 1, configured(room.folder / "none", folder)[0])
+    seen.same("places: no such file", 1, configured(room.folder / "no\\ne", folder)[0])
     seen.same("places: nothing is written", [], list(folder.iterdir()))
     seen.same("places: no such folder", 1, configured(room.folder / "places", room.folder / "none")[0])
     seen.same("places: good ones", (0, ""), configured(room.folder / "places", folder))
@@ -148,6 +157,9 @@ def see_page(seen, room):
         seen.same(f"the page's {name}", (200, bytes_of("web", name), kind), (status, body, fields.get("Content-Type")))
         see_added(seen, f"the page's {name}", fields)
     seen.same("the page at /", bytes_of("web", "index.html"), ask(room, get("/"), "127.0.2.1")[1])
+    told = re.search(rb'<meta http-equiv="Content-Security-Policy" content="([^"]*)">', bytes_of("web", "index.html"))
+    wanted = [words for words in POLICY if not words.startswith("frame-ancestors ")]
+    seen.same("the policy that the page tells", wanted, told[1].decode().split("; "))
     for path in ("/../museum.sqlite", "/%2e%2e/museum.sqlite", "/museum.sqlite", "/.git/config", "/web/room.js"):
         seen.same(f"no file {path}", True, ask(room, get(path), "127.0.2.1")[0] in (400, 404))
 
@@ -156,6 +168,7 @@ def see_unchanged(seen, room):
     """Commands from outside with the key of the staff change no row."""
     room.stop_desk()
     before = room.tables()
+    seen.same("the tables are read", True, b"INSERT INTO image" in before)
     room.start_desk()
     commands = [
         put("/deeds/77", {"donor": "X", "signed": "2020-01-01"}), put_rule("/deeds/9/rules/1", "deny", EVERY, *ALL),
@@ -170,7 +183,7 @@ def see_unchanged(seen, room):
 
 
 def see_fields(seen, room):
-    """Fields reach the desk as they came: an empty key is a key, and two are none."""
+    """A key reaches the desk as it came, an empty one and two of them too; other fields harm nothing."""
     cases = [
         ("an empty key", [("Desk-Key", "")], 401), ("two keys", [("Desk-Key", "abc"), ("Desk-Key", "abc")], 400),
         ("a key of other bytes", [("Desk-Key", "\xc3\xbc")], 401), ("70 fields", [("A", "b")] * 70, 400),
@@ -199,29 +212,71 @@ def see_sizes(seen, room):
         ("a command of 300,000 bytes", Asked("PUT", "/deeds/7", STAFF, bytes(300000)), 403),
     ]
     for label, asked, status in cases:
+        seen.same(f"sizes: {label}", status, status_of(room, asked, "127.0.2.4"))
+
+
+def status_of(room, asked, address):
+    """The status of a reply, which may come before all is sent."""
+    broken = (BrokenPipeError, ConnectionResetError, ssl.SSLError)
+    with contextlib.closing(room.visitor(address)) as connection:
+        with contextlib.suppress(*broken):
+            connection.request(asked.method, asked.path, asked.body, fields_of(asked))
         try:
-            came = ask(room, asked, "127.0.2.4")[0]
-        except (BrokenPipeError, ConnectionResetError, ssl.SSLError):
-            # nginx has answered and closed before the client had sent all
-            came = status if asked.body and len(asked.body) > 100000 else "a reset"
-        seen.same(f"sizes: {label}", status, came)
+            return connection.getresponse().status
+        except (*broken, http.client.HTTPException) as fault:
+            return repr(fault)
 
 
-def see_rate(seen, room):
-    """An address that asks faster than it may is told so, and another one is answered meanwhile."""
+def see_rate(seen, room, label, path, address, rate, burst):
+    """An address that asks faster than it may is told so."""
     statuses = []
-    with contextlib.closing(room.visitor("127.0.2.5")) as connection:
+    with contextlib.closing(room.visitor(address)) as connection:
         started = time.monotonic()
-        for _ in range(BURST * 4):
-            connection.request("GET", "/room.css")
+        for _ in range(burst * 4):
+            connection.request("GET", path)
             reply = connection.getresponse()
             reply.read()
             statuses.append(reply.status)
         seconds = time.monotonic() - started
-    allowed = BURST + 1 + int(RATE * seconds) + 1
-    seen.same("rate: some are answered", True, BURST < statuses.count(200) <= allowed)
-    seen.same("rate: the others are told 429", {200, 429}, set(statuses))
+    allowed = burst + 1 + int(rate * seconds) + 1
+    seen.same(f"{label}: some are answered", True, burst < statuses.count(200) <= allowed)
+    seen.same(f"{label}: the others are told 429", {200, 429}, set(statuses))
+
+
+def see_rates(seen, room):
+    """Another address is answered meanwhile; and so are other questions where too many were for a whole collection."""
+    see_rate(seen, room, "rate", "/room.css", "127.0.2.5", RATE, BURST)
     seen.same("rate: another address", 200, ask(room, get("/images"), "127.0.2.6")[0])
+    see_rate(seen, room, "collections", "/catalogue", "127.0.2.14", COLLECTIONS_RATE, COLLECTIONS_BURST)
+    seen.same("collections: both are counted", 429, ask(room, get("/images?x"), "127.0.2.14")[0])
+    seen.same("collections: a file", 200, ask(room, get("/images/15/files/0"), "127.0.2.14")[0])
+
+
+@contextlib.contextmanager
+def unfinished(room, path, count, address):
+    """While this is entered, an address has so many requests under way, of which the body does not come."""
+    with contextlib.ExitStack() as stack:
+        for connection in sockets(room, count, address):
+            stack.enter_context(connection)
+            connection.sendall(head(f"GET {path} HTTP/1.1", "Host: localhost", "Content-Length: 5"))
+        time.sleep(0.5)
+        yield
+
+
+def see_at_a_time(seen, room):
+    """An address that has as many requests under way as it may is told so, and another one is answered."""
+    file = "/images/15/files/0"
+    for count, status in ((AT_A_TIME - 1, 200), (AT_A_TIME, 429)):
+        address = f"127.0.2.{20 + count}"
+        with unfinished(room, file, count, address):
+            seen.same(f"at a time: beside {count} files", status, ask(room, get(file), address)[0])
+            seen.same(f"at a time: another address beside {count}", 200, ask(room, get(file), "127.0.2.15")[0])
+    with unfinished(room, "/images", 1, "127.0.2.16"):
+        asked = [("the catalogue", "/catalogue", 429), ("the images", "/images", 429), ("a file", file, 200)]
+        for label, path, status in asked:
+            came = ask(room, get(path), "127.0.2.16")[0]
+            seen.same(f"at a time: {label} beside the images", status, came)
+    seen.same("at a time: afterwards", 200, ask(room, get("/catalogue"), "127.0.2.16")[0])
 
 
 def see_tls(seen, room):
@@ -237,12 +292,14 @@ def see_tls(seen, room):
 
 
 def sockets(room, count, address, small=False):
-    """Plain connections of TLS from an address, with little room for what comes where they are small."""
+    """Plain connections of TLS from an address, with little room for what comes, there and on its way, where they are
+    small: else the system keeps a whole file for who does not take it."""
     for _ in range(count):
         connection = socket.socket()
         connection.settimeout(reading_room.LIMIT)
         if small:
             connection.setsockopt(socket.SOL_SOCKET, socket.SO_RCVBUF, 2048)
+            connection.setsockopt(socket.IPPROTO_TCP, socket.TCP_MAXSEG, 536)
         connection.bind((address, 0))
         connection.connect((HOST, room.https_port))
         yield room.trusting().wrap_socket(connection, server_hostname=HOST)
@@ -262,7 +319,7 @@ def drip(connection, begun, ended, lasted):
 
 def sip(connection, begun, ended, taken):
     """Takes a long file, each second one byte, and keeps how many."""
-    connection.sendall(head("GET /images/21/files/0 HTTP/1.1", "Host: localhost"))
+    connection.sendall(LONG_ASKED)
     count = len(connection.recv(1))
     begun.release()
     with contextlib.suppress(OSError), connection:
@@ -271,16 +328,57 @@ def sip(connection, begun, ended, taken):
     taken.append(count)
 
 
-def start_slow(walk, connections, ended, kept):
-    """Starts a visitor on each connection, and waits until all have begun."""
-    begun = threading.Semaphore(0)
-    threads = [threading.Thread(target=walk, args=(one, begun, ended, kept)) for one in connections]
-    for thread in threads:
-        thread.start()
-    began = [begun.acquire(timeout=reading_room.LIMIT) for _ in threads]
-    if not all(began):
-        raise TimeoutError("a slow visitor does not begin")
-    return threads
+def hold_body(connection, begun, ended, lasted):
+    """Sends a head and no body, and keeps how long nginx waits for it."""
+    connection.sendall(head("GET /images/15/files/0 HTTP/1.1", "Host: localhost", "Content-Length: 5"))
+    wait_for_end(connection, begun, ended, lasted)
+
+
+def take_nothing(connection, begun, ended, lasted):
+    """Asks for a long file and takes nothing of it, and keeps how long nginx waits."""
+    connection.sendall(LONG_ASKED)
+    wait_for_end(connection, begun, ended, lasted)
+
+
+def wait_for_end(connection, begun, ended, lasted):
+    """Keeps how long a connection lasts of which nothing is read."""
+    started = time.monotonic()
+    begun.release()
+    with connection:
+        resets = select.poll()
+        resets.register(connection, 0)
+        while not resets.poll(100) and not ended.is_set():
+            pass
+    lasted.append(time.monotonic() - started)
+
+
+LONG_ASKED = head("GET /images/21/files/0 HTTP/1.1", "Host: localhost")
+# Slow visitors: what they do, their address, and whether there is little room for what comes.
+SLOW_WALKS = [
+    (sip, "127.0.2.9", True), (drip, "127.0.2.8", False), (hold_body, "127.0.2.17", False),
+    (take_nothing, "127.0.2.18", True),
+]
+# In what time they are ended.
+TIMES = [(drip, HEAD_TIME), (hold_body, BODY_TIME), (take_nothing, READER_TIME)]
+
+
+@contextlib.contextmanager
+def slow(walk, connections, kept):
+    """While this is entered, there is a slow visitor on each connection."""
+    begun, ended = threading.Semaphore(0), threading.Event()
+    words = [(one, begun, ended, kept) for one in connections]
+    threads = [threading.Thread(target=walk, args=args, daemon=True) for args in words]
+    try:
+        for thread in threads:
+            thread.start()
+        if not all([begun.acquire(timeout=reading_room.LIMIT) for _ in threads]):
+            raise TimeoutError("a slow visitor does not begin")
+        yield
+    finally:
+        ended.set()
+        for thread in threads:
+            if thread.is_alive():
+                thread.join()
 
 
 def see_others(seen, room, label, seconds):
@@ -296,16 +394,16 @@ def see_others(seen, room, label, seconds):
 
 
 def see_slow(seen, room):
-    """Ten visitors who send a byte a second and ten who take one stop nobody; nginx ends the first within its time."""
-    ended, lasted, taken = threading.Event(), [], []
-    sips = start_slow(sip, sockets(room, 10, "127.0.2.9", small=True), ended, taken)
-    drips = start_slow(drip, sockets(room, 10, "127.0.2.8"), ended, lasted)
-    see_others(seen, room, "slow visitors", SLOW)
-    ended.set()
-    for thread in sips + drips:
-        thread.join()
-    seen.same("a byte a second is ended before the others are done", (10, True), (len(lasted), max(lasted) < SLOW - 2))
-    seen.same("who takes a byte a second has some", (10, True), (len(taken), min(taken) > SLOW / 2))
+    """Ten visitors of each slow sort stop nobody, and nginx ends within its times who sends or takes too little."""
+    kept = {walk: [] for walk, _, _ in SLOW_WALKS}
+    with contextlib.ExitStack() as stack:
+        for walk, address, small in SLOW_WALKS:
+            stack.enter_context(slow(walk, sockets(room, 10, address, small), kept[walk]))
+        see_others(seen, room, "slow visitors", SLOW)
+    for walk, seconds in TIMES:
+        in_time = [seconds - 1 <= lasted <= seconds + 5 for lasted in kept[walk]]
+        seen.same(f"{walk.__name__} is ended after {seconds} seconds", [True] * 10, in_time)
+    seen.same("who takes a byte a second has some", (10, True), (len(kept[sip]), min(kept[sip]) > SLOW / 2))
 
 
 def see_why(seen, room):
@@ -338,7 +436,7 @@ def see_down(seen, room):
 
 
 def see_logs(seen, room):
-    """The keys of a whole day are in no log of nginx."""
+    """A key that is sent is in no log of nginx."""
     key = "a key that no log may have"
     ask(room, get("/images", key), "127.0.2.12")
     logs = room.logs()
@@ -347,8 +445,8 @@ def see_logs(seen, room):
 
 
 GROUPS = [
-    see_places, see_page, see_routes, see_unchanged, see_fields, see_head, see_sizes, see_rate, see_tls, see_why,
-    see_slow, see_down, see_logs,
+    see_places, see_page, see_routes, see_unchanged, see_fields, see_head, see_sizes, see_rates, see_at_a_time, see_tls,
+    see_why, see_slow, see_down, see_logs,
 ]
 
 

@@ -19,7 +19,7 @@ SUITE = "bookworm"
 KEPT = pathlib.Path("/var/tmp/desk-under-systemd")
 # What a Debian of the least size lacks, and what is fetched for the machine to install without a network.
 ADDED = "systemd-sysv,dbus,iproute2"
-FETCHED = "nginx openssl sqlite3 curl"
+FETCHED = "nginx openssl sqlite3 curl logrotate"
 FETCH = f"apt-get update -qq && apt-get install -y -qq --download-only --no-install-recommends {FETCHED}"
 CGROUPS = pathlib.Path("/sys/fs/cgroup")
 # The flag CLONE_NEWNS of Linux.
@@ -41,11 +41,22 @@ def install():
     tools.install(["debootstrap", "systemd-nspawn"], ["debootstrap", "systemd-container"])
 
 
+def is_kept():
+    """Whether a Debian is kept that has what is wanted. One that has something else is taken away."""
+    if not KEPT.is_symlink() and not KEPT.exists():
+        return False
+    if KEPT.lstat().st_uid or KEPT.is_symlink():
+        sys.exit(f"not of root: {KEPT}")
+    told = KEPT / "root" / "fetched"
+    if told.exists() and told.read_text() == FETCHED:
+        return True
+    command("rm", "-r", "--one-file-system", str(KEPT))
+    return False
+
+
 def make_debian():
     """Makes the Debian that is kept, where there is none. It has its name only when it is whole."""
-    if KEPT.is_symlink() or KEPT.exists():
-        if KEPT.lstat().st_uid or KEPT.is_symlink():
-            sys.exit(f"not of root: {KEPT}")
+    if is_kept():
         return
     print(f"{KEPT} is made, which takes some minutes", flush=True)
     with tempfile.TemporaryDirectory(prefix=f"{KEPT.name}-", dir=KEPT.parent) as folder:
@@ -53,6 +64,7 @@ def make_debian():
         words = ["debootstrap", "--variant=minbase", f"--include={ADDED}", SUITE, made]
         subprocess.run(words, check=True, stdin=subprocess.DEVNULL, stdout=subprocess.DEVNULL)
         command("chroot", made, "sh", "-c", FETCH)
+        pathlib.Path(made, "root", "fetched").write_text(FETCHED)
         os.rename(made, KEPT)
 
 

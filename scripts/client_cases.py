@@ -1,4 +1,5 @@
-"""The requests of clients and what has to come back: samples, replies and the cases that as-a-client-sees-it.py walks."""
+"""The requests of clients and what has to come back: samples, replies and the cases that as-a-client-sees-it.py
+walks."""
 
 import collections
 import csv

@@ -15,6 +15,7 @@ import json
 import os
 import pathlib
 import re
+import signal
 import subprocess
 import sys
 import time
@@ -30,7 +31,8 @@ from client_cases import (
 
 ELEMENT = "element-6066-11e4-a52e-4f735466cecf"
 TAB, ENTER = "\ue004", "\ue007"
-UMLAUTS = "Schlüssel für den Raum"
+# Its last sign is a blank that is of the key.
+UMLAUTS = "Schlüssel für den Raum\u00a0"
 
 # A 1541 disk whose names are markup, or as long as they can be, with two texts and one that is none.
 SMALL_LETTERS = b"\xc7UTEN \xd4AG,\x8d\xd7ELT!\x0d\\ ^ _\xa0."
@@ -63,10 +65,17 @@ class Browser:
         (folder / "downloads").mkdir()
         home = {**os.environ, "HOME": str(folder / "home"), "TMPDIR": str(folder)}
         words = ["chromedriver", f"--port={self.port}", f"--log-path={folder / 'chromedriver.out'}"]
-        self.driver = subprocess.Popen(words, env=home, stdout=subprocess.DEVNULL, stderr=subprocess.DEVNULL)
-        reading_room.wait_for(self.port)
+        streams = {name: subprocess.DEVNULL for name in ("stdin", "stdout", "stderr")}
+        # the browser that the driver starts is of the same group of processes
+        self.driver = subprocess.Popen(words, env=home, start_new_session=True, **streams)
+        self.session = None
+
+    def begin(self):
+        """Begins the session."""
+        reading_room.wait_for(self.port, self.driver)
         self.session = self.ask("POST", "/session", {"capabilities": {"alwaysMatch": self.wishes()}})["sessionId"]
-        self.cdp("Browser.setDownloadBehavior", {"behavior": "allow", "downloadPath": str(folder / "downloads")})
+        where = str(self.folder / "downloads")
+        self.cdp("Browser.setDownloadBehavior", {"behavior": "allow", "downloadPath": where})
 
     def wishes(self):
         words = ["--headless=new", "--disable-gpu", "--disable-dev-shm-usage", "--lang=en", "--hide-scrollbars"]
@@ -77,10 +86,11 @@ class Browser:
         return {"acceptInsecureCerts": True, "goog:chromeOptions": {"args": words}, **logs}
 
     def close(self):
-        with contextlib.suppress(OSError, KeyError):
-            self.command("DELETE", "")
-        self.driver.terminate()
-        self.driver.wait(timeout=LIMIT)
+        if self.session:
+            with contextlib.suppress(OSError, KeyError):
+                self.command("DELETE", "")
+        os.killpg(self.driver.pid, signal.SIGKILL)
+        self.driver.wait()
 
     def ask(self, method, path, body=None):
         """What the driver answers; a fault of it is raised."""
@@ -139,6 +149,7 @@ return {
   rows: Array.from(document.querySelectorAll("tbody tr"), (row) => Array.from(row.cells, (cell) => cell.textContent)),
   links: Array.from(document.querySelectorAll("tbody a"), (one) => one.getAttribute("href")),
   refusal: texts(".refused p"), bytes: texts("#bytes")[0] ?? null, told: texts("#told")[0] ?? null,
+  forms: Array.from(document.querySelectorAll("#view form"), (one) => one.id),
   here: location.hash,
 };
 """
@@ -200,7 +211,7 @@ OPEN_DISKS = ["Disk 14", "Disk 15", "Disk 16", "Disk 17", "Disk 18", "Disk 19"]
 CALLERS = [
     ("the public", PUBLIC, "You ask as the public.", CLOSED), ("the room", ROOM, "You ask with a desk key.", CLOSED),
     ("the staff", STAFF, "You ask with a desk key.", False),
-    ("the room, by other letters", UMLAUTS, "You ask with a desk key.", CLOSED),
+    ("the room, by other letters", f"  {UMLAUTS} ", "You ask with a desk key.", CLOSED),
 ]
 
 
@@ -268,8 +279,11 @@ def see_refusals(seen, page, room):
     for place, wanted in REFUSED:
         shown = page.go(place)
         seen.same(f"refused: {place}", (wanted, None), (shown["refusal"][1:], shown["bytes"]))
+        form = "slot-form" if re.fullmatch(r"[1-9]\d*/\d+", place) else "disk-form"
+        seen.same(f"refused: {place}: another number may be asked for", [form], shown["forms"])
     rows = page.go("14")["rows"]
-    faulty = ["0", "LOOP", "PRG", "", "", "not read it: loop (its blocks lead back into themselves)", "R9.20"]
+    words = "see that it is there: it is damaged, loop (its blocks lead back into themselves)"
+    faulty = ["0", "LOOP", "PRG", "", "", words, "R9.20"]
     seen.same("a faulty file is listed", [faulty], rows)
     listed = ["1", "-" * 16, "DEL", "", "", "see that it is there: its kind is not given out", "R9.20"]
     shown = page.go("16")
@@ -278,6 +292,32 @@ def see_refusals(seen, page, room):
     shown = page.give(NOBODY)
     seen.same("a key that nobody has", ["Refusal: unknown-key", "Rule: K0, the key is unknown"], shown["refusal"][1:])
     page.give(None)
+
+
+# Numbers, and whether the forms for a slot and for a disk take them.
+NUMBERS = [("0", True, False), ("1", True, True), ("012", False, False), ("9999", True, True), ("12345", False, True)]
+
+
+def see_numbers(seen, page, room):
+    typed = "const at = document.getElementById(arguments[0]); at.value = arguments[1]; return at.checkValidity();"
+    for column, (place, field) in enumerate([("16", "slot"), ("", "disk")], 1):
+        page.go(place)
+        came = [page.browser.script(typed, field, case[0]) for case in NUMBERS]
+        seen.same(f"numbers: a {field}", [case[column] for case in NUMBERS], came)
+
+
+def see_changed(seen, page, room):
+    """A file that is given and was not listed, as where a takedown is dropped between the two: here the listing is that
+    of a disk of which nothing is listed."""
+    page.browser.script("""
+        const asked = window.fetch;
+        window.fetch = (path, options) => asked(path === "/images/15" ? "/images/13" : path, options);
+    """)
+    shown = page.go("15/0")
+    wanted = ["What you may see has just changed. Ask again."]
+    seen.same("changed in between", (wanted, None), (shown["refusal"], shown["bytes"]))
+    page.browser.command("POST", "/refresh", {})
+    seen.same("asked again", "HELLO FROM CP/M", page.read()["bytes"].strip())
 
 
 def see_markup(seen, page, room):
@@ -476,8 +516,8 @@ def take_pictures(page):
 
 
 GROUPS = [
-    see_callers, see_takedown, see_refusals, see_markup, see_bytes, see_texts, see_key, see_keyboard, see_small,
-    see_down, see_strict,
+    see_callers, see_takedown, see_refusals, see_numbers, see_changed, see_markup, see_bytes, see_texts, see_key,
+    see_keyboard, see_small, see_down, see_strict,
 ]
 
 
@@ -490,6 +530,7 @@ def main():
         room.start_nginx()
         browser = Browser(room.folder)
         stack.callback(browser.close)
+        browser.begin()
         page = Page(browser, f"https://{reading_room.SITE}:{room.https_port}/")
         if "--pictures" in sys.argv:
             take_pictures(page)

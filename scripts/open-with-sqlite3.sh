@@ -2,7 +2,7 @@
 # Makes a desk in a file by the store's test, reads it with the sqlite3 shell, and has the store open it
 # again after VACUUM, and after ANALYZE, whose tables it refuses until they are dropped. Then tables, views
 # and triggers named desk: what the store answers where it is to open them, and to make a desk beside them.
-# Wants `rt test` in crates/rd_store_tests, or the store's built tests as an argument.
+# Wants the shell sqlite3, and `rt test` in crates/rd_store_tests, or the store's built tests as an argument.
 set -u
 cd "$(dirname "$0")/.." || exit 1
 tests=${1:-crates/rd_store_tests/out/rd_store_tests_tests}
@@ -70,11 +70,13 @@ made() {
     sqlite3 -batch -bail "$file" "$1"
 }
 
-trigger='AFTER UPDATE ON %s BEGIN SELECT 1; END'
+# noted NAME TABLE: a trigger of this name on a table
+noted() { printf 'CREATE TRIGGER %s AFTER UPDATE ON %s BEGIN SELECT 1; END' "$1" "$2"; }
 
 # the SHA-256 of the image's bytes, by sha256sum
 image_digest() {
-    sqlite3 -batch -bail "$file" 'SELECT hex(bytes) FROM image' | xxd -r -p | sha256sum | cut -c 1-64
+    sqlite3 -batch -bail "$file" "SELECT writefile('$work/image', bytes) FROM image" >/dev/null &&
+        sha256sum <"$work/image" | cut -c 1-64
 }
 
 has_rows() {
@@ -85,7 +87,8 @@ has_rows() {
         shows "$(image_digest)" 'SELECT lower(hex(digest)) FROM image' &&
         shows "1|7|10|3|NULL|21915|0|0|''|0
 1|7|20|7|NULL|NULL|0|0|''|2" \
-            'SELECT band, scope, rank, audiences, quote(day_from), quote(day_until), how, number, quote(word), effect FROM rule ORDER BY rank' &&
+            'SELECT band, scope, rank, audiences, quote(day_from), quote(day_until), how, number, quote(word), effect
+            FROM rule ORDER BY rank' &&
         shows "$(printf hello | sha256sum | cut -c 1-64 | tr a-f A-F)|1
 $(printf abc | sha256sum | cut -c 1-64 | tr a-f A-F)|2" \
             'SELECT hex(digest), audience FROM badge ORDER BY audience' &&
@@ -123,17 +126,18 @@ step "the store refuses it with Sql" refuses Sql
 step "sqlite3 drops the tables of statistics" drop_statistics
 step "the store opens it again" opens
 step "sqlite3 shows its rows at the end" has_rows
-step "sqlite3 puts a trigger on the table desk" sqlite3 -batch -bail "$file" "CREATE TRIGGER noted $(printf "$trigger" desk)"
+step "sqlite3 puts a trigger on the table desk" sqlite3 -batch -bail "$file" "$(noted noted desk)"
 step "the store refuses it with Sql, for its columns cannot be told" refuses Sql
 step "no desk is made: Exists" makes_none Exists
 step "sqlite3 drops the trigger" sqlite3 -batch -bail "$file" 'DROP TRIGGER noted'
 step "the store opens it without the trigger" opens
-step "a table desk with a trigger and another column" made "CREATE TABLE desk (name TEXT) STRICT; CREATE TRIGGER noted $(printf "$trigger" desk)"
+step "a table desk with a trigger and another column" \
+    made "CREATE TABLE desk (name TEXT) STRICT; $(noted noted desk)"
 step "the store refuses that with Sql too" refuses Sql
 step "no desk is made beside it: Exists" makes_none Exists
 step "a view desk" made 'CREATE TABLE museum (id INTEGER PRIMARY KEY) STRICT; CREATE VIEW desk AS SELECT id FROM museum'
 step "which is no desk: NotADesk" refuses NotADesk
 step "no desk is made beside it: Sql" makes_none Sql
-step "a trigger desk" made "CREATE TABLE museum (id INTEGER PRIMARY KEY) STRICT; CREATE TRIGGER desk $(printf "$trigger" museum)"
+step "a trigger desk" made "CREATE TABLE museum (id INTEGER PRIMARY KEY) STRICT; $(noted desk museum)"
 step "which is no desk either: NotADesk" refuses NotADesk
 step "no desk is made beside it either: Sql" makes_none Sql

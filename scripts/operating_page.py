@@ -1,5 +1,5 @@
-"""docs/OPERATING.md as commands in their order, a shell that is given them, and a copy of what they need of this
-repository. The scripts that run the page share this."""
+"""A page as commands in their order, a shell that is given them, and a copy of what they need of this repository. The
+scripts that run docs/OPERATING.md or README.md share this."""
 
 import contextlib
 import os
@@ -14,19 +14,22 @@ from client_cases import LIMIT, ROOT
 
 PAGE = "docs/OPERATING.md"
 COPIED = ("operate", "web", "images", "docs", "README.md")
-# What a shell tells of its jobs, and what nginx tells an ordinary user of its line `user`.
-NOISE = re.compile(rb"^(\S*: line \d+: +\d+ Terminated|\[\d+\]|.*\[warn\].* the \"user\" directive ).*\n", re.M)
+# What is not run: what proves, builds or measures for long, and what wants a network.
+LEFT_OUT = re.compile(r"bash \.ci/run|python3 bench/|rt |apt-get update")
+# What a shell tells of its jobs, nginx tells an ordinary user of its line `user`, and debconf tells without a terminal.
+NOISE = re.compile(
+    rb"^(\S*: line \d+: +\d+ Terminated|\[\d+\]|.*\[warn\].* the \"user\" directive |debconf: ).*\n", re.M
+)
 
 
-def text():
-    """The page."""
-    return pathlib.Path(ROOT, PAGE).read_text()
+def text(page):
+    return pathlib.Path(ROOT, page).read_text()
 
 
-def commands():
-    """The commands of the page in their order: the line of each, its prompt, its words, and the lines that it gives."""
+def commands(page):
+    """The commands of a page in their order: the line of each, its prompt, its words, and the lines that it gives."""
     found, inside = [], False
-    for number, line in enumerate(text().splitlines(), 1):
+    for number, line in enumerate(text(page).splitlines(), 1):
         if line.startswith("```"):
             inside = not inside
         elif inside and line[:2] in ("$ ", "# "):
@@ -39,34 +42,42 @@ def commands():
 
 
 class Shell:
-    """A shell that is given commands one after the other, and the words that start it."""
+    """A shell that is given commands one after the other, and the words that start it. After a command that does not
+    end it hangs, and can be given no other."""
 
     def __init__(self, folder, *words):
         clean = {name: value for name, value in os.environ.items() if not name.startswith(("LC_", "BASH"))}
-        settings = {**clean, "LANG": "C", "no_proxy": "*"}
+        settings = {**clean, "LANG": "C", "no_proxy": "*", "DEBIAN_FRONTEND": "noninteractive"}
         streams = {"stdin": subprocess.PIPE, "stdout": subprocess.PIPE, "stderr": subprocess.STDOUT}
         self.process = subprocess.Popen(words, cwd=folder, env=settings, bufsize=0, **streams)
         self.came = b""
+        self.hangs = False
+        self.lock = threading.Lock()
         threading.Thread(target=self.listen, daemon=True).start()
         self.count = 0
 
     def listen(self):
         while part := self.process.stdout.read(65536):
-            self.came += part
+            with self.lock:
+                self.came += part
 
     def run(self, words, wanted):
         """What a command gives. One that goes on in the background is given time to write what is wanted of it."""
         self.count += 1
         mark = f"-- {self.count} is done --\n".encode()
-        self.came = b""
+        with self.lock:
+            self.came = b""
         self.process.stdin.write(words.encode() + b"\necho '" + mark[:-1] + b"'\n")
         end = time.monotonic() + LIMIT
         while time.monotonic() < end and self.process.poll() is None:
             came = NOISE.sub(b"", self.came.replace(mark, b""))
-            stays = re.search(r"&( \w+=\$!)?$", words) and came != shown(wanted)
+            stays = re.search(r"&( \w+=\$!)?$", words) and not shows(wanted, came)
             if mark in self.came and not stays:
                 return came
             time.sleep(0.02)
+        if mark in self.came:
+            return came
+        self.hangs = True
         return self.came + b"\n(it does not end)"
 
     def close(self):
@@ -83,10 +94,11 @@ def shown(lines):
     return "".join(f"{line}\n" for line in lines).encode()
 
 
-def built(program):
-    """Has ./desk build the program where it is missing, before its copy is taken."""
-    subprocess.run([program, "--version"], stdout=subprocess.DEVNULL, check=False)
-    return program
+def shows(lines, came):
+    """Whether a command has given what a page shows. A last line of three dots stands for more."""
+    if lines[-1:] == ["..."]:
+        return came.startswith(shown(lines[:-1])) and len(came) > len(shown(lines[:-1]))
+    return came == shown(lines)
 
 
 def copied(program, folder):

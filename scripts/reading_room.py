@@ -11,6 +11,7 @@ import signal
 import socket
 import ssl
 import subprocess
+import sys
 import tempfile
 import threading
 import time
@@ -32,8 +33,13 @@ def install(needed=(), packages=()):
 
 
 def program(words):
-    """The path of the program that a script is given, or ./desk of this repository."""
-    return os.path.abspath(words[0]) if words else os.path.join(ROOT, "desk")
+    """The path of the program that a script is given, or ./desk of this repository, which builds it where it lacks."""
+    path = os.path.abspath(words[0]) if words else os.path.join(ROOT, "desk")
+    if not os.path.exists(path):
+        sys.exit(f"missing: {path}")
+    if subprocess.run([path, "--version"], stdin=subprocess.DEVNULL, stdout=subprocess.DEVNULL).returncode:
+        sys.exit(f"it does not run: {path}")
+    return path
 
 
 def free_ports(count):
@@ -45,15 +51,15 @@ def free_ports(count):
         return [probe.getsockname()[1] for probe in probes]
 
 
-def wait_for(port):
-    """Waits until somebody listens at a port."""
+def wait_for(port, process):
+    """Waits until a process listens at a port."""
     end = time.monotonic() + LIMIT
-    while time.monotonic() < end:
+    while time.monotonic() < end and process.poll() is None:
         with socket.socket() as probe:
             if probe.connect_ex((HOST, port)) == 0:
                 return
         time.sleep(0.05)
-    raise TimeoutError(f"nobody listens at port {port}")
+    raise RuntimeError(f"nobody listens at port {port}")
 
 
 class Seen:
@@ -90,6 +96,7 @@ class Room:
         self.desk = self.nginx = None
 
     def __enter__(self):
+        signal.signal(signal.SIGTERM, lambda *_: sys.exit(1))
         return self
 
     def __exit__(self, *_):
@@ -156,6 +163,7 @@ class Room:
         return {
             "SITE": SITE, "HTTPS_PORT": self.https_port, "HTTP_PORT": self.http_port,
             "CERTIFICATE": self.folder / "site.crt", "CERTIFICATE_KEY": self.folder / "site.key",
+            "HSTS_AGE": 31536000,
             "PROGRAM": self.program, "STORE": self.store, "DESK_PORT": self.desk_port, "OFFSET": "E0000",
             "WEB": self.folder / "web", "NGINX_RUN": self.folder, "NGINX_WORK": self.folder / "work",
             "NGINX_LOG": self.folder, "NGINX_USER": "www-data" if os.geteuid() == 0 else getpass.getuser(),
@@ -180,7 +188,10 @@ class Room:
         words = [NGINX, "-p", str(self.folder), "-c", str(self.folder / "nginx.conf"), "-g", "daemon off;"]
         with open(self.folder / "nginx.out", "ab") as out:
             self.nginx = subprocess.Popen(words, stdin=subprocess.DEVNULL, stdout=out, stderr=out)
-        wait_for(self.https_port)
+        try:
+            wait_for(self.https_port, self.nginx)
+        except RuntimeError as fault:
+            raise RuntimeError((self.folder / "nginx.out").read_text()) from fault
 
     def stop_nginx(self):
         if self.nginx:

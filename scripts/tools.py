@@ -35,7 +35,8 @@ def install(needed, packages):
     if not missing(needed):
         return
     if os.geteuid() == 0 and shutil.which("apt-get"):
-        subprocess.run(["apt-get", "update", "-qq"])
-        subprocess.run(["apt-get", "install", "-y", "-qq", "--no-install-recommends", *packages])
+        quietly = {"stdin": subprocess.DEVNULL, "env": {**os.environ, "DEBIAN_FRONTEND": "noninteractive"}}
+        subprocess.run(["apt-get", "update", "-qq"], **quietly)
+        subprocess.run(["apt-get", "install", "-y", "-qq", "--no-install-recommends", *packages], **quietly)
     if missing(needed):
         sys.exit(f"missing: {' '.join(missing(needed))}; run as root: apt-get install {' '.join(packages)}")

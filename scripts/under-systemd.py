@@ -10,14 +10,13 @@ What is looked at: what the page's commands give; the files, the process and the
 of the service may do; visits through nginx; a desk that is killed, stopped, or ends by its count; a setting that is
 changed; an import; a store that cannot be opened; and the machine's next start."""
 
+import re
 import sys
 import time
 
 import booted
 import operating_page
 import reading_room
-
-from client_cases import bytes_of, digest
 
 HOME = "/root/desk"
 UNIT = "/etc/systemd/system/desk.service"
@@ -30,30 +29,35 @@ STATUS = f"{VISIT}/images -o /dev/null -w '%{{http_code}}'"
 SOON = "--fail --retry 30 --retry-delay 1 --retry-max-time 40"
 FILE = f"{VISIT}/images/12/files/0 {SOON} | head -n 1 | tr -d '\\r'"
 FIRST_LINE = "WELCOME TO THE READING ROOM"
-IMAGE = "images/welcome.img"
-PUT = "curl -s --max-time 10 -X PUT -H 'Desk-Key: open sesame' http://127.0.0.1:8041"
-RULE = '{"audiences":["public","room","staff"],"select":{"all":true},"effect":"read"}'
-DONE = '{"done":true}'
+PUT = "curl -s --max-time 10 -X PUT -H @/etc/desk/staff-key http://127.0.0.1:8041"
+IMAGES = (
+    '{"images":[{"accession":12,"deed":7,"files":2,"kind":"cpm8"},{"accession":13,"deed":7,"files":3,"kind":"d64"}]}'
+)
+# After a command that starts the desk: until it listens, for who types is slower than a script.
+STARTS = re.compile("systemctl (re)?start desk")
+LISTENS = "for _ in $(seq 300); do ss -ltnH 'sport = :8041' | grep -q . && break; sleep 0.1; done"
 
 # Tables of a label, what is typed, and what it writes.
 STARTED = [
     ("the desk is enabled", "systemctl is-enabled desk", "enabled"),
     ("both are active", "systemctl is-active desk nginx", "active\nactive"),
-    ("a visit through nginx", f"{VISIT}/images {SOON}", '{"images":[]}'),
+    ("a visit through nginx", f"{VISIT}/images {SOON}", IMAGES),
     ("where it listens", "ss -ltnH 'sport = :8041' | awk '{ print $4 }'", "127.0.0.1:8041"),
     ("its line in the journal", "journalctl -u desk -o cat | grep listening | uniq", "listening 127.0.0.1:8041"),
-    ("a deed", f"""{PUT}/deeds/7 -d '{{"donor":"A. Curator","signed":"2019-05-04"}}'""", DONE),
-    ("a rule", f"{PUT}/deeds/7/rules/20 -d '{RULE}'", DONE),
-    ("an image", f"{PUT}/accessions/12/cpm8/7/{digest(bytes_of(IMAGE))} --data-binary @{HOME}/{IMAGE}", DONE),
-    ("a file of it through nginx", FILE, FIRST_LINE),
+    ("a deed", f"""{PUT}/deeds/9 -d '{{"donor":"C. Curator","signed":"2019-05-04"}}'""", '{"done":true}'),
+    ("a file through nginx", FILE, FIRST_LINE),
     ("the page for readers", f"{VISIT}/ | grep -o '<title>.*</title>'", "<title>The reading room</title>"),
     ("a command from outside", f"{STATUS} -X PUT", "403"),
+    ("it waits before it starts again", "systemctl show -p RestartUSec --value desk", "2s"),
+    ("nginx's logs are kept", "grep -Eo '(daily|rotate [0-9]+)$' /etc/logrotate.d/nginx", "daily\nrotate 14"),
+    ("and then deleted", "systemctl is-enabled logrotate.timer", "enabled"),
 ]
 FILES = {
     "/var/lib/desk": "desk:desk 700", "/var/lib/desk/museum.sqlite": "desk:desk 600",
     "/var/lib/desk/museum.sqlite-wal": "desk:desk 600", "/usr/local/bin/desk": "root:root 755",
     "/usr/local/share/desk/web/index.html": "root:root 644", "/etc/desk": "root:root 700",
-    "/etc/desk/site.key": "root:root 600", UNIT: "root:root 644",
+    "/etc/desk/site.key": "root:root 600", "/etc/desk/staff-key": "root:root 600", UNIT: "root:root 644",
+    "/srv/disks": "root:desk 750", "/srv/disks/images.csv": "root:desk 640",
 }
 PROCESS = {"Umask": "0077", "NoNewPrivs": "1", "CapEff": "0" * 16, "CapBnd": "0" * 16, "Seccomp": "2"}
 RIGHTS = [
@@ -75,25 +79,30 @@ SETTING = [
     ("a visit after these", FILE, FIRST_LINE),
     ("it is the new one", OFFSET, "E0100"),
 ]
-STORE, BACKUP = "/var/lib/desk/museum.sqlite", "/var/lib/desk/backup.sqlite"
+STORE, BACKUP = "/var/lib/desk/museum.sqlite", "/var/lib/desk/2*.sqlite"
 AS_DESK = "runuser -u desk -- desk"
-IMPORT = f"cd {HOME} && {AS_DESK} import --store {STORE} --key 'open sesame' --sheet images/shelf.csv"
+KEY = "$(sed 's/^Desk-Key: //' /etc/desk/staff-key)"
+IMPORT = f"cd {HOME} && {AS_DESK} import --store {STORE} --key {KEY} --sheet"
+SERVE_NONE = f"{AS_DESK} serve --port 8041 --count 0 --store"
+OF_ROOT = "/var/lib/desk/root.sqlite"
 STOPPED = [
-    ("an import while the desk serves", IMPORT, "desk: store"),
+    ("an import while the desk serves", f"{IMPORT} images/shelf.csv", "desk: store"),
     ("stop", "systemctl stop desk; sleep 4; systemctl is-active desk", "inactive"),
     ("readers are told", STATUS, "502"),
     ("the page is there", STATUS.replace("/images", "/"), "200"),
-    ("the page's backup opens", f"{AS_DESK} serve --store {BACKUP} --port 8041 --count 0 | tail -n 1", "served 0"),
-    ("an import", IMPORT, "12 done\n13 done\n14 no-deed"),
+    ("the page's backup opens", f"{SERVE_NONE} {BACKUP} | tail -n 1", "served 0"),
+    ("an import", f"{IMPORT} images/shelf.csv", "12 done\n13 done\n14 done"),
+    ("a sheet in the folder of root", f"{IMPORT} {HOME}/images/shelf.csv", "desk: device"),
+    ("a store of root", f"cp {STORE} {OF_ROOT}; {SERVE_NONE} {OF_ROOT}; rm {OF_ROOT}", "desk: store"),
     ("start", "systemctl start desk", ""),
     ("a visit", FILE, FIRST_LINE),
 ]
-FAILED = "for _ in $(seq 300); do systemctl is-failed --quiet desk && break; sleep 0.1; done; systemctl is-active desk"
+FAILED = "for _ in $(seq 500); do systemctl is-failed --quiet desk && break; sleep 0.1; done; systemctl is-active desk"
 NO_STORE = [
     ("it is taken away", "systemctl stop desk; mkdir /srv/away; mv /var/lib/desk/museum* /srv/away", ""),
     ("start", "systemctl reset-failed desk; systemctl start desk; echo $?", "0"),
     ("it is left as failed", FAILED, "failed"),
-    ("after five starts", "journalctl -u desk -o cat | grep -c '^desk: not-a-desk$'", "5"),
+    ("after ten starts", "journalctl -u desk -o cat | grep -c '^desk: not-a-desk$'", "10"),
     ("status says so", "systemctl status desk | grep -o 'Active: failed'", "Active: failed"),
     ("readers are told", STATUS, "502"),
     ("it is back", "mv /srv/away/* /var/lib/desk", ""),
@@ -117,12 +126,15 @@ def see_page(seen, machine):
     """The page's commands after `#`, in their order. `systemctl status` has to tell that both services run."""
     shell = operating_page.Shell("/", *machine.inside, "--norc")
     shell.run(f"cd {HOME}", [])
-    for number, prompt, words, wanted in operating_page.commands():
-        if prompt == "#":
-            came = shell.run(words, wanted)
-            if words == "systemctl status desk nginx":
-                wanted, came = ["both run"], b"both run\n" if came.count(b"Active: active (running)") == 2 else came
-            seen.same(f"{operating_page.PAGE}, line {number}: {words}", operating_page.shown(wanted), came)
+    for number, prompt, words, wanted in operating_page.commands(operating_page.PAGE):
+        if prompt != "#" or operating_page.LEFT_OUT.match(words) or shell.hangs:
+            continue
+        came = shell.run(words, wanted)
+        if STARTS.match(words):
+            machine.says(LISTENS)
+        if words == "systemctl status desk nginx":
+            wanted, came = ["both run"], b"both run\n" if came.count(b"Active: active (running)") == 2 else came
+        seen.same(f"{operating_page.PAGE}, line {number}: {words}", operating_page.shown(wanted), came)
     shell.close()
 
 
@@ -146,18 +158,23 @@ def see_confined(seen, machine):
 
 
 def see_end(seen, machine, name, words):
-    """A desk that ends by what is typed: 502 to readers, and after two seconds another process serves them."""
+    """A desk that ends by what is typed: 502 to readers, and after its time another process serves them."""
     before, started = machine.says(f"echo {PID}"), time.monotonic()
     machine.says(words)
     seen.same(f"{name}: readers are told", "502", machine.says(STATUS))
     seen.same(f"{name}: a visit", FIRST_LINE, machine.says(FILE))
-    seen.same(f"{name}: not before two seconds", True, time.monotonic() - started >= 2)
+    seen.same(f"{name}: not before its time", True, time.monotonic() - started >= SECONDS)
     seen.same(f"{name}: another process", False, machine.says(f"echo {PID}") == before)
     seen.same(f"{name}: started again", "1", machine.says("systemctl show -p NRestarts --value desk"))
 
 
+# For how long a desk that has ended stays down here, so that readers surely ask meanwhile.
+SECONDS = 8
+
+
 def see_ends(seen, machine):
     """A desk ends by a signal, as where memory is lost or after a fault, or by its count, here of three visits."""
+    machine.says(f"sed -i 's/^RestartSec=2$/RestartSec={SECONDS}/' {UNIT}")
     for signal in ("KILL", "SEGV"):
         machine.says(RELOAD)
         seen.same(f"SIG{signal}: a visit before", FIRST_LINE, machine.says(FILE))
@@ -166,12 +183,12 @@ def see_ends(seen, machine):
     seen.same("count: a visit before", FIRST_LINE, machine.says(FILE))
     see_end(seen, machine, "count", f"{STATUS}; {STATUS}")
     seen.same("count: told", "served 3", machine.says("journalctl -u desk -o cat | grep ^served"))
-    machine.says(f"sed -i 's/--count 3/--count 1000000/' {UNIT}; {RELOAD}")
+    machine.says(f"sed -i 's/--count 3/--count 1000000/; s/^RestartSec=.*/RestartSec=2/' {UNIT}; {RELOAD}")
 
 
 def main():
     booted.install()
-    program = operating_page.built(reading_room.program(sys.argv[1:]))
+    program = reading_room.program(sys.argv[1:])
     seen = reading_room.Seen()
     with booted.Machine() as machine:
         home = machine.root / HOME[1:]

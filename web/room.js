@@ -26,6 +26,7 @@ const STATUSES = {
   502: "The desk is closed at the moment. Ask again later.",
   503: "The desk cannot answer now. Ask again.",
   504: "The desk took too long. Ask again.",
+  changed: "What you may see has just changed. Ask again.",
 };
 
 const FAULTS = {
@@ -47,7 +48,8 @@ const KINDS = { cpm8: "CP/M, 8 inches", d64: "Commodore 1541", d64e: "Commodore 
 
 const part = (id) => document.getElementById(id);
 
-// The key, as it was given, and how often the view has changed: a reply to an earlier view is passed over.
+// The key, without blanks and tabs at its ends as in a field of HTTP, and how often the view has changed: a reply to an
+// earlier view is passed over.
 let key = "";
 let turn = 0;
 
@@ -194,7 +196,7 @@ function fileRow(accession, file) {
 function permission(file) {
   const words = listOf(file.faults).map(textOf);
   if (file.effect !== "read") return "see that it is there";
-  if (words.length) return `not read it: ${words.map(explained).join("; ")}`;
+  if (words.length) return `see that it is there: it is damaged, ${words.map(explained).join("; ")}`;
   return file.size === null ? "see that it is there: its kind is not given out" : "read it";
 }
 
@@ -211,11 +213,14 @@ async function showFiles(accession) {
   return { heading: `Disk ${accession}`, told, parts: [...parts, slotForm(accession)] };
 }
 
+// The listing tells how the bytes are to be read, and is asked for first. A file that is given and was not listed was
+// opened in between.
 async function showFile(accession, slot) {
+  const listing = await (await ask(`/images/${accession}`)).json();
   const reply = await ask(`/images/${accession}/files/${slot}`);
   const bytes = new Uint8Array(await reply.arrayBuffer());
-  const listing = await (await ask(`/images/${accession}`)).json();
-  const file = listOf(listing.files).find((one) => one.slot === Number(slot)) || {};
+  const file = listOf(listing.files).find((one) => one.slot === Number(slot));
+  if (file === undefined) throw new Refused("changed", {});
   const text = listing.kind === "cpm8" ? cpmText(bytes) : cbmText(bytes);
   const told = `${counted(bytes.length, "byte")}, by rule ${textOf(file.rule)}.`;
   const parts = [choices(bytes, text, `${accession}-${slot}.bin`), element("p", null, { id: "told" }), box()];
@@ -301,9 +306,9 @@ function showBytes(bytes, text, asText) {
 
 // Forms
 
-function numberForm(id, label, button, place) {
+function numberForm(id, label, button, pattern, place) {
   const made = element("form", null, { id: `${id}-form`, autocomplete: "off" });
-  const digits = { type: "text", inputMode: "numeric", size: 7, pattern: "[0-9]{1,6}", required: true };
+  const digits = { type: "text", inputMode: "numeric", size: 7, pattern, required: true };
   const field = element("input", null, { id, ...digits });
   made.append(element("label", label, { htmlFor: id }), field, element("button", button, { type: "submit" }));
   made.addEventListener("submit", (event) => {
@@ -316,11 +321,11 @@ function numberForm(id, label, button, place) {
 }
 
 function diskForm() {
-  return numberForm("disk", "Disk by its number", "Go", (number) => number);
+  return numberForm("disk", "Disk by its number", "Go", "[1-9][0-9]{0,5}", (number) => number);
 }
 
 function slotForm(accession) {
-  return numberForm("slot", "File by its slot", "Ask for it", (slot) => `${accession}/${slot}`);
+  return numberForm("slot", "File by its slot", "Ask for it", "0|[1-9][0-9]{0,3}", (slot) => `${accession}/${slot}`);
 }
 
 // Where the reader is
@@ -354,20 +359,21 @@ function display(heading, told, parts) {
 function refusedView({ accession, slot }, fault) {
   const name = accession === undefined ? "Disks" : `Disk ${accession}`;
   const heading = slot === undefined ? name : `${name}, slot ${slot}`;
-  return { heading, told: "Refused.", parts: [refusal(fault)] };
+  const form = slot === undefined ? diskForm() : slotForm(accession);
+  return { heading, told: "Refused.", parts: [refusal(fault), form] };
 }
 
 async function show(focuses) {
   const here = place();
   const mine = ++turn;
-  if (download !== null) URL.revokeObjectURL(download);
-  download = null;
   places(here.accession, here.slot);
   part("status").textContent = "The desk is asked.";
   part("view").setAttribute("aria-busy", "true");
   const came = await Promise.resolve(here).then(asked).catch((fault) => refusedView(here, fault));
   if (mine !== turn) return;
   display(came.heading, came.told, came.parts);
+  if (download !== null) URL.revokeObjectURL(download);
+  download = null;
   if (came.fill) came.fill();
   part("view").setAttribute("aria-busy", "false");
   if (focuses) part("heading").focus();
@@ -383,7 +389,7 @@ function useKey(given) {
 
 part("key-form").addEventListener("submit", (event) => {
   event.preventDefault();
-  useKey(part("key").value.trim());
+  useKey(part("key").value.replace(/^[ \t]+|[ \t]+$/g, ""));
 });
 part("forget").addEventListener("click", () => {
   useKey("");
