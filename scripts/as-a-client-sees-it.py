@@ -559,8 +559,9 @@ def see_museum(desk):
     serve_copy(desk, "museum", by_both(cases))
 
 
-def offset_of(minutes):
-    return f"{'E' if minutes >= 0 else 'W'}{abs(minutes) // 60:02}{abs(minutes) % 60:02}"
+def zone_of(minutes):
+    """The rule of clocks that are so many minutes ahead of UTC; a rule counts how far they are behind it."""
+    return f"<DAY>{'-' if minutes >= 0 else ''}{abs(minutes) // 60}:{abs(minutes) % 60:02}"
 
 
 def see_checks(desk):
@@ -568,11 +569,11 @@ def see_checks(desk):
     store = desk.copied("checks")
     now = datetime.datetime.now(datetime.timezone.utc)
     noon = 720 - 60 * now.hour - now.minute
-    today, other = offset_of(noon), offset_of(noon + (1439 if noon <= 0 else -1439))
+    today, other = zone_of(noon), zone_of(noon + (1439 if noon <= 0 else -1439))
     seen = [("image 12", check(12), SOUND)]
-    serve(desk, "checks", store, by_both(seen), "--offset", today)
+    serve(desk, "checks", store, by_both(seen), "--zone", today)
     desk.same("checks: one day", "12|0\n", desk.sql(store, CHECK_ROWS))
-    serve(desk, "checks", store, by_both(seen), "--offset", other)
+    serve(desk, "checks", store, by_both(seen), "--zone", other)
     desk.same("checks: two days", "12|0\n12|0\n", desk.sql(store, CHECK_ROWS))
     desk.sql(store, ONE_BYTE)
     changed = [
@@ -580,19 +581,19 @@ def see_checks(desk):
         ("its file is given", FOR_HELLO_BY_STAFF, HELLO_CHANGED),
         ("image 14", check(14), SOUND),
     ]
-    serve(desk, "checks", store, by_both(changed), "--offset", other)
+    serve(desk, "checks", store, by_both(changed), "--zone", other)
     desk.same("checks: a day of both", "12|0\n12|1\n14|0\n", desk.sql(store, CHECK_ROWS))
 
 
-def see_offset(desk):
+def see_zone(desk):
     """A rule holds from a day on that has begun where clocks are far ahead, and has not where they are far behind."""
-    store = desk.copied("offset")
+    store = desk.copied("zone")
     ahead = datetime.datetime.fromtimestamp(time.time() + 60 * 1439, datetime.timezone.utc)
     days = {"from": ahead.date().isoformat()}
     rule = put_rule("/deeds/9/rules/1", "deny", EVERY, "public", **days)
-    serve(desk, "offset: a rule", store, by_both([("is put", rule, DONE)]))
-    serve(desk, "offset: behind", store, by_both([("not yet", FOR_RECORD, RECORD)]), "--offset", "W2359")
-    serve(desk, "offset: ahead", store, by_both([("already", FOR_RECORD, denied("R9.1"))]), "--offset", "E2359")
+    serve(desk, "zone: a rule", store, by_both([("is put", rule, DONE)]))
+    serve(desk, "zone: behind", store, by_both([("not yet", FOR_RECORD, RECORD)]), "--zone", zone_of(-1439))
+    serve(desk, "zone: ahead", store, by_both([("already", FOR_RECORD, denied("R9.1"))]), "--zone", zone_of(1439))
 
 
 def see_killed(desk):
@@ -669,7 +670,7 @@ GROUPS = [
     see_uploads,
     see_museum,
     see_checks,
-    see_offset,
+    see_zone,
     see_killed,
     see_stores,
     see_devices,

@@ -37,9 +37,9 @@ SHEET = ["accession", "kind", "deed", "sha256", "file"]
 KEYS = {"public": None, "room": "room 3", "staff": "open sesame"}
 FORMAT = ["-f", "ibm-3740"]
 
-# The embargo ends with the last second of 2029 on clocks that are an hour ahead of UTC.
+# The embargo ends with the last second of 2029 in central Europe.
 EMBARGO_ENDS = "2030-01-01"
-OFFSET = ["--offset", "E0100"]
+ZONE = ["--zone", "CET-1CEST,M3.5.0,M10.5.0/3"]
 MOMENTS = {"before": (1893452399, "2029-12-31"), "after": (1893452400, EMBARGO_ENDS)}
 
 
@@ -266,7 +266,7 @@ class Desk:
 
     def export(self, audience, moment, path):
         key = KEYS[audience]
-        words = ["export", "--store", self.store, "--at", str(moment), *OFFSET]
+        words = ["export", "--store", self.store, "--at", str(moment), *ZONE]
         write(path, self.run(*words, *(["--key", key] if key else [])))
 
 

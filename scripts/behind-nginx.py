@@ -124,8 +124,36 @@ BAD_PLACES = [
     ("a value that ends a line of nginx", lambda text: text + "WEB=/a;\n", "configure: not a place: WEB=/a;\n"),
     ("no value", lambda text: text + "WEB=\n", "configure: not a place: WEB=\n"),
     ("a value twice", lambda text: text + "WEB=/a\n", "configure: given twice: WEB\n"),
-    ("an offset that is none", lambda text: text.replace("=E0000", "=CET"), "configure: not an offset: CET\n"),
+    (
+        "a rule that is none", lambda text: text.replace("=UTC0", "=CET"),
+        "configure: not the rule of a clock: CET; ZONE takes one, such as UTC0 or CET-1CEST,M3.5.0,M10.5.0/3\n",
+    ),
+    (
+        "an offset that is none", lambda text: text.replace("ZONE=UTC0", "OFFSET=CET"),
+        "configure: OFFSET is now ZONE, which takes the rule of your own clock, "
+        "such as UTC0 or CET-1CEST,M3.5.0,M10.5.0/3\n",
+    ),
 ]
+# What the places of an older version have as OFFSET, and the rule that is the same.
+OFFSETS = {
+    "E0000": "UTC0", "W0000": "UTC0", "E0100": "<+01>-1", "W0500": "<-05>5", "E0530": "<+0530>-5:30",
+    "W0330": "<-0330>3:30", "E0045": "<+0045>-0:45", "E2359": "<+2359>-23:59", "W2359": "<-2359>23:59",
+}
+# Texts that are the rule of a clock, and texts that are none.
+RULES_OF_CLOCKS = """
+    UTC0 CET-1CEST,M3.5.0,M10.5.0/3 GMT0BST,M3.5.0/1,M10.5.0 <+0545>-5:45 NST3:30NDT,M3.2.0,M11.1.0 EST+5
+    <-02>2<-01>,M3.5.0/-1,M10.5.0/0 <+1245>-12:45<+1345>,M9.5.0/2:45,M4.1.0/3:45 IST-2IDT,M3.4.4/26,M10.5.0
+    EST5EDT4,M3.2.0/2,M11.1.0/2 EST5EDT,J060,J300 EST5EDT,J1,J365 EST5EDT,J01,J001 EST5EDT,0,365 EST5EDT,00,009
+    EST5EDT,059,299/4 EST5EDT,M03.2.0,M11.1.0 EST5EDT,M3.2.0/167:59:59,M11.1.0/-167:59:59 EST5EDT,M3.2.0/+2,M11.1.0/0
+    ABC24 ABC24:59:59 ABC-24:59:59 ABC-0 ABC00 ABC1:00:00 ABCDEFGHIJKLMNO0 <ABCDEFGHIJKLMN+>0 <UTC+3>-3 <--->0 abc0
+""".split()
+NO_RULES_OF_CLOCKS = """
+    UTC Z0 ES5 EST5EDT EST5EDT4 <+3>-3 <>3 <+03> <+03-3 +03>-3 ABC25 ABC024 ABC24:60 ABC0:5 ABC1:2:3 ABC0:60 ABC1:00:
+    EST5EDT,J0,J300 EST5EDT,J366,J1 EST5EDT,366,1 EST5EDT,M0.1.0,M1.1.0 EST5EDT,M13.1.0,M1.1.0 EST5EDT,M1.0.0,M1.1.0
+    EST5EDT,M1.6.0,M1.1.0 EST5EDT,M1.1.7,M1.1.0 EST5EDT,M3.2.0/168,M11.1.0 EST5EDT,M3.2.0/,M11.1.0 EST5EDT,M3.2.0
+    EST5EDT,M3.2.0,M11.1.0, EST5EDT,, EST5,M3.2.0,M11.1.0 EST5EDT,m3.2.0,m11.1.0 EST5EDT,M3.2.00,M11.1.0 :UTC0
+    Europe/Prague 25 0 -3 +03:00 ABCDEFGHIJKLMNOP0 <ABCDEFGHIJKLMNO+>0 <ABC_>0 A1C0 'UTC0' UTC0; E0100 EST5EDT,J1000,J1
+""".split()
 
 
 def see_places(seen, room):
@@ -141,6 +169,31 @@ def see_places(seen, room):
     seen.same("places: no such folder", 1, configured(room.folder / "places", room.folder / "none")[0])
     seen.same("places: good ones", (0, ""), configured(room.folder / "places", folder))
     seen.same("places: what is written", ["desk.service", "nginx.conf"], sorted(path.name for path in folder.iterdir()))
+
+
+def see_zones(seen, room):
+    """`configure` takes the rules that the desk takes and no others, and says what an offset becomes."""
+    folder, places = room.folder / "zones", room.folder / "zones.places"
+    folder.mkdir()
+    good = (room.folder / "places").read_text()
+    texts = [(text, True) for text in RULES_OF_CLOCKS] + [(text, False) for text in NO_RULES_OF_CLOCKS]
+    for text, taken in [*texts, ("UTC 0", False), ("UTC0 ", False), ("", False)]:
+        # a folder is no store, which the desk finds only after it has taken the rule
+        status = room.run("export", "--store", str(folder), f"--zone={text}")[0]
+        seen.same(f"zones: {text!r} to the desk", 3 if taken else 2, status)
+        places.write_text(good.replace("ZONE=UTC0", f"ZONE={text}"))
+        seen.same(f"zones: {text!r} to configure", 0 if taken else 1, configured(places, folder)[0])
+        if taken:
+            seen.same(f"zones: {text} in the service", True, f" --zone {text} --count " in service_of(folder))
+    for offset, rule in OFFSETS.items():
+        places.write_text(good.replace("ZONE=UTC0", f"OFFSET={offset}"))
+        told = f"OFFSET is now ZONE: OFFSET={offset} becomes ZONE={rule}, or better the rule of your own clock"
+        seen.same(f"zones: {offset}", (1, f"configure: {told}\n"), configured(places, folder))
+        seen.same(f"zones: {rule}, for {offset}", 3, room.run("export", "--store", str(folder), "--zone", rule)[0])
+
+
+def service_of(folder):
+    return (folder / "desk.service").read_text()
 
 
 def configured(places, folder):
@@ -445,8 +498,8 @@ def see_logs(seen, room):
 
 
 GROUPS = [
-    see_places, see_page, see_routes, see_unchanged, see_fields, see_head, see_sizes, see_rates, see_at_a_time, see_tls,
-    see_why, see_slow, see_down, see_logs,
+    see_places, see_zones, see_page, see_routes, see_unchanged, see_fields, see_head, see_sizes, see_rates,
+    see_at_a_time, see_tls, see_why, see_slow, see_down, see_logs,
 ]
 
 

@@ -164,7 +164,7 @@ class Room:
             "SITE": SITE, "HTTPS_PORT": self.https_port, "HTTP_PORT": self.http_port,
             "CERTIFICATE": self.folder / "site.crt", "CERTIFICATE_KEY": self.folder / "site.key",
             "HSTS_AGE": 31536000,
-            "PROGRAM": self.program, "STORE": self.store, "DESK_PORT": self.desk_port, "OFFSET": "E0000",
+            "PROGRAM": self.program, "STORE": self.store, "DESK_PORT": self.desk_port, "ZONE": "UTC0",
             "WEB": self.folder / "web", "NGINX_RUN": self.folder, "NGINX_WORK": self.folder / "work",
             "NGINX_LOG": self.folder, "NGINX_USER": "www-data" if os.geteuid() == 0 else getpass.getuser(),
         }

@@ -65,19 +65,30 @@ RIGHTS = [
     *((name, f"stat -c '%U:%G %a' {name}", wanted) for name, wanted in FILES.items()),
     *((name, f"sed -n 's/^{name}:[[:space:]]*//p' /proc/{PID}/status", wanted) for name, wanted in PROCESS.items()),
 ]
-OFFSET = f"tr '\\0' '\\n' </proc/{PID}/cmdline | sed -n '/^--offset$/{{ n; p }}'"
+ZONE = f"tr '\\0' '\\n' </proc/{PID}/cmdline | sed -n '/^--zone$/{{ n; p }}'"
+CENTRAL, KATHMANDU = "CET-1CEST,M3.5.0,M10.5.0/3", "<+0545>-5:45"
+IN_PLACES = f"cd {HOME} && sed -i 's|^ZONE=.*|ZONE=%s|' operate/places; echo $?"
+CONFIGURE = f"cd {HOME} && operate/configure operate/places /etc/desk; echo $?"
+INSTALL = f"install -m 644 /etc/desk/desk.service {UNIT}; systemd-analyze verify {UNIT}; echo $?"
+RESTART = "systemctl daemon-reload && systemctl restart desk; echo $?"
 SETTING = [
     ("a visit before", FILE, FIRST_LINE),
-    ("it is", OFFSET, "E0000"),
-    ("places are changed", f"cd {HOME} && sed -i s/^OFFSET=.*/OFFSET=E0100/ operate/places; echo $?", "0"),
-    ("configure", f"cd {HOME} && operate/configure operate/places /etc/desk; echo $?", "0"),
-    ("the service's file", f"install -m 644 /etc/desk/desk.service {UNIT}; echo $?", "0"),
+    ("the zone is", ZONE, "UTC0"),
+    ("another in the places", IN_PLACES % CENTRAL, "0"),
+    ("configure", CONFIGURE, "0"),
+    ("the service's file", INSTALL, "0"),
     ("restart without daemon-reload", "systemctl restart desk 2>/dev/null; echo $?", "0"),
     ("a visit after it", FILE, FIRST_LINE),
-    ("it is the old one", OFFSET, "E0000"),
-    ("daemon-reload and restart", "systemctl daemon-reload && systemctl restart desk; echo $?", "0"),
+    ("the zone is the old one", ZONE, "UTC0"),
+    ("daemon-reload and restart", RESTART, "0"),
     ("a visit after these", FILE, FIRST_LINE),
-    ("it is the new one", OFFSET, "E0100"),
+    ("the zone is the new one", ZONE, CENTRAL),
+    ("one with signs in its name", IN_PLACES % KATHMANDU, "0"),
+    ("configure with it", CONFIGURE, "0"),
+    ("the service's file with it", INSTALL, "0"),
+    ("daemon-reload and restart with it", RESTART, "0"),
+    ("a visit with it", FILE, FIRST_LINE),
+    ("the zone has its signs", ZONE, KATHMANDU),
 ]
 STORE, BACKUP = "/var/lib/desk/museum.sqlite", "/var/lib/desk/2*.sqlite"
 AS_DESK = "runuser -u desk -- desk"

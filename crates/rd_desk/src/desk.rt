@@ -1,8 +1,9 @@
 //! The desk: who sees what, by which rule, and what becomes of the tables.
 
-ghost use Rattle.std.specs.Prelude.{◌≡◌, ◌↔◌, Ok, IsOk, IfOk, Some, None};
+ghost use Rattle.std.specs.Prelude.{◌≡◌, ◌↔◌, Ok, IsOk, IfOk, IfErr, Some, None};
 ghost use Rattle.sqlite.specs.Steps.{over_memory};
-ghost use Rattle.rd_policy.specs.Days.{HasDay, IsDay, IsOffset, day_number};
+ghost use Rattle.rd_policy.specs.Days.{HasDay, IsDay};
+ghost use Rattle.rd_policy.specs.Zones.{day_number};
 ghost use Rattle.rd_store.specs.Held.{IsClean, IsOpen, LeavesOpen, desk, desk as tables};
 ghost use Rattle.rd_desk.specs.Calls.{IsWritten, Responds};
 ghost use Rattle.rd_desk.specs.Judged.{audience_of};
@@ -17,7 +18,7 @@ use crate::queries::{Caller, query};
 use crate::refusal::Refusal;
 use crate::request::Request;
 use crate::said::{Reply, Said, Unavailable};
-use rd_policy::{Audience, OutOfRange, day_of, is_offset};
+use rd_policy::{Audience, DayFault, Zone, day_of};
 use rd_store::{Store, memory_stays_open};
 use sqlite::{Alter, MemStore};
 use std::alloc::Global;
@@ -145,52 +146,41 @@ fn reply_on<S: Alter>(store: &mut Store<S>, alloc: Global, day: i32, request: &R
     }
 }
 
-/// The desk over its store, whose clocks are some minutes ahead of UTC.
+/// The desk over its store, and the zone of its clocks.
 #[derive(Drop)]
 pub struct Desk<S: Alter> {
     store: Store<S>,
-    offset_minutes: i32,
-}
-
-impl<S: Alter + Drop> Desk<S> {
-    /// A desk over a store, whose clocks are this many minutes ahead of UTC, −1,439 to 1,439. The store is
-    /// not touched.
-    ///
-    /// It fails with `OutOfRange` exactly where the offset is none of those, and drops the store.
-    pub fn new(store: Store<S>, offset_minutes: i32) -> Result<Desk<S>, OutOfRange>
-        ensures taken { IsOk result ↔ IsOffset offset_minutes }
-        ensures store { IfOk result (λ desk. desk.store ≡ store) }
-        ensures offset { IfOk result (λ desk. desk.offset_minutes ≡ offset_minutes) }
-    {
-        if !is_offset(offset_minutes) {
-            return Err(OutOfRange);
-        }
-        Ok(Desk {
-            store,
-            offset_minutes,
-        })
-    }
+    zone: Zone,
 }
 
 impl<S: Alter> Desk<S> {
-    /// The day of a moment, in seconds since 1970-01-01T00:00:00 UTC, counted from 1970-01-01.
-    ///
-    /// It fails with `OutOfRange` exactly where it is not a day of the years 1 to 9999.
-    pub fn day(&self, seconds: i64) -> Result<i32, OutOfRange>
-        ensures taken { IsOk result ↔ HasDay seconds self.now.offset_minutes }
-        ensures day { IfOk result (λ day. day ≡ day_number seconds self.now.offset_minutes) }
+    /// A desk over a store. Its clocks are those of the zone. The store is not touched.
+    pub fn new(store: Store<S>, zone: Zone) -> Desk<S>
+        ensures store { result.store ≡ store }
+        ensures zone { result.zone ≡ zone }
     {
-        day_of(seconds, self.offset_minutes)
+        Desk { store, zone }
+    }
+
+    /// The day of a moment by the desk's clocks, counted from 1970-01-01. The moment is in seconds since
+    /// 1970-01-01T00:00:00 UTC.
+    ///
+    /// It fails with `OutOfRange` exactly where the moment is before 0001-01-03T00:00:00 UTC or after
+    /// 9999-12-29T23:59:59 UTC.
+    pub fn day(&self, seconds: i64) -> Result<i32, DayFault>
+        ensures taken { IsOk result ↔ HasDay seconds }
+        ensures day { IfOk result (λ day. day ≡ day_number seconds self.now.zone) }
+        ensures in_range { IfOk result IsDay }
+        ensures fault { IfErr result (λ fault. fault ≡ DayFault.OutOfRange) }
+    {
+        day_of(seconds, &self.zone)
     }
 
     /// Gives the store back, with the state that it has.
     pub fn into_store(self) -> Store<S>
         ensures { result ≡ self.store }
     {
-        let Desk {
-            store,
-            offset_minutes: _,
-        } = self;
+        let Desk { store, zone: _ } = self;
         store
     }
 
@@ -199,14 +189,15 @@ impl<S: Alter> Desk<S> {
     /// 503, where the store failed or `alloc` had no memory. A command and a check are done whole or not at all,
     /// and no change comes before a 503.
     pub fn answer(&mut self, alloc: Global, seconds: i64, request: &Request) -> Reply
-        requires moment { HasDay seconds self.old.offset_minutes }
+        requires moment { HasDay seconds }
         requires fits { IsRequest request.now.what }
-        ensures serves { Serves S.Store self.old.store self.new.store (day_number seconds self.old.offset_minutes) request.now result }
-        ensures offset { self.new.offset_minutes ≡ self.old.offset_minutes }
+        ensures serves { Serves S.Store self.old.store self.new.store (day_number seconds self.old.zone) request.now result }
+        ensures zone { self.new.zone ≡ self.old.zone }
     {
         match self.day(seconds) {
             Ok(day) => reply_on(&mut self.store, alloc, day, request),
-            Err(_) => unreachable!(),
+            Err(DayFault::OutOfRange) => unreachable!(),
+            Err(DayFault::NoMemory) => json::unavailable(),
         }
     }
 }
@@ -218,13 +209,13 @@ pub fn answer_in_memory(
     seconds: i64,
     request: &Request,
 ) -> Reply
-    requires moment { HasDay seconds desk.old.offset_minutes }
+    requires moment { HasDay seconds }
     requires fits { IsRequest request.now.what }
     ensures open { IsOpen over_memory desk.new.store }
     ensures clean { IsClean over_memory desk.new.store }
-    ensures answers { Answers (tables over_memory desk.old.store) (day_number seconds desk.old.offset_minutes) request.now result (tables over_memory desk.new.store) }
-    ensures serves { Serves over_memory desk.old.store desk.new.store (day_number seconds desk.old.offset_minutes) request.now result }
-    ensures offset { desk.new.offset_minutes ≡ desk.old.offset_minutes }
+    ensures answers { Answers (tables over_memory desk.old.store) (day_number seconds desk.old.zone) request.now result (tables over_memory desk.new.store) }
+    ensures serves { Serves over_memory desk.old.store desk.new.store (day_number seconds desk.old.zone) request.now result }
+    ensures zone { desk.new.zone ≡ desk.old.zone }
 {
     memory_stays_open();
     desk.answer(alloc, seconds, request)

@@ -2,7 +2,7 @@
 use Rattle.std.proofs.Common.{◌≡◌, inl, inr, ℕ, ℤ, List, refl}
 use Rattle.sqlite.specs.Store.{Ghosts}
 use Rattle.sqlite.specs.Held.{Held}
-use Rattle.rd_policy.specs.Days.{day_number}
+use Rattle.rd_policy.specs.declared.zone.Zone.{Zone}
 use Rattle.rd_store.specs.Held.{IsOpen, desk}
 use Rattle.rd_desk.proofs.Hiding.{not_told}
 use Rattle.rd_http.specs.Asked.{request, fault}
@@ -19,7 +19,7 @@ reach_none stream old new day text (inr wanting) audience other question alike =
     inr (record { framed = wanting.framed; same = refl; told = wanting.told })
 
 -- the same of what is answered over a store
-pub answer_hides : {S : Type 0} (g : Ghosts S) (minutes : ℤ) (stream : List ℕ) (old new : Held S) (day : ℤ) (text : List ℕ) → IsAnswer g stream old new day text → IsOpen g new
+pub answer_hides : {S : Type 0} (g : Ghosts S) (zone : Zone) (stream : List ℕ) (old new : Held S) (day : ℤ) (text : List ℕ) → IsAnswer g stream old new day text → IsOpen g new
     → HidesFromVisitor stream (desk g old) day text
-answer_hides g minutes stream old new day text answer is_open =
-    reach_none stream (desk g old) (desk g new) day text (replied g minutes stream old new day text answer is_open)
+answer_hides g zone stream old new day text answer is_open =
+    reach_none stream (desk g old) (desk g new) day text (replied g zone stream old new day text answer is_open)

@@ -5,7 +5,9 @@ use Rattle.std.proofs.lemmas.List.Elements.{filter-append}
 use Rattle.std.proofs.lemmas.List.{map-append}
 use Rattle.sqlite.specs.Store.{Ghosts}
 use Rattle.sqlite.specs.Held.{Held}
-use Rattle.rd_policy.specs.Days.{HasDay, day_number}
+use Rattle.rd_policy.specs.Days.{HasDay}
+use Rattle.rd_policy.specs.Zones.{day_number}
+use Rattle.rd_policy.specs.declared.zone.Zone.{Zone}
 use Rattle.rd_store.specs.Held.{IsOpen, Lasts, desk}
 use Rattle.rd_store.specs.State.{Desk}
 use Rattle.rd_store.proofs.Laws.{lasts_still}
@@ -61,14 +63,14 @@ unset : (b : Bool) {R : Type 0} (result end : R) → (result ≡ end ↔ b ≡ t
 unset true result end iff other = absurd (other (iff.1 refl))
 unset false result end iff other = refl
 
-module _ {State : Type 0} (Answers : List ℕ → State → State → ℤ → List ℕ → Type 0) (minutes : ℤ) where
+module _ {State : Type 0} (Answers : List ℕ → State → State → ℤ → List ℕ → Type 0) (zone : Zone) where
   module _ (coming : Option (List Coming)) where
     abbrev Run : Told → Option Told → Option (List Coming) → Served → State → State → Type 0
-    Run told later left served old new = HasRun Answers minutes told later coming left served old new
+    Run told later left served old new = HasRun Answers zone told later coming left served old new
 
-  runs_more : (visits : List Visit) (visit : Visit) (s m t : State) → Runs Answers minutes visits s m → IsVisit Answers minutes visit m t
-      → Runs Answers minutes (visits ++ visit ∷ []) s t
-  runs_more [] visit s m t same is = (t, subst (λ x. IsVisit Answers minutes visit x t) same is, refl)
+  runs_more : (visits : List Visit) (visit : Visit) (s m t : State) → Runs Answers zone visits s m → IsVisit Answers zone visit m t
+      → Runs Answers zone (visits ++ visit ∷ []) s t
+  runs_more [] visit s m t same is = (t, subst (λ x. IsVisit Answers zone visit x t) same is, refl)
   runs_more (first ∷ visits) visit s m t (mid, is, runs) last = (mid, is, runs_more visits visit mid m t runs last)
 
   -- no visit yet
@@ -94,7 +96,7 @@ module _ {State : Type 0} (Answers : List ℕ → State → State → ℤ → Li
     visit_of = record { moment = moment; came = came; out = out; take_failed = take_failed; put_failed = put_failed }
 
     abbrev Visited : State → State → Result (Unit {0}) WireFault → Type 0
-    Visited m t result = Visits (Answers came m t (day_number moment minutes)) m t (Some []) (Some out) result
+    Visited m t result = Visits (Answers came m t (day_number moment zone)) m t (Some []) (Some out) result
 
   -- what is told with one visit more
   glued : (told : Told) (visits : List Visit) (visit : Visit) → told.under_way ≡ None
@@ -116,25 +118,25 @@ module _ {State : Type 0} (Answers : List ℕ → State → State → ℤ → Li
   pub record Flags (moment : ℤ) (take_failed put_failed : Bool) (result : Result (Unit {0}) WireFault) : Type 0 where
     pub read : result ≡ Err Read ↔ take_failed ≡ true
     pub write : result ≡ Err Write ↔ put_failed ≡ true
-    pub clock : (¬ (result ≡ Err Clock)) ↔ HasDay moment minutes
+    pub clock : (¬ (result ≡ Err Clock)) ↔ HasDay moment
 
   module _ (coming left : Option (List Coming)) (told : Told) (later : Option Told) (served : Served) (s m t : State) (moment : ℤ) (came out : List ℕ) (tf pf : Bool)
       (is_count : served.ended ≡ ended.Count) where
     abbrev this : Visit
     this = visit_of moment came out tf pf
 
-    no_last : IsLast minutes served.ended []
-    no_last = subst (λ e. IsLast minutes e []) (sym is_count) refl
+    no_last : IsLast served.ended []
+    no_last = subst (λ e. IsLast e []) (sym is_count) refl
 
-    over : (visits : List Visit) (result : Result (Unit {0}) WireFault) → AreNext coming left (visits ++ this ∷ []) → Runs Answers minutes visits s m → length visits ≡ served.visits
+    over : (visits : List Visit) (result : Result (Unit {0}) WireFault) → AreNext coming left (visits ++ this ∷ []) → Runs Answers zone visits s m → length visits ≡ served.visits
         → length (filter (λ one. one.take_failed) visits) ≡ served.read_faults → length (filter (λ one. one.put_failed) visits) ≡ served.write_faults → told.under_way ≡ None
         → later ≡ Some (record { visits = (told.visits ++ (visits ++ [])) ++ this ∷ []; under_way = None })
         → Visited moment came out tf pf m t result → Flags moment tf pf result → Run coming told later left (counted result served) s t
     over visits (Ok done) next runs len reads writes rests tells (text, answer, whole) flags =
         let take : tf ≡ false = unset tf (Ok done) (Err Read) flags.read (λ e. cc e) in
         let put : pf ≡ false = unset pf (Ok done) (Err Write) flags.write (λ e. cc e) in
-        let ends : Ends Answers minutes came m t (day_number moment minutes) out tf pf =
-        rw (take, put) (subst (Answers came m t (day_number moment minutes)) (sym whole) answer) in
+        let ends : Ends Answers zone came m t (day_number moment zone) out tf pf =
+        rw (take, put) (subst (Answers came m t (day_number moment zone)) (sym whole) answer) in
         record {
           visits = visits ++ this ∷ [];
           last = [];
@@ -150,7 +152,7 @@ module _ {State : Type 0} (Answers : List ℕ → State → State → ℤ → Li
         let take : tf ≡ true = flags.read.0 refl in
         let put : pf ≡ false = unset pf (Err Read) (Err Write) flags.write (λ e. cc e) in
         let none : out ≡ [] = cc kept in
-        let ends : Ends Answers minutes came m t (day_number moment minutes) out tf pf = rw (take, put) (refl, none, same) in
+        let ends : Ends Answers zone came m t (day_number moment zone) out tf pf = rw (take, put) (refl, none, same) in
         record {
           visits = visits ++ this ∷ [];
           last = [];
@@ -165,7 +167,7 @@ module _ {State : Type 0} (Answers : List ℕ → State → State → ℤ → Li
     over visits (Err Write) next runs len reads writes rests tells (text, answer, (part, rest, whole, some, sent)) flags =
         let take : tf ≡ false = unset tf (Err Write) (Err Read) flags.read (λ e. cc e) in
         let put : pf ≡ true = flags.write.0 refl in
-        let ends : Ends Answers minutes came m t (day_number moment minutes) out tf pf =
+        let ends : Ends Answers zone came m t (day_number moment zone) out tf pf =
         rw (take, put) (text, answer, (rest, whole ∙ ap (λ p. p ++ rest) (sym sent), some)) in
         record {
           visits = visits ++ this ∷ [];
@@ -183,7 +185,7 @@ module _ {State : Type 0} (Answers : List ℕ → State → State → ℤ → Li
       last = this ∷ [];
       order = next;
       are = tells ∙ glued told visits this rests;
-      runs = subst (Runs Answers minutes visits s) (sym same) runs;
+      runs = subst (Runs Answers zone visits s) (sym same) runs;
       counted = len;
       read_faults = reads;
       write_faults = writes;
@@ -201,7 +203,7 @@ module _ {State : Type 0} (Answers : List ℕ → State → State → ℤ → Li
 
   -- nothing is told of what went out only where it was not told before
   untold : (came : List ℕ) (m t : State) (moment : ℤ) (out : List ℕ) (result : Result (Unit {0}) WireFault)
-      → ¬ Visits (Answers came m t (day_number moment minutes)) m t (Some out) None result
+      → ¬ Visits (Answers came m t (day_number moment zone)) m t (Some out) None result
   untold came m t moment out (Ok done) (text, answer, none) = none
   untold came m t moment out (Err Read) (same, kept) = cc kept
   untold came m t moment out (Err Write) (text, answer, (part, rest, whole, some, none)) = none
@@ -211,7 +213,7 @@ module _ {State : Type 0} (Answers : List ℕ → State → State → ℤ → Li
   told_over : (coming c1 c2 : Option (List Coming)) (told now : Told) (later : Option Told) (served : Served) (s m t : State) (moment : ℤ) (came0 came1 out0 out1 : Option (List ℕ)) (tf pf : Bool)
       (result : Result (Unit {0}) WireFault)
       → Run coming told (Some now) c1 served s m → TakesNext c1 c2 moment came0 → served.ended ≡ ended.Count → now.under_way ≡ None → TellsToo (Some now) came0 out0
-      → IfSome came0 (λ stream. Visits (Answers stream m t (day_number moment minutes)) m t out0 out1 result) → came1 ≡ came0
+      → IfSome came0 (λ stream. Visits (Answers stream m t (day_number moment zone)) m t out0 out1 result) → came1 ≡ came0
       → Leaves (Some (record { visits = now.visits; under_way = Some moment })) later came1 out1 tf pf → Flags moment tf pf result
       → Run coming told later c2 (counted result served) s t
   told_over coming c1 c2 told now later served s m t moment None came1 out0 out1 tf pf result run next is_count rests tells visited same leaves flags = absurd tells
@@ -220,7 +222,7 @@ module _ {State : Type 0} (Answers : List ℕ → State → State → ℤ → Li
   told_over coming c1 c2 told now later served s m t moment (Some came) (Some came1) (Some out0) None tf pf result run next is_count rests tells visited same leaves flags =
       absurd (untold came m t moment out0 result visited)
   told_over coming c1 c2 told now later served s m t moment (Some came) (Some came1) (Some out0) (Some out) tf pf result run next is_count rests tells visited same leaves flags =
-      let last : run.last ≡ [] = subst (λ e. IsLast minutes e run.last) is_count run.ended in
+      let last : run.last ≡ [] = subst (λ e. IsLast e run.last) is_count run.ended in
       let is : now ≡ record { visits = told.visits ++ (run.visits ++ run.last); under_way = told.under_way } = cc run.are in
       let quiet : told.under_way ≡ None = sym (ap (λ (x : Told). x.under_way) is) ∙ rests in
       let all : now.visits ≡ told.visits ++ (run.visits ++ []) = ap (λ (x : Told). x.visits) is ∙ ap (λ (l : List Visit). told.visits ++ (run.visits ++ l)) last in
@@ -229,13 +231,13 @@ module _ {State : Type 0} (Answers : List ℕ → State → State → ℤ → Li
       over coming c2 told later served s m t moment came out tf pf is_count run.visits result
       (next_more coming c1 c2 run.visits (visit_of moment came out tf pf) order next) run.runs run.counted run.read_faults run.write_faults quiet
       (leaves ∙ ap Some (λ i. record { visits = all i ++ visit_of moment (bytes i) out tf pf ∷ []; under_way = None }))
-      (subst (λ o. Visits (Answers came m t (day_number moment minutes)) m t (Some o) (Some out) result) tells visited) flags
+      (subst (λ o. Visits (Answers came m t (day_number moment zone)) m t (Some o) (Some out) result) tells visited) flags
 
   -- one more visit of a run
   pub run_step : (coming c1 c2 c3 : Option (List Coming)) (told : Told) (t1 t2 later : Option Told) (served : Served) (s m t : State) (moment : ℤ) (came0 incoming came1 out0 out1 : Option (List ℕ)) (tf pf : Bool)
       (result : Result (Unit {0}) WireFault)
       → Run coming told t1 c1 served s m → TakesNext c1 c2 moment came0 → c3 ≡ c2 → served.ended ≡ ended.Count → Admits t1 t2 (Some moment) → incoming ≡ came0 → TellsToo t1 came0 out0
-      → IfSome incoming (λ stream. Visits (Answers stream m t (day_number moment minutes)) m t out0 out1 result) → came1 ≡ came0
+      → IfSome incoming (λ stream. Visits (Answers stream m t (day_number moment zone)) m t out0 out1 result) → came1 ≡ came0
       → Leaves t2 later came1 out1 tf pf → Flags moment tf pf result
       → Run coming told later c3 (counted result served) s t
   run_step coming c1 c2 c3 told None t2 later served s m t moment came0 incoming came1 out0 out1 tf pf result run next kept is_count admits whole tells visited same leaves flags =
@@ -243,7 +245,7 @@ module _ {State : Type 0} (Answers : List ℕ → State → State → ℤ → Li
   run_step coming c1 c2 c3 told (Some now) t2 later served s m t moment came0 incoming came1 out0 out1 tf pf result run next kept is_count (rests, admitted) whole tells visited same leaves flags =
       subst (λ c. Run coming told later c (counted result served) s t) (sym kept)
       (told_over coming c1 c2 told now later served s m t moment came0 came1 out0 out1 tf pf result run next is_count rests tells
-      (subst (λ i. IfSome i (λ stream. Visits (Answers stream m t (day_number moment minutes)) m t out0 out1 result)) whole visited) same
+      (subst (λ i. IfSome i (λ stream. Visits (Answers stream m t (day_number moment zone)) m t out0 out1 result)) whole visited) same
       (subst (λ x. Leaves x later came1 out1 tf pf) admitted leaves) flags)
 
   -- no visit is admitted any more
@@ -260,7 +262,7 @@ module _ {State : Type 0} (Answers : List ℕ → State → State → ℤ → Li
     counted = run.counted;
     read_faults = run.read_faults;
     write_faults = run.write_faults;
-    ended = subst (λ e. IsLast minutes e run.last) is_count run.ended;
+    ended = subst (λ e. IsLast e run.last) is_count run.ended;
   }
 
 -- a run over connections of which no read fails has no failed read
@@ -272,10 +274,10 @@ all_heard (Err Clock) served tf iff unset none = none
 all_heard (Err Read) served tf iff unset none = let set = iff.0 refl in cc (set, unset)
 
 -- where a door has shut that has no visit under way, none is left
-pub none_left : {State : Type 0} (Answers : List ℕ → State → State → ℤ → List ℕ → Type 0) (minutes : ℤ) (coming c1 c2 : Option (List Coming)) (told : Told) (t1 : Option Told)
-    (served : Served) (s m : State) → HasRun Answers minutes told t1 coming c1 served s m → c2 ≡ c1 → told.under_way ≡ None → NoneToCome t1 c1 → NoneLeft c2
-none_left Answers minutes coming c1 c2 told None served s m run same quiet none = let are = run.are in cc are
-none_left Answers minutes coming c1 c2 told (Some now) served s m run same quiet none =
+pub none_left : {State : Type 0} (Answers : List ℕ → State → State → ℤ → List ℕ → Type 0) (zone : Zone) (coming c1 c2 : Option (List Coming)) (told : Told) (t1 : Option Told)
+    (served : Served) (s m : State) → HasRun Answers zone told t1 coming c1 served s m → c2 ≡ c1 → told.under_way ≡ None → NoneToCome t1 c1 → NoneLeft c2
+none_left Answers zone coming c1 c2 told None served s m run same quiet none = let are = run.are in cc are
+none_left Answers zone coming c1 c2 told (Some now) served s m run same quiet none =
     subst NoneLeft (sym same) (left c1 none)
   where
     resting : now.under_way ≡ None
@@ -296,7 +298,7 @@ if_told P Q (Some one) p q = q one p
 framed : (stream : List ℕ) (asked : Request) → IsRequestOf stream asked → HasFramedHead stream
 framed stream asked is = (is.head, is.rest, length is.body, is.key, is.begins, is.whole.framed)
 
-module _ {S : Type 0} (g : Ghosts S) (minutes : ℤ) where
+module _ {S : Type 0} (g : Ghosts S) (zone : Zone) where
   -- what is done about what was asked leaves a connection open only where it was
   was_open : (stream : List ℕ) (old new : Held S) (day : ℤ) (text : List ℕ) → IsAnswer g stream old new day text → IsOpen g new → IsOpen g old
   was_open stream old new day text (inl (request asked, is, (reply, serves, told))) is_open = serves.lasts.was_open is_open
@@ -313,37 +315,37 @@ module _ {S : Type 0} (g : Ghosts S) (minutes : ℤ) where
   replied stream old new day text (inl (fault reason, is, (same, told))) is_open = inl (fault reason, is, (ap (desk g) same, told))
   replied stream old new day text (inr wanting) is_open = inr (record { framed = wanting.framed; same = ap (desk g) wanting.same; told = wanting.told })
 
-  ended_open : (came : List ℕ) (old new : Held S) (day : ℤ) (out : List ℕ) (tf pf : Bool) → Ends (IsAnswer g) minutes came old new day out tf pf → IsOpen g new → IsOpen g old
+  ended_open : (came : List ℕ) (old new : Held S) (day : ℤ) (out : List ℕ) (tf pf : Bool) → Ends (IsAnswer g) zone came old new day out tf pf → IsOpen g new → IsOpen g old
   ended_open came old new day out false false answer is_open = was_open came old new day out answer is_open
   ended_open came old new day out false true (text, answer, cut) is_open = was_open came old new day text answer is_open
   ended_open came old new day out true pf (put, none, same) is_open = subst (IsOpen g) same is_open
 
-  ended_replied : (came : List ℕ) (old new : Held S) (day : ℤ) (out : List ℕ) (tf pf : Bool) → Ends (IsAnswer g) minutes came old new day out tf pf → IsOpen g new
-      → Ends IsReplied minutes came (desk g old) (desk g new) day out tf pf
+  ended_replied : (came : List ℕ) (old new : Held S) (day : ℤ) (out : List ℕ) (tf pf : Bool) → Ends (IsAnswer g) zone came old new day out tf pf → IsOpen g new
+      → Ends IsReplied zone came (desk g old) (desk g new) day out tf pf
   ended_replied came old new day out false false answer is_open = replied came old new day out answer is_open
   ended_replied came old new day out false true (text, answer, cut) is_open = (text, replied came old new day text answer is_open, cut)
   ended_replied came old new day out true pf (put, none, same) is_open = (put, none, ap (desk g) same)
 
-  runs_open : (visits : List Visit) (old new : Held S) → Runs (IsAnswer g) minutes visits old new → IsOpen g new → IsOpen g old
+  runs_open : (visits : List Visit) (old new : Held S) → Runs (IsAnswer g) zone visits old new → IsOpen g new → IsOpen g old
   runs_open [] old new same is_open = subst (IsOpen g) same is_open
   runs_open (visit ∷ visits) old new (mid, is, runs) is_open =
-      ended_open visit.came old mid (day_number visit.moment minutes) visit.out visit.take_failed visit.put_failed is.ends (runs_open visits mid new runs is_open)
+      ended_open visit.came old mid (day_number visit.moment zone) visit.out visit.take_failed visit.put_failed is.ends (runs_open visits mid new runs is_open)
 
-  runs_replied : (visits : List Visit) (old new : Held S) → Runs (IsAnswer g) minutes visits old new → IsOpen g new
-      → Runs IsReplied minutes visits (desk g old) (desk g new)
+  runs_replied : (visits : List Visit) (old new : Held S) → Runs (IsAnswer g) zone visits old new → IsOpen g new
+      → Runs IsReplied zone visits (desk g old) (desk g new)
   runs_replied [] old new same is_open = ap (desk g) same
   runs_replied (visit ∷ visits) old new (mid, is, runs) is_open = (
     desk g mid,
     record {
       day = is.day;
-      ends = ended_replied visit.came old mid (day_number visit.moment minutes) visit.out visit.take_failed visit.put_failed is.ends (runs_open visits mid new runs is_open);
+      ends = ended_replied visit.came old mid (day_number visit.moment zone) visit.out visit.take_failed visit.put_failed is.ends (runs_open visits mid new runs is_open);
     },
     runs_replied visits mid new runs is_open,
   )
 
   -- a run over a store that is open at its end is one over the desk that it holds
   pub run_replied : (coming left : Option (List Coming)) (told : Told) (later : Option Told) (served : Served) (old new : Held S)
-      → HasRun (IsAnswer g) minutes told later coming left served old new → IsOpen g new → HasRun IsReplied minutes told later coming left served (desk g old) (desk g new)
+      → HasRun (IsAnswer g) zone told later coming left served old new → IsOpen g new → HasRun IsReplied zone told later coming left served (desk g old) (desk g new)
   run_replied coming left told later served old new run is_open = record {
     visits = run.visits;
     last = run.last;

@@ -1,7 +1,9 @@
 -- Visits one after the other.
 use Rattle.std.specs.Prelude.{◌≡◌, ◌<◌, ℕ, ◌+◌, ℤ, List, [], ◌∷◌, ◌++◌, Bool, true, false, Option, None, Some, Result, Ok, Err, length, map, ⊤}
 use Rattle.std.specs.List.{filter}
-use Rattle.rd_policy.specs.Days.{HasDay, day_number}
+use Rattle.rd_policy.specs.Days.{HasDay}
+use Rattle.rd_policy.specs.Zones.{day_number}
+use Rattle.rd_policy.specs.declared.zone.Zone.{Zone}
 use Rattle.rd_http.specs.Told.{Coming, Told, Visit, coming_of}
 use Rattle.rd_http.specs.declared.serve.Ended.{Ended}
 use Rattle.rd_http.specs.declared.serve.Ended.TheVariants.{Clock}
@@ -35,22 +37,21 @@ abbrev pub NoneLeft : Option (List Coming) → Type 0
 NoneLeft None = ⊤
 NoneLeft (Some left) = left ≡ []
 
-module _ (minutes : ℤ) where
-  -- a visit whose moment has no day: nothing was read or written
-  pub record IsTimeless (visit : Visit) : Type 0 where
-    pub day : ¬ HasDay visit.moment minutes
-    pub out : visit.out ≡ []
-    pub take_failed : visit.take_failed ≡ false
-    pub put_failed : visit.put_failed ≡ false
+-- A visit whose moment has no day: nothing was read or written
+pub record IsTimeless (visit : Visit) : Type 0 where
+  pub day : ¬ HasDay visit.moment
+  pub out : visit.out ≡ []
+  pub take_failed : visit.take_failed ≡ false
+  pub put_failed : visit.put_failed ≡ false
 
-  -- the visit that ended the run, beyond those that count
-  abbrev pub IsLast : Ended → List Visit → Type 0
-  IsLast Clock last = (visit : Visit) × (last ≡ visit ∷ []) × IsTimeless visit
-  IsLast other last = last ≡ []
+-- the visit that ended the run, beyond those that count
+abbrev pub IsLast : Ended → List Visit → Type 0
+IsLast Clock last = (visit : Visit) × (last ≡ visit ∷ []) × IsTimeless visit
+IsLast other last = last ≡ []
 
 -- `Answers stream old new day text` is what is said of a visit's text: on a day, to the bytes that came, where the
 -- state goes from the old one to the new one
-module _ {State : Type 0} (Answers : List ℕ → State → State → ℤ → List ℕ → Type 0) (minutes : ℤ) where
+module _ {State : Type 0} (Answers : List ℕ → State → State → ℤ → List ℕ → Type 0) (zone : Zone) where
   -- what went out, by whether a read and whether a write failed: the whole text; a part of it; or, after a failed
   -- read, nothing, and nothing was changed
   abbrev pub Ends : List ℕ → State → State → ℤ → List ℕ → Bool → Bool → Type 0
@@ -60,8 +61,8 @@ module _ {State : Type 0} (Answers : List ℕ → State → State → ℤ → Li
 
   -- A visit at a moment that has a day.
   pub record IsVisit (visit : Visit) (old new : State) : Type 0 where
-    pub day : HasDay visit.moment minutes
-    pub ends : Ends visit.came old new (day_number visit.moment minutes) visit.out visit.take_failed visit.put_failed
+    pub day : HasDay visit.moment
+    pub ends : Ends visit.came old new (day_number visit.moment zone) visit.out visit.take_failed visit.put_failed
 
   -- visits in turn, each from the state that the one before it left
   abbrev pub Runs : List Visit → State → State → Type 0
@@ -79,4 +80,4 @@ module _ {State : Type 0} (Answers : List ℕ → State → State → ℤ → Li
     pub counted : length visits ≡ served.visits
     pub read_faults : length (filter (λ visit. visit.take_failed) visits) ≡ served.read_faults
     pub write_faults : length (filter (λ visit. visit.put_failed) visits) ≡ served.write_faults
-    pub ended : IsLast minutes served.ended last
+    pub ended : IsLast served.ended last

@@ -87,9 +87,9 @@ pub fn serve_many<S: Alter, D: Door>(
     count: u32,
 ) -> Served
     ensures run { IfSome (D.told door.old) (λ told.
-        HasRun (IsAnswer S.Store) desk.old.offset_minutes told (D.told door.new) (D.coming door.old) (D.coming door.new) result desk.old.store desk.new.store) }
+        HasRun (IsAnswer S.Store) desk.old.zone told (D.told door.new) (D.coming door.old) (D.coming door.new) result desk.old.store desk.new.store) }
     ensures replied { IsOpen S.Store desk.new.store → IfSome (D.told door.old) (λ told.
-        HasRun IsReplied desk.old.offset_minutes told (D.told door.new) (D.coming door.old) (D.coming door.new) result (tables S.Store desk.old.store) (tables S.Store desk.new.store)) }
+        HasRun IsReplied desk.old.zone told (D.told door.new) (D.coming door.old) (D.coming door.new) result (tables S.Store desk.old.store) (tables S.Store desk.new.store)) }
     ensures count { (result.ended ≡ Ended.Count) ↔ (result.visits ≡ count) }
     ensures within { result.visits ≤ count }
     ensures faults { result.read_faults + result.write_faults ≤ result.visits }
@@ -98,7 +98,7 @@ pub fn serve_many<S: Alter, D: Door>(
     ensures last { result.ended ≡ Ended.Shut → D.has_shut door.old ≡ false → IfSome (D.told door.old) (λ told. told.under_way ≡ None → NoneLeft (D.coming door.new)) }
     ensures heard { ((conn : _) → D.Conn.take_failed conn ≡ false) → result.read_faults ≡ 0 }
     ensures lasts { Lasts S.Store desk.old.store desk.new.store }
-    ensures offset { desk.new.offset_minutes ≡ desk.old.offset_minutes }
+    ensures zone { desk.new.zone ≡ desk.old.zone }
 {
     let mut served = Served::NONE;
     while served.visits < count {
@@ -126,7 +126,7 @@ pub fn serve_in_memory<D: Door>(
     count: u32,
 ) -> Served
     ensures replied { IfSome (D.told door.old) (λ told.
-        HasRun IsReplied desk.old.offset_minutes told (D.told door.new) (D.coming door.old) (D.coming door.new) result (tables over_memory desk.old.store) (tables over_memory desk.new.store)) }
+        HasRun IsReplied desk.old.zone told (D.told door.new) (D.coming door.old) (D.coming door.new) result (tables over_memory desk.old.store) (tables over_memory desk.new.store)) }
     ensures count { (result.ended ≡ Ended.Count) ↔ (result.visits ≡ count) }
     ensures within { result.visits ≤ count }
     ensures faults { result.read_faults + result.write_faults ≤ result.visits }
@@ -135,9 +135,9 @@ pub fn serve_in_memory<D: Door>(
     ensures last { result.ended ≡ Ended.Shut → D.has_shut door.old ≡ false → IfSome (D.told door.old) (λ told. told.under_way ≡ None → NoneLeft (D.coming door.new)) }
     ensures heard { ((conn : _) → D.Conn.take_failed conn ≡ false) → result.read_faults ≡ 0 }
     ensures run { IfSome (D.told door.old) (λ told.
-        HasRun (IsAnswer over_memory) desk.old.offset_minutes told (D.told door.new) (D.coming door.old) (D.coming door.new) result desk.old.store desk.new.store) }
+        HasRun (IsAnswer over_memory) desk.old.zone told (D.told door.new) (D.coming door.old) (D.coming door.new) result desk.old.store desk.new.store) }
     ensures lasts { Lasts over_memory desk.old.store desk.new.store }
-    ensures offset { desk.new.offset_minutes ≡ desk.old.offset_minutes }
+    ensures zone { desk.new.zone ≡ desk.old.zone }
 {
     memory_stays_open();
     serve_many(alloc, door, desk, count)

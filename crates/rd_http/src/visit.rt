@@ -1,7 +1,8 @@
 //! One visit: a request is read, served and answered.
 
 ghost use Rattle.std.specs.Prelude.{◌≡◌, ◌≢◌, ◌↔◌, ◌≤◌, ℕ, List, Option, Err, true, false, IfSome, IfOk, IsErr, length};
-ghost use Rattle.rd_policy.specs.Days.{HasDay, day_number};
+ghost use Rattle.rd_policy.specs.Days.{HasDay};
+ghost use Rattle.rd_policy.specs.Zones.{day_number};
 ghost use Rattle.rd_store.specs.Held.{IsOpen, Lasts, desk as tables};
 ghost use Rattle.rd_http.specs.Hidden.{HidesFromVisitor};
 ghost use Rattle.rd_http.specs.Readings.{Fits, IsReading, text_of};
@@ -15,6 +16,7 @@ use crate::reply::challenge;
 use crate::wire::{Broken, Wire};
 use crate::write::{put_fixed, put_reply};
 use rd_desk::{Desk, Reply};
+use rd_policy::DayFault;
 use sqlite::Alter;
 use std::alloc::Global;
 
@@ -42,12 +44,12 @@ pub(crate) enum Answer {
 
 /// What is answered to what was read.
 fn answer_to<S: Alter>(alloc: Global, seconds: i64, desk: &mut Desk<S>, reading: Reading) -> Answer
-    requires moment { HasDay seconds desk.old.offset_minutes }
+    requires moment { HasDay seconds }
     requires fits { Fits reading }
     ensures answers { (stream : List ℕ) → IsReading stream reading
-        → IsAnswer S.Store stream desk.old.store desk.new.store (day_number seconds desk.old.offset_minutes) (text_of result) }
+        → IsAnswer S.Store stream desk.old.store desk.new.store (day_number seconds desk.old.zone) (text_of result) }
     ensures lasts { Lasts S.Store desk.old.store desk.new.store }
-    ensures offset { desk.new.offset_minutes ≡ desk.old.offset_minutes }
+    ensures zone { desk.new.zone ≡ desk.old.zone }
 {
     match reading {
         Reading::Request(request) => Answer::Made(desk.answer(alloc, seconds, &request)),
@@ -88,13 +90,13 @@ pub fn serve_one<S: Alter, W: Wire>(
     requires ready { W.take_failed wire.old ≡ false }
     requires put_ready { W.put_failed wire.old ≡ false }
     ensures served { IfSome (W.incoming wire.old) (λ stream.
-        Visits (IsAnswer S.Store stream desk.old.store desk.new.store (day_number seconds desk.old.offset_minutes))
+        Visits (IsAnswer S.Store stream desk.old.store desk.new.store (day_number seconds desk.old.zone))
         desk.old.store desk.new.store (W.outgoing wire.old) (W.outgoing wire.new) result) }
     ensures hidden { IfSome (W.incoming wire.old) (λ stream.
         Visits (λ text. IsOpen S.Store desk.new.store
-        → HidesFromVisitor stream (tables S.Store desk.old.store) (day_number seconds desk.old.offset_minutes) text)
+        → HidesFromVisitor stream (tables S.Store desk.old.store) (day_number seconds desk.old.zone) text)
         desk.old.store desk.new.store (W.outgoing wire.old) (W.outgoing wire.new) result) }
-    ensures clock { (result ≢ Err WireFault.Clock) ↔ HasDay seconds desk.old.offset_minutes }
+    ensures clock { (result ≢ Err WireFault.Clock) ↔ HasDay seconds }
     ensures read { (result ≡ Err WireFault.Read) ↔ (W.take_failed wire.new ≡ true) }
     ensures write { (result ≡ Err WireFault.Write) ↔ (W.put_failed wire.new ≡ true) }
     ensures untouched { result ≡ Err WireFault.Clock → (wire.new ≡ wire.old) × (desk.new ≡ desk.old) }
@@ -102,9 +104,9 @@ pub fn serve_one<S: Alter, W: Wire>(
     ensures bounded { TakesUpTo 270_336 (W.incoming wire.old) (W.incoming wire.new) }
     ensures came { W.came wire.new ≡ W.came wire.old }
     ensures lasts { Lasts S.Store desk.old.store desk.new.store }
-    ensures offset { desk.new.offset_minutes ≡ desk.old.offset_minutes }
+    ensures zone { desk.new.zone ≡ desk.old.zone }
 {
-    if desk.day(seconds).is_err() {
+    if desk.day(seconds) == Err(DayFault::OutOfRange) {
         return Err(WireFault::Clock);
     }
     let Ok(reading) = read_request(alloc, wire) else {

@@ -1,4 +1,7 @@
 pub mod Days
+pub mod DayFaults
+pub mod Zones
+pub mod ZoneFaults
 pub mod Dates
 pub mod Audiences
 pub mod Rules

@@ -1,6 +1,9 @@
-ghost use Rattle.std.specs.Prelude.{◌≡◌, ◌↔◌, Some, codes, IsOk, IfOk, IsTrue};
-ghost use Rattle.rd_policy.specs.Days.{IsDay, IsOffset, HasDay, day_number};
+ghost use Rattle.std.specs.Prelude.{◌≡◌, ◌↔◌, Some, IsOk, IfOk, IfErr, IsTrue};
+ghost use Rattle.rd_policy.specs.Days.{IsDay, HasDay};
+ghost use Rattle.rd_policy.specs.Zones.{day_number};
 
+use crate::zone::Zone;
+use jiff::Timestamp;
 use std::error::Error;
 use std::fmt;
 
@@ -10,23 +13,35 @@ const FIRST_DAY: i32 = -719_162;
 /// The last day that has a date, 9999-12-31.
 const LAST_DAY: i32 = 2_932_896;
 
-/// The most minutes by which a clock may be ahead of UTC, or behind it.
-const MOST_MINUTES: i32 = 1_439;
+/// The first moment that has a day, 0001-01-03T00:00:00 UTC.
+const FIRST_MOMENT: i64 = -62_135_424_000;
 
-/// The moment has no day: the offset is a day or more, or the day is before 0001-01-01 or after
-/// 9999-12-31.
+/// The last moment that has a day, 9999-12-29T23:59:59 UTC.
+const LAST_MOMENT: i64 = 253_402_127_999;
+
+/// Why a moment gives no day.
 #[derive(Clone, Copy, Debug, PartialEq, Eq, Hash)]
-pub struct OutOfRange;
+pub enum DayFault {
+    /// The moment is before 0001-01-03T00:00:00 UTC or after 9999-12-29T23:59:59 UTC.
+    OutOfRange,
+    /// A growth of memory was refused. A day is told without one, so that no call answers this.
+    NoMemory,
+}
 
-impl fmt::Display for OutOfRange {
-    ghost output = { λ _. Some (codes "no day from the year 1 to 9999") };
+impl fmt::Display for DayFault {
+    ghost use Rattle.rd_policy.specs.DayFaults.{fault_text};
+
+    ghost output = { λ fault. Some (fault_text fault) };
 
     fn fmt<W: fmt::Write>(&self, f: &mut fmt::Formatter<W>) -> fmt::Result {
-        write!(f, "no day from the year 1 to 9999")
+        match self {
+            DayFault::OutOfRange => write!(f, "not from 0001-01-03 to 9999-12-29 in UTC"),
+            DayFault::NoMemory => write!(f, "no memory"),
+        }
     }
 }
 
-impl Error for OutOfRange {}
+impl Error for DayFault {}
 
 /// Whether a day is one from 0001-01-01 (−719,162) to 9999-12-31 (2,932,896), counted from 1970-01-01.
 pub fn is_day(day: i32) -> bool
@@ -35,42 +50,39 @@ pub fn is_day(day: i32) -> bool
     (FIRST_DAY..=LAST_DAY).contains(&day)
 }
 
-/// Whether clocks may be this many minutes ahead of UTC, or behind it where they are negative: less than a
-/// day, −1,439 to 1,439. `day_of` takes no other offset.
-pub fn is_offset(minutes: i32) -> bool
-    ensures { IsTrue result ↔ IsOffset minutes }
+/// Whether a moment has a day.
+fn has_day(seconds: i64) -> bool
+    ensures { IsTrue result ↔ HasDay seconds }
 {
-    (-MOST_MINUTES..=MOST_MINUTES).contains(&minutes)
+    (FIRST_MOMENT..=LAST_MOMENT).contains(&seconds)
 }
 
-/// The day of this number, where it is one from 0001-01-01 to 9999-12-31.
-fn in_range(day: i64) -> Result<i32, OutOfRange>
-    ensures taken { IsOk result ↔ IsDay day }
-    ensures same { IfOk result (λ taken. taken ≡ day) }
+/// The day of a moment that has one, in a zone.
+fn day_in(seconds: i64, zone: &Zone) -> i32
+    requires { HasDay seconds }
+    ensures day { result ≡ day_number seconds zone.now }
+    ensures in_range { IsDay result }
 {
-    if day < i64::from(FIRST_DAY) {
-        return Err(OutOfRange);
-    }
-    if day > i64::from(LAST_DAY) {
-        return Err(OutOfRange);
-    }
-    Ok(day as i32)
-}
-
-/// The day of a moment, counted from 1970-01-01, which is day 0.
-///
-/// The moment is in seconds since 1970-01-01T00:00:00 UTC, and the offset is how many minutes clocks
-/// are ahead of UTC, −1,439 to 1,439. It fails with `OutOfRange` exactly where the offset is none of
-/// those or the day is not one from 0001-01-01 (−719,162) to 9999-12-31 (2,932,896).
-pub fn day_of(seconds: i64, offset_minutes: i32) -> Result<i32, OutOfRange>
-    ensures taken { IsOk result ↔ HasDay seconds offset_minutes }
-    ensures day { IfOk result (λ day. day ≡ day_number seconds offset_minutes) }
-{
-    if !is_offset(offset_minutes) {
-        return Err(OutOfRange);
-    }
-    let Some(local) = seconds.checked_add(60 * i64::from(offset_minutes)) else {
-        return Err(OutOfRange);
+    let Ok(instant) = Timestamp::from_second(seconds) else {
+        unreachable!()
     };
-    in_range(local.div_euclid(86_400))
+    let local = seconds + i64::from(zone.offset(instant));
+    local.div_euclid(86_400) as i32
+}
+
+/// The day of a moment in a zone, counted from 1970-01-01, which is day 0.
+///
+/// The moment is in seconds since 1970-01-01T00:00:00 UTC. It fails with `OutOfRange` exactly where the moment
+/// is before 0001-01-03T00:00:00 UTC (−62,135,424,000) or after 9999-12-29T23:59:59 UTC (253,402,127,999), and
+/// takes no memory. A day that is told is one from 0001-01-01 (−719,162) to 9999-12-31 (2,932,896).
+pub fn day_of(seconds: i64, zone: &Zone) -> Result<i32, DayFault>
+    ensures taken { IsOk result ↔ HasDay seconds }
+    ensures day { IfOk result (λ day. day ≡ day_number seconds zone.now) }
+    ensures in_range { IfOk result IsDay }
+    ensures fault { IfErr result (λ fault. fault ≡ DayFault.OutOfRange) }
+{
+    if !has_day(seconds) {
+        return Err(DayFault::OutOfRange);
+    }
+    Ok(day_in(seconds, zone))
 }

@@ -9,15 +9,17 @@ mod limits;
 mod rule;
 mod select;
 mod verdict;
+mod zone;
 
 pub use audience::{Audience, Audiences};
 pub use date::{DateFault, date_read, date_text, one_date};
-pub use day::{OutOfRange, day_of, is_day, is_offset};
+pub use day::{DayFault, day_of, is_day};
 pub use decision::{decide, in_order, one_decides};
 pub use limits::{is_rank, is_scope};
 pub use rule::{Band, Effect, Rule};
 pub use select::Select;
 pub use verdict::{Label, Verdict};
+pub use zone::{Zone, ZoneFault};
 
 #[cfg(test)]
 mod tests;

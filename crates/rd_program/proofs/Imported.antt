@@ -182,7 +182,7 @@ abbrev pub IsDoneAtOnce : List (List ℕ) → Type 0
 IsDoneAtOnce words = ((kind : Kind) × (image : List ℕ) × (slot : ℕ) × AsksCat words kind image slot)
     ⊎ (((kind : Kind) × (image : List ℕ) × AsksList words kind image)
     ⊎ (((store : List ℕ) × (key : List ℕ) × AsksInit words store key)
-    ⊎ ((store : List ℕ) × (port : ℕ) × (count : ℕ) × (minutes : ℤ) × AsksServe words store port count minutes)))
+    ⊎ ((store : List ℕ) × (port : ℕ) × (count : ℕ) × (rule : List ℕ) × AsksServe words store port count rule)))
 
 -- what is told on the output where not all is well is asked for by no such words
 pub not_in_rows : (words : List (List ℕ)) (ask : Ask) → IsAskOf words ask → TellsOnOutput ask → IsDoneAtOnce words → ⊥

@@ -9,7 +9,7 @@ use Rattle.clap.specs.declared.error.kind.ErrorKind.TheVariants.{DisplayHelp, Di
 use Rattle.rd_geometry.specs.declared.kind.Kind.{Kind}
 use Rattle.httparse.specs.Grammar.{trim_ows}
 use Rattle.rd_geometry.specs.Kinds.{size_of, word_of}
-use Rattle.rd_policy.specs.Days.{IsOffset}
+use Rattle.rd_policy.specs.Zones.{IsZoneOf}
 use Rattle.rd_policy.specs.Rules.{IsScope}
 use Rattle.rd_program.specs.declared.words.Ask.{Ask}
 use Rattle.rd_program.specs.declared.words.Ask.TheVariants.{File, Files, Import, Init, Once, Serve}
@@ -25,8 +25,8 @@ use Rattle.rd_program.specs.declared.words.Unread.{Unread}
 use Rattle.rd_program.specs.declared.words.WhenAsk.{WhenAsk}
 use Rattle.rd_program.specs.declared.words.Unread.TheVariants.{Told, Usage, NoMemory}
 use Rattle.rd_program.specs.CommandLine.{HasFault}
-use Rattle.rd_program.specs.Offsets.{offset_told}
 use Rattle.rd_program.specs.Words.{IsSlotText}
+use Rattle.rd_program.specs.Zones.{HasClocks, HasZoneRule, IsRuleTold}
 
 -- the file at the slot of the image of the kind is asked for
 pub record AsksFile (ask : FileAsk) (kind : Kind) (image : List ℕ) (slot : ℕ) : Type 0 where
@@ -44,33 +44,33 @@ pub record AsksNew (ask : InitAsk) (store key : List ℕ) : Type 0 where
   pub store_is : ask.store.now ≡ store
   pub key_is : ask.key.now ≡ trim_ows key
 
--- so many visits are asked for, at the port, of the desk in the file of the store, whose clocks are so far ahead of UTC
-pub record AsksVisits (ask : ServeAsk) (store : List ℕ) (port count : ℕ) (minutes : ℤ) : Type 0 where
+-- so many visits are asked for, at the port, of the desk in the file of the store, whose clocks are those of the rule
+pub record AsksVisits (ask : ServeAsk) (store : List ℕ) (port count : ℕ) (rule : List ℕ) : Type 0 where
   pub store_is : ask.store.now ≡ store
   pub port_is : ask.port ≡ port
   pub count_is : ask.count ≡ count
-  pub minutes_are : ask.offset_minutes ≡ minutes
+  pub zone_is : IsZoneOf rule ask.zone
 
--- a moment is told, in seconds since 1970-01-01T00:00:00 UTC, or none, for clocks that are so many minutes ahead of UTC
-pub record AsksWhen (ask : WhenAsk) (moment : Option ℤ) (minutes : ℤ) : Type 0 where
+-- a moment is told, in seconds since 1970-01-01T00:00:00 UTC, or none, for clocks that are those of the rule
+pub record AsksWhen (ask : WhenAsk) (moment : Option ℤ) (rule : List ℕ) : Type 0 where
   pub moment_is : ask.seconds ≡ moment
-  pub minutes_are : ask.offset_minutes ≡ minutes
+  pub zone_is : IsZoneOf rule ask.zone
 
 -- The images of the sheet are to be taken in by the desk in the file of the store, for a caller with this key without the
 -- blanks and tabs at both ends, at that moment by these clocks.
-pub record AsksImages (ask : ImportAsk) (store key sheet : List ℕ) (moment : Option ℤ) (minutes : ℤ) : Type 0 where
+pub record AsksImages (ask : ImportAsk) (store key sheet : List ℕ) (moment : Option ℤ) (rule : List ℕ) : Type 0 where
   pub store_is : ask.store.now ≡ store
   pub key_is : ask.key.now ≡ trim_ows key
   pub sheet_is : ask.sheet.now ≡ sheet
-  pub when_is : AsksWhen ask.when moment minutes
+  pub when_is : AsksWhen ask.when moment rule
 
 -- The desk in the file of the store is asked this once, by a caller with this key without the blanks and tabs at both ends,
 -- or without one, at that moment by these clocks.
-pub record AsksOnce (ask : OnceAsk) (store : List ℕ) (key : Option (List ℕ)) (question : Question) (moment : Option ℤ) (minutes : ℤ) : Type 0 where
+pub record AsksOnce (ask : OnceAsk) (store : List ℕ) (key : Option (List ℕ)) (question : Question) (moment : Option ℤ) (rule : List ℕ) : Type 0 where
   pub store_is : ask.store.now ≡ store
   pub key_is : option_map (λ key. key.now) ask.key ≡ option_map trim_ows key
   pub question_is : ask.question ≡ question
-  pub when_is : AsksWhen ask.when moment minutes
+  pub when_is : AsksWhen ask.when moment rule
 
 -- what is asked for is the file at the slot of the image of the kind
 abbrev pub IsFileAsk : Kind → List ℕ → ℕ → Ask → Type 0
@@ -88,19 +88,19 @@ IsInitAsk store key (Init ask) = AsksNew ask store key
 IsInitAsk store key _ = ⊥
 
 -- what is asked for is so many visits at the port, of the desk in the file of the store, by its clocks
-abbrev pub IsServeAsk : List ℕ → ℕ → ℕ → ℤ → Ask → Type 0
-IsServeAsk store port count minutes (Serve ask) = AsksVisits ask store port count minutes
-IsServeAsk store port count minutes _ = ⊥
+abbrev pub IsServeAsk : List ℕ → ℕ → ℕ → List ℕ → Ask → Type 0
+IsServeAsk store port count rule (Serve ask) = AsksVisits ask store port count rule
+IsServeAsk store port count rule _ = ⊥
 
 -- what is asked for is that the images of the sheet are taken in by the desk in the file of the store, for the key
-abbrev pub IsImportAsk : List ℕ → List ℕ → List ℕ → Option ℤ → ℤ → Ask → Type 0
-IsImportAsk store key sheet moment minutes (Import ask) = AsksImages ask store key sheet moment minutes
-IsImportAsk store key sheet moment minutes _ = ⊥
+abbrev pub IsImportAsk : List ℕ → List ℕ → List ℕ → Option ℤ → List ℕ → Ask → Type 0
+IsImportAsk store key sheet moment rule (Import ask) = AsksImages ask store key sheet moment rule
+IsImportAsk store key sheet moment rule _ = ⊥
 
 -- what is asked for is an answer of the desk in the file of the store
-abbrev pub IsOnceAsk : List ℕ → Option (List ℕ) → Question → Option ℤ → ℤ → Ask → Type 0
-IsOnceAsk store key question moment minutes (Once ask) = AsksOnce ask store key question moment minutes
-IsOnceAsk store key question moment minutes _ = ⊥
+abbrev pub IsOnceAsk : List ℕ → Option (List ℕ) → Question → Option ℤ → List ℕ → Ask → Type 0
+IsOnceAsk store key question moment rule (Once ask) = AsksOnce ask store key question moment rule
+IsOnceAsk store key question moment rule _ = ⊥
 
 -- a desk is asked once
 abbrev pub AsksADesk : Ask → Type 0
@@ -138,12 +138,10 @@ abbrev pub TellsInRows : Ask → Type 0
 TellsInRows (Import ask) = ⊤
 TellsInRows _ = ⊥
 
--- an offset that is asked for is one of clocks, and an accession is a number of one
-abbrev pub HasOffset : Ask → Type 0
-HasOffset (Serve ask) = IsOffset ask.offset_minutes
-HasOffset (Import ask) = IsOffset ask.when.offset_minutes
-HasOffset (Once ask) = IsOffset ask.when.offset_minutes × IsAskable ask.question
-HasOffset _ = ⊤
+-- where an accession is asked for, it is a number from 1 to 999,999
+abbrev pub IsWithinLimits : Ask → Type 0
+IsWithinLimits (Once ask) = IsAskable ask.question
+IsWithinLimits _ = ⊤
 
 -- how many bytes of the input are read at most: one more than the image that is asked for has, and else none
 abbrev pub most_read : Ask → ℕ
@@ -210,8 +208,8 @@ pub record EntersInit (entered : Option (Text × List Row)) (store key : List �
   pub into : entered ≡ Some (codes "init", rows)
   pub found : AreInitRows rows store key
 
--- the options that `clap` found for `serve`: of the numbers the texts, and of the offset one that may be absent
-pub record AreServeRows (rows : List Row) (store : List ℕ) (port count : ℕ) (minutes : ℤ) : Type 0 where
+-- the options that `clap` found for `serve`: of the numbers the texts, and of the zone one that may be absent
+pub record AreServeRows (rows : List Row) (store : List ℕ) (port count : ℕ) (rule : List ℕ) : Type 0 where
   pub store_found : first_of (codes "store") rows ≡ Some store
   pub port_text : List ℕ
   pub port_found : one_of (codes "port") rows ≡ Some port_text
@@ -219,54 +217,58 @@ pub record AreServeRows (rows : List Row) (store : List ℕ) (port count : ℕ) 
   pub count_text : List ℕ
   pub count_found : one_of (codes "count") rows ≡ Some count_text
   pub count_number : ParsesUnsigned {E = ParseIntError} 32 10 count_text (Ok count)
-  pub minutes_told : offset_told (first_of (codes "offset") rows) ≡ Some minutes
+  pub rule_told : IsRuleTold (first_of (codes "zone") rows) rule
 
 -- the parse went into `serve`, and found its options
-pub record EntersServe (entered : Option (Text × List Row)) (store : List ℕ) (port count : ℕ) (minutes : ℤ) : Type 0 where
+pub record EntersServe (entered : Option (Text × List Row)) (store : List ℕ) (port count : ℕ) (rule : List ℕ) : Type 0 where
   pub rows : List Row
   pub into : entered ≡ Some (codes "serve", rows)
-  pub found : AreServeRows rows store port count minutes
+  pub found : AreServeRows rows store port count rule
 
 -- what the option for a moment tells: nothing where it is absent, and else the number that its text writes
 abbrev pub IsMomentTold : Option (List ℕ) → Option ℤ → Type 0
 IsMomentTold (Some text) moment = (seconds : ℤ) × ParsesSigned {E = ParseIntError} w64 10 text (Ok seconds) × (moment ≡ Some seconds)
 IsMomentTold None moment = moment ≡ None
 
--- the options that `clap` found for `import`: of the moment and the offset those that are there
-pub record AreImportRows (rows : List Row) (store key sheet : List ℕ) (moment : Option ℤ) (minutes : ℤ) : Type 0 where
+-- the options that `clap` found for `import`: of the moment and the zone those that are there
+pub record AreImportRows (rows : List Row) (store key sheet : List ℕ) (moment : Option ℤ) (rule : List ℕ) : Type 0 where
   pub store_found : first_of (codes "store") rows ≡ Some store
   pub key_found : first_of (codes "key") rows ≡ Some key
   pub sheet_found : first_of (codes "sheet") rows ≡ Some sheet
   pub moment_told : IsMomentTold (one_of (codes "at") rows) moment
-  pub minutes_told : offset_told (first_of (codes "offset") rows) ≡ Some minutes
+  pub rule_told : IsRuleTold (first_of (codes "zone") rows) rule
 
 -- the parse went into `import`, and found its options
-pub record EntersImport (entered : Option (Text × List Row)) (store key sheet : List ℕ) (moment : Option ℤ) (minutes : ℤ)
+pub record EntersImport (entered : Option (Text × List Row)) (store key sheet : List ℕ) (moment : Option ℤ) (rule : List ℕ)
     : Type 0 where
   pub rows : List Row
   pub into : entered ≡ Some (codes "import", rows)
-  pub found : AreImportRows rows store key sheet moment minutes
+  pub found : AreImportRows rows store key sheet moment rule
 
 -- the parse went into the command of this name
 abbrev pub EntersAs : Text → Option (Text × List Row) → Type 0
 EntersAs name entered = (rows : List Row) × (entered ≡ Some (name, rows))
 
--- the options that `clap` found for `export`: of the key, the moment and the offset those that are there
-pub record AreExportRows (rows : List Row) (store : List ℕ) (key : Option (List ℕ)) (moment : Option ℤ) (minutes : ℤ) : Type 0 where
+-- where the parse went into a command that has clocks, it found a rule for them
+abbrev pub EntersByRule : Option (Text × List Row) → Type 0
+EntersByRule entered = (name : List ℕ) (rows : List Row) → entered ≡ Some (name, rows) → HasClocks name → HasZoneRule rows
+
+-- the options that `clap` found for `export`: of the key, the moment and the zone those that are there
+pub record AreExportRows (rows : List Row) (store : List ℕ) (key : Option (List ℕ)) (moment : Option ℤ) (rule : List ℕ) : Type 0 where
   pub store_found : first_of (codes "store") rows ≡ Some store
   pub key_told : first_of (codes "key") rows ≡ key
   pub moment_told : IsMomentTold (one_of (codes "at") rows) moment
-  pub minutes_told : offset_told (first_of (codes "offset") rows) ≡ Some minutes
+  pub rule_told : IsRuleTold (first_of (codes "zone") rows) rule
 
 -- the parse went into `export`, and found its options
-pub record EntersExport (entered : Option (Text × List Row)) (store : List ℕ) (key : Option (List ℕ)) (moment : Option ℤ) (minutes : ℤ)
+pub record EntersExport (entered : Option (Text × List Row)) (store : List ℕ) (key : Option (List ℕ)) (moment : Option ℤ) (rule : List ℕ)
     : Type 0 where
   pub rows : List Row
   pub into : entered ≡ Some (codes "export", rows)
-  pub found : AreExportRows rows store key moment minutes
+  pub found : AreExportRows rows store key moment rule
 
--- the options that `clap` found for `check`: of the moment and the offset those that are there
-pub record AreCheckRows (rows : List Row) (store key : List ℕ) (acc : ℕ) (moment : Option ℤ) (minutes : ℤ) : Type 0 where
+-- the options that `clap` found for `check`: of the moment and the zone those that are there
+pub record AreCheckRows (rows : List Row) (store key : List ℕ) (acc : ℕ) (moment : Option ℤ) (rule : List ℕ) : Type 0 where
   pub store_found : first_of (codes "store") rows ≡ Some store
   pub key_found : first_of (codes "key") rows ≡ Some key
   pub acc_text : List ℕ
@@ -274,14 +276,14 @@ pub record AreCheckRows (rows : List Row) (store key : List ℕ) (acc : ℕ) (mo
   pub acc_number : ParsesUnsigned {E = ParseIntError} 32 10 acc_text (Ok acc)
   pub acc_within : IsScope acc
   pub moment_told : IsMomentTold (one_of (codes "at") rows) moment
-  pub minutes_told : offset_told (first_of (codes "offset") rows) ≡ Some minutes
+  pub rule_told : IsRuleTold (first_of (codes "zone") rows) rule
 
 -- the parse went into `check`, and found its options
-pub record EntersCheck (entered : Option (Text × List Row)) (store key : List ℕ) (acc : ℕ) (moment : Option ℤ) (minutes : ℤ)
+pub record EntersCheck (entered : Option (Text × List Row)) (store key : List ℕ) (acc : ℕ) (moment : Option ℤ) (rule : List ℕ)
     : Type 0 where
   pub rows : List Row
   pub into : entered ≡ Some (codes "check", rows)
-  pub found : AreCheckRows rows store key acc moment minutes
+  pub found : AreCheckRows rows store key acc moment rule
 
 -- the parse went into a command that tells on the output where not all is well
 abbrev pub EntersTelling : Option (Text × List Row) → Type 0

@@ -61,9 +61,9 @@ port_rule = record (required_option (codes "port")) { parser = Some (Signed (pos
 abbrev pub count_rule : Rule
 count_rule = record (required_option (codes "count")) { parser = Some (Signed (pos 0) (pos 4294967295)) }
 
--- the option for how far clocks are from UTC, which may be absent
-abbrev pub offset_rule : Rule
-offset_rule = record (new_rule (codes "offset")) { long = Some (codes "offset"); value_names = 1 }
+-- the option for the zone of a desk's clocks, which may be absent
+abbrev pub zone_rule : Rule
+zone_rule = record (new_rule (codes "zone")) { long = Some (codes "zone"); value_names = 1 }
 
 -- the option for a sheet
 abbrev pub sheet_rule : Rule
@@ -92,25 +92,25 @@ init_app = with_rule (with_rule (new_app (codes "init")) store_rule) key_rule
 -- the command `serve`
 abbrev pub serve_app : App
 serve_app =
-    with_rule (with_rule (with_rule (with_rule (new_app (codes "serve")) store_rule) port_rule) count_rule) offset_rule
+    with_rule (with_rule (with_rule (with_rule (new_app (codes "serve")) store_rule) port_rule) count_rule) zone_rule
 
 -- the command `import`
 abbrev pub import_app : App
 import_app =
     with_rule (with_rule (with_rule (with_rule (with_rule (new_app (codes "import")) store_rule) key_rule) sheet_rule)
-    moment_rule) offset_rule
+    moment_rule) zone_rule
 
 -- the command `export`
 abbrev pub export_app : App
 export_app =
     with_rule (with_rule (with_rule (with_rule (new_app (codes "export")) store_rule) optional_key_rule) moment_rule)
-    offset_rule
+    zone_rule
 
 -- the command `check`
 abbrev pub check_app : App
 check_app =
     with_rule (with_rule (with_rule (with_rule (with_rule (new_app (codes "check")) store_rule) key_rule) accession_rule)
-    moment_rule) offset_rule
+    moment_rule) zone_rule
 
 -- the words come without the program's name, one of them is a command's, and there is a version to tell
 abbrev pub wants_command : Shape → Shape

@@ -7,6 +7,7 @@ use Rattle.rd_program.specs.declared.words.Question.TheVariants.{Catalogue, Chec
 use Rattle.rd_program.specs.Asks.{AreCheckRows, AreExportRows, AreImportRows, AreInitRows, AreServeRows, IsFileAsk, IsFilesAsk, IsImportAsk, IsInitAsk, IsOnceAsk, IsServeAsk}
 use Rattle.rd_program.specs.CommandLine.{Enters}
 use Rattle.rd_program.specs.Words.{AsksCat, AsksList}
+use Rattle.rd_program.specs.Zones.{HasClocks, HasZoneRule}
 
 -- The words ask for a desk in the file of a store, with a key: they are those of `init`, as `clap` takes them.
 pub record AsksInit (words : List Text) (store key : List ℕ) : Type 0 where
@@ -14,54 +15,54 @@ pub record AsksInit (words : List Text) (store key : List ℕ) : Type 0 where
   pub enters : Enters words (codes "init") rows
   pub found : AreInitRows rows store key
 
--- The words ask for so many visits at a port, of the desk in the file of a store whose clocks are so many minutes ahead
--- of UTC: they are those of `serve`, as `clap` takes them.
-pub record AsksServe (words : List Text) (store : List ℕ) (port count : ℕ) (minutes : ℤ) : Type 0 where
+-- The words ask for so many visits at a port, of the desk in the file of a store whose clocks are those of the
+-- rule: they are those of `serve`, as `clap` takes them.
+pub record AsksServe (words : List Text) (store : List ℕ) (port count : ℕ) (rule : List ℕ) : Type 0 where
   pub rows : List Row
   pub enters : Enters words (codes "serve") rows
-  pub found : AreServeRows rows store port count minutes
+  pub found : AreServeRows rows store port count rule
 
 -- The words ask that the images of a sheet be taken in by the desk in the file of a store, for a caller with this key, at a
--- moment that is told, or that of the clock, by clocks that are so many minutes ahead of UTC: they are those of `import`, as
+-- moment that is told, or that of the clock, by the clocks of the rule: they are those of `import`, as
 -- `clap` takes them.
-pub record AsksImport (words : List Text) (store key sheet : List ℕ) (moment : Option ℤ) (minutes : ℤ) : Type 0 where
+pub record AsksImport (words : List Text) (store key sheet : List ℕ) (moment : Option ℤ) (rule : List ℕ) : Type 0 where
   pub rows : List Row
   pub enters : Enters words (codes "import") rows
-  pub found : AreImportRows rows store key sheet moment minutes
+  pub found : AreImportRows rows store key sheet moment rule
 
 -- they ask for it with some options
 abbrev pub IsImport : List Text → Type 0
-IsImport words = (store : List ℕ) × (key : List ℕ) × (sheet : List ℕ) × (moment : Option ℤ) × (minutes : ℤ)
-    × AsksImport words store key sheet moment minutes
+IsImport words = (store : List ℕ) × (key : List ℕ) × (sheet : List ℕ) × (moment : Option ℤ) × (rule : List ℕ)
+    × AsksImport words store key sheet moment rule
 
 -- The words ask for the catalogue of the desk in the file of a store, for a caller with this key or without one, at a moment
--- that is told, or that of the clock, by clocks that are so many minutes ahead of UTC: they are those of `export`, as `clap`
+-- that is told, or that of the clock, by the clocks of the rule: they are those of `export`, as `clap`
 -- takes them.
-pub record AsksExport (words : List Text) (store : List ℕ) (key : Option (List ℕ)) (moment : Option ℤ) (minutes : ℤ) : Type 0 where
+pub record AsksExport (words : List Text) (store : List ℕ) (key : Option (List ℕ)) (moment : Option ℤ) (rule : List ℕ) : Type 0 where
   pub rows : List Row
   pub enters : Enters words (codes "export") rows
-  pub found : AreExportRows rows store key moment minutes
+  pub found : AreExportRows rows store key moment rule
 
 -- they ask for it with some options
 abbrev pub IsExport : List Text → Type 0
-IsExport words = (store : List ℕ) × (key : Option (List ℕ)) × (moment : Option ℤ) × (minutes : ℤ) × AsksExport words store key moment minutes
+IsExport words = (store : List ℕ) × (key : Option (List ℕ)) × (moment : Option ℤ) × (rule : List ℕ) × AsksExport words store key moment rule
 
 -- The words ask that the image of an accession be checked by the desk in the file of a store, for a caller with this key, at
 -- such a moment by such clocks: they are those of `check`, as `clap` takes them.
-pub record AsksCheck (words : List Text) (store key : List ℕ) (acc : ℕ) (moment : Option ℤ) (minutes : ℤ) : Type 0 where
+pub record AsksCheck (words : List Text) (store key : List ℕ) (acc : ℕ) (moment : Option ℤ) (rule : List ℕ) : Type 0 where
   pub rows : List Row
   pub enters : Enters words (codes "check") rows
-  pub found : AreCheckRows rows store key acc moment minutes
+  pub found : AreCheckRows rows store key acc moment rule
 
 -- they ask for it with some options, of an accession
 abbrev pub IsCheckOf : List Text → ℕ → Type 0
-IsCheckOf words acc = (store : List ℕ) × (key : List ℕ) × (moment : Option ℤ) × (minutes : ℤ) × AsksCheck words store key acc moment minutes
+IsCheckOf words acc = (store : List ℕ) × (key : List ℕ) × (moment : Option ℤ) × (rule : List ℕ) × AsksCheck words store key acc moment rule
 
 -- the words ask for a desk, for visits, for images to be taken in, for the catalogue or for a check, of which no input is
 -- read
 abbrev pub AsksOfStore : List Text → Type 0
 AsksOfStore words = ((store : List ℕ) × (key : List ℕ) × AsksInit words store key)
-    ⊎ (((store : List ℕ) × (port : ℕ) × (count : ℕ) × (minutes : ℤ) × AsksServe words store port count minutes)
+    ⊎ (((store : List ℕ) × (port : ℕ) × (count : ℕ) × (rule : List ℕ) × AsksServe words store port count rule)
     ⊎ (IsImport words ⊎ (IsExport words ⊎ ((acc : ℕ) × IsCheckOf words acc))))
 
 -- the words are a command of the program: a plain form of `cat` or `list`, or any form of the others
@@ -69,16 +70,20 @@ abbrev pub IsCommand : List Text → Type 0
 IsCommand words = ((kind : Kind) × (image : List ℕ) × (slot : ℕ) × AsksCat words kind image slot)
     ⊎ (((kind : Kind) × (image : List ℕ) × AsksList words kind image) ⊎ AsksOfStore words)
 
+-- where `clap` takes the words as a command that has clocks, they tell a rule for these
+abbrev pub TellsARule : List Text → Type 0
+TellsARule words = (name : List ℕ) (rows : List Row) → Enters words name rows → HasClocks name → HasZoneRule rows
+
 -- what is asked for is what the words ask for
 pub record IsAskOf (words : List Text) (ask : Ask) : Type 0 where
   pub file : (kind : Kind) (image : List ℕ) (slot : ℕ) → AsksCat words kind image slot → IsFileAsk kind image slot ask
   pub files : (kind : Kind) (image : List ℕ) → AsksList words kind image → IsFilesAsk kind image ask
   pub init : (store key : List ℕ) → AsksInit words store key → IsInitAsk store key ask
-  pub serve : (store : List ℕ) (port count : ℕ) (minutes : ℤ) → AsksServe words store port count minutes
-      → IsServeAsk store port count minutes ask
-  pub import : (store key sheet : List ℕ) (moment : Option ℤ) (minutes : ℤ)
-      → AsksImport words store key sheet moment minutes → IsImportAsk store key sheet moment minutes ask
-  pub export : (store : List ℕ) (key : Option (List ℕ)) (moment : Option ℤ) (minutes : ℤ)
-      → AsksExport words store key moment minutes → IsOnceAsk store key Catalogue moment minutes ask
-  pub check : (store key : List ℕ) (acc : ℕ) (moment : Option ℤ) (minutes : ℤ)
-      → AsksCheck words store key acc moment minutes → IsOnceAsk store (Some key) (Check acc) moment minutes ask
+  pub serve : (store : List ℕ) (port count : ℕ) (rule : List ℕ) → AsksServe words store port count rule
+      → IsServeAsk store port count rule ask
+  pub import : (store key sheet : List ℕ) (moment : Option ℤ) (rule : List ℕ)
+      → AsksImport words store key sheet moment rule → IsImportAsk store key sheet moment rule ask
+  pub export : (store : List ℕ) (key : Option (List ℕ)) (moment : Option ℤ) (rule : List ℕ)
+      → AsksExport words store key moment rule → IsOnceAsk store key Catalogue moment rule ask
+  pub check : (store key : List ℕ) (acc : ℕ) (moment : Option ℤ) (rule : List ℕ)
+      → AsksCheck words store key acc moment rule → IsOnceAsk store (Some key) (Check acc) moment rule ask

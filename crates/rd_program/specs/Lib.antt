@@ -1,6 +1,6 @@
 pub mod Words
 pub mod CommandLine
-pub mod Offsets
+pub mod Zones
 pub mod Asks
 pub mod Commands
 pub mod Refusals

@@ -1,7 +1,7 @@
 ghost use Rattle.std.specs.Prelude.{◌≡◌, IfOk, false};
 ghost use Rattle.clap.specs.Words.{app_of, rule_of};
 ghost use Rattle.clap.specs.declared.builder.command.Command.TheViews.{out-Command as fields_of};
-ghost use Rattle.rd_program.specs.CommandLine.{IsCatApp, IsDeskApp, IsKindRule, IsListApp, accession_rule, bare_app, check_app, count_rule, export_app, image_rule, import_app, init_app, key_rule, moment_rule, offset_rule, optional_key_rule, port_rule, serve_app, sheet_rule, slot_rule, store_rule};
+ghost use Rattle.rd_program.specs.CommandLine.{IsCatApp, IsDeskApp, IsKindRule, IsListApp, accession_rule, bare_app, check_app, count_rule, export_app, image_rule, import_app, init_app, key_rule, moment_rule, optional_key_rule, port_rule, serve_app, sheet_rule, slot_rule, store_rule, zone_rule};
 
 use crate::version::VERSION;
 use clap::{Arg, Command, value_parser};
@@ -117,17 +117,14 @@ fn count_option<'a>(alloc: Global) -> Arg<'a>
         .value_parser(value_parser!(u32))
 }
 
-/// The option for how far the clocks of the desk are from UTC.
-fn offset_option<'a>(alloc: Global) -> Arg<'a>
-    ensures rule { rule_of result ≡ offset_rule }
+/// The option for the zone of the desk's clocks.
+fn zone_option<'a>(alloc: Global) -> Arg<'a>
+    ensures rule { rule_of result ≡ zone_rule }
     ensures local { result.global ≡ false }
 {
-    Arg::new(alloc, "offset")
-        .long("offset")
-        .value_name("OFFSET")
-        .help(
-            "How far the clocks of the desk are from UTC: E (ahead) or W (behind), hours and minutes, E0000 where it is not given",
-        )
+    Arg::new(alloc, "zone").long("zone").value_name("ZONE").help(
+        "The rule of the desk's clocks as POSIX writes it, such as CET-1CEST,M3.5.0,M10.5.0/3; UTC0 where it is not given",
+    )
 }
 
 /// The option for a sheet.
@@ -176,12 +173,12 @@ fn serve_command<'a>(alloc: Global) -> Result<Command<'a>, AllocError>
     Command::new(alloc, "serve")
         .about("Serves visits over HTTP on 127.0.0.1, one after the other")
         .after_help(
-            "Example:\n  desk serve --store museum.sqlite --port 8041 --count 1000 --offset E0100",
+            "Example:\n  desk serve --store museum.sqlite --port 8041 --count 1000 --zone CET-1CEST,M3.5.0,M10.5.0/3",
         )
         .arg(store_option(alloc))?
         .arg(port_option(alloc))?
         .arg(count_option(alloc))?
-        .arg(offset_option(alloc))
+        .arg(zone_option(alloc))
 }
 
 /// The command `import`.
@@ -198,7 +195,7 @@ fn import_command<'a>(alloc: Global) -> Result<Command<'a>, AllocError>
         .arg(key_option(alloc))?
         .arg(sheet_option(alloc))?
         .arg(moment_option(alloc))?
-        .arg(offset_option(alloc))
+        .arg(zone_option(alloc))
 }
 
 /// The option for a desk key that may be absent.
@@ -235,7 +232,7 @@ fn export_command<'a>(alloc: Global) -> Result<Command<'a>, AllocError>
         .arg(store_option(alloc))?
         .arg(optional_key_option(alloc))?
         .arg(moment_option(alloc))?
-        .arg(offset_option(alloc))
+        .arg(zone_option(alloc))
 }
 
 /// The command `check`.
@@ -250,7 +247,7 @@ fn check_command<'a>(alloc: Global) -> Result<Command<'a>, AllocError>
         .arg(key_option(alloc))?
         .arg(accession_option(alloc))?
         .arg(moment_option(alloc))?
-        .arg(offset_option(alloc))
+        .arg(zone_option(alloc))
 }
 
 /// The program, without its commands.

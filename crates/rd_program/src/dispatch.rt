@@ -6,10 +6,10 @@ ghost use Rattle.rd_geometry.specs.Kinds.{size_of};
 ghost use Rattle.rd_geometry.specs.declared.kind.Kind.{Kind};
 ghost use Rattle.rd_geometry.specs.declared.kind.Kind.TheVariants as kinds;
 ghost use Rattle.rd_program.specs.Asking.{RefusesOnce, TellsCheck};
-ghost use Rattle.rd_program.specs.Asks.{AsksADesk, AsksCheckOf, HasOffset, IsFileAsk, IsFilesAsk, IsInitAsk, IsServeAsk, TellsInRows, TellsOnOutput, most_read};
+ghost use Rattle.rd_program.specs.Asks.{AsksADesk, AsksCheckOf, IsWithinLimits, IsFileAsk, IsFilesAsk, IsInitAsk, IsServeAsk, TellsInRows, TellsOnOutput, most_read};
 ghost use Rattle.rd_program.specs.Cat.{HasNoSoundFile, IsCut, Refuses, Serves};
 ghost use Rattle.rd_program.specs.CommandLine.{AsksForHelp, AsksForVersion, IsTaken, IsTakenTelling};
-ghost use Rattle.rd_program.specs.Commands.{AsksInit, AsksOfStore, AsksServe, IsCheckOf, IsCommand, IsExport, IsImport};
+ghost use Rattle.rd_program.specs.Commands.{AsksInit, AsksOfStore, AsksServe, IsCheckOf, IsCommand, IsExport, IsImport, TellsARule};
 ghost use Rattle.rd_program.specs.Importing.{GainsLines, IsDoneLine, IsRowLine, RefusesImport, TellsRows};
 ghost use Rattle.rd_program.specs.Inits.{LeavesInit, MakesDesk, RefusesInit, done_line};
 ghost use Rattle.rd_program.specs.Input.{ReadsUpTo};
@@ -44,7 +44,7 @@ fn perform<R: Read, W: Write, M: Machine>(
     output: &mut W,
     machine: &mut M,
 ) -> Result<Done, Refusal>
-    requires offset { HasOffset ask }
+    requires accession { IsWithinLimits ask }
     ensures never { IfErr result (λ refusal. status_of refusal ≢ 2) }
     ensures kept { IfErr result (λ refusal. status_of refusal ≡ 1
         → Keeps (W.contents output.old) (W.contents output.new) ⊎ TellsInRows ask.entry) }
@@ -67,9 +67,9 @@ fn perform<R: Read, W: Write, M: Machine>(
     ensures not_made { (store key : List ℕ) → IsInitAsk store key ask.entry
         → IfErr result (λ refusal. RefusesInit refusal (W.contents output.old) (W.contents output.new)
         × LeavesInit M.Disk.Store (M.stands machine.old store) (M.left machine.new) (sha256 (trim_ows key)) refusal) }
-    ensures served { (store : List ℕ) (port count : ℕ) (minutes : ℤ) → IsServeAsk store port count minutes ask.entry
+    ensures served { (store : List ℕ) (port count : ℕ) (rule : List ℕ) → IsServeAsk store port count rule ask.entry
         → OnOk result (Appends (W.contents output.old) (W.contents output.new) (serve_text port count)) }
-    ensures not_served { (store : List ℕ) (port count : ℕ) (minutes : ℤ) → IsServeAsk store port count minutes ask.entry
+    ensures not_served { (store : List ℕ) (port count : ℕ) (rule : List ℕ) → IsServeAsk store port count rule ask.entry
         → IfErr result (λ refusal. RefusesServe refusal port count (W.contents output.old) (W.contents output.new)) }
     ensures imported { TellsInRows ask.entry
         → IfOk result (TellsRows (W.contents output.old) (W.contents output.new)) }
@@ -114,6 +114,11 @@ pub fn run<R: Read, W: Write, E: Write, M: Machine>(
         ⊎ (AsksForVersion (map (λ word. word.now) words.entry.now)
         × Appends (W.contents output.old) (W.contents output.new) version_line)) }
     ensures refused_command { result ≡ 1 → IsTaken (map (λ word. word.now) words.entry.now) }
+    // At 0 and 1, where they are a command that has clocks, the text of --zone is a rule, or there is none. Where it is
+    // no rule they are a mistake, or memory is wanting.
+    ensures zone { result ≤ 1 → TellsARule (map (λ word. word.now) words.entry.now) }
+    ensures no_rule { ¬ TellsARule (map (λ word. word.now) words.entry.now)
+        → (result ≡ 2) ⊎ Tells (λ refusal. refusal ≡ Refusal.NoMemory) result (E.contents errors.old) (E.contents errors.new) }
     // At 0 nothing is told; at 1 and 3 no more than the line of a refusal with this status, and nothing at 1 where
     // an `import` told each row that was refused, or a `check` that an image is changed, on the output.
     ensures silent { result ≡ 0 → Keeps (E.contents errors.old) (E.contents errors.new) }
@@ -173,11 +178,11 @@ pub fn run<R: Read, W: Write, E: Write, M: Machine>(
 
     // A `serve`: at 0 it has served as many visits as were asked for, and said so. Not at 0 its refusal is told,
     // which is never 1.
-    ensures served { result ≡ 0 → (store : List ℕ) (port count : ℕ) (minutes : ℤ)
-        → AsksServe (map (λ word. word.now) words.entry.now) store port count minutes
+    ensures served { result ≡ 0 → (store : List ℕ) (port count : ℕ) (rule : List ℕ)
+        → AsksServe (map (λ word. word.now) words.entry.now) store port count rule
         → Appends (W.contents output.old) (W.contents output.new) (serve_text port count) }
-    ensures serve_told { result ≢ 0 → (store : List ℕ) (port count : ℕ) (minutes : ℤ)
-        → AsksServe (map (λ word. word.now) words.entry.now) store port count minutes
+    ensures serve_told { result ≢ 0 → (store : List ℕ) (port count : ℕ) (rule : List ℕ)
+        → AsksServe (map (λ word. word.now) words.entry.now) store port count rule
         → Tells (λ refusal. RefusesServe refusal port count (W.contents output.old) (W.contents output.new))
         result (E.contents errors.old) (E.contents errors.new) }
 

@@ -2,7 +2,7 @@
 
 ghost use Rattle.std.specs.Prelude.{◌≡◌, IfErr, IfOk, OnErr, OnOk};
 ghost use Rattle.std.specs.Io.KnownBytes.{Appends};
-ghost use Rattle.rd_policy.specs.Days.{HasDay, IsOffset};
+ghost use Rattle.rd_policy.specs.Days.{HasDay};
 ghost use Rattle.rd_program.specs.Importing.{GainsFrontOfLine, IsRowRefusal, RefusesImport, RefusesRow, RefusesRows, TellsRow, TellsRows, bad_row_line, said_line};
 ghost use Rattle.rd_program.specs.Output.{AppendsPart};
 ghost use Rattle.rd_program.specs.Refusals.{IsOfDevice};
@@ -40,9 +40,9 @@ fn put_image<S: Alter + Drop>(
     giver: Giver,
     desk: &mut Desk<S>,
 ) -> Reply
-    requires day { HasDay giver.seconds desk.old.offset_minutes }
+    requires day { HasDay giver.seconds }
     requires within { IsWithin row }
-    ensures offset { desk.new.offset_minutes ≡ desk.old.offset_minutes }
+    ensures zone { desk.new.zone ≡ desk.old.zone }
 {
     let what = What::PutImage {
         acc: row.acc,
@@ -137,9 +137,9 @@ fn import_row<W: Write, M: Machine>(
     output: &mut W,
     machine: &mut M,
 ) -> Result<Done, Refusal>
-    requires day { HasDay giver.seconds desk.old.offset_minutes }
+    requires day { HasDay giver.seconds }
     requires within { IsWithin row }
-    ensures offset { desk.new.offset_minutes ≡ desk.old.offset_minutes }
+    ensures zone { desk.new.zone ≡ desk.old.zone }
     ensures told { IfOk result (TellsRow (W.contents output.old) (W.contents output.new)) }
     ensures refused { IfErr result (RefusesRow (W.contents output.old) (W.contents output.new)) }
 {
@@ -164,8 +164,8 @@ fn import_fields<W: Write, M: Machine>(
     output: &mut W,
     machine: &mut M,
 ) -> Result<Done, Refusal>
-    requires day { HasDay giver.seconds desk.old.offset_minutes }
-    ensures offset { desk.new.offset_minutes ≡ desk.old.offset_minutes }
+    requires day { HasDay giver.seconds }
+    ensures zone { desk.new.zone ≡ desk.old.zone }
     ensures told { IfOk result (TellsRow (W.contents output.old) (W.contents output.new)) }
     ensures refused { IfErr result (RefusesRow (W.contents output.old) (W.contents output.new)) }
 {
@@ -190,7 +190,7 @@ fn import_rows<W: Write, M: Machine>(
     output: &mut W,
     machine: &mut M,
 ) -> Result<Done, Refusal>
-    requires day { HasDay giver.seconds desk.old.offset_minutes }
+    requires day { HasDay giver.seconds }
     ensures told { IfOk result (TellsRows (W.contents output.old) (W.contents output.new)) }
     ensures refused { IfErr result (RefusesRows (W.contents output.old) (W.contents output.new)) }
 {
@@ -247,11 +247,10 @@ pub(crate) fn import<W: Write, M: Machine>(
     output: &mut W,
     machine: &mut M,
 ) -> Result<Done, Refusal>
-    requires offset { IsOffset ask.when.offset_minutes }
     ensures told { IfOk result (TellsRows (W.contents output.old) (W.contents output.new)) }
     ensures refused { IfErr result (RefusesImport (W.contents output.old) (W.contents output.new)) }
 {
-    let mut desk = open_desk(alloc, ask.store, ask.when.offset_minutes, machine)?;
+    let mut desk = open_desk(alloc, ask.store, ask.when.zone, machine)?;
     let imported = import_sheet(alloc, ask, &mut desk, output, machine);
     machine.release(&mut Some(desk.into_store().into_connection()));
     imported

@@ -11,7 +11,6 @@ mod init;
 mod input;
 mod list;
 mod machine;
-mod offset;
 mod once;
 mod opened;
 mod output;

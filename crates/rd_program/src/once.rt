@@ -2,7 +2,7 @@
 
 ghost use Rattle.std.specs.Prelude.{◌≡◌, IfErr, IfOk, ℕ};
 ghost use Rattle.std.specs.String.{string_bytes};
-ghost use Rattle.rd_policy.specs.Days.{HasDay, IsOffset};
+ghost use Rattle.rd_policy.specs.Days.{HasDay};
 ghost use Rattle.rd_program.specs.Asking.{IsReplyRefusal, RefusesOnce, TellsCheck};
 ghost use Rattle.rd_program.specs.Asks.{IsAskable, IsCheck, IsCheckOf};
 ghost use Rattle.rd_program.specs.Importing.{said_line};
@@ -33,7 +33,7 @@ fn reply_to<S: Alter + Drop>(
     seconds: i64,
     desk: &mut Desk<S>,
 ) -> Reply
-    requires day { HasDay seconds desk.old.offset_minutes }
+    requires day { HasDay seconds }
     requires within { IsAskable ask.now.question }
 {
     let badge = match ask.key {
@@ -93,7 +93,7 @@ fn export<S: Alter + Drop, W: Write>(
     desk: &mut Desk<S>,
     output: &mut W,
 ) -> Result<Done, Refusal>
-    requires day { HasDay seconds desk.old.offset_minutes }
+    requires day { HasDay seconds }
     requires within { IsAskable ask.now.question }
     ensures whole { IfOk result (λ done. done ≡ Done.Whole) }
     ensures refused { IfErr result (RefusesOnce (W.contents output.old) (W.contents output.new)) }
@@ -119,7 +119,7 @@ fn check<S: Alter + Drop, W: Write>(
     desk: &mut Desk<S>,
     output: &mut W,
 ) -> Result<Done, Refusal>
-    requires day { HasDay seconds desk.old.offset_minutes }
+    requires day { HasDay seconds }
     requires within { IsAskable ask.now.question }
     ensures told { IfOk result (TellsCheck acc (W.contents output.old) (W.contents output.new)) }
     ensures refused { IfErr result (RefusesOnce (W.contents output.old) (W.contents output.new)) }
@@ -171,14 +171,13 @@ pub(crate) fn ask_once<W: Write, M: Machine>(
     output: &mut W,
     machine: &mut M,
 ) -> Result<Done, Refusal>
-    requires offset { IsOffset ask.when.offset_minutes }
     requires within { IsAskable ask.question }
     ensures in_part { IfOk result (λ done. done ≡ Done.InPart → IsCheck ask.entry.question) }
     ensures told { (acc : ℕ) → IsCheckOf acc ask.entry.question
         → IfOk result (TellsCheck acc (W.contents output.old) (W.contents output.new)) }
     ensures refused { IfErr result (RefusesOnce (W.contents output.old) (W.contents output.new)) }
 {
-    let mut desk = open_desk(alloc, ask.store, ask.when.offset_minutes, machine)?;
+    let mut desk = open_desk(alloc, ask.store, ask.when.zone, machine)?;
     let told = tell_asked(alloc, &ask, &mut desk, output, machine);
     machine.release(&mut Some(desk.into_store().into_connection()));
     told

@@ -1,37 +1,35 @@
 //! The desk in the file of a store, and the moment at which it is asked.
 
-ghost use Rattle.std.specs.Prelude.{◌≡◌, IfErr, IfOk};
+ghost use Rattle.std.specs.Prelude.{◌≡◌, Err, IfErr, IfOk, IfSome, Ok};
 ghost use Rattle.rd_program.specs.Serving.{IsClockRefusal, IsOpenRefusal};
-ghost use Rattle.rd_policy.specs.Days.{HasDay, IsOffset};
+ghost use Rattle.rd_policy.specs.Days.{HasDay};
 
 use crate::machine::Machine;
 use crate::refusal::Refusal;
 use rd_desk::Desk;
+use rd_policy::{DayFault, Zone};
 use rd_store::{Refused, Store};
 use sqlite::Alter;
 use std::alloc::Global;
 
-/// Opens the desk in the file of a store, whose clocks are so many minutes ahead of UTC.
+/// Opens the desk in the file of a store, with the clocks of a zone.
 ///
 /// It fails with `NotADesk`, `Version`, `Inconsistent` and `Store`, and with `NoMemory`.
 pub(crate) fn open_desk<M: Machine>(
     alloc: Global,
     store: &str,
-    offset_minutes: i32,
+    zone: Zone,
     machine: &mut M,
 ) -> Result<Desk<M::Disk>, Refusal>
-    requires offset { IsOffset offset_minutes }
-    ensures { IfErr result IsOpenRefusal }
+    ensures zone { IfOk result (λ desk. desk.zone ≡ zone) }
+    ensures refused { IfErr result IsOpenRefusal }
 {
     let conn = match machine.connect(store) {
         Ok(conn) => conn,
         Err(fault) => return Err(fault.or(Refusal::Store)),
     };
     match Store::open(alloc, conn) {
-        Ok(store) => match Desk::new(store, offset_minutes) {
-            Ok(desk) => Ok(desk),
-            Err(_) => unreachable!(),
-        },
+        Ok(store) => Ok(Desk::new(store, zone)),
         Err(Refused { fault, conn }) => {
             machine.release(&mut Some(conn));
             Err(Refusal::from(fault))
@@ -52,7 +50,7 @@ fn clock_seconds<M: Machine>(machine: &mut M) -> Result<i64, Refusal>
 }
 
 /// The moment at which a desk is asked, in seconds since 1970-01-01T00:00:00 UTC: the one that is told, or that of
-/// the machine's clock. It has a day by the clocks of the desk.
+/// the machine's clock. It has a day.
 ///
 /// It fails with `Clock` where the clock fails or the moment has no day, and with `NoMemory`.
 pub(crate) fn moment<S: Alter, M: Machine>(
@@ -60,7 +58,9 @@ pub(crate) fn moment<S: Alter, M: Machine>(
     desk: &Desk<S>,
     machine: &mut M,
 ) -> Result<i64, Refusal>
-    ensures day { IfOk result (λ seconds. HasDay seconds desk.now.offset_minutes) }
+    ensures day { IfOk result HasDay }
+    ensures told { IfSome told (λ seconds.
+        (HasDay seconds → result ≡ Ok seconds) × (¬ HasDay seconds → result ≡ Err Refusal.Clock)) }
     ensures refused { IfErr result IsClockRefusal }
 {
     let seconds = match told {
@@ -69,6 +69,7 @@ pub(crate) fn moment<S: Alter, M: Machine>(
     };
     match desk.day(seconds) {
         Ok(_) => Ok(seconds),
-        Err(_) => Err(Refusal::Clock),
+        Err(DayFault::OutOfRange) => Err(Refusal::Clock),
+        Err(DayFault::NoMemory) => Err(Refusal::NoMemory),
     }
 }

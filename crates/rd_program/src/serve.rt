@@ -1,6 +1,5 @@
 ghost use Rattle.std.specs.Prelude.{◌≡◌, IfErr, IfOk, OnErr, OnOk};
 ghost use Rattle.std.specs.Io.KnownBytes.{Appends};
-ghost use Rattle.rd_policy.specs.Days.{IsOffset};
 ghost use Rattle.rd_program.specs.Output.{AppendsPart};
 ghost use Rattle.rd_program.specs.Refusals.{IsOfDevice};
 ghost use Rattle.rd_program.specs.Serving.{RefusesServe, RefusesToEnd, listening_line, serve_text, served_line};
@@ -92,12 +91,11 @@ pub(crate) fn serve<W: Write, M: Machine>(
     output: &mut W,
     machine: &mut M,
 ) -> Result<(), Refusal>
-    requires offset { IsOffset ask.offset_minutes }
     ensures done { OnOk result (Appends (W.contents output.old) (W.contents output.new) (serve_text ask.entry.port ask.entry.count)) }
     ensures refused { IfErr result (λ refusal. RefusesServe refusal ask.entry.port ask.entry.count
         (W.contents output.old) (W.contents output.new)) }
 {
-    let mut desk = open_desk(alloc, ask.store, ask.offset_minutes, machine)?;
+    let mut desk = open_desk(alloc, ask.store, ask.zone, machine)?;
     let served = serve_visits(alloc, ask, &mut desk, output, machine);
     machine.release(&mut Some(desk.into_store().into_connection()));
     tell_ended(alloc, served?, output)

@@ -26,9 +26,9 @@ use rd_volume::{FaultWords, fault_words};
 use std::io::Write;
 use std::process::ExitCode;
 
-/// What is told of an offset that is none.
-const OFFSET_MISTAKE: &[u8] =
-    b"error: --offset takes E or W, hours 00 to 23 and minutes 00 to 59, as in E0100\n\nFor more information, try '--help'.\n";
+/// What is told of a text that is no rule.
+const ZONE_MISTAKE: &[u8] =
+    b"error: --zone takes a rule as POSIX writes it, as in UTC0 or CET-1CEST,M3.5.0,M10.5.0/3\n\nFor more information, try '--help'.\n";
 
 /// Writes a word after a blank.
 ///
@@ -136,6 +136,7 @@ pub(crate) fn tell_unread<W: Write, E: Write>(unread: Unread, output: &mut W, er
     ensures usage { result ≡ 2 → Keeps (W.contents output.old) (W.contents output.new) }
     ensures mistake { (error : Error) → unread ≡ Unread.Told error → kind_of error ≢ DisplayHelp
         → kind_of error ≢ DisplayVersion → result ≡ 2 }
+    ensures mistaken { unread ≡ Unread.Usage → result ≡ 2 }
     ensures memory { unread ≡ Unread.NoMemory
         → (result ≡ 3) × Keeps (W.contents output.old) (W.contents output.new) }
     ensures no_memory { unread ≡ Unread.NoMemory
@@ -149,7 +150,7 @@ pub(crate) fn tell_unread<W: Write, E: Write>(unread: Unread, output: &mut W, er
     match unread {
         Unread::NoMemory => tell_refusal(Refusal::NoMemory, errors),
         Unread::Usage => {
-            let _ = write_bytes(errors, OFFSET_MISTAKE);
+            let _ = write_bytes(errors, ZONE_MISTAKE);
             2
         }
         Unread::Told(error) => {

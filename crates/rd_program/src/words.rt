@@ -1,4 +1,4 @@
-ghost use Rattle.std.specs.Prelude.{◌≡◌, ◌⊎◌, IfErr, IfOk, IfSome, IsSomeAnd, List, Ok, OnOk, Option, Some, codes, map, option_map, ℕ, ℤ};
+ghost use Rattle.std.specs.Prelude.{◌≡◌, ◌⊎◌, IfErr, IfOk, IfSome, IsSomeAnd, List, Ok, OnOk, OnSome, Option, Some, codes, map, option_map, ℕ, ℤ};
 ghost use Rattle.std.specs.Str.Parse.{ParsesUnsigned};
 ghost use Rattle.std.specs.declared.num.ParseIntError.{ParseIntError};
 ghost use Rattle.clap.specs.Words.{first_of, found_of, kind_of, one_of, rows_of};
@@ -6,24 +6,23 @@ ghost use Rattle.clap.specs.Words.{subcommand_rows_of};
 ghost use Rattle.clap.specs.declared.error.kind.ErrorKind.TheVariants.{OutOfMemory};
 ghost use Rattle.httparse.specs.Grammar.{trim_ows};
 ghost use Rattle.rd_geometry.specs.Kinds.{word_of};
-ghost use Rattle.rd_policy.specs.Days.{IsOffset};
 ghost use Rattle.rd_policy.specs.Rules.{IsScope};
+ghost use Rattle.rd_policy.specs.Zones.{IsZoneOf};
 ghost use Rattle.rd_program.specs.Asks.{AreCatRows, AreCheckRows, AreExportRows, AreImportRows, AreInitRows, AreListRows, AreServeRows, IsMomentTold};
 ghost use Rattle.rd_program.specs.Asks.{AsksFile, AsksFiles, AsksImages, AsksNew, AsksOnce, AsksVisits, AsksWhen, IsAskable};
-ghost use Rattle.rd_program.specs.Asks.{EntersCat, EntersCheck, EntersExport, EntersImport, EntersInit, EntersList, EntersServe, EntersTelling};
-ghost use Rattle.rd_program.specs.Asks.{HasOffset, IsFaultOf, IsFileAsk, IsFilesAsk, IsImportAsk, IsInitAsk, IsOnceAsk, IsServeAsk, IsVersion, TellsOnOutput};
+ghost use Rattle.rd_program.specs.Asks.{EntersByRule, EntersCat, EntersCheck, EntersExport, EntersImport, EntersInit, EntersList, EntersServe, EntersTelling};
+ghost use Rattle.rd_program.specs.Asks.{IsWithinLimits, IsFaultOf, IsFileAsk, IsFilesAsk, IsImportAsk, IsInitAsk, IsOnceAsk, IsServeAsk, IsVersion, TellsOnOutput};
 ghost use Rattle.rd_program.specs.CommandLine.{IsTaken, IsTakenTelling};
-ghost use Rattle.rd_program.specs.Commands.{IsAskOf, IsCommand};
-ghost use Rattle.rd_program.specs.Offsets.{offset_told};
+ghost use Rattle.rd_program.specs.Commands.{IsAskOf, IsCommand, TellsARule};
 ghost use Rattle.rd_program.specs.Words.{AsksVersion, IsSlotText};
+ghost use Rattle.rd_program.specs.Zones.{HasZoneRule, IsRuleTold};
 ghost use Rattle.rd_program.specs.declared.words.Unread.TheVariants as Unread;
 
 use crate::blanks::trimmed;
 use crate::command_line::desk_command;
-use crate::offset::offset;
 use clap::error::ErrorKind;
 use clap::{ArgMatches, Command, Error};
-use rd_policy::is_scope;
+use rd_policy::{Zone, is_scope};
 use rd_volume::Kind;
 use std::alloc::{AllocError, Global};
 
@@ -65,8 +64,8 @@ pub(crate) struct ServeAsk<'a> {
     pub(crate) port: u16,
     /// How many visits.
     pub(crate) count: u32,
-    /// How many minutes the clocks of the desk are ahead of UTC, −1,439 to 1,439.
-    pub(crate) offset_minutes: i32,
+    /// The zone of the desk's clocks.
+    pub(crate) zone: Zone,
 }
 
 /// When a command is done, and by which clocks.
@@ -74,8 +73,8 @@ pub(crate) struct ServeAsk<'a> {
 pub(crate) struct WhenAsk {
     /// The seconds since 1970-01-01T00:00:00 UTC, where the words tell them, and else those of the clock.
     pub(crate) seconds: Option<i64>,
-    /// How many minutes the clocks of the desk are ahead of UTC, −1,439 to 1,439.
-    pub(crate) offset_minutes: i32,
+    /// The zone of the desk's clocks.
+    pub(crate) zone: Zone,
 }
 
 /// The images that `import` takes in.
@@ -135,7 +134,7 @@ pub(crate) enum Ask<'a> {
 pub(crate) enum Unread {
     /// The text to tell: help or the version that was asked for, or what is wrong with the words.
     Told(Error),
-    /// The words are no command, though `clap` takes them: of what it takes, only an offset does not read.
+    /// The words are no command, though `clap` takes them: of what it takes, only the text of `--zone` may not read.
     Usage,
     /// A growth of memory was refused.
     NoMemory,
@@ -244,29 +243,29 @@ fn count_asked(found: &ArgMatches) -> Option<u32>
     found.get_one::<u32>("count")
 }
 
-/// The offset that its option writes, 0 where it is absent, and `None` where it is another text.
-fn offset_asked(found: &ArgMatches) -> Option<i32>
-    ensures value { result ≡ offset_told (first_of (codes "offset") (rows_of (found_of found.now))) }
-    ensures offset { IfSome result IsOffset }
+/// The zone whose rule its option gives, that of UTC where it is absent, and `None` where the text is no rule.
+fn zone_asked(found: &ArgMatches) -> Option<Zone>
+    ensures asked { (rule : List ℕ)
+        → IsRuleTold (first_of (codes "zone") (rows_of (found_of found.now))) rule
+        → IsSomeAnd result (IsZoneOf rule) }
+    ensures zone { OnSome result (HasZoneRule (rows_of (found_of found.now))) }
 {
-    match found.get_str("offset") {
-        Some(text) => offset(text),
-        None => Some(0),
-    }
+    let rule = found.get_str("zone").unwrap_or("UTC0");
+    Zone::read(rule).ok()
 }
 
 /// What the options of `serve` ask for, `None` where one is missing or does not read.
 fn serve_asked<'a>(found: &ArgMatches<'a>) -> Option<ServeAsk<'a>>
-    ensures asked { (store : List ℕ) (port count : ℕ) (minutes : ℤ)
-        → AreServeRows (rows_of (found_of found.now)) store port count minutes
-        → IsSomeAnd result (λ ask. AsksVisits ask store port count minutes) }
-    ensures offset { IfSome result (λ ask. IsOffset ask.offset_minutes) }
+    ensures asked { (store : List ℕ) (port count : ℕ) (rule : List ℕ)
+        → AreServeRows (rows_of (found_of found.now)) store port count rule
+        → IsSomeAnd result (λ ask. AsksVisits ask store port count rule) }
+    ensures zone { OnSome result (HasZoneRule (rows_of (found_of found.now))) }
 {
     Some(ServeAsk {
         store: found.get_str("store")?,
         port: port_asked(found)?,
         count: count_asked(found)?,
-        offset_minutes: offset_asked(found)?,
+        zone: zone_asked(found)?,
     })
 }
 
@@ -278,26 +277,26 @@ fn moment_asked(found: &ArgMatches) -> Option<i64>
     found.get_one::<i64>("at")
 }
 
-/// When a command is to be done, `None` where an offset is told that is none.
+/// When a command is to be done, `None` where the text of `--zone` is no rule.
 fn when_asked(found: &ArgMatches) -> Option<WhenAsk>
-    ensures asked { (moment : Option ℤ) (minutes : ℤ)
+    ensures asked { (moment : Option ℤ) (rule : List ℕ)
         → IsMomentTold (one_of (codes "at") (rows_of (found_of found.now))) moment
-        → offset_told (first_of (codes "offset") (rows_of (found_of found.now))) ≡ Some minutes
-        → IsSomeAnd result (λ ask. AsksWhen ask moment minutes) }
-    ensures offset { IfSome result (λ ask. IsOffset ask.offset_minutes) }
+        → IsRuleTold (first_of (codes "zone") (rows_of (found_of found.now))) rule
+        → IsSomeAnd result (λ ask. AsksWhen ask moment rule) }
+    ensures zone { OnSome result (HasZoneRule (rows_of (found_of found.now))) }
 {
     Some(WhenAsk {
         seconds: moment_asked(found),
-        offset_minutes: offset_asked(found)?,
+        zone: zone_asked(found)?,
     })
 }
 
 /// What the options of `import` ask for, `None` where one is missing or does not read.
 fn import_asked<'a>(found: &ArgMatches<'a>) -> Option<ImportAsk<'a>>
-    ensures asked { (store key sheet : List ℕ) (moment : Option ℤ) (minutes : ℤ)
-        → AreImportRows (rows_of (found_of found.now)) store key sheet moment minutes
-        → IsSomeAnd result (λ ask. AsksImages ask store key sheet moment minutes) }
-    ensures offset { IfSome result (λ ask. IsOffset ask.when.offset_minutes) }
+    ensures asked { (store key sheet : List ℕ) (moment : Option ℤ) (rule : List ℕ)
+        → AreImportRows (rows_of (found_of found.now)) store key sheet moment rule
+        → IsSomeAnd result (λ ask. AsksImages ask store key sheet moment rule) }
+    ensures zone { OnSome result (HasZoneRule (rows_of (found_of found.now))) }
 {
     Some(ImportAsk {
         store: found.get_str("store")?,
@@ -331,10 +330,10 @@ fn accession_asked(found: &ArgMatches) -> Option<u32>
 
 /// What the options of `export` ask for, `None` where one is missing or does not read.
 fn export_asked<'a>(found: &ArgMatches<'a>) -> Option<OnceAsk<'a>>
-    ensures asked { (store : List ℕ) (key : Option (List ℕ)) (moment : Option ℤ) (minutes : ℤ)
-        → AreExportRows (rows_of (found_of found.now)) store key moment minutes
-        → IsSomeAnd result (λ ask. AsksOnce ask store key Question.Catalogue moment minutes) }
-    ensures offset { IfSome result (λ ask. IsOffset ask.when.offset_minutes) }
+    ensures asked { (store : List ℕ) (key : Option (List ℕ)) (moment : Option ℤ) (rule : List ℕ)
+        → AreExportRows (rows_of (found_of found.now)) store key moment rule
+        → IsSomeAnd result (λ ask. AsksOnce ask store key Question.Catalogue moment rule) }
+    ensures zone { OnSome result (HasZoneRule (rows_of (found_of found.now))) }
     ensures question { IfSome result (λ ask. ask.question ≡ Question.Catalogue) }
 {
     Some(OnceAsk {
@@ -347,10 +346,10 @@ fn export_asked<'a>(found: &ArgMatches<'a>) -> Option<OnceAsk<'a>>
 
 /// What the options of `check` ask for, `None` where one is missing or does not read.
 fn check_asked<'a>(found: &ArgMatches<'a>) -> Option<OnceAsk<'a>>
-    ensures asked { (store key : List ℕ) (acc : ℕ) (moment : Option ℤ) (minutes : ℤ)
-        → AreCheckRows (rows_of (found_of found.now)) store key acc moment minutes
-        → IsSomeAnd result (λ ask. AsksOnce ask store (Some key) (Question.Check acc) moment minutes) }
-    ensures offset { IfSome result (λ ask. IsOffset ask.when.offset_minutes) }
+    ensures asked { (store key : List ℕ) (acc : ℕ) (moment : Option ℤ) (rule : List ℕ)
+        → AreCheckRows (rows_of (found_of found.now)) store key acc moment rule
+        → IsSomeAnd result (λ ask. AsksOnce ask store (Some key) (Question.Check acc) moment rule) }
+    ensures zone { OnSome result (HasZoneRule (rows_of (found_of found.now))) }
     ensures question { IfSome result (λ ask. IsAskable ask.question) }
 {
     Some(OnceAsk {
@@ -372,20 +371,21 @@ fn ask_found<'a>(matches: &ArgMatches<'a>) -> Option<Ask<'a>>
     ensures init { (store key : List ℕ)
         → EntersInit (subcommand_rows_of matches.now) store key
         → IsSomeAnd result (IsInitAsk store key) }
-    ensures serve { (store : List ℕ) (port count : ℕ) (minutes : ℤ)
-        → EntersServe (subcommand_rows_of matches.now) store port count minutes
-        → IsSomeAnd result (IsServeAsk store port count minutes) }
-    ensures import { (store key sheet : List ℕ) (moment : Option ℤ) (minutes : ℤ)
-        → EntersImport (subcommand_rows_of matches.now) store key sheet moment minutes
-        → IsSomeAnd result (IsImportAsk store key sheet moment minutes) }
-    ensures export { (store : List ℕ) (key : Option (List ℕ)) (moment : Option ℤ) (minutes : ℤ)
-        → EntersExport (subcommand_rows_of matches.now) store key moment minutes
-        → IsSomeAnd result (IsOnceAsk store key Question.Catalogue moment minutes) }
-    ensures check { (store key : List ℕ) (acc : ℕ) (moment : Option ℤ) (minutes : ℤ)
-        → EntersCheck (subcommand_rows_of matches.now) store key acc moment minutes
-        → IsSomeAnd result (IsOnceAsk store (Some key) (Question.Check acc) moment minutes) }
+    ensures serve { (store : List ℕ) (port count : ℕ) (rule : List ℕ)
+        → EntersServe (subcommand_rows_of matches.now) store port count rule
+        → IsSomeAnd result (IsServeAsk store port count rule) }
+    ensures import { (store key sheet : List ℕ) (moment : Option ℤ) (rule : List ℕ)
+        → EntersImport (subcommand_rows_of matches.now) store key sheet moment rule
+        → IsSomeAnd result (IsImportAsk store key sheet moment rule) }
+    ensures export { (store : List ℕ) (key : Option (List ℕ)) (moment : Option ℤ) (rule : List ℕ)
+        → EntersExport (subcommand_rows_of matches.now) store key moment rule
+        → IsSomeAnd result (IsOnceAsk store key Question.Catalogue moment rule) }
+    ensures check { (store key : List ℕ) (acc : ℕ) (moment : Option ℤ) (rule : List ℕ)
+        → EntersCheck (subcommand_rows_of matches.now) store key acc moment rule
+        → IsSomeAnd result (IsOnceAsk store (Some key) (Question.Check acc) moment rule) }
     ensures told_on_output { IfSome result (λ ask. TellsOnOutput ask → EntersTelling (subcommand_rows_of matches.now)) }
-    ensures offset { IfSome result HasOffset }
+    ensures accession { IfSome result IsWithinLimits }
+    ensures zone { OnSome result (EntersByRule (subcommand_rows_of matches.now)) }
 {
     let (name, found) = matches.subcommand()?;
     match name {
@@ -403,11 +403,14 @@ fn ask_found<'a>(matches: &ArgMatches<'a>) -> Option<Ask<'a>>
 /// Reads the words of a command, which come without the program's name.
 ///
 /// It fails with `Told` where they ask for help or the version or are no command, with `Usage` where the parse gives no
-/// command or not all its operands, or an offset is none, and with `NoMemory`.
+/// command or not all its operands, or the text of `--zone` is no rule, and with `NoMemory`.
 pub(crate) fn read_words<'a>(alloc: Global, words: &'a [&'a str]) -> Result<Ask<'a>, Unread>
     ensures read { IfOk result (IsAskOf (map (λ word. word.now) words.entry.now)) }
     ensures told_on_output { IfOk result (λ ask. TellsOnOutput ask → IsTakenTelling (map (λ word. word.now) words.entry.now)) }
-    ensures offset { IfOk result HasOffset }
+    ensures accession { IfOk result IsWithinLimits }
+    ensures zone { OnOk result (TellsARule (map (λ word. word.now) words.entry.now)) }
+    ensures no_rule { IfErr result (λ fault. ¬ TellsARule (map (λ word. word.now) words.entry.now)
+        → (fault ≡ Unread.Usage) ⊎ (fault ≡ Unread.NoMemory)) }
     ensures taken { OnOk result (IsTaken (map (λ word. word.now) words.entry.now)) }
     ensures told { IfErr result (IsFaultOf (map (λ word. word.now) words.entry.now)) }
     ensures unread { IfErr result (λ fault. IsCommand (map (λ word. word.now) words.entry.now)

@@ -18,7 +18,7 @@ macro_rules! next_day {
     ($step:expr, $label:literal, $recorded:literal) => {
         like!(Step, $step,
             label: $label,
-            words: &["check", "--store", "museum.sqlite", "--key", "abc", "--acc", "12", "--at", "1893538800", "--offset", "E0100"],
+            words: &["check", "--store", "museum.sqlite", "--key", "abc", "--acc", "12", "--at", "1893538800", "--zone", "CET-1CEST,M3.5.0,M10.5.0/3"],
             recorded: Some($recorded))
     };
 }
@@ -39,7 +39,7 @@ macro_rules! refused {
 /// The file of accession 12, as the changed image has it.
 const BELLO: Step = like!(Step, SERVE,
     label: "the file",
-    words: &["serve", "--store", "museum.sqlite", "--port", "8041", "--count", "1", "--offset", "E0100"],
+    words: &["serve", "--store", "museum.sqlite", "--port", "8041", "--count", "1", "--zone", "CET-1CEST,M3.5.0,M10.5.0/3"],
     visits: &[("the file", AFTER, get!("/images/12/files/0"), Wanted::Texts(&[
         ("HTTP/1.1 200 OK\r\nContent-Type: application/octet-stream\r\nContent-Length: 258\r\nConnection: close\r\n\r\nB", 1),
         ("A", 253),
@@ -94,7 +94,7 @@ const WALKS: &[&[Step]] = table![
         refused!("the room", &["check", "--store", "museum.sqlite", "--key", "hello", "--acc", "12", "--at", "0"], 1, "desk: staff-only S0\n", ""),
         refused!("no key of the museum", &["check", "--store", "museum.sqlite", "--key", "nobody", "--acc", "12", "--at", "0"], 1, "desk: unknown-key K0\n", ""),
         refused!("no accession", &["check", "--store", "museum.sqlite", "--key", "abc", "--acc", "13", "--at", "0"], 1, "desk: no-accession\n", ""),
-        refused!("a moment after all days", &["check", "--store", "museum.sqlite", "--key", "abc", "--acc", "12", "--at", "253402300800"], 3, "desk: clock\n", ""),
+        refused!("a moment after all days", &["check", "--store", "museum.sqlite", "--key", "abc", "--acc", "12", "--at", "253402128000"], 3, "desk: clock\n", ""),
         like!(Step, CHECK, label: "an output that fails", room: 4, status: 3, output: "12 s", errors: "desk: device\n", recorded: Some("12 21915 0;")),
         like!(Step, ALTERED, label: "no flush", flushes: 0, status: 3, errors: "desk: device\n", recorded: Some("12 21915 1;")),
     ];

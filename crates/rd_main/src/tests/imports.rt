@@ -57,7 +57,7 @@ pub(super) const EMPTY: &str = ",,,,\n";
 /// An `import` of accession 12.
 pub(super) const IMPORT: Step = like!(Step, INIT,
     label: "import",
-    words: &["import", "--store", "museum.sqlite", "--key", "abc", "--sheet", "images.csv", "--at", "1893452400", "--offset", "E0100"],
+    words: &["import", "--store", "museum.sqlite", "--key", "abc", "--sheet", "images.csv", "--at", "1893452400", "--zone", "CET-1CEST,M3.5.0,M10.5.0/3"],
     moment: Err(MachineFault::Failed),
     sheet: sheet!(program!("12")),
     output: "12 done\n"
@@ -231,15 +231,15 @@ const ENDINGS: &[Step] = table![
     like!(Step, REFUSED, label: "no memory for a clock", words: &["import", "--store", "museum.sqlite", "--key", "abc", "--sheet", "images.csv"], moment: Err(MachineFault::NoMemory), errors: "desk: no-memory\n");
     like!(Step, REFUSED, label: "a clock after all days", words: &["import", "--store", "museum.sqlite", "--key", "abc", "--sheet", "images.csv"], moment: Ok(i64::MAX), sheet: Sheet::Fails(MachineFault::Failed), errors: "desk: clock\n");
     like!(Step, REFUSED, label: "a moment after all days", words: &["import", "--store", "museum.sqlite", "--key", "abc", "--sheet", "images.csv", "--at", "9223372036854775807"], moment: Ok(AFTER), errors: "desk: clock\n");
-    like!(Step, REFUSED, label: "the first moment after all days", words: &["import", "--store", "museum.sqlite", "--key", "abc", "--sheet", "images.csv", "--at", "253402300800"], errors: "desk: clock\n");
-    like!(Step, REFUSED, label: "after all days by its own clocks", words: &["import", "--store", "museum.sqlite", "--key", "abc", "--sheet", "images.csv", "--at", "253402300799", "--offset", "E0001"], errors: "desk: clock\n");
+    like!(Step, REFUSED, label: "the first moment after all days", words: &["import", "--store", "museum.sqlite", "--key", "abc", "--sheet", "images.csv", "--at", "253402128000"], errors: "desk: clock\n");
+    like!(Step, REFUSED, label: "after all days, by clocks far behind", words: &["import", "--store", "museum.sqlite", "--key", "abc", "--sheet", "images.csv", "--at", "253402128000", "--zone", "<-2359>23:59"], errors: "desk: clock\n");
     like!(Step, REFUSED, label: "no sheet", sheet: Sheet::Fails(MachineFault::Failed));
     like!(Step, REFUSED, label: "no memory for a sheet", sheet: Sheet::Fails(MachineFault::NoMemory), errors: "desk: no-memory\n");
     like!(Step, REFUSED, label: "another sheet", words: &["import", "--store", "museum.sqlite", "--key", "abc", "--sheet", "other.csv", "--at", "0"]);
     like!(Step, REFUSED, label: "no file", sheet: sheet!(program!("12", "none.d64"), program!("12")));
     like!(Step, REFUSED, label: "no memory for a file", sheet: sheet!(program!("12", "no-memory.d64"), program!("12")), errors: "desk: no-memory\n");
     images!("nothing is taken in", NO_IMAGES);
-    like!(Step, IMPORT, label: "the last moment of all days", words: &["import", "--store", "museum.sqlite", "--key", "abc", "--sheet", "images.csv", "--at", "253402300799"], output: "12 done\n");
+    like!(Step, IMPORT, label: "the last moment of all days", words: &["import", "--store", "museum.sqlite", "--key", "abc", "--sheet", "images.csv", "--at", "253402127999"], output: "12 done\n");
     like!(Step, REFUSED, label: "no file after a row", sheet: sheet!(THIRTEEN, program!("12", "none.d64"), program!("14")), output: "13 done\n");
     images!("the row before it stays", TWELVE_AND_13);
     like!(Step, IMPORT, label: "the moment of the clock", words: &["import", "--store", "museum.sqlite", "--key", "abc", "--sheet", "images.csv"], moment: Ok(BEFORE));

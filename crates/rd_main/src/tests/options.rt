@@ -24,7 +24,7 @@ const NO_INITS: &[Words] = table![
     &["init", "--store", "f", "--key", "k", "init", "--store", "f", "--key", "k"];
     &["init", "--store", "f", "--key", "k", "serve"];
     &["init", "--store", "f", "--key", "k", "--port", "80"];
-    &["init", "--store", "f", "--key", "k", "--offset", "E0100"];
+    &["init", "--store", "f", "--key", "k", "--zone", "CET-1CEST,M3.5.0,M10.5.0/3"];
     &["init", "-store", "f", "--key", "k"];
     &["init", "--Store", "f", "--key", "k"];
     &["--store", "f", "--key", "k", "init"];
@@ -41,10 +41,10 @@ macro_rules! serve_with {
     };
 }
 
-/// `serve` of one visit by clocks that are so far ahead of UTC.
+/// `serve` of one visit by the clocks of a rule.
 macro_rules! serve_by {
-    ($offset:literal) => {
-        serve_with!("--port", "80", "--count", "1", "--offset", $offset)
+    ($zone:literal) => {
+        serve_with!("--port", "80", "--count", "1", "--zone", $zone)
     };
 }
 
@@ -56,11 +56,11 @@ const NO_SERVES: &[Words] = table![
     serve_with!("--port", "80");
     serve_with!("--port", "80", "--count");
     serve_with!("--count", "1", "--port");
-    serve_with!("--port", "80", "--count", "1", "--offset");
+    serve_with!("--port", "80", "--count", "1", "--zone");
     serve_with!("--port", "80", "--count", "1", "--store", "f");
     serve_with!("--port", "80", "--count", "1", "--port", "80");
     serve_with!("--port", "80", "--count", "1", "--count", "1");
-    serve_with!("--port", "80", "--count", "1", "--offset", "E0000", "--offset", "E0000");
+    serve_with!("--port", "80", "--count", "1", "--zone", "UTC0", "--zone", "UTC0");
     serve_with!("--port", "80", "--count", "1", "--key", "k");
     serve_with!("--port", "80", "--count", "1", "more");
     serve_with!("--port", "80", "--count", "1", "serve");
@@ -89,36 +89,38 @@ const NO_NUMBERS: &[Words] = table![
     serve_with!("--port", "80", "--count", "1 ");
 ];
 
-/// Offsets that are none.
-const NO_OFFSETS: &[Words] = table![
-    serve_by!("e0100");
-    serve_by!("w0100");
-    serve_by!("N0100");
-    serve_by!("E2400");
-    serve_by!("W2400");
-    serve_by!("E0060");
-    serve_by!("E2360");
-    serve_by!("E9999");
-    serve_by!("E100");
-    serve_by!("E01000");
-    serve_by!("0100");
-    serve_by!("+0100");
-    serve_by!("E+100");
-    serve_by!("E01:0");
-    serve_by!("E01:00");
-    serve_by!("E010/");
-    serve_by!("E01:/");
-    serve_by!("E 100");
-    serve_by!("E0100 ");
-    serve_by!(" E0100");
-    serve_by!("E");
+/// Texts that are no rule.
+const NO_ZONES: &[Words] = table![
     serve_by!("");
+    serve_by!("25");
     serve_by!("UTC");
-    serve_by!("-0100");
-    serve_by!("E010\u{660}");
-    serve_with!("--port", "80", "--count", "1", "--offset=e0100");
-    serve_with!("--port", "80", "--count", "1", "--offset=");
-    serve_with!("--offset", "E2400", "--port", "80", "--count", "1");
+    serve_by!("Z0");
+    serve_by!("E0100");
+    serve_by!("ABC25");
+    serve_by!("ABC24:60");
+    serve_by!("ABC1:5");
+    serve_by!("UTC0 ");
+    serve_by!(" UTC0");
+    serve_by!(":UTC0");
+    serve_by!("<+1>-1");
+    serve_by!("<+01-1");
+    serve_by!("Europe/Prague");
+    serve_by!("EST5EDT");
+    serve_by!("EST5EDT,M3.2.0");
+    serve_by!("EST5EDT,M13.2.0,M11.1.0");
+    serve_by!("EST5EDT,M3.6.0,M11.1.0");
+    serve_by!("EST5EDT,M3.2.7,M11.1.0");
+    serve_by!("EST5EDT,J0,J300");
+    serve_by!("EST5EDT,59,366");
+    serve_by!("EST5EDT,M3.2.0/168,M11.1.0");
+    serve_by!("EST5EDT,M3.2.0,M11.1.0,");
+    serve_by!("cet-1cest,m3.5.0,m10.5.0/3");
+    serve_by!("UT\u{421}0");
+    serve_by!("-1");
+    serve_with!("--port", "80", "--count", "1", "--zone=25");
+    serve_with!("--port", "80", "--count", "1", "--zone=");
+    serve_with!("--zone", "ABC25", "--port", "80", "--count", "1");
+    serve_with!("--port", "80", "--count", "1", "--offset", "E0100");
 ];
 
 /// `import` with these words after the store and the key.
@@ -155,22 +157,41 @@ const NO_IMPORTS: &[Words] = table![
     import_with!("--sheet", "s", "--at", "now");
     import_with!("--sheet", "s", "--at", "1.5");
     import_with!("--sheet", "s", "--at", "0x10");
-    import_with!("--sheet", "s", "--offset", "E2400");
-    import_with!("--sheet", "s", "--offset", "0100");
-    import_with!("--sheet", "s", "--offset=");
-    import_with!("--sheet", "s", "--offset", "E0100", "--offset", "E0100");
+    import_with!("--sheet", "s", "--zone", "ABC25");
+    import_with!("--sheet", "s", "--offset", "E0100");
+    import_with!("--sheet", "s", "--zone", "-1");
+    import_with!("--sheet", "s", "--zone=");
+    import_with!("--sheet", "s", "--zone", "CET-1CEST,M3.5.0,M10.5.0/3", "--zone", "CET-1CEST,M3.5.0,M10.5.0/3");
     &["imports", "--store", "f", "--key", "k", "--sheet", "s"];
 ];
 
 #[test]
 fn other_words_are_no_command(rt: HostRuntime) {
-    for words in [NO_INITS, NO_SERVES, NO_NUMBERS, NO_OFFSETS]
+    for words in [NO_INITS, NO_SERVES, NO_NUMBERS, NO_ZONES]
         .iter()
         .copied()
         .flatten()
     {
         let ran = run_on(rt.alloc(), words, &[]);
         assert!(rt; is_usage_fault(&ran), "{words:?}");
+    }
+}
+
+/// What a rule that is none is answered with: the form of a rule, and two examples.
+const ZONE_MISTAKE: &str =
+    "error: --zone takes a rule as POSIX writes it, as in UTC0 or CET-1CEST,M3.5.0,M10.5.0/3\n\nFor more information, try '--help'.\n";
+
+/// Rules that are none, one of them given to another command.
+const NO_RULES: &[Words] = table![
+    serve_by!("EST5EDT");
+    &["export", "--store", "f", "--zone", "E0100"];
+];
+
+#[test]
+fn a_rule_that_is_none_is_answered_with_one(rt: HostRuntime) {
+    for words in NO_RULES {
+        let ran = run_on(rt.alloc(), words, &[]);
+        assert!(rt; is_refused(&ran, 2, ZONE_MISTAKE), "{words:?}");
     }
 }
 
@@ -196,10 +217,11 @@ const NO_EXPORTS: &[Words] = table![
     export_with!("--at", "-1");
     export_with!("--at", "9223372036854775808");
     export_with!("--at", "1", "--at", "1");
-    export_with!("--offset");
-    export_with!("--offset", "");
-    export_with!("--offset", "E2400");
-    export_with!("--offset", "E0100", "--offset", "E0100");
+    export_with!("--zone");
+    export_with!("--zone", "");
+    export_with!("--zone", "ABC25");
+    export_with!("--offset", "E0100");
+    export_with!("--zone", "CET-1CEST,M3.5.0,M10.5.0/3", "--zone", "CET-1CEST,M3.5.0,M10.5.0/3");
     export_with!("--acc", "12");
     export_with!("--sheet", "s");
     export_with!("--port", "80");
@@ -244,8 +266,9 @@ const NO_CHECKS: &[Words] = table![
     check_with!("--acc", "12", "--at", "");
     check_with!("--acc", "12", "--at", "-1");
     check_with!("--acc", "12", "--at", "1", "--at", "1");
-    check_with!("--acc", "12", "--offset", "0100");
-    check_with!("--acc", "12", "--offset", "E0100", "--offset", "E0100");
+    check_with!("--acc", "12", "--zone", "-1");
+    check_with!("--acc", "12", "--offset", "E0100");
+    check_with!("--acc", "12", "--zone", "CET-1CEST,M3.5.0,M10.5.0/3", "--zone", "CET-1CEST,M3.5.0,M10.5.0/3");
     check_with!("--acc", "12", "--sheet", "s");
     check_with!("--acc", "12", "--verbose");
     check_with!("--acc", "12", "more");
@@ -276,23 +299,23 @@ const TAKEN: &[Words] = table![
     serve_with!("--port", "65535", "--count", "4294967295");
     serve_with!("--port", "+80", "--count", "+1");
     serve_with!("--port", "0080", "--count", "0001");
-    serve_with!("--port=80", "--count=1", "--offset=E0100");
-    &["serve", "--offset", "W0100", "--count", "1", "--port", "80", "--store", "f"];
-    &["serve", "--count=1", "--offset=E0000", "--store=f", "--port=80"];
-    serve_by!("E0000");
-    serve_by!("W0000");
-    serve_by!("E0100");
-    serve_by!("E2359");
-    serve_by!("W2359");
-    serve_by!("E0059");
-    serve_by!("W2300");
+    serve_with!("--port=80", "--count=1", "--zone=CET-1CEST,M3.5.0,M10.5.0/3");
+    &["serve", "--zone", "<-01>1", "--count", "1", "--port", "80", "--store", "f"];
+    &["serve", "--count=1", "--zone=UTC0", "--store=f", "--port=80"];
+    serve_by!("UTC0");
+    serve_by!("UTC-0");
+    serve_by!("CET-1CEST,M3.5.0,M10.5.0/3");
+    serve_by!("<+2359>-23:59");
+    serve_by!("<-2359>23:59");
+    serve_by!("<+0059>-0:59");
+    serve_by!("<-23>23");
     import_with!("--sheet", "s");
     import_with!("--sheet", "");
     import_with!("--sheet=--store");
     import_with!("--sheet", "s", "--at", "0");
     import_with!("--sheet", "s", "--at", "+0042");
-    import_with!("--sheet", "s", "--at=9223372036854775807", "--offset=W2359");
-    &["import", "--offset", "E0100", "--at", "1", "--sheet", "s", "--key", "", "--store", "f"];
+    import_with!("--sheet", "s", "--at=9223372036854775807", "--zone=<-2359>23:59");
+    &["import", "--zone", "CET-1CEST,M3.5.0,M10.5.0/3", "--at", "1", "--sheet", "s", "--key", "", "--store", "f"];
 ];
 
 /// Words of a question that a machine without a store cannot ask.
@@ -301,15 +324,15 @@ const ASKED: &[Words] = table![
     export_with!("--key", "");
     export_with!("--key=");
     export_with!("--key=--store");
-    export_with!("--at", "0", "--offset", "W2359");
+    export_with!("--at", "0", "--zone", "<-2359>23:59");
     export_with!("--at", "+9223372036854775807");
-    &["export", "--offset=E0000", "--at=1", "--key=k", "--store="];
+    &["export", "--zone=UTC0", "--at=1", "--key=k", "--store="];
     check_with!("--acc", "1");
     check_with!("--acc", "999999");
     check_with!("--acc", "+12");
     check_with!("--acc=000012");
-    check_with!("--acc", "12", "--at", "0", "--offset", "E2359");
-    &["check", "--offset=W0000", "--at=9223372036854775807", "--acc=12", "--key=", "--store=f"];
+    check_with!("--acc", "12", "--at", "0", "--zone", "<+2359>-23:59");
+    &["check", "--zone=UTC-0", "--at=9223372036854775807", "--acc=12", "--key=", "--store=f"];
 ];
 
 #[test]
@@ -324,7 +347,7 @@ fn words_are_taken_in_any_order(rt: HostRuntime) {
 const VALUES: &[Step] = table![
     like!(Step, INIT, label: "key first", words: &["init", "--key=abc", "--store=museum.sqlite"]);
     like!(Step, SERVE, label: "the least port", words: &["serve", "--port=1", "--store=museum.sqlite", "--count=0"], output: "listening 127.0.0.1:1\nserved 0\n", port: Some(1));
-    like!(Step, SERVE, label: "the largest port", words: &["serve", "--count", "0", "--port", "65535", "--offset", "E2359", "--store", "museum.sqlite"], output: "listening 127.0.0.1:65535\nserved 0\n", port: Some(65535));
+    like!(Step, SERVE, label: "the largest port", words: &["serve", "--count", "0", "--port", "65535", "--zone", "<+2359>-23:59", "--store", "museum.sqlite"], output: "listening 127.0.0.1:65535\nserved 0\n", port: Some(65535));
     like!(Step, SERVE, label: "numbers in other forms", words: &["serve", "--count", "+00", "--port", "+080", "--store", "museum.sqlite"], output: "listening 127.0.0.1:80\nserved 0\n", port: Some(80));
 ];
 
@@ -340,13 +363,13 @@ const HELPS: &[(Words, &[&str])] = table![
     (&["list", "--help"], &["desk list d64 disk.d64"]);
     (&["init", "--help"], &["--store <FILE>", "--key <KEY>", "desk init --store museum.sqlite --key 'a long phrase'"]);
     (&["init", "--store", "f", "-h"], &["--store <FILE>", "--key <KEY>"]);
-    (&["import", "--help"], &["--store <FILE>", "--key <KEY>", "--sheet <SHEET>", "--at <SECONDS>", "--offset <OFFSET>", "accession,kind,deed,sha256,file", "desk import --store museum.sqlite --key 'a long phrase' --sheet images.csv"]);
+    (&["import", "--help"], &["--store <FILE>", "--key <KEY>", "--sheet <SHEET>", "--at <SECONDS>", "--zone <ZONE>", "accession,kind,deed,sha256,file", "desk import --store museum.sqlite --key 'a long phrase' --sheet images.csv"]);
     (&["--help"], &["export", "check", "desk export --store museum.sqlite", "desk check --store museum.sqlite --key 'a long phrase' --acc 12"]);
-    (&["export", "--help"], &["--store <FILE>", "--key <KEY>", "--at <SECONDS>", "--offset <OFFSET>", "desk export --store museum.sqlite"]);
+    (&["export", "--help"], &["--store <FILE>", "--key <KEY>", "--at <SECONDS>", "--zone <ZONE>", "desk export --store museum.sqlite"]);
     (&["export", "--store", "f", "-h"], &["--store <FILE>", "--key <KEY>"]);
-    (&["check", "--help"], &["--store <FILE>", "--key <KEY>", "--acc <ACCESSION>", "--at <SECONDS>", "--offset <OFFSET>", "desk check --store museum.sqlite --key 'a long phrase' --acc 12"]);
+    (&["check", "--help"], &["--store <FILE>", "--key <KEY>", "--acc <ACCESSION>", "--at <SECONDS>", "--zone <ZONE>", "desk check --store museum.sqlite --key 'a long phrase' --acc 12"]);
     (&["check", "--help", "--acc", "0"], &["--acc <ACCESSION>"]);
-    (&["serve", "--help"], &["--store <FILE>", "--port <PORT>", "--count <COUNT>", "--offset <OFFSET>", "desk serve --store museum.sqlite --port 8041 --count 1000 --offset E0100"]);
+    (&["serve", "--help"], &["--store <FILE>", "--port <PORT>", "--count <COUNT>", "--zone <ZONE>", "desk serve --store museum.sqlite --port 8041 --count 1000 --zone CET-1CEST,M3.5.0,M10.5.0/3"]);
 ];
 
 #[test]

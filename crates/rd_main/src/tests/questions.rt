@@ -34,7 +34,7 @@ pub(super) const TWELVE: Step = like!(Step, INIT,
 /// An `export` without a key, on the first day of 2030 by the clocks of the desk.
 pub(super) const EXPORT: Step = like!(Step, INIT,
     label: "export",
-    words: &["export", "--store", "museum.sqlite", "--at", "1893452400", "--offset", "E0100"],
+    words: &["export", "--store", "museum.sqlite", "--at", "1893452400", "--zone", "CET-1CEST,M3.5.0,M10.5.0/3"],
     moment: Err(MachineFault::Failed),
     output: "accession,deed,kind,slot,user,name,type,size,faults,rule,effect\n12,7,d64,0,,HELLO,PRG,258,,R7.20,read\n"
 );
@@ -47,7 +47,7 @@ const NOTHING: Step = like!(Step, EXPORT,
 /// A `check` of accession 12.
 pub(super) const CHECK: Step = like!(Step, INIT,
     label: "check",
-    words: &["check", "--store", "museum.sqlite", "--key", "abc", "--acc", "12", "--at", "1893452400", "--offset", "E0100"],
+    words: &["check", "--store", "museum.sqlite", "--key", "abc", "--acc", "12", "--at", "1893452400", "--zone", "CET-1CEST,M3.5.0,M10.5.0/3"],
     moment: Err(MachineFault::Failed),
     output: "12 sound\n"
 );
@@ -66,17 +66,17 @@ const CATALOGUES: &[Step] = table![
     like!(Step, NOTHING, label: "no image");
     TWELVE;
     EXPORT;
-    like!(Step, NOTHING, label: "a second before", words: &["export", "--store", "museum.sqlite", "--at", "1893452399", "--offset", "E0100"]);
+    like!(Step, NOTHING, label: "a second before", words: &["export", "--store", "museum.sqlite", "--at", "1893452399", "--zone", "CET-1CEST,M3.5.0,M10.5.0/3"]);
     like!(Step, NOTHING, label: "by clocks of UTC", words: &["export", "--store", "museum.sqlite", "--at", "1893452400"]);
     like!(Step, NOTHING, label: "the room, before", words: &["export", "--store", "museum.sqlite", "--at", "0", "--key", "hello"]);
     like!(Step, EXPORT, label: "the staff, before", words: &["export", "--store", "museum.sqlite", "--at", "0", "--key", "\tabc "]);
-    like!(Step, EXPORT, label: "the moment of the clock", words: &["export", "--store", "museum.sqlite", "--offset=E0100"], moment: Ok(AFTER));
+    like!(Step, EXPORT, label: "the moment of the clock", words: &["export", "--store", "museum.sqlite", "--zone=CET-1CEST,M3.5.0,M10.5.0/3"], moment: Ok(AFTER));
     like!(Step, REFUSED, label: "no key of the museum", words: &["export", "--store", "museum.sqlite", "--at", "0", "--key", "nobody"], errors: "desk: unknown-key K0\n");
     like!(Step, REFUSED, label: "an empty key", words: &["export", "--store", "museum.sqlite", "--at", "0", "--key="], errors: "desk: unknown-key K0\n");
     like!(Step, FAILED, label: "no store", connects: Err(MachineFault::Failed), errors: "desk: store\n");
     like!(Step, FAILED, label: "no clock", words: &["export", "--store", "museum.sqlite", "--key", "nobody"], errors: "desk: clock\n");
     like!(Step, FAILED, label: "no memory for a clock", words: &["export", "--store", "museum.sqlite"], moment: Err(MachineFault::NoMemory), errors: "desk: no-memory\n");
-    like!(Step, FAILED, label: "a moment after all days", words: &["export", "--store", "museum.sqlite", "--at", "253402300800"], errors: "desk: clock\n");
+    like!(Step, FAILED, label: "a moment after all days", words: &["export", "--store", "museum.sqlite", "--at", "253402128000"], errors: "desk: clock\n");
 ];
 
 #[test]
@@ -97,7 +97,7 @@ const CHECKS: &[Step] = table![
     like!(Step, REFUSED, label: "no accession", words: &["check", "--store", "museum.sqlite", "--key", "abc", "--acc", "13", "--at", "0"], errors: "desk: no-accession\n");
     like!(Step, REFUSED, label: "the room", words: &["check", "--store", "museum.sqlite", "--key", "hello", "--acc", "13", "--at", "0"], errors: "desk: staff-only S0\n");
     like!(Step, REFUSED, label: "no key of the museum", words: &["check", "--store", "museum.sqlite", "--key", "nobody", "--acc", "12", "--at", "0"], errors: "desk: unknown-key K0\n");
-    like!(Step, FAILED, label: "a moment after all days", words: &["check", "--store", "museum.sqlite", "--key", "nobody", "--acc", "12", "--at", "253402300800"], errors: "desk: clock\n");
+    like!(Step, FAILED, label: "a moment after all days", words: &["check", "--store", "museum.sqlite", "--key", "nobody", "--acc", "12", "--at", "253402128000"], errors: "desk: clock\n");
     like!(Step, CHECK, label: "changed", status: 1, sql: "UPDATE image SET digest = x'0000000000000000000000000000000000000000000000000000000000000000'", output: "12 changed\n");
     like!(Step, CHECK, label: "still changed", status: 1, output: "12 changed\n");
 ];

@@ -122,9 +122,9 @@ fn list_of_a_program_when_memory_is_refused(rt: HostRuntime) -> Result<(), Fail>
 }
 
 #[test]
-fn an_offset_when_memory_is_refused(rt: HostRuntime) -> Result<(), Fail> {
+fn a_zone_when_memory_is_refused(rt: HostRuntime) -> Result<(), Fail> {
     let words = [
-        "serve", "--store", "f", "--port", "80", "--count", "1", "--offset", "E2400",
+        "serve", "--store", "f", "--port", "80", "--count", "1", "--zone", "ABC25",
     ];
     assert_eq!(rt;
         run_again(rt.alloc(), Kind::Cpm8, words.as_slice(), &mut [])?,
@@ -264,6 +264,8 @@ fn serve_once(alloc: Global, museum: &mut Museum, visits: &[Visit]) -> Result<Le
         "8041",
         "--count",
         "1",
+        "--zone",
+        "CET-1CEST,M3.5.0,M10.5.0/3",
     ];
     Ok(run_once(alloc, words.as_slice(), museum))
 }
@@ -349,6 +351,8 @@ const IMPORT: &[&str] = &[
     "images.csv",
     "--at",
     "1893452400",
+    "--zone",
+    "CET-1CEST,M3.5.0,M10.5.0/3",
 ];
 
 /// What an `import` of three rows writes, and its fronts of whole lines.
@@ -405,7 +409,15 @@ struct Asked {
 }
 
 const EXPORT: Asked = Asked {
-    words: &["export", "--store", "museum.sqlite", "--at", "1893452400"],
+    words: &[
+        "export",
+        "--store",
+        "museum.sqlite",
+        "--at",
+        "1893452400",
+        "--zone",
+        "CET-1CEST,M3.5.0,M10.5.0/3",
+    ],
     status: 0,
     output: "accession,deed,kind,slot,user,name,type,size,faults,rule,effect\n12,7,d64,0,,HELLO,PRG,258,,R7.20,read\n",
     before: "",
@@ -423,19 +435,21 @@ const CHECK: Asked = Asked {
         "12",
         "--at",
         "1893452400",
+        "--zone",
+        "CET-1CEST,M3.5.0,M10.5.0/3",
     ],
     status: 0,
     output: "12 sound\n",
     before: "",
-    after: "12 21914 0;",
+    after: "12 21915 0;",
 };
 
 /// The same where the image is changed.
 const CHANGED: Asked = like!(Asked, CHECK,
     status: 1,
     output: "12 changed\n",
-    before: "12 21914 0;",
-    after: "12 21914 1;"
+    before: "12 21915 0;",
+    after: "12 21915 1;"
 );
 
 fn recorded_again(alloc: Global, museum: &mut Museum) -> Option<String> {

@@ -60,12 +60,12 @@ const TAKEN: &[Visit] = table![
     ("no rule for the staff", AFTER, Came::Asked("GET /images/13/files/0", STAFF, ""), NO_RULE);
 ];
 
-/// A `serve` of so many visits by clocks that are so far ahead of UTC, which serves them all.
+/// A `serve` of so many visits by the clocks of a rule, which serves them all.
 macro_rules! by_clocks {
-    ($label:literal, $offset:literal, $count:literal, $visits:expr) => {
+    ($label:literal, $zone:literal, $count:literal, $visits:expr) => {
         like!(Step, SERVE,
             label: $label,
-            words: &["serve", "--store", "museum.sqlite", "--port", "8041", "--count", $count, "--offset", $offset],
+            words: &["serve", "--store", "museum.sqlite", "--port", "8041", "--count", $count, "--zone", $zone],
             visits: $visits,
             output: concat!("listening 127.0.0.1:8041\nserved ", $count, "\n"))
     };
@@ -73,10 +73,10 @@ macro_rules! by_clocks {
 
 const FILLED: &[Step] = table![
     INIT;
-    by_clocks!("filling", "E0100", "6", GIVEN);
-    by_clocks!("days", "E0100", "6", DAYS);
-    by_clocks!("takedown", "E0100", "2", TAKEDOWN);
-    by_clocks!("takedowns", "E0100", "4", TAKEN);
+    by_clocks!("filling", "CET-1CEST,M3.5.0,M10.5.0/3", "6", GIVEN);
+    by_clocks!("days", "CET-1CEST,M3.5.0,M10.5.0/3", "6", DAYS);
+    by_clocks!("takedown", "CET-1CEST,M3.5.0,M10.5.0/3", "2", TAKEDOWN);
+    by_clocks!("takedowns", "CET-1CEST,M3.5.0,M10.5.0/3", "4", TAKEN);
 ];
 
 #[test]
@@ -100,13 +100,14 @@ const CLOCKS: &[Step] = table![
     like!(Step, SERVE, label: "filling", words: &["serve", "--store", "museum.sqlite", "--port", "8041", "--count", "6"], visits: GIVEN, output: "listening 127.0.0.1:8041\nserved 6\n");
     like!(Step, SERVE, label: "UTC", words: &["serve", "--store", "museum.sqlite", "--port", "8041", "--count", "2"], visits: turning_at!(1_893_456_000), output: "listening 127.0.0.1:8041\nserved 2\n");
     like!(Step, SERVE, label: "an hour before 2030 of UTC", words: &["serve", "--store", "museum.sqlite", "--port", "8041", "--count", "1"], visits: &[("an hour before", AFTER, FOR_HELLO, CLOSED)]);
-    by_clocks!("no hour ahead", "E0000", "2", turning_at!(1_893_456_000));
-    by_clocks!("no hour behind", "W0000", "2", turning_at!(1_893_456_000));
-    by_clocks!("an hour ahead", "E0100", "2", turning_at!(1_893_452_400));
-    by_clocks!("an hour behind", "W0100", "2", turning_at!(1_893_459_600));
-    by_clocks!("12 hours and 34 minutes ahead", "E1234", "2", turning_at!(1_893_410_760));
-    by_clocks!("a minute less than a day ahead", "E2359", "2", turning_at!(1_893_369_660));
-    by_clocks!("a minute less than a day behind", "W2359", "2", turning_at!(1_893_542_340));
+    by_clocks!("no hour ahead", "UTC0", "2", turning_at!(1_893_456_000));
+    by_clocks!("no hour behind", "UTC-0", "2", turning_at!(1_893_456_000));
+    by_clocks!("an hour ahead", "CET-1CEST,M3.5.0,M10.5.0/3", "2", turning_at!(1_893_452_400));
+    by_clocks!("summer in Sydney", "AEST-10AEDT,M10.1.0,M4.1.0/3", "2", turning_at!(1_893_416_400));
+    by_clocks!("an hour behind", "<-01>1", "2", turning_at!(1_893_459_600));
+    by_clocks!("12 hours and 34 minutes ahead", "<+1234>-12:34", "2", turning_at!(1_893_410_760));
+    by_clocks!("a minute less than a day ahead", "<+2359>-23:59", "2", turning_at!(1_893_369_660));
+    by_clocks!("a minute less than a day behind", "<-2359>23:59", "2", turning_at!(1_893_542_340));
 ];
 
 #[test]

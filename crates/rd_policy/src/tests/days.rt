@@ -1,7 +1,7 @@
 //! Days of moments, and their dates.
 
 use super::OPENING;
-use crate::{DateFault, OutOfRange, date_read, date_text, day_of, is_day};
+use crate::{DateFault, DayFault, Zone, ZoneFault, date_read, date_text, day_of, is_day};
 use rd_geometry::NoMemory;
 use std::alloc::Global;
 use std::process::Abort;
@@ -12,50 +12,80 @@ const BEFORE: i64 = 1_893_452_399;
 
 const AFTER: i64 = 1_893_452_400;
 
-/// Seconds, minutes ahead of UTC, and the day.
-type Moment = (i64, i32, Result<i32, OutOfRange>);
+/// The rule of central Europe.
+const CENTRAL: &str = "CET-1CEST,M3.5.0,M10.5.0/3";
 
-const NO_DAY: Result<i32, OutOfRange> = Err(OutOfRange);
+/// The last second before the first of July 2030, when clocks of central Europe are two hours ahead of UTC, and the
+/// first of that day.
+const SUMMER_BEFORE: i64 = 1_909_087_199;
+
+const SUMMER_AFTER: i64 = 1_909_087_200;
+
+/// The rule of Beirut, whose clocks change at midnight: on 2030-03-31 they pass from 00:00 to 01:00, so that this day
+/// loses its first hour, and as 2030-10-26 would end they go back to 23:00, so that this day gets an hour back.
+const BEIRUT: &str = "EET-2EEST,M3.5.0/0,M10.5.0/0";
+
+/// The rule of Santiago, whose clocks change as a Saturday ends: on 2030-04-06 they go back to 23:00, and 2030-09-08
+/// loses its first hour.
+const SANTIAGO: &str = "<-04>4<-03>,M9.1.6/24,M4.1.6/24";
+
+/// Seconds, a rule, and the day.
+type Moment = (i64, &'static str, Result<i32, DayFault>);
+
+const NO_DAY: Result<i32, DayFault> = Err(DayFault::OutOfRange);
 
 const MOMENTS: &[Moment] = table![
-    (0, 0, Ok(0));
-    (-1, 0, Ok(-1));
-    (86_399, 0, Ok(0));
-    (86_400, 0, Ok(1));
-    (BEFORE, 60, Ok(21_914));
-    (AFTER, 60, Ok(OPENING));
-    (AFTER, 0, Ok(21_914));
-    (0, 1_439, Ok(0));
-    (59, 1_439, Ok(0));
-    (60, 1_439, Ok(1));
-    (0, -1_439, Ok(-1));
-    (86_339, -1_439, Ok(-1));
-    (86_340, -1_439, Ok(0));
-    (-62_135_596_800, 0, Ok(-719_162));
-    (-62_135_683_140, 1_439, Ok(-719_162));
-    (253_402_300_799, 0, Ok(2_932_896));
-    (253_402_387_139, -1_439, Ok(2_932_896));
-    (0, 1_440, NO_DAY);
-    (0, -1_440, NO_DAY);
-    (0, i32::MAX, NO_DAY);
-    (0, i32::MIN, NO_DAY);
-    (i64::MAX, 60, NO_DAY);
-    (i64::MAX, 0, NO_DAY);
-    (i64::MAX, -1_439, NO_DAY);
-    (i64::MIN, -60, NO_DAY);
-    (i64::MIN, 1_439, NO_DAY);
-    (-62_135_596_801, 0, NO_DAY);
-    (-62_135_683_141, 1_439, NO_DAY);
-    (253_402_300_800, 0, NO_DAY);
-    (253_402_387_140, -1_439, NO_DAY);
+    (0, "UTC0", Ok(0));
+    (-1, "UTC0", Ok(-1));
+    (86_399, "UTC0", Ok(0));
+    (86_400, "UTC0", Ok(1));
+    (BEFORE, CENTRAL, Ok(21_914));
+    (AFTER, CENTRAL, Ok(OPENING));
+    (AFTER, "UTC0", Ok(21_914));
+    (SUMMER_BEFORE, CENTRAL, Ok(22_095));
+    (SUMMER_AFTER, CENTRAL, Ok(22_096));
+    (SUMMER_AFTER, "UTC0", Ok(22_095));
+    (1_901_138_399, BEIRUT, Ok(22_003));
+    (1_901_138_400, BEIRUT, Ok(22_004));
+    (1_901_221_199, BEIRUT, Ok(22_004));
+    (1_901_221_200, BEIRUT, Ok(22_005));
+    (1_919_278_799, BEIRUT, Ok(22_213));
+    (1_919_278_800, BEIRUT, Ok(22_213));
+    (1_919_282_399, BEIRUT, Ok(22_213));
+    (1_919_282_400, BEIRUT, Ok(22_214));
+    (1_901_761_199, SANTIAGO, Ok(22_010));
+    (1_901_761_200, SANTIAGO, Ok(22_010));
+    (1_901_764_799, SANTIAGO, Ok(22_010));
+    (1_901_764_800, SANTIAGO, Ok(22_011));
+    (1_915_070_399, SANTIAGO, Ok(22_164));
+    (1_915_070_400, SANTIAGO, Ok(22_165));
+    (59, "<+2359>-23:59", Ok(0));
+    (60, "<+2359>-23:59", Ok(1));
+    (86_339, "<-2359>23:59", Ok(-1));
+    (86_340, "<-2359>23:59", Ok(0));
+    (-62_135_424_000, "UTC0", Ok(-719_160));
+    (-62_135_424_000, "<west>24:59:59", Ok(-719_162));
+    (253_402_127_999, "UTC0", Ok(2_932_894));
+    (253_402_127_999, "<east>-24:59:59", Ok(2_932_896));
+    (-62_135_424_001, "UTC0", NO_DAY);
+    (-62_135_424_001, "<west>24:59:59", NO_DAY);
+    (253_402_128_000, "UTC0", NO_DAY);
+    (253_402_128_000, CENTRAL, NO_DAY);
+    (i64::MAX, CENTRAL, NO_DAY);
+    (i64::MIN, CENTRAL, NO_DAY);
 ];
 
+fn day_by(seconds: i64, rule: &str) -> Option<Result<i32, DayFault>> {
+    let zone = Zone::read(rule).ok()?;
+    Some(day_of(seconds, &zone))
+}
+
 fn assert_moments(rt: &impl Abort, cases: &[Moment]) {
-    for (seconds, minutes, day) in cases {
+    for (seconds, rule, day) in cases {
         assert_eq!(rt;
-            day_of(*seconds, *minutes),
-            *day,
-            "at {seconds} and {minutes}"
+            day_by(*seconds, *rule),
+            Some(*day),
+            "at {seconds} in {rule}"
         );
     }
 }
@@ -63,6 +93,58 @@ fn assert_moments(rt: &impl Abort, cases: &[Moment]) {
 #[test]
 fn moments_have_days(rt: HostRuntime) {
     assert_moments(&rt, MOMENTS);
+}
+
+/// Texts, and whether each is a rule.
+const RULES: &[(&str, bool)] = table![
+    ("UTC0", true);
+    (CENTRAL, true);
+    ("<+03>-3", true);
+    ("AEST-10AEDT,M10.1.0,M4.1.0/3", true);
+    ("EST5EDT,J60,J300", true);
+    ("EST5EDT,59,299/4", true);
+    ("WGT3WGST,M3.5.0/-2,M10.5.0/-1", true);
+    ("IST-2IDT,M3.4.4/26,M10.5.0", true);
+    ("ABC24:59:59", true);
+    ("ABCDEFGHIJKLMNO0", true);
+    ("ABCDEFGHIJKLMNOP0", false);
+    ("WGT3WGST,M3.5.0/-167,M10.5.0/167", true);
+    ("WGT3WGST,M3.5.0/-168,M10.5.0", false);
+    ("WGT3WGST,M3.5.0,M10.5.0/168", false);
+    ("ABC25", false);
+    ("", false);
+    ("25", false);
+    ("Z0", false);
+    ("UTC", false);
+    ("UTC0 ", false);
+    (" UTC0", false);
+    (":UTC0", false);
+    ("Europe/Prague", false);
+    ("EST5EDT", false);
+    ("EST5EDT,J0,J300", false);
+    ("EST5EDT,366,299", false);
+    ("EST5EDT,M13.1.0,M4.1.0", false);
+    ("ÉTÉ0", false);
+];
+
+fn fault_of(rule: &str) -> Option<ZoneFault> {
+    Zone::read(rule).err()
+}
+
+fn assert_rules(rt: &impl Abort, cases: &[(&str, bool)]) {
+    for (rule, is_rule) in cases {
+        let wanted = if *is_rule {
+            None
+        } else {
+            Some(ZoneFault::BadZone)
+        };
+        assert_eq!(rt; fault_of(*rule), wanted, "{rule:?}");
+    }
+}
+
+#[test]
+fn rules_are_read(rt: HostRuntime) {
+    assert_rules(&rt, RULES);
 }
 
 const DATES: &[(&str, i32)] = table![

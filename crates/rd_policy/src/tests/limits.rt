@@ -1,7 +1,7 @@
 //! Which values are within their limits, and other questions that yes or no answers.
 
 use super::{ALL, CLOSED, Files, NOT_STAFF, NewRule, OPEN, TAKEDOWN, rule_of, rules_of};
-use crate::{Audience, Audiences, Effect, in_order, is_day, is_offset, is_rank, is_scope};
+use crate::{Audience, Audiences, Effect, in_order, is_day, is_rank, is_scope};
 use rd_geometry::NoMemory;
 use std::alloc::Global;
 use std::process::Abort;
@@ -11,7 +11,6 @@ use std::test::Fail;
 #[derive(Clone, Copy)]
 enum Question {
     IsDay(i32),
-    IsOffset(i32),
     IsScope(u32),
     IsRank(u16),
     Fits(NewRule),
@@ -28,11 +27,6 @@ const NUMBERS: &[Case] = table![
     ("the first day", Question::IsDay(-719_162), true);
     ("the last day", Question::IsDay(2_932_896), true);
     ("the day after the last", Question::IsDay(2_932_897), false);
-    ("1,440 minutes behind UTC", Question::IsOffset(-1_440), false);
-    ("1,439 minutes behind UTC", Question::IsOffset(-1_439), true);
-    ("UTC", Question::IsOffset(0), true);
-    ("1,439 minutes ahead of UTC", Question::IsOffset(1_439), true);
-    ("1,440 minutes ahead of UTC", Question::IsOffset(1_440), false);
     ("number 0", Question::IsScope(0), false);
     ("number 1", Question::IsScope(1), true);
     ("number 999,999", Question::IsScope(999_999), true);
@@ -121,7 +115,6 @@ fn are_in_order(alloc: Global, rules: &[NewRule]) -> Result<bool, NoMemory> {
 fn answer(alloc: Global, question: Question) -> Result<bool, NoMemory> {
     match question {
         Question::IsDay(day) => Ok(is_day(day)),
-        Question::IsOffset(minutes) => Ok(is_offset(minutes)),
         Question::IsScope(number) => Ok(is_scope(number)),
         Question::IsRank(rank) => Ok(is_rank(rank)),
         Question::Fits(rule) => fits(alloc, rule),

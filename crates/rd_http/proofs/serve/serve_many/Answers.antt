@@ -1,6 +1,7 @@
 use Rattle.std.proofs.Common.{◌≡◌, ◌↔◌, Err, FitsSigned, IfSome, None, arith, rules, subst, sym, w64, ◌∙◌}
 use Rattle.std.proofs.lemmas.Int.{to_z-of_z}
-use Rattle.rd_policy.specs.Days.{HasDay, day_number}
+use Rattle.rd_policy.specs.Days.{HasDay}
+use Rattle.rd_policy.specs.Zones.{day_number}
 use Rattle.rd_store.specs.Held.{desk as tables}
 use Rattle.rd_store.proofs.Laws.{lasts_then}
 use Rattle.rd_http.specs.Runs.{HasRun, NoneLeft}
@@ -21,18 +22,17 @@ loop-served-preserved g c =
     let after = c.serve_one-ending.new.desk in
     let fits : FitsSigned w64 c.in-Ok.seconds = search rules in
     let back = to_z-of_z w64 c.in-Ok.seconds fits in
-    let minutes = c.args.desk.now.offset_minutes in
+    let zone = c.args.desk.now.zone in
     let served = subst (λ m. IfSome (g.D.Conn.Wire.incoming conn) (λ stream. Visits (IsAnswer g.S.Store stream before.store after.store (day_number c.in-Ok.seconds m)) before.store after.store
-    (g.D.Conn.Wire.outgoing conn) (g.D.Conn.Wire.outgoing left) c.serve_one-ending.result)) i.offset
-    (subst (λ s. IfSome (g.D.Conn.Wire.incoming conn) (λ stream. Visits (IsAnswer g.S.Store stream before.store after.store (day_number s before.offset_minutes)) before.store after.store
+    (g.D.Conn.Wire.outgoing conn) (g.D.Conn.Wire.outgoing left) c.serve_one-ending.result)) i.zone
+    (subst (λ s. IfSome (g.D.Conn.Wire.incoming conn) (λ stream. Visits (IsAnswer g.S.Store stream before.store after.store (day_number s before.zone)) before.store after.store
     (g.D.Conn.Wire.outgoing conn) (g.D.Conn.Wire.outgoing left) c.serve_one-ending.result)) back e.served) in
-    let clock = subst (λ m. (¬ (c.serve_one-ending.result ≡ Err Clock)) ↔ HasDay c.in-Ok.seconds m) i.offset
-    (subst (λ s. (¬ (c.serve_one-ending.result ≡ Err Clock)) ↔ HasDay s before.offset_minutes) back e.clock) in
-    let ran = if_told (λ told. HasRun (IsAnswer g.S.Store) minutes told (g.D.Door.told c.loop-served.door) (g.D.Door.coming c.args.door.now) (g.D.Door.coming c.loop-served.door) c.loop-served.served c.args.desk.now.store before.store)
-    (λ told. HasRun (IsAnswer g.S.Store) minutes told (g.D.Door.told c.leave.new.self) (g.D.Door.coming c.args.door.now) (g.D.Door.coming c.leave.new.self) c.with-served.result c.args.desk.now.store after.store)
+    let clock = subst (λ s. (¬ (c.serve_one-ending.result ≡ Err Clock)) ↔ HasDay s) back e.clock in
+    let ran = if_told (λ told. HasRun (IsAnswer g.S.Store) zone told (g.D.Door.told c.loop-served.door) (g.D.Door.coming c.args.door.now) (g.D.Door.coming c.loop-served.door) c.loop-served.served c.args.desk.now.store before.store)
+    (λ told. HasRun (IsAnswer g.S.Store) zone told (g.D.Door.told c.leave.new.self) (g.D.Door.coming c.args.door.now) (g.D.Door.coming c.leave.new.self) c.with-served.result c.args.desk.now.store after.store)
     (g.D.Door.told c.args.door.now) i.run (λ told run.
-    subst (λ s. HasRun (IsAnswer g.S.Store) minutes told (g.D.Door.told c.leave.new.self) (g.D.Door.coming c.args.door.now) (g.D.Door.coming c.leave.new.self) s c.args.desk.now.store after.store) (sym c.with-served.ensures)
-    (run_step (IsAnswer g.S.Store) minutes (g.D.Door.coming c.args.door.now) (g.D.Door.coming c.loop-served.door) (g.D.Door.coming c.admit.new.self) (g.D.Door.coming c.leave.new.self)
+    subst (λ s. HasRun (IsAnswer g.S.Store) zone told (g.D.Door.told c.leave.new.self) (g.D.Door.coming c.args.door.now) (g.D.Door.coming c.leave.new.self) s c.args.desk.now.store after.store) (sym c.with-served.ensures)
+    (run_step (IsAnswer g.S.Store) zone (g.D.Door.coming c.args.door.now) (g.D.Door.coming c.loop-served.door) (g.D.Door.coming c.admit.new.self) (g.D.Door.coming c.leave.new.self)
     told (g.D.Door.told c.loop-served.door) (g.D.Door.told c.admit.new.self) (g.D.Door.told c.leave.new.self) c.loop-served.served c.args.desk.now.store before.store after.store c.in-Ok.seconds
     (g.D.Conn.Wire.came conn) (g.D.Conn.Wire.incoming conn) (g.D.Conn.Wire.came left) (g.D.Conn.Wire.outgoing conn) (g.D.Conn.Wire.outgoing left) (g.D.Conn.Wire.take_failed left) (g.D.Conn.Wire.put_failed left)
     c.serve_one-ending.result run c.in-Ok.ensures.next c.leave.ensures.kept i.counting c.in-Ok.ensures.told c.in-Ok.ensures.whole c.in-Ok.ensures.tells served e.came c.leave.ensures.told
@@ -43,7 +43,7 @@ loop-served-preserved g c =
       counting = search rules;
       run = ran;
       lasts = lasts_then g.S.Store c.args.desk.now.store before.store after.store i.lasts e.lasts;
-      offset = e.offset ∙ i.offset;
+      zone = e.zone ∙ i.zone;
       door = search rules;
       heard = λ all. subst (λ (s : Served). s.read_faults ≡ 0) (sym c.with-served.ensures) (all_heard c.serve_one-ending.result c.loop-served.served (g.D.Conn.Wire.take_failed left) e.read (all left) (i.heard all));
     }
@@ -58,18 +58,17 @@ returns-then-eq-clause-run g c =
     let after = c.serve_one-ending.new.desk in
     let fits : FitsSigned w64 c.in-Ok.seconds = search rules in
     let back = to_z-of_z w64 c.in-Ok.seconds fits in
-    let minutes = c.args.desk.now.offset_minutes in
+    let zone = c.args.desk.now.zone in
     let served = subst (λ m. IfSome (g.D.Conn.Wire.incoming conn) (λ stream. Visits (IsAnswer g.S.Store stream before.store after.store (day_number c.in-Ok.seconds m)) before.store after.store
-    (g.D.Conn.Wire.outgoing conn) (g.D.Conn.Wire.outgoing left) c.serve_one-ending.result)) i.offset
-    (subst (λ s. IfSome (g.D.Conn.Wire.incoming conn) (λ stream. Visits (IsAnswer g.S.Store stream before.store after.store (day_number s before.offset_minutes)) before.store after.store
+    (g.D.Conn.Wire.outgoing conn) (g.D.Conn.Wire.outgoing left) c.serve_one-ending.result)) i.zone
+    (subst (λ s. IfSome (g.D.Conn.Wire.incoming conn) (λ stream. Visits (IsAnswer g.S.Store stream before.store after.store (day_number s before.zone)) before.store after.store
     (g.D.Conn.Wire.outgoing conn) (g.D.Conn.Wire.outgoing left) c.serve_one-ending.result)) back e.served) in
-    let clock = subst (λ m. (¬ (c.serve_one-ending.result ≡ Err Clock)) ↔ HasDay c.in-Ok.seconds m) i.offset
-    (subst (λ s. (¬ (c.serve_one-ending.result ≡ Err Clock)) ↔ HasDay s before.offset_minutes) back e.clock) in
-    let ran = if_told (λ told. HasRun (IsAnswer g.S.Store) minutes told (g.D.Door.told c.loop-served.door) (g.D.Door.coming c.args.door.now) (g.D.Door.coming c.loop-served.door) c.loop-served.served c.args.desk.now.store before.store)
-    (λ told. HasRun (IsAnswer g.S.Store) minutes told (g.D.Door.told c.leave.new.self) (g.D.Door.coming c.args.door.now) (g.D.Door.coming c.leave.new.self) c.with-served.result c.args.desk.now.store after.store)
+    let clock = subst (λ s. (¬ (c.serve_one-ending.result ≡ Err Clock)) ↔ HasDay s) back e.clock in
+    let ran = if_told (λ told. HasRun (IsAnswer g.S.Store) zone told (g.D.Door.told c.loop-served.door) (g.D.Door.coming c.args.door.now) (g.D.Door.coming c.loop-served.door) c.loop-served.served c.args.desk.now.store before.store)
+    (λ told. HasRun (IsAnswer g.S.Store) zone told (g.D.Door.told c.leave.new.self) (g.D.Door.coming c.args.door.now) (g.D.Door.coming c.leave.new.self) c.with-served.result c.args.desk.now.store after.store)
     (g.D.Door.told c.args.door.now) i.run (λ told run.
-    subst (λ s. HasRun (IsAnswer g.S.Store) minutes told (g.D.Door.told c.leave.new.self) (g.D.Door.coming c.args.door.now) (g.D.Door.coming c.leave.new.self) s c.args.desk.now.store after.store) (sym c.with-served.ensures)
-    (run_step (IsAnswer g.S.Store) minutes (g.D.Door.coming c.args.door.now) (g.D.Door.coming c.loop-served.door) (g.D.Door.coming c.admit.new.self) (g.D.Door.coming c.leave.new.self)
+    subst (λ s. HasRun (IsAnswer g.S.Store) zone told (g.D.Door.told c.leave.new.self) (g.D.Door.coming c.args.door.now) (g.D.Door.coming c.leave.new.self) s c.args.desk.now.store after.store) (sym c.with-served.ensures)
+    (run_step (IsAnswer g.S.Store) zone (g.D.Door.coming c.args.door.now) (g.D.Door.coming c.loop-served.door) (g.D.Door.coming c.admit.new.self) (g.D.Door.coming c.leave.new.self)
     told (g.D.Door.told c.loop-served.door) (g.D.Door.told c.admit.new.self) (g.D.Door.told c.leave.new.self) c.loop-served.served c.args.desk.now.store before.store after.store c.in-Ok.seconds
     (g.D.Conn.Wire.came conn) (g.D.Conn.Wire.incoming conn) (g.D.Conn.Wire.came left) (g.D.Conn.Wire.outgoing conn) (g.D.Conn.Wire.outgoing left) (g.D.Conn.Wire.take_failed left) (g.D.Conn.Wire.put_failed left)
     c.serve_one-ending.result run c.in-Ok.ensures.next c.leave.ensures.kept i.counting c.in-Ok.ensures.told c.in-Ok.ensures.whole c.in-Ok.ensures.tells served e.came c.leave.ensures.told
@@ -86,48 +85,47 @@ returns-then-eq-clause-replied g c is_open =
     let after = c.serve_one-ending.new.desk in
     let fits : FitsSigned w64 c.in-Ok.seconds = search rules in
     let back = to_z-of_z w64 c.in-Ok.seconds fits in
-    let minutes = c.args.desk.now.offset_minutes in
+    let zone = c.args.desk.now.zone in
     let served = subst (λ m. IfSome (g.D.Conn.Wire.incoming conn) (λ stream. Visits (IsAnswer g.S.Store stream before.store after.store (day_number c.in-Ok.seconds m)) before.store after.store
-    (g.D.Conn.Wire.outgoing conn) (g.D.Conn.Wire.outgoing left) c.serve_one-ending.result)) i.offset
-    (subst (λ s. IfSome (g.D.Conn.Wire.incoming conn) (λ stream. Visits (IsAnswer g.S.Store stream before.store after.store (day_number s before.offset_minutes)) before.store after.store
+    (g.D.Conn.Wire.outgoing conn) (g.D.Conn.Wire.outgoing left) c.serve_one-ending.result)) i.zone
+    (subst (λ s. IfSome (g.D.Conn.Wire.incoming conn) (λ stream. Visits (IsAnswer g.S.Store stream before.store after.store (day_number s before.zone)) before.store after.store
     (g.D.Conn.Wire.outgoing conn) (g.D.Conn.Wire.outgoing left) c.serve_one-ending.result)) back e.served) in
-    let clock = subst (λ m. (¬ (c.serve_one-ending.result ≡ Err Clock)) ↔ HasDay c.in-Ok.seconds m) i.offset
-    (subst (λ s. (¬ (c.serve_one-ending.result ≡ Err Clock)) ↔ HasDay s before.offset_minutes) back e.clock) in
-    let ran = if_told (λ told. HasRun (IsAnswer g.S.Store) minutes told (g.D.Door.told c.loop-served.door) (g.D.Door.coming c.args.door.now) (g.D.Door.coming c.loop-served.door) c.loop-served.served c.args.desk.now.store before.store)
-    (λ told. HasRun (IsAnswer g.S.Store) minutes told (g.D.Door.told c.leave.new.self) (g.D.Door.coming c.args.door.now) (g.D.Door.coming c.leave.new.self) c.with-served.result c.args.desk.now.store after.store)
+    let clock = subst (λ s. (¬ (c.serve_one-ending.result ≡ Err Clock)) ↔ HasDay s) back e.clock in
+    let ran = if_told (λ told. HasRun (IsAnswer g.S.Store) zone told (g.D.Door.told c.loop-served.door) (g.D.Door.coming c.args.door.now) (g.D.Door.coming c.loop-served.door) c.loop-served.served c.args.desk.now.store before.store)
+    (λ told. HasRun (IsAnswer g.S.Store) zone told (g.D.Door.told c.leave.new.self) (g.D.Door.coming c.args.door.now) (g.D.Door.coming c.leave.new.self) c.with-served.result c.args.desk.now.store after.store)
     (g.D.Door.told c.args.door.now) i.run (λ told run.
-    subst (λ s. HasRun (IsAnswer g.S.Store) minutes told (g.D.Door.told c.leave.new.self) (g.D.Door.coming c.args.door.now) (g.D.Door.coming c.leave.new.self) s c.args.desk.now.store after.store) (sym c.with-served.ensures)
-    (run_step (IsAnswer g.S.Store) minutes (g.D.Door.coming c.args.door.now) (g.D.Door.coming c.loop-served.door) (g.D.Door.coming c.admit.new.self) (g.D.Door.coming c.leave.new.self)
+    subst (λ s. HasRun (IsAnswer g.S.Store) zone told (g.D.Door.told c.leave.new.self) (g.D.Door.coming c.args.door.now) (g.D.Door.coming c.leave.new.self) s c.args.desk.now.store after.store) (sym c.with-served.ensures)
+    (run_step (IsAnswer g.S.Store) zone (g.D.Door.coming c.args.door.now) (g.D.Door.coming c.loop-served.door) (g.D.Door.coming c.admit.new.self) (g.D.Door.coming c.leave.new.self)
     told (g.D.Door.told c.loop-served.door) (g.D.Door.told c.admit.new.self) (g.D.Door.told c.leave.new.self) c.loop-served.served c.args.desk.now.store before.store after.store c.in-Ok.seconds
     (g.D.Conn.Wire.came conn) (g.D.Conn.Wire.incoming conn) (g.D.Conn.Wire.came left) (g.D.Conn.Wire.outgoing conn) (g.D.Conn.Wire.outgoing left) (g.D.Conn.Wire.take_failed left) (g.D.Conn.Wire.put_failed left)
     c.serve_one-ending.result run c.in-Ok.ensures.next c.leave.ensures.kept i.counting c.in-Ok.ensures.told c.in-Ok.ensures.whole c.in-Ok.ensures.tells served e.came c.leave.ensures.told
     (record { read = e.read; write = e.write; clock = clock }))) in
-    if_told (λ told. HasRun (IsAnswer g.S.Store) minutes told (g.D.Door.told c.leave.new.self) (g.D.Door.coming c.args.door.now) (g.D.Door.coming c.leave.new.self) c.with-served.result c.args.desk.now.store after.store)
-    (λ told. HasRun IsReplied minutes told (g.D.Door.told c.leave.new.self) (g.D.Door.coming c.args.door.now) (g.D.Door.coming c.leave.new.self) c.with-served.result (tables g.S.Store c.args.desk.now.store) (tables g.S.Store after.store))
+    if_told (λ told. HasRun (IsAnswer g.S.Store) zone told (g.D.Door.told c.leave.new.self) (g.D.Door.coming c.args.door.now) (g.D.Door.coming c.leave.new.self) c.with-served.result c.args.desk.now.store after.store)
+    (λ told. HasRun IsReplied zone told (g.D.Door.told c.leave.new.self) (g.D.Door.coming c.args.door.now) (g.D.Door.coming c.leave.new.self) c.with-served.result (tables g.S.Store c.args.desk.now.store) (tables g.S.Store after.store))
     (g.D.Door.told c.args.door.now) ran (λ told run.
-    run_replied g.S.Store minutes (g.D.Door.coming c.args.door.now) (g.D.Door.coming c.leave.new.self) told (g.D.Door.told c.leave.new.self) c.with-served.result c.args.desk.now.store after.store run is_open)
+    run_replied g.S.Store zone (g.D.Door.coming c.args.door.now) (g.D.Door.coming c.leave.new.self) told (g.D.Door.told c.leave.new.self) c.with-served.result c.args.desk.now.store after.store run is_open)
 
 pub returns-in_default-clause-replied : goal.returns-in_default-clause-replied
 returns-in_default-clause-replied g c is_open =
     let i = c.loop-served.invariant in
     let served = c.loop-served.served in
-    let minutes = c.args.desk.now.offset_minutes in
-    if_told (λ told. HasRun (IsAnswer g.S.Store) minutes told (g.D.Door.told c.loop-served.door) (g.D.Door.coming c.args.door.now) (g.D.Door.coming c.loop-served.door) served c.args.desk.now.store c.loop-served.desk.store)
-    (λ told. HasRun IsReplied minutes told (g.D.Door.told c.admit.new.self) (g.D.Door.coming c.args.door.now) (g.D.Door.coming c.admit.new.self)
+    let zone = c.args.desk.now.zone in
+    if_told (λ told. HasRun (IsAnswer g.S.Store) zone told (g.D.Door.told c.loop-served.door) (g.D.Door.coming c.args.door.now) (g.D.Door.coming c.loop-served.door) served c.args.desk.now.store c.loop-served.desk.store)
+    (λ told. HasRun IsReplied zone told (g.D.Door.told c.admit.new.self) (g.D.Door.coming c.args.door.now) (g.D.Door.coming c.admit.new.self)
     (record { visits = served.visits; read_faults = served.read_faults; write_faults = served.write_faults; ended = ended.Shut }) (tables g.S.Store c.args.desk.now.store) (tables g.S.Store c.loop-served.desk.store))
     (g.D.Door.told c.args.door.now) i.run (λ told run.
-    run_replied g.S.Store minutes (g.D.Door.coming c.args.door.now) (g.D.Door.coming c.admit.new.self) told (g.D.Door.told c.admit.new.self) _ c.args.desk.now.store c.loop-served.desk.store
-    (run_shut (IsAnswer g.S.Store) minutes (g.D.Door.coming c.args.door.now) (g.D.Door.coming c.loop-served.door) (g.D.Door.coming c.admit.new.self) told (g.D.Door.told c.loop-served.door) (g.D.Door.told c.admit.new.self)
+    run_replied g.S.Store zone (g.D.Door.coming c.args.door.now) (g.D.Door.coming c.admit.new.self) told (g.D.Door.told c.admit.new.self) _ c.args.desk.now.store c.loop-served.desk.store
+    (run_shut (IsAnswer g.S.Store) zone (g.D.Door.coming c.args.door.now) (g.D.Door.coming c.loop-served.door) (g.D.Door.coming c.admit.new.self) told (g.D.Door.told c.loop-served.door) (g.D.Door.told c.admit.new.self)
     served c.args.desk.now.store c.loop-served.desk.store run (search rules) i.counting c.in_default.ensures.told) is_open)
 
 pub returns-clause-replied : goal.returns-clause-replied
 returns-clause-replied g c is_open =
     let i = c.loop-served.invariant in
-    let minutes = c.args.desk.now.offset_minutes in
-    if_told (λ told. HasRun (IsAnswer g.S.Store) minutes told (g.D.Door.told c.loop-served.door) (g.D.Door.coming c.args.door.now) (g.D.Door.coming c.loop-served.door) c.loop-served.served c.args.desk.now.store c.loop-served.desk.store)
-    (λ told. HasRun IsReplied minutes told (g.D.Door.told c.loop-served.door) (g.D.Door.coming c.args.door.now) (g.D.Door.coming c.loop-served.door) c.loop-served.served (tables g.S.Store c.args.desk.now.store) (tables g.S.Store c.loop-served.desk.store))
+    let zone = c.args.desk.now.zone in
+    if_told (λ told. HasRun (IsAnswer g.S.Store) zone told (g.D.Door.told c.loop-served.door) (g.D.Door.coming c.args.door.now) (g.D.Door.coming c.loop-served.door) c.loop-served.served c.args.desk.now.store c.loop-served.desk.store)
+    (λ told. HasRun IsReplied zone told (g.D.Door.told c.loop-served.door) (g.D.Door.coming c.args.door.now) (g.D.Door.coming c.loop-served.door) c.loop-served.served (tables g.S.Store c.args.desk.now.store) (tables g.S.Store c.loop-served.desk.store))
     (g.D.Door.told c.args.door.now) i.run (λ told run.
-    run_replied g.S.Store minutes (g.D.Door.coming c.args.door.now) (g.D.Door.coming c.loop-served.door) told (g.D.Door.told c.loop-served.door) c.loop-served.served c.args.desk.now.store c.loop-served.desk.store run is_open)
+    run_replied g.S.Store zone (g.D.Door.coming c.args.door.now) (g.D.Door.coming c.loop-served.door) told (g.D.Door.told c.loop-served.door) c.loop-served.served c.args.desk.now.store c.loop-served.desk.store run is_open)
 
 pub returns-then-eq-clause-heard : goal.returns-then-eq-clause-heard
 returns-then-eq-clause-heard g c all =
@@ -138,5 +136,5 @@ pub returns-in_default-clause-last : goal.returns-in_default-clause-last
 returns-in_default-clause-last g c shut unshut =
     let i = c.loop-served.invariant in
     if_told _ (λ told. told.under_way ≡ None → NoneLeft (g.D.Door.coming c.admit.new.self)) (g.D.Door.told c.args.door.now) i.run (λ told run quiet.
-    none_left (IsAnswer g.S.Store) c.args.desk.now.offset_minutes (g.D.Door.coming c.args.door.now) (g.D.Door.coming c.loop-served.door) (g.D.Door.coming c.admit.new.self) told (g.D.Door.told c.loop-served.door)
+    none_left (IsAnswer g.S.Store) c.args.desk.now.zone (g.D.Door.coming c.args.door.now) (g.D.Door.coming c.loop-served.door) (g.D.Door.coming c.admit.new.self) told (g.D.Door.told c.loop-served.door)
     c.loop-served.served c.args.desk.now.store c.loop-served.desk.store run (search rules) quiet (c.in_default.ensures.last (i.door ∙ unshut) (search rules)))

@@ -10,9 +10,9 @@ invariant-loop-served g l = record {
   visits : l.served.visits ≤ l.count;
   faults : l.served.read_faults + l.served.write_faults ≤ l.served.visits;
   counting : l.served.ended ≡ Count;
-  run : IfSome (g.D.Door.told l.fn.door) (λ told. HasRun (IsAnswer g.S.Store) l.fn.desk.offset_minutes told (g.D.Door.told l.door) (g.D.Door.coming l.fn.door) (g.D.Door.coming l.door) l.served l.fn.desk.store l.desk.store);
+  run : IfSome (g.D.Door.told l.fn.door) (λ told. HasRun (IsAnswer g.S.Store) l.fn.desk.zone told (g.D.Door.told l.door) (g.D.Door.coming l.fn.door) (g.D.Door.coming l.door) l.served l.fn.desk.store l.desk.store);
   lasts : Lasts g.S.Store l.fn.desk.store l.desk.store;
-  offset : l.desk.offset_minutes ≡ l.fn.desk.offset_minutes;
+  zone : l.desk.zone ≡ l.fn.desk.zone;
   door : g.D.Door.has_shut l.door ≡ g.D.Door.has_shut l.fn.door;
   heard : ((conn : _) → g.D.Conn.Wire.take_failed conn ≡ false) → l.served.read_faults ≡ 0;
 }

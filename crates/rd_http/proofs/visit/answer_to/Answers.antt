@@ -1,6 +1,6 @@
 use Rattle.std.proofs.Common.{inl, refl, subst, w64}
 use Rattle.std.proofs.lemmas.Int.{to_z-of_z}
-use Rattle.rd_policy.specs.Days.{day_number}
+use Rattle.rd_policy.specs.Zones.{day_number}
 use Rattle.rd_desk.specs.Served.{Serves}
 use Rattle.rd_http.specs.Asked.{request, fault}
 use Rattle.rd_http.proofs.visit.answer_to.Goals as goal
@@ -8,7 +8,7 @@ use Rattle.rd_http.proofs.visit.answer_to.Goals as goal
 pub returns-in-Request-clause-answers : goal.returns-in-Request-clause-answers
 returns-in-Request-clause-answers g c stream is =
     let serves =
-    subst (λ seconds. Serves g.S.Store c.args.desk.now.store c.answer.new.self.store (day_number seconds c.args.desk.now.offset_minutes) c.in-Request.request c.answer.result)
+    subst (λ seconds. Serves g.S.Store c.args.desk.now.store c.answer.new.self.store (day_number seconds c.args.desk.now.zone) c.in-Request.request c.answer.result)
     (to_z-of_z w64 c.args.seconds c.ranges.seconds) c.answer.ensures.serves in
     inl (request c.in-Request.request, rw c.in-Request.is at is, (c.answer.result, serves, refl))
 

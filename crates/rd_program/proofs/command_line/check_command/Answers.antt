@@ -16,7 +16,7 @@ returns-clause-shape c =
     c.in_ok-arg-3.ensures.shape c.accession_option.ensures.local ∙ ap₂ with_rule key c.accession_option.ensures.rule in
     let moment : app_of c.in_ok-arg-4.field-0 ≡ with_rule (with_rule (with_rule (with_rule (new_app (codes "check")) store_rule) key_rule) accession_rule) moment_rule =
     c.in_ok-arg-4.ensures.shape c.moment_option.ensures.local ∙ ap₂ with_rule accession c.moment_option.ensures.rule in
-    IfOk-weaker c.arg-5.result _ _ (λ check adds. adds.shape c.offset_option.ensures.local ∙ ap₂ with_rule moment c.offset_option.ensures.rule) c.arg-5.ensures
+    IfOk-weaker c.arg-5.result _ _ (λ check adds. adds.shape c.zone_option.ensures.local ∙ ap₂ with_rule moment c.zone_option.ensures.rule) c.arg-5.ensures
 
 pub returns-clause-local : goal.returns-clause-local
 returns-clause-local c =
@@ -25,4 +25,4 @@ returns-clause-local c =
     let key : (fields_of c.in_ok-arg-2.field-0).has_globals ≡ false = c.in_ok-arg-2.ensures.globals ∙ ap₂ ◌||◌ store c.key_option.ensures.local in
     let accession : (fields_of c.in_ok-arg-3.field-0).has_globals ≡ false = c.in_ok-arg-3.ensures.globals ∙ ap₂ ◌||◌ key c.accession_option.ensures.local in
     let moment : (fields_of c.in_ok-arg-4.field-0).has_globals ≡ false = c.in_ok-arg-4.ensures.globals ∙ ap₂ ◌||◌ accession c.moment_option.ensures.local in
-    IfOk-weaker c.arg-5.result _ _ (λ check adds. adds.globals ∙ ap₂ ◌||◌ moment c.offset_option.ensures.local) c.arg-5.ensures
+    IfOk-weaker c.arg-5.result _ _ (λ check adds. adds.globals ∙ ap₂ ◌||◌ moment c.zone_option.ensures.local) c.arg-5.ensures

@@ -14,7 +14,7 @@ returns-clause-shape c =
     c.in_ok-arg-2.ensures.shape c.port_option.ensures.local ∙ ap₂ with_rule store c.port_option.ensures.rule in
     let count : app_of c.in_ok-arg-3.field-0 ≡ with_rule (with_rule (with_rule (new_app (codes "serve")) store_rule) port_rule) count_rule =
     c.in_ok-arg-3.ensures.shape c.count_option.ensures.local ∙ ap₂ with_rule port c.count_option.ensures.rule in
-    IfOk-weaker c.arg-4.result _ _ (λ serve adds. adds.shape c.offset_option.ensures.local ∙ ap₂ with_rule count c.offset_option.ensures.rule) c.arg-4.ensures
+    IfOk-weaker c.arg-4.result _ _ (λ serve adds. adds.shape c.zone_option.ensures.local ∙ ap₂ with_rule count c.zone_option.ensures.rule) c.arg-4.ensures
 
 pub returns-clause-local : goal.returns-clause-local
 returns-clause-local c =
@@ -22,4 +22,4 @@ returns-clause-local c =
     let store : (fields_of c.in_ok-arg.field-0).has_globals ≡ false = c.in_ok-arg.ensures.globals ∙ ap₂ ◌||◌ bare c.store_option.ensures.local in
     let port : (fields_of c.in_ok-arg-2.field-0).has_globals ≡ false = c.in_ok-arg-2.ensures.globals ∙ ap₂ ◌||◌ store c.port_option.ensures.local in
     let count : (fields_of c.in_ok-arg-3.field-0).has_globals ≡ false = c.in_ok-arg-3.ensures.globals ∙ ap₂ ◌||◌ port c.count_option.ensures.local in
-    IfOk-weaker c.arg-4.result _ _ (λ serve adds. adds.globals ∙ ap₂ ◌||◌ count c.offset_option.ensures.local) c.arg-4.ensures
+    IfOk-weaker c.arg-4.result _ _ (λ serve adds. adds.globals ∙ ap₂ ◌||◌ count c.zone_option.ensures.local) c.arg-4.ensures

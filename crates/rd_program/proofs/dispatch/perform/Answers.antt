@@ -79,10 +79,10 @@ pub returns-in-File-clause-not_made : goal.returns-in-File-clause-not_made
 returns-in-File-clause-not_made g c = λ store key asked. absurd (subst (IsInitAsk store key) c.in-File.is asked)
 
 pub returns-in-File-clause-served : goal.returns-in-File-clause-served
-returns-in-File-clause-served g c = λ store port count minutes asked. absurd (subst (IsServeAsk store port count minutes) c.in-File.is asked)
+returns-in-File-clause-served g c = λ store port count rule asked. absurd (subst (IsServeAsk store port count rule) c.in-File.is asked)
 
 pub returns-in-File-clause-not_served : goal.returns-in-File-clause-not_served
-returns-in-File-clause-not_served g c = λ store port count minutes asked. absurd (subst (IsServeAsk store port count minutes) c.in-File.is asked)
+returns-in-File-clause-not_served g c = λ store port count rule asked. absurd (subst (IsServeAsk store port count rule) c.in-File.is asked)
 
 pub returns-in-Files-clause-made : goal.returns-in-Files-clause-made
 returns-in-Files-clause-made g c = λ store key asked. absurd (subst (IsInitAsk store key) c.in-Files.is asked)
@@ -91,16 +91,16 @@ pub returns-in-Files-clause-not_made : goal.returns-in-Files-clause-not_made
 returns-in-Files-clause-not_made g c = λ store key asked. absurd (subst (IsInitAsk store key) c.in-Files.is asked)
 
 pub returns-in-Files-clause-served : goal.returns-in-Files-clause-served
-returns-in-Files-clause-served g c = λ store port count minutes asked. absurd (subst (IsServeAsk store port count minutes) c.in-Files.is asked)
+returns-in-Files-clause-served g c = λ store port count rule asked. absurd (subst (IsServeAsk store port count rule) c.in-Files.is asked)
 
 pub returns-in-Files-clause-not_served : goal.returns-in-Files-clause-not_served
-returns-in-Files-clause-not_served g c = λ store port count minutes asked. absurd (subst (IsServeAsk store port count minutes) c.in-Files.is asked)
+returns-in-Files-clause-not_served g c = λ store port count rule asked. absurd (subst (IsServeAsk store port count rule) c.in-Files.is asked)
 
 pub returns-in-Init-clause-served : goal.returns-in-Init-clause-served
-returns-in-Init-clause-served g c = λ store port count minutes asked. absurd (subst (IsServeAsk store port count minutes) c.in-Init.is asked)
+returns-in-Init-clause-served g c = λ store port count rule asked. absurd (subst (IsServeAsk store port count rule) c.in-Init.is asked)
 
 pub returns-in-Init-clause-not_served : goal.returns-in-Init-clause-not_served
-returns-in-Init-clause-not_served g c = λ store port count minutes asked. absurd (subst (IsServeAsk store port count minutes) c.in-Init.is asked)
+returns-in-Init-clause-not_served g c = λ store port count rule asked. absurd (subst (IsServeAsk store port count rule) c.in-Init.is asked)
 
 pub returns-in-Serve-clause-made : goal.returns-in-Serve-clause-made
 returns-in-Serve-clause-made g c = λ store key asked. absurd (subst (IsInitAsk store key) c.in-Serve.is asked)
@@ -122,15 +122,15 @@ returns-in-Init-clause-not_made g c = λ store key asked.
     (left_as _ (g.M.Machine.stands c.args.machine.now) (g.M.Machine.left c.init.new.machine) c.init.result _ store _ key asks.store_is asks.key_is c.init.ensures.left))
 
 pub returns-in-Serve-clause-served : goal.returns-in-Serve-clause-served
-returns-in-Serve-clause-served g c = λ store port count minutes asked.
-    let asks : AsksVisits c.in-Serve.ask store port count minutes = subst (IsServeAsk store port count minutes) c.in-Serve.is asked in
+returns-in-Serve-clause-served g c = λ store port count rule asked.
+    let asks : AsksVisits c.in-Serve.ask store port count rule = subst (IsServeAsk store port count rule) c.in-Serve.is asked in
     ok_whole _ c.serve.result c.whole-in-Serve.result c.whole-in-Serve.ensures (subst (λ n. OnOk c.serve.result (Appends (g.W.Write.contents c.args.output.now) (g.W.Write.contents c.serve.new.output) (serve_text port n))) asks.count_is
     (subst (λ p. OnOk c.serve.result (Appends (g.W.Write.contents c.args.output.now) (g.W.Write.contents c.serve.new.output) (serve_text p c.in-Serve.ask.count))) asks.port_is
     c.serve.ensures.done))
 
 pub returns-in-Serve-clause-not_served : goal.returns-in-Serve-clause-not_served
-returns-in-Serve-clause-not_served g c = λ store port count minutes asked.
-    let asks : AsksVisits c.in-Serve.ask store port count minutes = subst (IsServeAsk store port count minutes) c.in-Serve.is asked in
+returns-in-Serve-clause-not_served g c = λ store port count rule asked.
+    let asks : AsksVisits c.in-Serve.ask store port count rule = subst (IsServeAsk store port count rule) c.in-Serve.is asked in
     err_whole _ c.serve.result c.whole-in-Serve.result c.whole-in-Serve.ensures (subst (λ n. IfErr c.serve.result (λ refusal. RefusesServe refusal port n (g.W.Write.contents c.args.output.now) (g.W.Write.contents c.serve.new.output))) asks.count_is
     (subst (λ p. IfErr c.serve.result (λ refusal. RefusesServe refusal p c.in-Serve.ask.count (g.W.Write.contents c.args.output.now) (g.W.Write.contents c.serve.new.output))) asks.port_is
     c.serve.ensures.refused))
@@ -154,10 +154,10 @@ pub returns-in-Import-clause-not_made : goal.returns-in-Import-clause-not_made
 returns-in-Import-clause-not_made g c = λ store key asked. absurd (subst (IsInitAsk store key) c.in-Import.is asked)
 
 pub returns-in-Import-clause-served : goal.returns-in-Import-clause-served
-returns-in-Import-clause-served g c = λ store port count minutes asked. absurd (subst (IsServeAsk store port count minutes) c.in-Import.is asked)
+returns-in-Import-clause-served g c = λ store port count rule asked. absurd (subst (IsServeAsk store port count rule) c.in-Import.is asked)
 
 pub returns-in-Import-clause-not_served : goal.returns-in-Import-clause-not_served
-returns-in-Import-clause-not_served g c = λ store port count minutes asked. absurd (subst (IsServeAsk store port count minutes) c.in-Import.is asked)
+returns-in-Import-clause-not_served g c = λ store port count rule asked. absurd (subst (IsServeAsk store port count rule) c.in-Import.is asked)
 
 pub returns-in-File-clause-imported : goal.returns-in-File-clause-imported
 returns-in-File-clause-imported g c = λ tells. absurd (subst TellsInRows c.in-File.is tells)
@@ -214,10 +214,10 @@ pub returns-in-Once-clause-not_made : goal.returns-in-Once-clause-not_made
 returns-in-Once-clause-not_made g c = λ store key asked. absurd (subst (IsInitAsk store key) c.in-Once.is asked)
 
 pub returns-in-Once-clause-served : goal.returns-in-Once-clause-served
-returns-in-Once-clause-served g c = λ store port count minutes asked. absurd (subst (IsServeAsk store port count minutes) c.in-Once.is asked)
+returns-in-Once-clause-served g c = λ store port count rule asked. absurd (subst (IsServeAsk store port count rule) c.in-Once.is asked)
 
 pub returns-in-Once-clause-not_served : goal.returns-in-Once-clause-not_served
-returns-in-Once-clause-not_served g c = λ store port count minutes asked. absurd (subst (IsServeAsk store port count minutes) c.in-Once.is asked)
+returns-in-Once-clause-not_served g c = λ store port count rule asked. absurd (subst (IsServeAsk store port count rule) c.in-Once.is asked)
 
 pub returns-in-Once-clause-imported : goal.returns-in-Once-clause-imported
 returns-in-Once-clause-imported g c = λ asked. absurd (subst TellsInRows c.in-Once.is asked)

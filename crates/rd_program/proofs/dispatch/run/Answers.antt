@@ -7,7 +7,7 @@ use Rattle.rd_program.specs.Serving.{serve_text}
 use Rattle.rd_program.specs.Told.{Tells}
 use Rattle.rd_program.specs.Versions.{RefusesVersion}
 use Rattle.rd_program.specs.declared.refusal.Refusal.TheVariants.{NoMemory}
-use Rattle.rd_program.proofs.Asked.{help_asked}
+use Rattle.rd_program.proofs.Asked.{help_asked, no_fault_in}
 use Rattle.std.proofs.KnownBytes.{Keeps-refl}
 use Rattle.rd_program.proofs.Answered.{check_asks, check_of_desk, export_asks, export_is_whole}
 use Rattle.rd_program.proofs.Imported.{done_lines, import_tells, in_part_is_one, not_in_rows, one_is_some, rows_of, rows_tell}
@@ -166,8 +166,8 @@ pub returns-in-Ok-perform-clause-made : goal.returns-in-Ok-perform-clause-made
 returns-in-Ok-perform-clause-made g c = λ zero store key asked. c.in-Ok-perform.ensures.made store key (c.in-Ok.ensures.read.init store key asked)
 
 pub returns-in-Ok-perform-clause-served : goal.returns-in-Ok-perform-clause-served
-returns-in-Ok-perform-clause-served g c = λ zero store port count minutes asked.
-    c.in-Ok-perform.ensures.served store port count minutes (c.in-Ok.ensures.read.serve store port count minutes asked)
+returns-in-Ok-perform-clause-served g c = λ zero store port count rule asked.
+    c.in-Ok-perform.ensures.served store port count rule (c.in-Ok.ensures.read.serve store port count rule asked)
 
 pub returns-in-Err-perform-clause-made : goal.returns-in-Err-perform-clause-made
 returns-in-Err-perform-clause-made g c = λ zero. absurd (not_done c.in-Err-perform.refused (sym c.tell_refusal.ensures.status ∙ zero))
@@ -181,8 +181,8 @@ pub returns-in-Err-perform-clause-served : goal.returns-in-Err-perform-clause-se
 returns-in-Err-perform-clause-served g c = λ zero. absurd (not_done c.in-Err-perform.refused (sym c.tell_refusal.ensures.status ∙ zero))
 
 pub returns-in-Err-perform-clause-serve_told : goal.returns-in-Err-perform-clause-serve_told
-returns-in-Err-perform-clause-serve_told g c = λ some store port count minutes asked.
-    tells _ c.in-Err-perform.refused _ _ _ (c.in-Err-perform.ensures.not_served store port count minutes (c.in-Ok.ensures.read.serve store port count minutes asked))
+returns-in-Err-perform-clause-serve_told g c = λ some store port count rule asked.
+    tells _ c.in-Err-perform.refused _ _ _ (c.in-Err-perform.ensures.not_served store port count rule (c.in-Ok.ensures.read.serve store port count rule asked))
     c.tell_refusal.ensures.status c.tell_refusal.ensures.told
 
 pub returns-in-Err-clause-made : goal.returns-in-Err-clause-made
@@ -197,13 +197,13 @@ returns-in-Err-clause-init_told g c = λ some store key asked.
     tells _ NoMemory _ _ _ ((memory.1, inr (inr refl)), tt) memory.0 (c.tell_unread.ensures.no_memory none)
 
 pub returns-in-Err-clause-served : goal.returns-in-Err-clause-served
-returns-in-Err-clause-served g c = λ zero store port count minutes asked.
-    let memory = c.tell_unread.ensures.memory (c.in-Err.ensures.unread (inr (inr (inr (inl (store, port, count, minutes, asked)))))) in
+returns-in-Err-clause-served g c = λ zero store port count rule asked.
+    let memory = c.tell_unread.ensures.memory (c.in-Err.ensures.unread (inr (inr (inr (inl (store, port, count, rule, asked)))))) in
     let three : c.tell_unread.result ≡ 3 = memory.0 in absurd (omega arith)
 
 pub returns-in-Err-clause-serve_told : goal.returns-in-Err-clause-serve_told
-returns-in-Err-clause-serve_told g c = λ some store port count minutes asked.
-    let none = c.in-Err.ensures.unread (inr (inr (inr (inl (store, port, count, minutes, asked))))) in
+returns-in-Err-clause-serve_told g c = λ some store port count rule asked.
+    let none = c.in-Err.ensures.unread (inr (inr (inr (inl (store, port, count, rule, asked))))) in
     let memory = c.tell_unread.ensures.memory none in
     tells _ NoMemory _ _ _ (none_written _ _ (serve_text port count) memory.1) memory.0 (c.tell_unread.ensures.no_memory none)
 
@@ -240,8 +240,8 @@ returns-in-Ok-perform-clause-init_told g c = λ some store key asked.
     absurd (not_in_rows _ c.in-Ok.ask c.in-Ok.ensures.read (c.in-Ok-perform.ensures.in_part (c.status.ensures.in_part some)) (inr (inr (inl (store, key, asked)))))
 
 pub returns-in-Ok-perform-clause-serve_told : goal.returns-in-Ok-perform-clause-serve_told
-returns-in-Ok-perform-clause-serve_told g c = λ some store port count minutes asked.
-    absurd (not_in_rows _ c.in-Ok.ask c.in-Ok.ensures.read (c.in-Ok-perform.ensures.in_part (c.status.ensures.in_part some)) (inr (inr (inr (store, port, count, minutes, asked)))))
+returns-in-Ok-perform-clause-serve_told g c = λ some store port count rule asked.
+    absurd (not_in_rows _ c.in-Ok.ask c.in-Ok.ensures.read (c.in-Ok-perform.ensures.in_part (c.status.ensures.in_part some)) (inr (inr (inr (store, port, count, rule, asked)))))
 
 pub returns-in-Ok-perform-clause-usage : goal.returns-in-Ok-perform-clause-usage
 returns-in-Ok-perform-clause-usage g c = λ two. absurd (omega (arith, c.status.ensures.most, two))
@@ -363,4 +363,30 @@ returns-in-Err-clause-version_told g c = λ some asks. elim (c.in-Err.ensures.ve
   | inr shown ↦ let told = c.tell_unread.ensures.version shown some in
       subst (λ s. Tells (RefusesVersion (g.W.Write.contents c.args.output.now) (g.W.Write.contents c.tell_unread.new.output)) s (g.E.Write.contents c.args.errors.now)
       (g.E.Write.contents c.tell_unread.new.errors)) (sym told.0) told.1
+]
+
+pub returns-in-Ok-perform-clause-zone : goal.returns-in-Ok-perform-clause-zone
+returns-in-Ok-perform-clause-zone g c = λ well. c.in-Ok.ensures.zone
+
+pub returns-in-Err-perform-clause-zone : goal.returns-in-Err-perform-clause-zone
+returns-in-Err-perform-clause-zone g c = λ well. c.in-Ok.ensures.zone
+
+pub returns-in-Err-clause-zone : goal.returns-in-Err-clause-zone
+returns-in-Err-clause-zone g c = λ well name rows enters clocks.
+    let zero : c.tell_unread.result ≡ 0 = omega (arith, c.tell_unread.ensures.not_refused, well) in
+    absurd (elim (c.tell_unread.ensures.shown zero) as (λ _. ⊥) [
+      | inl help ↦ no_fault_in _ name rows _ enters (help_asked _ c.in-Err.unread help c.in-Err.ensures.told)
+      | inr version ↦ no_fault_in _ name rows _ enters (version_asked _ c.in-Err.unread version.0 c.in-Err.ensures.told)
+    ])
+
+pub returns-in-Ok-perform-clause-no_rule : goal.returns-in-Ok-perform-clause-no_rule
+returns-in-Ok-perform-clause-no_rule g c = λ none. absurd (none c.in-Ok.ensures.zone)
+
+pub returns-in-Err-perform-clause-no_rule : goal.returns-in-Err-perform-clause-no_rule
+returns-in-Err-perform-clause-no_rule g c = λ none. absurd (none c.in-Ok.ensures.zone)
+
+pub returns-in-Err-clause-no_rule : goal.returns-in-Err-clause-no_rule
+returns-in-Err-clause-no_rule g c = λ none. elim (c.in-Err.ensures.no_rule none) [
+  | inl usage ↦ inl (c.tell_unread.ensures.mistaken usage)
+  | inr memory ↦ inr (tells (λ refusal. refusal ≡ NoMemory) NoMemory _ _ _ refl (c.tell_unread.ensures.memory memory).0 (c.tell_unread.ensures.no_memory memory))
 ]

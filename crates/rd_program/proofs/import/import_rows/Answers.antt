@@ -1,4 +1,4 @@
-use Rattle.std.proofs.Common.{◌∙◌, rules, subst, sym}
+use Rattle.std.proofs.Common.{rules, subst, sym}
 use Rattle.rd_program.specs.Importing.{IsDoneLine, TellsRows}
 use Rattle.rd_program.specs.declared.done.Done.TheVariants.{Whole}
 use Rattle.rd_program.proofs.Imported.{ends_at_row, ends_between, no_rows, rows_more}
@@ -19,7 +19,6 @@ returns-in_err-row-clause-refused g c =
 
 pub loop-number-preserved : goal.loop-number-preserved
 loop-number-preserved g c = record {
-  offset = c.in_ok-row.ensures.offset ∙ c.loop-number.invariant.offset;
   told = subst (TellsRows (g.W.Write.contents c.args.output.now) (g.W.Write.contents c.import_fields.new.output)) (sym c.and-done.ensures)
       (rows_more c.loop-number.done c.in_ok-row.row _ _ _ c.loop-number.invariant.told c.in_ok-row.ensures.told);
 }

@@ -1,9 +1,7 @@
-use Rattle.std.proofs.Common.{◌≡◌}
 use Rattle.rd_program.specs.Importing.{TellsRows}
 use Rattle.rd_program.proofs.import.import_rows.Given as goal
 
 abbrev pub invariant-loop-number : goal.invariant-loop-number
 invariant-loop-number g l = record {
-  offset : l.desk.offset_minutes ≡ l.fn.desk.offset_minutes;
   told : TellsRows (g.W.Write.contents l.fn.output) (g.W.Write.contents l.output) l.done;
 }

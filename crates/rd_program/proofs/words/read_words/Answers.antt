@@ -1,7 +1,9 @@
-use Rattle.std.proofs.Common.{◌≡◌, map}
+use Rattle.std.proofs.Common.{◌≡◌, ◌∙◌, inl, inr, map, refl, subst, sym}
 use Rattle.clap.specs.Words.{app_of, subcommand_rows_of}
+use Rattle.rd_program.specs.Asks.{IsFaultOf}
+use Rattle.rd_program.specs.Commands.{TellsARule}
 use Rattle.rd_program.specs.declared.words.Unread.TheVariants.{NoMemory, Usage}
-use Rattle.rd_program.proofs.Asked.{GivesRows, ask_given, ask_offset, ask_read, ask_unread, fails_for_memory, taken_on_output, words_at_fault, words_taken}
+use Rattle.rd_program.proofs.Asked.{GivesRows, ask_given, ask_accession, ask_read, ask_unread, entered_is, fails_for_memory, no_fault_in, rule_read, taken_on_output, unread_usage, words_at_fault, words_taken}
 use Rattle.rd_program.proofs.VersionLine.{version_not_parsed, version_unread}
 use Rattle.rd_program.proofs.words.read_words.Goals as goal
 
@@ -12,8 +14,8 @@ returns-in-Ok-clause-read c =
     ask_read c.ask_found.result Usage c.ok_or.result words c.ok_or.ensures.value
     (ask_given c.ask_found.result (app_of c.in_ok-desk.desk) words c.in-Ok.matches c.in_ok-desk.ensures c.in-Ok.ensures.matches rows)
 
-pub returns-in-Ok-clause-offset : goal.returns-in-Ok-clause-offset
-returns-in-Ok-clause-offset c = ask_offset c.ask_found.result Usage c.ok_or.result c.ok_or.ensures.value c.ask_found.ensures.offset
+pub returns-in-Ok-clause-accession : goal.returns-in-Ok-clause-accession
+returns-in-Ok-clause-accession c = ask_accession c.ask_found.result Usage c.ok_or.result c.ok_or.ensures.value c.ask_found.ensures.accession
 
 pub returns-in-Ok-clause-unread : goal.returns-in-Ok-clause-unread
 returns-in-Ok-clause-unread c =
@@ -44,3 +46,22 @@ returns-in-Ok-clause-version c = version_not_parsed c.ok_or.result _ (app_of c.i
 pub returns-in-Err-clause-version : goal.returns-in-Err-clause-version
 returns-in-Err-clause-version c =
     version_unread (app_of c.in_ok-desk.desk) _ c.in-Err.error c.from.result c.in_ok-desk.ensures c.in-Err.ensures.kinds c.from.ensures.0 c.from.ensures.1
+
+pub returns-in-Ok-clause-zone : goal.returns-in-Ok-clause-zone
+returns-in-Ok-clause-zone c =
+    let words = map (λ word. word.now) c.args.words.now in
+    let app = app_of c.in_ok-desk.desk in
+    rule_read words (subcommand_rows_of c.in-Ok.matches) c.ask_found.result Usage c.ok_or.result c.ok_or.ensures.value c.ask_found.ensures.zone (λ found name rows enters clocks.
+    found name rows (sym (entered_is app words c.in-Ok.matches c.in_ok-desk.ensures c.in-Ok.ensures.matches) ∙ enters.into app c.in_ok-desk.ensures) clocks)
+
+pub returns-in-Ok-clause-no_rule : goal.returns-in-Ok-clause-no_rule
+returns-in-Ok-clause-no_rule c = unread_usage (TellsARule (map (λ word. word.now) c.args.words.now) → ⊥) c.ask_found.result c.ok_or.result c.ok_or.ensures.value
+
+pub returns-in-Err-clause-no_rule : goal.returns-in-Err-clause-no_rule
+returns-in-Err-clause-no_rule c =
+    let words = map (λ word. word.now) c.args.words.now in
+    let wrong = words_at_fault (app_of c.in_ok-desk.desk) _ c.in-Err.error c.from.result c.in_ok-desk.ensures c.in-Err.ensures.kinds c.from.ensures.0 c.from.ensures.1 in
+    λ none. elim c.from.ensures.1 [
+      | inl memory ↦ inr memory
+      | inr told ↦ absurd (none (λ name rows enters clocks. absurd (no_fault_in words name rows _ enters (subst (IsFaultOf words) told wrong))))
+    ]

@@ -1,0 +1,21 @@
+-- The zone of a desk's clocks, as the words of a command tell it.
+use Rattle.std.specs.Prelude.{◌≡◌, ◌⊎◌, ℕ, List, None, Option, Some, codes}
+use Rattle.clap.specs.Words.{Row, first_of}
+use Rattle.rd_policy.specs.Zones.{IsZoneRule}
+
+-- the rule that a text gives; where no text is given the clocks are those of UTC
+abbrev pub rule_text : Option (List ℕ) → List ℕ
+rule_text (Some text) = text
+rule_text None = codes "UTC0"
+
+-- the text, or its absence, tells this rule
+abbrev pub IsRuleTold : Option (List ℕ) → List ℕ → Type 0
+IsRuleTold told rule = (rule ≡ rule_text told) × IsZoneRule rule
+
+-- what `clap` found for a command has a rule for its clocks
+abbrev pub HasZoneRule : List Row → Type 0
+HasZoneRule rows = IsZoneRule (rule_text (first_of (codes "zone") rows))
+
+-- the command of this name has an option for the zone of a desk's clocks
+abbrev pub HasClocks : List ℕ → Type 0
+HasClocks name = (name ≡ codes "serve") ⊎ ((name ≡ codes "import") ⊎ ((name ≡ codes "export") ⊎ (name ≡ codes "check")))
