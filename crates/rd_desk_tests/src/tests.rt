@@ -12,17 +12,11 @@ macro_rules! table {
 
 mod bodies;
 mod cases;
-mod catalogue;
 mod checks;
-mod done;
-mod hidden;
 mod images;
 mod limits;
-mod refusals;
 mod refused;
 mod requests;
 mod rows;
-mod rules;
 mod state;
-mod surveys;
 mod texts;

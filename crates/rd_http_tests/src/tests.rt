@@ -49,13 +49,6 @@ macro_rules! catalogue {
     };
 }
 
-/// The reply where a path has these methods alone.
-macro_rules! allows {
-    ($methods:literal) => {
-        Wanted::Json("405 Method Not Allowed", concat!("Allow: ", $methods, "\r\n"), r#"{"error":"method"}"#)
-    };
-}
-
 /// How a run of visits went.
 macro_rules! served {
     ($visits:literal, $read_faults:literal, $write_faults:literal, $ended:ident) => {
@@ -68,15 +61,10 @@ macro_rules! served {
     };
 }
 
-mod bodies;
 mod cases;
 mod fakes;
 mod faults;
-mod heads;
-mod order;
 mod refused;
-mod routes;
-mod rows;
 mod runs;
 mod state;
 mod tcp;

@@ -3,10 +3,7 @@ mod creating;
 mod files;
 mod found;
 mod images;
-mod inconsistent;
-mod index;
 mod keys;
-mod opening;
 mod refused;
 mod rules;
 mod steps;
@@ -149,16 +146,6 @@ const SHELVE: &[Step<'static>] = &[
     Step::Does(Call::PutImage(15, CPM), DONE),
 ];
 
-/// Puts deed 7, and images 13 and 16 under it, which have three files each.
-const CROWD: &[Step<'static>] = &[
-    Step::Does(Call::PutDeed(7, "A. Curator", 18_020), DONE),
-    Step::Does(Call::PutImage(13, (Picture::Mixed, 7, Digest::Other)), DONE),
-    Step::Does(
-        Call::PutImage(16, (Picture::Crossed, 7, Digest::Program)),
-        DONE,
-    ),
-];
-
 /// Puts deeds 7 and 8, a key for the room, two rules of deed 7, and image 12 under it.
 const FILL: &[Step<'static>] = &[
     Step::Does(Call::PutDeed(7, "A. Curator", 18_020), DONE),
@@ -211,13 +198,6 @@ fn filled(rt: &impl Abort, alloc: Global) -> Result<Desk, Fail> {
 fn shelved(rt: &impl Abort, alloc: Global) -> Result<Desk, Fail> {
     let mut desk = new_desk(alloc)?;
     assert_steps(rt, alloc, &mut desk, "images", SHELVE)?;
-    Ok(desk)
-}
-
-/// A new desk with two images of three files each.
-fn crowded(rt: &impl Abort, alloc: Global) -> Result<Desk, Fail> {
-    let mut desk = new_desk(alloc)?;
-    assert_steps(rt, alloc, &mut desk, "images of several files", CROWD)?;
     Ok(desk)
 }
 

@@ -22,21 +22,13 @@ pub(super) enum Wanted {
 /// Who asks, by the desk key, at which moment, for what, and the reply that is wanted.
 pub(super) type Visit = (Key, i64, Ask, Wanted);
 
-/// Whether the tables are afterwards as they were before.
-#[derive(Clone, Copy, PartialEq, Eq)]
-pub(super) enum Tables {
-    Same,
-    Changed,
-}
-
-/// Visits of a desk.
+/// Visits of a desk, which leave its tables as they were.
 #[derive(Clone, Copy)]
 pub(super) struct Case {
     pub(super) label: &'static str,
     /// What the staff has done before, beside what a desk is given.
     pub(super) before: &'static [Ask],
     pub(super) visits: &'static [Visit],
-    pub(super) tables: Tables,
 }
 
 pub(super) const DONE: Wanted = Wanted::Json(200, r#"{"done":true}"#);
@@ -51,17 +43,7 @@ pub(super) const NO_ACCESSION: Wanted = Wanted::Json(404, r#"{"error":"no-access
 
 pub(super) const NO_FILE: Wanted = Wanted::Json(404, r#"{"error":"no-file"}"#);
 
-pub(super) const NO_DEED: Wanted = Wanted::Json(404, r#"{"error":"no-deed"}"#);
-
-pub(super) const LISTED_ONLY: Wanted = Wanted::Json(422, r#"{"error":"listed-only"}"#);
-
 pub(super) const LOOPED: Wanted = Wanted::Json(422, r#"{"error":"faulty","faults":["loop"]}"#);
-
-pub(super) const WRONG_SIZE: Wanted = Wanted::Json(422, r#"{"error":"wrong-size"}"#);
-
-pub(super) const DIGEST_DIFFERS: Wanted = Wanted::Json(422, r#"{"error":"digest-differs"}"#);
-
-pub(super) const CONFLICT: Wanted = Wanted::Json(409, r#"{"error":"conflict"}"#);
 
 /// Where memory or the store fails.
 pub(super) const UNAVAILABLE: Wanted = Wanted::Json(503, r#"{"error":"unavailable"}"#);
@@ -245,17 +227,18 @@ fn rows_of(alloc: Global, desk: Memory) -> Result<String, Fail> {
     tables_of(alloc, &mut conn)
 }
 
-/// The visits of a case get the replies that are wanted, and the tables stay or change.
+/// The visits of a case get the replies that are wanted, and the tables stay.
 fn assert_case(rt: &impl Abort, alloc: Global, case: &Case) -> Result<(), Fail> {
     let label = case.label;
     let mut kept = desk_with(rt, alloc, label, case.before)?;
     let mut desk = desk_with(rt, alloc, label, case.before)?;
     assert_visits(rt, alloc, &mut desk, label, case.visits)?;
-    if case.tables == Tables::Same {
-        assert_alike(rt, alloc, &mut kept, &mut desk, label)?;
-    }
-    let same = rows_of(alloc, kept)? == rows_of(alloc, desk)?;
-    assert_eq!(rt; same, case.tables == Tables::Same, "{label}: the tables");
+    assert_alike(rt, alloc, &mut kept, &mut desk, label)?;
+    assert_eq!(rt;
+        rows_of(alloc, desk)?,
+        rows_of(alloc, kept)?,
+        "{label}: the tables"
+    );
     Ok(())
 }
 

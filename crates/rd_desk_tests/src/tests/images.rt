@@ -4,9 +4,9 @@ use rd_geometry::{Kind, NoMemory};
 use rd_rows::bytes::put;
 use rd_rows::cbm::{
     DIRECTORY, NewCbmEntry, PROGRAM, crossed, formatted, full, looped, mixed, one_program,
-    put_block, put_cbm_entry,
+    put_cbm_entry,
 };
-use rd_rows::cpm::{FILE, NewEntry, filled, hello, with_entries};
+use rd_rows::cpm::{NewEntry, filled, hello, with_entries};
 use std::alloc::Global;
 
 /// Bytes that are written over those of an image, each from a place on.
@@ -25,21 +25,14 @@ pub(super) enum Picture {
     Crossed,
     /// A 1541 disk with the relative file `DATA`, a separator, and `LOST`, which was never closed.
     Mixed,
-    /// A 1541 disk with the relative file `DATA`, whose two chains share a block.
-    CrossedData,
     /// A 1541 disk with two empty programs, whose names have a quotation mark and a backslash.
     Quoted,
     /// A CP/M disk with `HELLO.TXT` of one record.
     Hello,
-    /// A CP/M disk with three empty files: one whose name has a dot and a per cent sign, and one of user 0
-    /// and one of user 3 that are both `A.B`.
-    Dotted,
     /// A CP/M disk whose bytes are all 1.
     Ones,
     /// The disk with the program `HELLO`, with these bytes over its own.
     Altered(Patches),
-    /// A 1541 disk with these entries from slot 0 on, of which eight are taken, and then these bytes.
-    Cbm(&'static [NewCbmEntry<'static>], Patches),
     /// A 1541 disk with the program `LONG`, which has all blocks that files can have, with these bytes over its own.
     Full(Patches),
     /// A CP/M disk with these entries from slot 0 on, and then these bytes.
@@ -87,26 +80,6 @@ pub(super) const QUOTED_18: NewImage =
 pub(super) const ONES_19: NewImage =
     like!(NewImage, HELLO_15, acc: 19, bytes: Picture::Ones, digest: Picture::Ones);
 
-pub(super) const CROSSED_DATA_20: NewImage =
-    like!(NewImage, PROGRAM_12, acc: 20, bytes: Picture::CrossedData, digest: Picture::CrossedData);
-
-pub(super) const DOTTED_21: NewImage =
-    like!(NewImage, HELLO_15, acc: 21, bytes: Picture::Dotted, digest: Picture::Dotted);
-
-/// The entry of a relative file with a chain of data from 17/0 and one of side sectors from 17/1.
-const DATA: NewCbmEntry<'static> =
-    like!(NewCbmEntry, PROGRAM, type_byte: 0x84, name: b"DATA", side: (17, 1), record_length: 10, size: 2);
-
-/// A disk with the relative file `DATA`, both of whose chains lead from their first block to 17/5.
-fn crossed_data(alloc: Global) -> Result<Vec<u8>, NoMemory> {
-    let mut image = formatted(alloc)?;
-    put_cbm_entry(&mut image, DIRECTORY, 0, &DATA);
-    put_block(&mut image, 336, &[17, 5]);
-    put_block(&mut image, 337, &[17, 5]);
-    put_block(&mut image, 341, &[0, 2]);
-    Ok(image)
-}
-
 const QUOTE: NewCbmEntry<'static> = like!(NewCbmEntry, PROGRAM, name: b"HI\xa0\"");
 
 const BACKSLASH: NewCbmEntry<'static> = like!(NewCbmEntry, PROGRAM, name: b"A\\B", first: (17, 1));
@@ -118,12 +91,6 @@ fn quoted(alloc: Global) -> Result<Vec<u8>, NoMemory> {
     Ok(image)
 }
 
-const DOTTED: &[NewEntry<'static>] = &[
-    like!(NewEntry, FILE, name: b"A.B%", extension: b"\xc3"),
-    like!(NewEntry, FILE, name: b"A", extension: b"B"),
-    like!(NewEntry, FILE, user: 3, name: b"A", extension: b"B"),
-];
-
 pub(super) fn put_patches(image: &mut [u8], patches: &[(usize, &[u8])]) {
     for (place, bytes) in patches {
         put(image, *place, *bytes);
@@ -132,21 +99,6 @@ pub(super) fn put_patches(image: &mut [u8], patches: &[(usize, &[u8])]) {
 
 fn altered(alloc: Global, patches: &[(usize, &[u8])]) -> Result<Vec<u8>, NoMemory> {
     let mut image = one_program(alloc)?;
-    put_patches(&mut image, patches);
-    Ok(image)
-}
-
-fn with_cbm_entries(
-    alloc: Global,
-    entries: &[NewCbmEntry<'_>],
-    patches: &[(usize, &[u8])],
-) -> Result<Vec<u8>, NoMemory> {
-    let mut image = formatted(alloc)?;
-    for slot in 0..8 {
-        if let Some(entry) = entries.get(slot as usize) {
-            put_cbm_entry(&mut image, DIRECTORY, slot, entry);
-        }
-    }
     put_patches(&mut image, patches);
     Ok(image)
 }
@@ -180,13 +132,10 @@ pub(super) fn bytes_of(alloc: Global, picture: Picture) -> Result<Vec<u8>, NoMem
         Picture::Looped => looped(alloc),
         Picture::Crossed => crossed(alloc),
         Picture::Mixed => mixed(alloc),
-        Picture::CrossedData => crossed_data(alloc),
         Picture::Quoted => quoted(alloc),
         Picture::Hello => hello(alloc),
-        Picture::Dotted => with_entries(alloc, DOTTED),
         Picture::Ones => filled(alloc, 1),
         Picture::Altered(patches) => altered(alloc, patches),
-        Picture::Cbm(entries, patches) => with_cbm_entries(alloc, entries, patches),
         Picture::Full(patches) => full_with(alloc, patches),
         Picture::Cpm(entries, patches) => with_cpm_entries(alloc, entries, patches),
     }

@@ -1,13 +1,13 @@
-//! Which requests, offsets and moments are within their limits.
+//! Which requests are within their limits, and which moments have days.
 
 use super::images::{NewImage, PROGRAM_12, Picture};
 use super::requests::{Ask, Files, NewRule, PUBLIC, digest_of, digest_of_picture, request_of};
 use super::state::{
-    AFTER, BEFORE, CLOSED, OPEN, OPENING, STAFF_DIGEST, TAKEDOWN, create, new_connection,
+    AFTER, BEFORE, CENTRAL, CLOSED, OPEN, OPENING, STAFF_DIGEST, TAKEDOWN, create, new_connection,
 };
 use rd_desk::{Desk, Request, What};
 use rd_geometry::{NoMemory, Text};
-use rd_policy::{Audience, Audiences, Band, Effect, OutOfRange};
+use rd_policy::{Audience, Audiences, Band, DayFault, Effect, Zone};
 use rd_store::Store;
 use sqlite::MemStore;
 use std::alloc::Global;
@@ -153,20 +153,17 @@ fn donors_have_a_thousand_bytes_at_most(rt: HostRuntime) -> Result<(), Fail> {
     assert_donors(&rt, rt.alloc(), DONORS)
 }
 
-/// An offset in minutes, and the days of moments by it; `None` where no desk has that offset.
-type Clock = (i32, Option<&'static [(i64, Result<i32, OutOfRange>)]>);
+/// A rule, and the days of moments by the clocks of its zone.
+type Clock = (&'static str, &'static [(i64, Result<i32, DayFault>)]);
 
-const NO_DAY: Result<i32, OutOfRange> = Err(OutOfRange);
+const NO_DAY: Result<i32, DayFault> = Err(DayFault::OutOfRange);
 
 const CLOCKS: &[Clock] = table![
-    (1_440, None);
-    (-1_440, None);
-    (i32::MAX, None);
-    (i32::MIN, None);
-    (60, Some(&[(BEFORE, Ok(21_914)), (AFTER, Ok(21_915)), (i64::MAX, NO_DAY), (i64::MIN, NO_DAY)]));
-    (0, Some(&[(AFTER, Ok(21_914)), (-1, Ok(-1)), (0, Ok(0))]));
-    (1_439, Some(&[(59, Ok(0)), (60, Ok(1)), (-62_135_683_140, Ok(-719_162)), (-62_135_683_141, NO_DAY)]));
-    (-1_439, Some(&[(86_339, Ok(-1)), (86_340, Ok(0)), (253_402_387_139, Ok(2_932_896)), (253_402_387_140, NO_DAY)]));
+    (CENTRAL, &[(BEFORE, Ok(21_914)), (AFTER, Ok(21_915)), (253_402_128_000, NO_DAY), (i64::MAX, NO_DAY), (i64::MIN, NO_DAY)]);
+    (CENTRAL, &[(1_909_087_199, Ok(22_095)), (1_909_087_200, Ok(22_096))]);
+    ("UTC0", &[(AFTER, Ok(21_914)), (1_909_087_200, Ok(22_095)), (-1, Ok(-1)), (0, Ok(0))]);
+    ("<+2359>-23:59", &[(59, Ok(0)), (60, Ok(1)), (-62_135_424_000, Ok(-719_160)), (-62_135_424_001, NO_DAY)]);
+    ("<-2359>23:59", &[(86_339, Ok(-1)), (86_340, Ok(0)), (253_402_127_999, Ok(2_932_894)), (253_402_128_000, NO_DAY)]);
 ];
 
 fn new_store(rt: &impl Abort, alloc: Global) -> Result<Store<MemStore>, Fail> {
@@ -176,18 +173,15 @@ fn new_store(rt: &impl Abort, alloc: Global) -> Result<Store<MemStore>, Fail> {
     }
 }
 
-fn assert_days(rt: &impl Abort, desk: &Desk<MemStore>, days: &[(i64, Result<i32, OutOfRange>)]) {
+fn assert_days(rt: &impl Abort, desk: &Desk<MemStore>, days: &[(i64, Result<i32, DayFault>)]) {
     for (seconds, wanted) in days {
         assert_eq!(rt; desk.day(*seconds), *wanted, "at {seconds}");
     }
 }
 
-fn assert_clock(rt: &impl Abort, alloc: Global, (offset, days): Clock) -> Result<(), Fail> {
-    let desk = Desk::new(new_store(rt, alloc)?, offset);
-    assert_eq!(rt; desk.is_ok(), days.is_some(), "offset {offset}");
-    if let (Ok(desk), Some(days)) = (desk, days) {
-        assert_days(rt, &desk, days);
-    }
+fn assert_clock(rt: &impl Abort, alloc: Global, (rule, days): Clock) -> Result<(), Fail> {
+    let desk = Desk::new(new_store(rt, alloc)?, Zone::read(rule)?);
+    assert_days(rt, &desk, days);
     Ok(())
 }
 

@@ -31,12 +31,6 @@ pub(super) const NOT_STAFF: Audiences = Audiences {
     staff: false,
 };
 
-pub(super) const ROOM_ALONE: Audiences = Audiences {
-    public: false,
-    room: true,
-    staff: false,
-};
-
 /// The files that a rule speaks of.
 #[derive(Clone, Copy)]
 pub(super) enum Files {

@@ -2,8 +2,8 @@
 
 use super::cases::{
     ALL_OF_12, Case, FILE_OF_12, HELLO, LOOPED, NO_ACCESSION, NO_FILE, NO_FILES, NO_IMAGES,
-    NO_RULE, NONE_OF_12, NONE_OF_13, ONE_IMAGE, RECORD, SURVEY_OF_12, TAKEN_DOWN, Tables,
-    UNTIL_2030, Visit, Wanted, assert_cases, assert_visits,
+    NO_RULE, NONE_OF_12, NONE_OF_13, ONE_IMAGE, RECORD, SURVEY_OF_12, TAKEN_DOWN, UNTIL_2030,
+    Visit, Wanted, assert_cases, assert_visits,
 };
 use super::images::{
     CROSSED_17, HELLO_15, LOOPED_14, MIXED_16, NewImage, ONES_19, PROGRAM_12, PROGRAM_13, Picture,
@@ -33,7 +33,6 @@ const AUDIENCES: &[Case] = &[
         label: "a deed that opens in 2030",
         before: &[],
         visits: OPENING,
-        tables: Tables::Same,
     },
     Case {
         label: "the reading room and the staff",
@@ -50,7 +49,6 @@ const AUDIENCES: &[Case] = &[
             (STAFF, BEFORE, Ask::Listing(12), ALL_OF_12),
             (ROOM, AFTER, Ask::Listing(12), ALL_OF_12),
         ],
-        tables: Tables::Same,
     },
     Case {
         label: "a takedown for all but the staff",
@@ -65,7 +63,6 @@ const AUDIENCES: &[Case] = &[
             (PUBLIC, AFTER, Ask::Images, NO_IMAGES),
             (STAFF, AFTER, Ask::Images, ONE_IMAGE),
         ],
-        tables: Tables::Same,
     },
     Case {
         label: "a deed without rules",
@@ -78,7 +75,6 @@ const AUDIENCES: &[Case] = &[
             (PUBLIC, AFTER, Ask::Images, ONE_IMAGE),
             (STAFF, AFTER, Ask::Images, ONE_IMAGE),
         ],
-        tables: Tables::Same,
     },
 ];
 
@@ -102,7 +98,6 @@ const DISKS: &[Case] = &[
             (PUBLIC, AFTER, Ask::Listing(14), ALL_OF_14),
             (PUBLIC, AFTER, Ask::Images, BOTH_IMAGES),
         ],
-        tables: Tables::Same,
     },
     Case {
         label: "a CP/M disk",
@@ -112,13 +107,11 @@ const DISKS: &[Case] = &[
             (PUBLIC, AFTER, Ask::Bytes(15, 0), RECORD),
             (PUBLIC, AFTER, Ask::Bytes(15, 1), NO_FILE),
         ],
-        tables: Tables::Same,
     },
     Case {
         label: "files that are not served",
         before: &[Ask::PutImage(MIXED_16)],
         visits: &[(ROOM, AFTER, Ask::Listing(16), ALL_OF_16)],
-        tables: Tables::Same,
     },
     Case {
         label: "files that share a block, and one of which is taken down",
@@ -130,7 +123,6 @@ const DISKS: &[Case] = &[
             (STAFF, AFTER, Ask::Images, THREE_FILES_OF_17),
             (PUBLIC, AFTER, Ask::Bytes(17, 2), Wanted::File(&[("XY", 1)])),
         ],
-        tables: Tables::Same,
     },
 ];
 
@@ -187,7 +179,6 @@ const TEXTS: &[Case] = &[
             (PUBLIC, AFTER, Ask::Listing(18), ALL_OF_18),
             (PUBLIC, AFTER, Ask::Bytes(18, 0), Wanted::File(&[])),
         ],
-        tables: Tables::Same,
     },
     Case {
         label: "a file with several faults",
@@ -196,7 +187,6 @@ const TEXTS: &[Case] = &[
             (PUBLIC, AFTER, Ask::Listing(19), ALL_OF_19),
             (PUBLIC, AFTER, Ask::Bytes(19, 0), ALL_FAULTS_OF_19),
         ],
-        tables: Tables::Same,
     },
     Case {
         label: "images by accession",
@@ -206,7 +196,6 @@ const TEXTS: &[Case] = &[
             (PUBLIC, AFTER, Ask::Bytes(999_999, 0), HELLO),
             (PUBLIC, AFTER, Ask::Bytes(1, 0), RECORD),
         ],
-        tables: Tables::Same,
     },
     Case {
         label: "a takedown that lists where the deed has no rule",
@@ -216,7 +205,6 @@ const TEXTS: &[Case] = &[
             (PUBLIC, AFTER, Ask::Bytes(13, 0), LISTED_BY_TAKEDOWN),
             (PUBLIC, BEFORE, Ask::Images, IMAGE_13),
         ],
-        tables: Tables::Same,
     },
 ];
 

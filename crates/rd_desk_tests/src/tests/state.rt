@@ -7,7 +7,7 @@ use super::images::PROGRAM_12;
 use super::requests::{ALL, Ask, Files, Key, NOT_STAFF, NewRule, STAFF, request_of};
 use rd_desk::{Desk, Reply, Request};
 use rd_geometry::NoMemory;
-use rd_policy::{Audience, Band, Effect};
+use rd_policy::{Audience, Band, Effect, Zone};
 use rd_store::{Refused, Store};
 use sqlite::{Connection, Error, MemStore, Row};
 use std::alloc::Global;
@@ -17,20 +17,14 @@ use std::test::Fail;
 /// A desk in memory.
 pub(super) type Memory = Desk<MemStore>;
 
-/// By how many minutes its clocks are ahead of UTC.
-const OFFSET: i32 = 60;
+/// The rule of its clocks, those of central Europe.
+pub(super) const CENTRAL: &str = "CET-1CEST,M3.5.0,M10.5.0/3";
 
 /// The last second of 2029 by these clocks.
 pub(super) const BEFORE: i64 = 1_893_452_399;
 
 /// The first second of 2030 by these clocks.
 pub(super) const AFTER: i64 = 1_893_452_400;
-
-/// The last second of 2030-01-01.
-pub(super) const THAT_NIGHT: i64 = AFTER + 86_399;
-
-/// The first second of 2030-01-02.
-pub(super) const NEXT_DAY: i64 = AFTER + 86_400;
 
 /// The first day of 2030.
 pub(super) const OPENING: i32 = 21_915;
@@ -107,7 +101,7 @@ fn open(
 
 /// The desk over a store.
 pub(super) fn desk_over(store: Store<MemStore>) -> Result<Memory, Fail> {
-    Ok(Desk::new(store, OFFSET)?)
+    Ok(Desk::new(store, Zone::read(CENTRAL)?))
 }
 
 pub(super) fn into_connection(desk: Memory) -> Connection<MemStore> {

@@ -3,8 +3,8 @@
 use super::state::{AFTER, Memory, add_visit, new_desk, new_door, out_of, run};
 use rd_geometry::NoMemory;
 use rd_http::{Ended, MemoryDoor, Served};
-use rd_rows::cbm::{looped, one_program};
-use rd_rows::cpm::{hello, two_extents};
+use rd_rows::cbm::one_program;
+use rd_rows::cpm::two_extents;
 use std::alloc::Global;
 use std::process::Abort;
 use std::test::Fail;
@@ -12,14 +12,7 @@ use std::test::Fail;
 /// A desk key as its holder knows it; the public has none.
 pub(super) type Key = Option<&'static str>;
 
-pub(super) const PUBLIC: Key = None;
-
-pub(super) const ROOM: Key = Some("hello");
-
 pub(super) const STAFF: Key = Some("abc");
-
-/// A key that is in no table.
-pub(super) const NOBODY: Key = Some("nobody");
 
 /// Texts, each so many times.
 pub(super) type Texts = &'static [(&'static str, usize)];
@@ -29,12 +22,6 @@ pub(super) type Texts = &'static [(&'static str, usize)];
 pub(super) enum Picture {
     /// A 1541 disk with the program `HELLO` of 258 bytes.
     Program,
-    /// The same without its last byte.
-    Cut,
-    /// A 1541 disk with the program `LOOP`, whose chain does not end.
-    Looped,
-    /// A CP/M disk with `HELLO.TXT` of one record.
-    Record,
     /// A CP/M disk with `FILE` of 128 records, each of other bytes.
     Extent,
 }
@@ -43,8 +30,6 @@ pub(super) enum Picture {
 #[derive(Clone, Copy)]
 pub(super) enum Came {
     Text(&'static str),
-    Texts(Texts),
-    Bytes(&'static [u8]),
     /// A request: its method and its path, the desk key, and the body.
     Asked(&'static str, Key, &'static str),
     /// A request of the staff: its method and its path, and the image that is its body.
@@ -64,8 +49,6 @@ pub(super) type Visit = (&'static str, i64, Came, Wanted);
 
 pub(super) const DONE: Wanted = reply!("200 OK", r#"{"done":true}"#);
 
-pub(super) const NO_IMAGES: Wanted = reply!("200 OK", r#"{"images":[]}"#);
-
 pub(super) const BAD_HEAD: Wanted = reply!("400 Bad Request", r#"{"error":"bad-head"}"#);
 
 pub(super) const FRAMING: Wanted = reply!("400 Bad Request", r#"{"error":"framing"}"#);
@@ -76,27 +59,7 @@ pub(super) const NO_ROUTE: Wanted = reply!("404 Not Found", r#"{"error":"no-rout
 
 pub(super) const NO_ACCESSION: Wanted = reply!("404 Not Found", r#"{"error":"no-accession"}"#);
 
-pub(super) const NO_FILE: Wanted = reply!("404 Not Found", r#"{"error":"no-file"}"#);
-
 pub(super) const NO_DEED: Wanted = reply!("404 Not Found", r#"{"error":"no-deed"}"#);
-
-pub(super) const CONFLICT: Wanted = reply!("409 Conflict", r#"{"error":"conflict"}"#);
-
-pub(super) const WRONG_SIZE: Wanted = reply!(
-    "422 Unprocessable Content",
-    r#"{"error":"wrong-size"}"#
-);
-
-pub(super) const UNKNOWN_KEY: Wanted = reply!(
-    "401 Unauthorized",
-    "WWW-Authenticate: Desk-Key\r\n",
-    r#"{"error":"unknown-key","rule":"K0"}"#
-);
-
-pub(super) const STAFF_ONLY: Wanted = reply!(
-    "403 Forbidden",
-    r#"{"error":"staff-only","rule":"S0"}"#
-);
 
 /// Where memory or the store fails.
 pub(super) const UNAVAILABLE: Wanted = reply!(
@@ -121,9 +84,6 @@ pub(super) const SOUND: Wanted = reply!("200 OK", r#"{"outcome":"sound"}"#);
 
 /// The table of all files, where that of accession 12 is listed.
 pub(super) const ROW_OF_12: Wanted = catalogue!("102", "12,7,d64,0,,HELLO,PRG,258,,R7.20,read\n");
-
-/// The same where no file is listed.
-pub(super) const NO_ROWS: Wanted = catalogue!("64", "");
 
 /// The bytes of the program `HELLO`.
 pub(super) const HELLO: Wanted = Wanted::Texts(&[
@@ -168,14 +128,7 @@ const GIVEN: &[Visit] = table![
 fn image_of(alloc: Global, picture: Picture) -> Result<Vec<u8>, NoMemory> {
     match picture {
         Picture::Program => one_program(alloc),
-        Picture::Looped => looped(alloc),
-        Picture::Record => hello(alloc),
         Picture::Extent => two_extents(alloc),
-        Picture::Cut => {
-            let mut image = one_program(alloc)?;
-            image.truncate(174_847);
-            Ok(image)
-        }
     }
 }
 
@@ -204,8 +157,6 @@ fn request(alloc: Global, line: &str, key: Key, body: &[u8]) -> Result<Vec<u8>, 
 pub(super) fn bytes_of(alloc: Global, came: Came) -> Result<Vec<u8>, NoMemory> {
     Ok(match came {
         Came::Text(text) => Vec::from_slice(alloc, text.as_bytes())?,
-        Came::Texts(texts) => joined(alloc, texts)?.into_bytes(),
-        Came::Bytes(bytes) => Vec::from_slice(alloc, bytes)?,
         Came::Asked(line, key, body) => request(alloc, line, key, body.as_bytes())?,
         Came::Image(line, image) => {
             let image = image_of(alloc, image)?;
@@ -270,10 +221,4 @@ pub(super) fn filled_desk(rt: &impl Abort, alloc: Global) -> Result<Memory, Fail
     let mut desk = new_desk(rt, alloc)?;
     assert_visits(rt, alloc, &mut desk, GIVEN)?;
     Ok(desk)
-}
-
-/// All visits of such a desk, in turn, get what has to go out.
-pub(super) fn assert_table(rt: &impl Abort, alloc: Global, visits: &[Visit]) -> Result<(), Fail> {
-    let mut desk = filled_desk(rt, alloc)?;
-    assert_visits(rt, alloc, &mut desk, visits)
 }

@@ -1,11 +1,11 @@
-//! Visits of which a read or a write fails, or whose moment has no day.
+//! Runs of visits of which reads or writes fail, or whose moment has no day, and requests that are cut.
 
 use super::cases::{
     BAD_HEAD, Came, DONE, FRAMING, NO_DEED, STAFF, Visit, assert_visits, filled_desk, text_of,
 };
-use super::fakes::{Fragile, Plan, Visitors};
+use super::fakes::{Plan, Visitors};
 use super::state::{AFTER, Memory, add_visit, new_desk, new_door, out_of, run};
-use rd_http::{Ended, MemoryDoor, Served, WireFault, serve_one};
+use rd_http::{Ended, MemoryDoor, Served};
 use std::alloc::{AllocError, Global};
 use std::process::Abort;
 use std::test::Fail;
@@ -20,93 +20,6 @@ const REPLY: &[u8] =
 
 /// More bytes, reads and writes than any visit has.
 const ALL: usize = 10_000;
-
-/// A request of 47 bytes for the program `HELLO`.
-const FOR_FILE: &[u8] = b"GET /images/12/files/0 HTTP/1.1\r\nHost: desk\r\n\r\n";
-
-/// The head of its reply, of 99 bytes; the file has 258.
-const FILE_HEAD: &[u8] =
-    b"HTTP/1.1 200 OK\r\nContent-Type: application/octet-stream\r\nContent-Length: 258\r\nConnection: close\r\n\r\n";
-
-/// A visit: its name, its connection, how it ends, how many bytes of the reply go out, and how many reads
-/// are left.
-type Case = (&'static str, Plan, Result<(), WireFault>, usize, usize);
-
-const READS: &[Case] = table![
-    ("one read", (AFTER, ALL, 1, ALL, ALL), Ok(()), 103, 0);
-    ("a byte a read, and none after the last", (AFTER, 1, 102, ALL, ALL), Ok(()), 103, 0);
-    ("seven bytes a read", (AFTER, 7, 15, ALL, ALL), Ok(()), 103, 0);
-    ("no read", (AFTER, ALL, 0, ALL, ALL), Err(WireFault::Read), 0, 0);
-    ("a read fails in the head", (AFTER, 1, 59, ALL, ALL), Err(WireFault::Read), 0, 0);
-    ("a read fails after the head", (AFTER, 1, 60, ALL, ALL), Err(WireFault::Read), 0, 0);
-    ("a read fails at the last byte", (AFTER, 1, 101, ALL, ALL), Err(WireFault::Read), 0, 0);
-];
-
-const WRITES: &[Case] = table![
-    ("a byte a write", (AFTER, ALL, 1, 1, 103), Ok(()), 103, 0);
-    ("seven bytes a write", (AFTER, ALL, 1, 7, ALL), Ok(()), 103, 0);
-    ("no write", (AFTER, ALL, 1, ALL, 0), Err(WireFault::Write), 0, 0);
-    ("a write takes nothing", (AFTER, ALL, 1, 0, ALL), Err(WireFault::Write), 0, 0);
-    ("a write fails after 17 bytes", (AFTER, ALL, 1, 1, 17), Err(WireFault::Write), 17, 0);
-    ("a write fails at the last byte", (AFTER, ALL, 1, 1, 102), Err(WireFault::Write), 102, 0);
-];
-
-/// Of a file of two slices, of 254 bytes and of 4.
-const SLICES: &[Case] = table![
-    ("the head and each slice in one write", (AFTER, ALL, 1, ALL, 3), Ok(()), 357, 0);
-    ("a write fails before the first slice", (AFTER, ALL, 1, ALL, 1), Err(WireFault::Write), 99, 0);
-    ("a write fails in the first slice", (AFTER, ALL, 1, 127, 2), Err(WireFault::Write), 226, 0);
-    ("a write fails between the slices", (AFTER, ALL, 1, ALL, 2), Err(WireFault::Write), 353, 0);
-    ("a write fails in the last slice", (AFTER, ALL, 1, 2, 178), Err(WireFault::Write), 355, 0);
-    ("three bytes a write", (AFTER, ALL, 1, 3, 120), Ok(()), 357, 0);
-];
-
-const MOMENTS: &[Case] = table![
-    ("the last second of 9999", (253_402_297_199, ALL, 1, ALL, ALL), Ok(()), 103, 0);
-    ("the second after", (253_402_297_200, ALL, 1, ALL, ALL), Err(WireFault::Clock), 0, 1);
-    ("the first second of 0001", (-62_135_600_400, ALL, 1, ALL, ALL), Ok(()), 103, 0);
-    ("the second before", (-62_135_600_401, ALL, 1, ALL, ALL), Err(WireFault::Clock), 0, 1);
-    ("the last moment of all", (i64::MAX, ALL, 1, ALL, ALL), Err(WireFault::Clock), 0, 1);
-    ("the first moment of all", (i64::MIN, ALL, 1, ALL, ALL), Err(WireFault::Clock), 0, 1);
-];
-
-/// How a visit over a connection that breaks ends.
-fn visit(
-    alloc: Global,
-    desk: &mut Memory,
-    came: &'static [u8],
-    plan: Plan,
-) -> (Result<(), WireFault>, Fragile<'static>) {
-    let mut conn = Fragile::new(alloc, came, plan);
-    (serve_one(alloc, &mut conn, plan.0, desk), conn)
-}
-
-/// Visits at which a request comes, and of which the reply, or a front part of it, goes out.
-fn assert_cases(
-    rt: &impl Abort,
-    alloc: Global,
-    desk: &mut Memory,
-    (came, reply): (&'static [u8], &[u8]),
-    cases: &[Case],
-) {
-    for (label, plan, wanted, went, reads) in cases {
-        let (result, conn) = visit(alloc, desk, came, *plan);
-        assert_eq!(rt;
-            (result, conn.out.len(), conn.reads),
-            (*wanted, *went, *reads),
-            "{label}"
-        );
-        assert!(rt; reply.starts_with(&conn.out), "{label}");
-    }
-}
-
-/// The reply to the request for the program `HELLO`.
-fn file_reply(alloc: Global) -> Result<Vec<u8>, AllocError> {
-    let mut reply = Vec::from_slice(alloc, FILE_HEAD)?;
-    reply.extend_from_slice(&[b'A'; 254])?;
-    reply.extend_from_slice(b"BCDE")?;
-    Ok(reply)
-}
 
 const WHOLE: Plan = (AFTER, ALL, 1, ALL, ALL);
 
@@ -195,25 +108,6 @@ fn door_of_fronts(alloc: Global) -> Result<MemoryDoor, Fail> {
         add_visit(&mut visits, AFTER, Vec::from_slice(alloc, &REQUEST[..n])?)?;
     }
     Ok(new_door(alloc, visits)?)
-}
-
-#[test]
-fn a_visit_ends_by_its_fault(rt: HostRuntime) -> Result<(), Fail> {
-    let alloc = rt.alloc();
-    let mut desk = new_desk(&rt, alloc)?;
-    assert_cases(&rt, alloc, &mut desk, (REQUEST, REPLY), READS);
-    assert_cases(&rt, alloc, &mut desk, (REQUEST, REPLY), WRITES);
-    assert_cases(&rt, alloc, &mut desk, (REQUEST, REPLY), MOMENTS);
-    Ok(())
-}
-
-#[test]
-fn the_slices_of_a_file_go_out_one_by_one(rt: HostRuntime) -> Result<(), Fail> {
-    let alloc = rt.alloc();
-    let reply = file_reply(alloc)?;
-    let mut desk = filled_desk(&rt, alloc)?;
-    assert_cases(&rt, alloc, &mut desk, (FOR_FILE, reply.as_slice()), SLICES);
-    Ok(())
 }
 
 #[test]

@@ -5,6 +5,7 @@ ghost use Rattle.std.specs.Prelude.{◌≡◌, false, IfOk};
 use rd_desk::{Desk, Items};
 use rd_geometry::NoMemory;
 use rd_http::{Door, MemoryDoor, Served, serve_many};
+use rd_policy::Zone;
 use rd_store::{Refused, Store};
 use sqlite::{Connection, MemStore};
 use std::alloc::{AllocError, Global};
@@ -14,8 +15,8 @@ use std::test::Fail;
 /// A desk in memory.
 pub(super) type Memory = Desk<MemStore>;
 
-/// By how many minutes its clocks are ahead of UTC.
-const OFFSET: i32 = 60;
+/// The rule of its clocks, those of central Europe.
+const CENTRAL: &str = "CET-1CEST,M3.5.0,M10.5.0/3";
 
 /// The last second of 2029 by these clocks.
 pub(super) const BEFORE: i64 = 1_893_452_399;
@@ -61,7 +62,7 @@ pub(super) fn new_desk(rt: &impl Abort, alloc: Global) -> Result<Memory, Fail> {
         Err(conn) => create(rt, conn),
     };
     match store {
-        Ok(store) => Ok(Desk::new(store, OFFSET)?),
+        Ok(store) => Ok(Desk::new(store, Zone::read(CENTRAL)?)),
         Err(_) => Err(Fail::new("no store")),
     }
 }

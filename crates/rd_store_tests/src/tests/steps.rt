@@ -2,7 +2,7 @@
 
 use super::told::{Told, are_told, is_told};
 use super::{
-    ALL, DIGEST, Desk, NOT_STAFF, OTHER_DIGEST, ROOM, ROOM_ALONE, STAFF, crowded, filled, new_desk,
+    ALL, DIGEST, Desk, NOT_STAFF, OTHER_DIGEST, ROOM, ROOM_ALONE, STAFF, filled, new_desk,
     put_check, put_deed, put_rule, shelved,
 };
 use rd_geometry::{Kind, NoMemory, Text};
@@ -574,8 +574,6 @@ pub(super) enum Start {
     Filled,
     /// It has what `SHELVE` puts: three images.
     Shelved,
-    /// It has what `CROWD` puts: two images of three files each.
-    Crowded,
 }
 
 /// A desk, and steps of it.
@@ -591,7 +589,6 @@ pub(super) fn started(rt: &impl Abort, alloc: Global, start: Start) -> Result<De
         Start::New => new_desk(alloc),
         Start::Filled => filled(rt, alloc),
         Start::Shelved => shelved(rt, alloc),
-        Start::Crowded => crowded(rt, alloc),
     }
 }
 

@@ -1,0 +1,105 @@
+//! A desk in memory, and what goes out at a visit of it.
+
+ghost use Rattle.std.specs.Prelude.{◌≡◌, false, IfOk};
+
+use crate::wire::{Plan, Tape};
+use anyhow::{Result, bail};
+use rd_desk::Desk;
+use rd_geometry::NoMemory;
+use rd_http::{WireFault, serve_one};
+use rd_policy::Zone;
+use rd_store::{OpenFault, Refused, Store};
+use sqlite::{Connection, MemStore};
+use std::alloc::Global;
+
+/// A desk in memory.
+pub(crate) type Memory = Desk<MemStore>;
+
+/// The rule of the clocks of a desk, where a trial tells none: those of central Europe.
+pub(crate) const CENTRAL: &str = "CET-1CEST,M3.5.0,M10.5.0/3";
+
+/// The SHA-256 of `abc`, the key of the staff.
+const STAFF_DIGEST: [u8; 32] = [
+    0xba, 0x78, 0x16, 0xbf, 0x8f, 0x01, 0xcf, 0xea, 0x41, 0x41, 0x40, 0xde, 0x5d, 0xae, 0x22, 0x23,
+    0xb0, 0x03, 0x61, 0xa3, 0x96, 0x17, 0x7a, 0x9c, 0xb4, 0x10, 0xff, 0x61, 0xf2, 0x00, 0x15, 0xad,
+];
+
+// The calls of the crates below have a function each, without a clause, so that a proof carries what one of
+// them says.
+
+pub(crate) fn new_connection(alloc: Global) -> Result<Connection<MemStore>, NoMemory>
+    ensures { IfOk result (λ conn. conn.in_transaction ≡ false) }
+{
+    Ok(Connection::open_in_memory(alloc)?)
+}
+
+/// The store of a new desk with one staff key.
+fn new_store(alloc: Global) -> Result<Store<MemStore>> {
+    match Store::create(new_connection(alloc)?, &STAFF_DIGEST) {
+        Ok(store) => Ok(store),
+        Err(Refused { fault: _, conn: _ }) => bail!("no store"),
+    }
+}
+
+/// A desk whose staff key is `abc`.
+pub(crate) fn new_desk(alloc: Global, zone: Zone) -> Result<Memory> {
+    Ok(Desk::new(new_store(alloc)?, zone))
+}
+
+/// The desk with clocks that run by another rule.
+pub(crate) fn with_zone(desk: Memory, zone: Zone) -> Memory {
+    Desk::new(desk.into_store(), zone)
+}
+
+/// How a visit ends at which these bytes come, and what goes out at it.
+pub(crate) fn visit(
+    alloc: Global,
+    desk: &mut Memory,
+    seconds: i64,
+    came: &[u8],
+    plan: Plan,
+) -> (Result<(), WireFault>, Vec<u8>) {
+    let mut wire = Tape::new(alloc, came, plan);
+    let ending = serve_one(alloc, &mut wire, seconds, desk);
+    (ending, wire.out)
+}
+
+/// A desk, or its tables alone.
+#[derive(Drop)]
+pub(crate) enum Stage {
+    Open(Memory),
+    Tables(Connection<MemStore>),
+    /// Neither, while one becomes the other.
+    Bare,
+}
+
+impl Stage {
+    /// The tables.
+    pub(crate) fn into_tables(self) -> Option<Connection<MemStore>> {
+        match self {
+            Stage::Open(desk) => Some(desk.into_store().into_connection()),
+            Stage::Tables(conn) => Some(conn),
+            Stage::Bare => None,
+        }
+    }
+}
+
+/// How tables open as a desk.
+#[derive(Clone, Copy)]
+pub(crate) enum Opening {
+    Well,
+    Fault(OpenFault),
+    /// They are not opened, since a transaction is open.
+    Inside,
+}
+
+/// Opens the desk that tables hold.
+pub(crate) fn open(alloc: Global, conn: Connection<MemStore>, zone: Zone) -> (Stage, Opening) {
+    if !conn.is_autocommit() {
+        return (Stage::Tables(conn), Opening::Inside);
+    }
+    match Store::open(alloc, conn) {
+        Ok(store) => (Stage::Open(Desk::new(store, zone)), Opening::Well),
+        Err(Refused { fault, conn }) => (Stage::Tables(conn), Opening::Fault(fault)),
+    }
+}

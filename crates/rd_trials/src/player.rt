@@ -1,0 +1,338 @@
+//! Trials, played line by line.
+
+use crate::change::{Change, Effect, Question};
+use crate::desk::{
+    CENTRAL, Opening, Stage, new_connection, new_desk, open, visit as make_visit, with_zone,
+};
+use crate::script::{Line, parts_of, script_of};
+use crate::tables::{answer_of, contents_of};
+use crate::tally::Tally;
+use crate::visit::{Likeness, Visit, outcome_of};
+use anyhow::{Context, Result, bail};
+use rd_policy::Zone;
+use rd_store::OpenFault;
+use sqlite::{Connection, MemStore};
+use std::mem;
+
+/// What is told by more than one line.
+#[derive(Drop)]
+enum Item<'a> {
+    Nothing,
+    Visit(Visit<'a>),
+    Change(Change<'a>),
+    Question(Question<'a>),
+}
+
+/// The reply of the first visit that is alike a name.
+#[derive(Drop)]
+struct Kept<'a> {
+    name: &'a str,
+    outcome: Vec<u8>,
+}
+
+/// A trial that is played.
+#[derive(Drop)]
+struct Player<'a> {
+    tally: Tally,
+    zone: Zone,
+    stage: Stage,
+    /// The moment of the visits.
+    seconds: Option<i64>,
+    item: Item<'a>,
+    replies: Vec<Kept<'a>>,
+    /// What the tables hold that are to be compared.
+    contents: Option<String>,
+}
+
+/// How tables open, by a word.
+fn word_of(opening: Opening) -> &'static str {
+    match opening {
+        Opening::Well => "well",
+        Opening::Inside => "transaction",
+        Opening::Fault(OpenFault::NotADesk) => "not-a-desk",
+        Opening::Fault(OpenFault::Version) => "version",
+        Opening::Fault(OpenFault::Inconsistent) => "inconsistent",
+        Opening::Fault(OpenFault::Sql) => "sql",
+    }
+}
+
+/// Whether a word tells how tables open.
+fn is_opening(word: &str) -> bool {
+    matches!(
+        word,
+        "well" | "not-a-desk" | "version" | "inconsistent" | "sql"
+    )
+}
+
+fn zone_of(text: &str) -> Result<Zone> {
+    match Zone::read(text) {
+        Ok(zone) => Ok(zone),
+        Err(_) => bail!("no zone"),
+    }
+}
+
+/// Whether a line with this word ends what is told before.
+fn is_first(word: &str) -> bool {
+    matches!(
+        word,
+        "visit"
+            | "sql"
+            | "sql-idle"
+            | "sql-refused"
+            | "query"
+            | "at"
+            | "zone"
+            | "anew"
+            | "empty"
+            | "opens"
+            | "tables"
+    )
+}
+
+impl<'a> Player<'a> {
+    fn new(rt: &HostRuntime) -> Result<Player<'a>> {
+        let zone = zone_of(CENTRAL)?;
+        Ok(Player {
+            tally: Tally::default(),
+            zone,
+            stage: Stage::Open(new_desk(rt.alloc(), zone)?),
+            seconds: None,
+            item: Item::Nothing,
+            replies: Vec::new(rt.alloc()),
+            contents: None,
+        })
+    }
+
+    /// Plays a line.
+    fn play(&mut self, rt: &HostRuntime, line: &'a Line) -> Result<()> {
+        let place = line.place.as_str();
+        let (word, text) = parts_of(line.text.as_str());
+        let played = if is_first(word) {
+            self.finish(rt)?;
+            self.begin(rt, place, word, text)
+        } else {
+            self.read(rt, word, text)
+        };
+        played.context(format_args!("{place}: {word}"))
+    }
+
+    /// Reads a line on what is begun.
+    fn read(&mut self, rt: &HostRuntime, word: &str, text: &'a str) -> Result<()> {
+        match &mut self.item {
+            Item::Visit(visit) => visit.read(rt, word, text),
+            Item::Change(change) => change.read(rt, word, text),
+            Item::Question(question) => question.read(word, text),
+            Item::Nothing => bail!("no such word"),
+        }
+    }
+
+    /// Begins what a line tells, or does it.
+    fn begin(
+        &mut self,
+        rt: &HostRuntime,
+        place: &'a str,
+        word: &'a str,
+        text: &'a str,
+    ) -> Result<()> {
+        match word {
+            "visit" => self.item = Item::Visit(Visit::new(rt.alloc(), place, text)),
+            "query" => self.item = Item::Question(Question::new(rt.alloc(), place, text)),
+            "at" => self.seconds = Some(text.parse()?),
+            "zone" => self.set_zone(zone_of(text)?),
+            "anew" => self.stage_new(rt)?,
+            "empty" => self.stage = Stage::Tables(new_connection(rt.alloc())?),
+            "opens" => self.open_twice(rt, place, text)?,
+            "tables" => self.compare(rt, place, text)?,
+            _ => self.item = Item::Change(Change::new(place, Effect::of(word), text)),
+        }
+        Ok(())
+    }
+
+    /// Does what is told up to here.
+    fn finish(&mut self, rt: &HostRuntime) -> Result<()> {
+        match mem::replace(&mut self.item, Item::Nothing) {
+            Item::Nothing => Ok(()),
+            Item::Visit(visit) => self.visit(rt, &visit).context(visit.place),
+            Item::Change(change) => self.change(rt, &change).context(change.place),
+            Item::Question(question) => self.ask(rt, &question).context(question.place),
+        }
+    }
+
+    fn set_zone(&mut self, zone: Zone) {
+        self.zone = zone;
+        self.stage = match mem::replace(&mut self.stage, Stage::Bare) {
+            Stage::Open(desk) => Stage::Open(with_zone(desk, zone)),
+            stage => stage,
+        };
+    }
+
+    /// Takes a new desk, with the clocks of central Europe.
+    fn stage_new(&mut self, rt: &HostRuntime) -> Result<()> {
+        self.zone = zone_of(CENTRAL)?;
+        self.stage = Stage::Open(new_desk(rt.alloc(), self.zone)?);
+        Ok(())
+    }
+
+    /// Takes the tables out.
+    fn take_tables(&mut self) -> Result<Connection<MemStore>> {
+        match mem::replace(&mut self.stage, Stage::Bare).into_tables() {
+            Some(conn) => Ok(conn),
+            None => bail!("no tables"),
+        }
+    }
+
+    fn visit(&mut self, rt: &HostRuntime, visit: &Visit<'a>) -> Result<()> {
+        let seconds = self.seconds.context("no moment")?;
+        let came = visit.came.request(rt)?;
+        let (ending, out) = match &mut self.stage {
+            Stage::Open(desk) => {
+                make_visit(rt.alloc(), desk, seconds, came.as_slice(), visit.plan)
+            }
+            _ => bail!("no desk is open"),
+        };
+        let outcome = outcome_of(rt.alloc(), ending, out.as_slice())?;
+        let told = visit.told(rt.alloc())?;
+        if let Some(wanted) = &told {
+            let case = (visit.place, visit.name);
+            self.tally
+                .judge(rt, case, wanted.as_slice(), outcome.as_slice())?;
+        }
+        match visit.likeness {
+            Some(Likeness::Alike(name)) => self.judge_alike(rt, visit, name, outcome),
+            Some(Likeness::Unlike(name)) => self.judge_unlike(rt, visit, name, outcome.as_slice()),
+            None if told.is_none() => bail!("no reply is told"),
+            None => Ok(()),
+        }
+    }
+
+    /// Compares what came of a visit with the first that is alike this name, or keeps it as the first.
+    fn judge_alike(
+        &mut self,
+        rt: &HostRuntime,
+        visit: &Visit<'a>,
+        name: &'a str,
+        outcome: Vec<u8>,
+    ) -> Result<()> {
+        let case = (visit.place, visit.name);
+        match self.replies.iter().find(|kept| kept.name == name) {
+            Some(kept) => self
+                .tally
+                .judge(rt, case, kept.outcome.as_slice(), outcome.as_slice()),
+            None => Ok(self.replies.push(Kept { name, outcome })?),
+        }
+    }
+
+    /// The same where it has to be another.
+    fn judge_unlike(
+        &mut self,
+        rt: &HostRuntime,
+        visit: &Visit<'a>,
+        name: &'a str,
+        outcome: &[u8],
+    ) -> Result<()> {
+        let case = (visit.place, visit.name);
+        match self.replies.iter().find(|kept| kept.name == name) {
+            Some(kept) => self
+                .tally
+                .judge_other(rt, case, kept.outcome.as_slice(), outcome),
+            None => bail!("no visit is alike {name}"),
+        }
+    }
+
+    /// Changes the tables. A statement that has to be refused is a case; another that does otherwise than it has
+    /// to ends the trial.
+    fn change(&mut self, rt: &HostRuntime, change: &Change<'a>) -> Result<()> {
+        let mut conn = self.take_tables()?;
+        let came = change.run(&mut conn);
+        self.stage = Stage::Tables(conn);
+        let (wanted, came) = (change.wanted.word(), came.word());
+        if change.wanted == Effect::Refused {
+            let case = (change.place, change.statement);
+            return self
+                .tally
+                .judge(rt, case, wanted.as_bytes(), came.as_bytes());
+        }
+        if wanted != came {
+            bail!("it is no {wanted}, but a {came}");
+        }
+        Ok(())
+    }
+
+    /// Asks for rows of the tables.
+    fn ask(&mut self, rt: &HostRuntime, question: &Question<'a>) -> Result<()> {
+        let mut conn = self.take_tables()?;
+        let answer = answer_of(rt.alloc(), &mut conn, question.statement);
+        self.stage = Stage::Tables(conn);
+        let answer = answer?;
+        let case = (question.place, question.statement);
+        self.tally
+            .judge(rt, case, question.rows.as_bytes(), answer.as_bytes())
+    }
+
+    /// What the tables hold.
+    fn contents(&mut self, rt: &HostRuntime) -> Result<String> {
+        let mut conn = self.take_tables()?;
+        let contents = contents_of(rt.alloc(), &mut conn);
+        self.stage = Stage::Tables(conn);
+        contents
+    }
+
+    /// Opens the desk that the tables hold, and gives the word for how that ends.
+    fn open(&mut self, rt: &HostRuntime) -> Result<&'static str> {
+        let (stage, opening) = open(rt.alloc(), self.take_tables()?, self.zone);
+        self.stage = stage;
+        Ok(word_of(opening))
+    }
+
+    /// Opens the desk that the tables hold, twice: the tables have to stay as they are, and the second opening
+    /// has to end as the first.
+    fn open_twice(&mut self, rt: &HostRuntime, place: &'a str, wanted: &'a str) -> Result<()> {
+        if !is_opening(wanted) {
+            bail!("no such opening");
+        }
+        let before = self.contents(rt)?;
+        let first = self.open(rt)?;
+        let after = self.contents(rt)?;
+        let second = self.open(rt)?;
+        let came = if before == after && first == second {
+            first
+        } else {
+            "otherwise the second time"
+        };
+        self.tally
+            .judge(rt, (place, "opens"), wanted.as_bytes(), came.as_bytes())
+    }
+
+    /// Keeps what the tables hold, or compares it with what is kept.
+    fn compare(&mut self, rt: &HostRuntime, place: &'a str, word: &'a str) -> Result<()> {
+        let contents = self.contents(rt)?;
+        if word == "kept" {
+            self.contents = Some(contents);
+            return Ok(());
+        }
+        let case = (place, "tables");
+        match (word, &self.contents) {
+            ("same", Some(kept)) => {
+                self.tally
+                    .judge(rt, case, kept.as_bytes(), contents.as_bytes())
+            }
+            ("changed", Some(kept)) => {
+                self.tally
+                    .judge_other(rt, case, kept.as_bytes(), contents.as_bytes())
+            }
+            _ => bail!("no such tables, or none are kept"),
+        }
+    }
+}
+
+/// Plays the trial of a file, and adds its cases.
+pub(crate) fn play_file(rt: &HostRuntime, file: &str, tally: &mut Tally) -> Result<()> {
+    let lines = script_of(rt, file)?;
+    let mut player = Player::new(rt)?;
+    for line in &lines {
+        player.play(rt, line)?;
+    }
+    player.finish(rt)?;
+    tally.add(&player.tally);
+    Ok(())
+}

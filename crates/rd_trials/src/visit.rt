@@ -1,0 +1,172 @@
+//! Visits as a trial tells them.
+
+use crate::bytes::build;
+use crate::escapes::add_bytes;
+use crate::image::build_with;
+use crate::message::Message;
+use crate::wire::{Plan, WHOLE};
+use anyhow::{Context, Result, bail};
+use rd_http::WireFault;
+use std::alloc::{AllocError, Global};
+
+/// How a reply compares with that of the first visit of the file which is alike a name.
+#[derive(Clone, Copy)]
+pub(crate) enum Likeness<'a> {
+    Alike(&'a str),
+    Unlike(&'a str),
+}
+
+/// A visit: its name and place, what comes, what has to go out where that is told, over which connection, and how
+/// it ends.
+#[derive(Drop)]
+pub(crate) struct Visit<'a> {
+    pub(crate) place: &'a str,
+    pub(crate) name: &'a str,
+    pub(crate) came: Message<'a>,
+    reply: Message<'a>,
+    pub(crate) likeness: Option<Likeness<'a>>,
+    /// How many bytes of the reply go out, where not all do.
+    front: Option<usize>,
+    pub(crate) plan: Plan,
+    ending: Result<(), WireFault>,
+}
+
+/// The word for how a visit ends.
+fn word_of(ending: Result<(), WireFault>) -> &'static str {
+    match ending {
+        Ok(()) => "well",
+        Err(WireFault::Read) => "read",
+        Err(WireFault::Write) => "write",
+        Err(WireFault::Clock) => "clock",
+    }
+}
+
+/// The fault with which a visit ends, by its word.
+fn fault_of(word: &str) -> Result<WireFault> {
+    match word {
+        "read" => Ok(WireFault::Read),
+        "write" => Ok(WireFault::Write),
+        "clock" => Ok(WireFault::Clock),
+        _ => bail!("no such fault"),
+    }
+}
+
+/// What is told of a visit that ends so, and at which these bytes go out.
+pub(crate) fn outcome_of(
+    alloc: Global,
+    ending: Result<(), WireFault>,
+    out: &[u8],
+) -> Result<Vec<u8>, AllocError> {
+    let word = word_of(ending);
+    let mut told = format!(in alloc; "[{word}]")?.into_bytes();
+    if !out.is_empty() {
+        told.push(b' ')?;
+        told.extend_from_slice(out)?;
+    }
+    Ok(told)
+}
+
+/// Two numbers.
+fn numbers_of(text: &str) -> Result<(usize, usize)> {
+    let (one, other) = text.split_once(' ').context("no two numbers")?;
+    Ok((one.parse()?, other.parse()?))
+}
+
+impl<'a> Visit<'a> {
+    pub(crate) fn new(alloc: Global, place: &'a str, name: &'a str) -> Visit<'a> {
+        Visit {
+            place,
+            name,
+            came: Message::new(alloc),
+            reply: Message::new(alloc),
+            likeness: None,
+            front: None,
+            plan: WHOLE,
+            ending: Ok(()),
+        }
+    }
+
+    /// What has to come of it, where that is told.
+    pub(crate) fn told(&self, alloc: Global) -> Result<Option<Vec<u8>>, AllocError> {
+        if self.reply.is_empty() && self.ending.is_ok() {
+            return Ok(None);
+        }
+        let mut out = self.reply.reply(alloc)?;
+        if let Some(front) = self.front {
+            out.truncate(front);
+        }
+        Ok(Some(outcome_of(alloc, self.ending, out.as_slice())?))
+    }
+
+    /// Reads a line: its first word, and the text after it.
+    pub(crate) fn read(&mut self, rt: &HostRuntime, word: &str, text: &'a str) -> Result<()> {
+        match word {
+            "ask" | "key" | "body" => self.read_request(word, text),
+            "json" | "csv" | "octets" | "field" => self.read_head(word, text),
+            "out" | "out-fill" | "alike" | "unlike" => self.read_reply(rt.alloc(), word, text),
+            "reads" | "writes" | "ends" | "front" => self.read_plan(word, text),
+            _ => build_with(rt, &mut self.came.body, word, text),
+        }
+    }
+
+    /// Reads a line on the request.
+    fn read_request(&mut self, word: &str, text: &'a str) -> Result<()> {
+        let request = &mut self.came;
+        match word {
+            "ask" => request.first = Some(text),
+            "key" => request.add_field("Desk-Key: ", text)?,
+            _ => request.body.extend_from_slice(text.as_bytes())?,
+        }
+        Ok(())
+    }
+
+    /// Reads a line on the head of the reply: its status and its phrase, and of JSON the body too.
+    fn read_head(&mut self, word: &str, text: &'a str) -> Result<()> {
+        let reply = &mut self.reply;
+        match word {
+            "field" => return Ok(reply.add_field("", text)?),
+            "csv" => reply.media = "text/csv",
+            "octets" => reply.media = "application/octet-stream",
+            _ => reply.media = "application/json",
+        }
+        match text.split_once(" {") {
+            Some((first, rest)) if word == "json" => {
+                reply.first = Some(first);
+                reply.body.push(b'{')?;
+                reply.body.extend_from_slice(rest.as_bytes())?;
+            }
+            _ => reply.first = Some(text),
+        }
+        Ok(())
+    }
+
+    /// Reads a line on the body of the reply, or on the reply that it is compared with.
+    fn read_reply(&mut self, alloc: Global, word: &str, text: &'a str) -> Result<()> {
+        match word {
+            "alike" => self.likeness = Some(Likeness::Alike(text)),
+            "unlike" => self.likeness = Some(Likeness::Unlike(text)),
+            "out" => add_bytes(&mut self.reply.body, text)?,
+            _ => build(alloc, &mut self.reply.body, "fill", text)?,
+        }
+        Ok(())
+    }
+
+    /// Reads a line on the connection.
+    fn read_plan(&mut self, word: &str, text: &str) -> Result<()> {
+        match word {
+            "reads" => {
+                let (most, reads) = numbers_of(text)?;
+                self.plan.most_given = most;
+                self.plan.reads = reads;
+            }
+            "writes" => {
+                let (most, writes) = numbers_of(text)?;
+                self.plan.most_taken = most;
+                self.plan.writes = writes;
+            }
+            "ends" => self.ending = Err(fault_of(text)?),
+            _ => self.front = Some(text.parse()?),
+        }
+        Ok(())
+    }
+}

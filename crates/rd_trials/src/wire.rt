@@ -1,0 +1,86 @@
+//! Connections in memory that cut reads and writes short, and at which they fail.
+
+ghost use Rattle.std.specs.Prelude.{◌≡◌, None, false};
+
+use rd_http::{Broken, Wire};
+use std::alloc::Global;
+
+/// How a connection behaves: how many bytes a read gives at most, and how many reads there are before one
+/// fails; the same of writes.
+#[derive(Clone, Copy)]
+pub(crate) struct Plan {
+    pub(crate) most_given: usize,
+    pub(crate) reads: usize,
+    pub(crate) most_taken: usize,
+    pub(crate) writes: usize,
+}
+
+/// A connection at which all goes well.
+pub(crate) const WHOLE: Plan = Plan {
+    most_given: usize::MAX,
+    reads: usize::MAX,
+    most_taken: usize::MAX,
+    writes: usize::MAX,
+};
+
+/// A connection at which these bytes come.
+#[derive(Drop)]
+pub(crate) struct Tape<'a> {
+    to_come: &'a [u8],
+    pub(crate) out: Vec<u8>,
+    plan: Plan,
+    take_failed: bool,
+    put_failed: bool,
+}
+
+impl<'a> Tape<'a> {
+    pub(crate) fn new(alloc: Global, came: &'a [u8], plan: Plan) -> Tape<'a>
+        ensures ready { result.take_failed ≡ false }
+        ensures put_ready { result.put_failed ≡ false }
+    {
+        Tape {
+            to_come: came,
+            out: Vec::new(alloc),
+            plan,
+            take_failed: false,
+            put_failed: false,
+        }
+    }
+}
+
+impl Wire for Tape<'_> {
+    ghost came = { λ _. None };
+
+    ghost incoming = { λ _. None };
+
+    ghost outgoing = { λ _. None };
+
+    ghost take_failed = { λ wire. wire.take_failed };
+
+    ghost put_failed = { λ wire. wire.put_failed };
+
+    fn take(&mut self, into: &mut [u8]) -> Result<usize, Broken> {
+        if self.plan.reads == 0 {
+            self.take_failed = true;
+            return Err(Broken);
+        }
+        self.plan.reads -= 1;
+        let count = self.to_come.len().min(into.len()).min(self.plan.most_given);
+        into[..count].copy_from_slice(&self.to_come[..count]);
+        self.to_come = &self.to_come[count..];
+        Ok(count)
+    }
+
+    fn put(&mut self, bytes: &[u8]) -> Result<usize, Broken> {
+        let count = bytes.len().min(self.plan.most_taken);
+        if self.plan.writes == 0
+            || count == 0
+            || self.out.extend_from_slice(&bytes[..count]).is_err()
+        {
+            self.put_failed = true;
+            return Err(Broken);
+        }
+        self.plan.writes -= 1;
+        Ok(count)
+    }
+}
