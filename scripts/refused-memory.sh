@@ -1,8 +1,8 @@
 #!/usr/bin/env bash
 # Runs each test of refused memory, and the program itself, once for each growth of memory that it
 # asks for, with that growth refused, until a run asks for no more. Wants gcc with the C library's headers, and
-# the crates' built tests and program: `rt test` in crates/rd_policy, crates/rd_rows, crates/rd_store_tests,
-# crates/rd_desk_tests, crates/rd_http_tests and crates/rd_main, and `rt run` in crates/rd_main.
+# the crates' built tests and program: `rt test` in crates/rd_policy_tests, crates/rd_rows_tests,
+# crates/rd_store_tests, crates/rd_desk_tests, crates/rd_http_tests and crates/rd_main, and `rt run` in crates/rd_main.
 set -u
 cd "$(dirname "$0")/.." || exit 1
 work=$(mktemp -d) || exit 1
@@ -51,7 +51,7 @@ program() {
     fi
 }
 
-for crate in rd_policy rd_rows rd_store_tests rd_desk_tests rd_http_tests rd_main; do
+for crate in rd_policy_tests rd_rows_tests rd_store_tests rd_desk_tests rd_http_tests rd_main; do
     tests=crates/$crate/out/${crate}_tests
     for name in $("$tests" --list | sed -n 's/^\(tests::.*_when_memory_is_refused\): test$/\1/p'); do
         sweep "$crate $name" refused "$tests" "$name"

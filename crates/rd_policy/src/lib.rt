@@ -20,6 +20,3 @@ pub use rule::{Band, Effect, Rule};
 pub use select::Select;
 pub use verdict::{Label, Verdict};
 pub use zone::{Zone, ZoneFault};
-
-#[cfg(test)]
-mod tests;

@@ -19,7 +19,7 @@ pub fn put(image: &mut [u8], place: usize, bytes: &[u8])
 }
 
 /// As many bytes as an array has, from the front of others, with a pad for each that is missing.
-pub(crate) fn padded<const N: usize>(bytes: &[u8], pad: u8) -> [u8; N]
+pub fn padded<const N: usize>(bytes: &[u8], pad: u8) -> [u8; N]
     ensures { result ≡ padded N pad bytes.now }
 {
     let mut array = [pad; N];

@@ -1,8 +1,6 @@
-//! Builders of sample images, and the tests that cross crates.
+//! Builders of sample images.
 #![tactic(auto)]
 
 pub mod bytes;
 pub mod cbm;
 pub mod cpm;
-#[cfg(test)]
-mod tests;

@@ -4,9 +4,9 @@ use super::cases::{Case, Wanted, assert_cases};
 use super::sample::{
     BLANK, Base, CPM_00, CPM_01, CPM_FF, HELLO, Runs, SCATTERED, Sample, TWO_EXTENTS, units_of,
 };
-use crate::cpm::{FILE, NewEntry};
 use rd_cpm::{CpmFile, files};
 use rd_geometry::{CpmDisk, Image, NoMemory};
+use rd_rows::cpm::{FILE, NewEntry};
 use std::alloc::Global;
 
 const BAD_COUNT: u8 = 1;

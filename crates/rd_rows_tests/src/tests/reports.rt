@@ -5,8 +5,8 @@ use super::sample::{
     ALL_DELETED, ALL_PROGRAMS, BLANK, CBM_00, CBM_01, CBM_FF, CPM_00, CPM_01, CPM_FF, FORMATTED,
     FULL, HELLO, LOOPED, MIXED, NO_END, ONE_PROGRAM, Sample,
 };
-use crate::cbm::{DIRECTORY, NewCbmEntry, PROGRAM};
 use rd_cbm::block_map;
+use rd_rows::cbm::{DIRECTORY, NewCbmEntry, PROGRAM};
 use rd_volume::{CbmDisk, End, Image, MapReport, NoMemory, directory_end, report};
 use std::alloc::Global;
 

@@ -1,8 +1,8 @@
 //! The verdict of rules on a file, and the label that names it.
 
 use super::{CLOSED, Files, NewRule, OPEN, OPENING, TAKEDOWN, rules_of, text_of};
-use crate::{Audience, Effect, Label, Verdict, decide, in_order};
 use rd_geometry::{Items, NoMemory};
+use rd_policy::{Audience, Effect, Label, Verdict, decide, in_order};
 use rd_volume::Found;
 use std::alloc::Global;
 use std::process::Abort;

@@ -4,9 +4,9 @@ use super::cases::{Case, Wanted, assert_cases};
 use super::sample::{
     ALL_DELETED, CBM_00, CBM_01, CBM_FF, FORMATTED, MIXED, NO_END, Runs, Sample, units_of,
 };
-use crate::cbm::PROGRAM;
 use rd_cbm::{CbmEntry, End, directory};
 use rd_geometry::{CbmDisk, Image, NoMemory};
+use rd_rows::cbm::PROGRAM;
 use std::alloc::Global;
 
 /// The entry of the program `FILE`.

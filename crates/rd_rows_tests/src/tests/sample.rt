@@ -2,12 +2,14 @@
 
 ghost use Rattle.std.specs.Prelude.{◌≡◌, ◌<◌, length, vec_len, IfOk};
 
-use crate::bytes::put;
-use crate::cbm::{
+use rd_geometry::{CbmDisk, Kind, NoMemory};
+use rd_rows::bytes::put;
+use rd_rows::cbm::{
     NewCbmEntry, crossed, formatted, full, looped, mixed, one_program, put_block, put_cbm_entry,
 };
-use crate::cpm::{NewEntry, blank, filled, hello, put_entry, scattered, two_extents, with_entries};
-use rd_geometry::{CbmDisk, Kind, NoMemory};
+use rd_rows::cpm::{
+    NewEntry, blank, filled, hello, put_entry, scattered, two_extents, with_entries,
+};
 use std::alloc::Global;
 
 /// What the builder of that name makes.

@@ -1,8 +1,8 @@
 //! Days of moments, and their dates.
 
 use super::OPENING;
-use crate::{DateFault, DayFault, Zone, ZoneFault, date_read, date_text, day_of, is_day};
 use rd_geometry::NoMemory;
+use rd_policy::{DateFault, DayFault, Zone, ZoneFault, date_read, date_text, day_of, is_day};
 use std::alloc::Global;
 use std::process::Abort;
 use std::test::Fail;

@@ -5,10 +5,10 @@ use super::sample::{
     ALL_DELETED, ALL_PROGRAMS, CBM_00, CBM_01, CBM_FF, CROSSED, FORMATTED, FULL, LOOPED, MIXED,
     ONE_PROGRAM, Runs, Sample, units_of,
 };
-use crate::bytes::padded;
-use crate::cbm::{NewCbmEntry, PROGRAM};
 use rd_cbm::{CbmFile, Class, files};
 use rd_geometry::{CbmDisk, Image, NoMemory};
+use rd_rows::bytes::padded;
+use rd_rows::cbm::{NewCbmEntry, PROGRAM};
 use std::alloc::Global;
 
 /// What has to be told of files in slots that follow one another.

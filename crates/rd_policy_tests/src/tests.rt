@@ -15,8 +15,8 @@ mod decisions;
 mod limits;
 mod refused;
 
-use crate::{Audiences, Band, Effect, Rule, Select};
 use rd_geometry::{NoMemory, Text};
+use rd_policy::{Audiences, Band, Effect, Rule, Select};
 use std::alloc::Global;
 
 /// 2030-01-01.

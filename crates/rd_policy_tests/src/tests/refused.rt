@@ -2,8 +2,8 @@
 //! answers that memory was refused is made again, and must then answer as ever.
 
 use super::OPENING;
-use crate::{DateFault, date_read, date_text};
 use rd_geometry::NoMemory;
+use rd_policy::{DateFault, date_read, date_text};
 use std::test::Fail;
 
 #[test]
