@@ -1,21 +1,23 @@
 -- The files of two 1541 images whose directories have the same blocks. Of an image's bytes they rest on
 -- the types of the entries, on the names and the starts of the used ones, and on the links of the blocks
--- that files claim, and on no others.
+-- that files claim and their error bytes, and on no others.
 use Rattle.std.proofs.Common.{◌≡◌, ◌∙◌, inl, inr, ◌↔◌, ◌*◌, ◌<◌, ℕ, List, Option, arith, length, subst, sym}
+use Rattle.rd_geometry.specs.Blocks.{mark_of}
 use Rattle.rd_cbm.specs.Entries.{Way, Data, ClaimsBy, IsClosed, IsServed, entry_at, name_of, start_of, type_of}
-use Rattle.rd_cbm.specs.Faults.{AreFaults, HasNoFault, IsCrossed, IsLooped, IsNotClosed, IsOffDisk, IsSound}
+use Rattle.rd_cbm.specs.Faults.{AreFaults, HasNoFault, HasReadError, IsCrossed, IsError, IsLooped, IsNotClosed, IsOffDisk, IsSound}
 use Rattle.rd_cbm.specs.Files.{Claims, HasOtherClaim, IsClaimed, IsFileSlot}
 use Rattle.rd_cbm.specs.Links.{link_of}
 use Rattle.rd_cbm.specs.Walks.{Ends, GoesOff, IsChain, Loops, Reaches}
 use Rattle.rd_cbm.proofs.AlikeWalks.{HasLinksAlong, along_turned, chain_alike, last_alike, loop_alike, off_alike, reaches_alike}
 
 -- An image has what tells the files of another, at the blocks of its directory: the type of each entry,
--- the name and the starts of each used one, and the link of each block that a file claims.
+-- the name and the starts of each used one, and the link and the error byte of each block that a file claims.
 pub record HasFilesOf (image other blocks : List ℕ) : Type 0 where
   pub type : (slot : ℕ) → slot < 8 * length blocks → type_of (entry_at image blocks slot) ≡ type_of (entry_at other blocks slot)
   pub name : (slot : ℕ) → IsFileSlot other blocks slot → name_of (entry_at image blocks slot) ≡ name_of (entry_at other blocks slot)
   pub start : (slot : ℕ) (way : Way) → IsFileSlot other blocks slot → start_of (entry_at image blocks slot) way ≡ start_of (entry_at other blocks slot) way
   pub link : (block : ℕ) → IsClaimed other blocks block → link_of image block ≡ link_of other block
+  pub mark : (block : ℕ) → IsClaimed other blocks block → mark_of image block ≡ mark_of other block
 
 -- what holds of the type of a used entry, of its start, and of the walk from there
 of_type : {image other blocks : List ℕ} → HasFilesOf image other blocks → {slot : ℕ} → IsFileSlot other blocks slot → (P : ℕ → Type 0)
@@ -60,6 +62,11 @@ files_turned {image = image} {other = other} {blocks = blocks} has = record {
   name = λ slot file. sym (has.name slot (slot_back slot file));
   start = λ slot way file. sym (has.start slot way (slot_back slot file));
   link = λ block claimed. sym (has.link block (record {
+    slot = claimed.slot;
+    way = claimed.way;
+    claim = claim_back claimed.slot claimed.way block claimed.claim;
+  }));
+  mark = λ block claimed. sym (has.mark block (record {
     slot = claimed.slot;
     way = claimed.way;
     claim = claim_back claimed.slot claimed.way block claimed.claim;
@@ -118,6 +125,14 @@ crossed_alike has {slot = slot} fault = record {
   taken = elim fault.taken [ inl system ↦ inl system | inr two ↦ inr (other_claim_alike has slot fault.way fault.block two) ];
 }
 
+read_error_alike : {image other blocks : List ℕ} → HasFilesOf image other blocks → {slot : ℕ} → HasReadError other blocks slot → HasReadError image blocks slot
+read_error_alike has {slot = slot} fault = record {
+  way = fault.way;
+  block = fault.block;
+  claim = claims_alike has slot fault.way fault.block fault.claim;
+  error = subst IsError (sym (has.mark fault.block (record { slot = slot; way = fault.way; claim = fault.claim }))) fault.error;
+}
+
 -- a file without fault is one in both, one of the served class, and a sound one
 no_fault_alike : {image other blocks : List ℕ} → HasFilesOf image other blocks → {slot : ℕ} → IsFileSlot other blocks slot
     → HasNoFault other blocks slot → HasNoFault image blocks slot
@@ -129,6 +144,7 @@ no_fault_alike {image = image} {other = other} {blocks = blocks} has {slot = slo
       on_disk = λ fault. none.on_disk (off_disk_alike back here fault);
       ends = λ fault. none.ends (looped_alike back here fault);
       alone = λ fault. none.alone (crossed_alike back fault);
+      readable = λ fault. none.readable (read_error_alike back fault);
     }
 
 pub served_alike : {image other blocks : List ℕ} → HasFilesOf image other blocks → {slot : ℕ} → IsFileSlot other blocks slot
@@ -154,6 +170,7 @@ faults_alike {image = image} {other = other} {blocks = blocks} has {slot = slot}
       off_disk = told_alike are.off_disk (off_disk_alike has file) (off_disk_alike back here);
       loop = told_alike are.loop (looped_alike has file) (looped_alike back here);
       crossed = told_alike are.crossed (crossed_alike has) (crossed_alike back);
+      read_error = told_alike are.read_error (read_error_alike has) (read_error_alike back);
       no_other = are.no_other;
       none = told_alike are.none (no_fault_alike has file) (no_fault_alike back here);
     }

@@ -1,11 +1,11 @@
--- The bits of a number below 16 that is a sum of weights.
+-- The bits of a number below 32 that is a sum of weights.
 use Rattle.std.proofs.Common.{◌≡◌, ◌≢◌, ◌∙◌, ◌⊎◌, inl, inr, ◌↔◌, ◌+◌, ◌*◌, ◌/◌, ◌%◌, ◌<◌, ◌≤◌, ℕ, Bool, true, false, IsTrue, List, cond, eqb, eq-eqb, eqb-true, bit_and, arith, refl, sym}
 use Rattle.std.proofs.lemmas.Bool.{agree_below_at, cases_eq}
 use Rattle.std.specs.Int.Bits.{and_zero_l}
 use Rattle.rd_cbm.specs.declared.chains.Chain.{Chain}
 use Rattle.rd_cbm.specs.declared.chains.End.TheVariants as end
 use Rattle.rd_cbm.specs.Entries.{IsClosed}
-use Rattle.rd_cbm.specs.Marked.{AreTold, SomeShared}
+use Rattle.rd_cbm.specs.Marked.{AreTold, SomeError, SomeShared}
 
 -- the digit of a flag
 pub digit : Bool → ℕ
@@ -43,20 +43,23 @@ told_bit n m b agree is test =
       λ fact. same.1 (λ none. (digit_test b).0 (test.1 fact) (sym is ∙ none)),
     )
 
--- What four tests tell of a file is told by the sum of the weights of those that answer true.
-pub told : (shared : List Bool) (type : ℕ) (contents sides : Chain) (a b c d : Bool) (n : ℕ)
-    → n ≡ digit a + 2 * digit b + 4 * digit c + 8 * digit d → IsTrue a ↔ (¬ IsClosed type)
+-- What five tests tell of a file is told by the sum of the weights of those that answer true.
+pub told : (image : List ℕ) (shared : List Bool) (type : ℕ) (contents sides : Chain) (a b c d e : Bool) (n : ℕ)
+    → n ≡ digit a + 2 * digit b + 4 * digit c + 8 * digit d + 16 * digit e → IsTrue a ↔ (¬ IsClosed type)
     → IsTrue b ↔ ((contents.end ≡ end.Off) ⊎ (sides.end ≡ end.Off)) → IsTrue c ↔ ((contents.end ≡ end.Loop) ⊎ (sides.end ≡ end.Loop))
-    → IsTrue d ↔ (SomeShared shared contents.blocks ⊎ SomeShared shared sides.blocks) → AreTold shared type contents sides n
-told shared type contents sides a b c d n is test_a test_b test_c test_d =
+    → IsTrue d ↔ (SomeShared shared contents.blocks ⊎ SomeShared shared sides.blocks)
+    → IsTrue e ↔ (SomeError image contents.blocks ⊎ SomeError image sides.blocks) → AreTold image shared type contents sides n
+told image shared type contents sides a b c d e n is test_a test_b test_c test_d test_e =
     let a1 : digit a ≤ 1 = digit-bound a in let b1 : digit b ≤ 1 = digit-bound b in
     let c1 : digit c ≤ 1 = digit-bound c in let d1 : digit d ≤ 1 = digit-bound d in
-    let low : n < 16 = omega arith in
+    let e1 : digit e ≤ 1 = digit-bound e in
+    let low : n < 32 = omega arith in
     record {
-      not_closed = told_bit n 1 a (agree_below_at (λ k. eqb (bit_and k 1) 0) (λ k. eqb (k / 1 % 2) 0) 16 n refl low) (omega arith) test_a;
-      off_disk = told_bit n 2 b (agree_below_at (λ k. eqb (bit_and k 2) 0) (λ k. eqb (k / 2 % 2) 0) 16 n refl low) (omega arith) test_b;
-      loop = told_bit n 4 c (agree_below_at (λ k. eqb (bit_and k 4) 0) (λ k. eqb (k / 4 % 2) 0) 16 n refl low) (omega arith) test_c;
-      crossed = told_bit n 8 d (agree_below_at (λ k. eqb (bit_and k 8) 0) (λ k. eqb (k / 8 % 2) 0) 16 n refl low) (omega arith) test_d;
+      not_closed = told_bit n 1 a (agree_below_at (λ k. eqb (bit_and k 1) 0) (λ k. eqb (k / 1 % 2) 0) 32 n refl low) (omega arith) test_a;
+      off_disk = told_bit n 2 b (agree_below_at (λ k. eqb (bit_and k 2) 0) (λ k. eqb (k / 2 % 2) 0) 32 n refl low) (omega arith) test_b;
+      loop = told_bit n 4 c (agree_below_at (λ k. eqb (bit_and k 4) 0) (λ k. eqb (k / 4 % 2) 0) 32 n refl low) (omega arith) test_c;
+      crossed = told_bit n 8 d (agree_below_at (λ k. eqb (bit_and k 8) 0) (λ k. eqb (k / 8 % 2) 0) 32 n refl low) (omega arith) test_d;
+      read_error = told_bit n 16 e (agree_below_at (λ k. eqb (bit_and k 16) 0) (λ k. eqb (k / 16 % 2) 0) 32 n refl low) (omega arith) test_e;
       no_other = low;
     }
 
@@ -67,11 +70,12 @@ no_bit m set = set (and_zero_l m)
 clear : (n m : ℕ) → eqb (bit_and n m) 0 ≡ eqb (n / m % 2) 0 → ¬ (bit_and n m ≢ 0) → n / m % 2 ≡ 0
 clear n m agree none = elim (cases_eq (n / m % 2) 0) [ inl zero ↦ zero | inr some ↦ absurd (none ((same_zero (bit_and n m) (n / m % 2) agree).1 some)) ]
 
--- a number below 16 with none of its four bits set is 0
-pub no_bits : (n : ℕ) → n < 16 → ¬ (bit_and n 1 ≢ 0) → ¬ (bit_and n 2 ≢ 0) → ¬ (bit_and n 4 ≢ 0) → ¬ (bit_and n 8 ≢ 0) → n ≡ 0
-no_bits n low a b c d =
-    let a0 : n / 1 % 2 ≡ 0 = clear n 1 (agree_below_at (λ k. eqb (bit_and k 1) 0) (λ k. eqb (k / 1 % 2) 0) 16 n refl low) a in
-    let b0 : n / 2 % 2 ≡ 0 = clear n 2 (agree_below_at (λ k. eqb (bit_and k 2) 0) (λ k. eqb (k / 2 % 2) 0) 16 n refl low) b in
-    let c0 : n / 4 % 2 ≡ 0 = clear n 4 (agree_below_at (λ k. eqb (bit_and k 4) 0) (λ k. eqb (k / 4 % 2) 0) 16 n refl low) c in
-    let d0 : n / 8 % 2 ≡ 0 = clear n 8 (agree_below_at (λ k. eqb (bit_and k 8) 0) (λ k. eqb (k / 8 % 2) 0) 16 n refl low) d in
+-- a number below 32 with none of its five bits set is 0
+pub no_bits : (n : ℕ) → n < 32 → ¬ (bit_and n 1 ≢ 0) → ¬ (bit_and n 2 ≢ 0) → ¬ (bit_and n 4 ≢ 0) → ¬ (bit_and n 8 ≢ 0) → ¬ (bit_and n 16 ≢ 0) → n ≡ 0
+no_bits n low a b c d e =
+    let a0 : n / 1 % 2 ≡ 0 = clear n 1 (agree_below_at (λ k. eqb (bit_and k 1) 0) (λ k. eqb (k / 1 % 2) 0) 32 n refl low) a in
+    let b0 : n / 2 % 2 ≡ 0 = clear n 2 (agree_below_at (λ k. eqb (bit_and k 2) 0) (λ k. eqb (k / 2 % 2) 0) 32 n refl low) b in
+    let c0 : n / 4 % 2 ≡ 0 = clear n 4 (agree_below_at (λ k. eqb (bit_and k 4) 0) (λ k. eqb (k / 4 % 2) 0) 32 n refl low) c in
+    let d0 : n / 8 % 2 ≡ 0 = clear n 8 (agree_below_at (λ k. eqb (bit_and k 8) 0) (λ k. eqb (k / 8 % 2) 0) 32 n refl low) d in
+    let e0 : n / 16 % 2 ≡ 0 = clear n 16 (agree_below_at (λ k. eqb (bit_and k 16) 0) (λ k. eqb (k / 16 % 2) 0) 32 n refl low) e in
     omega arith

@@ -1,7 +1,7 @@
 -- What the chains of a file and the uses of all blocks tell is what the definitions say of the file.
 use Rattle.std.proofs.Common.{◌≡◌, ◌≢◌, ◌∙◌, ◌⊎◌, inl, inr, ◌↔◌, ◌*◌, ◌<◌, ◌≤◌, ℕ, Bool, false, IsTrue, List, [], length, slice_index, slice_index_or, All, Contains, Option, bit_and, arith, refl, sym, ap, subst}
 use Rattle.std.proofs.lemmas.Bool.{cases_eq}
-use Rattle.rd_geometry.specs.Blocks.{CBM_BLOCKS, index_of}
+use Rattle.rd_geometry.specs.Blocks.{CBM_BLOCKS, index_of, mark_of}
 use Rattle.rd_cbm.specs.declared.chains.Chain.{Chain}
 use Rattle.rd_cbm.specs.declared.entries.CbmEntry.{CbmEntry}
 use Rattle.rd_cbm.specs.Listing.{HasFields}
@@ -12,8 +12,8 @@ use Rattle.rd_cbm.specs.Walks.{IsChain, Ends, GoesOff, Loops, EndsBy}
 use Rattle.rd_cbm.specs.Counts.{IsCount}
 use Rattle.rd_cbm.specs.Entries.{Way, Data, Side, entry_at, type_of, start_of, kind_of, ClaimsBy}
 use Rattle.rd_cbm.specs.Files.{Claims, IsSystem, HasOtherClaim}
-use Rattle.rd_cbm.specs.Faults.{IsOffDisk, IsLooped, IsCrossed, AreFaults, IsSound}
-use Rattle.rd_cbm.specs.Marked.{IsClaimChain, AreUses, SomeShared, AreTold, AreToldBlocks}
+use Rattle.rd_cbm.specs.Faults.{IsOffDisk, IsLooped, IsCrossed, HasReadError, IsError, AreFaults, IsSound}
+use Rattle.rd_cbm.specs.Marked.{IsClaimChain, AreUses, SomeError, SomeShared, AreTold, AreToldBlocks}
 use Rattle.rd_cbm.proofs.WalkLaws.{one_way}
 use Rattle.rd_cbm.proofs.ClaimLemmas.{own_chain}
 use Rattle.rd_cbm.proofs.CountLemmas.{count_as}
@@ -122,21 +122,38 @@ crossed_as image blocks slot contents sides used shared are uses = (
         let there = (own_sides image blocks slot contents sides are b).1 claim in
         inr (b, there, (uses.twice slot Side b (of_all (λ b. b < CBM_BLOCKS) sides.blocks b are.by_side.on_disk there) claim).1 taken)
 
+-- the blocks of the two chains have an error byte that tells of an error where those do that the file claims
+error_as : (image blocks : List ℕ) (slot : ℕ) (contents sides : Chain) → AreRead image blocks slot contents sides
+    → (SomeError image contents.blocks ⊎ SomeError image sides.blocks) ↔ HasReadError image blocks slot
+error_as image blocks slot contents sides are = (
+  λ either. elim either [
+    | inl some ↦ record { way = Data; block = some.0; claim = (own_contents image blocks slot contents sides are some.0).0 some.1; error = some.2 }
+    | inr some ↦ record { way = Side; block = some.0; claim = (own_sides image blocks slot contents sides are some.0).0 some.1; error = some.2 }
+  ],
+  λ is. from is.way is.block is.claim is.error,
+)
+  where
+    from : (way : Way) (b : ℕ) → Claims image blocks slot way b → IsError (mark_of image b) → SomeError image contents.blocks ⊎ SomeError image sides.blocks
+    from Data b claim error = inl (b, (own_contents image blocks slot contents sides are b).1 claim, error)
+    from Side b claim error = inr (b, (own_sides image blocks slot contents sides are b).1 claim, error)
+
 through : {P Q R : Type 0} → P ↔ Q → Q ↔ R → P ↔ R
 through a b = (λ p. b.0 (a.0 p), λ r. a.1 (b.1 r))
 
 -- the faults that the tests tell are those of the file
 pub faults_as : (image blocks : List ℕ) (slot : ℕ) (contents sides : Chain) (used shared : List Bool) (faults : ℕ) → AreRead image blocks slot contents sides
-    → AreUses image blocks used shared → AreTold shared (type_of (entry_at image blocks slot)) contents sides faults → AreFaults image blocks slot faults
+    → AreUses image blocks used shared → AreTold image shared (type_of (entry_at image blocks slot)) contents sides faults → AreFaults image blocks slot faults
 faults_as image blocks slot contents sides used shared faults are uses told =
     let b = through told.off_disk (off_disk_as image blocks slot contents sides are) in
     let c = through told.loop (loop_as image blocks slot contents sides are) in
     let d = through told.crossed (crossed_as image blocks slot contents sides used shared are uses) in
+    let e = through told.read_error (error_as image blocks slot contents sides are) in
     record {
       not_closed = told.not_closed;
       off_disk = b;
       loop = c;
       crossed = d;
+      read_error = e;
       no_other = told.no_other;
       none = (
         λ zero. record {
@@ -144,8 +161,9 @@ faults_as image blocks slot contents sides used shared faults are uses told =
           on_disk = λ has. unset 2 zero (b.1 has);
           ends = λ has. unset 4 zero (c.1 has);
           alone = λ has. unset 8 zero (d.1 has);
+          readable = λ has. unset 16 zero (e.1 has);
         },
-        λ clean. no_bits faults told.no_other (λ set. clean.closed (told.not_closed.0 set)) (λ set. clean.on_disk (b.0 set)) (λ set. clean.ends (c.0 set)) (λ set. clean.alone (d.0 set)),
+        λ clean. no_bits faults told.no_other (λ set. clean.closed (told.not_closed.0 set)) (λ set. clean.on_disk (b.0 set)) (λ set. clean.ends (c.0 set)) (λ set. clean.alone (d.0 set)) (λ set. clean.readable (e.0 set)),
       );
     }
   where

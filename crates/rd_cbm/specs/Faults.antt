@@ -1,6 +1,7 @@
 -- The faults of the file at a slot, this project's rules. Each is a statement about its entry and
 -- its chains, or about all claims of the directory.
-use Rattle.std.specs.Prelude.{◌≡◌, ℕ, ◌<◌, ◌⊎◌, ◌↔◌, List, IsBitSet}
+use Rattle.std.specs.Prelude.{◌≡◌, ◌≢◌, ℕ, ◌<◌, ◌⊎◌, ◌↔◌, List, IsBitSet}
+use Rattle.rd_geometry.specs.Blocks.{mark_of}
 use Rattle.rd_cbm.specs.Links.{link_of}
 use Rattle.rd_cbm.specs.Walks.{GoesOff, Loops}
 use Rattle.rd_cbm.specs.Entries.{Way, entry_at, type_of, start_of, IsClosed, IsServed, ClaimsBy}
@@ -30,21 +31,34 @@ pub record IsCrossed (image blocks : List ℕ) (slot : ℕ) : Type 0 where
   pub claim : Claims image blocks slot way block
   pub taken : IsSystem blocks block ⊎ HasOtherClaim image blocks slot way block
 
+-- an error byte tells of an error: any but 0 and 1 does, by this project's profile
+abbrev pub IsError : ℕ → Type 0
+IsError mark = (mark ≢ 0) × (mark ≢ 1)
+
+-- read-error: the error byte of a block that the file claims tells of an error
+pub record HasReadError (image blocks : List ℕ) (slot : ℕ) : Type 0 where
+  pub way : Way
+  pub block : ℕ
+  pub claim : Claims image blocks slot way block
+  pub error : IsError (mark_of image block)
+
 -- The file has no fault.
 pub record HasNoFault (image blocks : List ℕ) (slot : ℕ) : Type 0 where
   pub closed : ¬ IsNotClosed image blocks slot
   pub on_disk : ¬ IsOffDisk image blocks slot
   pub ends : ¬ IsLooped image blocks slot
   pub alone : ¬ IsCrossed image blocks slot
+  pub readable : ¬ HasReadError image blocks slot
 
--- The faults of the file as the bits of a number: each of the four is set exactly where the file
+-- The faults of the file as the bits of a number: each of the five is set exactly where the file
 -- has it, and no other. So the number is 0 exactly where the file has no fault.
 pub record AreFaults (image blocks : List ℕ) (slot faults : ℕ) : Type 0 where
   pub not_closed : IsBitSet faults 0 ↔ IsNotClosed image blocks slot
   pub off_disk : IsBitSet faults 1 ↔ IsOffDisk image blocks slot
   pub loop : IsBitSet faults 2 ↔ IsLooped image blocks slot
   pub crossed : IsBitSet faults 3 ↔ IsCrossed image blocks slot
-  pub no_other : faults < 16
+  pub read_error : IsBitSet faults 4 ↔ HasReadError image blocks slot
+  pub no_other : faults < 32
   pub none : (faults ≡ 0) ↔ HasNoFault image blocks slot
 
 -- The file is sound: of the served class, with no fault.

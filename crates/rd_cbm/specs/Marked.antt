@@ -1,12 +1,13 @@
 -- Which blocks are in use, as the pass over the slots notes it.
 use Rattle.std.specs.Prelude.{◌≡◌, ◌≢◌, ℕ, ◌<◌, ◌≤◌, ◌⊎◌, ◌↔◌, IsTrue, IsBitSet, List, [], Bool, true, false, Option, All, AllPairs, Contains, length, slice_set, if◌then◌else◌}
 use Rattle.std.specs.List.{slice_index_or}
-use Rattle.rd_geometry.specs.Blocks.{CBM_BLOCKS}
+use Rattle.rd_geometry.specs.Blocks.{CBM_BLOCKS, mark_of}
 use Rattle.rd_cbm.specs.declared.chains.Chain.{Chain}
 use Rattle.rd_cbm.specs.declared.chains.End.TheVariants as end
 use Rattle.rd_cbm.specs.Links.{link_of}
 use Rattle.rd_cbm.specs.Walks.{IsChain, EndsBy}
 use Rattle.rd_cbm.specs.Entries.{Way, IsClosed, IsServed}
+use Rattle.rd_cbm.specs.Faults.{IsError}
 use Rattle.rd_cbm.specs.Files.{Claims, IsSystem, IsInUse, HasOtherClaim}
 
 -- The chain by which blocks are claimed, where they are claimed so; else no blocks, with an end
@@ -47,13 +48,18 @@ pub record AreUses (image blocks : List ℕ) (used shared : List Bool) : Type 0 
 abbrev pub SomeShared : List Bool → List ℕ → Type 0
 SomeShared shared blocks = (b : ℕ) × Contains blocks b × IsTrue (slice_index_or shared b false)
 
+-- a block of the list has an error byte that tells of an error
+abbrev pub SomeError : List ℕ → List ℕ → Type 0
+SomeError image blocks = (b : ℕ) × Contains blocks b × IsError (mark_of image b)
+
 -- The number has a bit for each test that the file's two chains, or its type byte, pass.
-pub record AreTold (shared : List Bool) (type : ℕ) (contents sides : Chain) (faults : ℕ) : Type 0 where
+pub record AreTold (image : List ℕ) (shared : List Bool) (type : ℕ) (contents sides : Chain) (faults : ℕ) : Type 0 where
   pub not_closed : IsBitSet faults 0 ↔ (¬ IsClosed type)
   pub off_disk : IsBitSet faults 1 ↔ ((contents.end ≡ end.Off) ⊎ (sides.end ≡ end.Off))
   pub loop : IsBitSet faults 2 ↔ ((contents.end ≡ end.Loop) ⊎ (sides.end ≡ end.Loop))
   pub crossed : IsBitSet faults 3 ↔ (SomeShared shared contents.blocks ⊎ SomeShared shared sides.blocks)
-  pub no_other : faults < 16
+  pub read_error : IsBitSet faults 4 ↔ (SomeError image contents.blocks ⊎ SomeError image sides.blocks)
+  pub no_other : faults < 32
 
 -- The blocks that are told of a file, and its last byte: those of its chain where it has no fault
 -- and is of the served class, else none, and 0.

@@ -76,7 +76,7 @@ pub(crate) fn file_at(
 {
     let entry = read_entry(disk, blocks, slot);
     let (contents, sides) = chains_of(alloc, disk, &entry)?;
-    let faults = faults_of(uses, entry.ty_byte, &contents, &sides);
+    let faults = faults_of(disk, uses, entry.ty_byte, &contents, &sides);
     let claimed = count_claimed(contents.blocks.as_slice(), sides.blocks.as_slice());
     let (blocks, last) = told_blocks(alloc, entry.ty_byte, faults, contents);
     Ok(CbmFile {

@@ -1,10 +1,13 @@
 ghost use Rattle.std.specs.Prelude.{◌≡◌, ◌≢◌, ◌⊎◌, ◌↔◌, ◌<◌, ◌≤◌, All, AllPairs, Contains, IsTrue, if◌then◌else◌, length};
 ghost use Rattle.rd_geometry.specs.Blocks.{CBM_BLOCKS};
+ghost use Rattle.rd_geometry.specs.CbmDisks.{cbm_bytes};
 ghost use Rattle.rd_cbm.specs.Counts.{IsCount};
-ghost use Rattle.rd_cbm.specs.Marked.{AreTold, SomeShared};
+ghost use Rattle.rd_cbm.specs.Faults.{IsError};
+ghost use Rattle.rd_cbm.specs.Marked.{AreTold, SomeError, SomeShared};
 
 use crate::chains::{Chain, End};
 use crate::claims::{Uses, is_closed};
+use rd_geometry::CbmDisk;
 
 /// Whether the walk along a chain goes off the disk.
 fn goes_off(chain: &Chain) -> bool
@@ -65,6 +68,39 @@ fn either_has_shared(uses: &Uses, contents: &Chain, sides: &Chain) -> bool
     has_shared(uses, sides.blocks.as_slice())
 }
 
+/// Whether an error byte tells of an error: any but 0 and 1 does.
+fn is_error(mark: u8) -> bool
+    ensures { IsTrue result ↔ IsError mark }
+{
+    mark != 0 && mark != 1
+}
+
+/// Whether the error byte of a block of the list tells of an error.
+fn has_error(disk: &CbmDisk, blocks: &[u16]) -> bool
+    requires { All (λ block. block < CBM_BLOCKS) blocks.now }
+    ensures { IsTrue result ↔ SomeError (cbm_bytes disk.now) blocks.now }
+{
+    for block in blocks {
+        if is_error(disk.mark(*block)) {
+            return true;
+        }
+    }
+    false
+}
+
+/// Whether the error byte of a block of either chain tells of an error.
+fn either_has_error(disk: &CbmDisk, contents: &Chain, sides: &Chain) -> bool
+    requires contents { All (λ block. block < CBM_BLOCKS) contents.now.blocks }
+    requires sides { All (λ block. block < CBM_BLOCKS) sides.now.blocks }
+    ensures { IsTrue result ↔ (SomeError (cbm_bytes disk.now) contents.now.blocks
+        ⊎ SomeError (cbm_bytes disk.now) sides.now.blocks) }
+{
+    if has_error(disk, contents.blocks.as_slice()) {
+        return true;
+    }
+    has_error(disk, sides.blocks.as_slice())
+}
+
 /// The weight of a bit where it is set.
 fn weight(set: bool, weight: u8) -> u8
     ensures { result ≡ (if set then weight else 0) }
@@ -72,16 +108,24 @@ fn weight(set: bool, weight: u8) -> u8
     if set { weight } else { 0 }
 }
 
-/// The faults of a file by bit, from its type byte, its chains and the uses of all blocks.
-pub(crate) fn faults_of(uses: &Uses, ty_byte: u8, contents: &Chain, sides: &Chain) -> u8
+/// The faults of a file by bit, from its type byte, its chains, the uses of all blocks and the error
+/// bytes of the disk.
+pub(crate) fn faults_of(
+    disk: &CbmDisk,
+    uses: &Uses,
+    ty_byte: u8,
+    contents: &Chain,
+    sides: &Chain,
+) -> u8
     requires contents { All (λ block. block < CBM_BLOCKS) contents.now.blocks }
     requires sides { All (λ block. block < CBM_BLOCKS) sides.now.blocks }
-    ensures { AreTold uses.now.shared ty_byte contents.now sides.now result }
+    ensures { AreTold (cbm_bytes disk.now) uses.now.shared ty_byte contents.now sides.now result }
 {
     weight(!is_closed(ty_byte), 1)
         + weight(either_goes_off(contents, sides), 2)
         + weight(either_loops(contents, sides), 4)
         + weight(either_has_shared(uses, contents, sides), 8)
+        + weight(either_has_error(disk, contents, sides), 16)
 }
 
 /// How many blocks there are on two chains that both have blocks, each counted once.

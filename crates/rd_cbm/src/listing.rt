@@ -14,7 +14,7 @@ pub struct CbmFile {
     pub closed: bool,
     /// The name, padded with A0 hex.
     pub name: [u8; 16],
-    /// The faults by bit: 0 not-closed, 1 off-disk, 2 loop, 3 crossed.
+    /// The faults by bit: 0 not-closed, 1 off-disk, 2 loop, 3 crossed, 4 read-error.
     pub faults: u8,
     /// The indices of the blocks of its chain in order, where it is SEQ, PRG or USR and has no
     /// fault; else none.

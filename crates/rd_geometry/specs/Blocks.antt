@@ -3,6 +3,7 @@
 -- their tracks, then of their sectors (public D64 documentation).
 use Rattle.std.specs.Prelude.{ℕ, zero, suc, ◌+◌, ◌*◌, ◌/◌, ◌%◌, List, Option, Some, None, Bool}
 use Rattle.std.specs.Prelude.{cond, if◌then◌else◌, nat_lt, slice_range}
+use Rattle.std.specs.List.{slice_index_or}
 
 -- how many bytes a block has
 abbrev pub CBM_BLOCK_LENGTH : ℕ
@@ -15,6 +16,10 @@ CBM_BLOCKS = 683
 -- how many bytes a disk has: 683 blocks of 256 bytes
 abbrev pub CBM_SIZE : ℕ
 CBM_SIZE = 174848
+
+-- how many bytes an image with error bytes has: those of the disk, then one for each block
+abbrev pub CBM_MARKED_SIZE : ℕ
+CBM_MARKED_SIZE = 175531
 
 -- how many sectors a track has: 1 to 17 have 21, 18 to 24 have 19, 25 to 30 have 18, 31 to 35 have 17,
 -- and no other track is on the disk
@@ -53,3 +58,12 @@ place_of_block n = 256 * n
 -- the bytes of the block with index n of an image
 abbrev pub cbm_block : List ℕ → ℕ → List ℕ
 cbm_block image n = slice_range image (place_of_block n) (place_of_block n + CBM_BLOCK_LENGTH)
+
+-- the place of the error byte of the block with index n, behind all blocks
+abbrev pub place_of_mark : ℕ → ℕ
+place_of_mark n = CBM_SIZE + n
+
+-- the error byte of the block with index n of an image: 1, which tells of no error, where the image
+-- ends before it, as one without error bytes does
+abbrev pub mark_of : List ℕ → ℕ → ℕ
+mark_of image n = slice_index_or image (place_of_mark n) 1

@@ -27,7 +27,7 @@ cpm_units_apart m n low_m low_n differ =
     (λ _ same. skewed-injective (m % 26) (n % 26) (omega arith) (omega arith) same)
     (skewed-below (m % 26) (omega arith)) (skewed-below (n % 26) (omega arith))
 
-pub block_inside : (n size : ℕ) → n < CBM_BLOCKS → size ≡ CBM_SIZE → place_of_block n + CBM_BLOCK_LENGTH ≤ size
+pub block_inside : (n size : ℕ) → n < CBM_BLOCKS → CBM_SIZE ≤ size → place_of_block n + CBM_BLOCK_LENGTH ≤ size
 block_inside n size below whole = omega arith
 
 pub blocks_apart : (m n : ℕ) → m < CBM_BLOCKS → n < CBM_BLOCKS → m ≢ n

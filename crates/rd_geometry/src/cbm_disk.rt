@@ -1,17 +1,22 @@
 ghost use Rattle.std.specs.Prelude.{◌≡◌, ◌↔◌, ◌+◌, ◌/◌, ◌%◌, ◌<◌, ◌≤◌, Some, length, IfSome, IsSome};
 ghost use Rattle.rd_geometry.specs.Blocks as spec;
-ghost use Rattle.rd_geometry.specs.Blocks.{CBM_BLOCKS, CBM_BLOCK_LENGTH, CBM_SIZE, index_of, place_of_block, sectors_of};
+ghost use Rattle.rd_geometry.specs.Kinds.{IsCbm, size_of};
+ghost use Rattle.rd_geometry.specs.Blocks.{CBM_BLOCKS, CBM_BLOCK_LENGTH, CBM_SIZE, index_of, mark_of, place_of_block, sectors_of};
 
 use crate::geometry::Geometry;
 use crate::image::Image;
 use crate::kind::Kind;
 
 /// A Commodore 1541 disk. Its units are its 683 blocks of 256 bytes, in the order of their tracks,
-/// then of their sectors (1541 User's Guide; public D64 documentation).
+/// then of their sectors (1541 User's Guide; public D64 documentation). Its image may have an error byte
+/// for each block, behind them all.
 #[derive(Debug, Drop)]
 pub struct CbmDisk<'a> {
+    kind: Kind,
     bytes: &'a [u8],
-    pub ghost sized: { length bytes.now ≡ CBM_SIZE },
+    pub ghost cbm: { IsCbm kind },
+    pub ghost sized: { length bytes.now ≡ size_of kind },
+    pub ghost long: { CBM_SIZE ≤ length bytes.now },
 }
 
 /// How many sectors a track has, 0 where it is not on the disk.
@@ -64,18 +69,41 @@ pub(crate) fn place_of(n: u16) -> usize
 
 impl<'a> CbmDisk<'a> {
     ghost use Rattle.rd_geometry.specs.Images.{kind_of, bytes_of};
-    ghost use Rattle.rd_geometry.specs.CbmDisks.{cbm_bytes};
+    ghost use Rattle.rd_geometry.specs.CbmDisks.{cbm_bytes, cbm_kind};
 
-    /// The disk of an image, `None` where the image is of another kind.
+    /// The disk of an image, with error bytes or without, `None` where the image is of another kind.
     pub fn of(image: &Image<'a>) -> Option<CbmDisk<'a>>
-        ensures kind { IsSome result ↔ (kind_of image.now ≡ Kind.D64) }
+        ensures some { IsSome result ↔ IsCbm (kind_of image.now) }
+        ensures kind { IfSome result (λ disk. cbm_kind disk ≡ kind_of image.now) }
         ensures bytes { IfSome result (λ disk. cbm_bytes disk ≡ bytes_of image.now) }
     {
         match image.kind() {
-            Kind::D64 => Some(CbmDisk {
+            Kind::D64 | Kind::D64e => Some(CbmDisk {
+                kind: image.kind(),
                 bytes: image.bytes(),
             }),
             Kind::Cpm8 => None,
+        }
+    }
+
+    /// The kind of the disk's image: `D64`, or `D64e` where it has error bytes.
+    pub fn kind(&self) -> Kind
+        ensures value { result ≡ cbm_kind self.now }
+        ensures cbm { IsCbm result }
+    {
+        self.kind
+    }
+
+    /// The error byte of block `n` (public D64 documentation): 1, which tells of no error, for an image
+    /// without error bytes.
+    pub fn mark(&self, n: u16) -> u8
+        requires { n < CBM_BLOCKS }
+        ensures value { result ≡ mark_of (cbm_bytes self.now) n }
+        ensures none { cbm_kind self.now ≡ Kind.D64 → result ≡ 1 }
+    {
+        match self.kind {
+            Kind::D64e => self.bytes[683 * 256 + n as usize],
+            Kind::D64 | Kind::Cpm8 => 1,
         }
     }
 
@@ -139,7 +167,7 @@ impl<'a> Geometry<'a> for CbmDisk<'a> {
 
     ghost use Rattle.rd_geometry.specs.Laws.{block_inside, blocks_apart};
 
-    ghost inside = { λ disk n below. block_inside n _ below disk.sized };
+    ghost inside = { λ disk n below. block_inside n _ below disk.long };
 
     ghost apart = { λ disk. blocks_apart };
 }

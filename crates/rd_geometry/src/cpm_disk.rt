@@ -42,7 +42,7 @@ impl<'a> CpmDisk<'a> {
             Kind::Cpm8 => Some(CpmDisk {
                 bytes: image.bytes(),
             }),
-            Kind::D64 => None,
+            Kind::D64 | Kind::D64e => None,
         }
     }
 }

@@ -15,6 +15,6 @@ pub use cpm_disk::CpmDisk;
 pub use geometry::Geometry;
 pub use image::{Image, WrongSize};
 pub use items::Items;
-pub use kind::Kind;
+pub use kind::{KIND_WORDS, Kind};
 pub use memory::NoMemory;
 pub use text::Text;

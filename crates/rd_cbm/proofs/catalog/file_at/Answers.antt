@@ -24,7 +24,7 @@ returns-clause-file c =
     c.in_ok-contents.ensures.contents c.in_ok-contents.ensures.sides in
     let faults : AreFaults image blocks slot c.faults_of-faults.result =
     faults_as image blocks slot contents sides c.args.uses.now.used c.args.uses.now.shared _ are c.requires.uses
-    (subst (λ t. AreTold c.args.uses.now.shared t contents sides c.faults_of-faults.result) type c.faults_of-faults.ensures) in
+    (subst (λ t. AreTold image c.args.uses.now.shared t contents sides c.faults_of-faults.result) type c.faults_of-faults.ensures) in
     let told : AreFileBlocks image blocks slot c.told_blocks-blocks.result.0 c.told_blocks-blocks.result.1 =
     blocks_as image blocks slot contents sides c.faults_of-faults.result _ _ are faults
     (subst (λ t. AreToldBlocks t c.faults_of-faults.result contents c.told_blocks-blocks.result.0 c.told_blocks-blocks.result.1) type c.told_blocks-blocks.ensures) in

@@ -9,4 +9,5 @@ returns c =
     let b : c.weight-2.result ≡ 2 * digit c.either_goes_off.result = weighed _ 2 _ c.weight-2.ensures in
     let d : c.weight-3.result ≡ 4 * digit c.either_loops.result = weighed _ 4 _ c.weight-3.ensures in
     let e : c.weight-4.result ≡ 8 * digit c.either_has_shared.result = weighed _ 8 _ c.weight-4.ensures in
-    told _ _ _ _ _ _ _ _ _ (omega arith) (not_by c.is_closed.result c.is_closed.ensures) c.either_goes_off.ensures c.either_loops.ensures c.either_has_shared.ensures
+    let f : c.weight-5.result ≡ 16 * digit c.either_has_error.result = weighed _ 16 _ c.weight-5.ensures in
+    told _ _ _ _ _ _ _ _ _ _ _ (omega arith) (not_by c.is_closed.result c.is_closed.ensures) c.either_goes_off.ensures c.either_loops.ensures c.either_has_shared.ensures c.either_has_error.ensures
