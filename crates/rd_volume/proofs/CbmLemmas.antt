@@ -4,8 +4,10 @@ use Rattle.std.proofs.lemmas.Bool.{agree_below_at, and_from, and_parts, cases_Bo
 use Rattle.std.proofs.lemmas.List.{length-append, length-drop, length-take}
 use Rattle.std.proofs.lemmas.List.Elements.{All-head, All-tail}
 use Rattle.rd_geometry.specs.Blocks.{CBM_BLOCKS, CBM_BLOCK_LENGTH, CBM_SIZE, cbm_block, place_of_block}
+use Rattle.rd_geometry.specs.Kinds.{IsCbm}
 use Rattle.rd_geometry.specs.Laws.{block_inside}
-use Rattle.rd_geometry.specs.declared.kind.Kind.TheVariants.{D64}
+use Rattle.rd_geometry.specs.declared.kind.Kind.{Kind}
+use Rattle.rd_geometry.specs.declared.kind.Kind.TheVariants.{Cpm8, D64}
 use Rattle.rd_cbm.specs.Entries.{IsServed, class_of, entry_at, type_of}
 use Rattle.rd_cbm.specs.Faults.{IsSound}
 use Rattle.rd_cbm.specs.Files.{IsFileSlot}
@@ -15,6 +17,7 @@ use Rattle.rd_cbm.specs.declared.class.Class.TheVariants.{Del, Seq, Prg, Usr, Re
 use Rattle.rd_cbm.specs.declared.listing.CbmFile.{CbmFile}
 use Rattle.rd_cbm.proofs.OneChain.{one_chain}
 use Rattle.rd_volume.specs.CbmFounds.{IsCbmFile, TellsCbm, TellsCbmFiles, bytes_of_chain, is_served, length_of_blocks}
+use Rattle.rd_volume.specs.CbmKinds.{not_cpm}
 use Rattle.rd_volume.specs.Directories.{in_blocks, of_blocks}
 use Rattle.rd_volume.specs.Printed.{cbm_type_of, printed}
 use Rattle.rd_volume.specs.Volumes.{AreFounds, IsFound, IsFoundAt}
@@ -66,12 +69,12 @@ pub all_few : (image : List ℕ) (files : List CbmFile) → AreFiles image files
 all_few image files are i d inside = few_blocks image are.blocks (slice_index_or files i d) (are.each i d inside)
 
 -- how long the bytes of a chain are
-length_block : (image : List ℕ) (n : ℕ) → length image ≡ CBM_SIZE → n < CBM_BLOCKS → length (drop 2 (cbm_block image n)) ≡ 254
+length_block : (image : List ℕ) (n : ℕ) → CBM_SIZE ≤ length image → n < CBM_BLOCKS → length (drop 2 (cbm_block image n)) ≡ 254
 length_block image n size below =
     let inside : place_of_block n + CBM_BLOCK_LENGTH ≤ length image = block_inside n (length image) below size in
     simp (length-take, length-drop) (omega arith)
 
-length_chain : (image chain : List ℕ) (used : ℕ) → length image ≡ CBM_SIZE → used < 256 → All (λ n. n < CBM_BLOCKS) chain
+length_chain : (image chain : List ℕ) (used : ℕ) → CBM_SIZE ≤ length image → used < 256 → All (λ n. n < CBM_BLOCKS) chain
     → length (bytes_of_chain image chain used) ≡ length_of_blocks chain (used - 1)
 length_chain image [] used size byte on_disk = refl
 length_chain image (n ∷ []) used size byte on_disk =
@@ -85,7 +88,7 @@ length_chain image (n ∷ m ∷ chain) used size byte on_disk =
     length-append (take 254 (drop 2 (cbm_block image n))) (bytes_of_chain image (m ∷ chain) used) ∙ omega arith
 
 -- a file that is told as rd_cbm tells it is told as it is in the image
-pub is_file : (image blocks : List ℕ) (file : CbmFile) (found : Found) → length image ≡ CBM_SIZE → TellsCbm file found → Describes image blocks file
+pub is_file : (image blocks : List ℕ) (file : CbmFile) (found : Found) → CBM_SIZE ≤ length image → TellsCbm file found → Describes image blocks file
     → IsCbmFile image found blocks
 is_file image blocks file found size tells told = record {
   slot = rw tells.slot told.slot;
@@ -117,12 +120,13 @@ is_file image blocks file found size tells told = record {
 }
 
 -- the files of an image, told, are those of the image
-pub founds_are : (image : List ℕ) (files : List CbmFile) (founds : List Found) → length image ≡ CBM_SIZE → AreFiles image files → TellsCbmFiles files founds
-    → AreFounds D64 image founds
-founds_are image files founds size are tells =
+pub founds_are : (kind : Kind) → IsCbm kind → (image : List ℕ) (files : List CbmFile) (founds : List Found) → CBM_SIZE ≤ length image → AreFiles image files → TellsCbmFiles files founds
+    → AreFounds kind image founds
+founds_are Cpm8 cbm image files founds size are tells = absurd (not_cpm cbm)
+founds_are kind cbm image files founds size are tells =
     let slots = same_numbers TellsCbm (λ f. f.slot) (λ g. g.slot) (λ f g one. one.slot) files founds tells in
     record {
-      each = each_told TellsCbm (Describes image are.blocks) (IsFound D64 image)
+      each = each_told TellsCbm (Describes image are.blocks) (IsFound kind image)
           (λ f g one told. record { blocks = are.blocks; are_blocks = are.directory; holds = is_file image are.blocks f g size one told })
           files founds tells are.each;
       ascending = items_ascend (λ g. g.slot) founds
@@ -137,9 +141,10 @@ pub answered : (image blocks : List ℕ) (answer : Option CbmFile) (file : CbmFi
 answered image blocks answer file is told = subst (λ o. IfSome o (Describes image blocks)) is told
 
 -- the file at a slot, told, is that of the image
-pub found_at : (image : List ℕ) (slot : ℕ) (answer : Option CbmFile) (file : CbmFile) (found : Found) → length image ≡ CBM_SIZE → answer ≡ Some file
-    → IsFileAt image slot answer → TellsCbm file found → IsFoundAt D64 image slot (Some found)
-found_at image slot answer file found size is at tells =
+pub found_at : (kind : Kind) → IsCbm kind → (image : List ℕ) (slot : ℕ) (answer : Option CbmFile) (file : CbmFile) (found : Found) → CBM_SIZE ≤ length image → answer ≡ Some file
+    → IsFileAt image slot answer → TellsCbm file found → IsFoundAt kind image slot (Some found)
+found_at Cpm8 cbm image slot answer file found size is at tells = absurd (not_cpm cbm)
+found_at kind cbm image slot answer file found size is at tells =
     let here : file.slot ≡ slot = subst (λ o. IfSome o (λ (f : CbmFile). f.slot ≡ slot)) is at.same_slot in
     record {
       same_slot = tells.slot ∙ here;
@@ -148,7 +153,8 @@ found_at image slot answer file found size is at tells =
     }
 
 -- a slot that no file of the directory has is no file's
-pub found_none : (image : List ℕ) (slot : ℕ) (answer : Option CbmFile) → answer ≡ None → IsFileAt image slot answer → IsFoundAt D64 image slot None
-found_none image slot answer is at =
+pub found_none : (kind : Kind) → IsCbm kind → (image : List ℕ) (slot : ℕ) (answer : Option CbmFile) → answer ≡ None → IsFileAt image slot answer → IsFoundAt kind image slot None
+found_none Cpm8 cbm image slot answer is at = absurd (not_cpm cbm)
+found_none _ cbm image slot answer is at =
     let free : ¬ IsFileSlot image at.blocks slot = subst (λ o. IfNone o (¬ IsFileSlot image at.blocks slot)) is at.none in
     record { same_slot = tt; told = tt; none = λ there. free (of_blocks image at.blocks at.directory _ there) }

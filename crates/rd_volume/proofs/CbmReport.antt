@@ -2,16 +2,23 @@
 use Rattle.std.proofs.Common.{◌≡◌, ◌∙◌, ◌*◌, ◌%◌, ◌<◌, ◌≤◌, ◌==◌, ◌&&◌, ℕ, List, All, IsSome, Option, Some, ap, arith, count_by, length, nat_le, not, refl, slice_index_or, subst, sym, true}
 use Rattle.std.proofs.lemmas.Bool.{agree_below_at, and_from, and_parts, eq-eqb, eqb-false, eqb-true, le-leb, leb-true, ne_eqb, not-true, not_from_false}
 use Rattle.rd_geometry.specs.Blocks.{CBM_BLOCKS, cbm_block, index_of}
-use Rattle.rd_geometry.specs.declared.kind.Kind.TheVariants.{D64}
+use Rattle.rd_geometry.specs.Kinds.{IsCbm}
+use Rattle.rd_geometry.specs.declared.kind.Kind.{Kind}
+use Rattle.rd_geometry.specs.declared.kind.Kind.TheVariants.{Cpm8}
 use Rattle.rd_cbm.specs.BlockMap.{bytes_at, map_of}
 use Rattle.rd_cbm.specs.Counts.{IsCount}
 use Rattle.rd_cbm.specs.Entries.{Way, class_of, entry_at, size_field_of, type_of}
 use Rattle.rd_cbm.specs.Files.{AreDirectoryBlocks, Claims}
-use Rattle.rd_cbm.specs.Listing.{AreFiles, Describes}
+use Rattle.rd_cbm.specs.Listing.{AreCounts, AreFiles, Describes}
+use Rattle.rd_cbm.specs.Links.{link_of}
+use Rattle.rd_cbm.specs.Walks.{EndsBy}
+use Rattle.rd_cbm.specs.declared.chains.End.{End}
 use Rattle.rd_cbm.specs.declared.listing.CbmFile.{CbmFile}
+use Rattle.rd_cbm.specs.declared.report.MapReport.{MapReport}
 use Rattle.rd_cbm.proofs.OneChain.{one_chain}
+use Rattle.rd_volume.specs.CbmKinds.{not_cpm}
 use Rattle.rd_volume.specs.Directories.{in_blocks, of_blocks}
-use Rattle.rd_volume.specs.Reports.{DiffersInSize, HasOtherSize, IsFaultySlot, IsSoundSlot}
+use Rattle.rd_volume.specs.Reports.{DiffersInSize, HasOtherSize, IsDirectoryEnd, IsFaultySlot, IsMapReport, IsSoundSlot}
 use Rattle.rd_volume.specs.Tallies.{differs_in_size, is_claimant, is_sound}
 use Rattle.rd_volume.specs.Volumes.{IsSlotOfFile}
 use Rattle.rd_volume.proofs.CbmLemmas.{class_by, class_is, told_class}
@@ -30,15 +37,17 @@ few_files image blocks files are_blocks on_disk are =
     few_items (λ file. file.slot) files 5464 are.ascending
     (λ i d inside. few_slots (length are.blocks) (slice_index_or files i d).slot few (are.each i d inside).slot.inside)
 
-pub all_files : (image : List ℕ) (files : List CbmFile) → AreFiles image files → IsCount (IsSlotOfFile D64 image) (length files)
-all_files image files are =
-    counted_all (λ file. file.slot) (IsSlotOfFile D64 image) files are.ascending
+pub all_files : (kind : Kind) → IsCbm kind → (image : List ℕ) (files : List CbmFile) → AreFiles image files → IsCount (IsSlotOfFile kind image) (length files)
+all_files Cpm8 cbm image files are = absurd (not_cpm cbm)
+all_files kind cbm image files are =
+    counted_all (λ file. file.slot) (IsSlotOfFile kind image) files are.ascending
     (λ i d inside. in_blocks image are.blocks are.directory _ (are.each i d inside).slot)
     (λ n is. are.complete n (of_blocks image are.blocks are.directory _ is))
 
-pub sound_files : (image : List ℕ) (files : List CbmFile) → AreFiles image files → IsCount (IsSoundSlot D64 image) (count_by is_sound files)
-sound_files image files are =
-    counted (λ file. file.slot) is_sound (IsSoundSlot D64 image) files are.ascending
+pub sound_files : (kind : Kind) → IsCbm kind → (image : List ℕ) (files : List CbmFile) → AreFiles image files → IsCount (IsSoundSlot kind image) (count_by is_sound files)
+sound_files Cpm8 cbm image files are = absurd (not_cpm cbm)
+sound_files kind cbm image files are =
+    counted (λ file. file.slot) is_sound (IsSoundSlot kind image) files are.ascending
     (λ i d inside passed.
     let file = slice_index_or files i d in
     let told = are.each i d inside in
@@ -55,9 +64,10 @@ sound_files image files are =
     (eq-eqb file.faults 0 (told.faults.none.1 (of_blocks image are.blocks are.directory _ is.sound))))
     (λ n is. are.complete n (of_blocks image are.blocks are.directory _ is.file))
 
-pub faulty_files : (image : List ℕ) (files : List CbmFile) → AreFiles image files → IsCount (IsFaultySlot D64 image) (count_by (λ file. not (file.faults == 0)) files)
-faulty_files image files are =
-    counted (λ file. file.slot) (λ file. not (file.faults == 0)) (IsFaultySlot D64 image) files are.ascending
+pub faulty_files : (kind : Kind) → IsCbm kind → (image : List ℕ) (files : List CbmFile) → AreFiles image files → IsCount (IsFaultySlot kind image) (count_by (λ file. not (file.faults == 0)) files)
+faulty_files Cpm8 cbm image files are = absurd (not_cpm cbm)
+faulty_files kind cbm image files are =
+    counted (λ file. file.slot) (λ file. not (file.faults == 0)) (IsFaultySlot kind image) files are.ascending
     (λ i d inside passed.
     let file = slice_index_or files i d in
     let told = are.each i d inside in
@@ -107,12 +117,22 @@ told_size image blocks file told is =
     (not_from_false (file.claimed == file.size_field) (ne_eqb file.claimed file.size_field (λ same.
     is.differs (subst (IsCount (λ block. (way : Way) × Claims image blocks file.slot way block)) (same ∙ told.size_field) told.claimed))))
 
-pub other_sizes : (image : List ℕ) (files : List CbmFile) → AreFiles image files → IsCount (DiffersInSize D64 image) (count_by differs_in_size files)
-other_sizes image files are =
-    counted (λ file. file.slot) differs_in_size (DiffersInSize D64 image) files are.ascending
+pub other_sizes : (kind : Kind) → IsCbm kind → (image : List ℕ) (files : List CbmFile) → AreFiles image files → IsCount (DiffersInSize kind image) (count_by differs_in_size files)
+other_sizes Cpm8 cbm image files are = absurd (not_cpm cbm)
+other_sizes kind cbm image files are =
+    counted (λ file. file.slot) differs_in_size (DiffersInSize kind image) files are.ascending
     (λ i d inside passed. in_blocks image are.blocks are.directory _ (other_size image are.blocks (slice_index_or files i d) (are.each i d inside) passed))
     (λ i d inside is. told_size image are.blocks (slice_index_or files i d) (are.each i d inside) (of_blocks image are.blocks are.directory _ is))
     (λ n is. are.complete n (of_blocks image are.blocks are.directory _ is).file)
+
+-- the counts of its block map and the end of its directory are told
+pub map_counts : (kind : Kind) → IsCbm kind → (image : List ℕ) (map : MapReport) → AreCounts image map → IsMapReport kind image map
+map_counts Cpm8 cbm image map are = absurd (not_cpm cbm)
+map_counts _ cbm image map are = are
+
+pub directory_ends : (kind : Kind) → IsCbm kind → (image : List ℕ) (ends : End) → EndsBy (link_of image) (index_of 18 1) ends → IsDirectoryEnd kind image ends
+directory_ends Cpm8 cbm image ends by = absurd (not_cpm cbm)
+directory_ends _ cbm image ends by = by
 
 -- 18/0 is on the disk, and holds the block map
 pub has_map_block : (found : Option ℕ) → found ≡ index_of 18 0 → IsSome found

@@ -1,7 +1,7 @@
 -- The bytes of a sound file are one list.
 use Rattle.std.proofs.Common.{◌≡◌, ◌∙◌, ℕ, List, Option, ap, ap₂, sym}
 use Rattle.rd_geometry.specs.declared.kind.Kind.{Kind}
-use Rattle.rd_geometry.specs.declared.kind.Kind.TheVariants.{Cpm8, D64}
+use Rattle.rd_geometry.specs.declared.kind.Kind.TheVariants.{Cpm8}
 use Rattle.rd_cbm.specs.Entries.{Data, entry_at, start_of}
 use Rattle.rd_cbm.specs.Links.{link_of}
 use Rattle.rd_cbm.proofs.OneChain.{one_chain, one_last}
@@ -24,5 +24,5 @@ cbm_contents image blocks k xs ys one other =
 pub one_contents : (kind : Kind) (image : List ℕ) (k : ℕ) (xs ys : List ℕ) → IsSoundSlot kind image k → AreBytesOf kind image k xs → AreBytesOf kind image k ys → xs ≡ ys
 one_contents Cpm8 image k xs ys sound one other =
     one.joined ∙ ap (bytes_of_sectors image) (one_sectors (slot_of image) k one.sectors other.sectors sound.sound one.are_sectors other.are_sectors) ∙ sym other.joined
-one_contents D64 image k xs ys sound one other =
+one_contents _ image k xs ys sound one other =
     cbm_contents image one.blocks k xs ys one.holds (of_blocks image one.blocks one.are_blocks (AreCbmBytes image k ys) other)

@@ -47,13 +47,14 @@ pub one_cpm_faults : (d : Directory) (slot a b : ℕ) → cpm.AreFaults d slot a
 one_cpm_faults d slot a b one other = same_number 7 a b one.no_other other.no_other (cpm_bits d slot a b one other)
 
 cbm_bits : (image blocks : List ℕ) (slot a b : ℕ) → cbm.AreFaults image blocks slot a → cbm.AreFaults image blocks slot b
-    → (k : ℕ) → k < 4 → IsBitSet a k ↔ IsBitSet b k
+    → (k : ℕ) → k < 5 → IsBitSet a k ↔ IsBitSet b k
 cbm_bits image blocks slot a b one other zero low = both one.not_closed other.not_closed
 cbm_bits image blocks slot a b one other (suc zero) low = both one.off_disk other.off_disk
 cbm_bits image blocks slot a b one other (suc (suc zero)) low = both one.loop other.loop
 cbm_bits image blocks slot a b one other (suc (suc (suc zero))) low = both one.crossed other.crossed
-cbm_bits image blocks slot a b one other (suc (suc (suc (suc k)))) low = absurd (omega arith)
+cbm_bits image blocks slot a b one other (suc (suc (suc (suc zero)))) low = both one.read_error other.read_error
+cbm_bits image blocks slot a b one other (suc (suc (suc (suc (suc k))))) low = absurd (omega arith)
 
 -- the faults of a file of a 1541 image are one number
 pub one_cbm_faults : (image blocks : List ℕ) (slot a b : ℕ) → cbm.AreFaults image blocks slot a → cbm.AreFaults image blocks slot b → a ≡ b
-one_cbm_faults image blocks slot a b one other = same_number 4 a b one.no_other other.no_other (cbm_bits image blocks slot a b one other)
+one_cbm_faults image blocks slot a b one other = same_number 5 a b one.no_other other.no_other (cbm_bits image blocks slot a b one other)

@@ -110,5 +110,5 @@ cbm_found image blocks f g slot one other =
 -- a file of an image is told in one way
 pub one_found : (kind : Kind) (image : List ℕ) (f g : Found) → IsFound kind image f → IsFound kind image g → f.slot ≡ g.slot → f ≡ g
 one_found Cpm8 image f g one other slot = cpm_found image f g slot one other
-one_found D64 image f g one other slot =
+one_found _ image f g one other slot =
     cbm_found image one.blocks f g slot one.holds (of_blocks image one.blocks one.are_blocks (IsCbmFile image g) other)

@@ -6,7 +6,7 @@ use Rattle.std.specs.Str.{bytes_eq}
 use Rattle.std.proofs.lemmas.Bool.{agree_below_at, cond-false, cond-true, le-ltb, lt-ltb}
 use Rattle.std.proofs.lemmas.Slice.Eq.{bytes_eq-Decides}
 use Rattle.rd_geometry.specs.declared.kind.Kind.{Kind}
-use Rattle.rd_geometry.specs.declared.kind.Kind.TheVariants.{Cpm8, D64}
+use Rattle.rd_geometry.specs.declared.kind.Kind.TheVariants.{Cpm8}
 use Rattle.rd_volume.specs.Words.{fault_names, set_bits, words_of}
 
 -- the bits that are set, from the lowest on
@@ -17,13 +17,13 @@ bits_of_seven : (n : ℕ) → n < 256 → set_bits 7 n ≡ from_lowest 7 n
 unfolding from_lowest count_trailing_zeros
 bits_of_seven n low = (bytes_eq-Decides (set_bits 7 n) (from_lowest 7 n)).0 (agree_below_at (λ n. bytes_eq (set_bits 7 n) (from_lowest 7 n)) (λ _. true) 256 n refl low)
 
-bits_of_four : (n : ℕ) → n < 256 → set_bits 4 n ≡ from_lowest 4 n
+bits_of_five : (n : ℕ) → n < 256 → set_bits 5 n ≡ from_lowest 5 n
 unfolding from_lowest count_trailing_zeros
-bits_of_four n low = (bytes_eq-Decides (set_bits 4 n) (from_lowest 4 n)).0 (agree_below_at (λ n. bytes_eq (set_bits 4 n) (from_lowest 4 n)) (λ _. true) 256 n refl low)
+bits_of_five n low = (bytes_eq-Decides (set_bits 5 n) (from_lowest 5 n)).0 (agree_below_at (λ n. bytes_eq (set_bits 5 n) (from_lowest 5 n)) (λ _. true) 256 n refl low)
 
 bits_of : (kind : Kind) (n : ℕ) → n < 256 → set_bits (length (fault_names kind)) n ≡ from_lowest (length (fault_names kind)) n
 bits_of Cpm8 n low = bits_of_seven n low
-bits_of D64 n low = bits_of_four n low
+bits_of _ n low = bits_of_five n low
 
 -- what a list has at a place
 got : {X : Type 0} (xs : List X) (i : ℕ) (x d : X) → slice_get xs i ≡ Some x → (i < length xs) × (slice_index_or xs i d ≡ x)
@@ -57,8 +57,8 @@ pub some_bit : (kind : Kind) (n : ℕ) (word : List ℕ) → slice_get (fault_na
 unfolding count_trailing_zeros
 some_bit Cpm8 zero word is = absurd (cc)
 some_bit Cpm8 (suc n) word is = omega arith
-some_bit D64 zero word is = absurd (cc)
-some_bit D64 (suc n) word is = omega arith
+some_bit _ zero word is = absurd (cc)
+some_bit _ (suc n) word is = omega arith
 
 -- a call that gives a word leaves one word less
 pub fewer_words : {S A : Type 0} (can : S → Type 0) (left : S → List (List ℕ)) (old new : S) (item : A) (word : List ℕ) → can new → left old ≡ word ∷ left new

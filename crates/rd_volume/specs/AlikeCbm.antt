@@ -1,8 +1,10 @@
 -- A 1541 image that agrees with another on the needed bytes tells what the other does.
 use Rattle.std.proofs.Common.{◌≡◌, ◌∙◌, ◌+◌, ◌-◌, ◌*◌, ◌/◌, ◌%◌, ◌<◌, ◌≤◌, ℕ, List, Contains, Some, ap, ap₂, arith, length, refl, slice_index, sym}
 use Rattle.std.specs.List.{concat}
-use Rattle.rd_geometry.specs.Blocks.{CBM_BLOCK_LENGTH, cbm_block, index_of, place_of_block}
-use Rattle.rd_geometry.specs.declared.kind.Kind.TheVariants.{D64}
+use Rattle.rd_geometry.specs.Blocks.{CBM_BLOCK_LENGTH, cbm_block, index_of, place_of_block, place_of_mark}
+use Rattle.rd_geometry.specs.Kinds.{IsCbm}
+use Rattle.rd_geometry.specs.declared.kind.Kind.{Kind}
+use Rattle.rd_geometry.specs.declared.kind.Kind.TheVariants.{Cpm8, D64}
 use Rattle.rd_cbm.specs.Entries.{Data, IsServed, Side, Way, class_of, entry_at, start_of, type_of}
 use Rattle.rd_cbm.specs.Faults.{HasNoFault, IsSound}
 use Rattle.rd_cbm.specs.Files.{AreDirectoryBlocks, IsFileSlot}
@@ -14,12 +16,13 @@ use Rattle.rd_cbm.proofs.Existence.{has_end}
 use Rattle.rd_cbm.proofs.Inside.{links_inside, start_inside}
 use Rattle.rd_volume.specs.AlikePieces.{pieces_alike, pieces_length}
 use Rattle.rd_volume.specs.CbmFounds.{IsCbmFile, bytes_of_chain}
+use Rattle.rd_volume.specs.CbmKinds.{not_cpm}
 use Rattle.rd_volume.specs.Directories.{OfDirectory, in_blocks, of_blocks}
 use Rattle.rd_volume.specs.Founds.{IsSoundFile}
 use Rattle.rd_volume.specs.Laws.{cbm_joined, cbm_sound}
-use Rattle.rd_volume.specs.Needed.{AgreesOnNeeded, IsNeededOfCbm, IsServedByte, byte_of_file, byte_of_used_entry, link_of_claimed, link_of_directory, place_of_cbm_entry, type_byte}
+use Rattle.rd_volume.specs.Needed.{AgreesOnNeeded, IsNeededOfCbm, IsServedByte, byte_of_file, byte_of_used_entry, link_of_claimed, link_of_directory, mark_of_claimed, place_of_cbm_entry, type_byte}
 use Rattle.rd_volume.specs.Printed.{cbm_type_of, printed}
-use Rattle.rd_volume.specs.Ranges.{same_inner_item, same_item, same_length, same_range}
+use Rattle.rd_volume.specs.Ranges.{same_inner_item, same_item, same_length, same_or, same_range}
 use Rattle.rd_volume.specs.Reports.{IsSoundSlot}
 use Rattle.rd_volume.specs.TellsAll.{HasLaw}
 use Rattle.rd_volume.specs.Volumes.{AreCbmBytes, pieces_of}
@@ -89,6 +92,7 @@ has_files image other served blocks has = record {
   start = start_same image other served blocks has;
   link = λ block claimed. link_same image other block (λ byte low.
       has.same (place_of_block block + byte) (link_of_claimed block byte claimed low refl));
+  mark = λ block claimed. same_or image other (place_of_mark block) 1 has.size (has.same (place_of_mark block) (mark_of_claimed block claimed refl));
 }
 
 -- Two images have a directory of the same blocks, and the first has what tells the files of the second.
@@ -101,8 +105,9 @@ record AreAlike (image other : List ℕ) : Type 0 where
 turned : (image other : List ℕ) → AreAlike image other → AreAlike other image
 turned image other alike = record { blocks = alike.blocks; of_image = alike.of_other; of_other = alike.of_image; files = files_turned alike.files }
 
-are_alike : (image other served : List ℕ) → AgreesOnNeeded D64 image other served → AreAlike image other
-are_alike image other served agrees =
+are_alike : (kind : Kind) → IsCbm kind → (image other served : List ℕ) → AgreesOnNeeded kind image other served → AreAlike image other
+are_alike Cpm8 cbm image other served agrees = absurd (not_cpm cbm)
+are_alike _ cbm image other served agrees =
     let walk = has_end (link_of other) (index_of 18 1) (links_inside other) (start_inside 18 1) in
     let has : HasNeeded image other served walk.blocks = record {
       size = agrees.size;
@@ -146,14 +151,15 @@ needed_alike image other served blocks has place (link_of_directory block byte a
 needed_alike image other served blocks has place (type_byte slot inside at) = type_byte slot inside at
 needed_alike image other served blocks has place (byte_of_used_entry slot byte file from to at) = byte_of_used_entry slot byte (slot_alike has file) from to at
 needed_alike image other served blocks has place (link_of_claimed block byte claimed low at) = link_of_claimed block byte (claimed_alike has block claimed) low at
+needed_alike image other served blocks has place (mark_of_claimed block claimed at) = mark_of_claimed block (claimed_alike has block claimed) at
 needed_alike image other served blocks has place (byte_of_file block byte is at) = byte_of_file block byte (served_byte_alike image other blocks served has block byte is) at
 
 -- a chain has as many bytes in both, whatever these are
 chain_length : (image other chain : List ℕ) (used last : ℕ) → used < 256 → last ≡ used - 1 → length image ≡ length other
     → length (bytes_of_chain other chain used) ≡ length (bytes_of_chain image chain used)
 chain_length image other chain used last byte is size =
-    ap length (sym (cbm_joined other chain used last is)) ∙ pieces_length D64 other image chain last (omega arith) (sym size)
-    ∙ ap length (cbm_joined image chain used last is)
+    ap length (sym (cbm_joined D64 refl other chain used last is)) ∙ pieces_length D64 other image chain last (omega arith) (sym size)
+    ∙ ap length (cbm_joined D64 refl image chain used last is)
 
 -- a file that is told of the other is told
 found_alike : (image other blocks : List ℕ) → length image ≡ length other → HasFilesOf image other blocks → (found : Found)
@@ -192,8 +198,10 @@ record IsSoundIn (image blocks : List ℕ) (slot : ℕ) : Type 0 where
   file : IsFileSlot image blocks slot
   sound : IsSound image blocks slot
 
-sound_in : (image blocks : List ℕ) → AreDirectoryBlocks image blocks → (slot : ℕ) → IsSoundSlot D64 image slot → IsSoundIn image blocks slot
-sound_in image blocks are slot is = record {
+sound_in : (kind : Kind) → IsCbm kind → (image blocks : List ℕ) → AreDirectoryBlocks image blocks → (slot : ℕ) → IsSoundSlot kind image slot
+    → IsSoundIn image blocks slot
+sound_in Cpm8 cbm image blocks are slot is = absurd (not_cpm cbm)
+sound_in _ cbm image blocks are slot is = record {
   file = of_blocks image blocks are (λ bs. IsFileSlot image bs slot) is.file;
   sound = record {
     served = of_blocks image blocks are (λ bs. IsServed (type_of (entry_at image bs slot))) is.class;
@@ -201,9 +209,11 @@ sound_in image blocks are slot is = record {
   };
 }
 
-sound_slot_alike : (image other : List ℕ) → AreAlike image other → (slot : ℕ) → IsSoundSlot D64 other slot → IsSoundSlot D64 image slot
-sound_slot_alike image other alike slot is =
-    let there : IsSoundIn other alike.blocks slot = sound_in other alike.blocks alike.of_other slot is in
+sound_slot_alike : (kind : Kind) → IsCbm kind → (image other : List ℕ) → AreAlike image other → (slot : ℕ) → IsSoundSlot kind other slot
+    → IsSoundSlot kind image slot
+sound_slot_alike Cpm8 cbm image other alike slot is = absurd (not_cpm cbm)
+sound_slot_alike kind cbm image other alike slot is =
+    let there : IsSoundIn other alike.blocks slot = sound_in kind cbm other alike.blocks alike.of_other slot is in
     let sound : IsSound image alike.blocks slot = sound_alike alike.files there.file there.sound in
     record {
       file = in_blocks image alike.blocks alike.of_image (λ bs. IsFileSlot image bs slot) (slot_alike alike.files there.file);
@@ -212,11 +222,12 @@ sound_slot_alike image other alike slot is =
     }
 
 -- the pieces of a served file are the same, and joined its bytes
-served_pieces : (image other served : List ℕ) → AgreesOnNeeded D64 image other served → (blocks : List ℕ) → AreDirectoryBlocks other blocks → (slot used last : ℕ) (chain : List ℕ)
+served_pieces : (kind : Kind) → IsCbm kind → (image other served : List ℕ) → AgreesOnNeeded kind image other served → (blocks : List ℕ) → AreDirectoryBlocks other blocks → (slot used last : ℕ) (chain : List ℕ)
     → last ≡ used - 1 → Contains served slot → IsSoundIn other blocks slot → IsChain (link_of other) (start_of (entry_at other blocks slot) Data) chain
-    → Ends (link_of other) (start_of (entry_at other blocks slot) Data) used → pieces_of D64 image chain last ≡ pieces_of D64 other chain last
-served_pieces image other served agrees blocks are slot used last chain is_last among is_sound is_chain ends =
-    pieces_alike D64 image other chain last agrees.size (λ position byte inside low before_last.
+    → Ends (link_of other) (start_of (entry_at other blocks slot) Data) used → pieces_of kind image chain last ≡ pieces_of kind other chain last
+served_pieces Cpm8 cbm image other served agrees blocks are slot used last chain is_last among is_sound is_chain ends = absurd (not_cpm cbm)
+served_pieces kind cbm image other served agrees blocks are slot used last chain is_last among is_sound is_chain ends =
+    pieces_alike kind image other chain last agrees.size (λ position byte inside low before_last.
     let block : ℕ = slice_index chain position in
     let place : ℕ = place_of_block block + 2 + byte in
     agrees.same place (in_blocks other blocks are (IsNeededOfCbm other served place) (byte_of_file block (2 + byte) (record {
@@ -236,43 +247,46 @@ served_pieces image other served agrees blocks are slot used last chain is_last 
       within_used = λ at_end. let before : byte < last = before_last at_end in omega arith;
     }) (omega arith))))
 
-bytes_alike : (image other served : List ℕ) → AgreesOnNeeded D64 image other served → AreAlike image other → (slot : ℕ) (bytes : List ℕ) → Contains served slot
-    → IsSoundSlot D64 other slot → OfDirectory other (AreCbmBytes other slot bytes) → OfDirectory image (AreCbmBytes image slot bytes)
-bytes_alike image other served agrees alike slot bytes among sound =
-    let there : IsSoundIn other alike.blocks slot = sound_in other alike.blocks alike.of_other slot sound in
+bytes_alike : (kind : Kind) → IsCbm kind → (image other served : List ℕ) → AgreesOnNeeded kind image other served → AreAlike image other → (slot : ℕ) (bytes : List ℕ)
+    → Contains served slot → IsSoundSlot kind other slot → OfDirectory other (AreCbmBytes other slot bytes) → OfDirectory image (AreCbmBytes image slot bytes)
+bytes_alike kind cbm image other served agrees alike slot bytes among sound =
+    let there : IsSoundIn other alike.blocks slot = sound_in kind cbm other alike.blocks alike.of_other slot sound in
     of_alike image other alike (AreCbmBytes other slot bytes) (AreCbmBytes image slot bytes) (λ are. record {
       chain = are.chain;
       used = are.used;
       is_chain = data_alike alike.files there.file there.sound are.chain are.is_chain;
       ends = data_end_alike alike.files there.file there.sound are.used are.ends;
-      joined = are.joined ∙ sym (cbm_joined other are.chain are.used (are.used - 1) refl)
-          ∙ sym (ap concat (served_pieces image other served agrees alike.blocks alike.of_other slot are.used (are.used - 1) are.chain refl among there are.is_chain are.ends))
-          ∙ cbm_joined image are.chain are.used (are.used - 1) refl;
+      joined = are.joined ∙ sym (cbm_joined kind cbm other are.chain are.used (are.used - 1) refl)
+          ∙ sym (ap concat (served_pieces kind cbm image other served agrees alike.blocks alike.of_other slot are.used (are.used - 1) are.chain refl among there are.is_chain are.ends))
+          ∙ cbm_joined kind cbm image are.chain are.used (are.used - 1) refl;
     })
 
-found_pieces : (image other served : List ℕ) → AgreesOnNeeded D64 image other served → (blocks : List ℕ) → AreDirectoryBlocks other blocks → (found : Found)
-    → Contains served found.slot → IsCbmFile other found blocks → IsSoundFile found → pieces_of D64 image found.units found.last_len ≡ pieces_of D64 other found.units found.last_len
-found_pieces image other served agrees blocks are found among told sound =
+found_pieces : (kind : Kind) → IsCbm kind → (image other served : List ℕ) → AgreesOnNeeded kind image other served → (blocks : List ℕ) → AreDirectoryBlocks other blocks
+    → (found : Found) → Contains served found.slot → IsCbmFile other found blocks → IsSoundFile found
+    → pieces_of kind image found.units found.last_len ≡ pieces_of kind other found.units found.last_len
+found_pieces kind cbm image other served agrees blocks are found among told sound =
     let contents = cbm_sound other blocks found told sound in
-    served_pieces image other served agrees blocks are found.slot contents.used found.last_len found.units contents.last among
+    served_pieces kind cbm image other served agrees blocks are found.slot contents.used found.last_len found.units contents.last among
     (record { file = told.slot; sound = record { served = told.class.0 sound.class; no_fault = told.faults.none.0 sound.sound } }) contents.chain contents.ends
 
-pub cbm_law : HasLaw D64
-cbm_law = record {
+-- the law of a 1541 image, with error bytes or without
+pub cbm_law : (kind : Kind) → IsCbm kind → HasLaw kind
+cbm_law Cpm8 cbm = absurd (not_cpm cbm)
+cbm_law kind cbm = record {
   needed = λ image other served agrees place.
-      let alike : AreAlike image other = are_alike image other served agrees in
+      let alike : AreAlike image other = are_alike kind cbm image other served agrees in
       let back : AreAlike other image = turned image other alike in (
         of_alike other image back (IsNeededOfCbm image served place) (IsNeededOfCbm other served place) (needed_alike other image served back.blocks back.files place),
         of_alike image other alike (IsNeededOfCbm other served place) (IsNeededOfCbm image served place) (needed_alike image other served alike.blocks alike.files place),
       );
   tells = λ image other served agrees.
-      let alike : AreAlike image other = are_alike image other served agrees in
+      let alike : AreAlike image other = are_alike kind cbm image other served agrees in
       record {
         file = λ slot. of_alike image other alike (λ blocks. IsFileSlot other blocks slot) (λ blocks. IsFileSlot image blocks slot) (slot_alike alike.files);
         found = λ found. of_alike image other alike (IsCbmFile other found) (IsCbmFile image found) (found_alike image other alike.blocks agrees.size alike.files found);
-        sound = sound_slot_alike image other alike;
-        bytes = bytes_alike image other served agrees alike;
-        pieces = λ found among told. found_pieces image other served agrees alike.blocks alike.of_other found among
+        sound = sound_slot_alike kind cbm image other alike;
+        bytes = bytes_alike kind cbm image other served agrees alike;
+        pieces = λ found among told. found_pieces kind cbm image other served agrees alike.blocks alike.of_other found among
             (of_blocks other alike.blocks alike.of_other (IsCbmFile other found) told);
       };
 }

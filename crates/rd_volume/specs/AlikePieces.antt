@@ -8,7 +8,7 @@ use Rattle.rd_geometry.specs.Blocks.{place_of_block}
 use Rattle.rd_geometry.specs.Kinds.{size_of}
 use Rattle.rd_geometry.specs.Laws.{block_inside, cpm_unit_inside}
 use Rattle.rd_geometry.specs.declared.kind.Kind.{Kind}
-use Rattle.rd_geometry.specs.declared.kind.Kind.TheVariants.{Cpm8, D64}
+use Rattle.rd_geometry.specs.declared.kind.Kind.TheVariants.{Cpm8}
 use Rattle.rd_volume.specs.Kinds.{room_of, unit_count_of}
 use Rattle.rd_volume.specs.Parts.{Part, bytes_of_part, part_of_unit, parts_of, place_of_body}
 use Rattle.rd_volume.specs.Ranges.{front_of_range, same_front, same_length, same_range}
@@ -17,7 +17,7 @@ use Rattle.rd_volume.specs.Volumes.{body_of, pieces_of}
 -- what a unit holds of a file is a part of the image, and a front of that is too
 whole_of_unit : (kind : Kind) (image : List ℕ) (unit : ℕ) → body_of kind image unit ≡ bytes_of_part image (part_of_unit kind unit (room_of kind))
 whole_of_unit Cpm8 image unit = refl
-whole_of_unit D64 image unit =
+whole_of_unit _ image unit =
     let start : ℕ = place_of_block unit in
     let rest : List ℕ = drop (start + 2) image in
     ap (λ n. drop 2 (take n (drop start image))) (let count : start + 256 - start ≡ 2 + 254 = omega arith in count)
@@ -40,7 +40,7 @@ pieces_are_parts kind image (unit ∷ next ∷ units) last fits =
 -- the part of a unit of the disk lies in the image
 unit_inside : (kind : Kind) (unit size : ℕ) → unit < unit_count_of kind → size ≡ size_of kind → place_of_body kind unit + room_of kind ≤ size
 unit_inside Cpm8 unit size low whole = cpm_unit_inside unit size low whole
-unit_inside D64 unit size low whole = let inside = block_inside unit size low whole in omega arith
+unit_inside _ unit size low whole = let inside = block_inside unit size low (omega arith) in omega arith
 
 -- and so do the parts of a file
 pub parts_inside : (kind : Kind) (units : List ℕ) (last size : ℕ) → All (λ unit. unit < unit_count_of kind) units → last ≤ room_of kind → size ≡ size_of kind

@@ -5,12 +5,15 @@ use Rattle.std.proofs.lemmas.Bool.{cases_Bool, cases_eq}
 use Rattle.std.proofs.lemmas.List.{length-drop, length-take, take_all}
 use Rattle.std.proofs.lemmas.List.Elements.{All-from_get_or, All-nil}
 use Rattle.rd_geometry.specs.Blocks.{CBM_BLOCKS, CBM_BLOCK_LENGTH, cbm_block}
+use Rattle.rd_geometry.specs.Kinds.{IsCbm}
 use Rattle.rd_geometry.specs.Places.{CPM_UNITS, CPM_UNIT_LENGTH, cpm_unit}
-use Rattle.rd_geometry.specs.declared.kind.Kind.TheVariants.{Cpm8, D64}
+use Rattle.rd_geometry.specs.declared.kind.Kind.{Kind}
+use Rattle.rd_geometry.specs.declared.kind.Kind.TheVariants.{Cpm8}
 use Rattle.rd_cpm.specs.Contents.{IsRecord, bytes_of_sectors}
 use Rattle.rd_cpm.specs.Entries.{pointer_of, slot_of}
 use Rattle.rd_cpm.specs.Faults.{IsSound}
 use Rattle.rd_volume.specs.CbmFounds.{HasCbmContents, IsCbmFile, bytes_of_chain}
+use Rattle.rd_volume.specs.CbmKinds.{cbm_body, not_cpm}
 use Rattle.rd_volume.specs.CpmFounds.{IsCpmFile, last_sector_length}
 use Rattle.rd_volume.specs.Founds.{Fits, HasNoContents, IsSoundFile}
 use Rattle.rd_volume.specs.Volumes.{IsFound, body_of, contents_of, pieces_of}
@@ -72,19 +75,25 @@ cpm_fits image found is = elim (cases_eq found.faults 0) [
       }
 ]
 
-block_body : (image : List ℕ) (block : ℕ) → slice_range (cbm_block image block) 2 CBM_BLOCK_LENGTH ≡ body_of D64 image block
-block_body image block = take_all 254 (drop 2 (cbm_block image block)) (simp (length-drop, length-take) (omega arith))
+block_body : (kind : Kind) → IsCbm kind → (image : List ℕ) (block : ℕ)
+    → slice_range (cbm_block image block) 2 CBM_BLOCK_LENGTH ≡ body_of kind image block
+block_body kind cbm image block =
+    take_all 254 (drop 2 (cbm_block image block)) (simp (length-drop, length-take) (omega arith)) ∙ sym (cbm_body kind cbm image block)
 
-last_body : (image : List ℕ) (block used last : ℕ) → last ≡ used - 1 → slice_range (cbm_block image block) 2 (used + 1) ≡ take last (body_of D64 image block)
-last_body image block used last is = let same : used + 1 - 2 ≡ last = omega arith in ap (λ n. take n (drop 2 (cbm_block image block))) same
+last_body : (kind : Kind) → IsCbm kind → (image : List ℕ) (block used last : ℕ) → last ≡ used - 1
+    → slice_range (cbm_block image block) 2 (used + 1) ≡ take last (body_of kind image block)
+last_body kind cbm image block used last is =
+    let same : used + 1 - 2 ≡ last = omega arith in
+    ap (λ n. take n (drop 2 (cbm_block image block))) same ∙ ap (take last) (sym (cbm_body kind cbm image block))
 
 -- the pieces of a chain of blocks, joined, are the bytes of the chain
-pub cbm_joined : (image blocks : List ℕ) (used last : ℕ) → last ≡ used - 1
-    → concat (pieces_of D64 image blocks last) ≡ bytes_of_chain image blocks used
-cbm_joined image [] used last is = refl
-cbm_joined image (block ∷ []) used last is = append-nil (take last (body_of D64 image block)) ∙ sym (last_body image block used last is)
-cbm_joined image (block ∷ next ∷ blocks) used last is =
-    ap₂ (λ xs ys. xs ++ ys) (sym (block_body image block)) (cbm_joined image (next ∷ blocks) used last is)
+pub cbm_joined : (kind : Kind) → IsCbm kind → (image blocks : List ℕ) (used last : ℕ) → last ≡ used - 1
+    → concat (pieces_of kind image blocks last) ≡ bytes_of_chain image blocks used
+cbm_joined kind cbm image [] used last is = refl
+cbm_joined kind cbm image (block ∷ []) used last is =
+    append-nil (take last (body_of kind image block)) ∙ sym (last_body kind cbm image block used last is)
+cbm_joined kind cbm image (block ∷ next ∷ blocks) used last is =
+    ap₂ (λ xs ys. xs ++ ys) (sym (block_body kind cbm image block)) (cbm_joined kind cbm image (next ∷ blocks) used last is)
 
 -- a file without fault that is of the class that is served is sound
 pub cbm_sound : (image blocks : List ℕ) (found : Found) → IsCbmFile image found blocks → IsSoundFile found → HasCbmContents image blocks found
@@ -92,31 +101,35 @@ cbm_sound image blocks found is sound =
     is.sound (record { served = is.class.0 sound.class; no_fault = is.faults.none.0 sound.sound })
 
 -- a sound file of a 1541 image is as long as its pieces are together
-pub cbm_total : (image : List ℕ) (found : Found) → IsFound D64 image found → IsSoundFile found
-    → found.size ≡ Some (length (contents_of D64 image found))
-cbm_total image found is sound =
+pub cbm_total : (kind : Kind) → IsCbm kind → (image : List ℕ) (found : Found) → IsFound kind image found → IsSoundFile found
+    → found.size ≡ Some (length (contents_of kind image found))
+cbm_total Cpm8 cbm image found is sound = absurd (not_cpm cbm)
+cbm_total kind cbm image found is sound =
     let told = cbm_sound image is.blocks found is.holds sound in
-    told.size ∙ ap (λ bytes. Some (length bytes)) (sym (cbm_joined image found.units told.used found.last_len told.last))
+    told.size ∙ ap (λ bytes. Some (length bytes)) (sym (cbm_joined kind cbm image found.units told.used found.last_len told.last))
 
-no_contents_fit : (found : Found) → HasNoContents found → Fits D64 found
-no_contents_fit found none = record {
+no_contents_fit : (kind : Kind) → IsCbm kind → (found : Found) → HasNoContents found → Fits kind found
+no_contents_fit Cpm8 cbm found none = absurd (not_cpm cbm)
+no_contents_fit _ cbm found none = record {
   units = subst (All (λ unit. unit < CBM_BLOCKS)) (sym none.units) (All-nil (λ unit. unit < CBM_BLOCKS));
   last = let last : found.last_len ≡ 0 = none.last in omega arith;
 }
 
-contents_fit : (image blocks : List ℕ) (found : Found) → HasCbmContents image blocks found → Fits D64 found
-contents_fit image blocks found told = record {
+contents_fit : (kind : Kind) → IsCbm kind → (image blocks : List ℕ) (found : Found) → HasCbmContents image blocks found → Fits kind found
+contents_fit Cpm8 cbm image blocks found told = absurd (not_cpm cbm)
+contents_fit _ cbm image blocks found told = record {
   units = told.on_disk;
   last = let byte : told.used < 256 = told.byte in let last : found.last_len ≡ told.used - 1 = told.last in omega arith;
 }
 
 -- a file of a 1541 image lies in the image
-pub cbm_fits : (image : List ℕ) (found : Found) → IsFound D64 image found → Fits D64 found
-cbm_fits image found is = elim (cases_Bool found.served_class) [
+pub cbm_fits : (kind : Kind) → IsCbm kind → (image : List ℕ) (found : Found) → IsFound kind image found → Fits kind found
+cbm_fits Cpm8 cbm image found is = absurd (not_cpm cbm)
+cbm_fits kind cbm image found is = elim (cases_Bool found.served_class) [
   | inl served ↦ elim (cases_eq found.faults 0) [
-    | inl zero ↦ contents_fit image is.blocks found (cbm_sound image is.blocks found is.holds (record { class = served; sound = zero }))
-    | inr some ↦ no_contents_fit found (is.holds.faulty (λ sound. some (is.holds.faults.none.1 sound.no_fault)))
+    | inl zero ↦ contents_fit kind cbm image is.blocks found (cbm_sound image is.blocks found is.holds (record { class = served; sound = zero }))
+    | inr some ↦ no_contents_fit kind cbm found (is.holds.faulty (λ sound. some (is.holds.faults.none.1 sound.no_fault)))
   ]
-  | inr other ↦ no_contents_fit found
+  | inr other ↦ no_contents_fit kind cbm found
       (is.holds.faulty (λ sound. let served : found.served_class ≡ true = is.holds.class.1 sound.served in let wrong : true ≡ false = sym served ∙ other in cc))
 ]

@@ -10,6 +10,7 @@ pub mod Disks
 pub mod PiecesLeft
 pub mod Tallies
 pub mod Reports
+pub mod CbmKinds
 pub mod Laws
 pub mod Told
 pub mod Parts

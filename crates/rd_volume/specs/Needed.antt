@@ -2,10 +2,10 @@
 -- Which files are served is a list of slots: of the files at these the sound ones are, and the others
 -- are not. A byte is known by its place in the image, counted from 0.
 use Rattle.std.specs.Prelude.{◌≡◌, ◌≢◌, ◌+◌, ◌*◌, ◌/◌, ◌%◌, ◌<◌, ◌≤◌, ◌↔◌, ℕ, List, Contains, length, slice_index}
-use Rattle.rd_geometry.specs.Blocks.{CBM_BLOCK_LENGTH, place_of_block}
+use Rattle.rd_geometry.specs.Blocks.{CBM_BLOCK_LENGTH, place_of_block, place_of_mark}
 use Rattle.rd_geometry.specs.Places.{CPM_UNIT_LENGTH, place_of_cpm_unit}
 use Rattle.rd_geometry.specs.declared.kind.Kind.{Kind}
-use Rattle.rd_geometry.specs.declared.kind.Kind.TheVariants.{Cpm8, D64}
+use Rattle.rd_geometry.specs.declared.kind.Kind.TheVariants.{Cpm8, D64, D64e}
 use Rattle.rd_cbm.specs.Entries.{Data, entry_at, start_of}
 use Rattle.rd_cbm.specs.Faults as cbm_fault
 use Rattle.rd_cbm.specs.Files as cbm_file
@@ -71,7 +71,8 @@ pub record IsServedByte (image blocks served : List ℕ) (block byte : ℕ) : Ty
 -- The byte at a place of a 1541 image, whose directory's blocks are handed in, is needed. It is one of the
 -- link, bytes 0 and 1, of a block of the directory; or it is byte 2 of an entry, which is the type byte;
 -- or it is one of bytes 3 to 22 of an entry of a file; or it is one of the link of a block that a file
--- claims; or it is a byte of a served file.
+-- claims, or that block's error byte; or it is a byte of a served file. An image without error bytes ends
+-- before the places of these, and so has no byte there.
 pub data IsNeededOfCbm (image served : List ℕ) (place : ℕ) (blocks : List ℕ) : Type 0 where
   link_of_directory : (block byte : ℕ) → Contains blocks block → byte < 2
       → place ≡ place_of_block block + byte → IsNeededOfCbm image served place blocks
@@ -81,6 +82,8 @@ pub data IsNeededOfCbm (image served : List ℕ) (place : ℕ) (blocks : List �
       → place ≡ place_of_cbm_entry blocks slot + byte → IsNeededOfCbm image served place blocks
   link_of_claimed : (block byte : ℕ) → cbm_file.IsClaimed image blocks block → byte < 2
       → place ≡ place_of_block block + byte → IsNeededOfCbm image served place blocks
+  mark_of_claimed : (block : ℕ) → cbm_file.IsClaimed image blocks block
+      → place ≡ place_of_mark block → IsNeededOfCbm image served place blocks
   byte_of_file : (block byte : ℕ) → IsServedByte image blocks served block byte
       → place ≡ place_of_block block + byte → IsNeededOfCbm image served place blocks
 
@@ -88,6 +91,7 @@ pub data IsNeededOfCbm (image served : List ℕ) (place : ℕ) (blocks : List �
 abbrev pub IsNeeded : Kind → List ℕ → List ℕ → ℕ → Type 0
 IsNeeded Cpm8 image served place = IsNeededOfCpm image served place
 IsNeeded D64 image served place = OfDirectory image (IsNeededOfCbm image served place)
+IsNeeded D64e image served place = OfDirectory image (IsNeededOfCbm image served place)
 
 -- An image agrees with another, which is as long, on the other's needed bytes.
 pub record AgreesOnNeeded (kind : Kind) (image other served : List ℕ) : Type 0 where

@@ -3,7 +3,7 @@ use Rattle.std.specs.Prelude.{◌+◌, ℕ, List, [], ◌∷◌, slice_range}
 use Rattle.rd_geometry.specs.Blocks.{place_of_block}
 use Rattle.rd_geometry.specs.Places.{place_of_cpm_unit}
 use Rattle.rd_geometry.specs.declared.kind.Kind.{Kind}
-use Rattle.rd_geometry.specs.declared.kind.Kind.TheVariants.{Cpm8, D64}
+use Rattle.rd_geometry.specs.declared.kind.Kind.TheVariants.{Cpm8, D64, D64e}
 use Rattle.rd_volume.specs.Kinds.{room_of}
 
 -- A part of an image: so many bytes, from a place on.
@@ -20,6 +20,7 @@ bytes_of_part image part = slice_range image part.start (part.start + part.count
 abbrev pub place_of_body : Kind → ℕ → ℕ
 place_of_body Cpm8 unit = place_of_cpm_unit unit
 place_of_body D64 unit = place_of_block unit + 2
+place_of_body D64e unit = place_of_block unit + 2
 
 -- the part from which a unit gives so many bytes of a file
 abbrev pub part_of_unit : Kind → ℕ → ℕ → Part

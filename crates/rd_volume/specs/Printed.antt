@@ -5,22 +5,28 @@ use Rattle.std.specs.List.{suffix_len}
 use Rattle.rd_cbm.specs.declared.class.Class.{Class}
 use Rattle.rd_cbm.specs.declared.class.Class.TheVariants.{Del, Seq, Prg, Usr, Rel, Other}
 use Rattle.rd_geometry.specs.declared.kind.Kind.{Kind}
-use Rattle.rd_geometry.specs.declared.kind.Kind.TheVariants.{Cpm8, D64}
+use Rattle.rd_geometry.specs.declared.kind.Kind.TheVariants.{Cpm8, D64, D64e}
 
 -- the byte that fills up a name: a blank on a CP/M disk, A0 hex on a 1541 disk
 abbrev pub pad_of : Kind → ℕ
 pad_of Cpm8 = 0x20
 pad_of D64 = 0xA0
+pad_of D64e = 0xA0
 
 -- the bytes of a name or a type without the pad at their end
 abbrev pub without_pad : ℕ → List ℕ → List ℕ
 without_pad pad bytes = take (length bytes - suffix_len (λ byte. byte == pad) bytes) bytes
 
--- a byte prints as itself: it is ASCII from blank to `~`, and not `%` (37); on a CP/M disk, whose names
--- have a dot before their type, not `.` (46) either
+-- a byte is ASCII from blank to `~`, and not `%` (37)
+abbrev pub is_readable : ℕ → Bool
+is_readable byte = is_in_range 0x20 0x7E byte && not (byte == 37)
+
+-- a byte prints as itself: it is readable; on a CP/M disk, whose names have a dot before their type, it is
+-- not `.` (46) either
 abbrev pub is_plain : Kind → ℕ → Bool
-is_plain Cpm8 byte = is_in_range 0x20 0x7E byte && not (byte == 37) && not (byte == 46)
-is_plain D64 byte = is_in_range 0x20 0x7E byte && not (byte == 37)
+is_plain Cpm8 byte = is_readable byte && not (byte == 46)
+is_plain D64 byte = is_readable byte
+is_plain D64e byte = is_readable byte
 
 -- the hexadecimal digit of a number below 16, in upper case: 48 is `0`, 65 is `A`
 abbrev pub hex_digit : ℕ → ℕ

@@ -1,8 +1,17 @@
 -- Ranges of lists: their items, and when two lists have the same.
-use Rattle.std.proofs.Common.{◌≡◌, ◌∙◌, inl, inr, ◌+◌, ◌-◌, ◌<◌, ◌≤◌, ℕ, List, ap, arith, drop, ext_get_or, length, refl, slice_index, slice_range, subst, sym, take}
+use Rattle.std.proofs.Common.{◌≡◌, ◌∙◌, inl, inr, ◌+◌, ◌-◌, ◌<◌, ◌≤◌, ℕ, List, ap, arith, drop, ext_get_or, length, refl, slice_index, slice_index_or, slice_range, subst, sym, take}
 use Rattle.std.proofs.lemmas.Bool.{cases_lt}
-use Rattle.std.proofs.lemmas.List.{get_or-drop, get_or-take, length-drop, length-take, take-take}
+use Rattle.std.proofs.lemmas.List.{get_or-drop, get_or-take, get_or_default, get_or_past, length-drop, length-take, take-take}
 use Rattle.std.proofs.Math.ListN.{get_or-eq_default}
+
+-- an item that is the same in two lists of one length, where 0 stands for an item past the end, is the same
+-- where another number stands for it
+pub same_or : (xs ys : List ℕ) (i past : ℕ) → length xs ≡ length ys → slice_index xs i ≡ slice_index ys i
+    → slice_index_or xs i past ≡ slice_index_or ys i past
+same_or xs ys i past size same = elim (cases_lt i (length xs)) [
+  | inl inside ↦ get_or_default xs i past 0 inside ∙ same ∙ get_or_default ys i 0 past (omega arith)
+  | inr beyond ↦ get_or_past xs i past beyond ∙ sym (get_or_past ys i past (omega arith))
+]
 
 -- an item of a range is one of the list
 pub item_of_range : (xs : List ℕ) (a b i : ℕ) → a + i < b → slice_index (slice_range xs a b) i ≡ slice_index xs (a + i)

@@ -2,7 +2,7 @@
 use Rattle.std.specs.Prelude.{◌≡◌, ℕ, List, [], slice_range}
 use Rattle.rd_geometry.specs.Blocks.{index_of}
 use Rattle.rd_geometry.specs.declared.kind.Kind.{Kind}
-use Rattle.rd_geometry.specs.declared.kind.Kind.TheVariants.{Cpm8, D64}
+use Rattle.rd_geometry.specs.declared.kind.Kind.TheVariants.{Cpm8, D64, D64e}
 use Rattle.rd_cbm.specs.BlockMap.{map_of}
 use Rattle.rd_cbm.specs.Counts.{IsCount}
 use Rattle.rd_cbm.specs.Entries.{Way, Data, ClaimsBy, entry_at, size_field_of, type_of}
@@ -39,21 +39,29 @@ pub record HasOtherSize (image : List ℕ) (k : ℕ) (blocks : List ℕ) : Type 
 abbrev pub DiffersInSize : Kind → List ℕ → ℕ → Type 0
 DiffersInSize Cpm8 image k = ⊥
 DiffersInSize D64 image k = OfDirectory image (HasOtherSize image k)
+DiffersInSize D64e image k = OfDirectory image (HasOtherSize image k)
 
 -- the block map's three counts, zeros for a CP/M disk, which has none
 abbrev pub IsMapReport : Kind → List ℕ → MapReport → Type 0
 IsMapReport Cpm8 image map = map ≡ record { wrong_counts = 0; claimed_free = 0; unclaimed_used = 0 }
 IsMapReport D64 image map = AreCounts image map
+IsMapReport D64e image map = AreCounts image map
 
 -- how the directory's walk ends; that of a CP/M disk, which has no links, is at a last block
 abbrev pub IsDirectoryEnd : Kind → List ℕ → End → Type 0
 IsDirectoryEnd Cpm8 image ends = ends ≡ end.Last 0
 IsDirectoryEnd D64 image ends = EndsBy (link_of image) (index_of 18 1) ends
+IsDirectoryEnd D64e image ends = EndsBy (link_of image) (index_of 18 1) ends
 
--- the printed name of the disk, bytes 144 to 159 of 18/0; a CP/M disk has none
+-- the printed name of a 1541 disk, bytes 144 to 159 of 18/0
+abbrev pub cbm_label_of : List ℕ → List ℕ
+cbm_label_of image = printed D64 (slice_range (map_of image) 144 160)
+
+-- the printed name of the disk; a CP/M disk has none
 abbrev pub label_of : Kind → List ℕ → List ℕ
 label_of Cpm8 image = []
-label_of D64 image = printed D64 (slice_range (map_of image) 144 160)
+label_of D64 image = cbm_label_of image
+label_of D64e image = cbm_label_of image
 
 -- The report is that of the image: how many files it has, how many of them are sound and how many have
 -- a fault, how many differ in size from what their entries tell, the block map's counts, the

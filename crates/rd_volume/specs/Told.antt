@@ -1,7 +1,7 @@
 -- What callers conclude of a file that is told as it is in its image.
-use Rattle.std.proofs.Common.{◌≡◌, ◌↔◌, ℕ, List, IsTrue}
+use Rattle.std.proofs.Common.{◌≡◌, ◌↔◌, ℕ, List, IsTrue, refl}
 use Rattle.rd_geometry.specs.declared.kind.Kind.{Kind}
-use Rattle.rd_geometry.specs.declared.kind.Kind.TheVariants.{Cpm8, D64}
+use Rattle.rd_geometry.specs.declared.kind.Kind.TheVariants.{Cpm8}
 use Rattle.rd_volume.specs.Directories.{in_blocks, of_blocks}
 use Rattle.rd_volume.specs.Founds.{IsSoundFile}
 use Rattle.rd_volume.specs.Laws.{cbm_joined, cbm_sound, cpm_joined}
@@ -12,13 +12,13 @@ use Rattle.rd_volume.specs.declared.found.Found.{Found}
 -- its slot is a file's
 pub told_slot : (kind : Kind) (image : List ℕ) (found : Found) → IsFound kind image found → IsSlotOfFile kind image found.slot
 told_slot Cpm8 image found told = told.slot
-told_slot D64 image found told = in_blocks image told.blocks told.are_blocks _ told.holds.slot
+told_slot _ image found told = in_blocks image told.blocks told.are_blocks _ told.holds.slot
 
 -- it is of the class that is served exactly where the file of its slot is
 pub told_served : (kind : Kind) (image : List ℕ) (found : Found) → IsFound kind image found
     → IsTrue found.served_class ↔ IsOfServedClass kind image found.slot
 told_served Cpm8 image found told = (λ _. tt, λ _. told.class)
-told_served D64 image found told = (
+told_served _ image found told = (
   λ served. in_blocks image told.blocks told.are_blocks _ (told.holds.class.0 served),
   λ served. told.holds.class.1 (of_blocks image told.blocks told.are_blocks _ served),
 )
@@ -27,7 +27,7 @@ told_served D64 image found told = (
 pub told_faults : (kind : Kind) (image : List ℕ) (found : Found) → IsFound kind image found
     → (found.faults ≡ 0) ↔ HasNoFault kind image found.slot
 told_faults Cpm8 image found told = told.faults.sound
-told_faults D64 image found told = (
+told_faults _ image found told = (
   λ zero. in_blocks image told.blocks told.are_blocks _ (told.holds.faults.none.0 zero),
   λ none. told.holds.faults.none.1 (of_blocks image told.blocks told.are_blocks _ none),
 )
@@ -57,12 +57,12 @@ told_bytes Cpm8 image found told sound =
       are_sectors = contents.units;
       joined = cpm_joined image found.units found.last_len contents.last;
     }
-told_bytes D64 image found told sound =
+told_bytes kind image found told sound =
     let contents = cbm_sound image told.blocks found told.holds sound in
     in_blocks image told.blocks told.are_blocks _ (record {
       chain = found.units;
       used = contents.used;
       is_chain = contents.chain;
       ends = contents.ends;
-      joined = cbm_joined image found.units contents.used found.last_len contents.last;
+      joined = cbm_joined kind refl image found.units contents.used found.last_len contents.last;
     })

@@ -2,13 +2,18 @@
 use Rattle.std.specs.Prelude.{ℕ, ◌/◌, ◌%◌, ◌^◌, ◌==◌, List, [], ◌∷◌, codes, filter, length, map}
 use Rattle.std.specs.List.{range_with_len, slice_index_or}
 use Rattle.rd_geometry.specs.declared.kind.Kind.{Kind}
-use Rattle.rd_geometry.specs.declared.kind.Kind.TheVariants.{Cpm8, D64}
+use Rattle.rd_geometry.specs.declared.kind.Kind.TheVariants.{Cpm8, D64, D64e}
 use Rattle.rd_volume.specs.declared.words.FaultWords.{FaultWords}
+
+-- the words of a 1541 file's faults, from bit 0 on
+abbrev pub cbm_fault_names : List (List ℕ)
+cbm_fault_names = codes "not-closed" ∷ codes "off-disk" ∷ codes "loop" ∷ codes "crossed" ∷ codes "read-error" ∷ []
 
 -- the words of a kind's faults, from bit 0 on
 abbrev pub fault_names : Kind → List (List ℕ)
 fault_names Cpm8 = codes "bad-count" ∷ codes "duplicate" ∷ codes "gap" ∷ codes "short" ∷ codes "hole" ∷ codes "off-disk" ∷ codes "crossed" ∷ []
-fault_names D64 = codes "not-closed" ∷ codes "off-disk" ∷ codes "loop" ∷ codes "crossed" ∷ []
+fault_names D64 = cbm_fault_names
+fault_names D64e = cbm_fault_names
 
 -- the bits below `count` that are set in a number, ascending
 abbrev pub set_bits : ℕ → ℕ → List ℕ

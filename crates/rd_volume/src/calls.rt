@@ -1,4 +1,4 @@
-//! The calls over an image of either kind.
+//! The calls over an image of any kind.
 
 ghost use Rattle.std.specs.Prelude.{◌≡◌, ◌<◌, All, AllPairs, IfOk, IfSome, Some, length};
 ghost use Rattle.rd_geometry.specs.Images.{bytes_of, kind_of};

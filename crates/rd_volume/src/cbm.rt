@@ -3,7 +3,7 @@
 ghost use Rattle.std.specs.Prelude.{◌≡◌, ◌≢◌, ◌-◌, ◌<◌, ◌≤◌, ◌==◌, All, IfOk, IfSome, None, Some, count_by, length, not, true};
 ghost use Rattle.rd_cbm.specs.BlockMap.{map_of};
 ghost use Rattle.rd_geometry.specs.Blocks.{CBM_BLOCKS, CBM_BLOCK_LENGTH};
-ghost use Rattle.rd_geometry.specs.CbmDisks.{cbm_bytes};
+ghost use Rattle.rd_geometry.specs.CbmDisks.{cbm_bytes, cbm_kind};
 ghost use Rattle.rd_volume.specs.Founds.{Fits};
 ghost use Rattle.rd_volume.specs.Volumes.{IsFoundAt, body_of};
 ghost use Rattle.rd_volume.specs.Reports.{IsDirectoryEnd, IsReport, label_of};
@@ -14,7 +14,7 @@ use crate::found::Found;
 use crate::printed::{cbm_name, cbm_type};
 use crate::reports::Report;
 use rd_cbm::{CbmFile, Class, End};
-use rd_geometry::{CbmDisk, Geometry, Kind, NoMemory, Text};
+use rd_geometry::{CbmDisk, Geometry, NoMemory, Text};
 use std::alloc::Global;
 
 /// How many bytes of a file a block holds: all but the two of its link.
@@ -23,7 +23,7 @@ const ROOM: u32 = 254;
 /// The bytes of a block in which a file's bytes stand: all but its link.
 pub(crate) fn body<'a>(disk: &CbmDisk<'a>, n: u16) -> &'a [u8]
     requires { n < CBM_BLOCKS }
-    ensures value { result.now ≡ body_of Kind.D64 (cbm_bytes disk.now) n }
+    ensures value { result.now ≡ body_of (cbm_kind disk.now) (cbm_bytes disk.now) n }
     ensures sized { length result.now ≡ 254 }
 {
     &disk.unit(n)[2..]
@@ -107,8 +107,8 @@ pub(crate) fn tell_files(alloc: Global, files: Vec<CbmFile>) -> Result<Vec<Found
 
 /// The file at a slot of a 1541 disk as both kinds tell it, `None` where no file has the slot.
 pub(crate) fn find(alloc: Global, disk: &CbmDisk, slot: u16) -> Result<Option<Found>, NoMemory>
-    ensures file { IfOk result (IsFoundAt Kind.D64 (cbm_bytes disk.now) slot) }
-    ensures fits { IfOk result (λ answer. IfSome answer (Fits Kind.D64)) }
+    ensures file { IfOk result (IsFoundAt (cbm_kind disk.now) (cbm_bytes disk.now) slot) }
+    ensures fits { IfOk result (λ answer. IfSome answer (Fits (cbm_kind disk.now))) }
 {
     let Some(file) = rd_cbm::file(alloc, disk, slot)? else {
         return Ok(None);
@@ -118,7 +118,7 @@ pub(crate) fn find(alloc: Global, disk: &CbmDisk, slot: u16) -> Result<Option<Fo
 
 /// How the walk along the blocks of the directory ends.
 pub(crate) fn directory_end(alloc: Global, disk: &CbmDisk) -> Result<End, NoMemory>
-    ensures { IfOk result (IsDirectoryEnd Kind.D64 (cbm_bytes disk.now)) }
+    ensures { IfOk result (IsDirectoryEnd (cbm_kind disk.now) (cbm_bytes disk.now)) }
 {
     Ok(rd_cbm::chain(alloc, disk, (18, 1))?.end)
 }
@@ -175,14 +175,14 @@ fn map_block<'a>(disk: &CbmDisk<'a>) -> &'a [u8]
 
 /// The printed name of a disk.
 fn label(alloc: Global, disk: &CbmDisk) -> Result<Text, NoMemory>
-    ensures { IfOk result (λ text. text ≡ label_of Kind.D64 (cbm_bytes disk.now)) }
+    ensures { IfOk result (λ text. text ≡ label_of (cbm_kind disk.now) (cbm_bytes disk.now)) }
 {
     cbm_name(alloc, &map_block(disk)[144..160])
 }
 
 /// What a 1541 disk has, counted.
 pub(crate) fn report(alloc: Global, disk: &CbmDisk) -> Result<Report, NoMemory>
-    ensures { IfOk result (IsReport Kind.D64 (cbm_bytes disk.now)) }
+    ensures { IfOk result (IsReport (cbm_kind disk.now) (cbm_bytes disk.now)) }
 {
     let directory = rd_cbm::directory(alloc, disk)?;
     let files = rd_cbm::files(alloc, disk)?;

@@ -11,7 +11,7 @@ use rd_geometry::{CbmDisk, CpmDisk, Geometry, Image, Kind};
 pub(crate) enum Disk<'a> {
     /// A CP/M disk.
     Cpm(CpmDisk<'a>),
-    /// A 1541 disk.
+    /// A 1541 disk, with error bytes in its image or without.
     Cbm(CbmDisk<'a>),
 }
 
@@ -25,7 +25,7 @@ impl<'a> Disk<'a> {
     {
         match image.kind() {
             Kind::Cpm8 => Disk::Cpm(CpmDisk::of(image).unwrap()),
-            Kind::D64 => Disk::Cbm(CbmDisk::of(image).unwrap()),
+            Kind::D64 | Kind::D64e => Disk::Cbm(CbmDisk::of(image).unwrap()),
         }
     }
 

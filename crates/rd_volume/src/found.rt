@@ -18,7 +18,7 @@ pub struct Found {
     /// How many bytes it has, where it is sound.
     pub size: Option<u32>,
     /// Its faults by bit: on a CP/M disk 0 bad-count, 1 duplicate, 2 gap, 3 short, 4 hole, 5 off-disk,
-    /// 6 crossed; on a 1541 disk 0 not-closed, 1 off-disk, 2 loop, 3 crossed.
+    /// 6 crossed; on a 1541 disk 0 not-closed, 1 off-disk, 2 loop, 3 crossed, 4 read-error.
     pub faults: u8,
     /// The units of the disk that hold its bytes, in order, where it is sound; else none. They are
     /// logical sectors, 0 to 1,949, on a CP/M disk, and blocks, 0 to 682, on a 1541 disk.

@@ -11,7 +11,7 @@ pub(crate) fn unit_count(kind: Kind) -> u16
 {
     match kind {
         Kind::Cpm8 => 1950,
-        Kind::D64 => 683,
+        Kind::D64 | Kind::D64e => 683,
     }
 }
 
@@ -21,6 +21,6 @@ pub(crate) fn room(kind: Kind) -> u16
 {
     match kind {
         Kind::Cpm8 => 128,
-        Kind::D64 => 254,
+        Kind::D64 | Kind::D64e => 254,
     }
 }

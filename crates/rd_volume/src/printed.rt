@@ -14,7 +14,7 @@ fn pad(kind: Kind) -> u8
 {
     match kind {
         Kind::Cpm8 => b' ',
-        Kind::D64 => 0xa0,
+        Kind::D64 | Kind::D64e => 0xa0,
     }
 }
 
@@ -36,7 +36,7 @@ fn prints_plain(kind: Kind, byte: u8) -> bool
 {
     match kind {
         Kind::Cpm8 => (b' '..=b'~').contains(&byte) && byte != b'%' && byte != b'.',
-        Kind::D64 => (b' '..=b'~').contains(&byte) && byte != b'%',
+        Kind::D64 | Kind::D64e => (b' '..=b'~').contains(&byte) && byte != b'%',
     }
 }
 

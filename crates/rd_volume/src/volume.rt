@@ -1,6 +1,6 @@
 ghost use Rattle.std.specs.Prelude.{◌≡◌, ◌<◌, ℕ, List, [], AllPairs, IfOk, Some, length, slice_index_or};
 ghost use Rattle.rd_geometry.specs.declared.kind.Kind.{Kind};
-ghost use Rattle.rd_geometry.specs.declared.kind.Kind.TheVariants.{Cpm8, D64};
+ghost use Rattle.rd_geometry.specs.declared.kind.Kind.TheVariants.{Cpm8};
 ghost use Rattle.rd_volume.specs.Founds.{Fits, IsSoundFile};
 ghost use Rattle.rd_volume.specs.Needed.{AgreesOnNeeded, TellTheSame};
 ghost use Rattle.rd_volume.specs.Reports.{IsReport};
@@ -94,9 +94,9 @@ impl<'a> Volume<'a> for CpmDisk<'a> {
 }
 
 impl<'a> Volume<'a> for CbmDisk<'a> {
-    ghost use Rattle.rd_geometry.specs.CbmDisks.{cbm_bytes};
+    ghost use Rattle.rd_geometry.specs.CbmDisks.{cbm_bytes, cbm_kind};
 
-    ghost volume_kind = { λ _. D64 };
+    ghost volume_kind = { cbm_kind };
 
     fn survey(&self, alloc: Global) -> Result<Items<Found>, NoMemory> {
         let _sized = &self;
@@ -121,11 +121,11 @@ impl<'a> Volume<'a> for CbmDisk<'a> {
 
     ghost ascending = { λ disk founds are. are.ascending };
 
-    ghost fitting = { λ disk. cbm_fits (cbm_bytes disk) };
+    ghost fitting = { λ disk. cbm_fits (cbm_kind disk) disk.cbm (cbm_bytes disk) };
 
-    ghost total = { λ disk. cbm_total (cbm_bytes disk) };
+    ghost total = { λ disk. cbm_total (cbm_kind disk) disk.cbm (cbm_bytes disk) };
 
     ghost use Rattle.rd_volume.specs.NeededLaw.{tell_the_same};
 
-    ghost hidden = { λ disk image served. tell_the_same D64 image (cbm_bytes disk) served };
+    ghost hidden = { λ disk image served. tell_the_same (cbm_kind disk) image (cbm_bytes disk) served };
 }

@@ -16,7 +16,7 @@ const CPM_WORDS: [&str; 7] = [
 ];
 
 /// The words of a 1541 file's faults, from bit 0 on.
-const CBM_WORDS: [&str; 4] = ["not-closed", "off-disk", "loop", "crossed"];
+const CBM_WORDS: [&str; 5] = ["not-closed", "off-disk", "loop", "crossed", "read-error"];
 
 /// The words of a file's faults, in the order of their bits: an iterator that takes no memory and leaves
 /// out a bit for which the kind has no word.
@@ -43,7 +43,7 @@ impl FaultWords {
     {
         match kind {
             Kind::Cpm8 => CPM_WORDS.get(bit as usize).copied(),
-            Kind::D64 => CBM_WORDS.get(bit as usize).copied(),
+            Kind::D64 | Kind::D64e => CBM_WORDS.get(bit as usize).copied(),
         }
     }
 }

@@ -1,9 +1,9 @@
-use Rattle.rd_geometry.specs.CbmDisks.{cbm_bytes}
+use Rattle.rd_geometry.specs.CbmDisks.{cbm_bytes, cbm_kind}
 use Rattle.rd_volume.proofs.CbmLemmas.{answered, few_blocks, found_at, found_none}
 use Rattle.rd_volume.proofs.cbm.find.Goals as goal
 
 pub returns-in_default-clause-file : goal.returns-in_default-clause-file
-returns-in_default-clause-file c = found_none (cbm_bytes c.args.disk.now) c.args.slot _ c.in_default.is c.in_ok-file.ensures
+returns-in_default-clause-file c = found_none (cbm_kind c.args.disk.now) c.args.disk.now.cbm (cbm_bytes c.args.disk.now) c.args.slot _ c.in_default.is c.in_ok-file.ensures
 
 pub tell-requires : goal.tell-requires
 tell-requires c =
@@ -12,4 +12,5 @@ tell-requires c =
 
 pub returns-clause-file : goal.returns-clause-file
 returns-clause-file c =
-    found_at (cbm_bytes c.args.disk.now) c.args.slot _ c.in-Some.file c.in_ok-tell.field-0 c.args.disk.now.sized c.in-Some.is c.in_ok-file.ensures c.in_ok-tell.ensures
+    found_at (cbm_kind c.args.disk.now) c.args.disk.now.cbm (cbm_bytes c.args.disk.now) c.args.slot _ c.in-Some.file c.in_ok-tell.field-0
+    c.args.disk.now.long c.in-Some.is c.in_ok-file.ensures c.in_ok-tell.ensures
