@@ -1,7 +1,7 @@
 //! Images of 1541 disks, written without the code that reads them.
 
-ghost use Rattle.std.specs.Prelude.{◌≡◌, ◌<◌, ◌≤◌, ◌+◌, length, vec_len, IfOk};
-ghost use Rattle.rd_geometry.specs.Blocks.{place_of_block};
+ghost use Rattle.std.specs.Prelude.{◌≡◌, ◌<◌, ◌≤◌, ◌+◌, ◌++◌, ◌∷◌, [], length, replicate, vec_len, IfOk, OnOk};
+ghost use Rattle.rd_geometry.specs.Blocks.{place_of_block, place_of_mark};
 ghost use Rattle.rd_rows.specs.CbmEntries.{place_of_entry, with_entry};
 ghost use Rattle.rd_rows.specs.Written.{written};
 
@@ -89,6 +89,24 @@ pub fn put_cbm_entry(image: &mut [u8], block: u16, slot: u8, entry: &NewCbmEntry
         place + 30,
         &[(entry.size % 256) as u8, (entry.size / 256) as u8],
     );
+}
+
+/// Adds the error bytes of a disk that read without an error to its image: for each block a 1.
+pub fn add_marks(image: &mut Vec<u8>) -> Result<(), NoMemory>
+    ensures { OnOk result (image.new.items ≡ image.old.items ++ replicate 683 1) }
+{
+    image.extend_from_slice(&[1; 683])?;
+    Ok(())
+}
+
+/// Writes the error byte of a block. Where the image ends before it, nothing is written.
+pub fn put_mark(image: &mut [u8], block: u16, mark: u8)
+    ensures value { place_of_mark block < length image.old
+        → image.new ≡ written image.old (place_of_mark block) (mark ∷ []) }
+    ensures kept { length image.old ≤ place_of_mark block → image.new ≡ image.old }
+    ensures sized { length image.new ≡ length image.old }
+{
+    put(image, SIZE + block as usize, &[mark]);
 }
 
 /// The four bytes that tell the free blocks of a track of an empty disk: how many, and a bit for

@@ -2,7 +2,7 @@
 
 use super::cases::{Case, Wanted, assert_cases};
 use super::sample::{
-    BLANK, CROSSED, FORMATTED, FULL, HELLO, LOOPED, MIXED, ONE_PROGRAM, SCATTERED,
+    BLANK, CROSSED, FORMATTED, FULL, HELLO, LOOPED, MARKED, MIXED, ONE_PROGRAM, SCATTERED, Sample,
 };
 use rd_geometry::{CbmDisk, CpmDisk, Geometry, Image};
 
@@ -32,6 +32,8 @@ const BYTES: &[Case] = table![
     ("the block 18/2 of a full disk", FULL, Wanted::Bytes(174_848, 91_904, b"\x12\x03"));
     ("the last block but one of a full disk", FULL, Wanted::Bytes(174_848, 174_336, b"\x23\x10\x02\xa9"));
     ("the last block of a full disk", FULL, Wanted::Bytes(174_848, 174_592, b"\x00\xff\x02\xaa\xb4"));
+    ("the end of an image with error bytes", MARKED, Wanted::Bytes(175_531, 174_847, b"\x00\x01\x01"));
+    ("an error byte", like!(Sample, MARKED, marks: Some(&[(346, 5)])), Wanted::Bytes(175_531, 175_193, b"\x01\x05\x01"));
 ];
 
 /// Whether bytes are as many, and from a place on these.
@@ -55,6 +57,8 @@ const UNITS: &[Case] = table![
     ("block 336 of a 1541 disk", ONE_PROGRAM, Wanted::Unit(683, 256, 336, 86_016, b"\x11\x0aAA"));
     ("block 346 of a 1541 disk", ONE_PROGRAM, Wanted::Unit(683, 256, 346, 88_576, b"\x00\x05BCDE"));
     ("block 682 of a 1541 disk", ONE_PROGRAM, Wanted::Unit(683, 256, 682, 174_592, b"\0"));
+    ("block 346 of a 1541 disk with error bytes", MARKED, Wanted::Unit(683, 256, 346, 88_576, b"\x00\x05BCDE"));
+    ("block 682 of a 1541 disk with error bytes", MARKED, Wanted::Unit(683, 256, 682, 174_592, b"\0"));
 ];
 
 /// Whether a disk has as many units of so many bytes, and one at a place that begins with these bytes.
@@ -90,4 +94,24 @@ pub(super) fn has_unit(
 #[test]
 fn units_lie_at_their_places(rt: HostRuntime) {
     assert_cases(&rt, rt.alloc(), UNITS);
+}
+
+const MARKS: &[Case] = table![
+    ("a block without an error byte", ONE_PROGRAM, Wanted::Mark(682, 1));
+    ("the error byte of block 0", like!(Sample, MARKED, bytes: &[(174_848, b"\x02")]), Wanted::Mark(0, 2));
+    ("the error byte of block 346", like!(Sample, MARKED, bytes: &[(175_193, b"\x02\x05\x03")]), Wanted::Mark(346, 5));
+    ("the error byte of block 682", like!(Sample, MARKED, bytes: &[(175_530, b"\x00")]), Wanted::Mark(682, 0));
+];
+
+/// Whether a 1541 disk, of the kind of its image, has this error byte for a block.
+pub(super) fn has_mark(image: &Image<'_>, block: u16, mark: u8) -> bool {
+    let Some(disk) = CbmDisk::of(image) else {
+        return false;
+    };
+    block < 683 && disk.kind() == image.kind() && disk.mark(block) == mark
+}
+
+#[test]
+fn blocks_have_error_bytes(rt: HostRuntime) {
+    assert_cases(&rt, rt.alloc(), MARKS);
 }

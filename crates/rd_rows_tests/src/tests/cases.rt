@@ -1,6 +1,6 @@
 //! Cases: an image, and what has to be told of it.
 
-use super::built::{has_bytes, has_unit};
+use super::built::{has_bytes, has_mark, has_unit};
 use super::cbm_directory::{has_entry, is_directory};
 use super::chains::{is_chain, leads};
 use super::entries::{Fields, is_entry};
@@ -20,6 +20,8 @@ pub(super) enum Wanted {
     Bytes(usize, usize, &'static [u8]),
     /// How many units the disk has, how many bytes each has, and of one its place and its first bytes.
     Unit(u16, usize, u16, usize, &'static [u8]),
+    /// The error byte of a block of a 1541 disk.
+    Mark(u16, u8),
     /// What the readers of the entry at a slot of a CP/M disk give.
     Entry(u8, Fields),
     /// The files of a CP/M disk.
@@ -54,6 +56,7 @@ fn is_told_of(alloc: Global, image: &Image<'_>, wanted: Wanted) -> Result<bool, 
         Wanted::Unit(count, size, unit, place, bytes) => {
             Ok(has_unit(image, (count, size), unit, place, bytes))
         }
+        Wanted::Mark(block, mark) => Ok(has_mark(image, block, mark)),
         Wanted::Entry(slot, fields) => Ok(is_entry(image, slot, &fields)),
         Wanted::CpmFiles(files) => cpm_files::are_files(alloc, image, files),
         Wanted::Link(block, link) => Ok(leads(image, block, link)),
@@ -71,7 +74,7 @@ fn is_told_of(alloc: Global, image: &Image<'_>, wanted: Wanted) -> Result<bool, 
 /// Whether a case holds.
 pub(super) fn holds(alloc: Global, (_, sample, wanted): Case) -> Result<bool, NoMemory> {
     let bytes = image_of(alloc, &sample)?;
-    match Image::new(kind_of(sample.base), bytes.as_slice()) {
+    match Image::new(kind_of(&sample), bytes.as_slice()) {
         Ok(image) => is_told_of(alloc, &image, wanted),
         Err(_) => Ok(false),
     }

@@ -92,6 +92,10 @@ const FILES: &[Case] = table![
 ];
 
 const CLAIMS: &[Case] = table![
+    ("a block of side sectors reads with an error", like!(Sample, holding!(0: RELATIVE), marks: Some(&[(337, 5)])), Wanted::CbmFiles(&[
+        like!(Told, RELATIVE_TOLD, faults: 16)
+    ]));
+    ("a block behind side sectors reads with an error", like!(Sample, holding!(0: RELATIVE), marks: Some(&[(338, 5)])), Wanted::CbmFiles(&[RELATIVE_TOLD]));
     ("side sectors cross a program", holding!(0: RELATIVE, 1: like!(NewCbmEntry, PROGRAM, first: (17, 1))), Wanted::CbmFiles(&[
         like!(Told, RELATIVE_TOLD, faults: 8),
         like!(Told, SHARED, slot: 1)

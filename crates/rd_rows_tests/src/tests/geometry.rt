@@ -1,6 +1,6 @@
 //! Kinds of image, their sizes, and the numbers of blocks.
 
-use rd_geometry::{CbmDisk, Image, Items, Kind, NoMemory, Text};
+use rd_geometry::{CbmDisk, Image, Items, KIND_WORDS, Kind, NoMemory, Text};
 use std::alloc::Global;
 use std::process::Abort;
 use std::test::Fail;
@@ -9,6 +9,9 @@ use std::test::Fail;
 const WORDS: &[(&str, Option<Kind>)] = table![
     ("cpm8", Some(Kind::Cpm8));
     ("d64", Some(Kind::D64));
+    ("d64e", Some(Kind::D64e));
+    ("d64E", None);
+    ("d64ee", None);
     ("", None);
     ("cpm", None);
     ("cpm88", None);
@@ -29,7 +32,9 @@ fn assert_words(rt: &impl Abort, cases: &[(&str, Option<Kind>)]) {
 #[test]
 fn kinds_have_words(rt: HostRuntime) {
     assert_words(&rt, WORDS);
+    assert!(rt; KIND_WORDS == ["cpm8", "d64", "d64e"]);
     assert_eq!(rt; Kind::Cpm8.size(), 256_256);
+    assert_eq!(rt; Kind::largest_size(), 256_256);
 }
 
 /// Lengths, and whether an image of the kind may have so many bytes.
@@ -41,6 +46,10 @@ const SIZES: &[(Kind, usize, bool)] = table![
     (Kind::Cpm8, 256_257, false);
     (Kind::Cpm8, 256_256, true);
     (Kind::D64, 174_848, true);
+    (Kind::D64, 175_531, false);
+    (Kind::D64e, 174_848, false);
+    (Kind::D64e, 175_530, false);
+    (Kind::D64e, 175_531, true);
 ];
 
 /// Whether so many bytes are an image of a kind, or are refused with their number.

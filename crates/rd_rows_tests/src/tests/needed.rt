@@ -1,8 +1,8 @@
 //! Bytes of an image that show in what a survey tells or in the bytes of files, and bytes that do not.
 
 use super::cases::{Case, Wanted, assert_cases};
-use super::sample::{HELLO, ONE_PROGRAM, Sample};
-use super::surveys::{CBM_FILE, CPM_FILE, Contents, HELLO_TOLD, HELLO_TXT, Told};
+use super::sample::{HELLO, MARKED, ONE_PROGRAM, Sample};
+use super::surveys::{CBM_FILE, CPM_FILE, Contents, HELLO_TOLD, HELLO_TXT, HELLO_UNREAD, Told};
 use rd_rows::cbm::{NewCbmEntry, PROGRAM};
 
 /// A sample with bytes that are written from a place on.
@@ -54,6 +54,9 @@ const HIDDEN_ON_1541: &[Case] = table![
     ("an unused entry past its type byte", changed!(ONE_PROGRAM, 91_683, &[0x5a; 29]), Wanted::Survey(&[HELLO_TOLD]));
     ("a block that no file claims", changed!(ONE_PROGRAM, 0, &[0x5a; 256]), Wanted::Survey(&[HELLO_TOLD]));
     ("an entry in a block that is not of the directory", UNLINKED, Wanted::Survey(&[HELLO_TOLD]));
+    ("the error bytes of the blocks before and behind the file's", changed!(MARKED, 175_183, b"\x05\x01\x05\x05\x05\x05\x05\x05\x05\x05\x05\x01\x05"), Wanted::Survey(&[HELLO_TOLD]));
+    ("the error bytes of 18/0 and of the directory", changed!(MARKED, 175_205, b"\x05\x05"), Wanted::Survey(&[HELLO_TOLD]));
+    ("the error bytes of all blocks from 18/0 on", changed!(MARKED, 175_205, &[0x5a; 326]), Wanted::Survey(&[HELLO_TOLD]));
     ("a last block past its last byte used", changed!(ONE_PROGRAM, 88_582, &[0x5a; 250]), Wanted::Survey(&[HELLO_TOLD]));
 ];
 
@@ -74,6 +77,7 @@ const NEEDED_ON_1541: &[Case] = table![
     ("the link of a block that a file claims", changed!(ONE_PROGRAM, 86_016, b"\x00\x02"), Wanted::Survey(&[
         like!(Told, HELLO_TOLD, size: Some(1), units: &[(336, 1)], last_len: 1, contents: Contents::Joined(&[b"A"]))
     ]));
+    ("the error byte of a block that a file claims", changed!(MARKED, 175_184, b"\x05"), Wanted::Survey(&[HELLO_UNREAD]));
     ("the last byte used", changed!(ONE_PROGRAM, 88_577, b"\x04"), Wanted::Survey(&[
         like!(Told, HELLO_TOLD, size: Some(257), last_len: 3, contents: Contents::Joined(&[&[b'A'; 254], b"BCD"]))
     ]));

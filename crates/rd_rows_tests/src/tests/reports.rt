@@ -3,7 +3,7 @@
 use super::cases::{Case, Wanted, assert_cases};
 use super::sample::{
     ALL_DELETED, ALL_PROGRAMS, BLANK, CBM_00, CBM_01, CBM_FF, CPM_00, CPM_01, CPM_FF, FORMATTED,
-    FULL, HELLO, LOOPED, MIXED, NO_END, ONE_PROGRAM, Sample,
+    FULL, HELLO, LOOPED, MARKED, MIXED, NO_END, ONE_PROGRAM, Sample,
 };
 use rd_cbm::block_map;
 use rd_rows::cbm::{DIRECTORY, NewCbmEntry, PROGRAM};
@@ -58,6 +58,9 @@ const DELETED: Sample =
 const REPORTS: &[Case] = table![
     ("a blank disk", BLANK, Wanted::Report((0, 0, 0, 0), (0, 0, 0), End::Last(0), b""));
     ("one program", ONE_PROGRAM, Wanted::Report((1, 1, 0, 0), (0, 2, 0), End::Last(255), b"MUSEUM"));
+    ("one program with error bytes", MARKED, Wanted::Report((1, 1, 0, 0), (0, 2, 0), End::Last(255), b"MUSEUM"));
+    ("one program that reads with an error", like!(Sample, MARKED, marks: Some(&[(346, 5)])), Wanted::Report((1, 0, 1, 0), (0, 2, 0), End::Last(255), b"MUSEUM"));
+    ("a directory that reads with an error", like!(Sample, MARKED, marks: Some(&[(357, 5), (358, 5)])), Wanted::Report((1, 1, 0, 0), (0, 2, 0), End::Last(255), b"MUSEUM"));
     ("a program that tells another size", OTHER_SIZE, Wanted::Report((1, 1, 0, 1), (0, 2, 0), End::Last(255), b"MUSEUM"));
     ("a deleted file that tells a size", DELETED, Wanted::Report((1, 0, 0, 0), (0, 0, 0), End::Last(255), b"MUSEUM"));
     ("a looped program", LOOPED, Wanted::Report((1, 0, 1, 0), (0, 3, 0), End::Last(255), b"MUSEUM"));

@@ -5,7 +5,8 @@ ghost use Rattle.std.specs.Prelude.{◌≡◌, ◌<◌, length, vec_len, IfOk};
 use rd_geometry::{CbmDisk, Kind, NoMemory};
 use rd_rows::bytes::put;
 use rd_rows::cbm::{
-    NewCbmEntry, crossed, formatted, full, looped, mixed, one_program, put_block, put_cbm_entry,
+    NewCbmEntry, add_marks, crossed, formatted, full, looped, mixed, one_program, put_block,
+    put_cbm_entry, put_mark,
 };
 use rd_rows::cpm::{
     NewEntry, blank, filled, hello, put_entry, scattered, two_extents, with_entries,
@@ -41,6 +42,9 @@ pub(super) struct Sample {
     pub(super) entries: &'static [(u16, u8, NewCbmEntry<'static>)],
     /// Bytes that are then written into it, each from the beginning of a block of a 1541 disk on.
     pub(super) blocks: &'static [(u16, &'static [u8])],
+    /// Blocks of a 1541 disk and their error bytes, where the image has error bytes: those of all other
+    /// blocks are 1.
+    pub(super) marks: Option<&'static [(u16, u8)]>,
     /// Bytes that are last written into it, each from a place on.
     pub(super) bytes: &'static [(usize, &'static [u8])],
 }
@@ -49,6 +53,7 @@ pub(super) const BLANK: Sample = Sample {
     base: Base::Blank,
     entries: &[],
     blocks: &[],
+    marks: None,
     bytes: &[],
 };
 
@@ -91,9 +96,13 @@ pub(super) const ALL_PROGRAMS: Sample = like!(Sample, BLANK, base: Base::Circle(
 /// A 1541 disk whose directory is its own next block.
 pub(super) const NO_END: Sample = like!(Sample, FORMATTED, blocks: &[(358, &[18, 1])]);
 
-/// The kind of what a builder makes.
-pub(super) fn kind_of(base: Base) -> Kind {
-    match base {
+/// The disk of one program, whose image has error bytes that tell of no error.
+pub(super) const MARKED: Sample = like!(Sample, ONE_PROGRAM, marks: Some(&[]));
+
+/// The kind of an image.
+pub(super) fn kind_of(sample: &Sample) -> Kind {
+    match sample.base {
+        _ if sample.marks.is_some() => Kind::D64e,
         Base::Blank
         | Base::Filled(_)
         | Base::Hello
@@ -190,11 +199,23 @@ fn put_bytes(image: &mut [u8], bytes: &[(usize, &[u8])]) {
     }
 }
 
+/// Adds error bytes to a 1541 image: 1, but for the blocks that are named with theirs.
+fn put_marks(image: &mut Vec<u8>, marks: &[(u16, u8)]) -> Result<(), NoMemory> {
+    add_marks(image)?;
+    for (block, mark) in marks {
+        put_mark(image, *block, *mark);
+    }
+    Ok(())
+}
+
 /// The bytes of an image.
 pub(super) fn image_of(alloc: Global, sample: &Sample) -> Result<Vec<u8>, NoMemory> {
     let mut image = base_of(alloc, sample.base)?;
     put_entries(&mut image, sample.entries);
     put_blocks(&mut image, sample.blocks);
+    if let Some(marks) = sample.marks {
+        put_marks(&mut image, marks)?;
+    }
     put_bytes(&mut image, sample.bytes);
     Ok(image)
 }

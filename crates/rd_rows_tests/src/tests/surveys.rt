@@ -6,7 +6,7 @@ ghost use Rattle.rd_geometry.specs.Images.{kind_of};
 use super::cases::{Case, Wanted, assert_cases};
 use super::sample::{
     ALL_DELETED, BLANK, Base, CBM_00, CBM_01, CBM_FF, CPM_00, CPM_01, CPM_FF, CROSSED, FORMATTED,
-    FULL, HELLO, LOOPED, MIXED, NO_END, ONE_PROGRAM, Runs, SCATTERED, Sample, TWO_EXTENTS,
+    FULL, HELLO, LOOPED, MARKED, MIXED, NO_END, ONE_PROGRAM, Runs, SCATTERED, Sample, TWO_EXTENTS,
     units_of,
 };
 use rd_rows::cbm::{NewCbmEntry, PROGRAM, full_file};
@@ -174,6 +174,48 @@ fn files_of_1541_disks_are_surveyed(rt: HostRuntime) {
     assert_cases(&rt, rt.alloc(), OF_CBM);
 }
 
+/// What is told of the one program where a block of it reads with an error.
+pub(super) const HELLO_UNREAD: Told = like!(Told, CBM_FILE, name: b"HELLO", faults: 16);
+
+/// A sample with these blocks and their error bytes.
+macro_rules! marked {
+    ($sample:ident, $(($block:literal, $mark:literal)),*) => { like!(Sample, $sample, marks: Some(&[$(($block, $mark)),*])) };
+}
+
+const MARKS: &[Case] = table![
+    ("error bytes of 1 tell of no error", MARKED, Wanted::Survey(&[HELLO_TOLD]));
+    ("a block of a file reads with an error", marked!(ONE_PROGRAM, (346, 5)), Wanted::Survey(&[HELLO_UNREAD]));
+    ("the first block of a file reads with an error", marked!(ONE_PROGRAM, (336, 2)), Wanted::Survey(&[HELLO_UNREAD]));
+    ("the greatest error byte", marked!(ONE_PROGRAM, (346, 255)), Wanted::Survey(&[HELLO_UNREAD]));
+    ("an error byte of 0 tells of no error", marked!(ONE_PROGRAM, (346, 0)), Wanted::Survey(&[HELLO_TOLD]));
+    ("the directory reads with an error", marked!(ONE_PROGRAM, (357, 5), (358, 5)), Wanted::Survey(&[HELLO_TOLD]));
+    ("blocks that no file claims read with an error", marked!(ONE_PROGRAM, (335, 5), (337, 5), (345, 5), (347, 5), (682, 5)), Wanted::Survey(&[HELLO_TOLD]));
+    ("a block that two files claim reads with an error", marked!(CROSSED, (341, 5)), Wanted::Survey(&[
+        like!(Told, A, faults: 24),
+        like!(Told, B, faults: 24),
+        C
+    ]));
+    ("the file beside crossed ones reads with an error", marked!(CROSSED, (338, 5)), Wanted::Survey(&[
+        A,
+        B,
+        like!(Told, CBM_FILE, slot: 2, name: b"C", faults: 16)
+    ]));
+    ("a side sector and the block of a file that was never closed read with an error", marked!(MIXED, (337, 5), (338, 5)), Wanted::Survey(&[
+        like!(Told, CBM_FILE, ty: b"REL", name: b"DATA", served: false, faults: 16),
+        like!(Told, CBM_FILE, slot: 1, ty: b"DEL", name: b"--------", served: false),
+        like!(Told, CBM_FILE, slot: 2, name: b"LOST", faults: 1)
+    ]));
+    ("a block of a chain that loops reads with an error", marked!(LOOPED, (338, 5)), Wanted::Survey(&[
+        like!(Told, CBM_FILE, name: b"LOOP", faults: 20)
+    ]));
+    ("a file whose block reads with an error is found", marked!(ONE_PROGRAM, (346, 5)), Wanted::File(0, Some(HELLO_UNREAD)));
+];
+
+#[test]
+fn blocks_that_read_with_an_error_are_told(rt: HostRuntime) {
+    assert_cases(&rt, rt.alloc(), MARKS);
+}
+
 /// A disk whose entries at slots 0 and 2 are of one file, and at slot 1 of no user.
 const DOUBLE: Sample = with!(FILE, like!(NewEntry, FILE, user: 16), FILE);
 
@@ -257,7 +299,7 @@ fn lent_by<'a, V: Volume<'a>>(
     Ok(Some(bytes))
 }
 
-/// The same, of an image of either kind.
+/// The same, of an image of any kind.
 fn lent(alloc: Global, image: &Image<'_>, file: &Found) -> Result<Option<Vec<u8>>, NoMemory> {
     if let Some(disk) = CpmDisk::of(image) {
         return lent_by(alloc, image, &disk, file);

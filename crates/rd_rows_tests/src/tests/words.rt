@@ -3,7 +3,7 @@
 use rd_volume::{Kind, fault_words};
 use std::process::Abort;
 
-/// Faults of files of a kind, and what the first five calls for a word answer.
+/// Faults of files of a kind, and what the first calls for a word answer.
 const CASES: &[(Kind, u8, &[Option<&str>])] = table![
     (Kind::Cpm8, 0, &[None, None, None, None, None]);
     (Kind::Cpm8, 70, &[Some("duplicate"), Some("gap"), Some("crossed"), None, None]);
@@ -12,6 +12,10 @@ const CASES: &[(Kind, u8, &[Option<&str>])] = table![
     (Kind::D64, 8, &[Some("crossed"), None, None, None, None]);
     (Kind::D64, 7, &[Some("not-closed"), Some("off-disk"), Some("loop"), None, None]);
     (Kind::D64, 15, &[Some("not-closed"), Some("off-disk"), Some("loop"), Some("crossed"), None]);
+    (Kind::D64, 255, &[Some("not-closed"), Some("off-disk"), Some("loop"), Some("crossed"), Some("read-error"), None]);
+    (Kind::D64e, 0, &[None, None, None, None, None]);
+    (Kind::D64e, 16, &[Some("read-error"), None, None, None, None]);
+    (Kind::D64e, 24, &[Some("crossed"), Some("read-error"), None, None, None]);
 ];
 
 /// The words of faults are these: with each call the next one, and at last none.
