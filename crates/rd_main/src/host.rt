@@ -49,7 +49,7 @@ impl<'a> Machine for Host<'a> {
     /// never ends does no harm.
     fn read_file(&mut self, alloc: Global, path: &str) -> Result<Vec<u8>, MachineFault> {
         let mut file = fs::open(self.rt, path)?;
-        Ok(read_front(alloc, Kind::Cpm8.size() + 1, &mut file)?)
+        Ok(read_front(alloc, Kind::largest_size() + 1, &mut file)?)
     }
 
     fn read_sheet(&mut self, alloc: Global, path: &str) -> Result<Vec<u8>, MachineFault> {
