@@ -8,18 +8,24 @@ use std::alloc::{AllocError, Global};
 use std::io::{BufWriter, ErrorKind, Read};
 use std::net::{Ipv4Addr, TcpListener};
 use std::process::ExitCode;
-use std::time::{SystemTime, UNIX_EPOCH};
+use std::time::{Instant, SystemTime, UNIX_EPOCH};
 use std::{env, fs};
 
 /// The clock of the machine.
 #[derive(Drop)]
 pub(crate) struct HostClock<'a> {
     rt: &'a HostRuntime,
+    /// When it was made.
+    start: Instant,
 }
 
 impl Clock for HostClock<'_> {
     fn now(&mut self) -> Option<i64> {
         seconds_now(self.rt)
+    }
+
+    fn milliseconds(&mut self) -> Option<u64> {
+        u64::try_from(self.start.elapsed(self.rt).ok()?.as_millis()).ok()
     }
 }
 
@@ -75,7 +81,10 @@ impl<'a> Machine for Host<'a> {
 
     fn listen(&mut self, port: u16) -> Result<&mut TcpDoor<HostClock<'a>>, MachineFault> {
         let listener = TcpListener::bind(self.rt, (Ipv4Addr::LOCALHOST, port))?;
-        let clock = HostClock { rt: self.rt };
+        let clock = HostClock {
+            rt: self.rt,
+            start: Instant::now(self.rt)?,
+        };
         Ok(self.door.insert(TcpDoor::new(listener, clock)))
     }
 }

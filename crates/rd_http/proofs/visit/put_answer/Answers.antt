@@ -1,6 +1,6 @@
 use Rattle.std.proofs.Common.{rules}
 use Rattle.serde_json.proofs.OnLiterals.{serde_json_on_literals}
-use Rattle.rd_http.proofs.visit.send.Goals as goal
+use Rattle.rd_http.proofs.visit.put_answer.Goals as goal
 
 pub returns-in-Unavailable-clause-sends : goal.returns-in-Unavailable-clause-sends
 unfolding serde_json_on_literals
