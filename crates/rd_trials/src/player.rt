@@ -2,12 +2,14 @@
 
 use crate::change::{Change, Effect, Question};
 use crate::desk::{
-    CENTRAL, Opening, Stage, new_connection, new_desk, open, visit as make_visit, with_zone,
+    CENTRAL, Opening, Stage, new_connection, new_desk, open, visit as make_visit, visit_in_memory,
+    with_zone,
 };
 use crate::script::{Line, parts_of, script_of};
 use crate::tables::{answer_of, contents_of};
 use crate::tally::Tally;
 use crate::visit::{Likeness, Visit, outcome_of};
+use crate::wire::WHOLE;
 use anyhow::{Context, Result, bail};
 use rd_policy::Zone;
 use rd_store::OpenFault;
@@ -185,6 +187,9 @@ impl<'a> Player<'a> {
         let seconds = self.seconds.context("no moment")?;
         let came = visit.came.request(rt)?;
         let (ending, out) = match &mut self.stage {
+            Stage::Open(desk) if visit.plan == WHOLE => {
+                visit_in_memory(rt.alloc(), desk, seconds, came.as_slice())?
+            }
             Stage::Open(desk) => {
                 make_visit(rt.alloc(), desk, seconds, came.as_slice(), visit.plan)
             }

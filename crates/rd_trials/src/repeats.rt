@@ -4,7 +4,8 @@ use crate::script::{Line, parts_of};
 use anyhow::{Context, Result, bail};
 use std::alloc::{AllocError, Global};
 
-/// Lines that are repeated, with each of these values in the place of a name.
+/// Lines that are repeated, with each of these values in the place of a name, and with the number after it in the
+/// place of the name and `+1`.
 #[derive(Drop)]
 struct Block<'a> {
     /// Where it begins.
@@ -57,15 +58,29 @@ impl<'a> Block<'a> {
         })
     }
 
-    /// Adds its lines with one value.
-    fn add_with(&self, alloc: Global, all: &mut Vec<Line>, value: &str) -> Result<(), AllocError> {
+    /// A line of it with one value.
+    fn line_with(&self, alloc: Global, line: &Line, value: &str) -> Result<Line, AllocError> {
         let name = self.name;
         let mark = format!(in alloc; "{{{name}}}")?;
-        for line in &self.lines {
-            all.push(Line {
+        let text = line.text.as_str().replace(alloc, mark.as_str(), value)?;
+        let Ok(number) = value.parse::<u32>() else {
+            return Ok(Line {
                 place: line.place.clone()?,
-                text: line.text.as_str().replace(alloc, mark.as_str(), value)?,
-            })?;
+                text,
+            });
+        };
+        let next = number.saturating_add(1).to_string(alloc)?;
+        let mark = format!(in alloc; "{{{name}+1}}")?;
+        Ok(Line {
+            place: line.place.clone()?,
+            text: text.as_str().replace(alloc, mark.as_str(), next.as_str())?,
+        })
+    }
+
+    /// Adds its lines with one value.
+    fn add_with(&self, alloc: Global, all: &mut Vec<Line>, value: &str) -> Result<(), AllocError> {
+        for line in &self.lines {
+            all.push(self.line_with(alloc, *line, value)?)?;
         }
         Ok(())
     }

@@ -7,12 +7,14 @@ use std::alloc::Global;
 
 /// How a connection behaves: how many bytes a read gives at most, and how many reads there are before one
 /// fails; the same of writes.
-#[derive(Clone, Copy)]
+#[derive(Clone, Copy, PartialEq, Eq)]
 pub(crate) struct Plan {
     pub(crate) most_given: usize,
     pub(crate) reads: usize,
     pub(crate) most_taken: usize,
     pub(crate) writes: usize,
+    /// Whether the write after these takes no byte, in place of failing.
+    pub(crate) stalls: bool,
 }
 
 /// A connection at which all goes well.
@@ -21,6 +23,7 @@ pub(crate) const WHOLE: Plan = Plan {
     reads: usize::MAX,
     most_taken: usize::MAX,
     writes: usize::MAX,
+    stalls: false,
 };
 
 /// A connection at which these bytes come.
@@ -74,7 +77,9 @@ impl Wire for Tape<'_> {
     }
 
     fn put(&mut self, bytes: &[u8]) -> Result<usize, Broken> {
-        let count = bytes.len().min(self.plan.most_taken);
+        let has_stalled = self.plan.stalls && self.plan.writes == 0;
+        let most = if has_stalled { 0 } else { self.plan.most_taken };
+        let count = bytes.len().min(most);
         if self.plan.writes == 0
             || count == 0
             || self.out.extend_from_slice(&bytes[..count]).is_err()
