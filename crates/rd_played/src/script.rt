@@ -7,9 +7,9 @@ use std::fs;
 
 /// A line: where it stands, as a file and a number, and its text.
 #[derive(Drop)]
-pub(crate) struct Line {
-    pub(crate) place: String,
-    pub(crate) text: String,
+pub struct Line {
+    pub place: String,
+    pub text: String,
 }
 
 impl Line {
@@ -22,7 +22,7 @@ impl Line {
 }
 
 /// The first word of a line, and the text after it.
-pub(crate) fn parts_of(line: &str) -> (&str, &str) {
+pub fn parts_of(line: &str) -> (&str, &str) {
     line.split_once(' ').unwrap_or((line, ""))
 }
 
@@ -83,7 +83,7 @@ fn with_played(rt: &HostRuntime, lines: Vec<Line>) -> Result<Vec<Line>> {
 }
 
 /// The lines of a trial as they are played.
-pub(crate) fn script_of(rt: &HostRuntime, file: &str) -> Result<Vec<Line>> {
+pub fn script_of(rt: &HostRuntime, file: &str) -> Result<Vec<Line>> {
     let lines = with_played(rt, lines_of(rt, file)?)?;
     repeated(rt.alloc(), &lines)
 }

@@ -74,7 +74,7 @@ fn cut(bytes: &mut Vec<u8>, text: &str) -> Result<()> {
 }
 
 /// Builds bytes by a line: its word, and the text after it.
-pub(crate) fn build(alloc: Global, bytes: &mut Vec<u8>, word: &str, text: &str) -> Result<()> {
+pub fn build(alloc: Global, bytes: &mut Vec<u8>, word: &str, text: &str) -> Result<()> {
     match word {
         "send" => add_bytes(bytes, text),
         "fill" => fill(alloc, bytes, text),
@@ -82,5 +82,13 @@ pub(crate) fn build(alloc: Global, bytes: &mut Vec<u8>, word: &str, text: &str) 
         "over-each" => write_over_each(alloc, bytes, text),
         "cut" => cut(bytes, text),
         _ => bail!("no such word"),
+    }
+}
+
+/// Adds bytes that have to go out, by a line: its word, `out` or `out-fill`, and the text after it.
+pub fn add_out(alloc: Global, bytes: &mut Vec<u8>, word: &str, text: &str) -> Result<()> {
+    match word {
+        "out" => add_bytes(bytes, text),
+        _ => fill(alloc, bytes, text),
     }
 }

@@ -1,7 +1,8 @@
 //! What tables hold, as text.
 
 use crate::escapes::escaped;
-use anyhow::Result;
+use crate::tally::Tally;
+use anyhow::{Result, bail};
 use sqlite::types::ValueRef;
 use sqlite::{Connection, Error, MemStore, Row};
 use std::alloc::Global;
@@ -63,7 +64,7 @@ pub(crate) fn answer_of(
 }
 
 /// The rows of all tables of a desk, where they stand.
-pub(crate) fn contents_of(alloc: Global, conn: &mut Connection<MemStore>) -> Result<String> {
+pub fn contents_of(alloc: Global, conn: &mut Connection<MemStore>) -> Result<String> {
     let mut text = String::new(alloc);
     for sql in TABLES {
         match answer_of(alloc, conn, *sql) {
@@ -73,4 +74,34 @@ pub(crate) fn contents_of(alloc: Global, conn: &mut Connection<MemStore>) -> Res
         text.push_str("--\n")?;
     }
     Ok(text)
+}
+
+/// What tables held that are to be compared.
+#[derive(Default, Drop)]
+pub struct KeptTables {
+    contents: Option<String>,
+}
+
+impl KeptTables {
+    /// Keeps what tables hold, or compares it with what is kept, by the text of a line `tables`.
+    pub fn play(
+        &mut self,
+        rt: &HostRuntime,
+        (place, word): (&str, &str),
+        contents: String,
+        tally: &mut Tally,
+    ) -> Result<()> {
+        if word == "kept" {
+            self.contents = Some(contents);
+            return Ok(());
+        }
+        let case = (place, "tables");
+        match (word, &self.contents) {
+            ("same", Some(kept)) => tally.judge(rt, case, kept.as_bytes(), contents.as_bytes()),
+            ("changed", Some(kept)) => {
+                tally.judge_other(rt, case, kept.as_bytes(), contents.as_bytes())
+            }
+            _ => bail!("no such tables, or none are kept"),
+        }
+    }
 }

@@ -2,12 +2,13 @@
 
 use crate::escapes::escaped;
 use anyhow::Result;
+use std::process::ExitCode;
 
 /// How many cases hold, and how many do not.
 #[derive(Default, Drop)]
-pub(crate) struct Tally {
-    pub(crate) held: u64,
-    pub(crate) lost: u64,
+pub struct Tally {
+    held: u64,
+    lost: u64,
 }
 
 impl Tally {
@@ -20,14 +21,14 @@ impl Tally {
     }
 
     /// Adds the cases of another.
-    pub(crate) fn add(&mut self, other: &Tally) {
+    pub fn add(&mut self, other: &Tally) {
         self.held = self.held.saturating_add(other.held);
         self.lost = self.lost.saturating_add(other.lost);
     }
 
     /// Counts a case that holds where what came is what was wanted. Of another it tells its place, its name and
     /// both texts.
-    pub(crate) fn judge(
+    pub fn judge(
         &mut self,
         rt: &HostRuntime,
         (place, name): (&str, &str),
@@ -45,7 +46,7 @@ impl Tally {
     }
 
     /// Counts a case that holds where what came is another thing than this.
-    pub(crate) fn judge_other(
+    pub fn judge_other(
         &mut self,
         rt: &HostRuntime,
         (place, name): (&str, &str),
@@ -59,5 +60,16 @@ impl Tally {
             println!(rt; "{place}: does not hold: {name}\n  wanted: another\n  came:   {came}")?;
         }
         Ok(())
+    }
+
+    /// Tells how many cases hold, and how many do not; where any does not, the status is 1.
+    pub fn tell(&self, rt: &HostRuntime) -> Result<ExitCode> {
+        let (held, lost) = (self.held, self.lost);
+        println!(rt; "{held} cases hold")?;
+        if lost == 0 {
+            return Ok(ExitCode::SUCCESS);
+        }
+        println!(rt; "{lost} do not")?;
+        Ok(ExitCode::FAILURE)
     }
 }

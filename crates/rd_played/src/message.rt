@@ -7,12 +7,12 @@ use std::alloc::{AllocError, Global};
 /// A request or a reply: its first line, the fields that a trial tells, and its body. Without a first line the
 /// body is all its bytes.
 #[derive(Drop)]
-pub(crate) struct Message<'a> {
-    pub(crate) first: Option<&'a str>,
+pub struct Message<'a> {
+    pub first: Option<&'a str>,
     /// The media type of a reply.
-    pub(crate) media: &'static str,
-    pub(crate) fields: String,
-    pub(crate) body: Vec<u8>,
+    pub media: &'static str,
+    pub fields: String,
+    pub body: Vec<u8>,
 }
 
 /// A head and a body as one.
@@ -23,7 +23,7 @@ fn whole(head: String, body: &[u8]) -> Result<Vec<u8>, AllocError> {
 }
 
 impl<'a> Message<'a> {
-    pub(crate) fn new(alloc: Global) -> Message<'a> {
+    pub fn new(alloc: Global) -> Message<'a> {
         Message {
             first: None,
             media: "",
@@ -33,13 +33,42 @@ impl<'a> Message<'a> {
     }
 
     /// Whether nothing is told of it.
-    pub(crate) fn is_empty(&self) -> bool {
+    pub fn is_empty(&self) -> bool {
         self.first.is_none() && self.body.is_empty()
     }
 
     /// Adds a line to the head.
-    pub(crate) fn add_field(&mut self, name: &str, value: &str) -> Result<(), AllocError> {
+    pub fn add_field(&mut self, name: &str, value: &str) -> Result<(), AllocError> {
         write!(self.fields, "{name}{value}\r\n")
+    }
+
+    /// Reads a line on a request: its method and path, the desk key, or a part of the body.
+    pub fn read_request(&mut self, word: &str, text: &'a str) -> Result<(), AllocError> {
+        match word {
+            "ask" => self.first = Some(text),
+            "key" => self.add_field("Desk-Key: ", text)?,
+            _ => self.body.extend_from_slice(text.as_bytes())?,
+        }
+        Ok(())
+    }
+
+    /// Reads a line on the head of a reply: its status and its phrase, and of JSON the body too.
+    pub fn read_head(&mut self, word: &str, text: &'a str) -> Result<(), AllocError> {
+        match word {
+            "field" => return self.add_field("", text),
+            "csv" => self.media = "text/csv",
+            "octets" => self.media = "application/octet-stream",
+            _ => self.media = "application/json",
+        }
+        match text.split_once(" {") {
+            Some((first, rest)) if word == "json" => {
+                self.first = Some(first);
+                self.body.push(b'{')?;
+                self.body.extend_from_slice(rest.as_bytes())?;
+            }
+            _ => self.first = Some(text),
+        }
+        Ok(())
     }
 
     /// The digits for what stands between braces: `sha256` for the SHA-256 of the body, `sha256` and a file for
@@ -64,7 +93,7 @@ impl<'a> Message<'a> {
     }
 
     /// The bytes of a request.
-    pub(crate) fn request(&self, rt: &HostRuntime) -> Result<Vec<u8>> {
+    pub fn request(&self, rt: &HostRuntime) -> Result<Vec<u8>> {
         let Some(first) = self.first else {
             return Ok(self.body.clone()?);
         };
@@ -78,7 +107,7 @@ impl<'a> Message<'a> {
     }
 
     /// The bytes of a reply.
-    pub(crate) fn reply(&self, alloc: Global) -> Result<Vec<u8>, AllocError> {
+    pub fn reply(&self, alloc: Global) -> Result<Vec<u8>, AllocError> {
         let Some(first) = self.first else {
             return self.body.clone();
         };

@@ -1,6 +1,8 @@
 //! Changes of the tables of a desk by SQL, and questions of them.
 
 use crate::image::build_with;
+use crate::tables::answer_of;
+use crate::tally::Tally;
 use anyhow::{Result, bail};
 use sqlite::types::ValueRef;
 use sqlite::{Connection, Error, MemStore};
@@ -8,7 +10,7 @@ use std::alloc::{AllocError, Global};
 
 /// What has to come of a statement.
 #[derive(Clone, Copy, PartialEq, Eq)]
-pub(crate) enum Effect {
+pub enum Effect {
     /// It changes rows.
     Rows,
     /// It changes none.
@@ -19,7 +21,7 @@ pub(crate) enum Effect {
 
 impl Effect {
     /// The word of the line that wants it.
-    pub(crate) fn word(self) -> &'static str {
+    fn word(self) -> &'static str {
         match self {
             Effect::Rows => "sql",
             Effect::Idle => "sql-idle",
@@ -28,7 +30,7 @@ impl Effect {
     }
 
     /// That which the word of a line wants.
-    pub(crate) fn of(word: &str) -> Effect {
+    pub fn of(word: &str) -> Effect {
         match word {
             "sql-idle" => Effect::Idle,
             "sql-refused" => Effect::Refused,
@@ -39,15 +41,15 @@ impl Effect {
 
 /// A statement, its place, what has to come of it, and the bytes that stand for `?1` in it.
 #[derive(Drop)]
-pub(crate) struct Change<'a> {
-    pub(crate) place: &'a str,
-    pub(crate) statement: &'a str,
-    pub(crate) wanted: Effect,
+pub struct Change<'a> {
+    pub place: &'a str,
+    statement: &'a str,
+    wanted: Effect,
     value: Option<Vec<u8>>,
 }
 
 impl<'a> Change<'a> {
-    pub(crate) fn new(place: &'a str, wanted: Effect, statement: &'a str) -> Change<'a> {
+    pub fn new(place: &'a str, wanted: Effect, statement: &'a str) -> Change<'a> {
         Change {
             place,
             statement,
@@ -57,7 +59,7 @@ impl<'a> Change<'a> {
     }
 
     /// Reads a line on the bytes that are given: its first word, and the text after it.
-    pub(crate) fn read(&mut self, rt: &HostRuntime, word: &str, text: &str) -> Result<()> {
+    pub fn read(&mut self, rt: &HostRuntime, word: &str, text: &str) -> Result<()> {
         let mut bytes = match self.value.take() {
             Some(bytes) => bytes,
             None => Vec::new(rt.alloc()),
@@ -67,8 +69,27 @@ impl<'a> Change<'a> {
         Ok(())
     }
 
+    /// Changes tables. A statement that has to be refused is a case; another that does otherwise than it has to ends
+    /// the trial.
+    pub fn play(
+        &self,
+        rt: &HostRuntime,
+        conn: &mut Connection<MemStore>,
+        tally: &mut Tally,
+    ) -> Result<()> {
+        let (wanted, came) = (self.wanted.word(), self.run(conn).word());
+        if self.wanted == Effect::Refused {
+            let case = (self.place, self.statement);
+            return tally.judge(rt, case, wanted.as_bytes(), came.as_bytes());
+        }
+        if wanted != came {
+            bail!("it is no {wanted}, but a {came}");
+        }
+        Ok(())
+    }
+
     /// Runs it, and gives what came of it.
-    pub(crate) fn run(&self, conn: &mut Connection<MemStore>) -> Effect {
+    fn run(&self, conn: &mut Connection<MemStore>) -> Effect {
         let changed = match &self.value {
             None => execute(conn, self.statement),
             Some(bytes) => execute_with(conn, self.statement, bytes.as_slice()),
@@ -91,19 +112,31 @@ fn execute_with(conn: &mut Connection<MemStore>, sql: &str, value: &[u8]) -> Res
 
 /// A question of SQL, its place, and the rows that have to come, each ended by a line feed.
 #[derive(Drop)]
-pub(crate) struct Question<'a> {
-    pub(crate) place: &'a str,
-    pub(crate) statement: &'a str,
-    pub(crate) rows: String,
+pub struct Question<'a> {
+    pub place: &'a str,
+    statement: &'a str,
+    rows: String,
 }
 
 impl<'a> Question<'a> {
-    pub(crate) fn new(alloc: Global, place: &'a str, statement: &'a str) -> Question<'a> {
+    pub fn new(alloc: Global, place: &'a str, statement: &'a str) -> Question<'a> {
         Question {
             place,
             statement,
             rows: String::new(alloc),
         }
+    }
+
+    /// Asks tables for the rows.
+    pub fn play(
+        &self,
+        rt: &HostRuntime,
+        conn: &mut Connection<MemStore>,
+        tally: &mut Tally,
+    ) -> Result<()> {
+        let answer = answer_of(rt.alloc(), conn, self.statement)?;
+        let case = (self.place, self.statement);
+        tally.judge(rt, case, self.rows.as_bytes(), answer.as_bytes())
     }
 
     fn add_row(&mut self, text: &str) -> Result<(), AllocError> {
@@ -112,7 +145,7 @@ impl<'a> Question<'a> {
     }
 
     /// Reads a line: its first word, and the text after it.
-    pub(crate) fn read(&mut self, word: &str, text: &str) -> Result<()> {
+    pub fn read(&mut self, word: &str, text: &str) -> Result<()> {
         match word {
             "row" => Ok(self.add_row(text)?),
             _ => bail!("no such word"),
