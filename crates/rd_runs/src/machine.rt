@@ -78,9 +78,8 @@ impl<'a> Museum<'a> {
         })
     }
 
-    /// Takes a file in. It stands in the place of another at its path.
+    /// Takes a file in. Of several at a path the last one stands.
     pub(crate) fn keep(&mut self, file: File<'a>) -> Result<()> {
-        self.files.retain(|other| other.path != file.path);
         Ok(self.files.push(file)?)
     }
 
@@ -95,10 +94,13 @@ impl<'a> Museum<'a> {
     /// The bytes of the file at a path.
     fn bytes_at(&self, path: &str) -> Result<&[u8], MachineFault> {
         self.given(path)?;
-        match self.files.iter().find(|file| file.path == path) {
-            Some(file) => Ok(file.bytes.as_slice()),
-            None => Err(MachineFault::Failed),
+        let mut found = Err(MachineFault::Failed);
+        for file in &self.files {
+            if file.path == path {
+                found = Ok(file.bytes.as_slice());
+            }
         }
+        found
     }
 }
 

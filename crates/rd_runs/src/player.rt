@@ -4,7 +4,6 @@ use crate::machine::{File, Museum};
 use crate::run::Run;
 use crate::visitor::Visitor;
 use anyhow::{Context, Result, bail};
-use rd_geometry::NoMemory;
 use rd_played::{
     Change, Effect, KeptTables, Line, Question, Tally, contents_of, parts_of, script_of,
 };
@@ -47,18 +46,11 @@ fn is_first(word: &str) -> bool {
     )
 }
 
-fn new_museum<'a>(rt: &HostRuntime) -> Result<Museum<'a>> {
-    match Museum::new(rt.alloc()) {
-        Ok(museum) => Ok(museum),
-        Err(NoMemory) => bail!("no memory for a machine"),
-    }
-}
-
 impl<'a> Player<'a> {
     fn new(rt: &HostRuntime) -> Result<Player<'a>> {
         Ok(Player {
             tally: Tally::default(),
-            museum: new_museum(rt)?,
+            museum: Museum::new(rt.alloc())?,
             seconds: None,
             item: Item::Nothing,
             contents: KeptTables::default(),
@@ -117,7 +109,7 @@ impl<'a> Player<'a> {
             }
             "file" => self.item = Item::File(File::new(rt.alloc(), text)),
             "query" => self.item = Item::Question(Question::new(rt.alloc(), place, text)),
-            "anew" => self.museum = new_museum(rt)?,
+            "anew" => self.museum = Museum::new(rt.alloc())?,
             "tables" => self.compare(rt, place, text)?,
             _ => self.item = Item::Change(Change::new(place, Effect::of(word), text)),
         }

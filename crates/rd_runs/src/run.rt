@@ -1,11 +1,11 @@
 //! Runs as a trial tells them.
 
 use crate::machine::{Lack, Museum};
-use crate::output::{ALL, Output, Room};
+use crate::output::Output;
 use crate::visitor::{Visitor, outcome_at};
 use crate::wanted::{Ran, Wanted};
 use anyhow::{Context, Result, bail};
-use rd_geometry::NoMemory;
+use rd_geometry::{Items, NoMemory};
 use rd_http::MemoryDoor;
 use rd_played::{Tally, build_with, bytes_of};
 use rd_program::{MachineFault, run};
@@ -19,7 +19,9 @@ pub(crate) struct Run<'a> {
     name: &'a str,
     words: Vec<String>,
     input: Vec<u8>,
-    room: Room,
+    /// How many bytes the output takes, and how many flushes.
+    room: usize,
+    flushes: usize,
     lacks: Vec<Lack<'a>>,
     /// What the clock of the machine shows.
     clock: Option<i64>,
@@ -66,6 +68,11 @@ fn run_program(
     run(alloc, words, &mut input, output, errors, museum)
 }
 
+/// A door through which these visits come.
+fn new_door(alloc: Global, to_come: Vec<(i64, Items<u8>)>) -> Result<MemoryDoor, NoMemory> {
+    MemoryDoor::new(alloc, to_come)
+}
+
 /// A door through which these visitors come.
 fn door_of(rt: &HostRuntime, visitors: &[Visitor<'_>]) -> Result<MemoryDoor> {
     let mut to_come = Vec::new(rt.alloc());
@@ -75,10 +82,7 @@ fn door_of(rt: &HostRuntime, visitors: &[Visitor<'_>]) -> Result<MemoryDoor> {
             .context(format_args!("{}", visitor.place))?;
         to_come.push(coming)?;
     }
-    match MemoryDoor::new(rt.alloc(), to_come) {
-        Ok(door) => Ok(door),
-        Err(NoMemory) => bail!("no memory for a door"),
-    }
+    Ok(new_door(rt.alloc(), to_come)?)
 }
 
 impl<'a> Run<'a> {
@@ -88,7 +92,8 @@ impl<'a> Run<'a> {
             name,
             words: Vec::new(alloc),
             input: Vec::new(alloc),
-            room: ALL,
+            room: usize::MAX,
+            flushes: usize::MAX,
             lacks: Vec::new(alloc),
             clock,
             visitors: Vec::new(alloc),
@@ -121,8 +126,8 @@ impl<'a> Run<'a> {
         }
         match word {
             "words" => self.words = words_of(rt.alloc(), text)?,
-            "room" => self.room.bytes = text.parse()?,
-            "flushes" => self.room.flushes = text.parse()?,
+            "room" => self.room = text.parse()?,
+            "flushes" => self.flushes = text.parse()?,
             "fails" => self.add_lack(text, MachineFault::Failed)?,
             "no-memory" => self.add_lack(text, MachineFault::NoMemory)?,
             "status" | "out" | "out-fill" | "errors" | "port" | "part" => {
@@ -149,7 +154,9 @@ impl<'a> Run<'a> {
     /// Runs the program on a machine.
     fn ran(&self, alloc: Global, museum: &mut Museum<'a>) -> Result<Ran> {
         let words = slices_of(alloc, self.words.as_slice())?;
-        let mut output = Output::new(alloc, self.room);
+        let mut output = Output::new(alloc);
+        output.room = self.room;
+        output.flushes = self.flushes;
         let mut errors = Vec::new(alloc);
         let status = run_program(
             alloc,
