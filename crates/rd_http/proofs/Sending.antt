@@ -1,5 +1,5 @@
 -- What of a text has gone out.
-use Rattle.std.proofs.Common.{◌≡◌, ◌∙◌, ℕ, ◌+◌, ◌-◌, ◌<◌, ◌≤◌, List, [], ◌∷◌, ◌++◌, IfSome, IsOk, None, Option, Result, Some, Ok, Err, absurd, append-nil, append_assoc, codes, drop, length, length-append, length-drop, refl, take, subst, sym, tt, ap, arith}
+use Rattle.std.proofs.Common.{◌≡◌, ◌∙◌, ℕ, ◌+◌, ◌-◌, ◌<◌, ◌≤◌, List, [], ◌∷◌, ◌++◌, IfSome, IsOk, None, Option, Result, Some, Ok, Err, append-nil, append_assoc, codes, drop, length, length-append, length-drop, refl, take, subst, sym, ap, arith}
 use Rattle.std.specs.List.{concat}
 use Rattle.std.specs.Io.KnownBytes.{Appends, Keeps}
 use Rattle.std.proofs.KnownBytes.{Appends-kept, Appends-trans}
@@ -55,7 +55,7 @@ piece_part old mid new before after piece text are sent (part, rest, whole, some
 
 -- no reply is empty
 pub some_reply : (extra : List ℕ) (reply : Reply) → 0 < length (reply_bytes extra reply)
-unfolding (reply_bytes, head_text)
+unfolding reply_bytes head_text
 some_reply extra reply = omega arith
 
 -- A text of which the wire may hold a part back, and what is held back is sent: all of the text went out; where that
@@ -65,4 +65,4 @@ pub then_flushed : {E : Type 0} (old mid new : Option (List ℕ)) (result : Resu
 then_flushed old mid new (Ok done) text some put kept told = subst (λ bytes. Appends old bytes text) (sym kept) put
 then_flushed None mid new (Err fault) text some put kept told = ([], text, refl, some, tt)
 then_flushed (Some before) None new (Err fault) text some put kept told = absurd put
-then_flushed (Some before) (Some after) new (Err fault) text some put kept told = absurd told
+then_flushed (Some before) (Some after) new (Err fault) text some put kept told = absurd cc

@@ -39,7 +39,7 @@ pub struct TcpWire {
 }
 
 /// Sends bytes over a stream. It fails with `Broken` where a write fails or takes no byte.
-fn send(stream: &mut TcpStream, bytes: &[u8]) -> Result<(), Broken> {
+fn send(mut stream: &TcpStream, bytes: &[u8]) -> Result<(), Broken> {
     let mut sent = 0;
     while sent < bytes.len() {
         match stream.write(&bytes[sent..]) {
@@ -99,7 +99,8 @@ impl Wire for TcpWire {
     }
 
     fn flush(&mut self) -> Result<(), Broken> {
-        if send(&mut self.stream, &self.held[..self.len]).is_err() {
+        let wire = &*self;
+        if send(&wire.stream, &wire.held[..wire.len]).is_err() {
             self.put_failed = true;
             return Err(Broken);
         }
