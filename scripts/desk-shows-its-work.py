@@ -1,0 +1,364 @@
+#!/usr/bin/env python3
+"""scripts/desk-shows-its-work.py: what ./desk shows, leaves and ends while it builds, in a small repository with
+scripts/fake-rt.py in the place of rt. Each case is one run of ./desk or two. Wants nothing but Python and git's files.
+"""
+
+import contextlib
+import os
+import pathlib
+import pty
+import re
+import shutil
+import signal
+import stat
+import subprocess
+import sys
+import tempfile
+import time
+
+import reading_room
+
+ROOT = pathlib.Path(__file__).resolve().parent.parent
+LIMIT = 60
+CRATES = """# what stands on what
+rd_geometry:
+rd_other: rd_geometry
+rd_cpm: rd_geometry
+rd_cbm: rd_geometry
+rd_tables: sqlite
+rd_store: rd_tables rd_cpm rd_geometry sqlite
+rd_main: rd_store rd_cbm rd_geometry
+"""
+FUNCTIONS = {
+    "rd_geometry": "size sector", "rd_other": "other", "rd_cpm": "list read free", "rd_cbm": "list read next chain",
+    "rd_tables": "make", "rd_store": "open put drop", "rd_main": "main host",
+}
+ORDER = ["rd_geometry", "rd_cpm", "rd_tables", "rd_store", "rd_main"]
+TIME = r"\d+ (s|min \d+ s)"
+STARTS = "desk: proving and building, which takes about an hour the first time: 6 crates, at most 3 side by side\n"
+
+
+class Repository:
+    """A small repository with ./desk, and the fake rt."""
+
+    def __init__(self, folder):
+        self.folder = folder
+        self.journal = folder / "journal"
+        self.copies = folder / "copies"
+        self.root = folder / "desk's clone"
+        self.built = self.root / "crates" / "rd_main" / "out" / "rd_main"
+        self.path = f"{folder / 'bin'}:{os.environ['PATH']}"
+        for name in ("copies", "bin", "desk's clone/scripts", "desk's clone/.ci"):
+            (folder / name).mkdir(parents=True)
+        for name in ("desk", "scripts/build-desk.py", ".ci/run"):
+            shutil.copy(ROOT / name, self.root / name)
+        shutil.copy(ROOT / "scripts" / "fake-rt.py", folder / "bin" / "rt")
+        (folder / "bin" / "rt").chmod(0o755)
+        (self.root / "scripts" / "lanes.sh").write_text("echo 3\n")
+        (self.root / "crates.txt").write_text(CRATES)
+        for name, words in FUNCTIONS.items():
+            self.source(name).parent.mkdir(parents=True)
+            self.write(name, words)
+
+    def source(self, name):
+        return self.root / "crates" / name / "src" / "lib.rt"
+
+    def out(self, name):
+        return self.root / "crates" / name / "out"
+
+    def write(self, name, words):
+        self.source(name).write_text("\n".join(words.split()) + "\n")
+
+    def environment(self, pause):
+        return {
+            **os.environ, "PATH": self.path, "FAKE_JOURNAL": str(self.journal), "FAKE_PAUSE": str(pause),
+            "TMPDIR": str(self.copies),
+        }
+
+    def start(self, *words, pause=0.1, **how):
+        self.journal.touch()
+        how = {"stdin": subprocess.PIPE, "stdout": subprocess.PIPE, "stderr": subprocess.PIPE, **how}
+        return subprocess.Popen([self.root / "desk", *words], env=self.environment(pause), text=True, **how)
+
+    def run(self, *words, given="", pause=0.1):
+        """How a run of ./desk ends: its status, and what it writes to its standard output and errors."""
+        process = self.start(*words, pause=pause)
+        out, errors = process.communicate(given, timeout=LIMIT)
+        return process.returncode, out, errors
+
+    def notes(self, word):
+        """The journal's lines with a word: when, and what else they say."""
+        lines = (line.split(maxsplit=2) for line in self.journal.read_text().splitlines())
+        return [(float(when), *rest) for when, found, *rest in lines if found == word]
+
+    def made(self):
+        """The libraries and programs that were made since the journal was emptied, in their order."""
+        return [what for _, what in self.notes("made")]
+
+    def living(self):
+        """The fake's processes that still live."""
+        words = [what.split() for _, what in self.notes("began")]
+        return [pid for it in words for pid in it[2:4] if lives(pid)]
+
+    def left(self):
+        """What of copies and half-made files is there."""
+        return [*map(str, self.copies.iterdir()), *map(str, self.root.rglob("*.new"))]
+
+    def forget(self):
+        self.journal.write_text("")
+
+
+def lives(pid):
+    try:
+        return pathlib.Path("/proc", pid, "stat").read_text().rpartition(")")[2].split()[0] != "Z"
+    except OSError:
+        return False
+
+
+def wait_until(call):
+    """Whether something comes about in time."""
+    end = time.monotonic() + LIMIT
+    while time.monotonic() < end:
+        if call():
+            return True
+        time.sleep(0.02)
+    return False
+
+
+@contextlib.contextmanager
+def repository():
+    with tempfile.TemporaryDirectory(prefix="desk-shows-") as folder:
+        yield Repository(pathlib.Path(folder))
+
+
+def crates_in(errors):
+    """The crates that the lines of a run name, in their order, and what the lines say of each, without times."""
+    found = re.findall(rf"^desk: (\d) of 6: (\w+), (.*?)(?: in {TIME})?$", errors, re.M)
+    return [(int(number), name, text) for number, name, text, _ in found]
+
+
+def times_of(notes, name):
+    return next(when for when, what in notes if name in what.split())
+
+
+def all_well(seen):
+    """It builds what the program stands on, side by side, says a line a crate, and runs the program."""
+    with repository() as made:
+        status, out, errors = made.run("cat", "a  b", "*", given="words\n")
+        seen.same("the program's status", 5, status)
+        seen.same("the program gets the words and the input", "2 functions: cat a  b *\nwords\n", out)
+        lines = crates_in(errors)
+        seen.same("the first line", STARTS, errors[: len(STARTS)])
+        seen.same("a line a crate", [1, 2, 3, 4, 5, 6], [number for number, *_ in lines])
+        seen.same("no crate twice, no other", sorted(set(FUNCTIONS) - {"rd_other"}), sorted(it for _, it, _ in lines))
+        seen.same("those below first", ORDER, [it for _, it, _ in lines if it in ORDER and it != "rd_tables"][:2] +
+                  ["rd_tables"] + [it for _, it, _ in lines][-2:])
+        seen.same("how many functions", {
+            (name, f"{len(words.split())} function{'s' * (len(words.split()) > 1)} proved"
+             f"{', and the program built,' * (name == 'rd_main')}")
+            for name, words in FUNCTIONS.items() if name != "rd_other"}, {(name, text) for _, name, text in lines})
+        seen.same("the last line", True, bool(re.search(rf"\ndesk: built in {TIME}\n\Z", errors)))
+        seen.same("no marks of a terminal", (8, 0, 0), tuple(map(errors.count, "\n\r\x1b")))
+        seen.same("nothing is left", [], made.left())
+        began, ended = made.notes("began"), made.notes("ended")
+        beside = times_of(began, "rd_cpm") < times_of(ended, "rd_cbm") and times_of(began, "rd_cbm") < times_of(ended, "rd_cpm")
+        seen.same("side by side", True, beside)
+        seen.same("a log a crate", True, "fn rd_cbm::chain: proved\n" in (made.out("rd_cbm") / "build.log").read_text())
+
+
+def built_once(seen):
+    """What is built is not built again; a change is built with what stands on it, and nothing else."""
+    with repository() as made:
+        made.run()
+        made.forget()
+        seen.same("a second run is silent", (5, "2 functions: x\n", ""), made.run("x"))
+        seen.same("a second run calls no rt", "", made.journal.read_text())
+        made.write("rd_other", "another")
+        told = crates_in(made.run("x")[2])
+        seen.same("a crate apart changes nothing", [(name, "proved before") for _, name, _ in told], [it[1:] for it in told])
+        seen.same("nothing is made for it", (6, []), (len(told), made.made()))
+        made.forget()
+        seen.same("nor is it looked at twice", ((5, "2 functions: x\n", ""), ""), (made.run("x"), made.journal.read_text()))
+        made.write("rd_cbm", "list read next chain more")
+        told = {name: text for _, name, text in crates_in(made.run("x")[2])}
+        seen.same("a change is built", ["rd_cbm", "rd_main"], made.made())
+        seen.same("and told", "5 functions proved", told["rd_cbm"])
+        seen.same("of the others nothing", ["proved before"] * 4, [told[it] for it in told if it not in made.made()])
+        seen.same("nothing is left", [], made.left())
+
+
+def a_crate_fails(seen):
+    """It names the crate and its log, ends the others, makes no program, and goes on from there the next time."""
+    with repository() as made:
+        made.write("rd_cpm", "list wrong")
+        status, out, errors = made.run("x", pause=0.3)
+        seen.same("status and output", (3, ""), (status, out))
+        told = "desk: not built: rt check fails in rd_cpm; see crates/rd_cpm/out/build.log\n"
+        seen.same("crate and log", told, errors[-len(told):])
+        seen.same("the log", True, "fn rd_cpm::wrong: not proved\n" in (made.out("rd_cpm") / "build.log").read_text())
+        seen.same("nothing lives", [], made.living())
+        seen.same("nothing is left", ([], False), (made.left(), made.built.exists()))
+        seen.same("none above it was tried", [], [it for it in made.notes("began") if "rd_store" in it[1]])
+        made.forget()
+        made.write("rd_cpm", "list read free")
+        status, out, errors = made.run("x")
+        seen.same("mended, it is built", (5, "2 functions: x\n"), (status, out))
+        seen.same("the proved are kept", "proved before", {it[1]: it[2] for it in crates_in(errors)}["rd_geometry"])
+        made.write("rd_store", "open wrong")
+        seen.same("an old program is not run", (3, ""), made.run("x")[:2])
+        seen.same("and stays whole", True, "exit 5" in made.built.read_text())
+
+
+def is_at_work(made, name):
+    """Whether rd_geometry is done, and some functions of another crate are proved."""
+    log = made.out(name) / "build.log"
+    return (made.out("rd_geometry") / "rlib").exists() and log.exists() and ", 1 of" in log.read_text()
+
+
+def stopped(seen, made, label):
+    """What has to hold after a run was stopped in the middle."""
+    seen.same(f"{label}: nothing lives", True, wait_until(lambda: not made.living()))
+    seen.same(f"{label}: no program", False, made.built.exists())
+    seen.same(f"{label}: no library of what was not done", False, (made.out("rd_cbm") / "rlib").exists())
+
+
+def told_to_stop(seen):
+    """SIGTERM and SIGINT end all that it started; what was proved is kept, and the next run builds the rest."""
+    with repository() as made:
+        for number in (signal.SIGTERM, signal.SIGINT):
+            process = made.start("x", pause=0.4, start_new_session=True, preexec_fn=interruptible)
+            seen.same(f"{number.name}: it is at work", True, wait_until(lambda: is_at_work(made, "rd_cbm")))
+            process.send_signal(number)
+            out, errors = process.communicate(timeout=LIMIT)
+            seen.same(f"{number.name}: it ends by the signal", (-number, ""), (process.returncode, out))
+            told = "desk: stopped; what was proved is kept for the next run\n"
+            seen.same(f"{number.name}: it says so", told, errors[-len(told):])
+            stopped(seen, made, number.name)
+            seen.same(f"{number.name}: nothing is left", [], made.left())
+            shutil.rmtree(made.out("rd_cbm"))
+        status, out, errors = made.run("x")
+        seen.same("the next run", (5, "2 functions: x\n"), (status, out))
+        seen.same("goes on", "proved before", {it[1]: it[2] for it in crates_in(errors)}["rd_geometry"])
+
+
+def interruptible():
+    signal.signal(signal.SIGINT, signal.SIG_DFL)
+
+
+def killed(seen):
+    """Where ./desk is killed, what it started ends too; the next run removes the copies that this left."""
+    with repository() as made:
+        process = made.start("x", pause=0.4)
+        seen.same("killed: it is at work", True, wait_until(lambda: is_at_work(made, "rd_cbm")))
+        process.kill()
+        process.communicate(timeout=LIMIT)
+        stopped(seen, made, "killed")
+        seen.same("killed: the next run", (5, "2 functions: x\n"), made.run("x")[:2])
+        seen.same("killed: nothing is left", [], made.left())
+
+
+def a_second_waits(seen):
+    """A second run waits for the first, and then has nothing to build."""
+    with repository() as made:
+        first = made.start("one", pause=0.3)
+        seen.same("the first is at work", True, wait_until(lambda: is_at_work(made, "rd_cbm")))
+        second = made.start("two")
+        told = second.communicate("", timeout=LIMIT)
+        seen.same("the second", (5, "2 functions: two\n"), (second.returncode, told[0]))
+        seen.same("it says why it waits", "desk: another run works in these folders: waiting until it ends\n", told[1])
+        seen.same("the first", ("2 functions: one\n", 5), (first.communicate("", timeout=LIMIT)[0], first.returncode))
+        seen.same("each crate is made once", sorted(set(FUNCTIONS) - {"rd_other"}), sorted(made.made()))
+
+
+class Terminal:
+    """A run of ./desk on a terminal of its own."""
+
+    def __init__(self, made, pause):
+        made.journal.touch()
+        self.shown = ""
+        self.pid, self.end = pty.fork()
+        if self.pid == 0:
+            os.execve(made.root / "desk", ["desk", "x"], made.environment(pause))
+
+    def read(self):
+        """Reads what the terminal shows until it is closed."""
+        with contextlib.suppress(OSError):
+            while True:
+                self.shown += os.read(self.end, 1000).decode()
+
+    def read_until(self, pattern):
+        while not re.search(pattern, self.shown):
+            self.shown += os.read(self.end, 1000).decode()
+
+    def status(self):
+        self.read()
+        status = os.waitpid(self.pid, 0)[1]
+        os.close(self.end)
+        return -os.WTERMSIG(status) if os.WIFSIGNALED(status) else os.WEXITSTATUS(status)
+
+
+def on_a_terminal(seen):
+    """On a terminal a line below the others says what runs and how far it is, and no line is wider than the terminal."""
+    with repository() as made:
+        terminal = Terminal(made, 0.4)
+        state = rf"desk: 1 of 6 crates proved in {TIME}; at work on .*rd_cbm 2 of 4 functions"
+        terminal.read_until(state)
+        os.write(terminal.end, b"\x03")
+        seen.same("Ctrl-C: it ends by the signal", -signal.SIGINT, terminal.status())
+        stopped(seen, made, "Ctrl-C")
+        seen.same("Ctrl-C: nothing is left", [], made.left())
+        seen.same("Ctrl-C: it says so", True, "desk: stopped; what was proved is kept for the next run\r\n" in terminal.shown)
+        terminal = Terminal(made, 0.1)
+        os.write(terminal.end, b"\x04")
+        seen.same("the next run on a terminal", 5, terminal.status())
+        states = [it for it in re.split(r"\r\n|\r|\x1b\[K", terminal.shown) if "at work on" in it]
+        seen.same("it shows its work", True, len(states) > 5)
+        seen.same("in the terminal's width", [], [it for it in states if len(it) > 79])
+        seen.same("a crate was proved before", True, "desk: 1 of 6: rd_geometry, proved before\r\n" in terminal.shown)
+        seen.same("then the program", True, terminal.shown.endswith("\x1b[K2 functions: x\r\n") or
+                  "2 functions: x\r\n" in terminal.shown.rpartition("built in")[2])
+
+
+def what_stops_it(seen):
+    """It says what is missing or in the way, and changes nothing."""
+    with repository() as made:
+        (made.folder / "bin" / "rt").rename(made.folder / "rt")
+        made.path = f"{made.folder / 'bin'}:/usr/bin:/bin"
+        told = "desk: not built: rt, the command of the Rattle kit, is not on the path\n"
+        seen.same("no rt", (3, "", told), made.run("x"))
+        (made.folder / "rt").rename(made.folder / "bin" / "rt")
+        made.run("x")
+        copies = pathlib.Path(made.notes("began")[0][1].split(maxsplit=4)[4]).parents[2]
+        (made.folder / "precious").mkdir()
+        (made.folder / "precious" / "file").touch()
+        copies.symlink_to(made.folder / "precious")
+        made.write("rd_main", "main")
+        status, out, errors = made.run("x")
+        seen.same("a link in the way", (3, "", True), (status, out, f"desk: {copies} is in the way" in errors))
+        seen.same("what it leads to stays", True, (made.folder / "precious" / "file").exists())
+
+
+def lanes(seen):
+    """.ci/run and ./desk have as many lanes: one a processor, and one for each five GiB of free memory."""
+    with repository() as made:
+        ran = subprocess.run(["bash", ".ci/run"], cwd=made.root, env=made.environment(0), capture_output=True, text=True)
+        seen.same(".ci/run asks scripts/lanes.sh", "lanes: 3\n", ran.stdout)
+        shown = made.folder / "bin" / "nproc"
+        for processors, memory, wanted in ((4, 20, 4), (4, 19, 3), (2, 64, 2), (8, 4, 1)):
+            shown.write_text(f"#!/bin/sh\necho {processors}\n")
+            (made.folder / "bin" / "awk").write_text(f'#!/bin/sh\necho "MemAvailable: {memory * 1048576} kB" | /usr/bin/awk "$1"\n')
+            for it in (shown, made.folder / "bin" / "awk"):
+                it.chmod(it.stat().st_mode | stat.S_IXUSR)
+            ran = subprocess.run(["sh", ROOT / "scripts" / "lanes.sh"], env=made.environment(0), capture_output=True, text=True)
+            seen.same(f"{processors} processors and {memory} GiB", f"{wanted}\n", ran.stdout)
+
+
+def main():
+    seen = reading_room.Seen()
+    for case in (all_well, built_once, a_crate_fails, told_to_stop, killed, a_second_waits, on_a_terminal, what_stops_it, lanes):
+        case(seen)
+    return seen.told()
+
+
+if __name__ == "__main__":
+    sys.exit(main())
