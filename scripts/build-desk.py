@@ -218,7 +218,7 @@ class Crate:
         own = re.escape(self.name)
         counts = SO_FAR.findall(text) + re.findall(rf"^checked {own}::.*, (\d+) of (\d+)$", text, re.M)
         if counts:
-            self.far = " {} of {} functions".format(*counts[-1])
+            self.far = " {} of {}".format(*counts[-1])
         self.proved.update(re.findall(rf"^fn ({own}::.+): proved$", text, re.M))
 
     def told(self):
@@ -310,6 +310,7 @@ class Build:
         if status is None:
             return
         if status:
+            # (of several at once the first is told)
             self.failed = self.failed or crate
         elif crate.commands:
             crate.start_next()
@@ -321,17 +322,17 @@ class Build:
 
     def state(self):
         now = ", ".join(f"{it.name}{it.far}" for it in self.running)
-        time_taken = clock(time.monotonic() - self.begun)
-        return f"desk: {len(self.done)} of {len(self.crates)} crates proved in {time_taken}; at work on {now}"
+        taken = clock(time.monotonic() - self.begun)
+        return f"desk: {len(self.done)} of {len(self.crates)} crates in {taken}; functions of {now}"
 
     def run(self):
         """Proves all, or stops at the first crate that fails or when it is told to."""
         while len(self.done) < len(self.crates) and not self.failed and not self.stopped:
             self.start_some()
+            self.screen.show(self.state())
             time.sleep(PAUSE)
             for crate in list(self.running):
                 self.look_at(crate)
-            self.screen.show(self.state())
 
     def finish(self):
         """Ends what still runs, keeps what was proved, and removes the copies."""
@@ -347,9 +348,8 @@ class Build:
 
 
 def lock(folders):
-    """Waits until no other run works in these folders, and returns what keeps others out, and whether it had to wait.
-
-    rt locks the same folders in the same order, so `rt` in one of them waits too.
+    """Waits until no other run works in these folders, keeps others out until this process ends, and returns whether it
+    had to wait. rt locks the same folders in the same order, so `rt` in one of them waits too.
     """
     held, waited = [os.open(it, os.O_RDONLY) for it in sorted(map(os.path.realpath, folders))], False
     for it in held:
@@ -360,7 +360,10 @@ def lock(folders):
                 print("desk: another run works in these folders: waiting until it ends", file=sys.stderr, flush=True)
             waited = True
             fcntl.flock(it, fcntl.LOCK_EX)
-    return held, waited
+        except OSError:
+            # some file systems have no locks; rt goes on there too
+            pass
+    return waited
 
 
 def crates_of(listed):
@@ -404,15 +407,15 @@ def main():
         signal.signal(signal.SIGINT, signal.SIG_DFL)
     if not shutil.which("rt"):
         stop("not built: rt, the command of the Rattle kit, is not on the path")
-    listed = rows()
-    held, waited = lock([CRATES / it.name for it in crates_of(listed)])
     try:
+        listed = rows()
+        waited = lock([CRATES / it.name for it in crates_of(listed)])
         if not waited:
             built(listed)
     except OSError as error:
         stop(f"not built: {error}")
-    # The program gets the words and standard input, and has its signals as a shell gives them. Where another run was
-    # waited for, ./desk looks anew whether there is something to build.
+    # The program gets the words and standard input, and its signals as a shell gives them; the locks end here. After
+    # another run ./desk looks anew whether there is something to build.
     signal.signal(signal.SIGPIPE, signal.SIG_DFL)
     program = str(ROOT / "desk" if waited else BUILT)
     os.execv(program, [program, *sys.argv[1:]])

@@ -8,6 +8,7 @@ import os
 import pathlib
 import pty
 import re
+import select
 import shutil
 import signal
 import stat
@@ -280,18 +281,17 @@ class Terminal:
         if self.pid == 0:
             os.execve(made.root / "desk", ["desk", "x"], made.environment(pause))
 
-    def read(self):
-        """Reads what the terminal shows until it is closed."""
-        with contextlib.suppress(OSError):
-            while True:
-                self.shown += os.read(self.end, 1000).decode()
-
     def read_until(self, pattern):
-        while not re.search(pattern, self.shown):
-            self.shown += os.read(self.end, 1000).decode()
+        """Reads what the terminal shows until it shows what is waited for, or is closed. Gives whether that came in time."""
+        end = time.monotonic() + LIMIT
+        with contextlib.suppress(OSError):
+            while time.monotonic() < end and not re.search(pattern, self.shown):
+                if select.select([self.end], [], [], 1)[0]:
+                    self.shown += os.read(self.end, 1000).decode()
+        return bool(re.search(pattern, self.shown))
 
     def status(self):
-        self.read()
+        self.read_until("(?!)")
         status = os.waitpid(self.pid, 0)[1]
         os.close(self.end)
         return -os.WTERMSIG(status) if os.WIFSIGNALED(status) else os.WEXITSTATUS(status)
@@ -301,8 +301,8 @@ def on_a_terminal(seen):
     """On a terminal a line below the others says what runs and how far it is, and no line is wider than the terminal."""
     with repository() as made:
         terminal = Terminal(made, 0.4)
-        state = rf"desk: 1 of 6 crates proved in {TIME}; at work on .*rd_cbm 2 of 4 functions"
-        terminal.read_until(state)
+        state = rf"desk: 2 of 6 crates in {TIME}; functions of rd_cpm \d of 3, rd_cbm 2 of 4\x1b"
+        seen.same("which crates, how many functions, the time", True, terminal.read_until(state))
         os.write(terminal.end, b"\x03")
         seen.same("Ctrl-C: it ends by the signal", -signal.SIGINT, terminal.status())
         stopped(seen, made, "Ctrl-C")
@@ -311,12 +311,11 @@ def on_a_terminal(seen):
         terminal = Terminal(made, 0.1)
         os.write(terminal.end, b"\x04")
         seen.same("the next run on a terminal", 5, terminal.status())
-        states = [it for it in re.split(r"\r\n|\r|\x1b\[K", terminal.shown) if "at work on" in it]
+        states = [it for it in re.split(r"\r\n|\r|\x1b\[K", terminal.shown) if "functions of" in it]
         seen.same("it shows its work", True, len(states) > 5)
         seen.same("in the terminal's width", [], [it for it in states if len(it) > 79])
-        seen.same("a crate was proved before", True, "desk: 1 of 6: rd_geometry, proved before\r\n" in terminal.shown)
-        seen.same("then the program", True, terminal.shown.endswith("\x1b[K2 functions: x\r\n") or
-                  "2 functions: x\r\n" in terminal.shown.rpartition("built in")[2])
+        seen.same("a crate was proved before", True, bool(re.search(r"desk: \d of 6: rd_geometry, proved before\r\n", terminal.shown)))
+        seen.same("then the program", True, "2 functions: x\r\n" in terminal.shown.rpartition("built in")[2])
 
 
 def what_stops_it(seen):
