@@ -84,7 +84,7 @@ def newest(name):
 
 
 def remove(path):
-    """Removes a file or a folder, if it is there. What is being killed may still write: so it tries for some seconds."""
+    """Removes a file or a folder, if there is one. What is being killed may still write: it tries again."""
     for _ in range(50):
         if path.is_dir() and not path.is_symlink():
             shutil.rmtree(path, ignore_errors=True)
@@ -104,7 +104,7 @@ def link_or_copy(source, target):
 
 
 def moved(source, target):
-    """Puts a file or a folder in the place of another, if it is there; the place has the old one, nothing, or the new."""
+    """Puts a file or a folder, if there is one, in the place of another. No half of it ever stands there."""
     if not source.exists():
         return
     new = target.with_name(f"{target.name}.new")
@@ -153,7 +153,7 @@ class Crate:
         self.read, self.far, self.proved = 0, "", set()
 
     def is_stale(self):
-        """Whether a file is newer than what was built of this crate. rt compares what stands in the files, and decides."""
+        """Whether a source is newer than what was built of this crate. rt compares the texts, and decides."""
         mark = STAMP if self.is_program else self.out / "rlib" / "stamp"
         if not mark.exists():
             return True
@@ -187,7 +187,7 @@ class Crate:
         return out
 
     def start(self, copies, listed, jobs):
-        """Starts the crate's commands. `rt check` tells of each function as it goes; `rt lib` makes the library of what that kept."""
+        """Starts the crate's commands: `rt check`, which tells of each function as it goes, and what builds over it."""
         self.out.mkdir(exist_ok=True)
         self.log.write_bytes(b"")
         flags = ["--jobs", str(jobs)] if jobs else []
@@ -284,8 +284,8 @@ class Screen:
 class Build:
     """The crates of the program: those that wait, run and are done."""
 
-    def __init__(self, crates, listed, copies, lanes):
-        self.crates, self.listed, self.copies, self.lanes = crates, listed, copies, lanes
+    def __init__(self, crates, listed, lanes):
+        self.crates, self.listed, self.lanes, self.copies = crates, listed, lanes, None
         self.waiting, self.running, self.done = list(crates), [], []
         self.begun, self.screen, self.stopped, self.failed = time.monotonic(), Screen(), 0, None
 
@@ -294,7 +294,7 @@ class Build:
         return [it for it in self.waiting if names.issuperset(it.below)]
 
     def start_some(self):
-        """Starts crates while there are lanes, each with its share of them; one that has nothing beside it chooses its own."""
+        """Starts crates while there are lanes, each with its share of them. For one that runs alone rt chooses."""
         ready = self.ready()
         together = len(self.running) + len(ready)
         jobs = 0 if together == 1 else min(4, max(1, self.lanes // max(together, 1)))
@@ -327,6 +327,7 @@ class Build:
 
     def run(self):
         """Proves all, or stops at the first crate that fails or when it is told to."""
+        self.copies = copies_folder()
         while len(self.done) < len(self.crates) and not self.failed and not self.stopped:
             self.start_some()
             self.screen.show(self.state())
@@ -341,7 +342,8 @@ class Build:
             crate.end()
         for crate in self.running:
             crate.keep(False)
-        remove(self.copies)
+        if self.copies:
+            remove(self.copies)
 
     def note_stop(self, number, _):
         self.stopped = self.stopped or number
@@ -379,7 +381,7 @@ def built(listed):
     """Proves and builds, under the lock."""
     began = time.time()
     crates, count = crates_of(listed), lanes()
-    build = Build(crates, listed, copies_folder(), count)
+    build = Build(crates, listed, count)
     for number in STOPS:
         # what the caller has ignored, as nohup does, stays ignored
         if signal.getsignal(number) is not signal.SIG_IGN:

@@ -11,7 +11,6 @@ import re
 import select
 import shutil
 import signal
-import stat
 import subprocess
 import sys
 import tempfile
@@ -34,8 +33,15 @@ FUNCTIONS = {
     "rd_geometry": "size sector", "rd_other": "other", "rd_cpm": "list read free", "rd_cbm": "list read next chain",
     "rd_tables": "make", "rd_store": "open put drop", "rd_main": "main host",
 }
-ORDER = ["rd_geometry", "rd_cpm", "rd_tables", "rd_store", "rd_main"]
+CHAIN = ["rd_geometry", "rd_cpm", "rd_store", "rd_main"]
+BUILT = ["rd_cbm", "rd_cpm", "rd_geometry", "rd_main", "rd_store", "rd_tables"]
+TOLD = [
+    "rd_geometry, 2 functions proved", "rd_cpm, 3 functions proved", "rd_cbm, 4 functions proved",
+    "rd_tables, 1 function proved", "rd_store, 3 functions proved",
+    "rd_main, 2 functions proved, and the program built,",
+]
 TIME = r"\d+ (s|min \d+ s)"
+STOPPED = "desk: stopped; what was proved is kept for the next run\n"
 STARTS = "desk: proving and building, which takes about an hour the first time: 6 crates, at most 3 side by side\n"
 
 
@@ -86,6 +92,17 @@ class Repository:
         process = self.start(*words, pause=pause)
         out, errors = process.communicate(given, timeout=LIMIT)
         return process.returncode, out, errors
+
+    def says(self, *words):
+        """What a command writes at the top of the repository."""
+        how = {"cwd": self.root, "env": self.environment(0), "stdout": subprocess.PIPE, "text": True, "timeout": LIMIT}
+        return subprocess.run(words, **how).stdout
+
+    def command(self, name, line):
+        """Puts a command of one line on the path, in the place of the system's."""
+        path = self.folder / "bin" / name
+        path.write_text(f"#!/bin/sh\n{line}\n")
+        path.chmod(0o755)
 
     def notes(self, word):
         """The journal's lines with a word: when, and what else they say."""
@@ -138,7 +155,8 @@ def crates_in(errors):
     return [(int(number), name, text) for number, name, text, _ in found]
 
 
-def times_of(notes, name):
+def time_of(notes, name):
+    """When the first of some notes was made that names a crate."""
     return next(when for when, what in notes if name in what.split())
 
 
@@ -151,19 +169,16 @@ def all_well(seen):
         lines = crates_in(errors)
         seen.same("the first line", STARTS, errors[: len(STARTS)])
         seen.same("a line a crate", [1, 2, 3, 4, 5, 6], [number for number, *_ in lines])
-        seen.same("no crate twice, no other", sorted(set(FUNCTIONS) - {"rd_other"}), sorted(it for _, it, _ in lines))
-        seen.same("those below first", ORDER, [it for _, it, _ in lines if it in ORDER and it != "rd_tables"][:2] +
-                  ["rd_tables"] + [it for _, it, _ in lines][-2:])
-        seen.same("how many functions", {
-            (name, f"{len(words.split())} function{'s' * (len(words.split()) > 1)} proved"
-             f"{', and the program built,' * (name == 'rd_main')}")
-            for name, words in FUNCTIONS.items() if name != "rd_other"}, {(name, text) for _, name, text in lines})
+        seen.same("what each line says", sorted(TOLD), sorted(f"{name}, {text}" for _, name, text in lines))
+        named = [name for _, name, _ in lines]
+        seen.same("those below first", CHAIN, [it for it in named if it in CHAIN])
         seen.same("the last line", True, bool(re.search(rf"\ndesk: built in {TIME}\n\Z", errors)))
         seen.same("no marks of a terminal", (8, 0, 0), tuple(map(errors.count, "\n\r\x1b")))
         seen.same("nothing is left", [], made.left())
         began, ended = made.notes("began"), made.notes("ended")
-        beside = times_of(began, "rd_cpm") < times_of(ended, "rd_cbm") and times_of(began, "rd_cbm") < times_of(ended, "rd_cpm")
-        seen.same("side by side", True, beside)
+        last_begun = max(time_of(began, "rd_cpm"), time_of(began, "rd_cbm"))
+        first_ended = min(time_of(ended, "rd_cpm"), time_of(ended, "rd_cbm"))
+        seen.same("side by side", True, last_begun < first_ended)
         seen.same("a log a crate", True, "fn rd_cbm::chain: proved\n" in (made.out("rd_cbm") / "build.log").read_text())
 
 
@@ -176,10 +191,11 @@ def built_once(seen):
         seen.same("a second run calls no rt", "", made.journal.read_text())
         made.write("rd_other", "another")
         told = crates_in(made.run("x")[2])
-        seen.same("a crate apart changes nothing", [(name, "proved before") for _, name, _ in told], [it[1:] for it in told])
-        seen.same("nothing is made for it", (6, []), (len(told), made.made()))
+        seen.same("a crate apart changes nothing", ["proved before"] * 6, [text for *_, text in told])
+        seen.same("nothing is made for it", [], made.made())
         made.forget()
-        seen.same("nor is it looked at twice", ((5, "2 functions: x\n", ""), ""), (made.run("x"), made.journal.read_text()))
+        seen.same("nor is it looked at twice", (5, "2 functions: x\n", ""), made.run("x"))
+        seen.same("nor then", "", made.journal.read_text())
         made.write("rd_cbm", "list read next chain more")
         told = {name: text for _, name, text in crates_in(made.run("x")[2])}
         seen.same("a change is built", ["rd_cbm", "rd_main"], made.made())
@@ -232,8 +248,7 @@ def told_to_stop(seen):
             process.send_signal(number)
             out, errors = process.communicate(timeout=LIMIT)
             seen.same(f"{number.name}: it ends by the signal", (-number, ""), (process.returncode, out))
-            told = "desk: stopped; what was proved is kept for the next run\n"
-            seen.same(f"{number.name}: it says so", told, errors[-len(told):])
+            seen.same(f"{number.name}: it says so", STOPPED, errors[-len(STOPPED):])
             stopped(seen, made, number.name)
             seen.same(f"{number.name}: nothing is left", [], made.left())
             shutil.rmtree(made.out("rd_cbm"))
@@ -268,7 +283,7 @@ def a_second_waits(seen):
         seen.same("the second", (5, "2 functions: two\n"), (second.returncode, told[0]))
         seen.same("it says why it waits", "desk: another run works in these folders: waiting until it ends\n", told[1])
         seen.same("the first", ("2 functions: one\n", 5), (first.communicate("", timeout=LIMIT)[0], first.returncode))
-        seen.same("each crate is made once", sorted(set(FUNCTIONS) - {"rd_other"}), sorted(made.made()))
+        seen.same("each crate is made once", BUILT, sorted(made.made()))
 
 
 class Terminal:
@@ -282,7 +297,7 @@ class Terminal:
             os.execve(made.root / "desk", ["desk", "x"], made.environment(pause))
 
     def read_until(self, pattern):
-        """Reads what the terminal shows until it shows what is waited for, or is closed. Gives whether that came in time."""
+        """Reads until the terminal shows what is waited for, or is closed. Gives whether that came in time."""
         end = time.monotonic() + LIMIT
         with contextlib.suppress(OSError):
             while time.monotonic() < end and not re.search(pattern, self.shown):
@@ -298,7 +313,7 @@ class Terminal:
 
 
 def on_a_terminal(seen):
-    """On a terminal a line below the others says what runs and how far it is, and no line is wider than the terminal."""
+    """On a terminal a line below the others says what runs and how far it is, in the width of the terminal."""
     with repository() as made:
         terminal = Terminal(made, 0.4)
         state = rf"desk: 2 of 6 crates in {TIME}; functions of rd_cpm \d of 3, rd_cbm 2 of 4\x1b"
@@ -307,14 +322,15 @@ def on_a_terminal(seen):
         seen.same("Ctrl-C: it ends by the signal", -signal.SIGINT, terminal.status())
         stopped(seen, made, "Ctrl-C")
         seen.same("Ctrl-C: nothing is left", [], made.left())
-        seen.same("Ctrl-C: it says so", True, "desk: stopped; what was proved is kept for the next run\r\n" in terminal.shown)
+        seen.same("Ctrl-C: it says so", True, STOPPED.replace("\n", "\r\n") in terminal.shown)
         terminal = Terminal(made, 0.1)
         os.write(terminal.end, b"\x04")
         seen.same("the next run on a terminal", 5, terminal.status())
         states = [it for it in re.split(r"\r\n|\r|\x1b\[K", terminal.shown) if "functions of" in it]
         seen.same("it shows its work", True, len(states) > 5)
         seen.same("in the terminal's width", [], [it for it in states if len(it) > 79])
-        seen.same("a crate was proved before", True, bool(re.search(r"desk: \d of 6: rd_geometry, proved before\r\n", terminal.shown)))
+        told = crates_in(terminal.shown.replace("\x1b[K", "").replace("\r", "\n"))
+        seen.same("a crate was proved before", "proved before", {it[1]: it[2] for it in told}.get("rd_geometry"))
         seen.same("then the program", True, "2 functions: x\r\n" in terminal.shown.rpartition("built in")[2])
 
 
@@ -340,21 +356,22 @@ def what_stops_it(seen):
 def lanes(seen):
     """.ci/run and ./desk have as many lanes: one a processor, and one for each five GiB of free memory."""
     with repository() as made:
-        ran = subprocess.run(["bash", ".ci/run"], cwd=made.root, env=made.environment(0), capture_output=True, text=True)
-        seen.same(".ci/run asks scripts/lanes.sh", "lanes: 3\n", ran.stdout)
-        shown = made.folder / "bin" / "nproc"
+        seen.same(".ci/run asks scripts/lanes.sh", "lanes: 3\n", made.says("bash", ".ci/run"))
         for processors, memory, wanted in ((4, 20, 4), (4, 19, 3), (2, 64, 2), (8, 4, 1)):
-            shown.write_text(f"#!/bin/sh\necho {processors}\n")
-            (made.folder / "bin" / "awk").write_text(f'#!/bin/sh\necho "MemAvailable: {memory * 1048576} kB" | /usr/bin/awk "$1"\n')
-            for it in (shown, made.folder / "bin" / "awk"):
-                it.chmod(it.stat().st_mode | stat.S_IXUSR)
-            ran = subprocess.run(["sh", ROOT / "scripts" / "lanes.sh"], env=made.environment(0), capture_output=True, text=True)
-            seen.same(f"{processors} processors and {memory} GiB", f"{wanted}\n", ran.stdout)
+            made.command("nproc", f"echo {processors}")
+            made.command("awk", f"echo MemAvailable: {memory * 1048576} kB | /usr/bin/awk \"$1\"")
+            came = made.says("sh", ROOT / "scripts" / "lanes.sh")
+            seen.same(f"{processors} processors and {memory} GiB", f"{wanted}\n", came)
+
+
+CASES = (
+    all_well, built_once, a_crate_fails, told_to_stop, killed, a_second_waits, on_a_terminal, what_stops_it, lanes,
+)
 
 
 def main():
     seen = reading_room.Seen()
-    for case in (all_well, built_once, a_crate_fails, told_to_stop, killed, a_second_waits, on_a_terminal, what_stops_it, lanes):
+    for case in CASES:
         case(seen)
     return seen.told()
 

@@ -1,8 +1,7 @@
 #!/usr/bin/env python3
-"""What scripts/desk-shows-its-work.py puts on the path in the place of rt: it proves nothing, and writes and locks as rt does.
-
-A crate's functions are the lines of src/lib.rt; one with the word `wrong` is not proved. Each takes $FAKE_PAUSE seconds.
-Each call is noted in the file $FAKE_JOURNAL: when it began and ended, and its processes.
+"""What scripts/desk-shows-its-work.py puts on the path in the place of rt: it proves nothing, and writes and locks as
+rt does. A crate's functions are the lines of src/lib.rt; one named `wrong` is not proved. Each takes $FAKE_PAUSE
+seconds. Each call is noted in the file $FAKE_JOURNAL: when it began and ended, its processes, and what it made.
 """
 
 import fcntl
