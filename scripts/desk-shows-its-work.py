@@ -122,6 +122,10 @@ class Repository:
         """What of copies and half-made files is there."""
         return [*map(str, self.copies.iterdir()), *map(str, self.root.rglob("*.new"))]
 
+    def kept(self, name):
+        """The functions of a crate of whose proofs something is kept."""
+        return sorted(it.name for it in (self.out(name) / "incremental").iterdir())
+
     def forget(self):
         self.journal.write_text("")
 
@@ -242,8 +246,9 @@ def stopped(seen, made, label):
 def told_to_stop(seen):
     """SIGTERM and SIGINT end all that it started; what was proved is kept, and the next run builds the rest."""
     with repository() as made:
+        made.write("rd_cbm", "list slow")
         for number in (signal.SIGTERM, signal.SIGINT):
-            process = made.start("x", pause=0.4, start_new_session=True, preexec_fn=interruptible)
+            process = made.start("x", start_new_session=True, preexec_fn=interruptible)
             seen.same(f"{number.name}: it is at work", True, wait_until(lambda: is_at_work(made, "rd_cbm")))
             process.send_signal(number)
             out, errors = process.communicate(timeout=LIMIT)
@@ -251,7 +256,9 @@ def told_to_stop(seen):
             seen.same(f"{number.name}: it says so", STOPPED, errors[-len(STOPPED):])
             stopped(seen, made, number.name)
             seen.same(f"{number.name}: nothing is left", [], made.left())
+            seen.same(f"{number.name}: what was proved is kept", ["list"], made.kept("rd_cbm"))
             shutil.rmtree(made.out("rd_cbm"))
+        made.write("rd_cbm", "list read")
         status, out, errors = made.run("x")
         seen.same("the next run", (5, "2 functions: x\n"), (status, out))
         seen.same("goes on", "proved before", {it[1]: it[2] for it in crates_in(errors)}["rd_geometry"])
@@ -264,11 +271,13 @@ def interruptible():
 def killed(seen):
     """Where ./desk is killed, what it started ends too; the next run removes the copies that this left."""
     with repository() as made:
-        process = made.start("x", pause=0.4)
+        made.write("rd_cbm", "list slow")
+        process = made.start("x")
         seen.same("killed: it is at work", True, wait_until(lambda: is_at_work(made, "rd_cbm")))
         process.kill()
         process.communicate(timeout=LIMIT)
         stopped(seen, made, "killed")
+        made.write("rd_cbm", "list read")
         seen.same("killed: the next run", (5, "2 functions: x\n"), made.run("x")[:2])
         seen.same("killed: nothing is left", [], made.left())
 
@@ -315,14 +324,16 @@ class Terminal:
 def on_a_terminal(seen):
     """On a terminal a line below the others says what runs and how far it is, in the width of the terminal."""
     with repository() as made:
+        made.write("rd_cbm", "list read slow")
         terminal = Terminal(made, 0.4)
-        state = rf"desk: 2 of 6 crates in {TIME}; functions of rd_cpm \d of 3, rd_cbm 2 of 4\x1b"
+        state = rf"desk: 2 of 6 crates in {TIME}; functions of rd_cpm \d of 3, rd_cbm 2 of 3\x1b"
         seen.same("which crates, how many functions, the time", True, terminal.read_until(state))
         os.write(terminal.end, b"\x03")
         seen.same("Ctrl-C: it ends by the signal", -signal.SIGINT, terminal.status())
         stopped(seen, made, "Ctrl-C")
         seen.same("Ctrl-C: nothing is left", [], made.left())
         seen.same("Ctrl-C: it says so", True, STOPPED.replace("\n", "\r\n") in terminal.shown)
+        made.write("rd_cbm", "list read")
         terminal = Terminal(made, 0.1)
         os.write(terminal.end, b"\x04")
         seen.same("the next run on a terminal", 5, terminal.status())

@@ -1,7 +1,8 @@
 #!/usr/bin/env python3
 """What scripts/desk-shows-its-work.py puts on the path in the place of rt: it proves nothing, and writes and locks as
 rt does. A crate's functions are the lines of src/lib.rt; one named `wrong` is not proved. Each takes $FAKE_PAUSE
-seconds. Each call is noted in the file $FAKE_JOURNAL: when it began and ended, its processes, and what it made.
+seconds, but for one named `slow`. Each call is noted in the file $FAKE_JOURNAL: when it began and ended, its processes,
+and what it made.
 """
 
 import fcntl
@@ -15,6 +16,8 @@ import time
 HERE = pathlib.Path.cwd()
 NAME = HERE.name
 PAUSE = float(os.environ["FAKE_PAUSE"])
+# longer than any test waits
+SLOW = 100
 
 
 def note(*words):
@@ -69,7 +72,7 @@ def prove(is_shown):
         say(f"so far: 0 of {len(functions())} functions checked; the verdict comes last")
     for number, function in enumerate(functions()):
         if not (kept / function).exists():
-            time.sleep(PAUSE)
+            time.sleep(SLOW if function == "slow" else PAUSE)
         (kept / function).touch()
         if is_shown:
             say(f"checked {NAME}::{function}, {number + 1} of {len(functions())}")
