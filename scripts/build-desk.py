@@ -2,8 +2,8 @@
 """scripts/build-desk.py [WORD..]: proves the program and what it stands on, builds it, and runs it on the words.
 
 ./desk calls this where the program is missing or older than its sources. Crates that do not stand on one another are
-proved side by side, as many as scripts/lanes.sh says. It tells on standard error which crates are proved, how many
-functions of each so far, and the time. Each crate's log is crates/NAME/out/build.log.
+proved side by side, as many as scripts/lanes.sh says. Standard error shows which crates are proved, how many functions
+of the others so far, and the time. Each crate's log is crates/NAME/out/build.log.
 
 `rt` locks a crate's folder and those of all crates below it. So each crate is proved in a copy of what it needs, below
 $TMPDIR or /var/tmp, and what came of it is then moved into the crate's own out/. Where a crate fails, or the run is
@@ -47,7 +47,7 @@ def end_with_parent():
 
 
 def clock(seconds):
-    """A time as it is told."""
+    """A time in words."""
     seconds = int(seconds)
     if seconds < 60:
         return f"{seconds} s"
@@ -141,7 +141,6 @@ class Crate:
     def __init__(self, name, listed):
         self.name = name
         self.below = below(name, listed)
-        self.row = listed[name]
         self.is_program = name == PROGRAM
         self.out = CRATES / name / "out"
         self.log = self.out / "build.log"
@@ -149,7 +148,7 @@ class Crate:
         self.begun = 0
         # the commands that are left, and the one that runs
         self.commands, self.command = [], ""
-        # how far the log was read, what it says last of how many functions, and which of them are proved
+        # how far the log was read, how many functions it counted last, and which of them are proved
         self.read, self.far, self.proved = 0, "", set()
 
     def is_stale(self):
@@ -187,7 +186,7 @@ class Crate:
         return out
 
     def start(self, copies, listed, jobs):
-        """Starts the crate's commands: `rt check`, which tells of each function as it goes, and what builds over it."""
+        """Starts the crate's commands: `rt check`, which counts the functions as it goes, and what builds over it."""
         self.out.mkdir(exist_ok=True)
         self.log.write_bytes(b"")
         flags = ["--jobs", str(jobs)] if jobs else []
@@ -294,10 +293,10 @@ class Build:
         return [it for it in self.waiting if names.issuperset(it.below)]
 
     def start_some(self):
-        """Starts crates while there are lanes, each with its share of them. For one that runs alone rt chooses."""
+        """Starts crates while there are lanes, with their share of the lanes as jobs. For one alone rt chooses."""
         ready = self.ready()
-        together = len(self.running) + len(ready)
-        jobs = 0 if together == 1 else min(4, max(1, self.lanes // max(together, 1)))
+        together = min(self.lanes, len(self.running) + len(ready))
+        jobs = min(4, self.lanes // together) if together > 1 else 0
         for crate in ready[: self.lanes - len(self.running)]:
             self.waiting.remove(crate)
             self.running.append(crate)
@@ -310,7 +309,7 @@ class Build:
         if status is None:
             return
         if status:
-            # (of several at once the first is told)
+            # (of several at once the first is named)
             self.failed = self.failed or crate
         elif crate.commands:
             crate.start_next()

@@ -183,6 +183,9 @@ def all_well(seen):
         last_begun = max(time_of(began, "rd_cpm"), time_of(began, "rd_cbm"))
         first_ended = min(time_of(ended, "rd_cpm"), time_of(ended, "rd_cbm"))
         seen.same("side by side", True, last_begun < first_ended)
+        calls = [what for _, what in made.notes("called")]
+        seen.same("two share the lanes", True, {"rd_cpm check --jobs 1", "rd_cpm lib --jobs 1"}.issubset(calls))
+        seen.same("for one alone rt chooses", ["rd_main check", "rd_main run -- --help"], calls[-2:])
         seen.same("a log a crate", True, "fn rd_cbm::chain: proved\n" in (made.out("rd_cbm") / "build.log").read_text())
 
 

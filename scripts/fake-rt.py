@@ -127,6 +127,7 @@ def main():
     # as what rt starts ends when rt ends, however it ends
     prover = subprocess.Popen(["cat"], stdin=subprocess.PIPE, stdout=subprocess.DEVNULL, start_new_session=True)
     note("began", verb, NAME, os.getpid(), prover.pid, HERE)
+    note("called", NAME, *sys.argv[1:])
     lock()
     {"check": check, "lib": lib, "run": run}[verb]()
     note("ended", verb, NAME)
