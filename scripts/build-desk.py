@@ -7,7 +7,7 @@ of the others so far, and the time. Each crate's log is crates/NAME/out/build.lo
 
 `rt` locks a crate's folder and those of all crates below it. So each crate is proved in a copy of what it needs, below
 $TMPDIR or /var/tmp, and what came of it is then moved into the crate's own out/. Where a crate fails, or the run is
-stopped, all that was started is ended, the copies are removed, and the proofs that were done are kept for the next run.
+stopped, all that was started is ended, the copies are removed, and what was proved is kept for the next run.
 """
 
 import ctypes
@@ -116,14 +116,18 @@ def moved(source, target):
     new.replace(target)
 
 
-def copies_folder():
-    """An empty folder for copies, the same for each run of this clone, and open to its owner alone."""
+def copies_folder(crates):
+    """An empty folder for copies, the same for each run of this clone, and open to its owner alone. What a run that was
+    killed left there goes back to the crates.
+    """
     name = f"desk-{os.getuid()}-{hashlib.sha256(os.fsencode(ROOT)).hexdigest()[:16]}"
     path = pathlib.Path(os.environ.get("TMPDIR") or "/var/tmp", name)
     if os.path.lexists(path):
         found = os.lstat(path)
         if not stat.S_ISDIR(found.st_mode) or found.st_uid != os.getuid():
             stop(f"{path} is in the way: another user has made it")
+        for crate in crates:
+            crate.take_back(path)
         remove(path)
     path.mkdir(0o700)
     return path
@@ -253,6 +257,13 @@ class Crate:
         remove(self.tree)
 
 
+    def take_back(self, copies):
+        """Takes back what a run that was killed has proved in its copy."""
+        if (copies / self.name).is_dir() and not (self.out / "incremental").exists():
+            self.tree = copies / self.name
+            self.keep(False)
+
+
 class Screen:
     """Standard error: lines that stay, and below them, on a terminal, one that says what goes on."""
 
@@ -326,7 +337,7 @@ class Build:
 
     def run(self):
         """Proves all, or stops at the first crate that fails or when it is told to."""
-        self.copies = copies_folder()
+        self.copies = copies_folder(self.crates)
         while len(self.done) < len(self.crates) and not self.failed and not self.stopped:
             self.start_some()
             self.screen.show(self.state())

@@ -272,7 +272,7 @@ def interruptible():
 
 
 def killed(seen):
-    """Where ./desk is killed, what it started ends too; the next run removes the copies that this left."""
+    """Where ./desk is killed, what it started ends too; the next run keeps what was proved, and removes the copies."""
     with repository() as made:
         made.write("rd_cbm", "list slow")
         process = made.start("x")
@@ -281,7 +281,10 @@ def killed(seen):
         process.communicate(timeout=LIMIT)
         stopped(seen, made, "killed")
         made.write("rd_cbm", "list read")
+        began = time.time()
         seen.same("killed: the next run", (5, "2 functions: x\n"), made.run("x")[:2])
+        kept = {it: (made.out("rd_cbm") / "incremental" / it).stat().st_mtime < began for it in made.kept("rd_cbm")}
+        seen.same("killed: it goes on", {"list": True, "read": False}, kept)
         seen.same("killed: nothing is left", [], made.left())
 
 

@@ -73,7 +73,7 @@ def prove(is_shown):
     for number, function in enumerate(functions()):
         if not (kept / function).exists():
             time.sleep(SLOW if function == "slow" else PAUSE)
-        (kept / function).touch()
+            (kept / function).touch()
         if is_shown:
             say(f"checked {NAME}::{function}, {number + 1} of {len(functions())}")
     tell()
