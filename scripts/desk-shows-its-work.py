@@ -4,6 +4,7 @@ scripts/fake-rt.py in the place of rt. Each case is one run of ./desk or two. Wa
 """
 
 import contextlib
+import fcntl
 import os
 import pathlib
 import pty
@@ -11,9 +12,11 @@ import re
 import select
 import shutil
 import signal
+import struct
 import subprocess
 import sys
 import tempfile
+import termios
 import time
 
 import reading_room
@@ -92,6 +95,15 @@ class Repository:
         process = self.start(*words, pause=pause)
         out, errors = process.communicate(given, timeout=LIMIT)
         return process.returncode, out, errors
+
+    def stopped_half(self, name):
+        """Runs ./desk, and stops it while what a crate gives is half made. Gives whether it came to that."""
+        self.forget()
+        process = self.start("x", start_new_session=True)
+        is_half = wait_until(lambda: name in [what for _, what in self.notes("half")])
+        process.terminate()
+        process.communicate(timeout=LIMIT)
+        return is_half
 
     def says(self, *words):
         """What a command writes at the top of the repository."""
@@ -271,6 +283,25 @@ def interruptible():
     signal.signal(signal.SIGINT, signal.SIG_DFL)
 
 
+def half_made(seen):
+    """Stopped while a library or a program is half made, it leaves nothing of this, and an old program as it was."""
+    with repository() as made:
+        made.write("rd_cpm", "list late")
+        seen.same("a library is half made", True, made.stopped_half("rd_cpm"))
+        seen.same("nothing is left of it", False, (made.out("rd_cpm") / "rlib").exists())
+        made.write("rd_cpm", "list")
+        made.write("rd_main", "main late")
+        seen.same("a program is half made", True, made.stopped_half("rd_main"))
+        seen.same("nothing is left of this", False, made.built.exists())
+        made.write("rd_main", "main")
+        seen.same("the next run", (5, "1 functions: x\n"), made.run("x")[:2])
+        whole = made.built.read_text()
+        made.write("rd_main", "main late")
+        seen.same("another is half made", True, made.stopped_half("rd_main"))
+        seen.same("the old one is whole", whole, made.built.read_text())
+        seen.same("nothing else is left", [], made.left())
+
+
 def killed(seen):
     """Where ./desk is killed, what it started ends too; the next run keeps what was proved, and removes the copies."""
     with repository() as made:
@@ -304,11 +335,12 @@ def a_second_waits(seen):
 class Terminal:
     """A run of ./desk on a terminal of its own."""
 
-    def __init__(self, made, pause):
+    def __init__(self, made, pause, columns):
         made.journal.touch()
         self.shown = ""
         self.pid, self.end = pty.fork()
         if self.pid == 0:
+            fcntl.ioctl(0, termios.TIOCSWINSZ, struct.pack("4H", 24, columns, 0, 0))
             os.execve(made.root / "desk", ["desk", "x"], made.environment(pause))
 
     def read_until(self, pattern):
@@ -331,7 +363,7 @@ def on_a_terminal(seen):
     """On a terminal a line below the others says what runs and how far it is, in the width of the terminal."""
     with repository() as made:
         made.write("rd_cbm", "list read slow")
-        terminal = Terminal(made, 0.4)
+        terminal = Terminal(made, 0.4, 100)
         state = rf"desk: 2 of 6 crates in {TIME}; functions of rd_cpm \d of 3, rd_cbm 2 of 3\x1b"
         seen.same("which crates, how many functions, the time", True, terminal.read_until(state))
         os.write(terminal.end, b"\x03")
@@ -340,12 +372,12 @@ def on_a_terminal(seen):
         seen.same("Ctrl-C: nothing is left", [], made.left())
         seen.same("Ctrl-C: it says so", True, STOPPED.replace("\n", "\r\n") in terminal.shown)
         made.write("rd_cbm", "list read")
-        terminal = Terminal(made, 0.1)
+        terminal = Terminal(made, 0.1, 40)
         os.write(terminal.end, b"\x04")
         seen.same("the next run on a terminal", 5, terminal.status())
-        states = [it for it in re.split(r"\r\n|\r|\x1b\[K", terminal.shown) if "functions of" in it]
+        states = [it for it in re.split(r"\r\n|\r|\x1b\[K", terminal.shown) if "crates in" in it]
         seen.same("it shows its work", True, len(states) > 5)
-        seen.same("in the terminal's width", [], [it for it in states if len(it) > 79])
+        seen.same("in the terminal's width", 39, max(map(len, states), default=0))
         told = crates_in(terminal.shown.replace("\x1b[K", "").replace("\r", "\n"))
         seen.same("a crate was proved before", "proved before", {it[1]: it[2] for it in told}.get("rd_geometry"))
         seen.same("then the program", True, "2 functions: x\r\n" in terminal.shown.rpartition("built in")[2])
@@ -382,7 +414,8 @@ def lanes(seen):
 
 
 CASES = (
-    all_well, built_once, a_crate_fails, told_to_stop, killed, a_second_waits, on_a_terminal, what_stops_it, lanes,
+    all_well, built_once, a_crate_fails, told_to_stop, half_made, killed, a_second_waits, on_a_terminal, what_stops_it,
+    lanes,
 )
 
 

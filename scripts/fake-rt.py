@@ -1,14 +1,15 @@
 #!/usr/bin/env python3
 """What scripts/desk-shows-its-work.py puts on the path in the place of rt: it proves nothing, and writes and locks as
 rt does. A crate's functions are the lines of src/lib.rt; one named `wrong` is not proved. Each takes $FAKE_PAUSE
-seconds, but for one named `slow`. Each call is noted in the file $FAKE_JOURNAL: when it began and ended, its processes,
-and what it made.
+seconds, but for one named `slow`; a crate with one named `late` takes long to build. Each call is noted in the file
+$FAKE_JOURNAL: when it began and ended, its processes, and what it made.
 """
 
 import fcntl
 import hashlib
 import os
 import pathlib
+import shutil
 import subprocess
 import sys
 import time
@@ -87,6 +88,13 @@ def tell():
     say(f"logic=proved functions={len(functions())}")
 
 
+def build():
+    """Takes the time in which a library or a program is half made."""
+    note("half", NAME)
+    time.sleep(SLOW if "late" in functions() else PAUSE)
+    note("made", NAME)
+
+
 def check():
     libraries_are_there()
     prove(True)
@@ -97,9 +105,10 @@ def lib():
     if text_of(made) == stamp(NAME):
         return
     libraries_are_there()
+    shutil.rmtree(made.parent, ignore_errors=True)
+    made.parent.mkdir()
     prove(False)
-    note("made", NAME)
-    made.parent.mkdir(exist_ok=True)
+    build()
     made.write_text(stamp(NAME))
 
 
@@ -110,10 +119,9 @@ def run():
     else:
         libraries_are_there()
         prove(False)
-        note("made", NAME)
         program.write_text("#!/bin/sh\n")
         program.chmod(0o755)
-        time.sleep(PAUSE)
+        build()
         program.write_text(f"#!/bin/sh\necho '{len(functions())} functions:' \"$@\"\ncat\nexit 5\n")
         made.write_text(stamp(NAME))
     subprocess.run([program, "--help"], stdin=subprocess.DEVNULL)
