@@ -45,6 +45,7 @@ TOLD = [
 ]
 TIME = r"\d+ (s|min \d+ s)"
 STOPPED = "desk: stopped; what was proved is kept for the next run\n"
+WAITS = "desk: another run works in these folders: waiting until it ends\n"
 STARTS = "desk: proving and building, which takes about an hour the first time: 6 crates, at most 3 side by side\n"
 
 
@@ -327,9 +328,25 @@ def a_second_waits(seen):
         second = made.start("two")
         told = second.communicate("", timeout=LIMIT)
         seen.same("the second", (5, "2 functions: two\n"), (second.returncode, told[0]))
-        seen.same("it says why it waits", "desk: another run works in these folders: waiting until it ends\n", told[1])
+        seen.same("it says why it waits", WAITS, told[1])
         seen.same("the first", ("2 functions: one\n", 5), (first.communicate("", timeout=LIMIT)[0], first.returncode))
         seen.same("each crate is made once", BUILT, sorted(made.made()))
+
+
+def a_second_goes_on(seen):
+    """Where the first run builds nothing, the second does."""
+    with repository() as made:
+        made.write("rd_cbm", "list slow")
+        first = made.start("one")
+        seen.same("the first works", True, wait_until(lambda: is_at_work(made, "rd_cbm")))
+        second = made.start("two")
+        seen.same("the second waits", WAITS, second.stderr.readline())
+        made.write("rd_cbm", "list read")
+        first.terminate()
+        first.communicate(timeout=LIMIT)
+        told = second.communicate("", timeout=LIMIT)
+        seen.same("then it builds", (5, "2 functions: two\n"), (second.returncode, told[0]))
+        seen.same("as any run does", STARTS, told[1][: len(STARTS)])
 
 
 class Terminal:
@@ -414,8 +431,8 @@ def lanes(seen):
 
 
 CASES = (
-    all_well, built_once, a_crate_fails, told_to_stop, half_made, killed, a_second_waits, on_a_terminal, what_stops_it,
-    lanes,
+    all_well, built_once, a_crate_fails, told_to_stop, half_made, killed, a_second_waits, a_second_goes_on,
+    on_a_terminal, what_stops_it, lanes,
 )
 
 
