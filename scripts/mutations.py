@@ -145,7 +145,7 @@ class Good:
 def of_path(chance, request):
     """A number of the path is another, or a part is more, less or other."""
     parts = request.target.split("/")
-    at = chance.randrange(1, len(parts))
+    at = chance.randrange(len(parts) > 1, len(parts))
     some = chance.randrange(9)
     if some < 3:
         numbers = [n for n, part in enumerate(parts) if part.isdigit()] or [at]
@@ -157,7 +157,7 @@ def of_path(chance, request):
     elif some == 5:
         del parts[at]
     elif some == 6:
-        parts[at] = parts[at].replace(parts[at][:1], f"%{ord(parts[at][:1] or 'a'):02x}", 1)
+        parts[at] = f"%{ord(parts[at][:1] or 'a'):02x}{parts[at][1:]}"
     elif some == 7:
         parts[-1] += chance.choice(["?", "?a=b", "/", "?/files/1", "#a", ";", "/?", "\u00e9", "?" + "q" * 7000])
     else:
@@ -227,11 +227,9 @@ def of_key(chance, request):
 
 def of_object(chance, request):
     """A value of the object is another, or a member is more, less or twice."""
-    try:
-        value = json.loads(request.body)
-    except ValueError:
+    pairs = pairs_of(request.body)
+    if not pairs:
         return of_bytes(chance, request)
-    pairs = list(value.items())
     some, at = chance.randrange(8), chance.randrange(len(pairs))
     if some < 5:
         pairs[at] = pairs[at][0], other_value(chance, *pairs[at])
@@ -244,8 +242,17 @@ def of_object(chance, request):
         pairs.insert(at, chance.choice(more))
     chance.shuffle(pairs)
     parts = (json.dumps(name) + ":" + json.dumps(one, ensure_ascii=chance.random() < 0.5) for name, one in pairs)
-    request.body = ("{" + ",".join(parts) + "}").encode()
+    request.body = ("{" + ",".join(parts) + "}").encode(errors="surrogatepass")
     request.retell()
+
+
+def pairs_of(body):
+    """The members of the object that a body is; none where it is something else."""
+    try:
+        value = json.loads(body)
+    except (ValueError, RecursionError):
+        return []
+    return list(value.items()) if isinstance(value, dict) else []
 
 
 def other_value(chance, name, value):

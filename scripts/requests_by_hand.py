@@ -50,10 +50,15 @@ class NoBody(Exception):
 # Heads
 
 
+def bounds(data):
+    """Where a head begins, after empty lines, and the match of the empty line that ends it, or None."""
+    begin = re.match(rb"(\r?\n)*", data).end()
+    return begin, re.compile(rb"\n\r?\n").search(data, begin)
+
+
 def parted(data):
     """The parts of the bytes of a visit; None where they begin with no head."""
-    begin = re.match(rb"(\r?\n)*", data).end()
-    end = re.compile(rb"\n\r?\n").search(data, begin)
+    begin, end = bounds(data)
     if not end or end.end() > HEAD_LIMIT:
         return None
     first, *lines = (line.removesuffix(b"\r") for line in data[begin : end.start()].split(b"\n"))
@@ -88,7 +93,7 @@ def is_waited_for(data):
     """Whether a desk that has these bytes waits for more."""
     parts = parted(data)
     if parts is None:
-        return not re.search(rb"\n\r?\n", data) and len(data) < HEAD_LIMIT
+        return not bounds(data)[1] and len(data) < HEAD_LIMIT
     length = length_of(parts)
     return length is not None and length > len(parts.rest)
 
@@ -98,7 +103,7 @@ def bytes_beyond(data):
     none."""
     parts = parted(data)
     if parts is None:
-        return True
+        return not is_waited_for(data)
     length = length_of(parts)
     return len(parts.rest) > (length or 0)
 
