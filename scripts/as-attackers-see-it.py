@@ -140,8 +140,7 @@ class Stage:
     def serve(self, label, count, walk):
         """Serves visits while a walk makes them, and sees that the program serves all and ends."""
         with Serving(self.program, self.store, count, ("--zone", self.zone)) as serving:
-            line = serving.line()
-            self.seen.same(f"{label}: it listens", f"listening 127.0.0.1:{serving.port}\n", line)
+            serving.listens()
             walk(serving.port)
             self.seen.same(f"{label}: it serves all and ends", (0, f"served {count}\n", ""), serving.end())
 

@@ -204,7 +204,7 @@ class Stage:
         subprocess.run(words, check=True)
         subprocess.run([self.program, "init", "--store", self.store, "--key", STAFF], check=True, capture_output=True)
         with Serving(self.program, self.store, len(FILLED)) as serving:
-            serving.line()
+            serving.listens()
             for asked in FILLED:
                 came = by_client(serving.port, asked)
                 self.seen.same(f"filling: {asked.path}", b"HTTP/1.1 200 OK\r\n", came[:17])
@@ -216,8 +216,7 @@ class Stage:
         store = shutil.copy(self.store, self.path(f"{group}.sqlite"))
         environment = {"LD_PRELOAD": self.library, "BREAK_LOG": self.path(f"{group}.log"), **told_}
         with Serving(self.program, store, count, (), environment) as serving:
-            line = serving.line()
-            self.seen.same(f"{group}: it listens", f"listening 127.0.0.1:{serving.port}\n", line)
+            serving.listens()
             yield serving
             self.seen.same(f"{group}: it ends", (0, f"served {count}\n", ""), serving.end())
 

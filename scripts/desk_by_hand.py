@@ -87,7 +87,7 @@ class Disks:
             get("/images/1/survey", STAFF),
         ]
         with Serving(self.program, store, len(asked)) as serving:
-            serving.line()
+            serving.listens()
             replies = [by_client(serving.port, one) for one in asked]
         keys = requests_by_hand.object_of(replies[-1].partition(b"\r\n\r\n")[2], OF_DESK, ANY)
         return {name: value for name, value in keys.items() if name not in OF_DESK}

@@ -8,6 +8,7 @@ import resource
 import socket
 import struct
 import subprocess
+import sys
 import threading
 import time
 
@@ -156,6 +157,12 @@ class Serving:
     def __exit__(self, *_):
         self.process.kill()
         self.process.communicate()
+
+    def listens(self):
+        """Waits until it listens. The script ends where it does not."""
+        line = self.line()
+        if line != f"listening {HOST}:{self.port}\n":
+            sys.exit(f"it does not listen: {line!r}, {self.end()}")
 
     def line(self):
         """The line that it writes first. It is killed where it writes none in time."""
