@@ -8,7 +8,7 @@ from client_cases import (
     full_record_disk, get, put, put_image, survey,
 )
 
-ACCESSIONS, DEEDS, RANKS, SLOTS = range(12, 24), range(7, 12), (1, 2, 10, 9999), (0, 1, 2, 3, 15)
+ACCESSIONS, DEEDS, RANKS, SLOTS = range(12, 24), range(7, 12), (1, 2, 10, 9999), (0, 0, 0, 1, 1, 2, 3, 15)
 STAFF, ROOM, NOBODY = ("abc", "second"), ("hello", "reader"), "nobody"
 DISKS = [
     ("d64", PROGRAM_DISK), ("d64", LOOP_DISK), ("cpm8", RECORD_DISK), ("d64", bytes_of("images", "museum.d64")),
@@ -76,11 +76,8 @@ class Good:
         return self.chance.choice(numbers) if self.chance.random() < 0.93 else 99
 
     def question(self):
-        acc = self.number(ACCESSIONS)
-        path = self.chance.choice([
-            "/images", "/catalogue", f"/images/{acc}", f"/images/{acc}/files/{self.chance.choice(SLOTS)}",
-            f"/images/{acc}/files/0", f"/images/{acc}/files/0",
-        ])
+        acc, slot = self.number(ACCESSIONS), self.chance.choice(SLOTS)
+        path = self.chance.choice(["/images", "/catalogue", f"/images/{acc}"] + [f"/images/{acc}/files/{slot}"] * 6)
         return get(path, self.key(False))
 
     def survey_or_check(self):
@@ -98,10 +95,10 @@ class Good:
         is_deed = self.chance.random() < 0.6
         scope = f"deeds/{self.number(DEEDS)}" if is_deed else f"images/{self.number(ACCESSIONS)}"
         path = f"/{scope}/rules/{rank}"
-        if self.chance.random() < 0.3:
+        if self.chance.random() < 0.4:
             return drop(path, self.key(True))
-        effect = self.chance.choice(["deny", "list", "read", "read"] if is_deed else ["deny", "list"])
-        audiences = self.chance.sample(ALL, self.chance.randint(1, 3))
+        effect = self.chance.choice(["deny", "list", "read", "read", "read"] if is_deed else ["deny", "list"])
+        audiences = self.chance.sample(ALL, self.chance.choice([1, 2, 3, 3]))
         body = {"audiences": audiences, "effect": effect, "select": self.select()}
         for name in ("from", "until"):
             if self.chance.random() < 0.3:
