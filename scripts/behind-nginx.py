@@ -24,8 +24,9 @@ import time
 import reading_room
 
 from client_cases import (
-    ALL, EVERY, HOST, KEYS, LONG, LONG_FILE, NO_ROUTES, NOBODY, OTHER_METHODS, QUESTION, READ_BACK, RECORD, REFUSALS,
-    ROUTES, RULES, SAMPLES, STAFF, Asked, badge, bytes_of, drop, get, head, put, put_image, put_rule, with_fields,
+    ALL, BAD_HEAD, EVERY, HOST, KEYS, LONG, LONG_FILE, NO_ROUTES, NOBODY, OTHER_METHODS, QUESTION, READ_BACK, RECORD,
+    REFUSALS, ROUTES, RULES, SAMPLES, STAFF, Asked, badge, bytes_of, drop, get, head, put, put_image, put_rule,
+    with_fields,
 )
 from reading_room import fields_of
 
@@ -280,6 +281,23 @@ def status_of(room, asked, address):
             return repr(fault)
 
 
+def see_long_heads(seen, room):
+    """Heads that nginx hands on, and that are too long for the desk: each visitor is told so by the desk itself."""
+    for kilobytes in (12, 20):
+        came = [of_long_head(room, kilobytes, f"127.0.2.{40 + kilobytes}") for _ in range(30)]
+        wanted = [parsed(BAD_HEAD)[:2]] * 30
+        seen.same(f"heads of {kilobytes} kB", wanted, came)
+
+
+def of_long_head(room, kilobytes, address):
+    """The status and the body of the reply to a head of so many fields of a kilobyte."""
+    with contextlib.closing(room.visitor(address)) as connection:
+        fields = {f"A-{number}": "b" * 1015 for number in range(kilobytes)}
+        connection.request("GET", "/images/15/files/0", headers=fields)
+        reply = connection.getresponse()
+        return reply.status, reply.read()
+
+
 def see_rate(seen, room, label, path, address, rate, burst):
     """An address that asks faster than it may is told so."""
     statuses = []
@@ -497,9 +515,18 @@ def see_logs(seen, room):
     seen.same("keys are not", False, key.encode() in logs)
 
 
+def see_errors(seen, room):
+    """nginx was never told of a reset by the desk, nor of an end before the reply was whole."""
+    lines = (room.folder / "error.log").read_text(errors="replace").splitlines()
+    for words in ("Connection reset by peer", "prematurely closed"):
+        told = [line for line in lines if words in line]
+        print(f"nginx's log has {len(told)} lines with: {words}")
+        seen.same(f"nginx's log: {words}", [], told[:5])
+
+
 GROUPS = [
-    see_places, see_zones, see_page, see_routes, see_unchanged, see_fields, see_head, see_sizes, see_rates,
-    see_at_a_time, see_tls, see_why, see_slow, see_down, see_logs,
+    see_places, see_zones, see_page, see_routes, see_unchanged, see_fields, see_head, see_sizes, see_long_heads,
+    see_rates, see_at_a_time, see_tls, see_why, see_slow, see_down, see_logs, see_errors,
 ]
 
 
