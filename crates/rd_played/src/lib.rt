@@ -12,7 +12,7 @@ mod script;
 mod tables;
 mod tally;
 
-pub use bytes::{add_out, build};
+pub use bytes::add_out;
 pub use change::{Change, Effect, Question};
 pub use escapes::{add_bytes, bytes_of};
 pub use image::build_with;

@@ -3,17 +3,17 @@
 use crate::escapes::escaped;
 use crate::tally::Tally;
 use anyhow::{Result, bail};
+use sha2::{Digest, Sha256};
 use sqlite::types::ValueRef;
 use sqlite::{Connection, Error, MemStore, Row};
 use std::alloc::Global;
 
-/// Asks for all rows of all tables of a desk, and how many tables there are; of an image for the number of its
-/// bytes.
+/// Asks for all rows of all tables of a desk, and how all tables are declared.
 const TABLES: &[&str] = &[
-    "SELECT count(*) FROM sqlite_master",
+    "SELECT name, sql FROM sqlite_master ORDER BY name",
     "SELECT id, version FROM desk",
     "SELECT num, donor, signed FROM deed ORDER BY num",
-    "SELECT acc, kind, deed, digest, length(bytes) FROM image ORDER BY acc",
+    "SELECT acc, kind, deed, digest, bytes FROM image ORDER BY acc",
     "SELECT * FROM rule ORDER BY band, scope, rank",
     "SELECT digest, audience FROM badge ORDER BY digest",
     "SELECT acc, day, outcome FROM checked ORDER BY acc, day",
@@ -24,17 +24,30 @@ fn rows_of(conn: &mut Connection<MemStore>, sql: &str) -> Result<Vec<Row>, Error
     conn.query_all(sql, &[])
 }
 
-/// Adds a value: a number by its digits, a text as it is, bytes as SQL writes them, and `NULL`.
+/// Bytes that are longer than this are told by their SHA-256.
+const LONGEST: usize = 1_000;
+
+/// Adds bytes as SQL writes them; where they are many, their number and their SHA-256.
+fn add_blob(alloc: Global, text: &mut String, bytes: &[u8]) -> Result<()> {
+    if bytes.len() > LONGEST {
+        let digits = hex::encode(alloc, Sha256::digest(bytes))?;
+        let count = bytes.len();
+        write!(text, "{count} bytes with the SHA-256 {digits}")?;
+    } else {
+        let digits = hex::encode(alloc, bytes)?;
+        write!(text, "x'{digits}'")?;
+    }
+    Ok(())
+}
+
+/// Adds a value: a number by its digits, a text as it is, bytes as above, and `NULL`.
 fn add_value(alloc: Global, text: &mut String, value: ValueRef<'_>) -> Result<()> {
     match value {
         ValueRef::Null => text.push_str("NULL")?,
         ValueRef::Int(number) => write!(text, "{number}")?,
         ValueRef::Real(number) => write!(text, "{number}")?,
         ValueRef::Text(bytes) => text.push_str(escaped(alloc, bytes)?.as_str())?,
-        ValueRef::Blob(bytes) => {
-            let digits = hex::encode(alloc, bytes)?;
-            write!(text, "x'{digits}'")?
-        }
+        ValueRef::Blob(bytes) => add_blob(alloc, text, bytes)?,
     }
     Ok(())
 }

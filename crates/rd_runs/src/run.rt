@@ -138,7 +138,11 @@ impl<'a> Run<'a> {
         Ok(())
     }
 
+    /// Adds what the machine does not give: the store, the clock, the door, or the file at a path.
     fn add_lack(&mut self, what: &'a str, fault: MachineFault) -> Result<()> {
+        if !matches!(what, "store" | "clock" | "door") && !what.contains('.') {
+            bail!("the machine has no such thing");
+        }
         Ok(self.lacks.push(Lack { what, fault })?)
     }
 

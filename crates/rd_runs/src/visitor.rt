@@ -74,6 +74,9 @@ impl<'a> Visitor<'a> {
         if self.ending == Ending::Reply && self.reply.is_empty() {
             bail!("no reply is told");
         }
+        if self.ending != Ending::Reply && !self.reply.is_empty() {
+            bail!("a reply is told where none goes out");
+        }
         match self.ending {
             Ending::Waits => Ok(outcome_of(alloc, None)?),
             _ => {

@@ -101,7 +101,7 @@ impl<'a> Visit<'a> {
             "ask" | "key" | "body" => Ok(self.came.read_request(word, text)?),
             "json" | "csv" | "octets" | "field" => Ok(self.reply.read_head(word, text)?),
             "out" | "out-fill" | "alike" | "unlike" => self.read_reply(rt.alloc(), word, text),
-            "reads" | "writes" | "stalls" | "ends" | "front" => self.read_plan(word, text),
+            "reads" | "writes" | "ends" | "front" => self.read_plan(word, text),
             _ => build_with(rt, &mut self.came.body, word, text),
         }
     }
@@ -124,11 +124,10 @@ impl<'a> Visit<'a> {
                 self.plan.most_given = most;
                 self.plan.reads = reads;
             }
-            "writes" | "stalls" => {
+            "writes" => {
                 let (most, writes) = numbers_of(text)?;
                 self.plan.most_taken = most;
                 self.plan.writes = writes;
-                self.plan.stalls = word == "stalls";
             }
             "ends" => self.ending = Err(fault_of(text)?),
             _ => self.front = Some(text.parse()?),

@@ -13,8 +13,6 @@ pub(crate) struct Plan {
     pub(crate) reads: usize,
     pub(crate) most_taken: usize,
     pub(crate) writes: usize,
-    /// Whether the write after these takes no byte, in place of failing.
-    pub(crate) stalls: bool,
 }
 
 /// A connection at which all goes well.
@@ -23,7 +21,6 @@ pub(crate) const WHOLE: Plan = Plan {
     reads: usize::MAX,
     most_taken: usize::MAX,
     writes: usize::MAX,
-    stalls: false,
 };
 
 /// A connection at which these bytes come.
@@ -77,9 +74,7 @@ impl Wire for Tape<'_> {
     }
 
     fn put(&mut self, bytes: &[u8]) -> Result<usize, Broken> {
-        let has_stalled = self.plan.stalls && self.plan.writes == 0;
-        let most = if has_stalled { 0 } else { self.plan.most_taken };
-        let count = bytes.len().min(most);
+        let count = bytes.len().min(self.plan.most_taken);
         if self.plan.writes == 0
             || count == 0
             || self.out.extend_from_slice(&bytes[..count]).is_err()
