@@ -18,10 +18,10 @@ pub trait Clock {
 }
 
 /// How long a connection lingers at most, in milliseconds.
-const LINGERS: u64 = 200;
+const LINGER_MILLISECONDS: u64 = 200;
 
 /// How many bytes are read at most while a connection lingers.
-const LINGERING: usize = 4_194_304;
+const LINGER_BYTES: usize = 4_194_304;
 
 /// A connection over TCP, and whether a read and whether a write of it has failed. A call that was interrupted
 /// has failed.
@@ -55,6 +55,7 @@ impl TcpWire {
     fn new(stream: TcpStream) -> TcpWire
         ensures take { result.take_failed ≡ false }
         ensures put { result.put_failed ≡ false }
+        ensures unsent { result.len ≡ 0 }
     {
         TcpWire {
             stream,
@@ -142,14 +143,14 @@ fn next_visitor<C: Clock>(listener: &TcpListener, clock: &mut C) -> Option<(i64,
 /// or where the clock fails or has gone back.
 fn time_left<C: Clock>(clock: &mut C, began: u64) -> Option<Duration> {
     let passed = clock.milliseconds()?.checked_sub(began)?;
-    match LINGERS.checked_sub(passed)? {
+    match LINGER_MILLISECONDS.checked_sub(passed)? {
         0 => None,
         left => Some(Duration::from_millis(left)),
     }
 }
 
-/// Reads what a peer still sends into a buffer, and says how many bytes it was; `None` where the peer has ended, or
-/// nothing has come in this time.
+/// Reads what a peer still sends into a buffer, and says how many bytes it was; `None` where the peer has ended,
+/// nothing has come in this time, or the connection fails.
 fn read_within(stream: &mut TcpStream, buffer: &mut [u8], time: Duration) -> Option<usize> {
     stream.set_read_timeout(Some(time)).ok()?;
     match stream.read(buffer) {
@@ -158,15 +159,15 @@ fn read_within(stream: &mut TcpStream, buffer: &mut [u8], time: Duration) -> Opt
     }
 }
 
-/// Reads what a peer still sends, until it ends, and throws it away: for `LINGERS` milliseconds at most, and at most
-/// `LINGERING` bytes. A connection that is closed with bytes unread is reset, and the peer may then lose what
+/// Reads what a peer still sends, until it ends, and throws it away: for `LINGER_MILLISECONDS` at most, by this clock,
+/// and at most `LINGER_BYTES`. A connection that is closed with bytes unread is reset, and the peer may then lose what
 /// it has not yet read of the reply.
 fn linger<C: Clock>(stream: &mut TcpStream, buffer: &mut [u8], clock: &mut C) {
     let Some(began) = clock.milliseconds() else {
         return;
     };
-    let mut left = LINGERING;
-    for _ in 0..LINGERING {
+    let mut left = LINGER_BYTES;
+    for _ in 0..LINGER_BYTES {
         let Some(time) = time_left(clock, began) else {
             return;
         };

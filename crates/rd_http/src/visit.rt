@@ -93,7 +93,7 @@ fn send<W: Wire>(wire: &mut W, answer: Answer) -> Result<(), Broken>
 /// Serves one visit at a moment, in seconds since 1970-01-01T00:00:00 UTC: reads one request, and no byte
 /// beyond what a head and a body may have (270,336), has the desk answer it, and writes the reply. Where the
 /// bytes are no request, the reply says why; where memory is wanting or the store fails, that the desk is
-/// unavailable. What goes to who asks a question rests on no byte of an image that is hidden from him (`hidden`).
+/// unavailable. What goes to someone who asks a question rests on no byte that is hidden from them (`hidden`).
 ///
 /// It fails with `Clock` exactly where the moment has no day; with `Read` exactly where a read failed, and
 /// with `Write` exactly where a write failed or took no byte, the last sending of what the wire held back among them.
