@@ -213,6 +213,13 @@ class Room:
     def logs(self):
         return b"".join(path.read_bytes() for path in self.folder.glob("*.log"))
 
+    def has_logged(self, words):
+        """Whether nginx logs some words, which it does only after it has replied."""
+        end = time.monotonic() + LIMIT
+        while time.monotonic() < end and words not in self.logs():
+            time.sleep(0.05)
+        return words in self.logs()
+
 
 def asked_at(port, asked):
     with contextlib.closing(http.client.HTTPConnection(HOST, port, timeout=LIMIT)) as connection:
