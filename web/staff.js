@@ -130,7 +130,9 @@ async function put(name, { path, body, words, order, texts }) {
   return `Done: ${words}.`;
 }
 
-async function drop(name, path, words, more = "") {
+async function drop(name, path, words) {
+  const isOwn = name === "keys" && path === keyPath(await keyDigest(key));
+  const more = isOwn ? " It is the key that you use now." : "";
   if (!(await sure(`Drop ${words}? ${LOST[name]}${more}`))) return `Kept: ${words}.`;
   await send("DELETE", path);
   standing[name].delete(path);
@@ -176,6 +178,7 @@ async function digestOf(bytes) {
 }
 
 const keyDigest = (words) => digestOf(new TextEncoder().encode(words));
+const keyPath = (digest) => `/badges/${digest}`;
 
 // Deeds
 
@@ -274,13 +277,12 @@ async function putKey(fields) {
   const audience = fields.audience.value;
   const texts = { "SHA-256": digest, Of: AUDIENCES[audience] };
   const words = `key of ${AUDIENCES[audience]}, SHA-256 ${digest}`;
-  return put("keys", { path: `/badges/${digest}`, body: { audience }, words, order: [standing.keys.size, 0], texts });
+  return put("keys", { path: keyPath(digest), body: { audience }, words, order: [standing.keys.size, 0], texts });
 }
 
 async function dropKey(fields) {
   const digest = await typedDigest(fields);
-  const more = digest === (await keyDigest(key)) ? " It is the key that you use now." : "";
-  return drop("keys", `/badges/${digest}`, `key with SHA-256 ${digest}`, more);
+  return drop("keys", keyPath(digest), `key with SHA-256 ${digest}`);
 }
 
 // A key that was put or dropped stays in no field.
