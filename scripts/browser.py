@@ -17,6 +17,13 @@ from client_cases import HOST, LIMIT
 ELEMENT = "element-6066-11e4-a52e-4f735466cecf"
 TAB, ENTER, ESCAPE = "\ue004", "\ue007", "\ue00c"
 
+# A script: all places of a page in which something could be left.
+LEFT = """
+return [location.href, document.referrer, document.cookie, JSON.stringify({...localStorage}),
+    JSON.stringify({...sessionStorage}), JSON.stringify(history.state), document.documentElement.outerHTML,
+    ...Array.from(document.querySelectorAll("input"), (field) => field.value)].join(" ");
+"""
+
 
 class Browser:
     """A session of headless Chromium."""

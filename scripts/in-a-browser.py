@@ -21,7 +21,7 @@ import urllib.parse
 import reading_room
 import staff_page
 
-from browser import ENTER, TAB, Browser
+from browser import ENTER, LEFT, TAB, Browser
 from client_cases import (
     CLOSED, EVERY, LIMIT, NOBODY, PUBLIC, ROOM, ROOT, STAFF, TAKEDOWN, badge, disk, drop, get, pattern, put,
     put_image, put_rule,
@@ -418,14 +418,6 @@ def see_download(seen, page, place, data):
     while time.monotonic() < end and not (path.exists() and path.stat().st_size == len(data)):
         time.sleep(0.05)
     seen.same(f"download: {place}", data, path.read_bytes() if path.exists() else None)
-
-
-# All places of the page in which something could be left.
-LEFT = """
-return [location.href, document.referrer, document.cookie, JSON.stringify({...localStorage}),
-    JSON.stringify({...sessionStorage}), JSON.stringify(history.state), document.documentElement.outerHTML,
-    ...Array.from(document.querySelectorAll("input"), (field) => field.value)].join(" ");
-"""
 
 
 def see_key(seen, page, room):

@@ -7,7 +7,7 @@ import os
 import re
 import time
 
-from browser import ENTER, ESCAPE, TAB
+from browser import ENTER, ESCAPE, LEFT, TAB
 from client_cases import (
     LIMIT, LOOP_DISK, NOBODY, PROGRAM_DISK, PUBLIC, ROOM, ROOT, STAFF, badge, bytes_of, check, digest, drop, put,
 )
@@ -450,14 +450,6 @@ def see_lost(seen, page, room):
     page.fill("keys", key="x", audience="room")
     words = "This browser makes no SHA-256 here. Open the page at 127.0.0.1, or in another browser."
     seen.same("lost: no SHA-256", [words], page.press("keys")[0])
-
-
-# All places of the page in which something could be left.
-LEFT = """
-return [location.href, document.referrer, document.cookie, JSON.stringify({...localStorage}),
-    JSON.stringify({...sessionStorage}), JSON.stringify(history.state), document.documentElement.outerHTML,
-    ...Array.from(document.querySelectorAll("input"), (field) => field.value)].join(" ");
-"""
 
 
 def see_forgotten(seen, page, room):
