@@ -11,6 +11,9 @@ use std::process::ExitCode;
 use std::time::{Instant, SystemTime, UNIX_EPOCH};
 use std::{env, fs};
 
+/// How many bytes a sheet has at most: 64 MiB.
+const SHEET_LIMIT: u64 = 67_108_864;
+
 /// The clock of the machine.
 #[derive(Drop)]
 pub(crate) struct HostClock<'a> {
@@ -58,9 +61,15 @@ impl<'a> Machine for Host<'a> {
         Ok(read_front(alloc, Kind::Cpm8.size() + 1, &mut file)?)
     }
 
+    /// Reads at most one byte more than a sheet may have, so that a device that never ends does no harm here either.
     fn read_sheet(&mut self, alloc: Global, path: &str) -> Result<Vec<u8>, MachineFault> {
         let mut bytes = Vec::new(alloc);
-        fs::open(self.rt, path)?.read_to_end(&mut bytes)?;
+        let count = fs::open(self.rt, path)?
+            .take(SHEET_LIMIT + 1)
+            .read_to_end(&mut bytes)?;
+        if count as u64 > SHEET_LIMIT {
+            return Err(MachineFault::Failed);
+        }
         Ok(bytes)
     }
 
