@@ -64,7 +64,7 @@ def parted(data):
     first, *lines = (line.removesuffix(b"\r") for line in data[begin : end.start()].split(b"\n"))
     words = first.split(b" ")
     fields = [line.split(b":", 1) for line in lines]
-    if len(words) != 3 or words[2] not in (b"HTTP/1.0", b"HTTP/1.1"):
+    if len(words) != 3 or not words[1] or words[2] not in (b"HTTP/1.0", b"HTTP/1.1"):
         return None
     if len(fields) > FIELD_LIMIT or any(len(field) != 2 for field in fields):
         return None
