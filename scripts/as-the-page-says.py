@@ -49,7 +49,7 @@ set +e
 Page = collections.namedtuple("Page", "prepares plain needed packages")
 PAGES = {
     operating_page.PAGE: Page(
-        {"$": "", "#": LAYERS}, ["readers", "ssh"],
+        {"$": "", "#": LAYERS}, ["readers"],
         [*reading_room.NEEDED, "curl", ZONES, "/usr/sbin/logrotate", "adduser", "systemd-analyze"],
         [*reading_room.PACKAGES, "curl", "tzdata", "logrotate", "adduser", "systemd"],
     ),
