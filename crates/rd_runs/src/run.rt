@@ -86,19 +86,32 @@ fn door_of(rt: &HostRuntime, visitors: &[Visitor<'_>]) -> Result<MemoryDoor> {
 }
 
 impl<'a> Run<'a> {
-    pub(crate) fn new(alloc: Global, place: &'a str, name: &'a str, clock: Option<i64>) -> Run<'a> {
+    /// A run of words that has to leave this, with nothing else about it told.
+    fn of(
+        alloc: Global,
+        (place, name): (&'a str, &'a str),
+        clock: Option<i64>,
+        words: Vec<String>,
+        wanted: Wanted<'a>,
+    ) -> Run<'a> {
         Run {
             place,
             name,
-            words: Vec::new(alloc),
+            words,
             input: Vec::new(alloc),
             room: usize::MAX,
             flushes: usize::MAX,
             lacks: Vec::new(alloc),
             clock,
             visitors: Vec::new(alloc),
-            wanted: Wanted::new(alloc),
+            wanted,
         }
+    }
+
+    /// A run whose words come later.
+    pub(crate) fn new(alloc: Global, place: &'a str, name: &'a str, clock: Option<i64>) -> Run<'a> {
+        let words = Vec::new(alloc);
+        Run::of(alloc, (place, name), clock, words, Wanted::new(alloc))
     }
 
     /// A run of words that are no command.
@@ -108,10 +121,8 @@ impl<'a> Run<'a> {
         words: &'a str,
         clock: Option<i64>,
     ) -> Result<Run<'a>> {
-        let mut run = Run::new(alloc, place, words, clock);
-        run.words = words_of(alloc, words)?;
-        run.wanted = Wanted::mistake(alloc);
-        Ok(run)
+        let given = words_of(alloc, words)?;
+        Ok(Run::of(alloc, (place, words), clock, given, Wanted::mistake(alloc)))
     }
 
     /// Begins one more visit at its door.
