@@ -40,7 +40,7 @@ from client_cases import (
     TOO_LONG, UNTIED, UPLOADED, UPLOADS, USAGE, bytes_of, catalogue, check, content, denied, digest, drop, faulty,
     get, head, listed, listing, put, put_rule, refused, write,
 )
-from visits import (
+from clients import (
     Lost, Serving, by_client, by_curl, by_socket, connected, curl, free_port, leave, minutes_to_noon, read_all, tried,
     zone_of,
 )

@@ -37,7 +37,7 @@ from desk_by_hand import Desk, Disks
 from mutations import Good, Request, Visit, mutated
 from reading_room import Seen
 from requests_by_hand import bytes_beyond, is_waited_for
-from visits import Lost, Serving, connected, noon_zone, read_all
+from clients import Lost, Serving, connected, noon_zone, read_all
 
 # What has to come at least once.
 NAMES = set("""

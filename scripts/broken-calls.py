@@ -31,7 +31,7 @@ from client_cases import (
     head, listed, put, put_image, put_rule, table, told,
 )
 from reading_room import Seen
-from visits import Serving, by_client, by_socket, connected, leave, read_all, tried
+from clients import Serving, by_client, by_socket, connected, leave, read_all, tried
 
 ERRORS = ("EIO", "ECONNRESET", "EINTR", "EAGAIN")
 WRITE_ERRORS = (*ERRORS, "EPIPE")

@@ -20,7 +20,7 @@ from client_cases import (
     write,
 )
 from requests_by_hand import NoBody, Refused
-from visits import Serving, by_client
+from clients import Serving, by_client
 
 SIZES = {"cpm8": cpm_image.SIZE, "d64": 256 * sum(cbm_image.SECTORS.values())}
 # What a survey tells of the desk, and not of the disk.

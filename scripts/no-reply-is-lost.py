@@ -19,7 +19,7 @@ import reading_room
 import tools
 
 from client_cases import FIRST, FRAMING, LIMIT, LONG, LONG_FILE, MORE, content, head, put_image
-from visits import by_client, by_curl, connected, read_all, tried
+from clients import by_client, by_curl, connected, read_all, tried
 
 VISITS = 200
 # After how many seconds the two bytes are sent, and how long after a reply's first bytes the client reads.
