@@ -5,7 +5,7 @@ use Rattle.serde_json.specs.View.{items_of}
 use Rattle.serde_json.specs.Written.{has_float, items_have_float}
 use Rattle.rd_cbm.specs.declared.report.MapReport.{MapReport}
 use Rattle.rd_geometry.specs.declared.kind.Kind.{Kind}
-use Rattle.rd_geometry.specs.declared.kind.Kind.TheVariants.{Cpm8, D64}
+use Rattle.rd_geometry.specs.declared.kind.Kind.TheVariants.{Cpm8}
 use Rattle.rd_volume.specs.Words.{words_of}
 use Rattle.rd_desk.specs.Texts.{image_data, images_data, line_data, listing_data, map_data, natural_or_null, surveyed_data}
 use Rattle.rd_desk.specs.declared.said.ImageLine.{ImageLine}
@@ -40,7 +40,7 @@ images_have_no_float lines = rw (in_images lines) refl
 
 in_map : (kind : Kind) (map : MapReport) → has_float (map_data kind map) ≡ false
 in_map Cpm8 map = refl
-in_map D64 map = refl
+in_map _ map = refl
 
 pub survey_has_no_float : (survey : Survey) → has_float (surveyed_data survey) ≡ false
 survey_has_no_float survey = rw (in_map survey.kind survey.report.map) refl

@@ -3,7 +3,7 @@ use Rattle.std.proofs.Common.{◌≡◌, ◌∙◌, ℕ, List, Some, subst, sym}
 use Rattle.std.specs.FinMap.{get}
 use Rattle.rd_geometry.specs.Blocks.{index_of}
 use Rattle.rd_geometry.specs.declared.kind.Kind.{Kind}
-use Rattle.rd_geometry.specs.declared.kind.Kind.TheVariants.{Cpm8, D64}
+use Rattle.rd_geometry.specs.declared.kind.Kind.TheVariants.{Cpm8}
 use Rattle.rd_cbm.specs.BlockMap.{HasWrongCount, IsClaimedFree, IsUnclaimedUsed}
 use Rattle.rd_cbm.specs.Counts.{IsCount}
 use Rattle.rd_cbm.specs.Links.{link_of}
@@ -25,7 +25,7 @@ use Rattle.rd_desk.specs.declared.said.Survey.{Survey}
 
 one_map : (kind : Kind) (image : List ℕ) (one other : MapReport) → IsMapReport kind image one → IsMapReport kind image other → one ≡ other
 one_map Cpm8 image one other first second = first ∙ sym second
-one_map D64 image one other first second =
+one_map _ image one other first second =
     let blocks = one_chain (link_of image) (index_of 18 1) first.blocks second.blocks first.directory second.directory in
     let wrong = count_once (HasWrongCount image) one.wrong_counts other.wrong_counts first.wrong_counts second.wrong_counts in
     let free = count_once (IsClaimedFree image second.blocks) one.claimed_free other.claimed_free
@@ -36,7 +36,7 @@ one_map D64 image one other first second =
 
 one_end : (kind : Kind) (image : List ℕ) (one other : End) → IsDirectoryEnd kind image one → IsDirectoryEnd kind image other → one ≡ other
 one_end Cpm8 image one other first second = first ∙ sym second
-one_end D64 image one other first second =
+one_end _ image one other first second =
     let once = ends_once (link_of image) (index_of 18 1) (links_inside image) (start_inside 18 1) in
     once.only one first ∙ sym (once.only other second)
 

@@ -5,7 +5,7 @@ use Rattle.serde_json.specs.View.{items_of}
 use Rattle.serde_json.specs.Written.{compact_text}
 use Rattle.rd_geometry.specs.Kinds.{word_of}
 use Rattle.rd_geometry.specs.declared.kind.Kind.{Kind}
-use Rattle.rd_geometry.specs.declared.kind.Kind.TheVariants.{Cpm8, D64}
+use Rattle.rd_geometry.specs.declared.kind.Kind.TheVariants.{Cpm8, D64, D64e}
 use Rattle.rd_policy.specs.Verdicts.{label_text}
 use Rattle.rd_cbm.specs.declared.chains.End.{End}
 use Rattle.rd_cbm.specs.declared.chains.End.TheVariants as end
@@ -121,6 +121,7 @@ counts_data map =
 abbrev pub map_data : Kind → MapReport → Data
 map_data Cpm8 map = null
 map_data D64 map = counts_data map
+map_data D64e map = counts_data map
 
 -- a survey, with the word of a kind, of the directory's end, and what is told of the block map
 abbrev pub survey_data : List ℕ → List ℕ → Data → Survey → Data

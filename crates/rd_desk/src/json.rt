@@ -89,7 +89,7 @@ fn map_value(alloc: Global, kind: Kind, map: &MapReport) -> Result<Value, AllocE
 {
     match kind {
         Kind::Cpm8 => Ok(Value::Null),
-        Kind::D64 => counts_value(alloc, map),
+        Kind::D64 | Kind::D64e => counts_value(alloc, map),
     }
 }
 

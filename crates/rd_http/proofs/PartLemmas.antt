@@ -11,7 +11,7 @@ use Rattle.std.proofs.lemmas.Option.{IfSome_then}
 use Rattle.std.proofs.lemmas.Str.Parse.{IsNumeralModel, digits_value_short, numerals_by_value, parse_gives}
 use Rattle.rd_geometry.specs.Kinds.{word_of}
 use Rattle.rd_geometry.specs.declared.kind.Kind.{Kind}
-use Rattle.rd_geometry.specs.declared.kind.Kind.TheVariants.{Cpm8, D64}
+use Rattle.rd_geometry.specs.declared.kind.Kind.TheVariants.{Cpm8, D64, D64e}
 use Rattle.rd_policy.specs.Rules.{IsScope, IsRank}
 use Rattle.rd_http.specs.Parts.{is_number, kind_of, number_of, rank_of, scope_of, slot_of}
 
@@ -92,7 +92,8 @@ pub kind_found : (text : List ℕ) (found : Option Kind)
     → found ≡ kind_of text
 kind_found text (Some Cpm8) is none = rw is refl
 kind_found text (Some D64) is none = rw is refl
-kind_found text None is none =
-    let no_cpm8 : bytes_eq text (codes "cpm8") ≡ false = false_from_ne_true _ (λ same. none Cpm8 ((bytes_decides text (codes "cpm8")).0 same)) in
-    let no_d64 : bytes_eq text (codes "d64") ≡ false = false_from_ne_true _ (λ same. none D64 ((bytes_decides text (codes "d64")).0 same)) in
-    rw (no_cpm8, no_d64) refl
+kind_found text (Some D64e) is none = rw is refl
+kind_found text None is none = rw (other Cpm8, other D64, other D64e) refl
+  where
+    other : (kind : Kind) → bytes_eq text (word_of kind) ≡ false
+    other kind = false_from_ne_true _ (λ same. none kind ((bytes_decides text (word_of kind)).0 same))

@@ -7,7 +7,7 @@ use Rattle.std.specs.Str.Parse.{digits_value}
 use Rattle.hex.specs.Hex.{decode_sized}
 use Rattle.rd_geometry.specs.Kinds.{word_of}
 use Rattle.rd_geometry.specs.declared.kind.Kind.{Kind}
-use Rattle.rd_geometry.specs.declared.kind.Kind.TheVariants.{Cpm8, D64}
+use Rattle.rd_geometry.specs.declared.kind.Kind.TheVariants.{Cpm8, D64, D64e}
 
 -- one decimal digit or more, at most so many, the first not 0 (48 is its code)
 abbrev pub is_number : ℕ → List ℕ → Bool
@@ -30,9 +30,13 @@ rank_of text = number_of 4 text
 abbrev pub slot_of : List ℕ → Option ℕ
 slot_of text = if bytes_eq text (codes "0") then Some 0 else number_of 4 text
 
+-- all kinds, in the order of their words
+abbrev pub all_kinds : List Kind
+all_kinds = Cpm8 ∷ D64 ∷ D64e ∷ []
+
 -- the kind that has the text for its word
 abbrev pub kind_of : List ℕ → Option Kind
-kind_of text = find (λ kind. bytes_eq text (word_of kind)) (Cpm8 ∷ D64 ∷ [])
+kind_of text = find (λ kind. bytes_eq text (word_of kind)) all_kinds
 
 -- the 32 bytes of 64 hexadecimal digits, of either case
 abbrev pub digest_of : List ℕ → Option (List ℕ)

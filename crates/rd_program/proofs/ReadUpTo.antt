@@ -4,7 +4,7 @@ use Rattle.std.proofs.KnownBytes.{Consumes-nil, Consumes-trans}
 use Rattle.std.specs.Io.KnownBytes.{Consumes}
 use Rattle.rd_geometry.specs.Kinds.{size_of}
 use Rattle.rd_geometry.specs.declared.kind.Kind.{Kind}
-use Rattle.rd_geometry.specs.declared.kind.Kind.TheVariants.{Cpm8, D64}
+use Rattle.rd_geometry.specs.declared.kind.Kind.TheVariants.{Cpm8}
 use Rattle.rd_program.specs.Input.{ReadsUpTo}
 
 -- nothing was read
@@ -30,4 +30,4 @@ reads_within limit higher old new within reads =
 -- no kind has larger images than CP/M
 pub largest : (kind : Kind) → size_of kind + 1 ≤ size_of Cpm8 + 1
 largest Cpm8 = omega arith
-largest D64 = omega arith
+largest _ = omega arith

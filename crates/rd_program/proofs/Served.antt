@@ -3,7 +3,7 @@ use Rattle.std.proofs.Common.{◌≡◌, ◌≢◌, inr, ℕ, List, IsTrue, None
 use Rattle.std.specs.Io.KnownBytes.{Appends}
 use Rattle.rd_geometry.specs.Kinds.{size_of}
 use Rattle.rd_geometry.specs.declared.kind.Kind.{Kind}
-use Rattle.rd_geometry.specs.declared.kind.Kind.TheVariants.{Cpm8, D64}
+use Rattle.rd_geometry.specs.declared.kind.Kind.TheVariants.{Cpm8}
 use Rattle.rd_volume.specs.Volumes.{AreBytesOf, IsFound, IsFoundAt, IsSlotOfFile}
 use Rattle.rd_volume.specs.declared.found.Found.{Found}
 use Rattle.rd_volume.specs.Told.{told_faults, told_served, told_slot}
@@ -60,7 +60,7 @@ faulty_file kind slot image file has served some =
 -- the faults that are told of a file are those of the file at its slot
 told_bits : (kind : Kind) (image : List ℕ) (file : Found) → IsFound kind image file → AreFaultsOf kind image file.slot file.faults
 told_bits Cpm8 image file told = told.faults
-told_bits D64 image file told = record { blocks = told.blocks; are_blocks = told.are_blocks; holds = told.holds.faults }
+told_bits _ image file told = record { blocks = told.blocks; are_blocks = told.are_blocks; holds = told.holds.faults }
 
 -- so it is faulty by these
 pub faulty_by : (kind : Kind) (slot : ℕ) (image : List ℕ) (file : Found) → HasFound kind image slot file → IsTrue file.served_class → file.faults ≢ 0

@@ -13,8 +13,9 @@ use Rattle.clap.specs.declared.builder.value_parser.ValueParser.TheVariants.{Nam
 use Rattle.clap.proofs.ValueTestLemmas.{Accepts-accepts}
 use Rattle.clap.proofs.WalkLemmas.{list_any-map}
 use Rattle.rd_geometry.specs.declared.kind.Kind.{Kind}
-use Rattle.rd_geometry.specs.declared.kind.Kind.TheVariants.{Cpm8, D64}
+use Rattle.rd_geometry.specs.declared.kind.Kind.TheVariants.{Cpm8, D64, D64e}
 use Rattle.rd_geometry.specs.Kinds.{word_of}
+use Rattle.rd_http.specs.Parts.{all_kinds}
 use Rattle.rd_program.specs.CommandLine.{AreKindNames, NameList}
 use Rattle.rd_program.specs.Words.{IsOperand, IsSlotText}
 use Rattle.rd_program.proofs.Operands.{IsPlainWord, cons_plain, empty_plain, hyphen_plain}
@@ -28,7 +29,7 @@ operand_plain (c ∷ rest) (inr other) = cons_plain c rest (ne_eqb c 45 (λ same
 -- the word of a kind is no flag
 pub kind_plain : (kind : Kind) → IsPlainWord (word_of kind)
 kind_plain Cpm8 = cons_plain _ _ refl
-kind_plain D64 = cons_plain _ _ refl
+kind_plain _ = cons_plain _ _ refl
 
 -- the word of a kind is among the names of the kinds
 pub kind_accepted : (kinds : NameList) (kind : Kind) → AreKindNames kinds → accepts false (Names kinds) (word_of kind) ≡ true
@@ -36,16 +37,21 @@ kind_accepted kinds kind names =
     list_any-map (λ name. same_text false name (word_of kind)) (λ name. name.now) kinds.now
     ∙ ap (list_any (λ name. same_text false name (word_of kind))) names ∙ among kind
   where
-    among : (k : Kind) → list_any (λ name. same_text false name (word_of k)) (codes "cpm8" ∷ codes "d64" ∷ []) ≡ true
+    among : (k : Kind) → list_any (λ name. same_text false name (word_of k)) (map word_of all_kinds) ≡ true
     among Cpm8 = refl
-    among D64 = refl
+    among _ = refl
 
 -- no two kinds have one word
 pub same_kind : (k l : Kind) → word_of k ≡ word_of l → k ≡ l
 same_kind Cpm8 Cpm8 same = refl
 same_kind Cpm8 D64 same = absurd (let lengths : 4 ≡ 3 = ap length same in omega arith)
+same_kind Cpm8 D64e same = absurd (let first : 99 ≡ 100 = ap (λ word. slice_index word 0) same in omega arith)
 same_kind D64 Cpm8 same = absurd (let lengths : 3 ≡ 4 = ap length same in omega arith)
 same_kind D64 D64 same = refl
+same_kind D64 D64e same = absurd (let lengths : 3 ≡ 4 = ap length same in omega arith)
+same_kind D64e Cpm8 same = absurd (let first : 100 ≡ 99 = ap (λ word. slice_index word 0) same in omega arith)
+same_kind D64e D64 same = absurd (let lengths : 4 ≡ 3 = ap length same in omega arith)
+same_kind D64e D64e same = refl
 
 not_hyphen : (c : ℕ) (rest : List ℕ) (b : Bool) → (c == 43) ≡ b → IsNumeral 10 (drop (cond b 1 0) (c ∷ rest)) → c ≢ 45
 not_hyphen c rest true plus numeral = let is_plus : c ≡ 43 = eqb-true c 43 plus in λ hyphen. omega arith

@@ -3,7 +3,7 @@ use Rattle.std.specs.Prelude.{◌≡◌, ◌≢◌, ◌⊎◌, ℕ, List, Option
 use Rattle.std.specs.Io.KnownBytes.{Appends, Keeps}
 use Rattle.rd_geometry.specs.Kinds.{size_of}
 use Rattle.rd_geometry.specs.declared.kind.Kind.{Kind}
-use Rattle.rd_geometry.specs.declared.kind.Kind.TheVariants.{Cpm8, D64}
+use Rattle.rd_geometry.specs.declared.kind.Kind.TheVariants.{Cpm8, D64, D64e}
 use Rattle.rd_cbm.specs.Faults as cbm_fault
 use Rattle.rd_cpm.specs.Entries.{slot_of}
 use Rattle.rd_cpm.specs.Faults as cpm_fault
@@ -61,10 +61,15 @@ pub record HasFaultyFile (kind : Kind) (slot : ℕ) (image : List ℕ) : Type 0 
   pub served : IsOfServedClass kind image slot
   pub faulty : ¬ HasNoFault kind image slot
 
+-- the faults of the file at the slot of a 1541 image, by bit
+abbrev pub AreCbmFaultsOf : List ℕ → ℕ → ℕ → Type 0
+AreCbmFaultsOf image slot faults = OfDirectory image (λ blocks. cbm_fault.AreFaults image blocks slot faults)
+
 -- the faults of the file at the slot, by bit
 abbrev pub AreFaultsOf : Kind → List ℕ → ℕ → ℕ → Type 0
 AreFaultsOf Cpm8 image slot faults = cpm_fault.AreFaults (slot_of image) slot faults
-AreFaultsOf D64 image slot faults = OfDirectory image (λ blocks. cbm_fault.AreFaults image blocks slot faults)
+AreFaultsOf D64 image slot faults = AreCbmFaultsOf image slot faults
+AreFaultsOf D64e image slot faults = AreCbmFaultsOf image slot faults
 
 -- The slot is that of a faulty file of an image of the kind, and the faults that are told, of a file of
 -- an image of a kind, are those of this file.

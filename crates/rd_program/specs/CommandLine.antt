@@ -7,6 +7,8 @@ use Rattle.clap.specs.declared.error.kind.ErrorKind.{ErrorKind}
 use Rattle.clap.specs.declared.error.kind.ErrorKind.TheVariants.{DisplayHelp, DisplayVersion}
 use Rattle.clap.specs.declared.builder.value_parser.ValueParser.{ValueParser}
 use Rattle.clap.specs.declared.builder.value_parser.ValueParser.TheVariants.{Names, Signed}
+use Rattle.rd_geometry.specs.Kinds.{word_of}
+use Rattle.rd_http.specs.Parts.{all_kinds}
 
 -- a list of names, behind references
 abbrev pub NameList : Type 0
@@ -132,9 +134,9 @@ desk_app kinds kinds' =
     bare_app (cat_app kinds).top) (list_app kinds').top) init_app.top) serve_app.top) import_app.top) export_app.top)
     check_app.top
 
--- the names are those of the kinds that a command takes
+-- the names are the words of all kinds
 abbrev pub AreKindNames : NameList → Type 0
-AreKindNames kinds = map (λ name. name.now) kinds.now ≡ codes "cpm8" ∷ codes "d64" ∷ []
+AreKindNames kinds = map (λ name. name.now) kinds.now ≡ map word_of all_kinds
 
 -- an operand for one of the kinds
 abbrev pub IsKindRule : Rule → Type 0

@@ -5,10 +5,8 @@ ghost use Rattle.rd_program.specs.CommandLine.{IsCatApp, IsDeskApp, IsKindRule, 
 
 use crate::version::VERSION;
 use clap::{Arg, Command, value_parser};
+use rd_geometry::KIND_WORDS;
 use std::alloc::{AllocError, Global};
-
-/// The kinds of image that a command takes.
-static KINDS: [&str; 2] = ["cpm8", "d64"];
 
 /// The operand for a kind.
 fn kind_operand<'a>(alloc: Global) -> Arg<'a>
@@ -17,8 +15,8 @@ fn kind_operand<'a>(alloc: Global) -> Arg<'a>
 {
     Arg::new(alloc, "KIND")
         .required(true)
-        .help("The kind of disk image: cpm8 or d64")
-        .value_parser(KINDS.as_slice())
+        .help("The kind of disk image: cpm8, d64, or d64e for a d64 with error bytes")
+        .value_parser(KIND_WORDS.as_slice())
 }
 
 /// The operand for an image.
