@@ -18,6 +18,7 @@ const TABLES: &[&str] = &[
     "SELECT digest, audience FROM badge ORDER BY digest",
     "SELECT acc, day, outcome FROM checked ORDER BY acc, day",
     "SELECT * FROM found ORDER BY acc, slot",
+    "SELECT acc, bytes FROM marks ORDER BY acc",
 ];
 
 fn rows_of(conn: &mut Connection<MemStore>, sql: &str) -> Result<Vec<Row>, Error> {

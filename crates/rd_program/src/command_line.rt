@@ -15,7 +15,7 @@ fn kind_operand<'a>(alloc: Global) -> Arg<'a>
 {
     Arg::new(alloc, "KIND")
         .required(true)
-        .help("The kind of disk image: cpm8, d64, or d64e for a d64 with error bytes")
+        .help("The kind of disk image; a d64e is a d64 with error bytes behind it")
         .value_parser(KIND_WORDS.as_slice())
 }
 

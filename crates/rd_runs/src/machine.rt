@@ -57,7 +57,7 @@ pub(crate) struct Museum<'a> {
 
 /// The front of a file, which is one byte longer than the largest image at most.
 fn front_of(bytes: &[u8]) -> &[u8] {
-    let count = bytes.len().min(Kind::Cpm8.size() + 1);
+    let count = bytes.len().min(Kind::largest_size() + 1);
     &bytes[..count]
 }
 

@@ -143,12 +143,39 @@ pub(crate) enum Opening {
     Inside,
 }
 
+/// How the desk that tables hold is taken.
+#[derive(Clone, Copy, PartialEq, Eq)]
+pub(crate) enum Way {
+    /// It is opened as it is.
+    Open,
+    /// It is opened too where it is of an earlier version, and is then of this one.
+    Migrate,
+}
+
+fn opened(
+    alloc: Global,
+    conn: Connection<MemStore>,
+    way: Way,
+) -> Result<Store<MemStore>, Refused<OpenFault, MemStore>>
+    requires outside { conn.in_transaction ≡ false }
+{
+    match way {
+        Way::Open => Store::open(alloc, conn),
+        Way::Migrate => Store::migrate(alloc, conn),
+    }
+}
+
 /// Opens the desk that tables hold.
-pub(crate) fn open(alloc: Global, conn: Connection<MemStore>, zone: Zone) -> (Stage, Opening) {
+pub(crate) fn open(
+    alloc: Global,
+    conn: Connection<MemStore>,
+    zone: Zone,
+    way: Way,
+) -> (Stage, Opening) {
     if !conn.is_autocommit() {
         return (Stage::Tables(conn), Opening::Inside);
     }
-    match Store::open(alloc, conn) {
+    match opened(alloc, conn, way) {
         Ok(store) => (Stage::Open(Desk::new(store, zone)), Opening::Well),
         Err(Refused { fault, conn }) => (Stage::Tables(conn), Opening::Fault(fault)),
     }

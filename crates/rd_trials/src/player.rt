@@ -1,8 +1,8 @@
 //! Trials, played line by line.
 
 use crate::desk::{
-    CENTRAL, Opening, Stage, new_connection, new_desk, open, visit as make_visit, visit_in_memory,
-    with_zone,
+    CENTRAL, Opening, Stage, Way, new_connection, new_desk, open, visit as make_visit,
+    visit_in_memory, with_zone,
 };
 use crate::visit::{Likeness, Visit, outcome_of};
 use crate::wire::WHOLE;
@@ -86,6 +86,7 @@ fn is_first(word: &str) -> bool {
             | "anew"
             | "empty"
             | "opens"
+            | "migrates"
             | "tables"
     )
 }
@@ -142,7 +143,8 @@ impl<'a> Player<'a> {
             "zone" => self.set_zone(zone_of(text)?),
             "anew" => self.stage_new(rt)?,
             "empty" => self.stage = Stage::Tables(new_connection(rt.alloc())?),
-            "opens" => self.open_twice(rt, place, text)?,
+            "opens" => self.open_twice(rt, (place, word), text, Way::Open)?,
+            "migrates" => self.open_twice(rt, (place, word), text, Way::Migrate)?,
             "tables" => self.compare(rt, place, text)?,
             _ => self.item = Item::Change(Change::new(place, Effect::of(word), text)),
         }
@@ -268,29 +270,36 @@ impl<'a> Player<'a> {
     }
 
     /// Opens the desk that the tables hold, and gives the word for how that ends.
-    fn open(&mut self, rt: &HostRuntime) -> Result<&'static str> {
-        let (stage, opening) = open(rt.alloc(), self.take_tables()?, self.zone);
+    fn open(&mut self, rt: &HostRuntime, way: Way) -> Result<&'static str> {
+        let (stage, opening) = open(rt.alloc(), self.take_tables()?, self.zone, way);
         self.stage = stage;
         Ok(word_of(opening))
     }
 
-    /// Opens the desk that the tables hold, twice: the tables have to stay as they are, and the second opening
-    /// has to end as the first.
-    fn open_twice(&mut self, rt: &HostRuntime, place: &'a str, wanted: &'a str) -> Result<()> {
+    /// Opens the desk that the tables hold, twice: the second opening has to end as the first, and the tables have to
+    /// stay as they are, but where a migration ends well.
+    fn open_twice(
+        &mut self,
+        rt: &HostRuntime,
+        case: (&'a str, &'a str),
+        wanted: &'a str,
+        way: Way,
+    ) -> Result<()> {
         if !is_opening(wanted) {
             bail!("no such opening");
         }
         let before = self.contents(rt)?;
-        let first = self.open(rt)?;
+        let first = self.open(rt, way)?;
         let after = self.contents(rt)?;
-        let second = self.open(rt)?;
-        let came = if before == after && first == second {
+        let second = self.open(rt, way)?;
+        let may_change = way == Way::Migrate && first == "well";
+        let came = if (may_change || before == after) && first == second {
             first
         } else {
             "otherwise the second time"
         };
         self.tally
-            .judge(rt, (place, "opens"), wanted.as_bytes(), came.as_bytes())
+            .judge(rt, case, wanted.as_bytes(), came.as_bytes())
     }
 
     /// Keeps what the tables hold, or compares it with what is kept.
