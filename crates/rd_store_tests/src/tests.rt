@@ -100,6 +100,19 @@ fn open_desk<S: Alter>(
     }
 }
 
+/// The desk that a database holds, which may be one of version 1, or why it is not opened as one, and the connection.
+fn migrate_desk<S: Alter>(
+    rt: &impl Abort,
+    alloc: Global,
+    conn: Connection<S>,
+) -> Result<Store<S>, (OpenFault, Connection<S>)> {
+    assert!(rt; conn.is_autocommit());
+    match Store::migrate(alloc, conn) {
+        Ok(desk) => Ok(desk),
+        Err(Refused { fault, conn }) => Err((fault, conn)),
+    }
+}
+
 fn put_deed<S: Alter>(
     rt: &impl Abort,
     desk: &mut Store<S>,
@@ -134,6 +147,9 @@ const PROGRAM: Given = (Picture::Program, 7, Digest::Program);
 
 /// The image with a loop, under deed 7.
 const LOOPED: Given = (Picture::Looped, 7, Digest::Other);
+
+/// The image with one program and error bytes, under deed 7.
+const MARKED: Given = (Picture::Marked, 7, Digest::Other);
 
 /// The CP/M image with one file, under deed 7.
 const CPM: Given = (Picture::Hello, 7, Digest::Other);

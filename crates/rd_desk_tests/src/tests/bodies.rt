@@ -4,7 +4,7 @@ use super::cases::{
     DONE, FILE_OF_12, NO_FILE, ONE_IMAGE, SURVEY_OF_12, UNKNOWN_KEY, UNTIL_2030, Visit, told,
     wanted_of,
 };
-use super::images::{HELLO_15, NewImage, PROGRAM_12, Picture, QUOTED_18, bytes_of};
+use super::images::{HELLO_15, MARKED_12, NewImage, PROGRAM_12, Picture, QUOTED_18, bytes_of};
 use super::requests::{Ask, NOBODY, PUBLIC, STAFF};
 use super::state::{AFTER, BEFORE, desk_with, reply_to};
 use rd_desk::{Body, Contents, Form};
@@ -33,6 +33,16 @@ const FULL_BLOCK: Picture = Picture::Altered(&[(88_576, &[0, 1])]);
 const FULL_BLOCK_23: NewImage =
     like!(NewImage, PROGRAM_12, acc: 23, bytes: FULL_BLOCK, digest: FULL_BLOCK);
 
+/// The disk with the program `HELLO`, of whose other blocks each reads with an error.
+const OTHERS_UNREAD: Picture = Picture::Marked(&[
+    (174_848, &[5; 336]),
+    (175_185, &[5; 9]),
+    (175_195, &[5; 336]),
+]);
+
+const OTHERS_UNREAD_25: NewImage =
+    like!(NewImage, MARKED_12, acc: 25, bytes: OTHERS_UNREAD, digest: OTHERS_UNREAD);
+
 /// A file of three records, which differ.
 const RECORDS: Picture = Picture::Cpm(
     &[like!(NewEntry, FILE, rc: 3, pointers: b"\x02")],
@@ -43,6 +53,7 @@ const RECORDS_24: NewImage = like!(NewImage, HELLO_15, acc: 24, bytes: RECORDS, 
 
 const SERVED: &[Served] = table![
     ("a program of two blocks", PROGRAM_12, 0, &[(86_018, 254, 0, 1), (88_578, 4, 0, 1)]);
+    ("a program of an image with error bytes", OTHERS_UNREAD_25, 0, &[(86_018, 254, 0, 1), (88_578, 4, 0, 1)]);
     ("a program of 664 blocks", LONGEST_22, 0, &[(2, 254, 256, 357), (96_258, 254, 256, 307)]);
     ("a last block of which no byte is used", FULL_BLOCK_23, 0, &[(86_018, 254, 0, 1)]);
     ("a program without a byte", QUOTED_18, 1, &[]);
@@ -68,6 +79,11 @@ type Lent = (&'static str, Kind, usize, bool, u8, u16, u16, Option<usize>);
 const LENT: &[Lent] = table![
     ("the last block of a 1541 disk", Kind::D64, 174_848, true, 0, 682, 254, Some(254));
     ("the last sector of a CP/M disk", Kind::Cpm8, 256_256, true, 0, 1_949, 128, Some(128));
+    ("the last block of an image with error bytes", Kind::D64e, 175_531, true, 0, 682, 254, Some(254));
+    ("error bytes are no block", Kind::D64e, 175_531, true, 0, 683, 254, None);
+    ("an image without its error bytes", Kind::D64e, 174_848, true, 0, 0, 254, None);
+    ("error bytes that the kind does not have", Kind::D64, 175_531, true, 0, 0, 254, None);
+    ("a block that reads with an error", Kind::D64e, 175_531, true, 16, 0, 254, None);
     ("a block of which no byte is used", Kind::D64, 174_848, true, 0, 0, 0, Some(0));
     ("a byte less than an image", Kind::D64, 174_847, true, 0, 0, 254, None);
     ("an image of the other kind", Kind::D64, 256_256, true, 0, 0, 254, None);

@@ -3,8 +3,8 @@
 use rd_geometry::{Kind, NoMemory};
 use rd_rows::bytes::put;
 use rd_rows::cbm::{
-    DIRECTORY, NewCbmEntry, PROGRAM, crossed, formatted, full, looped, mixed, one_program,
-    put_cbm_entry,
+    DIRECTORY, NewCbmEntry, PROGRAM, add_marks, crossed, formatted, full, looped, mixed,
+    one_program, put_cbm_entry,
 };
 use rd_rows::cpm::{NewEntry, filled, hello, with_entries};
 use std::alloc::Global;
@@ -33,6 +33,8 @@ pub(super) enum Picture {
     Ones,
     /// The disk with the program `HELLO`, with these bytes over its own.
     Altered(Patches),
+    /// The disk with the program `HELLO` and with error bytes, which tell of no error but for these bytes over its own.
+    Marked(Patches),
     /// A 1541 disk with the program `LONG`, which has all blocks that files can have, with these bytes over its own.
     Full(Patches),
     /// A CP/M disk with these entries from slot 0 on, and then these bytes.
@@ -61,6 +63,12 @@ pub(super) const PROGRAM_12: NewImage = NewImage {
 
 /// The same under deed 8.
 pub(super) const PROGRAM_13: NewImage = like!(NewImage, PROGRAM_12, acc: 13, deed: 8);
+
+/// The same disk with error bytes that tell of no error, under deed 7.
+const NO_ERROR: Picture = Picture::Marked(&[]);
+
+pub(super) const MARKED_12: NewImage =
+    like!(NewImage, PROGRAM_12, kind: Kind::D64e, bytes: NO_ERROR, digest: NO_ERROR);
 
 pub(super) const LOOPED_14: NewImage =
     like!(NewImage, PROGRAM_12, acc: 14, bytes: Picture::Looped, digest: Picture::Looped);
@@ -103,6 +111,13 @@ fn altered(alloc: Global, patches: &[(usize, &[u8])]) -> Result<Vec<u8>, NoMemor
     Ok(image)
 }
 
+fn marked(alloc: Global, patches: &[(usize, &[u8])]) -> Result<Vec<u8>, NoMemory> {
+    let mut image = one_program(alloc)?;
+    add_marks(&mut image)?;
+    put_patches(&mut image, patches);
+    Ok(image)
+}
+
 fn full_with(alloc: Global, patches: &[(usize, &[u8])]) -> Result<Vec<u8>, NoMemory> {
     let mut image = full(alloc)?;
     put_patches(&mut image, patches);
@@ -136,6 +151,7 @@ pub(super) fn bytes_of(alloc: Global, picture: Picture) -> Result<Vec<u8>, NoMem
         Picture::Hello => hello(alloc),
         Picture::Ones => filled(alloc, 1),
         Picture::Altered(patches) => altered(alloc, patches),
+        Picture::Marked(patches) => marked(alloc, patches),
         Picture::Full(patches) => full_with(alloc, patches),
         Picture::Cpm(entries, patches) => with_cpm_entries(alloc, entries, patches),
     }

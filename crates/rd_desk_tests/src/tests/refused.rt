@@ -5,7 +5,7 @@ use super::cases::{
     ALL_OF_12, BAD_BODY, COLUMNS, DONE, HELLO, ONE_IMAGE, SOUND, STAFF_ONLY, SURVEY_OF_12, Told,
     UNAVAILABLE, UNKNOWN_KEY, UNTIL_2030, Visit, Wanted, told, wanted_of,
 };
-use super::images::{LOOPED_14, PROGRAM_12, QUOTED_18};
+use super::images::{LOOPED_14, MARKED_12, PROGRAM_12, QUOTED_18};
 use super::requests::{Ask, Key, PUBLIC, ROOM, STAFF, request_of};
 use super::state::{
     AFTER, BEFORE, CLOSED, Memory, OPEN, TAKEDOWN, answer, create, desk_over, into_connection,
@@ -235,9 +235,10 @@ fn a_check_when_memory_is_refused(rt: HostRuntime) -> Result<(), Fail> {
     assert_plan(&rt, rt.alloc(), &CHECK)
 }
 
+/// The image has error bytes, so that all is asked for that one without them asks for, and more.
 const PUT_IMAGE: Plan = Plan {
     given: &[DEED, Ask::PutRule(OPEN)],
-    visit: (STAFF, AFTER, Ask::PutImage(PROGRAM_12), DONE),
+    visit: (STAFF, AFTER, Ask::PutImage(MARKED_12), DONE),
     then: &[(PUBLIC, AFTER, Ask::Bytes(12, 0), HELLO)],
 };
 

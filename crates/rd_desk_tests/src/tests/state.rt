@@ -190,6 +190,7 @@ const TABLES: &[&str] = &[
     "SELECT digest, audience FROM badge ORDER BY digest",
     "SELECT acc, day, outcome FROM checked ORDER BY acc, day",
     "SELECT * FROM found ORDER BY acc, slot",
+    "SELECT acc, bytes FROM marks ORDER BY acc",
 ];
 
 pub(super) fn rows(conn: &mut Connection<MemStore>, sql: &str) -> Result<Vec<Row>, Error> {

@@ -8,18 +8,26 @@ use super::visits::{Visit, door_of};
 use rd_http::MemoryDoor;
 use rd_program::run;
 use rd_rows::bytes::put;
-use rd_rows::cbm::one_program;
+use rd_rows::cbm::{add_marks, one_program};
 use rd_rows::cpm::hello;
 use rd_volume::{Kind, NoMemory};
 use std::alloc::{Alloc, Global};
 use std::process::Abort;
 use std::test::Fail;
 
+/// The 1541 image of one program, with error bytes.
+fn marked(alloc: Global) -> Result<Vec<u8>, NoMemory> {
+    let mut image = one_program(alloc)?;
+    add_marks(&mut image)?;
+    Ok(image)
+}
+
 /// An image of one file.
 fn one_file(alloc: Global, kind: Kind) -> Result<Vec<u8>, NoMemory> {
     match kind {
         Kind::Cpm8 => hello(alloc),
         Kind::D64 => one_program(alloc),
+        Kind::D64e => marked(alloc),
     }
 }
 
@@ -113,7 +121,7 @@ fn cat_of_a_program_when_memory_is_refused(rt: HostRuntime) -> Result<(), Fail> 
 fn list_of_a_program_when_memory_is_refused(rt: HostRuntime) -> Result<(), Fail> {
     let mut output = [0; 64];
     assert_eq!(rt;
-        run_again(rt.alloc(), Kind::D64, &["list", "d64", "-"], &mut output)?,
+        run_again(rt.alloc(), Kind::D64e, &["list", "d64e", "-"], &mut output)?,
         0
     );
     assert!(rt; output.starts_with(b"0\t\tPRG\t258\t\tHELLO\nfiles\t1\tend\n".as_slice()));

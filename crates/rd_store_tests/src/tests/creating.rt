@@ -38,10 +38,12 @@ fn a_new_desk_has_its_staff_key(rt: HostRuntime) -> Result<(), Fail> {
 
 /// Questions of the connection of a desk that is given back, and what each tells.
 const ROWS: &[(Start, &str, i64)] = &[
-    (Start::New, "SELECT version FROM desk", 1),
+    (Start::New, "SELECT version FROM desk", 2),
     (Start::New, "SELECT count(*) FROM badge", 1),
     (Start::New, "SELECT count(*) FROM found", 0),
+    (Start::New, "SELECT count(*) FROM marks", 0),
     (Start::Filled, "SELECT count(*) FROM found", 1),
+    (Start::Filled, "SELECT count(*) FROM marks", 0),
     (Start::Filled, "SELECT count(*) FROM rule", 2),
     (
         Start::Filled,

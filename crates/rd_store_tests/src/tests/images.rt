@@ -1,10 +1,11 @@
 //! Deeds and images.
 
-use super::PROGRAM;
 use super::steps::{
-    COMMODORE, CONFLICT, Call, Case, DONE, Digest, MISSING, Picture, Question, Start, Step,
-    assert_cases,
+    COMMODORE, CONFLICT, Call, Case, DONE, Digest, Given, MISSING, Picture, Question, Start, Step,
+    WITH_MARKS, assert_cases,
 };
+use super::told::{HELLO, HELLO_UNREAD};
+use super::{MARKED, PROGRAM};
 use rd_geometry::Kind;
 use rd_store::Accession;
 use std::test::Fail;
@@ -74,6 +75,66 @@ const ACCESSIONS: &[Case] = &[Case {
         Step::Tells(Question::Accession(4_294_967_295, None)),
     ],
 }];
+
+/// The image with one program that reads with an error, under deed 7.
+const UNREAD: Given = (Picture::Unread, 7, Digest::Staff);
+
+const MARKS: &[Case] = &[
+    Case {
+        label: "images with error bytes",
+        start: Start::Filled,
+        steps: &[
+            Step::Does(Call::PutImage(13, UNREAD), DONE),
+            Step::Does(Call::PutImage(11, MARKED), DONE),
+            Step::Tells(Question::Image(11, Some(MARKED))),
+            Step::Tells(Question::Image(12, Some(PROGRAM))),
+            Step::Tells(Question::Image(13, Some(UNREAD))),
+            Step::Tells(Question::Accession(11, Some(WITH_MARKS))),
+            Step::Tells(Question::Accession(12, Some(COMMODORE))),
+            Step::Tells(Question::Accession(13, Some(WITH_MARKS))),
+            Step::Tells(Question::Accessions(&[11, 12, 13])),
+            Step::Tells(Question::Register(&[
+                (11, WITH_MARKS),
+                (12, COMMODORE),
+                (13, WITH_MARKS),
+            ])),
+            Step::Tells(Question::Files(11, &[HELLO])),
+            Step::Tells(Question::Files(13, &[HELLO_UNREAD])),
+            Step::Tells(Question::FileAt(13, 0, Some(HELLO_UNREAD))),
+        ],
+    },
+    Case {
+        label: "error bytes are part of an image",
+        start: Start::Filled,
+        steps: &[
+            Step::Does(
+                Call::PutImage(12, (Picture::Marked, 7, Digest::Program)),
+                CONFLICT,
+            ),
+            Step::Does(Call::PutImage(13, MARKED), DONE),
+            Step::Does(
+                Call::PutImage(13, (Picture::Program, 7, Digest::Other)),
+                CONFLICT,
+            ),
+            Step::Does(
+                Call::PutImage(13, (Picture::Hello, 7, Digest::Other)),
+                CONFLICT,
+            ),
+            Step::Does(Call::PutImage(13, UNREAD), CONFLICT),
+            Step::Does(
+                Call::PutImage(14, (Picture::Marked, 9, Digest::Other)),
+                MISSING,
+            ),
+            Step::Does(
+                Call::PutImage(13, (Picture::Unread, 7, Digest::Other)),
+                DONE,
+            ),
+            Step::Tells(Question::Image(13, Some(MARKED))),
+            Step::Tells(Question::Files(13, &[HELLO])),
+            Step::Tells(Question::Image(12, Some(PROGRAM))),
+        ],
+    },
+];
 
 const IMAGES: &[Case] = &[
     Case {
@@ -192,5 +253,6 @@ fn deeds_are_kept(rt: HostRuntime) -> Result<(), Fail> {
 #[test]
 fn images_are_kept(rt: HostRuntime) -> Result<(), Fail> {
     assert_cases(&rt, rt.alloc(), IMAGES)?;
+    assert_cases(&rt, rt.alloc(), MARKS)?;
     assert_cases(&rt, rt.alloc(), ACCESSIONS)
 }

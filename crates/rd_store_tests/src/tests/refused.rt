@@ -2,10 +2,13 @@
 //! answers `Sql` has changed nothing. It is made again, and must then answer as ever.
 
 use super::steps::{
-    COMMODORE, Call, DONE, Digest, Named, Question, Step, answer, assert_steps, tells_so,
+    Call, DONE, Digest, Named, Question, Step, WITH_MARKS, answer, assert_steps, tells_so,
 };
 use super::told::HELLO;
-use super::{Desk, PROGRAM, STAFF, into_connection, new_connection, number, open_desk, put_check};
+use super::{
+    Desk, MARKED, PROGRAM, STAFF, into_connection, migrate_desk, new_connection, number, open_desk,
+    put_check, run,
+};
 use rd_geometry::NoMemory;
 use rd_policy::Audience;
 use rd_store::{OpenFault, Outcome, Refused, Store, StoreFault};
@@ -83,6 +86,8 @@ const PUT_DEED: Step<'static> = Step::Does(Call::PutDeed(7, "A. Curator", 18_020
 
 const PUT_IMAGE: Step<'static> = Step::Does(Call::PutImage(12, PROGRAM), DONE);
 
+const PUT_MARKED: Step<'static> = Step::Does(Call::PutImage(12, MARKED), DONE);
+
 /// Tells that a desk has deed 7 and the staff key, and nothing else.
 const BARE: &[Step<'static>] = &[
     Step::Tells(Question::Deed(7, Some(("A. Curator", 18_020)))),
@@ -94,24 +99,28 @@ const BARE: &[Step<'static>] = &[
     Step::Tells(Question::FileAt(12, 0, None)),
 ];
 
-/// Tells that image 12 and no other stands.
+/// Tells that image 12 stands, with its error bytes, and no other.
 const IMAGE: &[Step<'static>] = &[
-    Step::Tells(Question::Image(12, Some(PROGRAM))),
+    Step::Tells(Question::Image(12, Some(MARKED))),
+    Step::Tells(Question::Accession(12, Some(WITH_MARKS))),
     Step::Tells(Question::Accessions(&[12])),
-    Step::Tells(Question::Register(&[(12, COMMODORE)])),
+    Step::Tells(Question::Register(&[(12, WITH_MARKS)])),
     Step::Tells(Question::Files(12, &[HELLO])),
 ];
 
+/// The image has error bytes, so that all is asked for that one without them asks for, and more.
 #[test]
 fn an_image_when_memory_is_refused(rt: HostRuntime) -> Result<(), Fail> {
     let alloc = rt.alloc();
     let mut desk = desk_again(&rt, alloc)?;
-    let first = taken(&rt, alloc, &mut desk, &PUT_IMAGE);
+    let first = taken(&rt, alloc, &mut desk, &PUT_MARKED);
     if first != Ok(Ok(true)) {
         assert!(rt; matches!(&first, Err(NoMemory) | Ok(Err(StoreFault::Sql))));
         assert_steps(&rt, alloc, &mut desk, "after a refusal", BARE)?;
-        assert_again(&rt, alloc, &mut desk, &[PUT_IMAGE])?;
+        assert_again(&rt, alloc, &mut desk, &[PUT_MARKED])?;
     }
+    assert_again(&rt, alloc, &mut desk, IMAGE)?;
+    let mut desk = open_again(&rt, alloc, into_connection(desk))?;
     assert_again(&rt, alloc, &mut desk, IMAGE)
 }
 
@@ -190,19 +199,66 @@ fn opening_when_memory_is_refused(rt: HostRuntime) -> Result<(), Fail> {
     assert_again(&rt, alloc, &mut desk, SMALL)
 }
 
-/// What was found of image 12 on day 18,021, by its number in the tables.
-fn outcome_again(conn: &mut Connection<MemStore>) -> Result<i64, Error> {
-    let sql = "SELECT outcome FROM checked WHERE acc = 12 AND day = 18021";
+/// The number that a query tells, asked again where memory was refused.
+fn number_again(conn: &mut Connection<MemStore>, sql: &str) -> Result<i64, Error> {
     match number(conn, sql) {
-        Ok(code) => Ok(code),
+        Ok(number) => Ok(number),
         Err(_) => number(conn, sql),
     }
 }
 
+fn run_again(conn: &mut Connection<MemStore>, sql: &str) -> Result<usize, Error> {
+    match run(conn, sql) {
+        Ok(count) => Ok(count),
+        Err(_) => run(conn, sql),
+    }
+}
+
+/// Asks for the version that the tables say.
+const VERSION: &str = "SELECT version FROM desk";
+
+/// The tables of a desk, as those of version 1 are.
+fn first_version(desk: Desk) -> Result<Connection<MemStore>, Error> {
+    let mut conn = into_connection(desk);
+    run_again(&mut conn, "DROP TABLE marks")?;
+    run_again(&mut conn, "UPDATE desk SET version = 1")?;
+    Ok(conn)
+}
+
+/// The desk that a database of version 1 holds, migrated again where memory was refused.
+fn migrate_again(rt: &impl Abort, alloc: Global, conn: Connection<MemStore>) -> Result<Desk, Fail> {
+    match migrate_desk(rt, alloc, conn) {
+        Ok(desk) => Ok(desk),
+        Err((fault, mut conn)) => {
+            assert_eq!(rt; fault, OpenFault::Sql);
+            assert_eq!(rt; number_again(&mut conn, VERSION)?, 1);
+            match migrate_desk(rt, alloc, conn) {
+                Ok(desk) => Ok(desk),
+                Err((fault, _)) => Err(Fail::from(fault)),
+            }
+        }
+    }
+}
+
+#[test]
+fn migrating_when_memory_is_refused(rt: HostRuntime) -> Result<(), Fail> {
+    let alloc = rt.alloc();
+    let mut desk = desk_again(&rt, alloc)?;
+    assert_again(&rt, alloc, &mut desk, PUT_SMALL)?;
+    let mut desk = migrate_again(&rt, alloc, first_version(desk)?)?;
+    assert_again(&rt, alloc, &mut desk, SMALL)?;
+    let mut conn = into_connection(desk);
+    assert_eq!(rt; number_again(&mut conn, VERSION)?, 2);
+    Ok(())
+}
+
+/// Asks for what was found of image 12 on day 18,021, by its number in the tables.
+const OUTCOME: &str = "SELECT outcome FROM checked WHERE acc = 12 AND day = 18021";
+
 /// Asserts that the first outcome of the check still stands, and puts the second one.
 fn check_again(rt: &impl Abort, alloc: Global, desk: Desk) -> Result<Desk, Fail> {
     let mut conn = into_connection(desk);
-    assert_eq!(rt; outcome_again(&mut conn)?, 0);
+    assert_eq!(rt; number_again(&mut conn, OUTCOME)?, 0);
     let mut desk = open_again(rt, alloc, conn)?;
     put_check(rt, &mut desk, 12, 18_021, Outcome::Changed)?;
     Ok(desk)
@@ -225,6 +281,6 @@ fn checks_when_memory_is_refused(rt: HostRuntime) -> Result<(), Fail> {
         desk = check_again(&rt, alloc, desk)?;
     }
     let mut conn = into_connection(desk);
-    assert_eq!(rt; outcome_again(&mut conn)?, 1);
+    assert_eq!(rt; number_again(&mut conn, OUTCOME)?, 1);
     Ok(())
 }

@@ -7,7 +7,7 @@ use super::{
 };
 use rd_geometry::{Kind, NoMemory, Text};
 use rd_policy::{Audience, Band, Effect, Rule, Select, is_scope};
-use rd_rows::cbm::{crossed, formatted, full, looped, mixed, one_program};
+use rd_rows::cbm::{add_marks, crossed, formatted, full, looped, mixed, one_program, put_mark};
 use rd_rows::cpm::{hello, scattered};
 use rd_store::{Accession, DeedRow, ImageRow, Outcome, Store, StoreFault};
 use rd_volume::Found;
@@ -44,6 +44,10 @@ pub(super) enum Picture {
     Mixed,
     /// The 1541 image with a program of all blocks.
     Full,
+    /// The 1541 image with one program, and error bytes that tell of no error.
+    Marked,
+    /// The same, but that a block of the program reads with an error.
+    Unread,
     /// The CP/M image with one file.
     Hello,
     /// The CP/M image with a file of all blocks.
@@ -56,6 +60,12 @@ pub(super) type Given = (Picture, u32, Digest);
 /// A 1541 disk under deed 7.
 pub(super) const COMMODORE: Accession = Accession {
     kind: Kind::D64,
+    deed: 7,
+};
+
+/// A 1541 disk with error bytes under deed 7.
+pub(super) const WITH_MARKS: Accession = Accession {
+    kind: Kind::D64e,
     deed: 7,
 };
 
@@ -143,6 +153,14 @@ fn digest_of(digest: Digest) -> &'static [u8; 32] {
     }
 }
 
+/// The 1541 image with one program and error bytes: 1, but of the program's second block this one.
+fn marked(alloc: Global, mark: u8) -> Result<Vec<u8>, NoMemory> {
+    let mut image = one_program(alloc)?;
+    add_marks(&mut image)?;
+    put_mark(&mut image, 346, mark);
+    Ok(image)
+}
+
 fn bytes_of(alloc: Global, picture: Picture) -> Result<Vec<u8>, NoMemory> {
     match picture {
         Picture::Program => one_program(alloc),
@@ -151,6 +169,8 @@ fn bytes_of(alloc: Global, picture: Picture) -> Result<Vec<u8>, NoMemory> {
         Picture::Crossed => crossed(alloc),
         Picture::Mixed => mixed(alloc),
         Picture::Full => full(alloc),
+        Picture::Marked => marked(alloc, 1),
+        Picture::Unread => marked(alloc, 5),
         Picture::Hello => hello(alloc),
         Picture::Scattered => scattered(alloc),
     }
@@ -159,6 +179,7 @@ fn bytes_of(alloc: Global, picture: Picture) -> Result<Vec<u8>, NoMemory> {
 fn kind_of(picture: Picture) -> Kind {
     match picture {
         Picture::Hello | Picture::Scattered => Kind::Cpm8,
+        Picture::Marked | Picture::Unread => Kind::D64e,
         _ => Kind::D64,
     }
 }
