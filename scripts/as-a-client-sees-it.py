@@ -400,14 +400,15 @@ def museum_case(desk, accession, path, fields):
 def see_museum(desk):
     """The files of the repository's images are told, tabled and given as `list` and `cat` write them."""
     cases, museum = [], []
-    for accession, name in ((16, "museum.d64"), (17, "damaged.img"), (18, "welcome.img")):
+    names = ((16, "museum.d64"), (17, "damaged.img"), (18, "welcome.img"), (26, "damaged.d64"))
+    for accession, name in names:
         path = os.path.join(ROOT, "images", name)
         lines = desk.run("list", IMAGES[accession][0], path)[1].decode().splitlines()[:-1]
         files = [museum_case(desk, accession, path, line.split("\t")) for line in lines]
         told_files = listing(accession, *(line for line, _ in files))
         museum += [(accession, line) for line, _ in files]
         cases += [(f"image {accession}", get(f"/images/{accession}"), told_files), *(case for _, case in files)]
-    desk.same("museum: three images and nine files", 12, len(cases))
+    desk.same("museum: four images and eleven files", 15, len(cases))
     to_staff = catalogue((12, HELLO_LINE), (14, LOOP_LINE), (15, RECORD_LINE), *museum)
     to_room = catalogue(*OF_12_TO_OTHERS, (14, LOOP_LINE), (15, RECORD_LINE), *museum)
     to_public = catalogue(*OF_12_TO_OTHERS, (14, LOOP_LINE), (15, HELLO_TO_LIST), *museum)

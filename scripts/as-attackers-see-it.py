@@ -48,6 +48,7 @@ SHOWN = 20
 TABLES = {
     "deed": "SELECT num, donor, signed FROM deed",
     "image": "SELECT acc, kind, deed, digest, bytes FROM image",
+    "marks": "SELECT acc, bytes FROM marks",
     "rule": "SELECT band, scope, rank, audiences, day_from, day_until, how, number, word, effect FROM rule",
     "badge": "SELECT digest, audience FROM badge",
     "checked": "SELECT acc, day, outcome FROM checked",

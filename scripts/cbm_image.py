@@ -5,11 +5,20 @@ It shares no code with the program: blocks are placed by counting the sectors of
 
 SECTORS = {track: 21 if track < 18 else 19 if track < 25 else 18 if track < 31 else 17 for track in range(1, 36)}
 SIDE_ROOM = 120
+BLOCKS = sum(SECTORS.values())
+SIZE = 256 * BLOCKS
+# That of an image with an error byte for each block behind it.
+MARKED_SIZE = SIZE + BLOCKS
 
 
 def place(track, sector):
     """The byte of the image at which a block begins."""
     return 256 * (sum(SECTORS[t] for t in range(1, track)) + sector)
+
+
+def mark_place(track, sector):
+    """The byte of an image with error bytes that is the block's."""
+    return SIZE + place(track, sector) // 256
 
 
 def padded(name):
@@ -26,6 +35,46 @@ def put_chain(image, blocks, parts):
     for here, after, part in zip(blocks, blocks[1:] + [None], parts):
         link = bytes(after) if after else bytes([0, len(part) + 1])
         image[place(*here) : place(*here) + 2 + len(part)] = link + part
+
+
+def put_file(image, free, track, data):
+    """Writes the blocks of a file on a track, ten sectors apart, and gives the first and their number."""
+    parts = parts_of(data)
+    blocks, sector = [], 0
+    for _ in parts:
+        while (track, sector) not in free:
+            sector = (sector + 1) % SECTORS[track]
+        free.remove((track, sector))
+        blocks.append((track, sector))
+        sector = (sector + 10) % SECTORS[track]
+    put_chain(image, blocks, parts)
+    return blocks[0], len(parts)
+
+
+def put_directory(image, free, label, entries):
+    """Writes a directory of at most eight entries, each a type, a first block, a name and a size, and the map of the
+    free blocks, with the disk's name."""
+    directory = b"".join(
+        b"\x00\x00" + bytes([kind, *first]) + padded(name) + bytes(9) + size.to_bytes(2, "little")
+        for kind, first, name, size in entries
+    )
+    image[place(18, 1) : place(18, 1) + len(directory)] = b"\x00\xff" + directory[2:]
+    head = b"\x12\x01A\x00" + free_map(free) + padded(label) + b"\xa0\xa0RR\xa02A"
+    image[place(18, 0) : place(18, 0) + len(head)] = head
+
+
+def new_free():
+    """The blocks of an empty disk that files can have."""
+    return {(track, sector) for track in SECTORS for sector in range(SECTORS[track])} - {(18, 0), (18, 1)}
+
+
+def chain(image, block):
+    """The blocks from one on along their links, up to the last."""
+    blocks = []
+    while block[0]:
+        blocks.append(block)
+        block = tuple(image[place(*block) : place(*block) + 2])
+    return blocks
 
 
 def free_map(free):

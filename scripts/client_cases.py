@@ -91,9 +91,17 @@ def full_record_disk(data):
     return bytes(image)
 
 
+# An image with an error byte for each block: of the program's second block that of another checksum.
+def marked_disk(image):
+    marks = bytearray([1] * len(ALL_BLOCKS))
+    marks[ALL_BLOCKS.index((17, 10))] = 5
+    return image + bytes(marks)
+
+
 PROGRAM_DISK = disk([(0x82, (17, 0), b"HELLO", 2)], {(17, 0): b"\x11\x0a" + b"A" * 254, (17, 10): b"\x00\x05BCDE"})
 LOOP_DISK = disk([(0x82, (17, 0), b"LOOP", 3)], {(17, 0): b"\x11\x01", (17, 1): b"\x11\x02", (17, 2): b"\x11\x01"})
 RECORD_DISK = record_disk()
+MARKED_DISK = marked_disk(PROGRAM_DISK)
 LONG_PROGRAM, LONG_FILE = pattern(254 * len(FILE_BLOCKS)), pattern(128 * 1928)
 
 # What the SHA-256 of the same images is in rd_http_tests, and of the image that rd_main is run on.
@@ -112,6 +120,7 @@ IMAGES = {
     16: ("d64", 9, bytes_of("images", "museum.d64")),
     17: ("cpm8", 9, bytes_of("images", "damaged.img")),
     18: ("cpm8", 9, bytes_of("images", "welcome.img")),
+    26: ("d64e", 9, bytes_of("images", "damaged.d64")),
 }
 
 # Requests
@@ -285,7 +294,7 @@ def catalogue(*files):
 
 # Deed 7 is closed to the public and the room until 2030 begins. Deed 8 has no rule, and 9 is open to all.
 CLOSED = time.time() < datetime.datetime(2030, 1, 1, tzinfo=datetime.timezone.utc).timestamp()
-OPEN_IMAGES = [(14, 1), (15, 1), (16, 3), (17, 4), (18, 2)]
+OPEN_IMAGES = [(14, 1), (15, 1), (16, 3), (17, 4), (18, 2), (26, 2)]
 TO_STAFF = images((12, 1), *OPEN_IMAGES)
 TO_OTHERS = images(*OPEN_IMAGES) if CLOSED else TO_STAFF
 HELLO_LINE = listed(0, "HELLO", "PRG", 258, "R7.20")
@@ -297,6 +306,7 @@ DONOR_OF_9 = 'C. "Sea" Müller \\ Söhne'
 SURVEY_OF_12 = surveyed(12, "A. Curator", "2019-05-04", "MUSEUM", free_but_claimed(2), files=1, served=1, faulty=0)
 SURVEY_OF_14 = surveyed(14, DONOR_OF_9, "0001-01-01", "MUSEUM", free_but_claimed(3), files=1, served=0, faulty=1)
 SURVEY_OF_15 = surveyed(15, DONOR_OF_9, "0001-01-01", "", None, files=1, served=1, faulty=0)
+SURVEY_OF_26 = surveyed(26, DONOR_OF_9, "0001-01-01", "SCRATCHED", free_but_claimed(0), files=2, served=1, faulty=1)
 SOUND, DIFFERS = (told(outcome=word) for word in ("sound", "changed"))
 
 # Cases by curl and by http.client: label, request and reply
@@ -356,6 +366,7 @@ ROUTES = [
     ("a survey of a 1541 disk", survey(12), SURVEY_OF_12),
     ("of one with a fault", survey(14), SURVEY_OF_14),
     ("of a CP/M disk", survey(15), SURVEY_OF_15),
+    ("of a 1541 disk with error bytes", survey(26), SURVEY_OF_26),
     ("with a query", get("/images/15/survey?/check", STAFF), SURVEY_OF_15),
     ("a check", check(12), SOUND),
     ("with a body", check(12, STAFF, b'{"outcome":"changed"}'), SOUND),
@@ -458,12 +469,16 @@ REFUSALS = [
     ("no rule", get("/images/13/files/0"), denied("D0")),
     ("a separator", get("/images/16/files/1"), LISTED_ONLY),
     ("a file with a fault", get("/images/14/files/0"), faulty("loop")),
+    ("a file that reads with an error", get("/images/26/files/0"), faulty("read-error")),
     ("a byte less", put_image(12, "d64", 7, PROGRAM_DISK[:-1]), WRONG_SIZE),
     ("the length of another kind", put_image(12, "cpm8", 7, PROGRAM_DISK), WRONG_SIZE),
     ("no byte", put_image(12, "d64", 7, b""), WRONG_SIZE),
+    ("no error bytes", put_image(12, "d64e", 7, PROGRAM_DISK), WRONG_SIZE),
+    ("error bytes that the kind does not have", put_image(12, "d64", 7, MARKED_DISK), WRONG_SIZE),
     ("another digest", put_image(12, "d64", 7, LOOP_DISK, digest(PROGRAM_DISK)), DIGEST_DIFFERS),
     ("another image", put_image(12, "d64", 7, LOOP_DISK), CONFLICT),
     ("another deed", put_image(12, "d64", 8, PROGRAM_DISK), CONFLICT),
+    ("error bytes behind the same disk", put_image(12, "d64e", 7, MARKED_DISK), CONFLICT),
     ("the last key of the staff", drop(badge(STAFF)), CONFLICT),
     ("that key given to the room", put(badge(STAFF), {"audience": "room"}), CONFLICT),
     ("all is as it was", get("/images", STAFF), TO_STAFF),
@@ -517,6 +532,8 @@ LONG = [
     ("its program", get("/images/20/files/0"), content(LONG_PROGRAM)),
     ("a full CP/M disk", put_image(21, "cpm8", 9, full_record_disk(LONG_FILE)), DONE),
     ("its file", get("/images/21/files/0"), content(LONG_FILE)),
+    ("a 1541 disk with error bytes", put_image(27, "d64e", 9, MARKED_DISK), DONE),
+    ("its program", get("/images/27/files/0"), faulty("read-error")),
 ]
 
 # Cases by a plain socket: the parts that are sent, with a pause between them, what the client does then, and the reply
@@ -615,16 +632,19 @@ FILE_ROWS = (
 CHECK_ROWS = "SELECT acc, outcome FROM checked ORDER BY acc, outcome"
 BADGE_ROWS = "SELECT lower(hex(digest)), audience FROM badge ORDER BY audience"
 COUNTS = "SELECT " + ", ".join(
-    f"(SELECT count(*) FROM {table})" for table in ("desk", "deed", "image", "rule", "badge", "checked")
+    f"(SELECT count(*) FROM {table})" for table in ("desk", "deed", "image", "rule", "badge", "checked", "marks")
 )
+MARK_ROWS = "SELECT acc, lower(hex(bytes)) FROM marks ORDER BY acc"
+# How many bytes stand in the row of an image: its error bytes have a row of their own.
+LENGTHS = {"cpm8": cpm_image.SIZE, "d64": cbm_image.SIZE, "d64e": cbm_image.SIZE}
 FIRST_DEEDS = ["7|A. Curator|18020", "8|B. Donor|18321"]
 FIRST_RULES = ["1|7|10|3|NULL|21915|0|0|''|0", "1|7|20|7|NULL|NULL|0|0|''|2"]
 BADGES = [f"{digest(b'hello')}|1", f"{digest(b'abc')}|2"]
 
 # What sqlite3 shows after the first cases: a question and its lines.
 FIRST_ROWS = [
-    ("how many rows", COUNTS, ["1|2|1|2|2|0"]),
-    ("the version", "SELECT id, version FROM desk", ["1|1"]),
+    ("how many rows", COUNTS, ["1|2|1|2|2|0|0"]),
+    ("the version", "SELECT id, version FROM desk", ["1|2"]),
     ("the deeds", DEED_ROWS, FIRST_DEEDS),
     ("the image", IMAGE_ROWS, [f"12|1|7|{digest(PROGRAM_DISK)}|174848"]),
     ("its bytes", "SELECT lower(hex(bytes)) FROM image", [PROGRAM_DISK.hex()]),
@@ -635,16 +655,17 @@ FIRST_ROWS = [
 
 # And after all that fill the store.
 ALL_ROWS = [
-    ("how many rows", COUNTS, ["1|3|7|6|2|0"]),
+    ("how many rows", COUNTS, ["1|3|8|6|2|0|1"]),
     ("the deeds", DEED_ROWS, [*FIRST_DEEDS, '9|C. "Sea" Müller \\ Söhne|-719162']),
     (
         "the images",
         IMAGE_ROWS,
         [
-            f"{n}|{['cpm8', 'd64'].index(kind)}|{deed}|{digest(image)}|{len(image)}"
+            f"{n}|{int(kind != 'cpm8')}|{deed}|{digest(image)}|{LENGTHS[kind]}"
             for n, (kind, deed, image) in IMAGES.items()
         ],
     ),
+    ("the error bytes", MARK_ROWS, [f"26|{IMAGES[26][2][cbm_image.SIZE :].hex()}"]),
     (
         "the rules",
         RULE_ROWS,
@@ -664,6 +685,13 @@ ALL_ROWS = [
 CHANGED = [
     ("another version", "UPDATE desk SET version = 7", "version"),
     ("no version", "DELETE FROM desk", "version"),
+    ("the version before, with the tables of this one", "UPDATE desk SET version = 1", "store"),
+    ("no table for error bytes", "DROP TABLE marks", "store"),
+    ("error bytes of no accession", "INSERT INTO marks VALUES (99, zeroblob(683))", "inconsistent"),
+    ("error bytes of a CP/M disk", "INSERT INTO marks VALUES (15, zeroblob(683))", "inconsistent"),
+    ("an error byte too few", "INSERT INTO marks VALUES (12, zeroblob(682))", "inconsistent"),
+    ("an error byte too many", "INSERT INTO marks VALUES (12, zeroblob(684))", "inconsistent"),
+    ("error bytes that tell of no error", "UPDATE marks SET bytes = zeroblob(683)", "inconsistent"),
     ("a donor without a name", "UPDATE deed SET donor = '' WHERE num = 7", "inconsistent"),
     ("a day after the last", "UPDATE deed SET signed = 2932897 WHERE num = 7", "inconsistent"),
     ("a rule of no deed", "UPDATE rule SET scope = 99 WHERE scope = 7", "inconsistent"),

@@ -4,10 +4,14 @@
 It makes 24 undamaged images of each kind: files of several sizes, users and types, added and deleted with cpmtools or
 cc1541. In some images of 1541 disks it adds a REL file with its side sectors, which neither tool writes.
 
+An image with error bytes is such an image of a 1541 disk with a byte for each block behind it, by chance. Neither tool
+keeps these bytes: cc1541 lists the disk beside them, and cbmconvert takes the disk without them.
+
 CP/M: users and names are those that cpmls lists. The bytes of each file are those that the dump has where the entries
 name them (cpm_image.py), and those of cpmcp. 1541: names and types are those that cc1541 lists, in its order, and the
 bytes those of cbmconvert, which has to find no fault. In all of them desk has to tell no fault, and as many bytes as
-it writes. docs/DECISIONS.md explains the four differences that are allowed: byte S1, blocks on track 76, the short
+it writes; but of a file with a block whose error byte is neither 0 nor 1 it has to tell that it reads with an error.
+docs/DECISIONS.md explains the four differences that are allowed: byte S1, blocks on track 76, the short
 images of mkfs.cpm, and DEL files. Run as root, it installs Debian's packages where one is missing."""
 
 import os
@@ -205,44 +209,77 @@ def cc1541_rows(image):
     return rows
 
 
+def add_marks(random_, image):
+    """Adds error bytes to a 1541 image, of which up to 40 tell of an error."""
+    marks = bytearray(random_.choice([0, 1]) for _ in range(cbm_image.BLOCKS))
+    for block in random_.sample(range(cbm_image.BLOCKS), random_.choice([0, 1, 10, 40])):
+        marks[block] = random_.randint(2, 255)
+    write(image, bytes_of(image) + bytes(marks))
+
+
+def is_unread(image, slot, kind):
+    """Whether a block that the file at a slot claims has an error byte that tells of an error."""
+    data = bytes_of(image)
+    at = cbm_image.place(*cbm_image.chain(data, (18, 1))[slot // 8]) + 32 * (slot % 8)
+    starts = [at + 3, at + 21] if kind == "REL" else [at + 3]
+    blocks = [block for start in starts for block in cbm_image.chain(data, tuple(data[start : start + 2]))]
+    marks = data[cbm_image.SIZE :] or bytes(cbm_image.BLOCKS)
+    return kind != "DEL" and any(marks[cbm_image.place(*block) // 256] > 1 for block in blocks)
+
+
 def compare_d64_file(desk, image, row, number, target, differences):
+    """The kind of the image is that of its path, and the file's own is that of its row."""
     slot, _, kind, size, faults, name = row
     what = f"{name} on 1541 image {number}"
-    differences.expect(not faults, f"{what}: {faults}")
-    if kind not in ("PRG", "SEQ", "USR"):
-        differences.expect(not size, f"{what}: a size of a file that is listed only")
+    unread = is_unread(image, int(slot), kind)
+    differences.expect(faults == ("read-error" if unread else ""), f"{what}: {faults}")
+    if kind not in ("PRG", "SEQ", "USR") or unread:
+        differences.expect(not size, f"{what}: a size of a file that is not given out")
         return
-    ours, _ = run(desk, "cat", "d64", image, slot)
+    ours, _ = run(desk, "cat", image.rsplit(".", 1)[1], image, slot)
     path = os.path.join(target, f"{name}.{kind}".lower())
     differences.expect(len(ours) == int(size), f"{what}: size")
     differences.expect(os.path.exists(path) and bytes_of(path) == ours, f"{what}: bytes")
 
 
-def compare_d64(desk, number, cwd, differences):
+def compare_cbm(desk, number, cwd, differences, kind):
+    """An image of a 1541 disk, without error bytes or with them."""
     random_ = random.Random(number)
-    image, copy, target = (os.path.join(cwd, name) for name in ("image.d64", "copy.d64", "extracted"))
-    for path in (image, copy):
+    image, copy, target = (os.path.join(cwd, name) for name in (f"image.{kind}", "copy.d64", "extracted"))
+    disk = os.path.join(cwd, "disk.d64")
+    for path in (disk, copy):
         if os.path.exists(path):
             os.remove(path)
-    fill_d64(random_, image, cwd)
-    rows = listed(desk, "d64", image)
+    fill_d64(random_, disk, cwd)
+    shutil.copy(disk, image)
+    if kind == "d64e":
+        add_marks(random_, image)
+    rows = listed(desk, kind, image)
     shutil.copy(image, copy)
     theirs = cc1541_rows(copy)
     names = [(row[5], row[2]) for row in rows]
-    differences.expect(names == theirs, f"the directory of 1541 image {number}: {names} {theirs}")
+    differences.expect(names == theirs, f"the directory of {kind} image {number}: {names} {theirs}")
     shutil.rmtree(target, ignore_errors=True)
     os.mkdir(target)
-    _, told = run("cbmconvert", "-N", "-d", image, cwd=target)
-    differences.expect(not told, f"cbmconvert on 1541 image {number}: {told.decode(errors='replace')}")
+    _, told = run("cbmconvert", "-N", "-d", disk, cwd=target)
+    differences.expect(not told, f"cbmconvert on {kind} image {number}: {told.decode(errors='replace')}")
     for row in rows:
         compare_d64_file(desk, image, row, number, target, differences)
+
+
+def compare_d64(desk, number, cwd, differences):
+    compare_cbm(desk, number, cwd, differences, "d64")
+
+
+def compare_d64e(desk, number, cwd, differences):
+    compare_cbm(desk, number, cwd, differences, "d64e")
 
 
 def main():
     desk, kinds = tools.arguments(__doc__)
     tools.install(["cpmcp", "cbmconvert", "cc1541"], ["cpmtools", "cbmconvert", "cc1541"])
     differences = Differences()
-    compare = {"cpm8": compare_cpm, "d64": compare_d64}
+    compare = {"cpm8": compare_cpm, "d64": compare_d64, "d64e": compare_d64e}
     with tempfile.TemporaryDirectory() as cwd:
         for kind in kinds:
             for number in range(IMAGES):

@@ -22,7 +22,9 @@ from client_cases import (
 from requests_by_hand import NoBody, Refused
 from clients import Serving, by_client
 
-SIZES = {"cpm8": cpm_image.SIZE, "d64": 256 * sum(cbm_image.SECTORS.values())}
+SIZES = {"cpm8": cpm_image.SIZE, "d64": cbm_image.SIZE, "d64e": cbm_image.MARKED_SIZE}
+# The number of each kind in the table of images, where a disk stands without its error bytes.
+CODES = {"cpm8": 0, "d64": 1, "d64e": 1}
 # What a survey tells of the desk, and not of the disk.
 OF_DESK = ("accession", "deed", "donor", "kind", "signed")
 AUDIENCES = ("public", "room", "staff")
@@ -255,13 +257,22 @@ class Desk:
         return {
             "deed": sorted((num, donor, day_number(signed)) for num, (donor, signed) in self.deeds.items()),
             "image": sorted(
-                (acc, list(SIZES).index(image.kind), image.deed, bytes.fromhex(image.digest), image.bytes)
+                (acc, CODES[image.kind], image.deed, bytes.fromhex(image.digest), disk_and_marks(image)[0])
                 for acc, image in self.images.items()
+            ),
+            "marks": sorted(
+                (acc, disk_and_marks(image)[1]) for acc, image in self.images.items() if image.kind == "d64e"
             ),
             "rule": sorted(rule_row(label, rule) for label in self.rules for rule in self.by_rank(label)),
             "badge": sorted((bytes.fromhex(digest), AUDIENCES.index(word)) for digest, word in self.badges.items()),
             "checked": sorted((acc, day_number(self.day), int(differs)) for acc, differs in self.checked.items()),
         }
+
+
+def disk_and_marks(image):
+    """The bytes of a disk, and the error bytes behind them, of which most kinds have none."""
+    length = cbm_image.SIZE if image.kind == "d64e" else len(image.bytes)
+    return image.bytes[:length], image.bytes[length:]
 
 
 def day_number(date):

@@ -117,7 +117,7 @@ def files_of(shown):
 NOT_READ = "You may not read this file. Ask the staff, who know why."
 HELLO_ROW = ("0", "HELLO", "read it", "R7.20")
 RECORD_ROW = ("0", "HELLO.TXT", "read it", "R9.20")
-OPEN_DISKS = ["Disk 14", "Disk 15", "Disk 16", "Disk 17", "Disk 18", "Disk 19"]
+OPEN_DISKS = ["Disk 14", "Disk 15", "Disk 16", "Disk 17", "Disk 18", "Disk 19", "Disk 26"]
 # What each caller sees of disk 12, whose deed closes it to others than the staff until 2030.
 CALLERS = [
     ("the public", PUBLIC, "You ask as the public.", CLOSED), ("the room", ROOM, "You ask with a desk key.", CLOSED),
@@ -181,6 +181,7 @@ def wait_for_place(page, place):
 
 REFUSED = [
     ("14/0", ["Refusal: faulty", "Faults: loop (its blocks lead back into themselves)"]),
+    ("26/0", ["Refusal: faulty", "Faults: read-error (the drive could not read a block of it)"]),
     ("16/1", ["Refusal: listed-only"]), ("15/9", ["Refusal: no-file"]), ("99", ["Refusal: no-accession"]),
     ("012", ["Refusal: no-route"]), ("12/0/0", ["Refusal: no-route"]), ("<b>", ["Refusal: no-route"]),
 ]
@@ -196,6 +197,11 @@ def see_refusals(seen, page, room):
     words = "see that it is there: it is damaged, loop (its blocks lead back into themselves)"
     faulty = ["0", "LOOP", "PRG", "", "", words, "R9.20"]
     seen.same("a faulty file is listed", [faulty], rows)
+    words = "see that it is there: it is damaged, read-error (the drive could not read a block of it)"
+    unread = ["0", "LOGBOOK", "SEQ", "", "", words, "R9.20"]
+    seen.same("a file that reads with an error", unread, page.go("26")["rows"][0])
+    kinds = {row[0]: row[1] for row in page.go("")["rows"]}
+    seen.same("its kind of disk", "Commodore 1541 with error bytes", kinds["Disk 26"])
     listed = ["1", "-" * 16, "DEL", "", "", "see that it is there: its kind is not given out", "R9.20"]
     shown = page.go("16")
     seen.same("a file that is listed alone", listed, shown["rows"][1])

@@ -4,8 +4,8 @@ import collections
 import json
 
 from client_cases import (
-    ALL, LONG_FILE, LONG_PROGRAM, LOOP_DISK, PROGRAM_DISK, RECORD_DISK, bytes_of, check, digest, drop, full_disk,
-    full_record_disk, get, put, put_image, survey,
+    ALL, LONG_FILE, LONG_PROGRAM, LOOP_DISK, MARKED_DISK, PROGRAM_DISK, RECORD_DISK, bytes_of, check, digest, drop,
+    full_disk, full_record_disk, get, put, put_image, survey,
 )
 
 ACCESSIONS, DEEDS, RANKS, SLOTS = range(12, 24), range(7, 12), (1, 2, 10, 9999), (0, 0, 0, 1, 1, 2, 3, 15)
@@ -14,7 +14,9 @@ DISKS = [
     ("d64", PROGRAM_DISK), ("d64", LOOP_DISK), ("cpm8", RECORD_DISK), ("d64", bytes_of("images", "museum.d64")),
     ("cpm8", bytes_of("images", "damaged.img")), ("cpm8", bytes_of("images", "welcome.img")),
     ("d64", full_disk(LONG_PROGRAM)), ("cpm8", full_record_disk(LONG_FILE)),
+    ("d64e", MARKED_DISK), ("d64e", bytes_of("images", "damaged.d64")),
 ]
+KINDS = ["cpm8", "d64", "d64e"]
 DATES = ["2019-05-04", "0001-01-01", "9999-12-31", "2030-01-01", "2020-02-29"]
 NO_DATES = [
     "2021-02-29", "0000-01-01", "10000-01-01", "2020-1-01", "2020-13-01", "2020-00-10", "", "2020-01-01T", None, 7,
@@ -114,7 +116,7 @@ class Good:
     def image(self):
         kind, image = self.chance.choice(DISKS)
         if self.chance.random() < 0.1:
-            kind = "cpm8" if kind == "d64" else "d64"
+            kind = self.chance.choice([other for other in KINDS if other != kind])
         told = digest(self.chance.choice(DISKS)[1]) if self.chance.random() < 0.1 else None
         asked = put_image(self.number(ACCESSIONS), kind, self.number(DEEDS), image, told)
         return asked._replace(key=self.key(True))
@@ -158,7 +160,7 @@ def of_path(chance, request):
     elif some == 7:
         parts[-1] += chance.choice(["?", "?a=b", "/", "?/files/1", "#a", ";", "/?", "\u00e9", "?" + "q" * 7000])
     else:
-        parts[at] = chance.choice(["images", "deeds", "survey", "check", "files", "rules", "cpm8", "d64", "d81"])
+        parts[at] = chance.choice(["images", "deeds", "survey", "check", "files", "rules", *KINDS, "d81"])
     request.target = "/".join(parts) if chance.random() < 0.95 else chance.choice(
         ["*", "/", "http://desk" + request.target, "desk:80", "", "/" * 100]
     )

@@ -25,7 +25,7 @@ NEEDED = [NGINX, "openssl", "sqlite3"]
 CONFIGURE = os.path.join(ROOT, "operate", "configure")
 SITE = "localhost"
 # The tables of a store, of which a visit from outside may change none.
-TABLES = ("desk", "deed", "image", "rule", "badge", "checked", "found")
+TABLES = ("desk", "deed", "image", "rule", "badge", "checked", "found", "marks")
 
 
 def install(needed=(), packages=()):

@@ -19,7 +19,7 @@ Parts = collections.namedtuple("Parts", "method target fields rest")
 Asked = collections.namedtuple("Asked", "what parts key body")
 
 NUMBER, RANK, SLOT = "([1-9][0-9]{0,5})", "([1-9][0-9]{0,3})", "(0|[1-9][0-9]{0,3})"
-KIND, DIGEST = "(cpm8|d64)", "([0-9A-Fa-f]{64})"
+KIND, DIGEST = "(cpm8|d64|d64e)", "([0-9A-Fa-f]{64})"
 # Each path, and what its methods ask.
 ROUTES = [
     (re.compile(path), methods)

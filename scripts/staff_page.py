@@ -180,7 +180,8 @@ def see_deed(seen, page, room):
 
 
 NO_KIND = "It is not sent: no kind of disk has 100 bytes. "
-NO_KIND += "CP/M, 8 inches has 256,256 bytes, Commodore 1541 has 174,848 bytes."
+NO_KIND += "CP/M, 8 inches has 256,256 bytes, Commodore 1541 has 174,848 bytes, "
+NO_KIND += "Commodore 1541 with error bytes has 175,531 bytes."
 
 
 def see_disks(seen, page, room):

@@ -7,10 +7,10 @@ import sys
 
 
 def arguments(usage):
-    """The program's path and the kinds of image that a script is called with; both kinds where none is named."""
+    """The program's path and the kinds of image that a script is called with; all kinds where none is named."""
     if len(sys.argv) < 2:
         sys.exit(usage)
-    return os.path.abspath(sys.argv[1]), sys.argv[2:] or ["cpm8", "d64"]
+    return os.path.abspath(sys.argv[1]), sys.argv[2:] or ["cpm8", "d64", "d64e"]
 
 
 def bytes_of(path):

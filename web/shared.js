@@ -64,6 +64,7 @@ const DESK_RULES = { D0: "no rule lets anybody see it", K0: "the key is unknown"
 const KINDS = {
   cpm8: { words: "CP/M, 8 inches", length: 256256 },
   d64: { words: "Commodore 1541", length: 174848 },
+  d64e: { words: "Commodore 1541 with error bytes", length: 175531 },
 };
 
 const part = (id) => document.getElementById(id);

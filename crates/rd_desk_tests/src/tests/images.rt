@@ -64,7 +64,7 @@ pub(super) const PROGRAM_12: NewImage = NewImage {
 /// The same under deed 8.
 pub(super) const PROGRAM_13: NewImage = like!(NewImage, PROGRAM_12, acc: 13, deed: 8);
 
-/// The same disk with error bytes that tell of no error, under deed 7.
+/// Error bytes that tell of no error.
 const NO_ERROR: Picture = Picture::Marked(&[]);
 
 pub(super) const MARKED_12: NewImage =
