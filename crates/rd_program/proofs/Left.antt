@@ -3,10 +3,10 @@ use Rattle.std.proofs.Common.{◌≡◌, ◌⊎◌, Option, Some, None, IfSome, 
 use Rattle.sqlite.specs.Held.{Held}
 use Rattle.sqlite.specs.Store.{Ghosts}
 use Rattle.rd_store.specs.Held.{desk}
-use Rattle.rd_store.specs.Opened.{IsOpened}
+use Rattle.rd_store.specs.Migrated.{IsMigrated}
 use Rattle.rd_store.specs.State.{Desk}
 use Rattle.rd_store.proofs.Laws.{lasts_then}
-use Rattle.rd_program.specs.Leaves.{Leaves, LeavesDesk, LeavesNone}
+use Rattle.rd_program.specs.Leaves.{Leaves, LeavesDesk, LeavesNone, LeavesStore}
 
 -- ---- two connections that are told
 
@@ -43,16 +43,31 @@ module _ {S : Type 0} (g : Ghosts S) where
 
   -- ---- a desk that was opened
 
-  pub from_opened : (Reached : Desk → Desk → Type 0) (before opened last : Held S) → IsOpened g before opened → LeavesDesk g Reached opened last
-      → LeavesDesk g Reached before last
+  pub from_opened : (Reached : Desk → Desk → Type 0) (before opened last : Held S) → IsMigrated g before opened → LeavesDesk g Reached opened last
+      → LeavesStore g Reached before last
   from_opened Reached before opened last is leaves = record {
     lasts = lasts_then g before opened last is.lasts leaves.lasts;
-    reached = λ is_open. subst (λ d. Reached d (desk g last)) (is.is (leaves.lasts.was_open is_open)) (leaves.reached is_open);
+    reached = λ is_open. record {
+      stood = desk g opened;
+      spelled = is.is (leaves.lasts.was_open is_open);
+      reached = leaves.reached is_open;
+    };
+  }
+
+  pub store_weaker : (First Second : Desk → Desk → Type 0) (before after : Held S) → ((d e : Desk) → First d e → Second d e)
+      → LeavesStore g First before after → LeavesStore g Second before after
+  store_weaker First Second before after weaker leaves = record {
+    lasts = leaves.lasts;
+    reached = λ is_open. let was = leaves.reached is_open in record {
+      stood = was.stood;
+      spelled = was.spelled;
+      reached = weaker was.stood (desk g after) was.reached;
+    };
   }
 
   -- what holds of the one that stood and of the last is what is left
   pub after_opening : (was old new : Option (Held S)) (P : Held S → Held S → Type 0) (opened last conn : Held S)
-      → IfSome old (λ before. IsOpened g before opened) → ((before : Held S) → IsOpened g before opened → P before last)
+      → IfSome old (λ before. IsMigrated g before opened) → ((before : Held S) → IsMigrated g before opened → P before last)
       → conn ≡ last → IfSome new (λ held. Some conn ≡ Some held) → Leaves was old new P
   after_opening was None new P opened last conn is makes same took = tt
   after_opening was (Some before) None P opened last conn is makes same took = tt
@@ -60,7 +75,7 @@ module _ {S : Type 0} (g : Ghosts S) where
       let left : last ≡ after = cc in inr (subst (P before) left (makes before is))
 
   pub desk_left : (was old new : Option (Held S)) (Reached : Desk → Desk → Type 0) (opened last conn : Held S)
-      → IfSome old (λ before. IsOpened g before opened) → LeavesDesk g Reached opened last
-      → conn ≡ last → IfSome new (λ held. Some conn ≡ Some held) → Leaves was old new (LeavesDesk g Reached)
+      → IfSome old (λ before. IsMigrated g before opened) → LeavesDesk g Reached opened last
+      → conn ≡ last → IfSome new (λ held. Some conn ≡ Some held) → Leaves was old new (LeavesStore g Reached)
   desk_left was old new Reached opened last conn is leaves same took =
-      after_opening was old new (LeavesDesk g Reached) opened last conn is (λ before at. from_opened Reached before opened last at leaves) same took
+      after_opening was old new (LeavesStore g Reached) opened last conn is (λ before at. from_opened Reached before opened last at leaves) same took

@@ -8,12 +8,12 @@ use Rattle.sha2.specs.Sha256.{sha256}
 use Rattle.sqlite.specs.Held.{Held}
 use Rattle.sqlite.specs.Store.{Ghosts}
 use Rattle.rd_store.specs.Held.{Lasts}
-use Rattle.rd_store.specs.Opened.{IsOpened}
+use Rattle.rd_store.specs.Migrated.{IsMigrated}
 use Rattle.rd_store.proofs.Laws.{lasts_then}
 use Rattle.rd_http.specs.declared.serve.Ended.{Ended}
 use Rattle.rd_http.specs.declared.serve.Ended.TheVariants as ended
 use Rattle.rd_program.specs.Asks.{IsImportAsk, IsOnceAsk, IsServeAsk}
-use Rattle.rd_program.specs.Leaves.{HasListened, IsDayAt, IsDayBy, KeepsDatabase, Leaves, LeavesBy, LeavesDesk, LeavesRefused, LeavesServe, NamesOpening, StepsOf, TakesIn}
+use Rattle.rd_program.specs.Leaves.{HasListened, IsDayAt, IsDayBy, Leaves, LeavesBy, LeavesRefused, LeavesServe, LeavesStore, NamesOpening, StepsOf, TakesIn}
 use Rattle.rd_program.specs.Output.{AppendsPart}
 use Rattle.rd_program.specs.Refusals.{IsOfDevice}
 use Rattle.rd_program.specs.Serving.{RefusesToEnd, listening_line, served_line}
@@ -22,7 +22,7 @@ use Rattle.rd_program.specs.declared.refusal.Refusal.TheVariants.{Device, NoMemo
 use Rattle.rd_program.specs.declared.words.Ask.{Ask}
 use Rattle.rd_program.specs.declared.words.Ask.TheVariants.{Import, Once, Serve}
 use Rattle.rd_program.specs.declared.words.Question.{Question}
-use Rattle.rd_program.proofs.Left.{after_opening, leaves_weaker}
+use Rattle.rd_program.proofs.Left.{after_opening, leaves_weaker, store_weaker}
 use Rattle.rd_program.proofs.Stepped.{steps_on, takes_on}
 
 -- of an error of which nothing is said
@@ -34,24 +34,23 @@ no_refusal (Err refusal) = tt
 
 module _ {S : Type 0} (g : Ghosts S) where
   -- the visits are served by the desk that was opened
-  pub lasts_left : (was old new : Option (Held S)) (opened last conn : Held S) → IfSome old (λ before. IsOpened g before opened) → Lasts g opened last
+  pub lasts_left : (was old new : Option (Held S)) (opened last conn : Held S) → IfSome old (λ before. IsMigrated g before opened) → Lasts g opened last
       → conn ≡ last → IfSome new (λ held. Some conn ≡ Some held) → Leaves was old new (Lasts g)
   lasts_left was old new opened last conn is lasts same took =
       after_opening g was old new (Lasts g) opened last conn is (λ before at. lasts_then g before opened last at.lasts lasts) same took
 
-  pub unserved_left : (was old new : Option (Held S)) (opened conn : Held S) → IfSome old (λ before. IsOpened g before opened)
+  pub unserved_left : (was old new : Option (Held S)) (opened conn : Held S) → IfSome old (λ before. IsMigrated g before opened)
       → conn ≡ opened → IfSome new (λ held. Some conn ≡ Some held) → Leaves was old new (Lasts g)
   unserved_left was old new opened conn is same took = after_opening g was old new (Lasts g) opened opened conn is (λ before at. at.lasts) same took
 
-  -- where there were none the database is as it was
-  pub database_left : (was old new : Option (Held S)) (opened conn : Held S) → IfSome old (λ before. IsOpened g before opened)
-      → conn ≡ opened → IfSome new (λ held. Some conn ≡ Some held) → Leaves was old new (KeepsDatabase g)
-  database_left was old new opened conn is same took =
-      after_opening g was old new (KeepsDatabase g) opened opened conn is (λ before at. record { lasts = at.lasts; untouched = at.untouched }) same took
+  -- where there were none the desk was opened, and nothing more was done
+  pub opened_left : (was old new : Option (Held S)) (opened conn : Held S) → IfSome old (λ before. IsMigrated g before opened)
+      → conn ≡ opened → IfSome new (λ held. Some conn ≡ Some held) → Leaves was old new (IsMigrated g)
+  opened_left was old new opened conn is same took = after_opening g was old new (IsMigrated g) opened opened conn is (λ before at. at) same took
 
   -- the device failed, or memory was refused, before the first
   pub serve_not_begun : (was old new : Option (Held S)) (port : ℕ) (out written : Option (List ℕ)) (refusal : Refusal) → IsOfDevice refusal
-      → Leaves was old new (KeepsDatabase g) → LeavesServe g was old new port out written refusal
+      → Leaves was old new (IsMigrated g) → LeavesServe g was old new port out written refusal
   serve_not_begun was old new port out written Device failure left = inr left
   serve_not_begun was old new port out written NoMemory failure left = inr left
   serve_not_begun was old new port out written refusal failure left = absurd failure
@@ -102,18 +101,16 @@ module _ {S : Type 0} (g : Ghosts S) where
     serve_refused ask store port count rule out written refusal asks left = absurd asks
 
     pub import_leaves : (ask : Ask) (store key sheet : List ℕ) (moment : Option ℤ) (rule : List ℕ) → IsImportAsk store key sheet moment rule ask
-        → LeavesBy g was stands new ask → Leaves was (stands store) new (LeavesDesk g (TakesIn (sha256 (trim_ows key)) (IsDayBy moment rule)))
+        → LeavesBy g was stands new ask → Leaves was (stands store) new (LeavesStore g (TakesIn (sha256 (trim_ows key)) (IsDayBy moment rule)))
     import_leaves (Import ask) store key sheet moment rule asks leaves =
-        subst (λ k. Leaves was (stands store) new (LeavesDesk g (TakesIn (sha256 k) (IsDayBy moment rule)))) asks.key_is
-        (subst (λ s. Leaves was (stands s) new (LeavesDesk g (TakesIn (sha256 ask.key.now) (IsDayBy moment rule)))) asks.store_is
-        (leaves_weaker was (stands ask.store.now) new (LeavesDesk g (TakesIn (sha256 ask.key.now) (IsDayAt ask.when.seconds ask.when.zone)))
-        (LeavesDesk g (TakesIn (sha256 ask.key.now) (IsDayBy moment rule)))
-        (λ before after leaves. record {
-          lasts = leaves.lasts;
-          reached = λ is_open. takes_on (IsDayAt ask.when.seconds ask.when.zone) (IsDayBy moment rule) (sha256 ask.key.now) _ _
-              (λ day at. record { zone = ask.when.zone; zone_is = asks.when_is.zone_is; day_is = subst (λ m. IsDayAt m ask.when.zone day) asks.when_is.moment_is at })
-              (leaves.reached is_open);
-        }) leaves))
+        subst (λ k. Leaves was (stands store) new (LeavesStore g (TakesIn (sha256 k) (IsDayBy moment rule)))) asks.key_is
+        (subst (λ s. Leaves was (stands s) new (LeavesStore g (TakesIn (sha256 ask.key.now) (IsDayBy moment rule)))) asks.store_is
+        (leaves_weaker was (stands ask.store.now) new (LeavesStore g (TakesIn (sha256 ask.key.now) (IsDayAt ask.when.seconds ask.when.zone)))
+        (LeavesStore g (TakesIn (sha256 ask.key.now) (IsDayBy moment rule)))
+        (λ before after leaves. store_weaker g (TakesIn (sha256 ask.key.now) (IsDayAt ask.when.seconds ask.when.zone)) (TakesIn (sha256 ask.key.now) (IsDayBy moment rule)) before after
+        (λ d e. takes_on (IsDayAt ask.when.seconds ask.when.zone) (IsDayBy moment rule) (sha256 ask.key.now) d e
+        (λ day at. record { zone = ask.when.zone; zone_is = asks.when_is.zone_is; day_is = subst (λ m. IsDayAt m ask.when.zone day) asks.when_is.moment_is at }))
+        leaves) leaves))
     import_leaves ask store key sheet moment rule asks leaves = absurd asks
 
     pub import_names : (ask : Ask) (store key sheet : List ℕ) (moment : Option ℤ) (rule : List ℕ) (out written : Option (List ℕ)) (refusal : Refusal)
@@ -123,20 +120,19 @@ module _ {S : Type 0} (g : Ghosts S) where
 
     pub once_leaves : (ask : Ask) (store : List ℕ) (key : Option (List ℕ)) (asked : Question) (moment : Option ℤ) (rule : List ℕ)
         → IsOnceAsk store key asked moment rule ask → LeavesBy g was stands new ask
-        → Leaves was (stands store) new (LeavesDesk g (StepsOf (option_map sha256 (option_map trim_ows key)) (IsDayBy moment rule) asked))
+        → Leaves was (stands store) new (LeavesStore g (StepsOf (option_map sha256 (option_map trim_ows key)) (IsDayBy moment rule) asked))
     once_leaves (Once ask) store key asked moment rule asks leaves =
-        subst (λ q. Leaves was (stands store) new (LeavesDesk g (StepsOf (option_map sha256 (option_map trim_ows key)) (IsDayBy moment rule) q))) asks.question_is
-        (subst (λ k. Leaves was (stands store) new (LeavesDesk g (StepsOf (option_map sha256 k) (IsDayBy moment rule) ask.question))) asks.key_is
-        (subst (λ s. Leaves was (stands s) new (LeavesDesk g (StepsOf (option_map sha256 (option_map (λ k. k.now) ask.key)) (IsDayBy moment rule) ask.question))) asks.store_is
+        subst (λ q. Leaves was (stands store) new (LeavesStore g (StepsOf (option_map sha256 (option_map trim_ows key)) (IsDayBy moment rule) q))) asks.question_is
+        (subst (λ k. Leaves was (stands store) new (LeavesStore g (StepsOf (option_map sha256 k) (IsDayBy moment rule) ask.question))) asks.key_is
+        (subst (λ s. Leaves was (stands s) new (LeavesStore g (StepsOf (option_map sha256 (option_map (λ k. k.now) ask.key)) (IsDayBy moment rule) ask.question))) asks.store_is
         (leaves_weaker was (stands ask.store.now) new
-        (LeavesDesk g (StepsOf (option_map sha256 (option_map (λ k. k.now) ask.key)) (IsDayAt ask.when.seconds ask.when.zone) ask.question))
-        (LeavesDesk g (StepsOf (option_map sha256 (option_map (λ k. k.now) ask.key)) (IsDayBy moment rule) ask.question))
-        (λ before after leaves. record {
-          lasts = leaves.lasts;
-          reached = λ is_open. steps_on (IsDayAt ask.when.seconds ask.when.zone) (IsDayBy moment rule) (option_map sha256 (option_map (λ k. k.now) ask.key)) ask.question _ _
-              (λ day at. record { zone = ask.when.zone; zone_is = asks.when_is.zone_is; day_is = subst (λ m. IsDayAt m ask.when.zone day) asks.when_is.moment_is at })
-              (leaves.reached is_open);
-        }) leaves)))
+        (LeavesStore g (StepsOf (option_map sha256 (option_map (λ k. k.now) ask.key)) (IsDayAt ask.when.seconds ask.when.zone) ask.question))
+        (LeavesStore g (StepsOf (option_map sha256 (option_map (λ k. k.now) ask.key)) (IsDayBy moment rule) ask.question))
+        (λ before after leaves. store_weaker g (StepsOf (option_map sha256 (option_map (λ k. k.now) ask.key)) (IsDayAt ask.when.seconds ask.when.zone) ask.question)
+        (StepsOf (option_map sha256 (option_map (λ k. k.now) ask.key)) (IsDayBy moment rule) ask.question) before after
+        (λ d e. steps_on (IsDayAt ask.when.seconds ask.when.zone) (IsDayBy moment rule) (option_map sha256 (option_map (λ k. k.now) ask.key)) ask.question d e
+        (λ day at. record { zone = ask.when.zone; zone_is = asks.when_is.zone_is; day_is = subst (λ m. IsDayAt m ask.when.zone day) asks.when_is.moment_is at }))
+        leaves) leaves)))
     once_leaves ask store key asked moment rule asks leaves = absurd asks
 
     pub once_names : (ask : Ask) (store : List ℕ) (key : Option (List ℕ)) (asked : Question) (moment : Option ℤ) (rule : List ℕ) (out written : Option (List ℕ))

@@ -5,13 +5,13 @@ use Rattle.std.specs.Prelude.{◌≡◌, ◌⊎◌, ⊤, ◌++◌, ℕ, ℤ, Lis
 use Rattle.std.specs.Io.KnownBytes.{Appends}
 use Rattle.sha2.specs.Sha256.{sha256}
 use Rattle.sqlite.specs.Store.{Ghosts}
-use Rattle.sqlite.specs.Held.{Held}
+use Rattle.sqlite.specs.Effect.{Database}
+use Rattle.sqlite.specs.Held.{Held, state}
 use Rattle.rd_policy.specs.Days.{HasDay}
 use Rattle.rd_policy.specs.Zones.{IsZoneOf, day_number}
 use Rattle.rd_policy.specs.declared.zone.Zone.{Zone}
-use Rattle.rd_store.specs.Created.{IsUntouched}
 use Rattle.rd_store.specs.Held.{IsOpen, Lasts, desk}
-use Rattle.rd_store.specs.Opened.{IsNotOpened}
+use Rattle.rd_store.specs.Migrated.{IsMigrated, IsNotMigrated, SpellsDesk}
 use Rattle.rd_store.specs.State.{Desk}
 use Rattle.rd_store.specs.declared.faults.OpenFault.TheVariants as open_fault
 use Rattle.rd_desk.specs.Replies.{IsStep}
@@ -41,29 +41,35 @@ LeavesNone was new = IfSome new (λ after. was ≡ Some after)
 abbrev pub Leaves : {S : Type 0} → Option (Held S) → Option (Held S) → Option (Held S) → (Held S → Held S → Type 0) → Type 0
 Leaves was old new P = IfBoth old new (λ before after. (was ≡ Some after) ⊎ P before after)
 
--- A connection is open only where it was, and shows the database that it showed.
-pub record KeepsDatabase {S : Type 0} (g : Ghosts S) (before after : Held S) : Type 0 where
-  pub lasts : Lasts g before after
-  pub untouched : IsOpen g after → IsUntouched g before after
-
 -- A connection is open only where it was, and shows a desk that was reached so from the one that it showed.
 pub record LeavesDesk {S : Type 0} (g : Ghosts S) (Reached : Desk → Desk → Type 0) (before after : Held S) : Type 0 where
   pub lasts : Lasts g before after
   pub reached : IsOpen g after → Reached (desk g before) (desk g after)
 
+-- A desk was reached so from the one that the tables of a database spell, those of version 1 or those of version 2.
+pub record IsReached (db : Database) (Reached : Desk → Desk → Type 0) (new : Desk) : Type 0 where
+  pub stood : Desk
+  pub spelled : SpellsDesk db stood
+  pub reached : Reached stood new
+
+-- A connection is open only where it was, and shows a desk that was reached so from the one that stood in its tables.
+pub record LeavesStore {S : Type 0} (g : Ghosts S) (Reached : Desk → Desk → Type 0) (before after : Held S) : Type 0 where
+  pub lasts : Lasts g before after
+  pub reached : IsOpen g after → IsReached (state g before).now Reached (desk g after)
+
 -- ---- where no desk was opened
 
 -- a command tells by these names that no desk was opened only where the opening of the connection that stood does
 abbrev pub NamesOpening : {S : Type 0} → Ghosts S → Option (Held S) → Option (Held S) → Refusal → Type 0
-NamesOpening g old new NotADesk = IfBoth old new (λ before after. IsNotOpened g before after open_fault.NotADesk)
-NamesOpening g old new Version = IfBoth old new (λ before after. IsNotOpened g before after open_fault.Version)
-NamesOpening g old new Inconsistent = IfBoth old new (λ before after. IsNotOpened g before after open_fault.Inconsistent)
+NamesOpening g old new NotADesk = IfBoth old new (λ before after. IsNotMigrated g before after open_fault.NotADesk)
+NamesOpening g old new Version = IfBoth old new (λ before after. IsNotMigrated g before after open_fault.Version)
+NamesOpening g old new Inconsistent = IfBoth old new (λ before after. IsNotMigrated g before after open_fault.Inconsistent)
 NamesOpening g old new refusal = ⊤
 
 -- and where the store failed before a desk was opened, it was its opening, or there was no connection; where memory was
 -- refused there was none
 abbrev pub LeavesUnopened : {S : Type 0} → Ghosts S → Option (Held S) → Option (Held S) → Option (Held S) → Refusal → Type 0
-LeavesUnopened g was old new Store = Leaves was old new (λ before after. IsNotOpened g before after open_fault.Sql)
+LeavesUnopened g was old new Store = Leaves was old new (λ before after. IsNotMigrated g before after open_fault.Sql)
 LeavesUnopened g was old new NoMemory = LeavesNone was new
 LeavesUnopened g was old new refusal = NamesOpening g old new refusal
 
@@ -80,13 +86,13 @@ IsOfOpenDesk refusal = ⊤
 abbrev pub HasListened : ℕ → Option (List ℕ) → Option (List ℕ) → Type 0
 HasListened port old new = (more : List ℕ) × Appends old new (listening_line port ++ more)
 
--- What stands where `serve` is refused: no desk was opened; or the database is as it was, unless the line that tells of
--- visits was written, and visits may have come: what these did is said by the run of visits.
+-- What stands where `serve` is refused: no desk was opened; or one was, and nothing more was done, unless the line that tells
+-- of visits was written, and visits may have come: what these did is said by the run of visits.
 abbrev pub LeavesServe : {S : Type 0} → Ghosts S → Option (Held S) → Option (Held S) → Option (Held S) → ℕ
     → Option (List ℕ) → Option (List ℕ) → Refusal → Type 0
 LeavesServe g was old new port out written Clock = HasListened port out written
-LeavesServe g was old new port out written Device = HasListened port out written ⊎ Leaves was old new (KeepsDatabase g)
-LeavesServe g was old new port out written NoMemory = HasListened port out written ⊎ Leaves was old new (KeepsDatabase g)
+LeavesServe g was old new port out written Device = HasListened port out written ⊎ Leaves was old new (IsMigrated g)
+LeavesServe g was old new port out written NoMemory = HasListened port out written ⊎ Leaves was old new (IsMigrated g)
 LeavesServe g was old new port out written refusal = LeavesUnopened g was old new refusal
 
 -- ---- what a desk is asked
@@ -150,9 +156,9 @@ TakesFields badge day fields old new = (new ≡ old) ⊎ ((row : SheetRow) × Sa
 abbrev pub LeavesBy : {S : Type 0} → Ghosts S → Option (Held S) → (List ℕ → Option (Held S)) → Option (Held S) → Ask → Type 0
 LeavesBy g was stands new (Serve ask) = Leaves was (stands ask.store.now) new (Lasts g)
 LeavesBy g was stands new (Import ask) =
-    Leaves was (stands ask.store.now) new (LeavesDesk g (TakesIn (sha256 ask.key.now) (IsDayAt ask.when.seconds ask.when.zone)))
+    Leaves was (stands ask.store.now) new (LeavesStore g (TakesIn (sha256 ask.key.now) (IsDayAt ask.when.seconds ask.when.zone)))
 LeavesBy g was stands new (Once ask) =
-    Leaves was (stands ask.store.now) new (LeavesDesk g (StepsOf (option_map sha256 (option_map (λ key. key.now) ask.key)) (IsDayAt ask.when.seconds ask.when.zone) ask.question))
+    Leaves was (stands ask.store.now) new (LeavesStore g (StepsOf (option_map sha256 (option_map (λ key. key.now) ask.key)) (IsDayAt ask.when.seconds ask.when.zone) ask.question))
 LeavesBy g was stands new ask = ⊤
 
 -- and what stands where they are refused

@@ -14,7 +14,7 @@ ghost use Rattle.rd_program.specs.Commands.{AsksCheck, AsksExport, AsksImport, A
 ghost use Rattle.rd_program.specs.Importing.{GainsLines, IsDoneLine, IsRowLine, RefusesImport, TellsRows};
 ghost use Rattle.rd_program.specs.Inits.{LeavesInit, MakesDesk, RefusesInit, done_line};
 ghost use Rattle.rd_program.specs.Input.{ReadsUpTo};
-ghost use Rattle.rd_program.specs.Leaves.{Checks, IsDayBy, IsSame, Leaves, LeavesBy, LeavesDesk, LeavesRefused, LeavesServe, NamesOpening, TakesIn};
+ghost use Rattle.rd_program.specs.Leaves.{Checks, IsDayBy, IsSame, Leaves, LeavesBy, LeavesRefused, LeavesServe, LeavesStore, NamesOpening, TakesIn};
 ghost use Rattle.rd_program.specs.Listed.{Lists, RefusesList};
 ghost use Rattle.rd_program.specs.Refusals.{status_of};
 ghost use Rattle.rd_program.specs.Serving.{RefusesServe, serve_text};
@@ -182,7 +182,7 @@ pub fn run<R: Read, W: Write, E: Write, M: Machine>(
         result (E.contents errors.old) (E.contents errors.new) }
 
     // A `serve`: at 0 it has served as many visits as were asked for, and said so. Not at 0 its refusal is told,
-    // which is never 1, and what stands is what stood, or is left by visits.
+    // which is never 1, and what stands is what stood, is that desk in tables of version 2, or is left by visits.
     ensures served { result ≡ 0 → (store : List ℕ) (port count : ℕ) (rule : List ℕ)
         → AsksServe (map (λ word. word.now) words.entry.now) store port count rule
         → Appends (W.contents output.old) (W.contents output.new) (serve_text port count) }
@@ -211,7 +211,7 @@ pub fn run<R: Read, W: Write, E: Write, M: Machine>(
     ensures import_leaves { (store key sheet : List ℕ) (moment : Option ℤ) (rule : List ℕ)
         → AsksImport (map (λ word. word.now) words.entry.now) store key sheet moment rule
         → Leaves (M.left machine.old) (M.stands machine.old store) (M.left machine.new)
-        (LeavesDesk M.Disk.Store (TakesIn (sha256 (trim_ows key)) (IsDayBy moment rule))) }
+        (LeavesStore M.Disk.Store (TakesIn (sha256 (trim_ows key)) (IsDayBy moment rule))) }
 
     // A `check`: at 0 it has told that the image is sound. Not at 0 it has told that the image is changed, or its
     // refusal is told. Not at 0 the refusal of an `export` is told. Whatever they end with, an `export` leaves the desk as it
@@ -228,7 +228,7 @@ pub fn run<R: Read, W: Write, E: Write, M: Machine>(
     ensures check_leaves { (store key : List ℕ) (acc : ℕ) (moment : Option ℤ) (rule : List ℕ)
         → AsksCheck (map (λ word. word.now) words.entry.now) store key acc moment rule
         → Leaves (M.left machine.old) (M.stands machine.old store) (M.left machine.new)
-        (LeavesDesk M.Disk.Store (Checks (Some (sha256 (trim_ows key))) acc (IsDayBy moment rule))) }
+        (LeavesStore M.Disk.Store (Checks (Some (sha256 (trim_ows key))) acc (IsDayBy moment rule))) }
     ensures export_told { result ≢ 0 → (store : List ℕ) (key : Option (List ℕ)) (moment : Option ℤ) (rule : List ℕ)
         → AsksExport (map (λ word. word.now) words.entry.now) store key moment rule
         → Tells (λ refusal. RefusesOnce (W.contents output.old) (W.contents output.new) refusal
@@ -236,7 +236,7 @@ pub fn run<R: Read, W: Write, E: Write, M: Machine>(
         result (E.contents errors.old) (E.contents errors.new) }
     ensures export_leaves { (store : List ℕ) (key : Option (List ℕ)) (moment : Option ℤ) (rule : List ℕ)
         → AsksExport (map (λ word. word.now) words.entry.now) store key moment rule
-        → Leaves (M.left machine.old) (M.stands machine.old store) (M.left machine.new) (LeavesDesk M.Disk.Store IsSame) }
+        → Leaves (M.left machine.old) (M.stands machine.old store) (M.left machine.new) (LeavesStore M.Disk.Store IsSame) }
 
     // The version, where the first word asks for it: at 0 exactly its line is written, and else why not is told.
     ensures version { result ≡ 0 → AsksVersion (map (λ word. word.now) words.entry.now)

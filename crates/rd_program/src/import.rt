@@ -8,7 +8,7 @@ ghost use Rattle.rd_policy.specs.Days.{HasDay};
 ghost use Rattle.rd_policy.specs.Zones.{day_number};
 ghost use Rattle.rd_desk.specs.Served.{Serves};
 ghost use Rattle.rd_program.specs.Importing.{GainsFrontOfLine, IsRowRefusal, RefusesImport, RefusesRow, RefusesRows, TellsRow, TellsRows, bad_row_line, said_line};
-ghost use Rattle.rd_program.specs.Leaves.{IsDayAt, IsOfOpenDesk, Leaves, LeavesDesk, NamesOpening, TakesFields, TakesIn, TakesRow};
+ghost use Rattle.rd_program.specs.Leaves.{IsDayAt, IsOfOpenDesk, Leaves, LeavesDesk, LeavesStore, NamesOpening, TakesFields, TakesIn, TakesRow};
 ghost use Rattle.rd_program.specs.Output.{AppendsPart};
 ghost use Rattle.rd_program.specs.Refusals.{IsOfDevice};
 ghost use Rattle.rd_program.specs.Sheets.{IsWithin};
@@ -266,7 +266,7 @@ pub(crate) fn import<W: Write, M: Machine>(
     ensures told { IfOk result (TellsRows (W.contents output.old) (W.contents output.new)) }
     ensures refused { IfErr result (RefusesImport (W.contents output.old) (W.contents output.new)) }
     ensures takes { Leaves (M.left machine.old) (M.stands machine.old ask.entry.store.now) (M.left machine.new)
-        (LeavesDesk M.Disk.Store (TakesIn (sha256 ask.entry.key.now) (IsDayAt ask.entry.when.seconds ask.entry.when.zone))) }
+        (LeavesStore M.Disk.Store (TakesIn (sha256 ask.entry.key.now) (IsDayAt ask.entry.when.seconds ask.entry.when.zone))) }
     ensures opens { IfErr result (NamesOpening M.Disk.Store (M.stands machine.old ask.entry.store.now) (M.left machine.new)) }
 {
     let mut desk = open_desk(alloc, ask.store, ask.when.zone, machine)?;

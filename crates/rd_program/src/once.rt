@@ -11,7 +11,7 @@ ghost use Rattle.rd_desk.specs.Served.{Serves};
 ghost use Rattle.rd_program.specs.Asking.{IsReplyRefusal, RefusesOnce, TellsCheck};
 ghost use Rattle.rd_program.specs.Asks.{IsAskable, IsCheck, IsCheckOf};
 ghost use Rattle.rd_program.specs.Importing.{said_line};
-ghost use Rattle.rd_program.specs.Leaves.{Checks, IsDayAt, IsOfOpenDesk, IsSame, Leaves, LeavesDesk, NamesOpening, StepsOf};
+ghost use Rattle.rd_program.specs.Leaves.{Checks, IsDayAt, IsOfOpenDesk, IsSame, Leaves, LeavesDesk, LeavesStore, NamesOpening, StepsOf};
 
 use crate::done::Done;
 use crate::machine::Machine;
@@ -201,7 +201,7 @@ pub(crate) fn ask_once<W: Write, M: Machine>(
         → IfOk result (TellsCheck acc (W.contents output.old) (W.contents output.new)) }
     ensures refused { IfErr result (RefusesOnce (W.contents output.old) (W.contents output.new)) }
     ensures steps { Leaves (M.left machine.old) (M.stands machine.old ask.entry.store.now) (M.left machine.new)
-        (LeavesDesk M.Disk.Store (StepsOf (option_map sha256 (option_map (λ key. key.now) ask.entry.key))
+        (LeavesStore M.Disk.Store (StepsOf (option_map sha256 (option_map (λ key. key.now) ask.entry.key))
         (IsDayAt ask.entry.when.seconds ask.entry.when.zone) ask.entry.question)) }
     ensures opens { IfErr result (NamesOpening M.Disk.Store (M.stands machine.old ask.entry.store.now) (M.left machine.new)) }
 {

@@ -3,7 +3,7 @@
 ghost use Rattle.std.specs.Prelude.{◌≡◌, Err, IfErr, IfOk, IfSome, Ok};
 ghost use Rattle.rd_program.specs.Leaves.{IsOfOpenDesk, LeavesUnopened};
 ghost use Rattle.rd_program.specs.Serving.{IsClockRefusal, IsOpenRefusal};
-ghost use Rattle.rd_store.specs.Opened.{IsOpened};
+ghost use Rattle.rd_store.specs.Migrated.{IsMigrated};
 ghost use Rattle.rd_policy.specs.Days.{HasDay};
 
 use crate::machine::Machine;
@@ -14,7 +14,7 @@ use rd_store::{Refused, Store};
 use sqlite::Alter;
 use std::alloc::Global;
 
-/// Opens the desk in the file of a store, with the clocks of a zone.
+/// Opens the desk in the file of a store, with the clocks of a zone. A store of version 1 is of version 2 then.
 ///
 /// It fails with `NotADesk`, `Version`, `Inconsistent` and `Store`, and with `NoMemory`.
 pub(crate) fn open_desk<M: Machine>(
@@ -24,7 +24,7 @@ pub(crate) fn open_desk<M: Machine>(
     machine: &mut M,
 ) -> Result<Desk<M::Disk>, Refusal>
     ensures zone { IfOk result (λ desk. desk.zone ≡ zone) }
-    ensures opened { IfOk result (λ desk. IfSome (M.stands machine.old store.now) (λ before. IsOpened M.Disk.Store before desk.store)) }
+    ensures opened { IfOk result (λ desk. IfSome (M.stands machine.old store.now) (λ before. IsMigrated M.Disk.Store before desk.store)) }
     ensures refused { IfErr result IsOpenRefusal }
     ensures left { IfErr result
         (LeavesUnopened M.Disk.Store (M.left machine.old) (M.stands machine.old store.now) (M.left machine.new)) }
@@ -33,7 +33,7 @@ pub(crate) fn open_desk<M: Machine>(
         Ok(conn) => conn,
         Err(fault) => return Err(fault.or(Refusal::Store)),
     };
-    match Store::open(alloc, conn) {
+    match Store::migrate(alloc, conn) {
         Ok(store) => Ok(Desk::new(store, zone)),
         Err(Refused { fault, conn }) => {
             machine.release(&mut Some(conn));

@@ -1,5 +1,5 @@
 use Rattle.std.proofs.Common.{rules, ◌∙◌}
-use Rattle.rd_program.proofs.LeftBy.{database_left, lasts_left, serve_ended, serve_not_begun, unserved_left}
+use Rattle.rd_program.proofs.LeftBy.{lasts_left, opened_left, serve_ended, serve_not_begun, unserved_left}
 use Rattle.rd_program.proofs.Serving.{both_lines, ends, not_listening, not_opened}
 use Rattle.rd_program.proofs.serve.serve.Goals as goal
 
@@ -36,7 +36,7 @@ returns-in_err-served-clause-left g c =
     let left = g.M.Machine.left c.release.new.self in
     let refused = serve_not_begun g.M.Disk.Store was stood left c.args.ask.port (g.W.Write.contents c.args.output.now) (g.W.Write.contents c.serve_visits-served.new.output) _
     c.in_err-served.ensures.refused
-    (database_left g.M.Disk.Store was stood left c.in_ok-desk.desk.store c.into_connection.result c.in_ok-desk.ensures.opened
+    (opened_left g.M.Disk.Store was stood left c.in_ok-desk.desk.store c.into_connection.result c.in_ok-desk.ensures.opened
     (c.into_connection.ensures.same ∙ c.into_store.ensures ∙ c.in_err-served.ensures.unserved) c.release.ensures.left) in search rules
 
 pub returns-clause-lasts : goal.returns-clause-lasts
