@@ -10,6 +10,8 @@ byte for byte, head and body. A store is filled first; each group of visits afte
 no group needs what another left. In between sqlite3 shows the tables, and changes copies that are then not opened. The
 last run reads the filled store again.
 
+Refusals, and other cases that the trials of crates/rd_trials/data have too, are read from there.
+
 What is a client's own or the system's, as how long curl waits before it sends an image, is told in lines that begin
 with `observed`; of that only what has to be so is judged. Status 503 is not among the cases, for no client can bring
 it about."""
