@@ -75,6 +75,7 @@ fn put_answer<W: Wire>(wire: &mut W, answer: Answer) -> Result<(), Broken>
 }
 
 /// Sends an answer, so that the wire holds nothing of it back.
+#[tactic(auto, using(crate::proofs::Sending::nothing_sent, crate::proofs::Sending::part_sent, crate::proofs::Sending::some_text))]
 fn send<W: Wire>(wire: &mut W, answer: Answer) -> Result<(), Broken>
     requires ready { W.put_failed wire.old ≡ false }
     ensures sends { Sends (W.outgoing wire.old) (W.outgoing wire.new) result (text_of answer) }
