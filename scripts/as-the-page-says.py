@@ -9,8 +9,8 @@ systemd, for README.md sqlite3 and curl, for docs/COMMANDS.md curl and cpmtools.
 8443 have to be free.
 
 Commands after `$` run in one shell, in a copy of what they need of this repository; those of README.md and
-docs/COMMANDS.md have a /tmp of their own. Commands after `#` need the rights of root. Where it has them, they run in another shell, in a mount
-namespace whose /etc, /usr and /var are throw-away layers over the machine's.
+docs/COMMANDS.md have a /tmp of their own. Commands after `#` need the rights of root. Where it has them, they run in
+another shell, in a mount namespace whose /etc, /usr and /var are throw-away layers over the machine's.
 
 Some commands are named and not run: those that prove, build or measure, that want a network, and, from the first on
 that wants a systemd which runs, those of root. scripts/under-systemd.py runs these last ones."""
