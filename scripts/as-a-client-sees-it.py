@@ -19,123 +19,31 @@ import contextlib
 import datetime
 import functools
 import glob
-import http.client
 import os
-import resource
 import select
 import shutil
 import signal
 import socket
-import struct
 import subprocess
 import sys
 import tempfile
-import threading
 import time
 
 import tools
 
 from client_cases import (
-    ALL_ROWS, BADGES, BADGE_ROWS, CHANGED, CHECK_ROWS, COUNTS, CUT, DEED, DEED_BODY, DEED_HEAD, DIFFERS, DONE, ENDS,
+    ALL_ROWS, BADGES, BADGE_ROWS, CHANGED, CHECK_ROWS, COUNTS, CUT, DEED, DEED_BODY, DEED_HEAD, DIFFERS, DONE,
     EVERY, FIRST, FIRST_ROWS, FOREIGN, FOR_HELLO_BY_STAFF, FOR_RECORD, FOR_TOO_MUCH, FRAMING, GONE, HEADS,
     HELLO_CHANGED, HELLO_LINE, HELLO_TO_LIST, HOST, IMAGES, KEYS, LEAVES_SOME, LET_LIST, LIMIT, LONG, LONG_FILE,
-    LOOP_LINE, MORE, NO_DEED, NO_ROUTES, OF_12_TO_OTHERS, ONE_BYTE, OPEN_FILES, OTHER_METHODS, PARTS, PATHS, PAUSE,
-    PROGRAM, QUESTION, READ_BACK, RECORD, RECORD_LINE, REFUSALS, ROOM, ROOT, ROUTES, RULES, SAMPLES, SOUND, STAFF,
-    TAKEDOWN, TOO_LONG, UNTIED, UPLOADED, UPLOADS, USAGE, bytes_of, catalogue, check, content, denied, digest, drop,
-    faulty, get, head, listed, listing, put, put_rule, refused, write,
+    LOOP_LINE, MORE, NO_DEED, NO_ROUTES, OF_12_TO_OTHERS, ONE_BYTE, OTHER_METHODS, PARTS, PATHS, PAUSE, PROGRAM,
+    QUESTION, READ_BACK, RECORD, RECORD_LINE, REFUSALS, ROOM, ROOT, ROUTES, RULES, SAMPLES, SOUND, STAFF, TAKEDOWN,
+    TOO_LONG, UNTIED, UPLOADED, UPLOADS, USAGE, bytes_of, catalogue, check, content, denied, digest, drop, faulty,
+    get, head, listed, listing, put, put_rule, refused, write,
 )
-
-
-# Clients: each gives what comes of a visit
-
-
-class Lost(Exception):
-    """Nobody answers."""
-
-
-def curl(port, path, *words):
-    """The words of a visit by curl, without the settings of its user."""
-    always = ["-q", "-sS", "-i", "--raw", "-g", "--path-as-is", "--noproxy", "*", "--max-time", str(LIMIT)]
-    return ["curl", *always, *words, f"http://{HOST}:{port}{path}"]
-
-
-def by_curl(port, asked):
-    """The bytes that curl shows, or how it failed."""
-    words = ["-X", asked.method]
-    if asked.key is not None:
-        words += ["-H", f"Desk-Key: {asked.key}"]
-    if asked.body is not None:
-        words += ["--data-binary", "@-"]
-    ran = subprocess.run(curl(port, asked.path, *words), input=asked.body or b"", capture_output=True)
-    # no connection, and no end in time
-    if ran.returncode in (7, 28):
-        raise Lost(ran.stderr.decode(errors="replace").strip())
-    return (ran.stderr, ran.stdout) if ran.returncode else ran.stdout
-
-
-def by_client(port, asked):
-    """The bytes of what http.client tells of a reply."""
-    fields = {} if asked.key is None else {"Desk-Key": asked.key}
-    with contextlib.closing(http.client.HTTPConnection(HOST, port, timeout=LIMIT)) as connection:
-        connection.request(asked.method, asked.path, asked.body, fields)
-        response = connection.getresponse()
-        version = f"HTTP/{response.version // 10}.{response.version % 10}"
-        lines = [f"{name}: {value}" for name, value in response.getheaders()]
-        return head(f"{version} {response.status} {response.reason}", *lines) + response.read()
-
-
-def connected(port, room=None):
-    """A plain socket, that sends at once what it is given; its system keeps so much that it has not read yet."""
-    connection = socket.socket()
-    connection.settimeout(LIMIT)
-    connection.setsockopt(socket.IPPROTO_TCP, socket.TCP_NODELAY, 1)
-    if room:
-        connection.setsockopt(socket.SOL_SOCKET, socket.SO_RCVBUF, room)
-    connection.connect((HOST, port))
-    return connection
-
-
-def read_all(connection):
-    """The bytes that come, and how they end: with an end or a reset."""
-    came = b""
-    while True:
-        try:
-            part = connection.recv(65536)
-        except ConnectionResetError:
-            return came, "a reset"
-        if not part:
-            return came, "an end"
-        came += part
-
-
-def by_socket(port, parts, then):
-    """The bytes that come, and how they end. A desk that closes early is heard all the same."""
-    with connected(port) as connection:
-        for number, part in enumerate(parts):
-            time.sleep(PAUSE if number else 0)
-            with contextlib.suppress(BrokenPipeError, ConnectionResetError):
-                connection.sendall(part)
-        if then == ENDS:
-            connection.shutdown(socket.SHUT_WR)
-        return read_all(connection)
-
-
-def leave(port, sent, resets):
-    """Sends bytes and goes."""
-    with connected(port) as connection:
-        connection.sendall(sent)
-        if resets:
-            connection.setsockopt(socket.SOL_SOCKET, socket.SO_LINGER, struct.pack("ii", 1, 0))
-
-
-def tried(visit, *words):
-    """What a visit gives, or the fault by which it broke."""
-    try:
-        return visit(*words)
-    except (socket.timeout, ConnectionRefusedError) as fault:
-        raise Lost(repr(fault)) from fault
-    except (OSError, http.client.HTTPException) as fault:
-        return repr(fault)
+from clients import (
+    Lost, Serving, by_client, by_curl, by_socket, connected, curl, free_port, leave, minutes_to_noon, read_all, tried,
+    zone_of,
+)
 
 
 # Steps of a run: a label, how many visits it makes, and its walk. That is a function of the port, and gives two values
@@ -300,12 +208,6 @@ def too_long_by_client(port):
 # The program
 
 
-def free_port():
-    with socket.socket() as probe:
-        probe.bind((HOST, 0))
-        return probe.getsockname()[1]
-
-
 def shown(value):
     """A value as a report shows it, without its middle where it is long."""
     text = repr(value)
@@ -370,51 +272,10 @@ class Desk:
             self.same(f"{group}: {label}", lines, self.sql(self.store, question).splitlines())
 
 
-class Serving:
-    """The program while it serves visits of a store."""
-
-    def __init__(self, desk, store, count, words=()):
-        self.port = free_port()
-        options = ["--store", store, "--port", str(self.port), "--count", str(count), *words]
-        self.process = subprocess.Popen(
-            [desk.program, "serve", *options],
-            bufsize=0,
-            stdin=subprocess.DEVNULL,
-            stdout=subprocess.PIPE,
-            stderr=subprocess.PIPE,
-        )
-        with contextlib.suppress(ProcessLookupError):
-            resource.prlimit(self.process.pid, resource.RLIMIT_NOFILE, (OPEN_FILES, OPEN_FILES))
-
-    def __enter__(self):
-        return self
-
-    def __exit__(self, *_):
-        self.process.kill()
-        self.process.communicate()
-
-    def line(self):
-        """The line that it writes first. It is killed where it writes none in time."""
-        watch = threading.Timer(LIMIT, self.process.kill)
-        watch.start()
-        try:
-            return self.process.stdout.readline().decode()
-        finally:
-            watch.cancel()
-
-    def end(self):
-        """How it ends: its status, what else it wrote, and its errors."""
-        try:
-            written, errors = self.process.communicate(timeout=LIMIT)
-        except subprocess.TimeoutExpired:
-            return "it does not end"
-        return self.process.returncode, written.decode(), errors.decode()
-
-
 def serve(desk, group, store, steps, *words, kills=False):
     """Serves as many visits as some steps make, and walks the steps; or one more, to kill the program instead of it."""
     count = sum(step.visits for step in steps) + kills
-    with Serving(desk, store, count, words) as serving:
+    with Serving(desk.program, store, count, words) as serving:
         line = serving.line()
         desk.same(f"{group}: it listens", f"listening {HOST}:{serving.port}\n", line or serving.end())
         for number, step in enumerate(steps):
@@ -559,16 +420,10 @@ def see_museum(desk):
     serve_copy(desk, "museum", by_both(cases))
 
 
-def zone_of(minutes):
-    """The rule of clocks that are so many minutes ahead of UTC; a rule counts how far they are behind it."""
-    return f"<DAY>{'-' if minutes >= 0 else ''}{abs(minutes) // 60}:{abs(minutes) % 60:02}"
-
-
 def see_checks(desk):
     """A check by curl and one by http.client are of one day, since it is about noon by the clocks of each run."""
     store = desk.copied("checks")
-    now = datetime.datetime.now(datetime.timezone.utc)
-    noon = 720 - 60 * now.hour - now.minute
+    noon = minutes_to_noon()
     today, other = zone_of(noon), zone_of(noon + (1439 if noon <= 0 else -1439))
     seen = [("image 12", check(12), SOUND)]
     serve(desk, "checks", store, by_both(seen), "--zone", today)

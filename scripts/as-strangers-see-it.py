@@ -6,7 +6,8 @@ It makes 50 images with cpmtools and 50 with cc1541, of which some are then dama
 them and `sqlite3 -csv` another; their paths have blanks, commas and quotation marks. desk imports both under three
 deeds. Then it exports as the public, the reading room and the staff, on the last day of an embargo and on the day
 after. Each export is read by Python's csv and by sqlite3's .import, and both have to read the same table: the one that
-`desk list` of each image and the rules, as the plain function `verdict` below reads them, make together.
+`desk list` of each image and the rules, as the plain function `verdict` of rules_by_hand.py reads them,
+make together.
 
 PROGRAM is crates/rd_main/out/rd_main of this repository where none is named. Run as root, it installs Debian's packages
 where one is missing."""
@@ -26,6 +27,7 @@ import tempfile
 
 import cbm_image
 import cpm_image
+import rules_by_hand
 import tools
 from tools import bytes_of, write
 
@@ -79,34 +81,13 @@ def takedowns(acc):
     return told
 
 
-# What the rules say of a file, told by hand
-
-
-def matches(rule, audience, day, file):
-    """Whether a rule speaks of a file, for an audience and a day: dates of this form are in order as texts are."""
-    if audience not in rule["audiences"] or (rule["from"] or "") > day or (rule["until"] or "9999-99-99") <= day:
-        return False
-    [(how, value)] = rule["select"].items()
-    if how == "prefix":
-        return file["name"].startswith(value)
-    return how == "all" or file[how] == str(value)
-
-
-def verdict(acc, deed, audience, day, file):
-    """The label of the rule that decides on a file, and its effect."""
-    for label, rules in ((f"T{acc}", takedowns(acc)), (f"R{deed}", DEEDS[deed])):
-        for rule in rules:
-            if matches(rule, audience, day, file):
-                return f"{label}.{rule['rank']}", rule["effect"]
-    return "D0", "deny"
-
-
 def table(holdings, audience, day):
     """The rows that a caller is to be shown on a day."""
     rows = []
     for acc, (kind, deed, files) in sorted(holdings.items()):
         for file in files:
-            label, effect = verdict(acc, deed, audience, day, file)
+            bands = (f"T{acc}", takedowns(acc)), (f"R{deed}", DEEDS[deed])
+            label, effect = rules_by_hand.verdict(bands, audience, day, file)
             if effect != "deny":
                 row = {**file, "accession": str(acc), "deed": str(deed), "kind": kind, "rule": label, "effect": effect}
                 rows.append([row[column] for column in COLUMNS])
@@ -255,7 +236,7 @@ class Desk:
         """The files of an image as `list` tells them, by the names of the catalogue's columns."""
         lines = self.run("list", kind, path).decode().splitlines()
         self.same(f"the last line of the list of {path}", f"files\t{len(lines) - 1}\tend", lines[-1])
-        return [dict(zip(["slot", "user", "type", "size", "faults", "name"], line.split("\t"))) for line in lines[:-1]]
+        return rules_by_hand.files_told(lines[:-1])
 
     def import_sheet(self, folder, who, sheet, accessions):
         """Imports a sheet, of which each row has to be done."""

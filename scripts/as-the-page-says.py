@@ -5,7 +5,7 @@ page shows.
 PAGE is docs/OPERATING.md, which it is where none is named, or README.md. PROGRAM is ./desk of this repository where
 none is named. It wants Python 3 with its standard library alone, Linux, and Debian's packages, which it installs where
 it runs as root and they are missing: nginx, openssl, sqlite3, curl, tzdata, logrotate, adduser and systemd for the
-first page, sqlite3, curl and cpmtools for the other. The ports 8041, 8042, 8080 and 8443 have to be free.
+first page, sqlite3, curl and cpmtools for the other. The ports 8041, 8042, 8043, 8080 and 8443 have to be free.
 
 Commands after `$` run in one shell, in a copy of what they need of this repository; those of README.md have a /tmp of
 their own. Commands after `#` need the rights of root. Where it has them, they run in another shell, in a mount

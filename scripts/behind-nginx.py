@@ -6,9 +6,9 @@ where it runs as root and they are missing. PROGRAM is ./desk of this repository
 
 What clients ask of the desk in scripts/as-a-client-sees-it.py is asked again: each GET through nginx, and status, body
 and fields have to be those that the desk gives; each other request through nginx too, which has to answer 403, and then
-of the desk itself, as the staff does on the machine, so that the next cases find what it did. After that come the
-limits, visitors who send or take a byte a second or nothing at all, and a desk that is down. Each group comes from an
-address of its own, so that none uses up what nginx allows another."""
+at the staff's door, on the machine, so that the next cases find what it did. After that come who is let in at that
+door, the limits, visitors who send or take a byte a second or nothing at all, and a desk that is down. Each group comes
+from an address of its own, so that none uses up what nginx allows another."""
 
 import contextlib
 import http.client
@@ -24,8 +24,9 @@ import time
 import reading_room
 
 from client_cases import (
-    ALL, EVERY, HOST, KEYS, LONG, LONG_FILE, NO_ROUTES, NOBODY, OTHER_METHODS, QUESTION, READ_BACK, RECORD, REFUSALS,
-    ROUTES, RULES, SAMPLES, STAFF, Asked, badge, bytes_of, drop, get, head, put, put_image, put_rule, with_fields,
+    ALL, BAD_HEAD, EVERY, HOST, KEYS, LONG, LONG_FILE, NO_ROUTES, NOBODY, OTHER_METHODS, QUESTION, READ_BACK, RECORD,
+    REFUSALS, ROUTES, RULES, SAMPLES, STAFF, Asked, badge, bytes_of, drop, get, head, put, put_image, put_rule,
+    with_fields,
 )
 from reading_room import fields_of
 
@@ -93,11 +94,13 @@ def see_question(seen, room, label, asked, wanted, address):
 
 
 def see_command(seen, room, label, asked, wanted, address):
-    """nginx refuses a command, also one whose method is in small letters, and the desk itself takes it."""
+    """nginx refuses a command from outside, and hands it on to the desk at the staff's door. One whose method is in
+    small letters it takes at neither."""
     status, body, fields = ask(room, asked, address)
     refused = 403 if asked.method.isupper() else 400
     seen.same(f"{label}: refused from outside", (refused, True), (status, body.startswith(b"<html>")))
-    seen.same(f"{label}: on the machine", parsed(wanted)[:2], room.ask_desk(asked))
+    at_the_door = room.ask_staffs_door if asked.method.isupper() else room.ask_desk
+    seen.same(f"{label}: on the machine", parsed(wanted)[:2], at_the_door(asked))
 
 
 def see_cases(seen, room, name, cases, address):
@@ -204,17 +207,80 @@ def configured(places, folder):
 
 
 def see_page(seen, room):
-    kinds = {"index.html": "text/html; charset=utf-8", "room.css": "text/css; charset=utf-8"}
-    for name, kind in {**kinds, "room.js": "text/javascript; charset=utf-8"}.items():
+    for name in ("index.html", "shared.css", "room.css", "shared.js", "room.js"):
         status, body, fields = ask(room, get(f"/{name}"), "127.0.2.1")
-        seen.same(f"the page's {name}", (200, bytes_of("web", name), kind), (status, body, fields.get("Content-Type")))
+        wanted = (200, bytes_of("web", name), type_of(name))
+        seen.same(f"the page's {name}", wanted, (status, body, fields.get("Content-Type")))
         see_added(seen, f"the page's {name}", fields)
     seen.same("the page at /", bytes_of("web", "index.html"), ask(room, get("/"), "127.0.2.1")[1])
-    told = re.search(rb'<meta http-equiv="Content-Security-Policy" content="([^"]*)">', bytes_of("web", "index.html"))
-    wanted = [words for words in POLICY if not words.startswith("frame-ancestors ")]
-    seen.same("the policy that the page tells", wanted, told[1].decode().split("; "))
+    see_policy(seen, "index.html")
     for path in ("/../museum.sqlite", "/%2e%2e/museum.sqlite", "/museum.sqlite", "/.git/config", "/web/room.js"):
         seen.same(f"no file {path}", True, ask(room, get(path), "127.0.2.1")[0] in (400, 404))
+
+
+def type_of(name):
+    return f"text/{name.rpartition('.')[2].replace('js', 'javascript')}; charset=utf-8"
+
+
+def see_policy(seen, name):
+    """A page tells the policy that nginx adds."""
+    told = re.search(rb'<meta http-equiv="Content-Security-Policy" content="([^"]*)">', bytes_of("web", name))
+    wanted = [words for words in POLICY if not words.startswith("frame-ancestors ")]
+    seen.same(f"the policy that {name} tells", wanted, told[1].decode().split("; "))
+
+
+def see_staffs_page(seen, room):
+    """The staff's page is at the staff's door, and not outside."""
+    for name in ("staff.html", "staff.css", "staff.js"):
+        wanted = (200, bytes_of("web", name), type_of(name))
+        for path in [f"/{name}", *(["/"] if name == "staff.html" else [])]:
+            status, body, fields = asked_at_door(room, get(path))
+            seen.same(f"the staff's {path}", wanted, (status, body, fields.get("Content-Type")))
+            added = {field: value for field, value in ADDED.items() if field != "Strict-Transport-Security"}
+            seen.same(f"the staff's {path}: what nginx adds", added, {field: fields.get(field) for field in added})
+            seen.same(f"the staff's {path}: it is no HTTPS", None, fields.get("Strict-Transport-Security"))
+        seen.same(f"the staff's {name} from outside", 404, ask(room, get(f"/{name}"), "127.0.2.1")[0])
+        for path in (f"//{name}", f"/%73taff{name[5:]}", f"/x/../{name}", f"/./{name}"):
+            seen.same(f"the staff's {path} from outside", 404, ask(room, get(path), "127.0.2.1")[0])
+    see_policy(seen, "staff.html")
+
+
+def asked_at_door(room, asked, host=None):
+    """The status, body and fields of what comes at the staff's door, as by a browser that calls it by a name."""
+    door = http.client.HTTPConnection(HOST, room.staff_port, timeout=reading_room.LIMIT)
+    with contextlib.closing(door) as connection:
+        named = {} if host is None else {"Host": host}
+        connection.request(asked.method, asked.path, asked.body, {**fields_of(asked), **named})
+        reply = connection.getresponse()
+        return reply.status, reply.read(), dict(reply.getheaders())
+
+
+# Names by which a browser may call the staff's door, and whether it is let in.
+HOSTS = {
+    "127.0.0.1": True, "localhost": True, "LOCALHOST": True, "127.0.0.1:9000": True, "localhost:1": True,
+    "desk.museum.example": False, "127.0.0.1.example": False, "localhost.example:8043": False, "127.0.0.2": False,
+    "0.0.0.0": False, "2130706433": False, "[::1]": False, "x.localhost": False,
+}
+DEED_AT_DOOR = put("/deeds/78", {"donor": "X", "signed": "2020-01-01"})
+
+
+def see_staffs_door(seen, room):
+    """It is at 127.0.0.1 alone, under its two names, and takes what the desk takes."""
+    for host, let_in in HOSTS.items():
+        for asked in (get("/"), get("/staff.js"), get("/images", STAFF), DEED_AT_DOOR):
+            status = asked_at_door(room, asked, host)[0]
+            seen.same(f"the staff's door: {host}: {asked.method} {asked.path}", 200 if let_in else 403, status)
+    for address in ("127.0.0.2", "127.1.2.3"):
+        with socket.socket() as other:
+            seen.same(f"the staff's door: {address}", True, other.connect_ex((address, room.staff_port)) != 0)
+    with socket.create_connection((HOST, room.staff_port), timeout=reading_room.LIMIT) as unnamed:
+        unnamed.sendall(b"GET / HTTP/1.0\r\n\r\n")
+        seen.same("the staff's door: no name", b"HTTP/1.1 403 ", unnamed.recv(13))
+    for length, status in ((262144, 422), (262145, 413)):
+        image = put_image(78, "d64", 78, bytes(length))
+        seen.same(f"the staff's door: a body of {length} bytes", status, asked_at_door(room, image)[0])
+    statuses = [asked_at_door(room, get("/images/15/files/0"))[0] for _ in range(2 * BURST)]
+    seen.same("the staff's door: as often as they like", {200}, set(statuses))
 
 
 def see_unchanged(seen, room):
@@ -278,6 +344,23 @@ def status_of(room, asked, address):
             return connection.getresponse().status
         except (*broken, http.client.HTTPException) as fault:
             return repr(fault)
+
+
+def see_long_heads(seen, room):
+    """Heads that nginx hands on, and that are too long for the desk: each visitor is told so by the desk itself."""
+    for kilobytes in (12, 20):
+        came = [of_long_head(room, kilobytes, f"127.0.2.{40 + kilobytes}") for _ in range(30)]
+        wanted = [parsed(BAD_HEAD)[:2]] * 30
+        seen.same(f"heads of {kilobytes} kB", wanted, came)
+
+
+def of_long_head(room, kilobytes, address):
+    """The status and the body of the reply to a head of so many fields of a kilobyte."""
+    with contextlib.closing(room.visitor(address)) as connection:
+        fields = {f"A-{number}": "b" * 1015 for number in range(kilobytes)}
+        connection.request("GET", "/images/15/files/0", headers=fields)
+        reply = connection.getresponse()
+        return reply.status, reply.read()
 
 
 def see_rate(seen, room, label, path, address, rate, burst):
@@ -471,7 +554,7 @@ def see_why(seen, room):
             except TimeoutError:
                 came = "no answer"
         seen.same("at the desk itself a slow visitor stops the others", "no answer", came)
-    seen.same("until he goes", 200, ask(room, get("/images"), "127.0.2.10")[0])
+    seen.same("until they go", 200, ask(room, get("/images"), "127.0.2.10")[0])
 
 
 def see_down(seen, room):
@@ -492,14 +575,29 @@ def see_logs(seen, room):
     """A key that is sent is in no log of nginx."""
     key = "a key that no log may have"
     ask(room, get("/images", key), "127.0.2.12")
-    logs = room.logs()
-    seen.same("visits are logged", True, b'"GET /images HTTP/1.1" 401' in logs)
-    seen.same("keys are not", False, key.encode() in logs)
+    seen.same("visits are logged", True, room.has_logged(b'"GET /images HTTP/1.1" 401'))
+    seen.same("keys are not", False, key.encode() in room.logs())
+    for method in ("PUT", "DELETE"):
+        asked = Asked(method, badge(key), STAFF, b'{"audience":"room"}')
+        statuses = ask(room, asked, "127.0.2.12")[0], room.ask_staffs_door(asked)[0]
+        seen.same(f"{method} of a key, outside and at the staff's door", (403, 200), statuses)
+        logged = [room.has_logged(f'"{method} /badges/..." {status}'.encode()) for status in statuses]
+        seen.same(f"{method} of a key is logged", [True, True], logged)
+    seen.same("the number of a key is not", False, badge(key).encode() in room.logs())
+
+
+def see_errors(seen, room):
+    """nginx was never told of a reset by the desk, nor of an end before the reply was whole."""
+    lines = (room.folder / "error.log").read_text(errors="replace").splitlines()
+    for words in ("Connection reset by peer", "prematurely closed"):
+        told = [line for line in lines if words in line]
+        print(f"nginx's log has {len(told)} lines with: {words}")
+        seen.same(f"nginx's log: {words}", [], told[:5])
 
 
 GROUPS = [
-    see_places, see_zones, see_page, see_routes, see_unchanged, see_fields, see_head, see_sizes, see_rates,
-    see_at_a_time, see_tls, see_why, see_slow, see_down, see_logs,
+    see_places, see_zones, see_page, see_staffs_page, see_routes, see_staffs_door, see_unchanged, see_fields, see_head,
+    see_sizes, see_long_heads, see_rates, see_at_a_time, see_tls, see_why, see_slow, see_down, see_logs, see_errors,
 ]
 
 

@@ -266,16 +266,21 @@ def free_but_claimed(count):
 COLUMNS = ("accession", "deed", "kind", "slot", "user", "name", "type", "size", "faults", "rule", "effect")
 
 
-def catalogue(*files):
-    """The table of all files that are listed: each with its accession. Python's csv writes it."""
+def table(rows):
+    """A table of files that are listed, each by the names of the columns. Python's csv writes it."""
     text = io.StringIO()
-    table = csv.writer(text, lineterminator="\n")
-    table.writerow(COLUMNS)
-    for accession, file in files:
-        kind, deed, _ = IMAGES[accession]
-        cells = {**file, "accession": accession, "deed": deed, "kind": kind, "faults": " ".join(file["faults"])}
-        table.writerow(cells[column] for column in COLUMNS)
+    lines = csv.writer(text, lineterminator="\n")
+    lines.writerow(COLUMNS)
+    for row in rows:
+        cells = {**row, "faults": " ".join(row["faults"])}
+        lines.writerow(cells[column] for column in COLUMNS)
     return reply(200, text.getvalue().encode(), "text/csv")
+
+
+def catalogue(*files):
+    """The table of all files that are listed: each with its accession."""
+    kinds = ((accession, *IMAGES[accession][:2], file) for accession, file in files)
+    return table({**file, "accession": accession, "deed": deed, "kind": kind} for accession, kind, deed, file in kinds)
 
 
 # Deed 7 is closed to the public and the room until 2030 begins. Deed 8 has no rule, and 9 is open to all.

@@ -1,36 +1,32 @@
 #!/usr/bin/env python3
-"""scripts/in-a-browser.py [--pictures] [PROGRAM]: opens the page for readers in headless Chromium, through nginx.
+"""scripts/in-a-browser.py [--pictures] [PROGRAM]: opens both pages in headless Chromium, through nginx.
 
 It wants Python 3 with its standard library alone, Linux, and Debian's nginx, openssl, sqlite3, chromium and
 chromium-driver, which it installs where it runs as root and they are missing. PROGRAM is ./desk of this repository
-where none is named. With --pictures it also writes docs/page-files.png and docs/page-text.png.
+where none is named. With --pictures it also writes the pictures of the pages in docs/.
 
-It looks at what the public, the room and the staff see before and after a takedown; at denied, faulty and listed files;
-at names that are markup; at the bytes of files as text, in hexadecimal digits and as a download; at where a key is
-left; at the page by keyboard and on a small screen; and at what the browser refuses. It speaks WebDriver."""
+Of the page for readers it looks at what the public, the room and the staff see before and after a takedown; at denied,
+faulty and listed files; at files that are found by name; at names that are markup; at the bytes of files as text, in
+hexadecimal digits and as a download; at where a key is left; at the page by keyboard and on a small screen; and at what
+the browser refuses. scripts/staff_page.py has what it looks at on the staff's page. It speaks WebDriver."""
 
-import base64
 import contextlib
-import json
+import csv
 import os
-import pathlib
 import re
-import signal
-import subprocess
 import sys
 import time
-import urllib.error
-import urllib.request
+import urllib.parse
 
 import reading_room
+import staff_page
 
+from browser import ENTER, LEFT, TAB, Browser
 from client_cases import (
-    CLOSED, EVERY, HOST, LIMIT, NOBODY, PUBLIC, ROOM, ROOT, STAFF, TAKEDOWN, badge, disk, drop, get, pattern, put,
+    CLOSED, EVERY, LIMIT, NOBODY, PUBLIC, ROOM, ROOT, STAFF, TAKEDOWN, badge, disk, drop, get, pattern, put,
     put_image, put_rule,
 )
 
-ELEMENT = "element-6066-11e4-a52e-4f735466cecf"
-TAB, ENTER = "\ue004", "\ue007"
 # Its last sign is a blank that is of the key.
 UMLAUTS = "Schlüssel für den Raum\u00a0"
 
@@ -53,92 +49,6 @@ MORE_CASES = [
     ("a disk of markup", put_image(19, "d64", 9, MARKUP), None),
     ("a key of other letters", put(badge(UMLAUTS), {"audience": "room"}), None),
 ]
-
-
-class Browser:
-    """A session of headless Chromium."""
-
-    def __init__(self, folder):
-        self.port, = reading_room.free_ports(1)
-        self.folder = folder
-        (folder / "home").mkdir()
-        (folder / "downloads").mkdir()
-        home = {**os.environ, "HOME": str(folder / "home"), "TMPDIR": str(folder)}
-        words = ["chromedriver", f"--port={self.port}", f"--log-path={folder / 'chromedriver.out'}"]
-        streams = {name: subprocess.DEVNULL for name in ("stdin", "stdout", "stderr")}
-        # the browser that the driver starts is of the same group of processes
-        self.driver = subprocess.Popen(words, env=home, start_new_session=True, **streams)
-        self.session = None
-
-    def begin(self):
-        """Begins the session."""
-        reading_room.wait_for(self.port, self.driver)
-        self.session = self.ask("POST", "/session", {"capabilities": {"alwaysMatch": self.wishes()}})["sessionId"]
-        where = str(self.folder / "downloads")
-        self.cdp("Browser.setDownloadBehavior", {"behavior": "allow", "downloadPath": where})
-
-    def wishes(self):
-        words = ["--headless=new", "--disable-gpu", "--disable-dev-shm-usage", "--lang=en", "--hide-scrollbars"]
-        words += [f"--user-data-dir={self.folder / 'profile'}", "--window-size=1100,900"]
-        if os.geteuid() == 0:
-            words.append("--no-sandbox")
-        logs = {"goog:loggingPrefs": {"browser": "ALL"}}
-        return {"acceptInsecureCerts": True, "goog:chromeOptions": {"args": words}, **logs}
-
-    def close(self):
-        if self.session:
-            with contextlib.suppress(OSError, KeyError):
-                self.command("DELETE", "")
-        os.killpg(self.driver.pid, signal.SIGKILL)
-        self.driver.wait()
-
-    def ask(self, method, path, body=None):
-        """What the driver answers; a fault of it is raised."""
-        data = None if body is None else json.dumps(body).encode()
-        fields = {"Content-Type": "application/json"}
-        request = urllib.request.Request(f"http://{HOST}:{self.port}{path}", data, fields, method=method)
-        try:
-            with urllib.request.urlopen(request, timeout=LIMIT) as reply:
-                return json.load(reply)["value"]
-        except urllib.error.HTTPError as fault:
-            raise KeyError(json.load(fault)["value"]["message"].splitlines()[0]) from fault
-
-    def command(self, method, path, body=None):
-        return self.ask(method, f"/session/{self.session}{path}", body)
-
-    def cdp(self, name, values):
-        return self.command("POST", "/goog/cdp/execute", {"cmd": name, "params": values})
-
-    def open(self, address):
-        self.command("POST", "/url", {"url": address})
-
-    def script(self, text, *values):
-        """What a script gives that the driver runs in the page, beside the page's own."""
-        return self.command("POST", "/execute/sync", {"script": text, "args": values})
-
-    def find(self, selector):
-        return self.command("POST", "/element", {"using": "css selector", "value": selector})[ELEMENT]
-
-    def click(self, selector):
-        self.command("POST", f"/element/{self.find(selector)}/click", {})
-
-    def type(self, selector, text):
-        self.command("POST", f"/element/{self.find(selector)}/value", {"text": text})
-
-    def press(self, *keys):
-        """Presses keys wherever the focus is."""
-        steps = [{"type": kind, "value": key} for key in keys for kind in ("keyDown", "keyUp")]
-        self.command("POST", "/actions", {"actions": [{"type": "key", "id": "keys", "actions": steps}]})
-
-    def focus(self):
-        """What has the focus: its id, else its text."""
-        return self.script("const at = document.activeElement; return at.id || at.textContent;")
-
-    def logs(self):
-        return [line["message"] for line in self.command("POST", "/se/log", {"type": "browser"})]
-
-    def picture(self, path):
-        pathlib.Path(path).write_bytes(base64.b64decode(self.command("GET", "/screenshot")))
 
 
 READ = """
@@ -204,6 +114,7 @@ def files_of(shown):
     return [(row[0], row[1], row[5], row[6]) for row in shown["rows"]]
 
 
+NOT_READ = "You may not read this file. Ask the staff, who know why."
 HELLO_ROW = ("0", "HELLO", "read it", "R7.20")
 RECORD_ROW = ("0", "HELLO.TXT", "read it", "R9.20")
 OPEN_DISKS = ["Disk 14", "Disk 15", "Disk 16", "Disk 17", "Disk 18", "Disk 19"]
@@ -224,25 +135,25 @@ def see_callers(seen, page, room):
         seen.same(f"{label}: disk 12", [] if closed else [HELLO_ROW], files_of(page.go("12")))
         seen.same(f"{label}: disk 15", [RECORD_ROW], files_of(page.go("15")))
         shown = page.go("12/0")
-        wanted = ["You may not read this file.", "Refusal: denied", "Rule: R7.10, rule 10 of deed 7"] if closed else []
+        wanted = [NOT_READ, "Refusal: denied", "Rule: R7.10, rule 10 of deed 7"] if closed else []
         seen.same(f"{label}: its file", wanted, shown["refusal"])
         seen.same(f"{label}: its bytes", None if closed else "A" * 254 + "BCDE", shown["bytes"])
         shown = page.go("13/0")
-        wanted = ["You may not read this file.", "Refusal: denied", "Rule: D0, no rule lets anybody see it"]
+        wanted = [NOT_READ, "Refusal: denied", "Rule: D0, no rule lets anybody see it"]
         seen.same(f"{label}: a file without a rule", (wanted, None), (shown["refusal"], shown["bytes"]))
         page.give(None)
 
 
 def see_takedown(seen, page, room):
     """A takedown of disk 15 for the public and the room, and another that lets the public see that a file is there."""
-    denied = ["You may not read this file.", "Refusal: denied", "Rule: T15.1, takedown 1 of disk 15"]
+    denied = [NOT_READ, "Refusal: denied", "Rule: T15.1, takedown 1 of disk 15"]
     room.ask_desk(TAKEDOWN)
     for label, key, taken in [("the public", PUBLIC, True), ("the room", ROOM, True), ("the staff", STAFF, False)]:
-        page.give(key)
+        asks = page.give(key)["caller"]
         seen.same(f"takedown: {label}: disks", not taken, "Disk 15" in numbers(page.go("")))
         shown = page.go("15")
         seen.same(f"takedown: {label}: files", [] if taken else [RECORD_ROW], files_of(shown))
-        told = "There is no file on it that you may see." if taken else "You may see 1 file."
+        told = f"There is no file on it that you may see. {asks}" if taken else "You may see 1 file."
         seen.same(f"takedown: {label}: told", told, shown["status"])
         page.browser.type("#slot", "0")
         page.browser.press(ENTER)
@@ -320,17 +231,122 @@ def see_changed(seen, page, room):
     seen.same("asked again", "HELLO FROM CP/M", page.read()["bytes"].strip())
 
 
+def find(page, words):
+    return page.go(f"find/{urllib.parse.quote(words)}")
+
+
+def see_found(seen, page, room):
+    """What is found is what the catalogue has, whoever asks, in small or capital letters."""
+    for label, key, asks, closed in CALLERS:
+        page.give(key)
+        table = room.ask_desk(get("/catalogue", None if key is None else key.strip(" ").encode()))[1].decode()
+        see_words(seen, page, label, list(csv.DictReader(table.splitlines())))
+        seen.same(f"found: {label}: disk 12", not closed, "Disk 12" in numbers(find(page, "HELLO")))
+        told = f"There is no file with \u201cnowhere\u201d in its name that you may see. {asks}"
+        seen.same(f"found: {label}: nothing", (told, []), (find(page, "nowhere")["status"], page.read()["rows"]))
+        page.give(None)
+    page.go("")
+    page.browser.type("#find", "welcome")
+    page.browser.press(ENTER)
+    shown = wait_for_place(page, "#/find/welcome")
+    seen.same("found: by typing", ("You may see 1 file with it in the name.", ["#/18", "#/18/0"]), told_of(shown))
+
+
+def see_words(seen, page, label, files):
+    for words in ("HELLO", "hello", "E", '"&amp;', "%", "."):
+        wanted = [file for file in files if words.lower() in file["name"].lower()]
+        rows = [(row[0], row[1], row[2], row[5], row[7]) for row in find(page, words)["rows"]]
+        names = [(f"Disk {file['accession']}", *map(file.get, ("slot", "name", "size", "rule"))) for file in wanted]
+        seen.same(f"found: {label}: {words}", names, rows)
+
+
+def told_of(shown):
+    return shown["status"], shown["links"]
+
+
+COUNTED = """
+const asked = window.fetch;
+window.catalogues = 0;
+window.fetch = (path, options) => {
+  window.catalogues += path === "/catalogue" ? 1 : 0;
+  return asked(path, options);
+};
+"""
+
+
+def see_fetched(seen, page, room):
+    """The catalogue is fetched once a key, and again when the reader asks for that."""
+    page.go("")
+    page.browser.command("POST", "/refresh", {})
+    page.read()
+    page.browser.script(COUNTED)
+    count = "return window.catalogues"
+    for words in ("HELLO", "TOUR", "HELLO"):
+        find(page, words)
+    seen.same("fetched: once", 1, page.browser.script(count))
+    room.ask_desk(TAKEDOWN)
+    seen.same("fetched: it is kept", True, "Disk 15" in numbers(find(page, "HELLO")))
+    page.browser.click("#anew")
+    seen.same("fetched: anew", False, "Disk 15" in numbers(page.read()))
+    page.give(STAFF)
+    seen.same("fetched: by another key", True, "Disk 15" in numbers(page.read()))
+    room.ask_desk(drop("/images/15/rules/1"))
+    page.give(None)
+    seen.same("fetched: without it", True, "Disk 15" in numbers(page.read()))
+    seen.same("fetched: four times", 4, page.browser.script(count))
+    page.browser.command("POST", "/refresh", {})
+    page.read()
+
+
+# Replies in the place of the desk's: their length as it is told, how many files they have, and what the page says.
+LONG = "The list of all files is longer than 5 MB, so it is not fetched. Look for the file on its disk."
+LENGTHS = [
+    (5000000, 1, "You may see 1 file with it in the name.", 1, False), (5000001, 1, "Refused.", 0, True),
+    (100, 500, "You may see 500 files with it in the name.", 500, False),
+    (100, 501, "You may see 501 files with it in the name. The first 500 are shown.", 500, False),
+]
+INSTEAD = """
+const [length, files] = arguments;
+const line = '1,1,d64,0,,"a ""b"", c",PRG,258,loop crossed,R1.1,read\\n';
+window.fetch = async (path, options) => {
+  window.signal = options.signal;
+  return new Response("heads\\n" + line.repeat(files), { headers: { "Content-Length": length } });
+};
+"""
+
+
+def see_long(seen, page, room):
+    """A catalogue above 5 MB is not fetched, and above 500 files not all are shown."""
+    for length, files, told, rows, stopped in LENGTHS:
+        page.browser.script(INSTEAD, str(length), files)
+        page.browser.script("catalogue = null;")
+        shown = find(page, '"B", C')
+        label = f"long: {length} bytes, {files} files"
+        seen.same(label, (told, rows), (shown["status"], len(shown["rows"])))
+        seen.same(f"{label}: refused", [LONG] if stopped else [], shown["refusal"])
+        seen.same(f"{label}: stopped", stopped, page.browser.script("return window.signal.aborted"))
+    words = "see that it is there: it is damaged, "
+    words += "loop (its blocks lead back into themselves); crossed (it shares a block with something else)"
+    row = ["Disk 1", "0", 'a "b", c', "PRG", "", "258", words, "R1.1"]
+    seen.same("long: a name with signs of CSV", row, shown["rows"][0])
+    page.browser.script("window.fetch = async () => new Response('{\"images\":[]}');")
+    wanted = "There is no disk of which you may see a file. You ask as the public."
+    seen.same("long: no disks", wanted, page.go("")["status"])
+    page.browser.command("POST", "/refresh", {})
+    page.read()
+
+
 def see_markup(seen, page, room):
     """A name that is markup is shown, and does nothing."""
     shown = page.go("19")
     names = ["<script>alert(1)", "<img src=x onerr", "\"&amp;'%25/%00%FF%8D.JS "]
     seen.same("markup: names", names, [row[1] for row in shown["rows"]])
     counted = "return ['script', 'img', 'b', 'iframe'].map((name) => document.querySelectorAll(name).length)"
-    seen.same("markup: elements", [1, 0, 0, 0], page.browser.script(counted))
+    seen.same("markup: elements", [2, 0, 0, 0], page.browser.script(counted))
     shown = page.go("19/0")
     seen.same("markup: the heading", names[0], shown["heading"])
     seen.same("markup: the bytes", "<B>NO MARKUP</B>", shown["bytes"])
-    seen.same("markup: elements of a file", [1, 0, 0, 0], page.browser.script(counted))
+    seen.same("markup: elements of a file", [2, 0, 0, 0], page.browser.script(counted))
 
 
 def hexed(data):
@@ -404,14 +420,6 @@ def see_download(seen, page, place, data):
     seen.same(f"download: {place}", data, path.read_bytes() if path.exists() else None)
 
 
-# All places of the page in which something could be left.
-LEFT = """
-return [location.href, document.referrer, document.cookie, JSON.stringify({...localStorage}),
-    JSON.stringify({...sessionStorage}), JSON.stringify(history.state), document.documentElement.outerHTML,
-    ...Array.from(document.querySelectorAll("input"), (field) => field.value)].join(" ");
-"""
-
-
 def see_key(seen, page, room):
     """A key is in no address, no storage, no field and no log, and is gone when the page is loaded again."""
     key = "the key of a quiet reader"
@@ -439,6 +447,8 @@ def see_keyboard(seen, page, room):
         order.append(page.browser.focus())
     seen.same("keyboard: the order", ["skip", "The reading room", "key", "Use it", "Disks"], order)
     page.browser.press(TAB)
+    seen.same("keyboard: then the field for a name", "find", page.browser.focus())
+    page.browser.press(TAB, TAB)
     seen.same("keyboard: then the first disk", "Disk 14", page.browser.focus())
     page.browser.press(TAB, ENTER)
     shown = wait_for_place(page, "#/15")
@@ -462,7 +472,7 @@ def see_small(seen, page, room):
     measured = {"width": 360, "height": 640, "deviceScaleFactor": 1, "mobile": True}
     page.browser.cdp("Emulation.setDeviceMetricsOverride", measured)
     wide = "return [document.documentElement.scrollWidth, window.innerWidth]"
-    for place in ("", "16", "19", "19/2", "14/0", "18/0"):
+    for place in ("", "16", "19", "19/2", "14/0", "18/0", "find/E"):
         page.go(place)
         seen.same(f"small screen: {place or 'the disks'}", [360, 360], page.browser.script(wide))
     page.go("16")
@@ -476,7 +486,7 @@ def see_small(seen, page, room):
 def see_down(seen, page, room):
     room.stop_desk()
     shown = page.go("")
-    wanted = ["The desk is closed at the moment. Ask again later."]
+    wanted = [staff_page.CLOSED]
     seen.same("a desk that is down", (wanted, []), (shown["refusal"], shown["rows"]))
     room.start_desk()
     seen.same("it is back", OPEN_DISKS if CLOSED else ["Disk 12", *OPEN_DISKS], numbers(page.go("")))
@@ -506,18 +516,14 @@ def see_strict(seen, page, room):
 
 
 def take_pictures(page):
-    measures = {"width": 900, "height": 560, "deviceScaleFactor": 1, "mobile": False}
-    page.browser.cdp("Emulation.setDeviceMetricsOverride", measures)
     for place, name in (("17", "page-files.png"), ("18/0", "page-text.png")):
         page.go(place)
-        page.browser.script("document.activeElement.blur();")
-        page.browser.picture(os.path.join(ROOT, "docs", name))
-    page.browser.cdp("Emulation.clearDeviceMetricsOverride", {})
+        page.browser.picture(os.path.join(ROOT, "docs", name), 900, 560)
 
 
 GROUPS = [
-    see_callers, see_takedown, see_refusals, see_numbers, see_changed, see_markup, see_bytes, see_texts, see_key,
-    see_keyboard, see_small, see_down, see_strict,
+    see_callers, see_takedown, see_refusals, see_numbers, see_changed, see_found, see_fetched, see_long, see_markup,
+    see_bytes, see_texts, see_key, see_keyboard, see_small, see_down, see_strict,
 ]
 
 
@@ -536,6 +542,7 @@ def main():
             take_pictures(page)
         for see in GROUPS:
             see(seen, page, room)
+        staff_page.see(seen, page, room, "--pictures" in sys.argv)
     sys.exit(seen.told())
 
 

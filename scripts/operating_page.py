@@ -15,7 +15,7 @@ from client_cases import LIMIT, ROOT
 PAGE = "docs/OPERATING.md"
 COPIED = ("operate", "web", "images", "docs", "README.md")
 # What is not run: what proves, builds or measures for long, and what wants a network.
-LEFT_OUT = re.compile(r"bash \.ci/run|python3 bench/|rt |apt-get update")
+LEFT_OUT = re.compile(r"bash \.ci/run|python3 bench/|rt |apt-get update|ssh ")
 # What a shell tells of its jobs, nginx tells an ordinary user of its line `user`, and debconf tells without a terminal.
 NOISE = re.compile(
     rb"^(\S*: line \d+: +\d+ Terminated|\[\d+\]|.*\[warn\].* the \"user\" directive |debconf: ).*\n", re.M

@@ -92,7 +92,7 @@ class Room:
         # nginx gives up the rights of root, and then still has to read the page
         self.folder.chmod(0o755)
         self.store = self.folder / "museum.sqlite"
-        self.desk_port, self.https_port, self.http_port = free_ports(3)
+        self.desk_port, self.https_port, self.http_port, self.staff_port = free_ports(4)
         self.desk = self.nginx = None
 
     def __enter__(self):
@@ -130,11 +130,12 @@ class Room:
         self.desk = None
 
     def ask_desk(self, asked):
-        """The status and the body of the desk's own reply, as the staff has it on the machine itself."""
-        with contextlib.closing(http.client.HTTPConnection(HOST, self.desk_port, timeout=LIMIT)) as connection:
-            connection.request(asked.method, asked.path, asked.body, fields_of(asked))
-            reply = connection.getresponse()
-            return reply.status, reply.read()
+        """The status and the body of the desk's own reply, as a program has it on the machine itself."""
+        return asked_at(self.desk_port, asked)
+
+    def ask_staffs_door(self, asked):
+        """The same of what comes through nginx at the staff's door."""
+        return asked_at(self.staff_port, asked)
 
     def fill(self, cases=(*FIRST, *MORE)):
         """Makes the store, starts the desk, and has it take commands."""
@@ -165,6 +166,7 @@ class Room:
             "CERTIFICATE": self.folder / "site.crt", "CERTIFICATE_KEY": self.folder / "site.key",
             "HSTS_AGE": 31536000,
             "PROGRAM": self.program, "STORE": self.store, "DESK_PORT": self.desk_port, "ZONE": "UTC0",
+            "STAFF_PORT": self.staff_port,
             "WEB": self.folder / "web", "NGINX_RUN": self.folder, "NGINX_WORK": self.folder / "work",
             "NGINX_LOG": self.folder, "NGINX_USER": "www-data" if os.geteuid() == 0 else getpass.getuser(),
         }
@@ -210,6 +212,20 @@ class Room:
 
     def logs(self):
         return b"".join(path.read_bytes() for path in self.folder.glob("*.log"))
+
+    def has_logged(self, words):
+        """Whether nginx logs some words, which it does only after it has replied."""
+        end = time.monotonic() + LIMIT
+        while time.monotonic() < end and words not in self.logs():
+            time.sleep(0.05)
+        return words in self.logs()
+
+
+def asked_at(port, asked):
+    with contextlib.closing(http.client.HTTPConnection(HOST, port, timeout=LIMIT)) as connection:
+        connection.request(asked.method, asked.path, asked.body, fields_of(asked))
+        reply = connection.getresponse()
+        return reply.status, reply.read()
 
 
 def fields_of(asked):

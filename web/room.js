@@ -1,161 +1,23 @@
-// The page for readers. It asks the desk by GET alone, and shows what comes as text: nothing that the desk or a disk
-// says is ever read as markup, as a script or as an address.
+// The page for readers. It asks the desk by GET alone.
 "use strict";
 
-const REFUSALS = {
-  "bad-head": "The desk could not read the request.",
-  framing: "The desk could not read the request.",
-  "no-route": "There is nothing at that address.",
-  method: "The desk does not answer that.",
-  "unknown-key": "The desk does not know this key.",
-  "staff-only": "That is for the staff.",
-  "no-accession": "There is no such disk.",
-  "no-file": "There is no file at that slot.",
-  denied: "You may not read this file.",
-  "listed-only": "This file is listed, but its kind is not given out.",
-  faulty: "This file is damaged on the disk, so its bytes are not given out.",
-  unavailable: "The desk cannot answer now. Ask again.",
-};
-
-const STATUSES = {
-  0: "The desk cannot be reached. Ask again later.",
-  403: "What stands before the desk refuses that.",
-  404: "There is nothing at that address.",
-  408: "The request took too long.",
-  429: "You ask too often. Wait a little and ask again.",
-  502: "The desk is closed at the moment. Ask again later.",
-  503: "The desk cannot answer now. Ask again.",
-  504: "The desk took too long. Ask again.",
-  changed: "What you may see has just changed. Ask again.",
-};
-
-const FAULTS = {
-  "bad-count": "an entry counts more records than it can hold",
-  duplicate: "two entries are the same part of it",
-  gap: "a part of it is missing",
-  short: "a part of it ends early",
-  hole: "a block of it is missing",
-  "off-disk": "it leads off the disk",
-  crossed: "it shares a block with something else",
-  "not-closed": "it was never closed",
-  loop: "its blocks lead back into themselves",
-  "read-error": "the drive could not read a block of it",
-};
-
-const DESK_RULES = { D0: "no rule lets anybody see it", K0: "the key is unknown", S0: "for the staff" };
-
-const KINDS = { cpm8: "CP/M, 8 inches", d64: "Commodore 1541", d64e: "Commodore 1541, with error bytes" };
-
-const part = (id) => document.getElementById(id);
-
-// The key, without blanks and tabs at its ends as in a field of HTTP, and how often the view has changed: a reply to an
-// earlier view is passed over.
-let key = "";
+// How often the view has changed: a reply to an earlier view is passed over.
 let turn = 0;
 
 // What the bytes that are shown are kept as for a download, until the view changes.
 let download = null;
 
-class Refused extends Error {
-  constructor(status, said) {
-    super(said.error);
-    this.status = status;
-    this.said = said;
-  }
-}
-
-// Elements
-
-function element(name, text, fields = {}) {
-  const made = document.createElement(name);
-  if (text !== null) made.textContent = text;
-  return Object.assign(made, fields);
-}
+// The list of all files that the key in use may know of, until the key changes or the reader asks anew; up to how many
+// bytes it is fetched, and how many files are shown of those that are found.
+let catalogue = null;
+const LONGEST_CATALOGUE = 5000000;
+const MOST_FOUND = 500;
 
 function link(text, place) {
   return element("a", text, { href: `#/${place}` });
 }
 
-function cell(label, content, kind = "") {
-  const made = element("td", null, { className: content === "" ? "empty" : kind });
-  made.dataset.label = label;
-  made.append(content instanceof Node ? content : element("span", content));
-  return made;
-}
-
-function table(caption, columns, rows) {
-  const heads = columns.map((column) => element("th", column, { scope: "col" }));
-  const head = element("thead", null);
-  const body = element("tbody", null);
-  const made = element("table", null);
-  made.setAttribute("aria-label", caption);
-  head.append(element("tr", null));
-  head.firstChild.append(...heads);
-  body.append(...rows);
-  made.append(head, body);
-  return made;
-}
-
-function row(cells) {
-  const made = element("tr", null);
-  made.append(...cells);
-  return made;
-}
-
-// The desk
-
-// A key may be any text; a field of HTTP holds bytes, so it goes as UTF-8.
-function fields() {
-  if (key === "") return {};
-  return { "Desk-Key": Array.from(new TextEncoder().encode(key), (byte) => String.fromCharCode(byte)).join("") };
-}
-
-async function ask(path) {
-  const options = { cache: "no-store", credentials: "omit", redirect: "error", headers: fields() };
-  const reply = await fetch(path, options).catch(() => {
-    throw new Refused(0, {});
-  });
-  if (reply.ok) return reply;
-  const said = await reply.json().catch(() => ({}));
-  throw new Refused(reply.status, said !== null && typeof said === "object" ? said : {});
-}
-
-const numberOf = (value) => (Number.isInteger(value) ? String(value) : "");
-const textOf = (value) => (typeof value === "string" ? value : "");
-const counted = (count, word) => `${count.toLocaleString("en")} ${word}${count === 1 ? "" : "s"}`;
-const listOf = (value) => (Array.isArray(value) ? value : []);
-const own = (words, word) => (Object.hasOwn(words, word) ? words[word] : "");
-
-function refusal(fault) {
-  const made = element("div", null, { className: "refused" });
-  if (!(fault instanceof Refused)) {
-    made.append(element("p", "The answer of the desk cannot be read."));
-    return made;
-  }
-  const name = textOf(fault.said.error);
-  const plain = own(REFUSALS, name) || own(STATUSES, String(fault.status)) || "The desk refuses that.";
-  made.append(element("p", plain));
-  if (name !== "") made.append(element("p", `Refusal: ${name}`, { id: "refusal" }));
-  if (textOf(fault.said.rule) !== "") {
-    made.append(element("p", `Rule: ${fault.said.rule}, ${meaning(fault.said.rule)}`, { id: "rule" }));
-  }
-  const words = listOf(fault.said.faults).map(textOf);
-  if (words.length) made.append(element("p", `Faults: ${words.map(explained).join("; ")}`, { id: "faults" }));
-  return made;
-}
-
-// What a rule's label says.
-function meaning(label) {
-  const [, band, scope, rank] = /^([TR])([0-9]+)\.([0-9]+)$/.exec(label) || [];
-  if (band === "T") return `takedown ${rank} of disk ${scope}`;
-  if (band === "R") return `rule ${rank} of deed ${scope}`;
-  return own(DESK_RULES, label) || "a rule";
-}
-
-function explained(word) {
-  const plain = own(FAULTS, word);
-  return plain === "" ? word : `${word} (${plain})`;
-}
+const asker = () => (key === "" ? "You ask as the public." : "You ask with a desk key.");
 
 // Views
 
@@ -163,25 +25,27 @@ function imageRow(image) {
   const number = numberOf(image.accession);
   return row([
     cell("Disk", link(`Disk ${number}`, number)),
-    cell("Kind", own(KINDS, textOf(image.kind)) || textOf(image.kind)),
+    cell("Kind", kindWords(image.kind)),
     cell("Deed", numberOf(image.deed), "number"),
     cell("Files", numberOf(image.files), "number"),
   ]);
 }
 
 async function showImages() {
-  const images = listOf((await (await ask("/images")).json()).images);
-  const none = "There is no disk of which you may see a file.";
+  const images = listOf((await askObject("/images")).images);
+  const none = `There is no disk of which you may see a file. ${asker()}`;
   const told = images.length ? `You may see files of ${counted(images.length, "disk")}.` : none;
   const parts = images.length ? [table("Disks", ["Disk", "Kind", "Deed", "Files"], images.map(imageRow))] : [];
-  return { heading: "Disks", told, parts: [...parts, diskForm()] };
+  return { heading: "Disks", told, parts: [findForm(""), ...parts, diskForm()] };
 }
 
-function fileRow(accession, file) {
+const FILE_COLUMNS = ["Slot", "Name", "Type", "User", "Bytes", "You may", "Rule"];
+
+function fileCells(accession, file) {
   const slot = numberOf(file.slot);
   const reads = file.effect === "read" && file.size !== null;
   const name = textOf(file.name);
-  return row([
+  return [
     cell("Slot", slot, "number"),
     cell("Name", reads ? link(name, `${accession}/${slot}`) : name, "name"),
     cell("Type", textOf(file.type)),
@@ -189,7 +53,7 @@ function fileRow(accession, file) {
     cell("Bytes", numberOf(file.size), "number"),
     cell("You may", permission(file)),
     cell("Rule", textOf(file.rule)),
-  ]);
+  ];
 }
 
 // What may be done with a file that is listed, and why no more than that.
@@ -201,22 +65,20 @@ function permission(file) {
 }
 
 async function showFiles(accession) {
-  const listing = await (await ask(`/images/${accession}`)).json();
+  const listing = await askObject(`/images/${accession}`);
   const files = listOf(listing.files);
-  const kind = own(KINDS, textOf(listing.kind)) || textOf(listing.kind);
-  const none = "There is no file on it that you may see.";
+  const none = `There is no file on it that you may see. ${asker()}`;
   const told = files.length ? `You may see ${counted(files.length, "file")}.` : none;
-  const columns = ["Slot", "Name", "Type", "User", "Bytes", "You may", "Rule"];
-  const rows = files.map((file) => fileRow(accession, file));
-  const parts = [element("p", `${kind}. Deed ${numberOf(listing.deed)}.`)];
-  if (files.length) parts.push(table("Files", columns, rows));
+  const rows = files.map((file) => row(fileCells(accession, file)));
+  const parts = [element("p", `${kindWords(listing.kind)}. Deed ${numberOf(listing.deed)}.`)];
+  if (files.length) parts.push(table("Files", FILE_COLUMNS, rows));
   return { heading: `Disk ${accession}`, told, parts: [...parts, slotForm(accession)] };
 }
 
 // The listing tells how the bytes are to be read, and is asked for first. A file that is given and was not listed was
 // opened in between.
 async function showFile(accession, slot) {
-  const listing = await (await ask(`/images/${accession}`)).json();
+  const listing = await askObject(`/images/${accession}`);
   const reply = await ask(`/images/${accession}/files/${slot}`);
   const bytes = new Uint8Array(await reply.arrayBuffer());
   const file = listOf(listing.files).find((one) => one.slot === Number(slot));
@@ -230,6 +92,73 @@ async function showFile(accession, slot) {
     showBytes(bytes, text, text !== null);
   };
   return { heading: textOf(file.name) || `Slot ${slot}`, told, parts, fill };
+}
+
+// The list of all files
+
+// The records of a table of CSV that ends with a line feed. A field in quotes has its own quotes doubled.
+function recordsOf(text) {
+  const records = [[]];
+  for (const [, quoted, plain, end] of text.matchAll(/(?:"((?:[^"]|"")*)"|([^",\n]*))([,\n])/g)) {
+    records.at(-1).push(quoted === undefined ? plain : quoted.replaceAll('""', '"'));
+    if (end === "\n") records.push([]);
+  }
+  return records.slice(0, -1);
+}
+
+// A record as the file that it tells of.
+function fileOf([accession, , , slot, user, name, type, size, faults, rule, effect]) {
+  const number = (text) => (text === "" ? null : Number(text));
+  const numbers = { accession: number(accession), slot: number(slot), user: number(user), size: number(size) };
+  return { ...numbers, name, type, faults: faults.split(" ").filter(Boolean), rule, effect };
+}
+
+async function fetchCatalogue() {
+  const stop = new AbortController();
+  const reply = await ask("/catalogue", { signal: stop.signal });
+  if (Number(reply.headers.get("Content-Length") ?? Infinity) > LONGEST_CATALOGUE) {
+    stop.abort();
+    throw new Refused("long", {});
+  }
+  const text = await reply.text().catch(() => {
+    throw new Refused(0, {});
+  });
+  return { files: recordsOf(text).slice(1).map(fileOf), at: new Date() };
+}
+
+async function theCatalogue() {
+  const asked = key;
+  const fetched = catalogue ?? (await fetchCatalogue());
+  if (asked === key) catalogue = fetched;
+  return fetched;
+}
+
+function foundRow(file) {
+  const number = numberOf(file.accession);
+  return row([cell("Disk", link(`Disk ${number}`, number)), ...fileCells(number, file)]);
+}
+
+// Small and capital letters are alike here.
+async function showFound(words) {
+  const { files, at } = await theCatalogue();
+  const found = files.filter((file) => file.name.toLowerCase().includes(words.toLowerCase()));
+  const shown = found.slice(0, MOST_FOUND);
+  const time = at.toLocaleTimeString("en-GB", { hour: "2-digit", minute: "2-digit" });
+  const more = found.length > shown.length ? ` The first ${MOST_FOUND} are shown.` : "";
+  const none = `There is no file with \u201c${words}\u201d in its name that you may see. ${asker()}`;
+  const told = found.length ? `You may see ${counted(found.length, "file")} with it in the name.${more}` : none;
+  const parts = [findForm(words), element("p", `The list of all files is that of ${time}.`), anewButton()];
+  if (shown.length) parts.push(table("Files", ["Disk", ...FILE_COLUMNS], shown.map(foundRow)));
+  return { heading: `\u201c${words}\u201d`, told, parts };
+}
+
+function anewButton() {
+  const made = element("button", "Fetch the list anew", { id: "anew", type: "button" });
+  made.addEventListener("click", () => {
+    catalogue = null;
+    show(true);
+  });
+  return made;
 }
 
 // Bytes
@@ -306,10 +235,10 @@ function showBytes(bytes, text, asText) {
 
 // Forms
 
-function numberForm(id, label, button, pattern, place) {
+// A form with one field, which leads to the place of what is typed.
+function placeForm(id, label, button, place, limits) {
   const made = element("form", null, { id: `${id}-form`, autocomplete: "off" });
-  const digits = { type: "text", inputMode: "numeric", size: 7, pattern, required: true };
-  const field = element("input", null, { id, ...digits });
+  const field = element("input", null, { id, type: "text", required: true, ...limits });
   made.append(element("label", label, { htmlFor: id }), field, element("button", button, { type: "submit" }));
   made.addEventListener("submit", (event) => {
     event.preventDefault();
@@ -320,18 +249,28 @@ function numberForm(id, label, button, pattern, place) {
   return made;
 }
 
+const digits = (pattern) => ({ inputMode: "numeric", size: 7, pattern });
+
 function diskForm() {
-  return numberForm("disk", "Disk by its number", "Go", "[1-9][0-9]{0,5}", (number) => number);
+  return placeForm("disk", "Disk by its number", "Go", (number) => number, digits("[1-9][0-9]{0,5}"));
 }
 
 function slotForm(accession) {
-  return numberForm("slot", "File by its slot", "Ask for it", "0|[1-9][0-9]{0,3}", (slot) => `${accession}/${slot}`);
+  const place = (slot) => `${accession}/${slot}`;
+  return placeForm("slot", "File by its slot", "Ask for it", place, digits("0|[1-9][0-9]{0,3}"));
+}
+
+function findForm(words) {
+  const place = (typed) => `find/${encodeURIComponent(typed)}`;
+  const limits = { value: words, maxLength: 64, autocapitalize: "none", spellcheck: false };
+  return placeForm("find", "Files by a part of the name", "Find", place, limits);
 }
 
 // Where the reader is
 
-function places(accession, slot) {
+function places({ accession, slot, words }) {
   const steps = [link("Disks", "")];
+  if (words) steps.push(element("span", "files by name"));
   if (accession) steps.push(link(`Disk ${accession}`, accession));
   if (slot) steps.push(element("span", `slot ${slot}`));
   part("places").replaceChildren(...steps.flatMap((step, at) => (at ? [" / ", step] : [step])));
@@ -339,10 +278,21 @@ function places(accession, slot) {
 
 function place() {
   const [, accession, slot] = /^#\/([1-9][0-9]{0,5})(?:\/(0|[1-9][0-9]{0,3}))?$/.exec(location.hash) || [];
-  return { accession, slot };
+  const [, words] = /^#\/find\/(.+)$/.exec(location.hash) || [];
+  return { accession, slot, words: words && decoded(words) };
 }
 
-function asked({ accession, slot }) {
+// What stands in an address that somebody may have typed.
+function decoded(words) {
+  try {
+    return decodeURIComponent(words);
+  } catch {
+    return words;
+  }
+}
+
+function asked({ accession, slot, words }) {
+  if (words !== undefined) return showFound(words);
   if (slot !== undefined) return showFile(accession, slot);
   if (accession !== undefined) return showFiles(accession);
   if (!["", "#", "#/"].includes(location.hash)) throw new Refused(404, { error: "no-route" });
@@ -356,17 +306,19 @@ function display(heading, told, parts) {
   part("view").replaceChildren(...parts);
 }
 
-function refusedView({ accession, slot }, fault) {
+function refusedView({ accession, slot, words }, fault) {
+  const told = "Refused.";
+  if (words !== undefined) return { heading: "Files by name", told, parts: [refusal(fault), findForm(words)] };
   const name = accession === undefined ? "Disks" : `Disk ${accession}`;
   const heading = slot === undefined ? name : `${name}, slot ${slot}`;
   const form = slot === undefined ? diskForm() : slotForm(accession);
-  return { heading, told: "Refused.", parts: [refusal(fault), form] };
+  return { heading, told, parts: [refusal(fault), form] };
 }
 
 async function show(focuses) {
   const here = place();
   const mine = ++turn;
-  places(here.accession, here.slot);
+  places(here);
   part("status").textContent = "The desk is asked.";
   part("view").setAttribute("aria-busy", "true");
   const came = await Promise.resolve(here).then(asked).catch((fault) => refusedView(here, fault));
@@ -381,23 +333,12 @@ async function show(focuses) {
 
 function useKey(given) {
   key = given;
-  part("key").value = "";
+  catalogue = null;
   part("forget").hidden = key === "";
-  part("caller").textContent = key === "" ? "You ask as the public." : "You ask with a desk key.";
+  part("caller").textContent = asker();
   show(false);
 }
 
-part("key-form").addEventListener("submit", (event) => {
-  event.preventDefault();
-  useKey(part("key").value.replace(/^[ \t]+|[ \t]+$/g, ""));
-});
-part("forget").addEventListener("click", () => {
-  useKey("");
-  part("key").focus();
-});
-part("skip").addEventListener("click", (event) => {
-  event.preventDefault();
-  part("heading").focus();
-});
+listenForKey(useKey);
 window.addEventListener("hashchange", () => show(true));
 show(false);

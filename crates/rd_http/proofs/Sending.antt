@@ -1,11 +1,13 @@
 -- What of a text has gone out.
-use Rattle.std.proofs.Common.{◌≡◌, ◌∙◌, ℕ, ◌+◌, ◌-◌, ◌<◌, ◌≤◌, List, [], ◌∷◌, ◌++◌, Option, Result, Ok, Err, append-nil, append_assoc, drop, length, length-append, length-drop, take, subst, sym, ap, arith}
+use Rattle.std.proofs.Common.{◌≡◌, ◌∙◌, ℕ, ◌+◌, ◌-◌, ◌<◌, ◌≤◌, List, [], ◌∷◌, ◌++◌, IfSome, IsOk, None, Option, Result, Some, Ok, Err, append-nil, append_assoc, codes, drop, length, length-append, length-drop, refl, take, subst, sym, ap, arith}
 use Rattle.std.specs.List.{concat}
 use Rattle.std.specs.Io.KnownBytes.{Appends, Keeps}
 use Rattle.std.proofs.KnownBytes.{Appends-kept, Appends-trans}
 use Rattle.std.proofs.lemmas.List.{take-append-drop, take_all}
 use Rattle.std.proofs.lemmas.List.Folds.{concat-append}
 use lib.Seq.{take-add}
+use Rattle.rd_desk.specs.declared.said.Reply.{Reply}
+use Rattle.rd_http.specs.ReplyText.{head_text, reply_bytes}
 use Rattle.rd_http.specs.Sent.{Sends, SendsPart}
 
 -- one more write of what is left
@@ -50,3 +52,17 @@ piece_part old mid new before after piece text are sent (part, rest, whole, some
   omega (arith, some, length-append rest (concat after)),
   Appends-trans old mid new (concat before) part sent out,
 )
+
+-- no reply is empty
+pub some_reply : (extra : List ℕ) (reply : Reply) → 0 < length (reply_bytes extra reply)
+unfolding reply_bytes head_text
+some_reply extra reply = omega arith
+
+-- A text of which the wire may hold a part back, and what is held back is sent: all of the text went out; where that
+-- failed, the wire does not tell its bytes.
+pub then_flushed : {E : Type 0} (old mid new : Option (List ℕ)) (result : Result (Unit {0}) E) (text : List ℕ) → 0 < length text → Appends old mid text
+    → new ≡ mid → IfSome mid (λ _. IsOk result) → Sends old new result text
+then_flushed old mid new (Ok done) text some put kept told = subst (λ bytes. Appends old bytes text) (sym kept) put
+then_flushed None mid new (Err fault) text some put kept told = ([], text, refl, some, tt)
+then_flushed (Some before) None new (Err fault) text some put kept told = absurd put
+then_flushed (Some before) (Some after) new (Err fault) text some put kept told = absurd cc

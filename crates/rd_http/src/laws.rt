@@ -9,7 +9,7 @@ pub fn one_asked()
 {}
 
 /// Law: what is replied to the bytes of a visit is replied to them in each desk that looks alike to the visitor, so that
-/// the bytes which go to him rest on no byte of an image that is hidden from him.
+/// the bytes which go to them rest on no byte of an image that is hidden from them.
 pub fn hidden_bytes_reach_no_visitor()
     ensures { HiddenBytesReachNoVisitor }
 {}

@@ -41,6 +41,8 @@ impl Wire for MemoryWire {
 
     ghost put_failed = { λ wire. wire.put_failed };
 
+    ghost unsent = { λ _. 0 };
+
     fn take(&mut self, into: &mut [u8]) -> Result<usize, Broken> {
         let count = copy_front(&self.came.as_slice()[self.taken..], into);
         self.taken += count;
@@ -53,6 +55,10 @@ impl Wire for MemoryWire {
             return Err(Broken);
         }
         Ok(bytes.len())
+    }
+
+    fn flush(&mut self) -> Result<(), Broken> {
+        Ok(())
     }
 }
 

@@ -5,20 +5,29 @@ ghost use Rattle.std.specs.Prelude.{◌≡◌, ◌≤◌, None, false};
 use crate::memory::copy_front;
 use crate::wire::{Broken, Door, Shut, Wire};
 use std::io::{Read, Write};
-use std::net::{TcpListener, TcpStream};
+use std::net::{Shutdown, TcpListener, TcpStream};
+use std::time::Duration;
 
 /// A clock.
 pub trait Clock {
     /// The seconds since 1970-01-01T00:00:00 UTC; `None` where the clock fails.
     fn now(&mut self) -> Option<i64>;
+
+    /// The milliseconds since a moment that stays the same; `None` where the clock fails.
+    fn milliseconds(&mut self) -> Option<u64>;
 }
+
+/// How long a connection lingers at most, in milliseconds.
+const LINGER_MILLISECONDS: u64 = 200;
+
+/// How many bytes are read at most while a connection lingers.
+const LINGER_BYTES: usize = 4_194_304;
 
 /// A connection over TCP, and whether a read and whether a write of it has failed. A call that was interrupted
 /// has failed.
 ///
 /// It holds back up to 16,384 bytes that were put, so that a file's many short slices take few calls of the system.
-/// They are sent as soon as there is no room for more, and the last of them by `leave` of its door; that this last
-/// sending fails is not told.
+/// They are sent as soon as there is no room for more, and the last of them by `flush`.
 #[derive(Drop)]
 pub struct TcpWire {
     stream: TcpStream,
@@ -30,7 +39,7 @@ pub struct TcpWire {
 }
 
 /// Sends bytes over a stream. It fails with `Broken` where a write fails or takes no byte.
-fn send(stream: &mut TcpStream, bytes: &[u8]) -> Result<(), Broken> {
+fn send(mut stream: &TcpStream, bytes: &[u8]) -> Result<(), Broken> {
     let mut sent = 0;
     while sent < bytes.len() {
         match stream.write(&bytes[sent..]) {
@@ -46,6 +55,7 @@ impl TcpWire {
     fn new(stream: TcpStream) -> TcpWire
         ensures take { result.take_failed ≡ false }
         ensures put { result.put_failed ≡ false }
+        ensures unsent { result.len ≡ 0 }
     {
         TcpWire {
             stream,
@@ -68,6 +78,8 @@ impl Wire for TcpWire {
 
     ghost put_failed = { λ wire. wire.put_failed };
 
+    ghost unsent = { λ wire. wire.len };
+
     fn take(&mut self, into: &mut [u8]) -> Result<usize, Broken> {
         match self.stream.read(into) {
             Ok(count) => Ok(count),
@@ -80,15 +92,21 @@ impl Wire for TcpWire {
 
     fn put(&mut self, bytes: &[u8]) -> Result<usize, Broken> {
         if self.len == self.held.len() {
-            if send(&mut self.stream, &self.held).is_err() {
-                self.put_failed = true;
-                return Err(Broken);
-            }
-            self.len = 0;
+            self.flush()?;
         }
         let count = copy_front(bytes, &mut self.held[self.len..]);
         self.len += count;
         Ok(count)
+    }
+
+    fn flush(&mut self) -> Result<(), Broken> {
+        let wire = &*self;
+        if send(&wire.stream, &wire.held[..wire.len]).is_err() {
+            self.put_failed = true;
+            return Err(Broken);
+        }
+        self.len = 0;
+        Ok(())
     }
 }
 
@@ -121,6 +139,46 @@ fn next_visitor<C: Clock>(listener: &TcpListener, clock: &mut C) -> Option<(i64,
     Some((moment, stream))
 }
 
+/// What is left of the time that a connection lingers, which began at this millisecond; `None` where it is over,
+/// or where the clock fails or has gone back.
+fn time_left<C: Clock>(clock: &mut C, began: u64) -> Option<Duration> {
+    let passed = clock.milliseconds()?.checked_sub(began)?;
+    match LINGER_MILLISECONDS.checked_sub(passed)? {
+        0 => None,
+        left => Some(Duration::from_millis(left)),
+    }
+}
+
+/// Reads what a peer still sends into a buffer, and says how many bytes it was; `None` where the peer has ended,
+/// nothing has come in this time, or the connection fails.
+fn read_within(stream: &mut TcpStream, buffer: &mut [u8], time: Duration) -> Option<usize> {
+    stream.set_read_timeout(Some(time)).ok()?;
+    match stream.read(buffer) {
+        Ok(count) if count > 0 => Some(count),
+        _ => None,
+    }
+}
+
+/// Reads what a peer still sends, until it ends, and throws it away: for `LINGER_MILLISECONDS` at most, by this clock,
+/// and at most `LINGER_BYTES`. A connection that is closed with bytes unread is reset, and the peer may then lose what
+/// it has not yet read of the reply.
+fn linger<C: Clock>(stream: &mut TcpStream, buffer: &mut [u8], clock: &mut C) {
+    let Some(began) = clock.milliseconds() else {
+        return;
+    };
+    let mut left = LINGER_BYTES;
+    for _ in 0..LINGER_BYTES {
+        let Some(time) = time_left(clock, began) else {
+            return;
+        };
+        let most = buffer.len().min(left);
+        match read_within(stream, &mut buffer[..most], time) {
+            Some(count) if count < left => left -= count,
+            _ => return,
+        }
+    }
+}
+
 impl<C: Clock> Door for TcpDoor<C> {
     type Conn = TcpWire;
 
@@ -146,13 +204,11 @@ impl<C: Clock> Door for TcpDoor<C> {
     fn leave(&mut self, conn: TcpWire) {
         let TcpWire {
             mut stream,
-            held,
-            len,
-            put_failed,
+            mut held,
             ..
         } = conn;
-        if !put_failed {
-            let _ = send(&mut stream, &held[..len]);
+        if stream.shutdown(Shutdown::Write).is_ok() {
+            linger(&mut stream, &mut held, &mut self.clock);
         }
     }
 }

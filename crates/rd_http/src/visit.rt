@@ -58,8 +58,8 @@ fn answer_to<S: Alter>(alloc: Global, seconds: i64, desk: &mut Desk<S>, reading:
     }
 }
 
-/// Sends an answer.
-fn send<W: Wire>(wire: &mut W, answer: Answer) -> Result<(), Broken>
+/// Puts an answer, of which the wire may hold a part back.
+fn put_answer<W: Wire>(wire: &mut W, answer: Answer) -> Result<(), Broken>
     requires ready { W.put_failed wire.old ≡ false }
     ensures sends { Sends (W.outgoing wire.old) (W.outgoing wire.new) result (text_of answer) }
     ensures failed { IsErr result ↔ (W.put_failed wire.new ≡ true) }
@@ -74,13 +74,30 @@ fn send<W: Wire>(wire: &mut W, answer: Answer) -> Result<(), Broken>
     }
 }
 
+/// Sends an answer, so that the wire holds nothing of it back.
+fn send<W: Wire>(wire: &mut W, answer: Answer) -> Result<(), Broken>
+    requires ready { W.put_failed wire.old ≡ false }
+    ensures sends { Sends (W.outgoing wire.old) (W.outgoing wire.new) result (text_of answer) }
+    ensures flushed { IfOk result (λ _. W.unsent wire.new ≡ 0) }
+    ensures failed { IsErr result ↔ (W.put_failed wire.new ≡ true) }
+    ensures kept { W.incoming wire.new ≡ W.incoming wire.old }
+    ensures came { W.came wire.new ≡ W.came wire.old }
+    ensures take_kept { W.take_failed wire.new ≡ W.take_failed wire.old }
+{
+    match put_answer(wire, answer) {
+        Ok(()) => wire.flush(),
+        Err(broken) => Err(broken),
+    }
+}
+
 /// Serves one visit at a moment, in seconds since 1970-01-01T00:00:00 UTC: reads one request, and no byte
 /// beyond what a head and a body may have (270,336), has the desk answer it, and writes the reply. Where the
 /// bytes are no request, the reply says why; where memory is wanting or the store fails, that the desk is
-/// unavailable. What goes to who asks a question rests on no byte of an image that is hidden from him (`hidden`).
+/// unavailable. What goes to someone who asks a question rests on no byte that is hidden from them (`hidden`).
 ///
 /// It fails with `Clock` exactly where the moment has no day; with `Read` exactly where a read failed, and
-/// with `Write` exactly where a write failed or took no byte. After a fault no read or write is made.
+/// with `Write` exactly where a write failed or took no byte, the last sending of what the wire held back among them.
+/// After a fault no read or write is made.
 pub fn serve_one<S: Alter, W: Wire>(
     alloc: Global,
     wire: &mut W,
@@ -99,6 +116,7 @@ pub fn serve_one<S: Alter, W: Wire>(
     ensures clock { (result ≢ Err WireFault.Clock) ↔ HasDay seconds }
     ensures read { (result ≡ Err WireFault.Read) ↔ (W.take_failed wire.new ≡ true) }
     ensures write { (result ≡ Err WireFault.Write) ↔ (W.put_failed wire.new ≡ true) }
+    ensures flushed { IfOk result (λ _. W.unsent wire.new ≡ 0) }
     ensures untouched { result ≡ Err WireFault.Clock → (wire.new ≡ wire.old) × (desk.new ≡ desk.old) }
     ensures unread { result ≡ Err WireFault.Read → (W.outgoing wire.new ≡ W.outgoing wire.old) × (desk.new ≡ desk.old) }
     ensures bounded { TakesUpTo 270_336 (W.incoming wire.old) (W.incoming wire.new) }

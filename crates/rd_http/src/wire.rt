@@ -1,6 +1,6 @@
 //! What a visit reads and writes, and where visits come from.
 
-ghost use Rattle.std.specs.Prelude.{◌≡◌, ◌↔◌, ℕ, ℤ, List, Option, None, Bool, true, false, length, IsErr, IfOk, option_map};
+ghost use Rattle.std.specs.Prelude.{◌≡◌, ◌↔◌, ℕ, ℤ, List, Option, None, Bool, true, false, length, IsErr, IsOk, IfOk, IfSome, option_map};
 ghost use Rattle.std.specs.Result.{result_ok};
 ghost use Rattle.std.specs.Io.{ReadsAtMost, WritesAtMost};
 ghost use Rattle.std.specs.Io.KnownBytes.{ReadConsumes, WriteAppends};
@@ -28,6 +28,9 @@ pub trait Wire {
     /// Whether a write has failed.
     ghost put_failed: { Self → Bool };
 
+    /// How many bytes were put and are not sent yet.
+    ghost unsent: { Self → ℕ };
+
     /// Reads bytes into the front of a slice, and says how many they are, at most its length. No byte
     /// into a slice that is not empty is the end.
     ///
@@ -50,6 +53,20 @@ pub trait Wire {
         ensures bound { WritesAtMost result bytes.now }
         ensures some { IfOk result (λ n. n ≡ 0 → length bytes.now ≡ 0) }
         ensures bytes { WriteAppends (outgoing self.old) (outgoing self.new) result bytes.now }
+        ensures failed { IsErr result ↔ (put_failed self.new ≡ true) }
+        ensures came { came self.new ≡ came self.old }
+        ensures kept { incoming self.new ≡ incoming self.old }
+        ensures take_kept { take_failed self.new ≡ take_failed self.old };
+
+    /// Sends what was put and is held back. A wire that tells its bytes sends them as they are put, so that this
+    /// does not fail there.
+    ///
+    /// It fails with `Broken` where the connection fails or takes no byte; no write is made after that.
+    fn flush(&mut self) -> Result<(), Broken>
+        requires { put_failed self.old ≡ false }
+        ensures sent { IfOk result (λ _. unsent self.new ≡ 0) }
+        ensures tells { IfSome (outgoing self.old) (λ _. IsOk result) }
+        ensures bytes { outgoing self.new ≡ outgoing self.old }
         ensures failed { IsErr result ↔ (put_failed self.new ≡ true) }
         ensures came { came self.new ≡ came self.old }
         ensures kept { incoming self.new ≡ incoming self.old }
@@ -86,14 +103,17 @@ pub trait Door {
         ensures tells { IfOk result (λ visit. TellsToo (told self.old) (Self.Conn.came visit.1) (Self.Conn.outgoing visit.1)) }
         ensures ready { IfOk result (λ visit. Self.Conn.take_failed visit.1 ≡ false) }
         ensures put_ready { IfOk result (λ visit. Self.Conn.put_failed visit.1 ≡ false) }
+        ensures unsent { IfOk result (λ visit. Self.Conn.unsent visit.1 ≡ 0) }
         ensures next { IfOk result (λ visit. TakesNext (coming self.old) (coming self.new) visit.0 (Self.Conn.came visit.1)) }
         ensures kept { IsErr result → coming self.new ≡ coming self.old }
         ensures shut { IsErr result ↔ (has_shut self.new ≡ true) }
         ensures stays { has_shut self.old ≡ true → IsErr result }
         ensures last { has_shut self.old ≡ false → IsErr result → NoneToCome (told self.old) (coming self.old) };
 
-    /// Ends the visit under way, which was made over this connection.
+    /// Ends the visit under way, which was made over this connection. All that was put is sent, unless a read or a
+    /// write has failed.
     fn leave(&mut self, conn: Self::Conn)
+        requires { Self.Conn.take_failed conn ≡ false → Self.Conn.put_failed conn ≡ false → Self.Conn.unsent conn ≡ 0 }
         ensures told { Leaves (told self.old) (told self.new) (Self.Conn.came conn) (Self.Conn.outgoing conn)
             (Self.Conn.take_failed conn) (Self.Conn.put_failed conn) }
         ensures kept { coming self.new ≡ coming self.old }

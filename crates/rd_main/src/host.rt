@@ -8,18 +8,27 @@ use std::alloc::{AllocError, Global};
 use std::io::{BufWriter, ErrorKind, Read};
 use std::net::{Ipv4Addr, TcpListener};
 use std::process::ExitCode;
-use std::time::{SystemTime, UNIX_EPOCH};
+use std::time::{Instant, SystemTime, UNIX_EPOCH};
 use std::{env, fs};
+
+/// How many bytes a sheet has at most: 64 MiB.
+const SHEET_LIMIT: u64 = 67_108_864;
 
 /// The clock of the machine.
 #[derive(Drop)]
 pub(crate) struct HostClock<'a> {
     rt: &'a HostRuntime,
+    /// When it was made.
+    start: Instant,
 }
 
 impl Clock for HostClock<'_> {
     fn now(&mut self) -> Option<i64> {
         seconds_now(self.rt)
+    }
+
+    fn milliseconds(&mut self) -> Option<u64> {
+        u64::try_from(self.start.elapsed(self.rt).ok()?.as_millis()).ok()
     }
 }
 
@@ -52,9 +61,15 @@ impl<'a> Machine for Host<'a> {
         Ok(read_front(alloc, Kind::Cpm8.size() + 1, &mut file)?)
     }
 
+    /// Reads at most one byte more than a sheet may have, so that a device that never ends does no harm here either.
     fn read_sheet(&mut self, alloc: Global, path: &str) -> Result<Vec<u8>, MachineFault> {
         let mut bytes = Vec::new(alloc);
-        fs::open(self.rt, path)?.read_to_end(&mut bytes)?;
+        let count = fs::open(self.rt, path)?
+            .take(SHEET_LIMIT + 1)
+            .read_to_end(&mut bytes)?;
+        if count as u64 > SHEET_LIMIT {
+            return Err(MachineFault::Failed);
+        }
         Ok(bytes)
     }
 
@@ -75,7 +90,10 @@ impl<'a> Machine for Host<'a> {
 
     fn listen(&mut self, port: u16) -> Result<&mut TcpDoor<HostClock<'a>>, MachineFault> {
         let listener = TcpListener::bind(self.rt, (Ipv4Addr::LOCALHOST, port))?;
-        let clock = HostClock { rt: self.rt };
+        let clock = HostClock {
+            rt: self.rt,
+            start: Instant::now(self.rt)?,
+        };
         Ok(self.door.insert(TcpDoor::new(listener, clock)))
     }
 }

@@ -24,7 +24,9 @@ made_as g stands left r path store bytes key same trimmed made =
     subst (λ p. OnOk r (MakesDesk g (stands p) left (sha256 (trim_ows key)))) same (subst (λ b. OnOk r (MakesDesk g (stands path) left (sha256 b))) trimmed made)
 
 -- and so of what is left where it is refused
-pub left_as : {S T : Type 0} (g : Ghosts S) (stands : List ℕ → Option (Held S)) (left : Option (Held S)) (r : Result T Refusal) (path store bytes key : List ℕ)
-    → path ≡ store → bytes ≡ trim_ows key → IfErr r (LeavesInit g (stands path) left (sha256 bytes)) → IfErr r (LeavesInit g (stands store) left (sha256 (trim_ows key)))
-left_as g stands left r path store bytes key same trimmed leaves =
-    subst (λ p. IfErr r (LeavesInit g (stands p) left (sha256 (trim_ows key)))) same (subst (λ b. IfErr r (LeavesInit g (stands path) left (sha256 b))) trimmed leaves)
+pub left_as : {S T : Type 0} (g : Ghosts S) (was : Option (Held S)) (stands : List ℕ → Option (Held S)) (left : Option (Held S)) (r : Result T Refusal)
+    (path store bytes key : List ℕ) → path ≡ store → bytes ≡ trim_ows key → IfErr r (LeavesInit g was (stands path) left (sha256 bytes))
+    → IfErr r (LeavesInit g was (stands store) left (sha256 (trim_ows key)))
+left_as g was stands left r path store bytes key same trimmed leaves =
+    subst (λ p. IfErr r (LeavesInit g was (stands p) left (sha256 (trim_ows key)))) same
+    (subst (λ b. IfErr r (LeavesInit g was (stands path) left (sha256 b))) trimmed leaves)

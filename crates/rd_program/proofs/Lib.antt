@@ -17,3 +17,6 @@ pub mod RowFields
 pub mod Imported
 pub mod Answered
 pub mod Pieces
+pub mod Left
+pub mod Stepped
+pub mod LeftBy

@@ -1,11 +1,12 @@
 -- What the command `init` gives.
-use Rattle.std.specs.Prelude.{◌≡◌, ◌⊎◌, ⊤, ℕ, IfSome, List, Option, ◌++◌, codes}
+use Rattle.std.specs.Prelude.{◌≡◌, ◌⊎◌, ⊤, ℕ, List, Option, ◌++◌, codes}
 use Rattle.std.specs.Io.KnownBytes.{Keeps}
 use Rattle.sqlite.specs.Store.{Ghosts}
 use Rattle.sqlite.specs.Held.{Held}
 use Rattle.rd_store.specs.Created.{IsCreated, IsNotCreated}
 use Rattle.rd_store.specs.declared.faults.CreateFault.{CreateFault}
 use Rattle.rd_store.specs.declared.faults.CreateFault.TheVariants as create
+use Rattle.rd_program.specs.Leaves.{IfBoth, Leaves, LeavesNone}
 use Rattle.rd_program.specs.Output.{AppendsPart}
 use Rattle.rd_program.specs.Printed.{line_feed}
 use Rattle.rd_program.specs.Refusals.{refusal_to_create}
@@ -23,20 +24,19 @@ pub record NotMade {S : Type 0} (g : Ghosts S) (old new : Held S) (staff : List 
   pub told : refusal ≡ refusal_to_create fault
   pub not_created : IsNotCreated g old new staff fault
 
--- what holds of the connection that stood for the store and of the one that was left, where both are told
-abbrev pub IfBoth : {S : Type 0} → Option (Held S) → Option (Held S) → (Held S → Held S → Type 0) → Type 0
-IfBoth old new P = IfSome old (λ before. IfSome new (P before))
-
 -- the desk was made, with this one staff key, where both are told
 abbrev pub MakesDesk : {S : Type 0} → Ghosts S → Option (Held S) → Option (Held S) → List ℕ → Type 0
 MakesDesk g old new staff = IfBoth old new (λ before after. IsCreated g before after staff)
 
--- What stands where `init` is refused: the new desk where the device failed, and where a desk stood already what stood;
--- of other refusals nothing is said.
-abbrev pub LeavesInit : {S : Type 0} → Ghosts S → Option (Held S) → Option (Held S) → List ℕ → Refusal → Type 0
-LeavesInit g old new staff Device = MakesDesk g old new staff
-LeavesInit g old new staff Exists = IfBoth old new (λ before after. IsNotCreated g before after staff create.Exists)
-LeavesInit g old new staff refusal = ⊤
+-- What stands where `init` is refused, by what was told before of the connection that was left, by the one that stood and by
+-- the one that is left: the new desk where the device failed, and where a desk stood already what stood; where the store
+-- failed the database is as it was, or there was no connection; and where memory was refused there was none.
+abbrev pub LeavesInit : {S : Type 0} → Ghosts S → Option (Held S) → Option (Held S) → Option (Held S) → List ℕ → Refusal → Type 0
+LeavesInit g was old new staff Device = MakesDesk g old new staff
+LeavesInit g was old new staff Exists = IfBoth old new (λ before after. IsNotCreated g before after staff create.Exists)
+LeavesInit g was old new staff Store = Leaves was old new (λ before after. IsNotCreated g before after staff create.Sql)
+LeavesInit g was old new staff NoMemory = LeavesNone was new
+LeavesInit g was old new staff refusal = ⊤
 
 -- why no desk is made
 abbrev pub IsInitRefusal : Refusal → Type 0

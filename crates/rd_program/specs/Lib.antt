@@ -16,3 +16,4 @@ pub mod Sheets
 pub mod Importing
 pub mod Asking
 pub mod Versions
+pub mod Leaves

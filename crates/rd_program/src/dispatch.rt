@@ -1,18 +1,20 @@
-ghost use Rattle.std.specs.Prelude.{◌≡◌, ◌≢◌, ◌⊎◌, ◌≤◌, ◌+◌, ⊤, IfErr, IfOk, IfSome, List, OnOk, codes, map, ℕ, ℤ};
+ghost use Rattle.std.specs.Prelude.{◌≡◌, ◌≢◌, ◌⊎◌, ◌≤◌, ◌+◌, ⊤, IfErr, IfOk, IfSome, List, OnOk, Option, codes, map, ℕ, ℤ};
 ghost use Rattle.std.specs.Io.KnownBytes.{Appends, Keeps};
 ghost use Rattle.httparse.specs.Grammar.{trim_ows};
 ghost use Rattle.sha2.specs.Sha256.{sha256};
 ghost use Rattle.rd_geometry.specs.Kinds.{size_of};
+ghost use Rattle.rd_store.specs.Held.{Lasts};
 ghost use Rattle.rd_geometry.specs.declared.kind.Kind.{Kind};
 ghost use Rattle.rd_geometry.specs.declared.kind.Kind.TheVariants as kinds;
 ghost use Rattle.rd_program.specs.Asking.{RefusesOnce, TellsCheck};
 ghost use Rattle.rd_program.specs.Asks.{AsksADesk, AsksCheckOf, IsWithinLimits, IsFileAsk, IsFilesAsk, IsInitAsk, IsServeAsk, TellsInRows, TellsOnOutput, most_read};
 ghost use Rattle.rd_program.specs.Cat.{HasNoSoundFile, IsCut, Refuses, Serves};
 ghost use Rattle.rd_program.specs.CommandLine.{AsksForHelp, AsksForVersion, IsTaken, IsTakenTelling};
-ghost use Rattle.rd_program.specs.Commands.{AsksInit, AsksOfStore, AsksServe, IsCheckOf, IsCommand, IsExport, IsImport, TellsARule};
+ghost use Rattle.rd_program.specs.Commands.{AsksCheck, AsksExport, AsksImport, AsksInit, AsksOfStore, AsksServe, IsCheckOf, IsCommand, IsImport, TellsARule};
 ghost use Rattle.rd_program.specs.Importing.{GainsLines, IsDoneLine, IsRowLine, RefusesImport, TellsRows};
 ghost use Rattle.rd_program.specs.Inits.{LeavesInit, MakesDesk, RefusesInit, done_line};
 ghost use Rattle.rd_program.specs.Input.{ReadsUpTo};
+ghost use Rattle.rd_program.specs.Leaves.{Checks, IsDayBy, IsSame, Leaves, LeavesBy, LeavesDesk, LeavesRefused, LeavesServe, NamesOpening, TakesIn};
 ghost use Rattle.rd_program.specs.Listed.{Lists, RefusesList};
 ghost use Rattle.rd_program.specs.Refusals.{status_of};
 ghost use Rattle.rd_program.specs.Serving.{RefusesServe, serve_text};
@@ -66,7 +68,7 @@ fn perform<R: Read, W: Write, M: Machine>(
         × Appends (W.contents output.old) (W.contents output.new) done_line) }
     ensures not_made { (store key : List ℕ) → IsInitAsk store key ask.entry
         → IfErr result (λ refusal. RefusesInit refusal (W.contents output.old) (W.contents output.new)
-        × LeavesInit M.Disk.Store (M.stands machine.old store) (M.left machine.new) (sha256 (trim_ows key)) refusal) }
+        × LeavesInit M.Disk.Store (M.left machine.old) (M.stands machine.old store) (M.left machine.new) (sha256 (trim_ows key)) refusal) }
     ensures served { (store : List ℕ) (port count : ℕ) (rule : List ℕ) → IsServeAsk store port count rule ask.entry
         → OnOk result (Appends (W.contents output.old) (W.contents output.new) (serve_text port count)) }
     ensures not_served { (store : List ℕ) (port count : ℕ) (rule : List ℕ) → IsServeAsk store port count rule ask.entry
@@ -79,6 +81,9 @@ fn perform<R: Read, W: Write, M: Machine>(
         → IfOk result (TellsCheck acc (W.contents output.old) (W.contents output.new)) }
     ensures not_answered { AsksADesk ask.entry
         → IfErr result (RefusesOnce (W.contents output.old) (W.contents output.new)) }
+    ensures leaves { LeavesBy M.Disk.Store (M.left machine.old) (M.stands machine.old) (M.left machine.new) ask.entry }
+    ensures leaves_refused { IfErr result (LeavesRefused M.Disk.Store (M.left machine.old) (M.stands machine.old) (M.left machine.new)
+        (W.contents output.old) (W.contents output.new) ask.entry) }
     ensures limit { ReadsUpTo (most_read ask.entry) (R.remaining input.old) (R.remaining input.new) }
 {
     match ask {
@@ -167,47 +172,71 @@ pub fn run<R: Read, W: Write, E: Write, M: Machine>(
         result (E.contents errors.old) (E.contents errors.new)) }
 
     // An `init`: at 0 it has made the desk and said so, and at 1 a desk stood already and was left alone. Not at
-    // 0 its refusal is told.
+    // 0 its refusal is told; where the store failed the database is as it was.
     ensures made { result ≡ 0 → (store key : List ℕ) → AsksInit (map (λ word. word.now) words.entry.now) store key
         → MakesDesk M.Disk.Store (M.stands machine.old store) (M.left machine.new) (sha256 (trim_ows key))
         × Appends (W.contents output.old) (W.contents output.new) done_line }
     ensures init_told { result ≢ 0 → (store key : List ℕ) → AsksInit (map (λ word. word.now) words.entry.now) store key
         → Tells (λ refusal. RefusesInit refusal (W.contents output.old) (W.contents output.new)
-        × LeavesInit M.Disk.Store (M.stands machine.old store) (M.left machine.new) (sha256 (trim_ows key)) refusal)
+        × LeavesInit M.Disk.Store (M.left machine.old) (M.stands machine.old store) (M.left machine.new) (sha256 (trim_ows key)) refusal)
         result (E.contents errors.old) (E.contents errors.new) }
 
     // A `serve`: at 0 it has served as many visits as were asked for, and said so. Not at 0 its refusal is told,
-    // which is never 1.
+    // which is never 1, and what stands is what stood, or is left by visits.
     ensures served { result ≡ 0 → (store : List ℕ) (port count : ℕ) (rule : List ℕ)
         → AsksServe (map (λ word. word.now) words.entry.now) store port count rule
         → Appends (W.contents output.old) (W.contents output.new) (serve_text port count) }
     ensures serve_told { result ≢ 0 → (store : List ℕ) (port count : ℕ) (rule : List ℕ)
         → AsksServe (map (λ word. word.now) words.entry.now) store port count rule
-        → Tells (λ refusal. RefusesServe refusal port count (W.contents output.old) (W.contents output.new))
+        → Tells (λ refusal. RefusesServe refusal port count (W.contents output.old) (W.contents output.new)
+        × LeavesServe M.Disk.Store (M.left machine.old) (M.stands machine.old store) (M.left machine.new) port
+        (W.contents output.old) (W.contents output.new) refusal)
         result (E.contents errors.old) (E.contents errors.new) }
+    ensures serve_leaves { (store : List ℕ) (port count : ℕ) (rule : List ℕ)
+        → AsksServe (map (λ word. word.now) words.entry.now) store port count rule
+        → Leaves (M.left machine.old) (M.stands machine.old store) (M.left machine.new) (Lasts M.Disk.Store) }
 
     // An `import`: at 0 it has written only lines that tell that an image was taken in. Not at 0 it has written only
-    // lines of rows, and its refusal is told after them or, at 1, nothing.
+    // lines of rows, and its refusal is told after them or, at 1, nothing. Whatever it ends with, of the desk that stood
+    // images were taken in and nothing else was done.
     ensures imported { result ≡ 0 → IsImport (map (λ word. word.now) words.entry.now)
         → GainsLines IsDoneLine (W.contents output.old) (W.contents output.new) }
-    ensures import_told { result ≢ 0 → IsImport (map (λ word. word.now) words.entry.now)
+    ensures import_told { result ≢ 0 → (store key sheet : List ℕ) (moment : Option ℤ) (rule : List ℕ)
+        → AsksImport (map (λ word. word.now) words.entry.now) store key sheet moment rule
         → ((result ≡ 1) × Keeps (E.contents errors.old) (E.contents errors.new)
         × GainsLines IsRowLine (W.contents output.old) (W.contents output.new))
-        ⊎ Tells (RefusesImport (W.contents output.old) (W.contents output.new))
+        ⊎ Tells (λ refusal. RefusesImport (W.contents output.old) (W.contents output.new) refusal
+        × NamesOpening M.Disk.Store (M.stands machine.old store) (M.left machine.new) refusal)
         result (E.contents errors.old) (E.contents errors.new) }
+    ensures import_leaves { (store key sheet : List ℕ) (moment : Option ℤ) (rule : List ℕ)
+        → AsksImport (map (λ word. word.now) words.entry.now) store key sheet moment rule
+        → Leaves (M.left machine.old) (M.stands machine.old store) (M.left machine.new)
+        (LeavesDesk M.Disk.Store (TakesIn (sha256 (trim_ows key)) (IsDayBy moment rule))) }
 
     // A `check`: at 0 it has told that the image is sound. Not at 0 it has told that the image is changed, or its
-    // refusal is told. Not at 0 the refusal of an `export` is told.
+    // refusal is told. Not at 0 the refusal of an `export` is told. Whatever they end with, an `export` leaves the desk as it
+    // was, and of a check no more stands than its record.
     ensures sound { result ≡ 0 → (acc : ℕ) → IsCheckOf (map (λ word. word.now) words.entry.now) acc
         → TellsCheck acc (W.contents output.old) (W.contents output.new) Done.Whole }
-    ensures check_told { result ≢ 0 → (acc : ℕ) → IsCheckOf (map (λ word. word.now) words.entry.now) acc
+    ensures check_told { result ≢ 0 → (store key : List ℕ) (acc : ℕ) (moment : Option ℤ) (rule : List ℕ)
+        → AsksCheck (map (λ word. word.now) words.entry.now) store key acc moment rule
         → ((result ≡ 1) × Keeps (E.contents errors.old) (E.contents errors.new)
         × TellsCheck acc (W.contents output.old) (W.contents output.new) Done.InPart)
-        ⊎ Tells (RefusesOnce (W.contents output.old) (W.contents output.new))
+        ⊎ Tells (λ refusal. RefusesOnce (W.contents output.old) (W.contents output.new) refusal
+        × NamesOpening M.Disk.Store (M.stands machine.old store) (M.left machine.new) refusal)
         result (E.contents errors.old) (E.contents errors.new) }
-    ensures export_told { result ≢ 0 → IsExport (map (λ word. word.now) words.entry.now)
-        → Tells (RefusesOnce (W.contents output.old) (W.contents output.new))
+    ensures check_leaves { (store key : List ℕ) (acc : ℕ) (moment : Option ℤ) (rule : List ℕ)
+        → AsksCheck (map (λ word. word.now) words.entry.now) store key acc moment rule
+        → Leaves (M.left machine.old) (M.stands machine.old store) (M.left machine.new)
+        (LeavesDesk M.Disk.Store (Checks (Some (sha256 (trim_ows key))) acc (IsDayBy moment rule))) }
+    ensures export_told { result ≢ 0 → (store : List ℕ) (key : Option (List ℕ)) (moment : Option ℤ) (rule : List ℕ)
+        → AsksExport (map (λ word. word.now) words.entry.now) store key moment rule
+        → Tells (λ refusal. RefusesOnce (W.contents output.old) (W.contents output.new) refusal
+        × NamesOpening M.Disk.Store (M.stands machine.old store) (M.left machine.new) refusal)
         result (E.contents errors.old) (E.contents errors.new) }
+    ensures export_leaves { (store : List ℕ) (key : Option (List ℕ)) (moment : Option ℤ) (rule : List ℕ)
+        → AsksExport (map (λ word. word.now) words.entry.now) store key moment rule
+        → Leaves (M.left machine.old) (M.stands machine.old store) (M.left machine.new) (LeavesDesk M.Disk.Store IsSame) }
 
     // The version, where the first word asks for it: at 0 exactly its line is written, and else why not is told.
     ensures version { result ≡ 0 → AsksVersion (map (λ word. word.now) words.entry.now)

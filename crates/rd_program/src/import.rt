@@ -2,8 +2,13 @@
 
 ghost use Rattle.std.specs.Prelude.{◌≡◌, IfErr, IfOk, OnErr, OnOk};
 ghost use Rattle.std.specs.Io.KnownBytes.{Appends};
+ghost use Rattle.csv.specs.Records.{fields_of};
+ghost use Rattle.sha2.specs.Sha256.{sha256};
 ghost use Rattle.rd_policy.specs.Days.{HasDay};
+ghost use Rattle.rd_policy.specs.Zones.{day_number};
+ghost use Rattle.rd_desk.specs.Served.{Serves};
 ghost use Rattle.rd_program.specs.Importing.{GainsFrontOfLine, IsRowRefusal, RefusesImport, RefusesRow, RefusesRows, TellsRow, TellsRows, bad_row_line, said_line};
+ghost use Rattle.rd_program.specs.Leaves.{IsDayAt, IsOfOpenDesk, Leaves, LeavesDesk, NamesOpening, TakesFields, TakesIn, TakesRow};
 ghost use Rattle.rd_program.specs.Output.{AppendsPart};
 ghost use Rattle.rd_program.specs.Refusals.{IsOfDevice};
 ghost use Rattle.rd_program.specs.Sheets.{IsWithin};
@@ -42,6 +47,8 @@ fn put_image<S: Alter + Drop>(
 ) -> Reply
     requires day { HasDay giver.seconds }
     requires within { IsWithin row }
+    ensures serves { Serves S.Store desk.old.store desk.new.store (day_number giver.seconds desk.old.zone)
+        (record { badge = Some giver.badge; what = What.PutImage row.entry.acc row.entry.kind row.entry.deed row.entry.digest bytes.items }) result }
     ensures zone { desk.new.zone ≡ desk.old.zone }
 {
     let what = What::PutImage {
@@ -140,6 +147,8 @@ fn import_row<W: Write, M: Machine>(
     requires day { HasDay giver.seconds }
     requires within { IsWithin row }
     ensures zone { desk.new.zone ≡ desk.old.zone }
+    ensures takes { LeavesDesk M.Disk.Store (TakesRow giver.badge (day_number giver.seconds desk.old.zone) row.entry)
+        desk.old.store desk.new.store }
     ensures told { IfOk result (TellsRow (W.contents output.old) (W.contents output.new)) }
     ensures refused { IfErr result (RefusesRow (W.contents output.old) (W.contents output.new)) }
 {
@@ -166,6 +175,8 @@ fn import_fields<W: Write, M: Machine>(
 ) -> Result<Done, Refusal>
     requires day { HasDay giver.seconds }
     ensures zone { desk.new.zone ≡ desk.old.zone }
+    ensures takes { LeavesDesk M.Disk.Store (TakesFields giver.badge (day_number giver.seconds desk.old.zone) (fields_of fields.now))
+        desk.old.store desk.new.store }
     ensures told { IfOk result (TellsRow (W.contents output.old) (W.contents output.new)) }
     ensures refused { IfErr result (RefusesRow (W.contents output.old) (W.contents output.new)) }
 {
@@ -193,6 +204,8 @@ fn import_rows<W: Write, M: Machine>(
     requires day { HasDay giver.seconds }
     ensures told { IfOk result (TellsRows (W.contents output.old) (W.contents output.new)) }
     ensures refused { IfErr result (RefusesRows (W.contents output.old) (W.contents output.new)) }
+    ensures takes { LeavesDesk M.Disk.Store (TakesIn giver.badge (λ day. day ≡ day_number giver.seconds desk.old.zone))
+        desk.old.store desk.new.store }
 {
     let mut reader = ReaderBuilder::new()
         .has_headers(false)
@@ -225,6 +238,9 @@ fn import_sheet<W: Write, M: Machine>(
 ) -> Result<Done, Refusal>
     ensures told { IfOk result (TellsRows (W.contents output.old) (W.contents output.new)) }
     ensures refused { IfErr result (RefusesImport (W.contents output.old) (W.contents output.new)) }
+    ensures opened { IfErr result IsOfOpenDesk }
+    ensures takes { LeavesDesk M.Disk.Store (TakesIn (sha256 ask.entry.key.now) (IsDayAt ask.entry.when.seconds desk.old.zone))
+        desk.old.store desk.new.store }
 {
     let seconds = moment(ask.when.seconds, desk, machine)?;
     let sheet = match machine.read_sheet(alloc, ask.sheet) {
@@ -249,6 +265,9 @@ pub(crate) fn import<W: Write, M: Machine>(
 ) -> Result<Done, Refusal>
     ensures told { IfOk result (TellsRows (W.contents output.old) (W.contents output.new)) }
     ensures refused { IfErr result (RefusesImport (W.contents output.old) (W.contents output.new)) }
+    ensures takes { Leaves (M.left machine.old) (M.stands machine.old ask.entry.store.now) (M.left machine.new)
+        (LeavesDesk M.Disk.Store (TakesIn (sha256 ask.entry.key.now) (IsDayAt ask.entry.when.seconds ask.entry.when.zone))) }
+    ensures opens { IfErr result (NamesOpening M.Disk.Store (M.stands machine.old ask.entry.store.now) (M.left machine.new)) }
 {
     let mut desk = open_desk(alloc, ask.store, ask.when.zone, machine)?;
     let imported = import_sheet(alloc, ask, &mut desk, output, machine);

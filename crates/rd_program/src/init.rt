@@ -34,7 +34,7 @@ fn make_desk<M: Machine>(ask: InitAsk, machine: &mut M) -> Result<(), Refusal>
     ensures made { OnOk result
         (MakesDesk M.Disk.Store (M.stands machine.old ask.entry.store.now) (M.left machine.new) (sha256 ask.entry.key.now)) }
     ensures left { IfErr result
-        (LeavesInit M.Disk.Store (M.stands machine.old ask.entry.store.now) (M.left machine.new) (sha256 ask.entry.key.now)) }
+        (LeavesInit M.Disk.Store (M.left machine.old) (M.stands machine.old ask.entry.store.now) (M.left machine.new) (sha256 ask.entry.key.now)) }
     ensures refused { IfErr result IsInitRefusal }
 {
     let conn = match machine.connect(ask.store) {
@@ -61,7 +61,7 @@ pub(crate) fn init<W: Write, M: Machine>(
     ensures made { OnOk result
         (MakesDesk M.Disk.Store (M.stands machine.old ask.entry.store.now) (M.left machine.new) (sha256 ask.entry.key.now)) }
     ensures left { IfErr result
-        (LeavesInit M.Disk.Store (M.stands machine.old ask.entry.store.now) (M.left machine.new) (sha256 ask.entry.key.now)) }
+        (LeavesInit M.Disk.Store (M.left machine.old) (M.stands machine.old ask.entry.store.now) (M.left machine.new) (sha256 ask.entry.key.now)) }
 {
     make_desk(ask, machine)?;
     write_whole(output, b"done\n")

@@ -1,9 +1,10 @@
-ghost use Rattle.std.specs.Prelude.{◌↔◌, ◌≡◌, IfOk, IfSome, List, Option, Some, false, ℕ};
+ghost use Rattle.std.specs.Prelude.{◌↔◌, ◌≡◌, IfErr, IfOk, IfSome, List, Option, Some, false, ℕ};
 ghost use Rattle.std.specs.IoError.{error_kind};
 ghost use Rattle.std.specs.declared.io.ErrorKind.TheVariants.{OutOfMemory};
 ghost use Rattle.sqlite.specs.Held.{Held};
 ghost use Rattle.sqlite.specs.declared.error.Error.TheVariants.{SqliteFailure};
 ghost use Rattle.sqlite.specs.declared.error.ErrorCode.TheVariants as code;
+ghost use Rattle.rd_program.specs.Leaves.{LeavesNone};
 ghost use Rattle.rd_program.specs.Refusals.{refusal_for};
 ghost use Rattle.rd_program.specs.declared.machine.MachineFault.TheVariants as machine_fault;
 ghost use Rattle.rd_program.specs.declared.refusal.Refusal.TheVariants as refusal;
@@ -89,7 +90,9 @@ pub trait Machine {
     /// are enough: one byte more than the largest image has.
     fn read_file(&mut self, alloc: Global, path: &str) -> Result<Vec<u8>, MachineFault>;
 
-    /// All bytes of the sheet at a path.
+    /// All bytes of the sheet at a path, at most 67,108,864 (64 MiB).
+    ///
+    /// It fails at a sheet of more, of which it reads at most one byte more than that.
     fn read_sheet(&mut self, alloc: Global, path: &str) -> Result<Vec<u8>, MachineFault>;
 
     /// A connection to the database in the file at a path, outside a transaction. A file that is not there is
@@ -98,7 +101,8 @@ pub trait Machine {
     /// It fails where the file cannot be opened, or holds no sound database.
     fn connect(&mut self, path: &str) -> Result<Connection<Self::Disk>, MachineFault>
         ensures outside { IfOk result (λ conn. conn.in_transaction ≡ false) }
-        ensures stands { IfOk result (λ conn. IfSome (stands self.old path.now) (λ held. conn ≡ held)) };
+        ensures stands { IfOk result (λ conn. IfSome (stands self.old path.now) (λ held. conn ≡ held)) }
+        ensures none { IfErr result (λ _. LeavesNone (left self.old) (left self.new)) };
 
     /// Takes a connection back, when a command has ended.
     fn release(&mut self, conn: &mut Option<Connection<Self::Disk>>)

@@ -1,11 +1,17 @@
 //! What a desk is asked once: the catalogue, or what a check of an image finds.
 
-ghost use Rattle.std.specs.Prelude.{◌≡◌, IfErr, IfOk, ℕ};
+ghost use Rattle.std.specs.Prelude.{◌≡◌, IfErr, IfOk, option_map, ℕ};
 ghost use Rattle.std.specs.String.{string_bytes};
+ghost use Rattle.sha2.specs.Sha256.{sha256};
 ghost use Rattle.rd_policy.specs.Days.{HasDay};
+ghost use Rattle.rd_policy.specs.Rules.{IsScope};
+ghost use Rattle.rd_policy.specs.Zones.{day_number};
+ghost use Rattle.rd_desk.specs.Requests.{IsRequest};
+ghost use Rattle.rd_desk.specs.Served.{Serves};
 ghost use Rattle.rd_program.specs.Asking.{IsReplyRefusal, RefusesOnce, TellsCheck};
 ghost use Rattle.rd_program.specs.Asks.{IsAskable, IsCheck, IsCheckOf};
 ghost use Rattle.rd_program.specs.Importing.{said_line};
+ghost use Rattle.rd_program.specs.Leaves.{Checks, IsDayAt, IsOfOpenDesk, IsSame, Leaves, LeavesDesk, NamesOpening, StepsOf};
 
 use crate::done::Done;
 use crate::machine::Machine;
@@ -26,30 +32,40 @@ const SOUND: &[u8] = b"{\"outcome\":\"sound\"}";
 /// The body of the reply to a check that found an image changed.
 const CHANGED: &[u8] = b"{\"outcome\":\"changed\"}";
 
-/// Asks a desk at a moment, and gives the reply.
-fn reply_to<S: Alter + Drop>(
-    alloc: Global,
-    ask: &OnceAsk,
+/// Who asks, and when.
+#[derive(Clone, Copy)]
+struct Asker {
+    /// The SHA-256 of the desk key, where one is shown.
+    badge: Option<[u8; 32]>,
+    /// The moment, in seconds since 1970-01-01T00:00:00 UTC, which has a day.
     seconds: i64,
-    desk: &mut Desk<S>,
-) -> Reply
-    requires day { HasDay seconds }
-    requires within { IsAskable ask.now.question }
+}
+
+/// The SHA-256 of a desk key, where one is shown.
+fn badge_of(key: Option<&[u8]>) -> Option<[u8; 32]>
+    ensures { result ≡ option_map sha256 (option_map (λ key. key.now) key.entry) }
 {
-    let badge = match ask.key {
+    match key {
         Some(key) => Some(Sha256::digest(key)),
         None => None,
-    };
-    let what = match ask.question {
-        Question::Catalogue => What::Catalogue,
-        Question::Check(acc) => What::Check(acc),
-    };
-    desk.answer(alloc, seconds, &Request { badge, what })
+    }
+}
+
+/// Asks a desk, and gives the reply.
+fn reply_to<S: Alter + Drop>(alloc: Global, what: What, asker: Asker, desk: &mut Desk<S>) -> Reply
+    requires day { HasDay asker.seconds }
+    requires fits { IsRequest what }
+    ensures serves { Serves S.Store desk.old.store desk.new.store (day_number asker.seconds desk.old.zone)
+        (record { badge = asker.badge; what = what }) result }
+{
+    let badge = asker.badge;
+    desk.answer(alloc, asker.seconds, &Request { badge, what })
 }
 
 /// The refusal that a reply tells by its name: `Store` where it tells none that a question can have.
 fn refusal_told(alloc: Global, reply: &Reply) -> Refusal
-    ensures { IsReplyRefusal result }
+    ensures told { IsReplyRefusal result }
+    ensures opened { IsOfOpenDesk result }
 {
     let value = match value_of(alloc, &reply.body) {
         Ok(value) => value,
@@ -77,7 +93,8 @@ fn said_text(alloc: Global, acc: u32, said: &str) -> Result<String, Refusal>
 ///
 /// It fails with `NoMemory`, and with `Device` where a write or the flush failed.
 fn write_body<W: Write>(alloc: Global, reply: &Reply, output: &mut W) -> Result<(), Refusal>
-    ensures { IfErr result (RefusesOnce (W.contents output.old) (W.contents output.new)) }
+    ensures refused { IfErr result (RefusesOnce (W.contents output.old) (W.contents output.new)) }
+    ensures opened { IfErr result IsOfOpenDesk }
 {
     let bytes = bytes_of(alloc, &reply.body)?;
     write_whole(output, bytes.as_slice())
@@ -88,17 +105,17 @@ fn write_body<W: Write>(alloc: Global, reply: &Reply, output: &mut W) -> Result<
 /// It fails as the reply refuses, with `Store` where the desk is unavailable, and as `write_body` does.
 fn export<S: Alter + Drop, W: Write>(
     alloc: Global,
-    ask: &OnceAsk,
-    seconds: i64,
+    asker: Asker,
     desk: &mut Desk<S>,
     output: &mut W,
 ) -> Result<Done, Refusal>
-    requires day { HasDay seconds }
-    requires within { IsAskable ask.now.question }
+    requires day { HasDay asker.seconds }
     ensures whole { IfOk result (λ done. done ≡ Done.Whole) }
     ensures refused { IfErr result (RefusesOnce (W.contents output.old) (W.contents output.new)) }
+    ensures opened { IfErr result IsOfOpenDesk }
+    ensures same { LeavesDesk S.Store IsSame desk.old.store desk.new.store }
 {
-    let reply = reply_to(alloc, ask, seconds, desk);
+    let reply = reply_to(alloc, What::Catalogue, asker, desk);
     if reply.status != 200 {
         return Err(refusal_told(alloc, &reply));
     }
@@ -113,20 +130,22 @@ fn export<S: Alter + Drop, W: Write>(
 /// where a write or the flush failed.
 fn check<S: Alter + Drop, W: Write>(
     alloc: Global,
-    ask: &OnceAsk,
     acc: u32,
-    seconds: i64,
+    asker: Asker,
     desk: &mut Desk<S>,
     output: &mut W,
 ) -> Result<Done, Refusal>
-    requires day { HasDay seconds }
-    requires within { IsAskable ask.now.question }
+    requires day { HasDay asker.seconds }
+    requires within { IsScope acc }
     ensures told { IfOk result (TellsCheck acc (W.contents output.old) (W.contents output.new)) }
     ensures refused { IfErr result (RefusesOnce (W.contents output.old) (W.contents output.new)) }
+    ensures opened { IfErr result IsOfOpenDesk }
+    ensures checks { LeavesDesk S.Store (Checks asker.badge acc (λ day. day ≡ day_number asker.seconds desk.old.zone))
+        desk.old.store desk.new.store }
 {
     let sound = said_text(alloc, acc, "sound")?;
     let changed = said_text(alloc, acc, "changed")?;
-    let reply = reply_to(alloc, ask, seconds, desk);
+    let reply = reply_to(alloc, What::Check(acc), asker, desk);
     if is_text(&reply.body, SOUND) {
         write_whole(output, sound.as_bytes())?;
         return Ok(Done::Whole);
@@ -153,11 +172,16 @@ fn tell_asked<S: Alter + Drop, W: Write, M: Machine>(
     ensures told { (acc : ℕ) → IsCheckOf acc ask.now.question
         → IfOk result (TellsCheck acc (W.contents output.old) (W.contents output.new)) }
     ensures refused { IfErr result (RefusesOnce (W.contents output.old) (W.contents output.new)) }
+    ensures opened { IfErr result IsOfOpenDesk }
+    ensures steps { LeavesDesk S.Store (StepsOf (option_map sha256 (option_map (λ key. key.now) ask.now.key))
+        (IsDayAt ask.now.when.seconds desk.old.zone) ask.now.question) desk.old.store desk.new.store }
 {
     let seconds = moment(ask.when.seconds, desk, machine)?;
+    let badge = badge_of(ask.key);
+    let asker = Asker { badge, seconds };
     match ask.question {
-        Question::Catalogue => export(alloc, ask, seconds, desk, output),
-        Question::Check(acc) => check(alloc, ask, acc, seconds, desk, output),
+        Question::Catalogue => export(alloc, asker, desk, output),
+        Question::Check(acc) => check(alloc, acc, asker, desk, output),
     }
 }
 
@@ -176,6 +200,10 @@ pub(crate) fn ask_once<W: Write, M: Machine>(
     ensures told { (acc : ℕ) → IsCheckOf acc ask.entry.question
         → IfOk result (TellsCheck acc (W.contents output.old) (W.contents output.new)) }
     ensures refused { IfErr result (RefusesOnce (W.contents output.old) (W.contents output.new)) }
+    ensures steps { Leaves (M.left machine.old) (M.stands machine.old ask.entry.store.now) (M.left machine.new)
+        (LeavesDesk M.Disk.Store (StepsOf (option_map sha256 (option_map (λ key. key.now) ask.entry.key))
+        (IsDayAt ask.entry.when.seconds ask.entry.when.zone) ask.entry.question)) }
+    ensures opens { IfErr result (NamesOpening M.Disk.Store (M.stands machine.old ask.entry.store.now) (M.left machine.new)) }
 {
     let mut desk = open_desk(alloc, ask.store, ask.when.zone, machine)?;
     let told = tell_asked(alloc, &ask, &mut desk, output, machine);

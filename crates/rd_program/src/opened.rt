@@ -1,7 +1,9 @@
 //! The desk in the file of a store, and the moment at which it is asked.
 
 ghost use Rattle.std.specs.Prelude.{◌≡◌, Err, IfErr, IfOk, IfSome, Ok};
+ghost use Rattle.rd_program.specs.Leaves.{IsOfOpenDesk, LeavesUnopened};
 ghost use Rattle.rd_program.specs.Serving.{IsClockRefusal, IsOpenRefusal};
+ghost use Rattle.rd_store.specs.Opened.{IsOpened};
 ghost use Rattle.rd_policy.specs.Days.{HasDay};
 
 use crate::machine::Machine;
@@ -22,7 +24,10 @@ pub(crate) fn open_desk<M: Machine>(
     machine: &mut M,
 ) -> Result<Desk<M::Disk>, Refusal>
     ensures zone { IfOk result (λ desk. desk.zone ≡ zone) }
+    ensures opened { IfOk result (λ desk. IfSome (M.stands machine.old store.now) (λ before. IsOpened M.Disk.Store before desk.store)) }
     ensures refused { IfErr result IsOpenRefusal }
+    ensures left { IfErr result
+        (LeavesUnopened M.Disk.Store (M.left machine.old) (M.stands machine.old store.now) (M.left machine.new)) }
 {
     let conn = match machine.connect(store) {
         Ok(conn) => conn,
@@ -59,6 +64,7 @@ pub(crate) fn moment<S: Alter, M: Machine>(
     machine: &mut M,
 ) -> Result<i64, Refusal>
     ensures day { IfOk result HasDay }
+    ensures asked { IfOk result (λ seconds. IfSome told (λ asked. seconds ≡ asked)) }
     ensures told { IfSome told (λ seconds.
         (HasDay seconds → result ≡ Ok seconds) × (¬ HasDay seconds → result ≡ Err Refusal.Clock)) }
     ensures refused { IfErr result IsClockRefusal }

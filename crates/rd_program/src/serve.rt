@@ -1,5 +1,7 @@
 ghost use Rattle.std.specs.Prelude.{◌≡◌, IfErr, IfOk, OnErr, OnOk};
 ghost use Rattle.std.specs.Io.KnownBytes.{Appends};
+ghost use Rattle.rd_store.specs.Held.{Lasts};
+ghost use Rattle.rd_program.specs.Leaves.{Leaves, LeavesServe};
 ghost use Rattle.rd_program.specs.Output.{AppendsPart};
 ghost use Rattle.rd_program.specs.Refusals.{IsOfDevice};
 ghost use Rattle.rd_program.specs.Serving.{RefusesServe, RefusesToEnd, listening_line, serve_text, served_line};
@@ -54,6 +56,8 @@ fn serve_visits<W: Write, M: Machine>(
     ensures cut { OnErr result (AppendsPart (W.contents output.old) (W.contents output.new) (listening_line ask.entry.port)) }
     ensures refused { IfErr result IsOfDevice }
     ensures count { IfOk result (λ served. served.ended ≡ Ended.Count → served.visits ≡ ask.entry.count) }
+    ensures lasts { IfOk result (λ _. Lasts M.Disk.Store desk.old.store desk.new.store) }
+    ensures unserved { IfErr result (λ _. desk.new.store ≡ desk.old.store) }
 {
     let door = match machine.listen(ask.port) {
         Ok(door) => door,
@@ -94,6 +98,9 @@ pub(crate) fn serve<W: Write, M: Machine>(
     ensures done { OnOk result (Appends (W.contents output.old) (W.contents output.new) (serve_text ask.entry.port ask.entry.count)) }
     ensures refused { IfErr result (λ refusal. RefusesServe refusal ask.entry.port ask.entry.count
         (W.contents output.old) (W.contents output.new)) }
+    ensures lasts { Leaves (M.left machine.old) (M.stands machine.old ask.entry.store.now) (M.left machine.new) (Lasts M.Disk.Store) }
+    ensures left { IfErr result (LeavesServe M.Disk.Store (M.left machine.old) (M.stands machine.old ask.entry.store.now) (M.left machine.new)
+        ask.entry.port (W.contents output.old) (W.contents output.new)) }
 {
     let mut desk = open_desk(alloc, ask.store, ask.zone, machine)?;
     let served = serve_visits(alloc, ask, &mut desk, output, machine);

@@ -3,10 +3,10 @@
 ghost use Rattle.std.specs.Prelude.{◌≡◌, false, IfOk};
 
 use crate::wire::{Plan, Tape};
-use anyhow::{Result, bail};
-use rd_desk::Desk;
+use anyhow::{Context, Result, bail};
+use rd_desk::{Desk, Items};
 use rd_geometry::NoMemory;
-use rd_http::{WireFault, serve_one};
+use rd_http::{Ended, MemoryDoor, Served, WireFault, serve_many, serve_one};
 use rd_policy::Zone;
 use rd_store::{OpenFault, Refused, Store};
 use sqlite::{Connection, MemStore};
@@ -51,7 +51,57 @@ pub(crate) fn with_zone(desk: Memory, zone: Zone) -> Memory {
     Desk::new(desk.into_store(), zone)
 }
 
-/// How a visit ends at which these bytes come, and what goes out at it.
+/// A door through which one visit comes.
+fn new_door(alloc: Global, seconds: i64, came: &[u8]) -> Result<MemoryDoor, NoMemory> {
+    let mut visits = Vec::new(alloc);
+    visits.push((seconds, Items::of(Vec::from_slice(alloc, came)?)))?;
+    MemoryDoor::new(alloc, visits)
+}
+
+/// Serves the next visit that comes through a door.
+fn serve_next(alloc: Global, door: &mut MemoryDoor, desk: &mut Memory) -> Served {
+    serve_many(alloc, door, desk, 1)
+}
+
+/// What went out at the one visit of a door.
+fn out_of(alloc: Global, door: &MemoryDoor) -> Result<Vec<u8>> {
+    match door.visits() {
+        [visit] => Ok(Vec::from_slice(alloc, visit.out())?),
+        _ => bail!("no visit left, or several"),
+    }
+}
+
+/// How the visit of a run of one ends.
+fn ending_of(served: Served) -> Option<Result<(), WireFault>> {
+    let Served {
+        visits,
+        read_faults,
+        write_faults,
+        ended,
+    } = served;
+    match (visits, read_faults, write_faults, ended) {
+        (1, 0, 0, Ended::Count) => Some(Ok(())),
+        (1, 1, 0, Ended::Count) => Some(Err(WireFault::Read)),
+        (1, 0, 1, Ended::Count) => Some(Err(WireFault::Write)),
+        (0, 0, 0, Ended::Clock) => Some(Err(WireFault::Clock)),
+        _ => None,
+    }
+}
+
+/// How a visit by a door in memory ends at which these bytes come, and what goes out at it.
+pub(crate) fn visit_in_memory(
+    alloc: Global,
+    desk: &mut Memory,
+    seconds: i64,
+    came: &[u8],
+) -> Result<(Result<(), WireFault>, Vec<u8>)> {
+    let mut door = new_door(alloc, seconds, came)?;
+    let served = serve_next(alloc, &mut door, desk);
+    let ending = ending_of(served).context("no run of one visit")?;
+    Ok((ending, out_of(alloc, &door)?))
+}
+
+/// How a visit over a connection that behaves so ends at which these bytes come, and what goes out at it.
 pub(crate) fn visit(
     alloc: Global,
     desk: &mut Memory,

@@ -1,14 +1,15 @@
 //! Trials, played line by line.
 
-use crate::change::{Change, Effect, Question};
 use crate::desk::{
-    CENTRAL, Opening, Stage, new_connection, new_desk, open, visit as make_visit, with_zone,
+    CENTRAL, Opening, Stage, new_connection, new_desk, open, visit as make_visit, visit_in_memory,
+    with_zone,
 };
-use crate::script::{Line, parts_of, script_of};
-use crate::tables::{answer_of, contents_of};
-use crate::tally::Tally;
 use crate::visit::{Likeness, Visit, outcome_of};
+use crate::wire::WHOLE;
 use anyhow::{Context, Result, bail};
+use rd_played::{
+    Change, Effect, KeptTables, Line, Question, Tally, contents_of, parts_of, script_of,
+};
 use rd_policy::Zone;
 use rd_store::OpenFault;
 use sqlite::{Connection, MemStore};
@@ -41,7 +42,7 @@ struct Player<'a> {
     item: Item<'a>,
     replies: Vec<Kept<'a>>,
     /// What the tables hold that are to be compared.
-    contents: Option<String>,
+    contents: KeptTables,
 }
 
 /// How tables open, by a word.
@@ -99,7 +100,7 @@ impl<'a> Player<'a> {
             seconds: None,
             item: Item::Nothing,
             replies: Vec::new(rt.alloc()),
-            contents: None,
+            contents: KeptTables::default(),
         })
     }
 
@@ -185,6 +186,9 @@ impl<'a> Player<'a> {
         let seconds = self.seconds.context("no moment")?;
         let came = visit.came.request(rt)?;
         let (ending, out) = match &mut self.stage {
+            Stage::Open(desk) if visit.plan == WHOLE => {
+                visit_in_memory(rt.alloc(), desk, seconds, came.as_slice())?
+            }
             Stage::Open(desk) => {
                 make_visit(rt.alloc(), desk, seconds, came.as_slice(), visit.plan)
             }
@@ -239,34 +243,20 @@ impl<'a> Player<'a> {
         }
     }
 
-    /// Changes the tables. A statement that has to be refused is a case; another that does otherwise than it has
-    /// to ends the trial.
+    /// Changes the tables.
     fn change(&mut self, rt: &HostRuntime, change: &Change<'a>) -> Result<()> {
         let mut conn = self.take_tables()?;
-        let came = change.run(&mut conn);
+        let played = change.play(rt, &mut conn, &mut self.tally);
         self.stage = Stage::Tables(conn);
-        let (wanted, came) = (change.wanted.word(), came.word());
-        if change.wanted == Effect::Refused {
-            let case = (change.place, change.statement);
-            return self
-                .tally
-                .judge(rt, case, wanted.as_bytes(), came.as_bytes());
-        }
-        if wanted != came {
-            bail!("it is no {wanted}, but a {came}");
-        }
-        Ok(())
+        played
     }
 
     /// Asks for rows of the tables.
     fn ask(&mut self, rt: &HostRuntime, question: &Question<'a>) -> Result<()> {
         let mut conn = self.take_tables()?;
-        let answer = answer_of(rt.alloc(), &mut conn, question.statement);
+        let played = question.play(rt, &mut conn, &mut self.tally);
         self.stage = Stage::Tables(conn);
-        let answer = answer?;
-        let case = (question.place, question.statement);
-        self.tally
-            .judge(rt, case, question.rows.as_bytes(), answer.as_bytes())
+        played
     }
 
     /// What the tables hold.
@@ -306,22 +296,8 @@ impl<'a> Player<'a> {
     /// Keeps what the tables hold, or compares it with what is kept.
     fn compare(&mut self, rt: &HostRuntime, place: &'a str, word: &'a str) -> Result<()> {
         let contents = self.contents(rt)?;
-        if word == "kept" {
-            self.contents = Some(contents);
-            return Ok(());
-        }
-        let case = (place, "tables");
-        match (word, &self.contents) {
-            ("same", Some(kept)) => {
-                self.tally
-                    .judge(rt, case, kept.as_bytes(), contents.as_bytes())
-            }
-            ("changed", Some(kept)) => {
-                self.tally
-                    .judge_other(rt, case, kept.as_bytes(), contents.as_bytes())
-            }
-            _ => bail!("no such tables, or none are kept"),
-        }
+        self.contents
+            .play(rt, (place, word), contents, &mut self.tally)
     }
 }
 

@@ -1,12 +1,9 @@
 //! Visits as a trial tells them.
 
-use crate::bytes::build;
-use crate::escapes::add_bytes;
-use crate::image::build_with;
-use crate::message::Message;
 use crate::wire::{Plan, WHOLE};
 use anyhow::{Context, Result, bail};
 use rd_http::WireFault;
+use rd_played::{Message, add_out, build_with};
 use std::alloc::{AllocError, Global};
 
 /// How a reply compares with that of the first visit of the file which is alike a name.
@@ -101,43 +98,12 @@ impl<'a> Visit<'a> {
     /// Reads a line: its first word, and the text after it.
     pub(crate) fn read(&mut self, rt: &HostRuntime, word: &str, text: &'a str) -> Result<()> {
         match word {
-            "ask" | "key" | "body" => self.read_request(word, text),
-            "json" | "csv" | "octets" | "field" => self.read_head(word, text),
+            "ask" | "key" | "body" => Ok(self.came.read_request(word, text)?),
+            "json" | "csv" | "octets" | "field" => Ok(self.reply.read_head(word, text)?),
             "out" | "out-fill" | "alike" | "unlike" => self.read_reply(rt.alloc(), word, text),
             "reads" | "writes" | "ends" | "front" => self.read_plan(word, text),
             _ => build_with(rt, &mut self.came.body, word, text),
         }
-    }
-
-    /// Reads a line on the request.
-    fn read_request(&mut self, word: &str, text: &'a str) -> Result<()> {
-        let request = &mut self.came;
-        match word {
-            "ask" => request.first = Some(text),
-            "key" => request.add_field("Desk-Key: ", text)?,
-            _ => request.body.extend_from_slice(text.as_bytes())?,
-        }
-        Ok(())
-    }
-
-    /// Reads a line on the head of the reply: its status and its phrase, and of JSON the body too.
-    fn read_head(&mut self, word: &str, text: &'a str) -> Result<()> {
-        let reply = &mut self.reply;
-        match word {
-            "field" => return Ok(reply.add_field("", text)?),
-            "csv" => reply.media = "text/csv",
-            "octets" => reply.media = "application/octet-stream",
-            _ => reply.media = "application/json",
-        }
-        match text.split_once(" {") {
-            Some((first, rest)) if word == "json" => {
-                reply.first = Some(first);
-                reply.body.push(b'{')?;
-                reply.body.extend_from_slice(rest.as_bytes())?;
-            }
-            _ => reply.first = Some(text),
-        }
-        Ok(())
     }
 
     /// Reads a line on the body of the reply, or on the reply that it is compared with.
@@ -145,8 +111,7 @@ impl<'a> Visit<'a> {
         match word {
             "alike" => self.likeness = Some(Likeness::Alike(text)),
             "unlike" => self.likeness = Some(Likeness::Unlike(text)),
-            "out" => add_bytes(&mut self.reply.body, text)?,
-            _ => build(alloc, &mut self.reply.body, "fill", text)?,
+            _ => add_out(alloc, &mut self.reply.body, word, text)?,
         }
         Ok(())
     }

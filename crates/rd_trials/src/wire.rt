@@ -7,7 +7,7 @@ use std::alloc::Global;
 
 /// How a connection behaves: how many bytes a read gives at most, and how many reads there are before one
 /// fails; the same of writes.
-#[derive(Clone, Copy)]
+#[derive(Clone, Copy, PartialEq, Eq)]
 pub(crate) struct Plan {
     pub(crate) most_given: usize,
     pub(crate) reads: usize,
@@ -59,6 +59,8 @@ impl Wire for Tape<'_> {
 
     ghost put_failed = { λ wire. wire.put_failed };
 
+    ghost unsent = { λ _. 0 };
+
     fn take(&mut self, into: &mut [u8]) -> Result<usize, Broken> {
         if self.plan.reads == 0 {
             self.take_failed = true;
@@ -82,5 +84,9 @@ impl Wire for Tape<'_> {
         }
         self.plan.writes -= 1;
         Ok(count)
+    }
+
+    fn flush(&mut self) -> Result<(), Broken> {
+        Ok(())
     }
 }

@@ -6,7 +6,8 @@ use rd_http::{Broken, Door, Shut, Wire};
 use std::alloc::Global;
 
 /// How a connection behaves: its moment; how many bytes a read gives at most, and how many reads there are
-/// before one fails; how many bytes a write takes at most, and how many writes there are before one fails.
+/// before one fails; how many bytes a write takes at most, and how many writes there are before one fails, the flush
+/// that follows the last of them among them.
 pub(super) type Plan = (i64, usize, usize, usize, usize);
 
 /// A connection that cuts its reads and writes short, and at which they fail.
@@ -53,6 +54,8 @@ impl Wire for Fragile<'_> {
 
     ghost put_failed = { λ wire. wire.put_failed };
 
+    ghost unsent = { λ _. 0 };
+
     fn take(&mut self, into: &mut [u8]) -> Result<usize, Broken> {
         if self.reads == 0 {
             self.take_failed = true;
@@ -73,6 +76,16 @@ impl Wire for Fragile<'_> {
         }
         self.writes -= 1;
         Ok(count)
+    }
+
+    /// Takes one of the writes.
+    fn flush(&mut self) -> Result<(), Broken> {
+        if self.writes == 0 {
+            self.put_failed = true;
+            return Err(Broken);
+        }
+        self.writes -= 1;
+        Ok(())
     }
 }
 

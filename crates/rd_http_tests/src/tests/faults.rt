@@ -77,7 +77,7 @@ fn failing(alloc: Global, of_reads: bool, count: usize) -> Result<Vec<Plan>, All
 }
 
 /// Of visits that fail at each read, none changes anything. Each that fails at a write has done what was
-/// asked, and the front of its reply goes out.
+/// asked, and the front of its reply goes out; the last of them puts all of it, and fails as it is flushed.
 fn assert_failing(rt: &impl Abort, alloc: Global, desk: &mut Memory) -> Result<(), Fail> {
     let plans = failing(alloc, true, 102)?;
     let mut door = Visitors::new(alloc, REQUEST, plans.as_slice());
@@ -89,11 +89,11 @@ fn assert_failing(rt: &impl Abort, alloc: Global, desk: &mut Memory) -> Result<(
         assert!(rt; conn.out.is_empty());
     }
     assert_visits(rt, alloc, desk, NONE)?;
-    let plans = failing(alloc, false, 103)?;
+    let plans = failing(alloc, false, 104)?;
     let mut door = Visitors::new(alloc, REQUEST, plans.as_slice());
     assert_eq!(rt;
         run(alloc, &mut door, desk, 200),
-        served!(103, 0, 103, Shut)
+        served!(104, 0, 104, Shut)
     );
     for (n, conn) in door.over.iter().enumerate() {
         assert!(rt; conn.out.len() == n && REPLY.starts_with(&conn.out), "{n}");

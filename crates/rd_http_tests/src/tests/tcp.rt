@@ -21,6 +21,10 @@ impl Clock for Standing {
     fn now(&mut self) -> Option<i64> {
         self.0
     }
+
+    fn milliseconds(&mut self) -> Option<u64> {
+        Some(0)
+    }
 }
 
 /// A visit over TCP: its name, what the clock tells, what the client sends, how the run goes, and what the

@@ -1,8 +1,8 @@
-//! Writers that fail once, files of a length too many or too few, and files of the real machine.
+//! Writers that fail once, and files of the real machine.
 
-use super::fakes::{End, OneFile, Stumbling};
-use super::imports::HEADER;
-use super::{Ran, is_refused, no_file, run_with};
+use super::fakes::{Bare, End, Stumbling};
+use super::sheets::HEADER;
+use super::{Ran, is_refused};
 use crate::host::Host;
 use rd_program::{Machine, MachineFault, run};
 use rd_rows::cpm::hello;
@@ -73,7 +73,7 @@ fn run_stumbling(alloc: Global, case: &Stumble, mut image: &[u8]) -> Ran {
         &mut image,
         &mut output,
         &mut errors,
-        &mut no_file(),
+        &mut Bare,
     );
     Ran {
         status,
@@ -88,27 +88,6 @@ fn a_write_that_fails_ends_the_run(rt: HostRuntime) -> Result<(), Fail> {
     for case in &STUMBLES {
         let ran = run_stumbling(rt.alloc(), case, image.as_slice());
         assert!(rt; is_refused(&ran, 3, "desk: device\n"), "{}", case.label);
-    }
-    Ok(())
-}
-
-/// The lengths next to that of a CP/M image.
-const LENGTHS: [usize; 2] = [256_255, 256_257];
-
-#[test]
-fn a_file_of_another_length_is_refused(rt: HostRuntime) -> Result<(), Fail> {
-    let alloc = rt.alloc();
-    let mut image = hello(alloc)?;
-    for length in LENGTHS {
-        image.resize(length, 0xe5)?;
-        let mut machine = OneFile {
-            path: "disk.img",
-            bytes: Ok(image.as_slice()),
-        };
-        let cat = run_with(alloc, &["cat", "cpm8", "disk.img", "0"], &[], &mut machine);
-        assert!(rt; is_refused(&cat, 1, "desk: wrong-size\n"), "{length}");
-        let list = run_with(alloc, &["list", "cpm8", "disk.img"], &[], &mut machine);
-        assert!(rt; is_refused(&list, 1, "desk: wrong-size\n"), "{length}");
     }
     Ok(())
 }

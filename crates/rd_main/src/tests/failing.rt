@@ -3,9 +3,10 @@
 
 use super::Ran;
 use super::fakes::{Museum, Sheet};
-use super::imports::{EMPTY, HEADER, HELLO_12};
-use super::steps::{INIT, Step, museum, run_on_museum};
+use super::museums::{museum, run_on_museum};
+use super::sheets::{EMPTY, HEADER, HELLO_12};
 use super::visits::door_of;
+use rd_program::MachineFault;
 use sqlite::{Connection, FileStore, Files, Options};
 use sqlite_disk::{Disk, Fuse, Memory};
 use std::alloc::{Alloc, Global};
@@ -29,64 +30,83 @@ fn connection(alloc: Global, calls: u64) -> Option<Connection<Failing>> {
     Connection::open_files(alloc, Files { log, db }, options).ok()
 }
 
-/// A run, and what may be written of its output where the desk is unavailable.
-type Trial = (Step, &'static [&'static str]);
+/// A run: its name, what is done to the store before it, the words and the sheet; its status and its output, and what
+/// may be written of that where the desk is unavailable.
+#[derive(Clone, Copy)]
+struct Trial {
+    label: &'static str,
+    sql: &'static str,
+    words: &'static [&'static str],
+    sheet: Sheet,
+    status: u8,
+    output: &'static str,
+    fronts: &'static [&'static str],
+}
+
+const INIT: Trial = Trial {
+    label: "init",
+    sql: "",
+    words: &["init", "--store", "museum.sqlite", "--key", "abc"],
+    sheet: Sheet::Fails(MachineFault::Failed),
+    status: 0,
+    output: "done\n",
+    fronts: &[""],
+};
 
 /// An `import` of accession 12 under a deed that is given before it, and of a row that is none.
-const FIRST: Step = like!(Step, INIT,
+const FIRST: Trial = like!(Trial, INIT,
     label: "import",
     sql: "INSERT INTO deed VALUES (7, 'A. Curator', 18020); INSERT INTO rule VALUES (1, 7, 20, 1, NULL, NULL, 0, 0, '', 2)",
     words: &["import", "--store", "museum.sqlite", "--key", "abc", "--sheet", "images.csv"],
     sheet: Sheet::Texts(&[HEADER, EMPTY, HELLO_12]),
     status: 1,
-    output: "row 1 bad-row\n12 done\n"
+    output: "row 1 bad-row\n12 done\n",
+    fronts: &["", "row 1 bad-row\n"]
 );
 
 /// An `import` of accession 12 again, and then of 13.
-const SECOND: Step = like!(Step, INIT,
+const SECOND: Trial = like!(Trial, INIT,
     label: "import of another",
     words: &["import", "--store", "museum.sqlite", "--key", "abc", "--sheet", "images.csv"],
     sheet: Sheet::Texts(&[HEADER, HELLO_12, "13,d64,7,ee352834e06f2b572e65490eb845939724cc38542aed18acdf81eded76912afb,hello.d64\n"]),
-    output: "12 done\n13 done\n"
+    output: "12 done\n13 done\n",
+    fronts: &["", "12 done\n"]
 );
 
-const EXPORT: Step = like!(Step, INIT,
+const EXPORT: Trial = like!(Trial, INIT,
     label: "export",
     words: &["export", "--store", "museum.sqlite"],
     output: "accession,deed,kind,slot,user,name,type,size,faults,rule,effect\n12,7,d64,0,,HELLO,PRG,258,,R7.20,read\n13,7,d64,0,,HELLO,PRG,258,,R7.20,read\n"
 );
 
-const CHECK: Step = like!(Step, INIT,
+const CHECK: Trial = like!(Trial, INIT,
     label: "check",
     words: &["check", "--store", "museum.sqlite", "--key", "abc", "--acc", "12"],
     output: "12 sound\n"
 );
 
 /// Runs on one museum, one after the other.
-const TRIALS: [Trial; 5] = [
-    (INIT, &[""]),
-    (FIRST, &["", "row 1 bad-row\n"]),
-    (SECOND, &["", "12 done\n"]),
-    (EXPORT, &[""]),
-    (CHECK, &[""]),
-];
+const TRIALS: [Trial; 5] = [INIT, FIRST, SECOND, EXPORT, CHECK];
 
-/// Does to the store of a museum what a step does before it, and says whether it was done.
-fn is_changed(museum: &mut Museum<Failing>, step: &Step) -> bool {
+/// What the clock of the museum shows.
+const MOMENT: i64 = 1_893_452_400;
+
+/// Does to the store of a museum what is done before a run, and says whether it was done.
+fn is_changed(museum: &mut Museum<Failing>, trial: &Trial) -> bool {
     match &mut museum.conn {
-        Some(conn) => conn.execute_batch(step.sql).is_ok(),
+        Some(conn) => conn.execute_batch(trial.sql).is_ok(),
         None => false,
     }
 }
 
-/// What the run of a step left behind.
-fn ran(alloc: Global, museum: &mut Museum<Failing>, step: &Step) -> Ran {
-    museum.moment = step.moment;
+/// What a run left behind.
+fn ran(alloc: Global, museum: &mut Museum<Failing>, trial: &Trial) -> Ran {
+    museum.moment = Ok(MOMENT);
     museum.is_clock_read = false;
-    museum.sheet = step.sheet;
+    museum.sheet = trial.sheet;
     let mut output = Vec::new(alloc);
     let mut errors = Vec::new(alloc);
-    let status = run_on_museum(alloc, step.words, &mut output, &mut errors, museum);
+    let status = run_on_museum(alloc, trial.words, &mut output, &mut errors, museum);
     Ran {
         status,
         output,
@@ -118,16 +138,17 @@ fn assert_trials(rt: &impl Abort, alloc: Global, calls: u64) -> Result<Ended, Fa
         return Ok(Ended::Unopened);
     };
     let mut museum = museum(conn, door_of(alloc, &[])?);
-    for (n, (step, fronts)) in TRIALS.iter().enumerate() {
-        if !is_changed(&mut museum, step) {
+    for (n, trial) in TRIALS.iter().enumerate() {
+        if !is_changed(&mut museum, trial) {
             return Ok(Ended::Unopened);
         }
-        let ran = ran(alloc, &mut museum, step);
-        if !is_left(&ran, step.status, step.output, "") {
-            let is_told = fronts
+        let ran = ran(alloc, &mut museum, trial);
+        if !is_left(&ran, trial.status, trial.output, "") {
+            let is_told = trial
+                .fronts
                 .iter()
                 .any(|front| is_left(&ran, 3, front, "desk: store\n"));
-            assert!(rt; is_told, "{} at {calls} calls: {ran:?}", step.label);
+            assert!(rt; is_told, "{} at {calls} calls: {ran:?}", trial.label);
             return Ok(if museum.is_clock_read {
                 Ended::Unavailable(n)
             } else {
@@ -144,10 +165,10 @@ const EACH: u64 = 7;
 #[test]
 fn a_disk_that_fails_is_told(rt: HostRuntime) -> Result<(), Fail> {
     let mut seen = [false; 5];
-    for trial in 0..3_000 {
-        match assert_trials(&rt, rt.alloc(), EACH * trial)? {
+    for nth in 0..3_000 {
+        match assert_trials(&rt, rt.alloc(), EACH * nth)? {
             Ended::Whole => {
-                assert_eq!(rt; seen, [false, true, true, true, true], "{trial}");
+                assert_eq!(rt; seen, [false, true, true, true, true], "{nth}");
                 return Ok(());
             }
             Ended::Unopened => {}

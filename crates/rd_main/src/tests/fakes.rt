@@ -2,12 +2,9 @@
 
 ghost use Rattle.std.specs.Prelude.{None};
 
-use super::visits::repeated;
 use rd_http::MemoryDoor;
 use rd_program::{Machine, MachineFault};
 use rd_rows::cbm::one_program;
-use rd_rows::cpm::hello;
-use rd_volume::NoMemory;
 use sqlite::{Alter, Connection, MemStore};
 use std::alloc::{AllocError, Global};
 use std::io;
@@ -103,14 +100,11 @@ impl Write for Stumbling {
     }
 }
 
-/// A machine with one file, or with none to give. It has no store, no clock and no port.
+/// A machine with no file, no store, no clock and no port.
 #[derive(Drop)]
-pub(crate) struct OneFile<'a> {
-    pub(crate) path: &'a str,
-    pub(crate) bytes: Result<&'a [u8], MachineFault>,
-}
+pub(crate) struct Bare;
 
-impl Machine for OneFile<'_> {
+impl Machine for Bare {
     type Disk = MemStore;
 
     type Door = MemoryDoor;
@@ -119,14 +113,8 @@ impl Machine for OneFile<'_> {
 
     ghost left = { λ _. None };
 
-    fn read_file(&mut self, alloc: Global, path: &str) -> Result<Vec<u8>, MachineFault> {
-        if path != self.path {
-            return Err(MachineFault::Failed);
-        }
-        match self.bytes {
-            Ok(bytes) => Vec::from_slice(alloc, bytes).map_err(|_| MachineFault::NoMemory),
-            Err(fault) => Err(fault),
-        }
+    fn read_file(&mut self, _alloc: Global, _path: &str) -> Result<Vec<u8>, MachineFault> {
+        Err(MachineFault::Failed)
     }
 
     fn read_sheet(&mut self, _alloc: Global, _path: &str) -> Result<Vec<u8>, MachineFault> {
@@ -159,9 +147,6 @@ pub(crate) const SHEET: &str = "images.csv";
 pub(crate) enum Sheet {
     /// Texts, one after the other.
     Texts(&'static [&'static str]),
-    /// Texts, each so many times.
-    Repeated(&'static [(&'static str, usize)]),
-    Bytes(&'static [u8]),
     /// It is not given.
     Fails(MachineFault),
 }
@@ -176,38 +161,24 @@ fn joined(alloc: Global, texts: &[&str]) -> Result<Vec<u8>, AllocError> {
 
 /// The bytes of the file of an image.
 fn image_at(alloc: Global, path: &str) -> Result<Vec<u8>, MachineFault> {
-    let image = match path {
-        "hello.d64" | "hello world.d64" | "h\u{e9}llo,\"1\".d64" => one_program(alloc),
-        "empty.d64" => return Ok(Vec::new(alloc)),
-        "short.d64" => one_program(alloc).map(|mut image| {
-            image.truncate(174_847);
-            image
-        }),
-        "hello.img" => hello(alloc),
-        "no-memory.d64" => return Err(MachineFault::NoMemory),
-        _ => return Err(MachineFault::Failed),
-    };
-    image.map_err(|_| MachineFault::NoMemory)
+    if path != "hello.d64" {
+        return Err(MachineFault::Failed);
+    }
+    one_program(alloc).map_err(|_| MachineFault::NoMemory)
 }
 
-/// A machine with one store, which stays between runs, with some files of images, and with visits to come. The store
+/// A machine with one store, which stays between runs, with the file of one image, and with visits to come. The store
 /// is in memory where no type says otherwise.
 #[derive(Drop)]
 pub(crate) struct Museum<S: Alter + Drop = MemStore> {
     /// The store; `None` while a command has it.
     pub(crate) conn: Option<Connection<S>>,
     pub(crate) door: MemoryDoor,
-    /// Whether the store is given, and why not.
-    pub(crate) connects: Result<(), MachineFault>,
-    /// Whether the door is lent, and why not.
-    pub(crate) listens: Result<(), MachineFault>,
     /// What the clock shows.
     pub(crate) moment: Result<i64, MachineFault>,
     /// Whether it was read.
     pub(crate) is_clock_read: bool,
     pub(crate) sheet: Sheet,
-    /// The port that was asked for last.
-    pub(crate) port: Option<u16>,
 }
 
 impl<S: Alter + Drop> Machine for Museum<S> {
@@ -229,20 +200,12 @@ impl<S: Alter + Drop> Machine for Museum<S> {
         }
         match self.sheet {
             Sheet::Texts(texts) => joined(alloc, texts).map_err(|_| MachineFault::NoMemory),
-            Sheet::Repeated(texts) => match repeated(alloc, texts) {
-                Ok(text) => Ok(text.into_bytes()),
-                Err(NoMemory) => Err(MachineFault::NoMemory),
-            },
-            Sheet::Bytes(bytes) => Vec::from_slice(alloc, bytes).map_err(
-                |_| MachineFault::NoMemory,
-            ),
             Sheet::Fails(fault) => Err(fault),
         }
     }
 
     /// It fails at a path of no store too, and where the store was not given back, or inside a transaction.
     fn connect(&mut self, path: &str) -> Result<Connection<S>, MachineFault> {
-        self.connects?;
         if path != STORE {
             return Err(MachineFault::Failed);
         }
@@ -261,9 +224,7 @@ impl<S: Alter + Drop> Machine for Museum<S> {
         self.moment
     }
 
-    fn listen(&mut self, port: u16) -> Result<&mut MemoryDoor, MachineFault> {
-        self.port = Some(port);
-        self.listens?;
+    fn listen(&mut self, _port: u16) -> Result<&mut MemoryDoor, MachineFault> {
         Ok(&mut self.door)
     }
 }

@@ -1,11 +1,10 @@
 //! Runs that a script makes under an allocator that refuses one growth. A run that tells that memory was
 //! refused is made again, and then has to end as ever. Outputs are arrays, which ask for no memory.
 
-use super::fakes::{Museum, Sheet};
-use super::imports::{EMPTY, HEADER, HELLO_12, OTHER_DIGEST};
-use super::no_file;
-use super::steps::{museum, new_connection, recorded, run_on_museum, write_over};
-use super::visits::{AFTER, Came, DONE, STAFF, Visit, door_of};
+use super::fakes::{Bare, Museum, Sheet};
+use super::museums::{museum, new_connection, recorded, run_on_museum, write_over};
+use super::sheets::{EMPTY, HEADER, HELLO_12, OTHER_DIGEST};
+use super::visits::{Visit, door_of};
 use rd_http::MemoryDoor;
 use rd_program::run;
 use rd_rows::bytes::put;
@@ -77,14 +76,7 @@ fn run_on_image(
     let mut input = image;
     let mut room = output;
     let mut told = errors;
-    run(
-        alloc,
-        words,
-        &mut input,
-        &mut room,
-        &mut told,
-        &mut no_file(),
-    )
+    run(alloc, words, &mut input, &mut room, &mut told, &mut Bare)
 }
 
 /// A run on an image: its words, its status, and the line that it tells.
@@ -426,14 +418,8 @@ fn init_when_memory_is_refused(rt: HostRuntime) -> Result<(), Fail> {
 
 /// A visit at which the staff puts a deed.
 const DEED: &[Visit] = &[(
-    "deed",
-    AFTER,
-    Came::Asked(
-        "PUT /deeds/7",
-        STAFF,
-        r#"{"donor":"A. Curator","signed":"2019-05-04"}"#,
-    ),
-    DONE,
+    "PUT /deeds/7",
+    r#"{"donor":"A. Curator","signed":"2019-05-04"}"#,
 )];
 
 /// What goes out at it.
@@ -531,14 +517,8 @@ fn serve_when_memory_is_refused(rt: HostRuntime) -> Result<(), Fail> {
 
 /// A visit at which the staff lets anyone read the files under the deed.
 const RULE: &[Visit] = &[(
-    "rule",
-    AFTER,
-    Came::Asked(
-        "PUT /deeds/7/rules/20",
-        STAFF,
-        r#"{"audiences":["public"],"effect":"read","select":{"all":true}}"#,
-    ),
-    DONE,
+    "PUT /deeds/7/rules/20",
+    r#"{"audiences":["public"],"effect":"read","select":{"all":true}}"#,
 )];
 
 /// A museum whose desk has a deed and its rule.

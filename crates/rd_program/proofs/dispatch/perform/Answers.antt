@@ -3,11 +3,13 @@ use Rattle.std.proofs.lemmas.Result.{IfErr-weaker}
 use Rattle.rd_program.specs.Asks.{AsksADesk, AsksCheckOf, AsksFile, AsksFiles, AsksNew, AsksVisits, IsFileAsk, IsFilesAsk, IsInitAsk, IsServeAsk, TellsInRows, TellsOnOutput}
 use Rattle.rd_program.specs.Cat.{Refuses, Serves}
 use Rattle.std.specs.Io.KnownBytes.{Appends}
+use Rattle.rd_program.specs.Leaves.{LeavesBy, LeavesRefused}
 use Rattle.rd_program.specs.Listed.{Lists, RefusesList}
 use Rattle.rd_program.specs.Serving.{RefusesServe, serve_text}
 use Rattle.rd_program.proofs.Answered.{once_kept, once_never}
 use Rattle.rd_program.proofs.Imported.{err_whole, ok_whole, whole_is}
 use Rattle.rd_program.proofs.Inited.{at_err_both, left_as, made_as, on_both}
+use Rattle.rd_program.proofs.LeftBy.{no_refusal}
 use Rattle.rd_program.proofs.Ran.{as_asked}
 use Rattle.rd_program.specs.declared.done.Done.TheVariants.{InPart}
 use Rattle.rd_program.proofs.dispatch.perform.Goals as goal
@@ -119,7 +121,7 @@ pub returns-in-Init-clause-not_made : goal.returns-in-Init-clause-not_made
 returns-in-Init-clause-not_made g c = λ store key asked.
     let asks : AsksNew c.in-Init.ask store key = subst (IsInitAsk store key) c.in-Init.is asked in
     err_whole _ c.init.result c.whole-in-Init.result c.whole-in-Init.ensures (at_err_both c.init.result _ _ c.init.ensures.refused
-    (left_as _ (g.M.Machine.stands c.args.machine.now) (g.M.Machine.left c.init.new.machine) c.init.result _ store _ key asks.store_is asks.key_is c.init.ensures.left))
+    (left_as _ (g.M.Machine.left c.args.machine.now) (g.M.Machine.stands c.args.machine.now) (g.M.Machine.left c.init.new.machine) c.init.result _ store _ key asks.store_is asks.key_is c.init.ensures.left))
 
 pub returns-in-Serve-clause-served : goal.returns-in-Serve-clause-served
 returns-in-Serve-clause-served g c = λ store port count rule asked.
@@ -270,3 +272,60 @@ returns-in-Once-clause-checked g c = λ acc asked. c.ask_once.ensures.told acc (
 
 pub returns-in-Once-clause-not_answered : goal.returns-in-Once-clause-not_answered
 returns-in-Once-clause-not_answered g c = λ asked. c.ask_once.ensures.refused
+
+-- ---- what is left of the store
+
+pub returns-in-Serve-clause-leaves : goal.returns-in-Serve-clause-leaves
+returns-in-Serve-clause-leaves g c =
+    subst (LeavesBy g.M.Disk.Store (g.M.Machine.left c.args.machine.now) (g.M.Machine.stands c.args.machine.now) (g.M.Machine.left c.serve.new.machine)) (sym c.in-Serve.is) c.serve.ensures.lasts
+
+pub returns-in-Serve-clause-leaves_refused : goal.returns-in-Serve-clause-leaves_refused
+returns-in-Serve-clause-leaves_refused g c =
+    err_whole _ c.serve.result c.whole-in-Serve.result c.whole-in-Serve.ensures
+    (subst (λ ask. IfErr c.serve.result (LeavesRefused g.M.Disk.Store (g.M.Machine.left c.args.machine.now) (g.M.Machine.stands c.args.machine.now) (g.M.Machine.left c.serve.new.machine)
+    (g.W.Write.contents c.args.output.now) (g.W.Write.contents c.serve.new.output) ask)) (sym c.in-Serve.is) c.serve.ensures.left)
+
+pub returns-in-Import-clause-leaves : goal.returns-in-Import-clause-leaves
+returns-in-Import-clause-leaves g c =
+    subst (LeavesBy g.M.Disk.Store (g.M.Machine.left c.args.machine.now) (g.M.Machine.stands c.args.machine.now) (g.M.Machine.left c.import.new.machine)) (sym c.in-Import.is) c.import.ensures.takes
+
+pub returns-in-Import-clause-leaves_refused : goal.returns-in-Import-clause-leaves_refused
+returns-in-Import-clause-leaves_refused g c =
+    subst (λ ask. IfErr c.import.result (LeavesRefused g.M.Disk.Store (g.M.Machine.left c.args.machine.now) (g.M.Machine.stands c.args.machine.now) (g.M.Machine.left c.import.new.machine)
+    (g.W.Write.contents c.args.output.now) (g.W.Write.contents c.import.new.output) ask)) (sym c.in-Import.is) c.import.ensures.opens
+
+pub returns-in-Once-clause-leaves : goal.returns-in-Once-clause-leaves
+returns-in-Once-clause-leaves g c =
+    subst (LeavesBy g.M.Disk.Store (g.M.Machine.left c.args.machine.now) (g.M.Machine.stands c.args.machine.now) (g.M.Machine.left c.ask_once.new.machine)) (sym c.in-Once.is) c.ask_once.ensures.steps
+
+pub returns-in-Once-clause-leaves_refused : goal.returns-in-Once-clause-leaves_refused
+returns-in-Once-clause-leaves_refused g c =
+    subst (λ ask. IfErr c.ask_once.result (LeavesRefused g.M.Disk.Store (g.M.Machine.left c.args.machine.now) (g.M.Machine.stands c.args.machine.now) (g.M.Machine.left c.ask_once.new.machine)
+    (g.W.Write.contents c.args.output.now) (g.W.Write.contents c.ask_once.new.output) ask)) (sym c.in-Once.is) c.ask_once.ensures.opens
+
+pub returns-in-File-clause-leaves : goal.returns-in-File-clause-leaves
+returns-in-File-clause-leaves g c =
+    subst (LeavesBy g.M.Disk.Store (g.M.Machine.left c.args.machine.now) (g.M.Machine.stands c.args.machine.now) (g.M.Machine.left c.cat.new.machine)) (sym c.in-File.is) tt
+
+pub returns-in-File-clause-leaves_refused : goal.returns-in-File-clause-leaves_refused
+returns-in-File-clause-leaves_refused g c =
+    subst (λ ask. IfErr c.whole.result (LeavesRefused g.M.Disk.Store (g.M.Machine.left c.args.machine.now) (g.M.Machine.stands c.args.machine.now) (g.M.Machine.left c.cat.new.machine)
+    (g.W.Write.contents c.args.output.now) (g.W.Write.contents c.cat.new.output) ask)) (sym c.in-File.is) (no_refusal c.whole.result)
+
+pub returns-in-Files-clause-leaves : goal.returns-in-Files-clause-leaves
+returns-in-Files-clause-leaves g c =
+    subst (LeavesBy g.M.Disk.Store (g.M.Machine.left c.args.machine.now) (g.M.Machine.stands c.args.machine.now) (g.M.Machine.left c.list.new.machine)) (sym c.in-Files.is) tt
+
+pub returns-in-Files-clause-leaves_refused : goal.returns-in-Files-clause-leaves_refused
+returns-in-Files-clause-leaves_refused g c =
+    subst (λ ask. IfErr c.whole-in-Files.result (LeavesRefused g.M.Disk.Store (g.M.Machine.left c.args.machine.now) (g.M.Machine.stands c.args.machine.now) (g.M.Machine.left c.list.new.machine)
+    (g.W.Write.contents c.args.output.now) (g.W.Write.contents c.list.new.output) ask)) (sym c.in-Files.is) (no_refusal c.whole-in-Files.result)
+
+pub returns-in-Init-clause-leaves : goal.returns-in-Init-clause-leaves
+returns-in-Init-clause-leaves g c =
+    subst (LeavesBy g.M.Disk.Store (g.M.Machine.left c.args.machine.now) (g.M.Machine.stands c.args.machine.now) (g.M.Machine.left c.init.new.machine)) (sym c.in-Init.is) tt
+
+pub returns-in-Init-clause-leaves_refused : goal.returns-in-Init-clause-leaves_refused
+returns-in-Init-clause-leaves_refused g c =
+    subst (λ ask. IfErr c.whole-in-Init.result (LeavesRefused g.M.Disk.Store (g.M.Machine.left c.args.machine.now) (g.M.Machine.stands c.args.machine.now) (g.M.Machine.left c.init.new.machine)
+    (g.W.Write.contents c.args.output.now) (g.W.Write.contents c.init.new.output) ask)) (sym c.in-Init.is) (no_refusal c.whole-in-Init.result)

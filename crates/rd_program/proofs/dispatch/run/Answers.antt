@@ -1,4 +1,4 @@
-use Rattle.std.proofs.Common.{◌≡◌, ◌∙◌, arith, codes, inl, inr, refl, subst, sym}
+use Rattle.std.proofs.Common.{◌≡◌, ◌∙◌, Some, arith, codes, inl, inr, refl, subst, sym}
 use Rattle.std.specs.Prelude.{⊤}
 use Rattle.rd_program.specs.Asking.{TellsCheck}
 use Rattle.rd_program.specs.Input.{ReadsUpTo}
@@ -7,10 +7,13 @@ use Rattle.rd_program.specs.Serving.{serve_text}
 use Rattle.rd_program.specs.Told.{Tells}
 use Rattle.rd_program.specs.Versions.{RefusesVersion}
 use Rattle.rd_program.specs.declared.refusal.Refusal.TheVariants.{NoMemory}
+use Rattle.rd_program.specs.declared.words.Question.TheVariants.{Catalogue, Check}
 use Rattle.rd_program.proofs.Asked.{help_asked, no_fault_in}
 use Rattle.std.proofs.KnownBytes.{Keeps-refl}
 use Rattle.rd_program.proofs.Answered.{check_asks, check_of_desk, export_asks, export_is_whole}
 use Rattle.rd_program.proofs.Imported.{done_lines, import_tells, in_part_is_one, not_in_rows, one_is_some, rows_of, rows_tell}
+use Rattle.rd_program.proofs.Left.{none_still, still_left}
+use Rattle.rd_program.proofs.LeftBy.{import_leaves, import_names, once_leaves, once_names, serve_leaves, serve_refused}
 use Rattle.rd_program.proofs.Ran.{is_cut, kept_is_cut, no_sound_file, not_done, of_all, of_known, reads_few, reads_no_input, reads_of_kind, tells}
 use Rattle.rd_program.proofs.ReadUpTo.{reads_none, reads_within}
 use Rattle.rd_program.proofs.VersionLine.{version_asked, version_no_help, version_not_taken}
@@ -182,7 +185,12 @@ returns-in-Err-perform-clause-served g c = λ zero. absurd (not_done c.in-Err-pe
 
 pub returns-in-Err-perform-clause-serve_told : goal.returns-in-Err-perform-clause-serve_told
 returns-in-Err-perform-clause-serve_told g c = λ some store port count rule asked.
-    tells _ c.in-Err-perform.refused _ _ _ (c.in-Err-perform.ensures.not_served store port count rule (c.in-Ok.ensures.read.serve store port count rule asked))
+    let asks = c.in-Ok.ensures.read.serve store port count rule asked in
+    tells _ c.in-Err-perform.refused _ _ _ (
+      c.in-Err-perform.ensures.not_served store port count rule asks,
+      serve_refused g.M.Disk.Store (g.M.Machine.left c.args.machine.now) (g.M.Machine.stands c.args.machine.now) (g.M.Machine.left c.perform.new.machine)
+          c.in-Ok.ask store port count rule (g.W.Write.contents c.args.output.now) (g.W.Write.contents c.perform.new.output) c.in-Err-perform.refused asks c.in-Err-perform.ensures.leaves_refused,
+    )
     c.tell_refusal.ensures.status c.tell_refusal.ensures.told
 
 pub returns-in-Err-clause-made : goal.returns-in-Err-clause-made
@@ -194,7 +202,7 @@ pub returns-in-Err-clause-init_told : goal.returns-in-Err-clause-init_told
 returns-in-Err-clause-init_told g c = λ some store key asked.
     let none = c.in-Err.ensures.unread (inr (inr (inl (store, key, asked)))) in
     let memory = c.tell_unread.ensures.memory none in
-    tells _ NoMemory _ _ _ ((memory.1, inr (inr refl)), tt) memory.0 (c.tell_unread.ensures.no_memory none)
+    tells _ NoMemory _ _ _ ((memory.1, inr (inr refl)), none_still (g.M.Machine.left c.args.machine.now)) memory.0 (c.tell_unread.ensures.no_memory none)
 
 pub returns-in-Err-clause-served : goal.returns-in-Err-clause-served
 returns-in-Err-clause-served g c = λ zero store port count rule asked.
@@ -205,7 +213,7 @@ pub returns-in-Err-clause-serve_told : goal.returns-in-Err-clause-serve_told
 returns-in-Err-clause-serve_told g c = λ some store port count rule asked.
     let none = c.in-Err.ensures.unread (inr (inr (inr (inl (store, port, count, rule, asked))))) in
     let memory = c.tell_unread.ensures.memory none in
-    tells _ NoMemory _ _ _ (none_written _ _ (serve_text port count) memory.1) memory.0 (c.tell_unread.ensures.no_memory none)
+    tells _ NoMemory _ _ _ (none_written _ _ (serve_text port count) memory.1, inr (still_left (g.M.Machine.left c.args.machine.now) (g.M.Machine.stands c.args.machine.now store) _)) memory.0 (c.tell_unread.ensures.no_memory none)
 
 -- ---- what was done in part
 
@@ -259,19 +267,22 @@ returns-in-Ok-perform-clause-imported g c = λ zero asks.
     done_lines c.in-Ok-perform.done _ _ (c.status.ensures.whole zero) (c.in-Ok-perform.ensures.imported (import_tells _ c.in-Ok.ask c.in-Ok.ensures.read asks))
 
 pub returns-in-Ok-perform-clause-import_told : goal.returns-in-Ok-perform-clause-import_told
-returns-in-Ok-perform-clause-import_told g c = λ some asks.
+returns-in-Ok-perform-clause-import_told g c = λ some store key sheet moment rule asks.
     inl (
       in_part_is_one _ c.status.ensures.most some,
       Keeps-refl _,
-      rows_of c.in-Ok-perform.done _ _ (c.in-Ok-perform.ensures.imported (import_tells _ c.in-Ok.ask c.in-Ok.ensures.read asks)),
+      rows_of c.in-Ok-perform.done _ _ (c.in-Ok-perform.ensures.imported (import_tells _ c.in-Ok.ask c.in-Ok.ensures.read (store, key, sheet, moment, rule, asks))),
     )
 
 pub returns-in-Err-perform-clause-imported : goal.returns-in-Err-perform-clause-imported
 returns-in-Err-perform-clause-imported g c = λ zero. absurd (not_done c.in-Err-perform.refused (sym c.tell_refusal.ensures.status ∙ zero))
 
 pub returns-in-Err-perform-clause-import_told : goal.returns-in-Err-perform-clause-import_told
-returns-in-Err-perform-clause-import_told g c = λ some asks.
-    inr (tells _ c.in-Err-perform.refused _ _ _ (c.in-Err-perform.ensures.not_imported (import_tells _ c.in-Ok.ask c.in-Ok.ensures.read asks))
+returns-in-Err-perform-clause-import_told g c = λ some store key sheet moment rule asks.
+    let names = import_names g.M.Disk.Store (g.M.Machine.left c.args.machine.now) (g.M.Machine.stands c.args.machine.now) (g.M.Machine.left c.perform.new.machine)
+    c.in-Ok.ask store key sheet moment rule (g.W.Write.contents c.args.output.now) (g.W.Write.contents c.perform.new.output) c.in-Err-perform.refused (c.in-Ok.ensures.read.import store key sheet moment rule asks) c.in-Err-perform.ensures.leaves_refused in
+    inr (tells _ c.in-Err-perform.refused _ _ _
+    (c.in-Err-perform.ensures.not_imported (import_tells _ c.in-Ok.ask c.in-Ok.ensures.read (store, key, sheet, moment, rule, asks)), names)
     c.tell_refusal.ensures.status c.tell_refusal.ensures.told)
 
 pub returns-in-Err-clause-imported : goal.returns-in-Err-clause-imported
@@ -280,10 +291,10 @@ returns-in-Err-clause-imported g c = λ zero asks.
     let three : c.tell_unread.result ≡ 3 = memory.0 in absurd (omega arith)
 
 pub returns-in-Err-clause-import_told : goal.returns-in-Err-clause-import_told
-returns-in-Err-clause-import_told g c = λ some asks.
-    let none = c.in-Err.ensures.unread (inr (inr (inr (inr (inl asks))))) in
+returns-in-Err-clause-import_told g c = λ some store key sheet moment rule asks.
+    let none = c.in-Err.ensures.unread (inr (inr (inr (inr (inl (store, key, sheet, moment, rule, asks)))))) in
     let memory = c.tell_unread.ensures.memory none in
-    inr (tells _ NoMemory _ _ _ (inr (inl (inr (inr (inr (inr refl)))), memory.1)) memory.0 (c.tell_unread.ensures.no_memory none))
+    inr (tells _ NoMemory _ _ _ (inr (inl (inr (inr (inr (inr refl)))), memory.1), tt) memory.0 (c.tell_unread.ensures.no_memory none))
 
 -- ---- a desk that is asked once
 
@@ -292,29 +303,34 @@ returns-in-Ok-perform-clause-sound g c = λ zero acc asks.
     subst (TellsCheck acc _ _) (c.status.ensures.whole zero) (c.in-Ok-perform.ensures.checked acc (check_asks _ acc c.in-Ok.ask c.in-Ok.ensures.read asks))
 
 pub returns-in-Ok-perform-clause-check_told : goal.returns-in-Ok-perform-clause-check_told
-returns-in-Ok-perform-clause-check_told g c = λ some acc asks.
+returns-in-Ok-perform-clause-check_told g c = λ some store key acc moment rule asks.
     inl (
       in_part_is_one _ c.status.ensures.most some,
       Keeps-refl _,
-      subst (TellsCheck acc _ _) (c.status.ensures.in_part some) (c.in-Ok-perform.ensures.checked acc (check_asks _ acc c.in-Ok.ask c.in-Ok.ensures.read asks)),
+      subst (TellsCheck acc _ _) (c.status.ensures.in_part some)
+          (c.in-Ok-perform.ensures.checked acc (check_asks _ acc c.in-Ok.ask c.in-Ok.ensures.read (store, key, moment, rule, asks))),
     )
 
 pub returns-in-Ok-perform-clause-export_told : goal.returns-in-Ok-perform-clause-export_told
-returns-in-Ok-perform-clause-export_told g c = λ some asks.
-    absurd (export_is_whole _ c.in-Ok.ask c.in-Ok.ensures.read asks (c.in-Ok-perform.ensures.in_part (c.status.ensures.in_part some)))
+returns-in-Ok-perform-clause-export_told g c = λ some store key moment rule asks.
+    absurd (export_is_whole _ c.in-Ok.ask c.in-Ok.ensures.read (store, key, moment, rule, asks) (c.in-Ok-perform.ensures.in_part (c.status.ensures.in_part some)))
 
 pub returns-in-Err-perform-clause-sound : goal.returns-in-Err-perform-clause-sound
 returns-in-Err-perform-clause-sound g c = λ zero. absurd (not_done c.in-Err-perform.refused (sym c.tell_refusal.ensures.status ∙ zero))
 
 pub returns-in-Err-perform-clause-check_told : goal.returns-in-Err-perform-clause-check_told
-returns-in-Err-perform-clause-check_told g c = λ some acc asks.
-    let asked = check_of_desk acc c.in-Ok.ask (check_asks _ acc c.in-Ok.ask c.in-Ok.ensures.read asks) in
-    inr (tells _ c.in-Err-perform.refused _ _ _ (c.in-Err-perform.ensures.not_answered asked) c.tell_refusal.ensures.status c.tell_refusal.ensures.told)
+returns-in-Err-perform-clause-check_told g c = λ some store key acc moment rule asks.
+    let asked = check_of_desk acc c.in-Ok.ask (check_asks _ acc c.in-Ok.ask c.in-Ok.ensures.read (store, key, moment, rule, asks)) in
+    let names = once_names g.M.Disk.Store (g.M.Machine.left c.args.machine.now) (g.M.Machine.stands c.args.machine.now) (g.M.Machine.left c.perform.new.machine)
+    c.in-Ok.ask store (Some key) (Check acc) moment rule (g.W.Write.contents c.args.output.now) (g.W.Write.contents c.perform.new.output) c.in-Err-perform.refused (c.in-Ok.ensures.read.check store key acc moment rule asks) c.in-Err-perform.ensures.leaves_refused in
+    inr (tells _ c.in-Err-perform.refused _ _ _ (c.in-Err-perform.ensures.not_answered asked, names) c.tell_refusal.ensures.status c.tell_refusal.ensures.told)
 
 pub returns-in-Err-perform-clause-export_told : goal.returns-in-Err-perform-clause-export_told
-returns-in-Err-perform-clause-export_told g c = λ some asks.
-    tells _ c.in-Err-perform.refused _ _ _ (c.in-Err-perform.ensures.not_answered (export_asks _ c.in-Ok.ask c.in-Ok.ensures.read asks))
-    c.tell_refusal.ensures.status c.tell_refusal.ensures.told
+returns-in-Err-perform-clause-export_told g c = λ some store key moment rule asks.
+    let asked = export_asks _ c.in-Ok.ask c.in-Ok.ensures.read (store, key, moment, rule, asks) in
+    let names = once_names g.M.Disk.Store (g.M.Machine.left c.args.machine.now) (g.M.Machine.stands c.args.machine.now) (g.M.Machine.left c.perform.new.machine)
+    c.in-Ok.ask store key Catalogue moment rule (g.W.Write.contents c.args.output.now) (g.W.Write.contents c.perform.new.output) c.in-Err-perform.refused (c.in-Ok.ensures.read.export store key moment rule asks) c.in-Err-perform.ensures.leaves_refused in
+    tells _ c.in-Err-perform.refused _ _ _ (c.in-Err-perform.ensures.not_answered asked, names) c.tell_refusal.ensures.status c.tell_refusal.ensures.told
 
 pub returns-in-Err-clause-sound : goal.returns-in-Err-clause-sound
 returns-in-Err-clause-sound g c = λ zero acc asks.
@@ -322,16 +338,16 @@ returns-in-Err-clause-sound g c = λ zero acc asks.
     let three : c.tell_unread.result ≡ 3 = memory.0 in absurd (omega arith)
 
 pub returns-in-Err-clause-check_told : goal.returns-in-Err-clause-check_told
-returns-in-Err-clause-check_told g c = λ some acc asks.
-    let none = c.in-Err.ensures.unread (inr (inr (inr (inr (inr (inr (acc, asks))))))) in
+returns-in-Err-clause-check_told g c = λ some store key acc moment rule asks.
+    let none = c.in-Err.ensures.unread (inr (inr (inr (inr (inr (inr (acc, (store, key, moment, rule, asks)))))))) in
     let memory = c.tell_unread.ensures.memory none in
-    inr (tells _ NoMemory _ _ _ (inl (inr (inl (inr refl)), memory.1)) memory.0 (c.tell_unread.ensures.no_memory none))
+    inr (tells _ NoMemory _ _ _ (inl (inr (inl (inr refl)), memory.1), tt) memory.0 (c.tell_unread.ensures.no_memory none))
 
 pub returns-in-Err-clause-export_told : goal.returns-in-Err-clause-export_told
-returns-in-Err-clause-export_told g c = λ some asks.
-    let none = c.in-Err.ensures.unread (inr (inr (inr (inr (inr (inl asks)))))) in
+returns-in-Err-clause-export_told g c = λ some store key moment rule asks.
+    let none = c.in-Err.ensures.unread (inr (inr (inr (inr (inr (inl (store, key, moment, rule, asks))))))) in
     let memory = c.tell_unread.ensures.memory none in
-    tells _ NoMemory _ _ _ (inl (inr (inl (inr refl)), memory.1)) memory.0 (c.tell_unread.ensures.no_memory none)
+    tells _ NoMemory _ _ _ (inl (inr (inl (inr refl)), memory.1), tt) memory.0 (c.tell_unread.ensures.no_memory none)
 
 -- ---- the version
 
@@ -390,3 +406,57 @@ returns-in-Err-clause-no_rule g c = λ none. elim (c.in-Err.ensures.no_rule none
   | inl usage ↦ inl (c.tell_unread.ensures.mistaken usage)
   | inr memory ↦ inr (tells (λ refusal. refusal ≡ NoMemory) NoMemory _ _ _ refl (c.tell_unread.ensures.memory memory).0 (c.tell_unread.ensures.no_memory memory))
 ]
+
+-- ---- what is left of the store
+
+pub returns-in-Ok-perform-clause-serve_leaves : goal.returns-in-Ok-perform-clause-serve_leaves
+returns-in-Ok-perform-clause-serve_leaves g c = λ store port count rule asked.
+    serve_leaves g.M.Disk.Store (g.M.Machine.left c.args.machine.now) (g.M.Machine.stands c.args.machine.now) (g.M.Machine.left c.perform.new.machine)
+    c.in-Ok.ask store port count rule (c.in-Ok.ensures.read.serve store port count rule asked) c.perform.ensures.leaves
+
+pub returns-in-Ok-perform-clause-import_leaves : goal.returns-in-Ok-perform-clause-import_leaves
+returns-in-Ok-perform-clause-import_leaves g c = λ store key sheet moment rule asked.
+    import_leaves g.M.Disk.Store (g.M.Machine.left c.args.machine.now) (g.M.Machine.stands c.args.machine.now) (g.M.Machine.left c.perform.new.machine)
+    c.in-Ok.ask store key sheet moment rule (c.in-Ok.ensures.read.import store key sheet moment rule asked) c.perform.ensures.leaves
+
+pub returns-in-Ok-perform-clause-check_leaves : goal.returns-in-Ok-perform-clause-check_leaves
+returns-in-Ok-perform-clause-check_leaves g c = λ store key acc moment rule asked.
+    once_leaves g.M.Disk.Store (g.M.Machine.left c.args.machine.now) (g.M.Machine.stands c.args.machine.now) (g.M.Machine.left c.perform.new.machine)
+    c.in-Ok.ask store (Some key) (Check acc) moment rule (c.in-Ok.ensures.read.check store key acc moment rule asked) c.perform.ensures.leaves
+
+pub returns-in-Ok-perform-clause-export_leaves : goal.returns-in-Ok-perform-clause-export_leaves
+returns-in-Ok-perform-clause-export_leaves g c = λ store key moment rule asked.
+    once_leaves g.M.Disk.Store (g.M.Machine.left c.args.machine.now) (g.M.Machine.stands c.args.machine.now) (g.M.Machine.left c.perform.new.machine)
+    c.in-Ok.ask store key Catalogue moment rule (c.in-Ok.ensures.read.export store key moment rule asked) c.perform.ensures.leaves
+
+pub returns-in-Err-perform-clause-serve_leaves : goal.returns-in-Err-perform-clause-serve_leaves
+returns-in-Err-perform-clause-serve_leaves g c = λ store port count rule asked.
+    serve_leaves g.M.Disk.Store (g.M.Machine.left c.args.machine.now) (g.M.Machine.stands c.args.machine.now) (g.M.Machine.left c.perform.new.machine)
+    c.in-Ok.ask store port count rule (c.in-Ok.ensures.read.serve store port count rule asked) c.perform.ensures.leaves
+
+pub returns-in-Err-perform-clause-import_leaves : goal.returns-in-Err-perform-clause-import_leaves
+returns-in-Err-perform-clause-import_leaves g c = λ store key sheet moment rule asked.
+    import_leaves g.M.Disk.Store (g.M.Machine.left c.args.machine.now) (g.M.Machine.stands c.args.machine.now) (g.M.Machine.left c.perform.new.machine)
+    c.in-Ok.ask store key sheet moment rule (c.in-Ok.ensures.read.import store key sheet moment rule asked) c.perform.ensures.leaves
+
+pub returns-in-Err-perform-clause-check_leaves : goal.returns-in-Err-perform-clause-check_leaves
+returns-in-Err-perform-clause-check_leaves g c = λ store key acc moment rule asked.
+    once_leaves g.M.Disk.Store (g.M.Machine.left c.args.machine.now) (g.M.Machine.stands c.args.machine.now) (g.M.Machine.left c.perform.new.machine)
+    c.in-Ok.ask store (Some key) (Check acc) moment rule (c.in-Ok.ensures.read.check store key acc moment rule asked) c.perform.ensures.leaves
+
+pub returns-in-Err-perform-clause-export_leaves : goal.returns-in-Err-perform-clause-export_leaves
+returns-in-Err-perform-clause-export_leaves g c = λ store key moment rule asked.
+    once_leaves g.M.Disk.Store (g.M.Machine.left c.args.machine.now) (g.M.Machine.stands c.args.machine.now) (g.M.Machine.left c.perform.new.machine)
+    c.in-Ok.ask store key Catalogue moment rule (c.in-Ok.ensures.read.export store key moment rule asked) c.perform.ensures.leaves
+
+pub returns-in-Err-clause-serve_leaves : goal.returns-in-Err-clause-serve_leaves
+returns-in-Err-clause-serve_leaves g c = λ store port count rule asked. still_left (g.M.Machine.left c.args.machine.now) (g.M.Machine.stands c.args.machine.now store) _
+
+pub returns-in-Err-clause-import_leaves : goal.returns-in-Err-clause-import_leaves
+returns-in-Err-clause-import_leaves g c = λ store key sheet moment rule asked. still_left (g.M.Machine.left c.args.machine.now) (g.M.Machine.stands c.args.machine.now store) _
+
+pub returns-in-Err-clause-check_leaves : goal.returns-in-Err-clause-check_leaves
+returns-in-Err-clause-check_leaves g c = λ store key acc moment rule asked. still_left (g.M.Machine.left c.args.machine.now) (g.M.Machine.stands c.args.machine.now store) _
+
+pub returns-in-Err-clause-export_leaves : goal.returns-in-Err-clause-export_leaves
+returns-in-Err-clause-export_leaves g c = λ store key moment rule asked. still_left (g.M.Machine.left c.args.machine.now) (g.M.Machine.stands c.args.machine.now store) _

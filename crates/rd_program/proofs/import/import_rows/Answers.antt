@@ -1,7 +1,11 @@
-use Rattle.std.proofs.Common.{rules, subst, sym}
+use Rattle.std.proofs.Common.{rules, subst, sym, ◌∙◌}
+use Rattle.csv.specs.Records.{fields_of}
+use Rattle.rd_policy.specs.Zones.{day_number}
+use Rattle.rd_program.specs.Leaves.{LeavesDesk, TakesFields}
 use Rattle.rd_program.specs.Importing.{IsDoneLine, TellsRows}
 use Rattle.rd_program.specs.declared.done.Done.TheVariants.{Whole}
 use Rattle.rd_program.proofs.Imported.{ends_at_row, ends_between, no_rows, rows_more}
+use Rattle.rd_program.proofs.Stepped.{row_more}
 use Rattle.rd_program.proofs.import.import_rows.Goals as goal
 
 pub returns-in_err-next_row-clause-refused : goal.returns-in_err-next_row-clause-refused
@@ -21,4 +25,16 @@ pub loop-number-preserved : goal.loop-number-preserved
 loop-number-preserved g c = record {
   told = subst (TellsRows (g.W.Write.contents c.args.output.now) (g.W.Write.contents c.import_fields.new.output)) (sym c.and-done.ensures)
       (rows_more c.loop-number.done c.in_ok-row.row _ _ _ c.loop-number.invariant.told c.in_ok-row.ensures.told);
+  zone = c.import_fields.ensures.zone ∙ c.loop-number.invariant.zone;
+  takes = let day = day_number c.args.giver.seconds c.args.desk.now.zone in
+      let row = subst (λ z. LeavesDesk g.M.Disk.Store (TakesFields c.args.giver.badge (day_number c.args.giver.seconds z) (fields_of c.next_row-in-loop-number.new.fields)) c.loop-number.desk.store c.import_fields.new.desk.store)
+      c.loop-number.invariant.zone c.import_fields.ensures.takes in
+      row_more g.M.Disk.Store c.args.giver.badge day _ c.args.desk.now.store c.loop-number.desk.store c.import_fields.new.desk.store c.loop-number.invariant.takes row;
 }
+
+pub returns-in_err-row-clause-takes : goal.returns-in_err-row-clause-takes
+returns-in_err-row-clause-takes g c =
+    let day = day_number c.args.giver.seconds c.args.desk.now.zone in
+    let row = subst (λ z. LeavesDesk g.M.Disk.Store (TakesFields c.args.giver.badge (day_number c.args.giver.seconds z) (fields_of c.next_row-in-loop-number.new.fields)) c.loop-number.desk.store c.import_fields.new.desk.store)
+    c.loop-number.invariant.zone c.import_fields.ensures.takes in
+    row_more g.M.Disk.Store c.args.giver.badge day _ c.args.desk.now.store c.loop-number.desk.store c.import_fields.new.desk.store c.loop-number.invariant.takes row

@@ -1,0 +1,154 @@
+//! Changes of the tables of a desk by SQL, and questions of them.
+
+use crate::image::build_with;
+use crate::tables::answer_of;
+use crate::tally::Tally;
+use anyhow::{Result, bail};
+use sqlite::types::ValueRef;
+use sqlite::{Connection, Error, MemStore};
+use std::alloc::{AllocError, Global};
+
+/// What has to come of a statement.
+#[derive(Clone, Copy, PartialEq, Eq)]
+pub enum Effect {
+    /// It changes rows.
+    Rows,
+    /// It changes none.
+    Idle,
+    /// SQL refuses it.
+    Refused,
+}
+
+impl Effect {
+    /// The word of the line that wants it.
+    fn word(self) -> &'static str {
+        match self {
+            Effect::Rows => "sql",
+            Effect::Idle => "sql-idle",
+            Effect::Refused => "sql-refused",
+        }
+    }
+
+    /// That which the word of a line wants.
+    pub fn of(word: &str) -> Effect {
+        match word {
+            "sql-idle" => Effect::Idle,
+            "sql-refused" => Effect::Refused,
+            _ => Effect::Rows,
+        }
+    }
+}
+
+/// A statement, its place, what has to come of it, and the bytes that stand for `?1` in it.
+#[derive(Drop)]
+pub struct Change<'a> {
+    pub place: &'a str,
+    statement: &'a str,
+    wanted: Effect,
+    value: Option<Vec<u8>>,
+}
+
+impl<'a> Change<'a> {
+    pub fn new(place: &'a str, wanted: Effect, statement: &'a str) -> Change<'a> {
+        Change {
+            place,
+            statement,
+            wanted,
+            value: None,
+        }
+    }
+
+    /// Reads a line on the bytes that are given: its first word, and the text after it.
+    pub fn read(&mut self, rt: &HostRuntime, word: &str, text: &str) -> Result<()> {
+        let mut bytes = match self.value.take() {
+            Some(bytes) => bytes,
+            None => Vec::new(rt.alloc()),
+        };
+        build_with(rt, &mut bytes, word, text)?;
+        self.value = Some(bytes);
+        Ok(())
+    }
+
+    /// Changes tables. A statement that has to be refused is a case; another that does otherwise than it has to ends
+    /// the trial.
+    pub fn play(
+        &self,
+        rt: &HostRuntime,
+        conn: &mut Connection<MemStore>,
+        tally: &mut Tally,
+    ) -> Result<()> {
+        let (wanted, came) = (self.wanted.word(), self.run(conn).word());
+        if self.wanted == Effect::Refused {
+            let case = (self.place, self.statement);
+            return tally.judge(rt, case, wanted.as_bytes(), came.as_bytes());
+        }
+        if wanted != came {
+            bail!("it is no {wanted}, but a {came}");
+        }
+        Ok(())
+    }
+
+    /// Runs it, and gives what came of it.
+    fn run(&self, conn: &mut Connection<MemStore>) -> Effect {
+        let changed = match &self.value {
+            None => execute(conn, self.statement),
+            Some(bytes) => execute_with(conn, self.statement, bytes.as_slice()),
+        };
+        match changed {
+            Ok(0) => Effect::Idle,
+            Ok(_) => Effect::Rows,
+            Err(_) => Effect::Refused,
+        }
+    }
+}
+
+fn execute(conn: &mut Connection<MemStore>, sql: &str) -> Result<usize, Error> {
+    conn.execute(sql, &[])
+}
+
+fn execute_with(conn: &mut Connection<MemStore>, sql: &str, value: &[u8]) -> Result<usize, Error> {
+    conn.execute(sql, &[ValueRef::Blob(value)])
+}
+
+/// A question of SQL, its place, and the rows that have to come, each ended by a line feed.
+#[derive(Drop)]
+pub struct Question<'a> {
+    pub place: &'a str,
+    statement: &'a str,
+    rows: String,
+}
+
+impl<'a> Question<'a> {
+    pub fn new(alloc: Global, place: &'a str, statement: &'a str) -> Question<'a> {
+        Question {
+            place,
+            statement,
+            rows: String::new(alloc),
+        }
+    }
+
+    /// Asks tables for the rows.
+    pub fn play(
+        &self,
+        rt: &HostRuntime,
+        conn: &mut Connection<MemStore>,
+        tally: &mut Tally,
+    ) -> Result<()> {
+        let answer = answer_of(rt.alloc(), conn, self.statement)?;
+        let case = (self.place, self.statement);
+        tally.judge(rt, case, self.rows.as_bytes(), answer.as_bytes())
+    }
+
+    fn add_row(&mut self, text: &str) -> Result<(), AllocError> {
+        self.rows.push_str(text)?;
+        self.rows.push('\n')
+    }
+
+    /// Reads a line: its first word, and the text after it.
+    pub fn read(&mut self, word: &str, text: &str) -> Result<()> {
+        match word {
+            "row" => Ok(self.add_row(text)?),
+            _ => bail!("no such word"),
+        }
+    }
+}

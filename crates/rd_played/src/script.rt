@@ -1,0 +1,89 @@
+//! The lines of a trial.
+
+use crate::repeats::repeated;
+use anyhow::{Context, Result};
+use std::alloc::{AllocError, Global};
+use std::fs;
+
+/// A line: where it stands, as a file and a number, and its text.
+#[derive(Drop)]
+pub struct Line {
+    pub place: String,
+    pub text: String,
+}
+
+impl Line {
+    pub(crate) fn copy(&self) -> Result<Line, AllocError> {
+        Ok(Line {
+            place: self.place.clone()?,
+            text: self.text.clone()?,
+        })
+    }
+}
+
+/// The first word of a line, and the text after it.
+pub fn parts_of(line: &str) -> (&str, &str) {
+    line.split_once(' ').unwrap_or((line, ""))
+}
+
+fn new_line(alloc: Global, file: &str, number: usize, text: &str) -> Result<Line, AllocError> {
+    Ok(Line {
+        place: format!(in alloc; "{file}:{number}")?,
+        text: String::from_str(alloc, text)?,
+    })
+}
+
+/// The lines of a file, but for those that are empty or notes.
+fn lines_of(rt: &HostRuntime, file: &str) -> Result<Vec<Line>> {
+    let text = fs::read_to_string(rt, file).context(format_args!("{file}"))?;
+    let mut lines = Vec::new(rt.alloc());
+    let mut number = 0usize;
+    for line in text.lines() {
+        number = number.saturating_add(1);
+        if !matches!(parts_of(line).0, "" | "#") {
+            lines.push(new_line(rt.alloc(), file, number, line)?)?;
+        }
+    }
+    Ok(lines)
+}
+
+/// Adds copies of lines.
+fn add_copies(lines: &mut Vec<Line>, more: &[Line]) -> Result<(), AllocError> {
+    for line in more {
+        lines.push(line.copy()?)?;
+    }
+    Ok(())
+}
+
+/// The lines of a trial with those of the files that it plays in their places: after a line `play` once, and
+/// after a line `given` there and after each line `anew`.
+fn with_played(rt: &HostRuntime, lines: Vec<Line>) -> Result<Vec<Line>> {
+    let mut all = Vec::new(rt.alloc());
+    let mut given = Vec::new(rt.alloc());
+    for line in lines {
+        match parts_of(line.text.as_str()) {
+            ("play", file) => {
+                add_copies(
+                    &mut all,
+                    &lines_of(rt, file).context(format_args!("{}", line.place))?,
+                )?;
+            }
+            ("given", file) => {
+                given = lines_of(rt, file).context(format_args!("{}", line.place))?;
+                add_copies(&mut all, &given)?;
+            }
+            ("anew", _) => {
+                all.push(line)?;
+                add_copies(&mut all, &given)?;
+            }
+            _ => all.push(line)?,
+        }
+    }
+    Ok(all)
+}
+
+/// The lines of a trial as they are played.
+pub fn script_of(rt: &HostRuntime, file: &str) -> Result<Vec<Line>> {
+    let lines = with_played(rt, lines_of(rt, file)?)?;
+    repeated(rt.alloc(), &lines)
+}

@@ -1,0 +1,120 @@
+//! What tables hold, as text.
+
+use crate::escapes::escaped;
+use crate::tally::Tally;
+use anyhow::{Result, bail};
+use sha2::{Digest, Sha256};
+use sqlite::types::ValueRef;
+use sqlite::{Connection, Error, MemStore, Row};
+use std::alloc::Global;
+
+/// Asks for all rows of all tables of a desk, and how all tables are declared.
+const TABLES: &[&str] = &[
+    "SELECT name, sql FROM sqlite_master ORDER BY name",
+    "SELECT id, version FROM desk",
+    "SELECT num, donor, signed FROM deed ORDER BY num",
+    "SELECT acc, kind, deed, digest, bytes FROM image ORDER BY acc",
+    "SELECT * FROM rule ORDER BY band, scope, rank",
+    "SELECT digest, audience FROM badge ORDER BY digest",
+    "SELECT acc, day, outcome FROM checked ORDER BY acc, day",
+    "SELECT * FROM found ORDER BY acc, slot",
+];
+
+fn rows_of(conn: &mut Connection<MemStore>, sql: &str) -> Result<Vec<Row>, Error> {
+    conn.query_all(sql, &[])
+}
+
+/// Bytes that are longer than this are told by their SHA-256.
+const LONGEST: usize = 1_000;
+
+/// Adds bytes as SQL writes them; where they are many, their number and their SHA-256.
+fn add_blob(alloc: Global, text: &mut String, bytes: &[u8]) -> Result<()> {
+    if bytes.len() > LONGEST {
+        let digits = hex::encode(alloc, Sha256::digest(bytes))?;
+        let count = bytes.len();
+        write!(text, "{count} bytes with the SHA-256 {digits}")?;
+    } else {
+        let digits = hex::encode(alloc, bytes)?;
+        write!(text, "x'{digits}'")?;
+    }
+    Ok(())
+}
+
+/// Adds a value: a number by its digits, a text as it is, bytes as above, and `NULL`.
+fn add_value(alloc: Global, text: &mut String, value: ValueRef<'_>) -> Result<()> {
+    match value {
+        ValueRef::Null => text.push_str("NULL")?,
+        ValueRef::Int(number) => write!(text, "{number}")?,
+        ValueRef::Real(number) => write!(text, "{number}")?,
+        ValueRef::Text(bytes) => text.push_str(escaped(alloc, bytes)?.as_str())?,
+        ValueRef::Blob(bytes) => add_blob(alloc, text, bytes)?,
+    }
+    Ok(())
+}
+
+/// Adds a row: its values, with a bar between them.
+fn add_row(alloc: Global, text: &mut String, row: &Row) -> Result<()> {
+    for at in 0..row.column_count() {
+        if at > 0 {
+            text.push('|')?;
+        }
+        add_value(alloc, text, row.get_ref(at)?)?;
+    }
+    Ok(text.push('\n')?)
+}
+
+/// The rows that a question of SQL tells, each ended by a line feed.
+pub(crate) fn answer_of(
+    alloc: Global,
+    conn: &mut Connection<MemStore>,
+    sql: &str,
+) -> Result<String> {
+    let mut text = String::new(alloc);
+    for row in &rows_of(conn, sql)? {
+        add_row(alloc, &mut text, row)?;
+    }
+    Ok(text)
+}
+
+/// The rows of all tables of a desk, where they stand.
+pub fn contents_of(alloc: Global, conn: &mut Connection<MemStore>) -> Result<String> {
+    let mut text = String::new(alloc);
+    for sql in TABLES {
+        match answer_of(alloc, conn, *sql) {
+            Ok(rows) => text.push_str(rows.as_str())?,
+            Err(_) => text.push_str("no table\n")?,
+        }
+        text.push_str("--\n")?;
+    }
+    Ok(text)
+}
+
+/// What tables held that are to be compared.
+#[derive(Default, Drop)]
+pub struct KeptTables {
+    contents: Option<String>,
+}
+
+impl KeptTables {
+    /// Keeps what tables hold, or compares it with what is kept, by the text of a line `tables`.
+    pub fn play(
+        &mut self,
+        rt: &HostRuntime,
+        (place, word): (&str, &str),
+        contents: String,
+        tally: &mut Tally,
+    ) -> Result<()> {
+        if word == "kept" {
+            self.contents = Some(contents);
+            return Ok(());
+        }
+        let case = (place, "tables");
+        match (word, &self.contents) {
+            ("same", Some(kept)) => tally.judge(rt, case, kept.as_bytes(), contents.as_bytes()),
+            ("changed", Some(kept)) => {
+                tally.judge_other(rt, case, kept.as_bytes(), contents.as_bytes())
+            }
+            _ => bail!("no such tables, or none are kept"),
+        }
+    }
+}

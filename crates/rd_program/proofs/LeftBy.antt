@@ -1,0 +1,146 @@
+-- What words leave of the store, by what is asked for.
+use Rattle.std.proofs.Common.{◌≡◌, ℕ, ℤ, List, [], Option, Some, Result, Ok, Err, IfErr, IfSome, append-nil, inl, inr, subst, sym, option_map}
+use Rattle.std.proofs.KnownBytes.{Appends-kept, Appends-trans}
+use Rattle.std.specs.Io.KnownBytes.{Appends, Keeps}
+use Rattle.std.specs.Prelude.{⊤}
+use Rattle.httparse.specs.Grammar.{trim_ows}
+use Rattle.sha2.specs.Sha256.{sha256}
+use Rattle.sqlite.specs.Held.{Held}
+use Rattle.sqlite.specs.Store.{Ghosts}
+use Rattle.rd_store.specs.Held.{Lasts}
+use Rattle.rd_store.specs.Opened.{IsOpened}
+use Rattle.rd_store.proofs.Laws.{lasts_then}
+use Rattle.rd_http.specs.declared.serve.Ended.{Ended}
+use Rattle.rd_http.specs.declared.serve.Ended.TheVariants as ended
+use Rattle.rd_program.specs.Asks.{IsImportAsk, IsOnceAsk, IsServeAsk}
+use Rattle.rd_program.specs.Leaves.{HasListened, IsDayAt, IsDayBy, KeepsDatabase, Leaves, LeavesBy, LeavesDesk, LeavesRefused, LeavesServe, NamesOpening, StepsOf, TakesIn}
+use Rattle.rd_program.specs.Output.{AppendsPart}
+use Rattle.rd_program.specs.Refusals.{IsOfDevice}
+use Rattle.rd_program.specs.Serving.{RefusesToEnd, listening_line, served_line}
+use Rattle.rd_program.specs.declared.refusal.Refusal.{Refusal}
+use Rattle.rd_program.specs.declared.refusal.Refusal.TheVariants.{Device, NoMemory}
+use Rattle.rd_program.specs.declared.words.Ask.{Ask}
+use Rattle.rd_program.specs.declared.words.Ask.TheVariants.{Import, Once, Serve}
+use Rattle.rd_program.specs.declared.words.Question.{Question}
+use Rattle.rd_program.proofs.Left.{after_opening, leaves_weaker}
+use Rattle.rd_program.proofs.Stepped.{steps_on, takes_on}
+
+-- of an error of which nothing is said
+pub no_refusal : {T : Type 0} (r : Result T Refusal) → IfErr r (λ refusal. ⊤)
+no_refusal (Ok value) = tt
+no_refusal (Err refusal) = tt
+
+-- ---- visits
+
+module _ {S : Type 0} (g : Ghosts S) where
+  -- the visits are served by the desk that was opened
+  pub lasts_left : (was old new : Option (Held S)) (opened last conn : Held S) → IfSome old (λ before. IsOpened g before opened) → Lasts g opened last
+      → conn ≡ last → IfSome new (λ held. Some conn ≡ Some held) → Leaves was old new (Lasts g)
+  lasts_left was old new opened last conn is lasts same took =
+      after_opening g was old new (Lasts g) opened last conn is (λ before at. lasts_then g before opened last at.lasts lasts) same took
+
+  pub unserved_left : (was old new : Option (Held S)) (opened conn : Held S) → IfSome old (λ before. IsOpened g before opened)
+      → conn ≡ opened → IfSome new (λ held. Some conn ≡ Some held) → Leaves was old new (Lasts g)
+  unserved_left was old new opened conn is same took = after_opening g was old new (Lasts g) opened opened conn is (λ before at. at.lasts) same took
+
+  -- where there were none the database is as it was
+  pub database_left : (was old new : Option (Held S)) (opened conn : Held S) → IfSome old (λ before. IsOpened g before opened)
+      → conn ≡ opened → IfSome new (λ held. Some conn ≡ Some held) → Leaves was old new (KeepsDatabase g)
+  database_left was old new opened conn is same took =
+      after_opening g was old new (KeepsDatabase g) opened opened conn is (λ before at. record { lasts = at.lasts; untouched = at.untouched }) same took
+
+  -- the device failed, or memory was refused, before the first
+  pub serve_not_begun : (was old new : Option (Held S)) (port : ℕ) (out written : Option (List ℕ)) (refusal : Refusal) → IsOfDevice refusal
+      → Leaves was old new (KeepsDatabase g) → LeavesServe g was old new port out written refusal
+  serve_not_begun was old new port out written Device failure left = inr left
+  serve_not_begun was old new port out written NoMemory failure left = inr left
+  serve_not_begun was old new port out written refusal failure left = absurd failure
+
+  -- after they began, the first line is written
+  listened_part : (port visits : ℕ) (out mid written : Option (List ℕ)) → Appends out mid (listening_line port) → AppendsPart mid written (served_line visits)
+      → HasListened port out written
+  listened_part port visits out mid written first part = (part.part, Appends-trans out mid written (listening_line port) part.part first part.gained)
+
+  listened_kept : (port : ℕ) (out mid written : Option (List ℕ)) → Appends out mid (listening_line port) → Keeps mid written → HasListened port out written
+  listened_kept port out mid written first kept =
+      ([], subst (Appends out written) (sym (append-nil (listening_line port))) (Appends-kept out mid written (listening_line port) first kept))
+
+  of_device : (was old new : Option (Held S)) (port : ℕ) (out written : Option (List ℕ)) (refusal : Refusal) → IsOfDevice refusal
+      → HasListened port out written → LeavesServe g was old new port out written refusal
+  of_device was old new port out written Device failure first = inl first
+  of_device was old new port out written NoMemory failure first = inl first
+  of_device was old new port out written refusal failure first = absurd failure
+
+  ended_left : (was old new : Option (Held S)) (how : Ended) (port visits : ℕ) (out mid written : Option (List ℕ)) (refusal : Refusal)
+      → Appends out mid (listening_line port) → RefusesToEnd how visits mid written refusal → LeavesServe g was old new port out written refusal
+  ended_left was old new ended.Count port visits out mid written refusal first refused =
+      of_device was old new port out written refusal refused.0 (listened_part port visits out mid written first refused.1)
+  ended_left was old new ended.Clock port visits out mid written refusal first refused =
+      subst (LeavesServe g was old new port out written) (sym refused.0) (listened_kept port out mid written first refused.1)
+  ended_left was old new ended.Shut port visits out mid written refusal first refused =
+      subst (LeavesServe g was old new port out written) (sym refused.0) (inl (listened_kept port out mid written first refused.1))
+
+  pub serve_ended : {T : Type 0} (r : Result T Refusal) (was old new : Option (Held S)) (how : Ended) (port visits : ℕ) (out mid written : Option (List ℕ))
+      → Appends out mid (listening_line port) → IfErr r (RefusesToEnd how visits mid written) → IfErr r (LeavesServe g was old new port out written)
+  serve_ended (Ok value) was old new how port visits out mid written first refused = tt
+  serve_ended (Err refusal) was old new how port visits out mid written first refused = ended_left was old new how port visits out mid written refusal first refused
+
+  -- ---- by what is asked for
+
+  module _ (was : Option (Held S)) (stands : List ℕ → Option (Held S)) (new : Option (Held S)) where
+    pub serve_leaves : (ask : Ask) (store : List ℕ) (port count : ℕ) (rule : List ℕ) → IsServeAsk store port count rule ask → LeavesBy g was stands new ask
+        → Leaves was (stands store) new (Lasts g)
+    serve_leaves (Serve ask) store port count rule asks leaves = subst (λ s. Leaves was (stands s) new (Lasts g)) asks.store_is leaves
+    serve_leaves ask store port count rule asks leaves = absurd asks
+
+    pub serve_refused : (ask : Ask) (store : List ℕ) (port count : ℕ) (rule : List ℕ) (out written : Option (List ℕ)) (refusal : Refusal)
+        → IsServeAsk store port count rule ask → LeavesRefused g was stands new out written ask refusal
+        → LeavesServe g was (stands store) new port out written refusal
+    serve_refused (Serve ask) store port count rule out written refusal asks left =
+        subst (λ p. LeavesServe g was (stands store) new p out written refusal) asks.port_is
+        (subst (λ s. LeavesServe g was (stands s) new ask.port out written refusal) asks.store_is left)
+    serve_refused ask store port count rule out written refusal asks left = absurd asks
+
+    pub import_leaves : (ask : Ask) (store key sheet : List ℕ) (moment : Option ℤ) (rule : List ℕ) → IsImportAsk store key sheet moment rule ask
+        → LeavesBy g was stands new ask → Leaves was (stands store) new (LeavesDesk g (TakesIn (sha256 (trim_ows key)) (IsDayBy moment rule)))
+    import_leaves (Import ask) store key sheet moment rule asks leaves =
+        subst (λ k. Leaves was (stands store) new (LeavesDesk g (TakesIn (sha256 k) (IsDayBy moment rule)))) asks.key_is
+        (subst (λ s. Leaves was (stands s) new (LeavesDesk g (TakesIn (sha256 ask.key.now) (IsDayBy moment rule)))) asks.store_is
+        (leaves_weaker was (stands ask.store.now) new (LeavesDesk g (TakesIn (sha256 ask.key.now) (IsDayAt ask.when.seconds ask.when.zone)))
+        (LeavesDesk g (TakesIn (sha256 ask.key.now) (IsDayBy moment rule)))
+        (λ before after leaves. record {
+          lasts = leaves.lasts;
+          reached = λ is_open. takes_on (IsDayAt ask.when.seconds ask.when.zone) (IsDayBy moment rule) (sha256 ask.key.now) _ _
+              (λ day at. record { zone = ask.when.zone; zone_is = asks.when_is.zone_is; day_is = subst (λ m. IsDayAt m ask.when.zone day) asks.when_is.moment_is at })
+              (leaves.reached is_open);
+        }) leaves))
+    import_leaves ask store key sheet moment rule asks leaves = absurd asks
+
+    pub import_names : (ask : Ask) (store key sheet : List ℕ) (moment : Option ℤ) (rule : List ℕ) (out written : Option (List ℕ)) (refusal : Refusal)
+        → IsImportAsk store key sheet moment rule ask → LeavesRefused g was stands new out written ask refusal → NamesOpening g (stands store) new refusal
+    import_names (Import ask) store key sheet moment rule out written refusal asks left = subst (λ s. NamesOpening g (stands s) new refusal) asks.store_is left
+    import_names ask store key sheet moment rule out written refusal asks left = absurd asks
+
+    pub once_leaves : (ask : Ask) (store : List ℕ) (key : Option (List ℕ)) (asked : Question) (moment : Option ℤ) (rule : List ℕ)
+        → IsOnceAsk store key asked moment rule ask → LeavesBy g was stands new ask
+        → Leaves was (stands store) new (LeavesDesk g (StepsOf (option_map sha256 (option_map trim_ows key)) (IsDayBy moment rule) asked))
+    once_leaves (Once ask) store key asked moment rule asks leaves =
+        subst (λ q. Leaves was (stands store) new (LeavesDesk g (StepsOf (option_map sha256 (option_map trim_ows key)) (IsDayBy moment rule) q))) asks.question_is
+        (subst (λ k. Leaves was (stands store) new (LeavesDesk g (StepsOf (option_map sha256 k) (IsDayBy moment rule) ask.question))) asks.key_is
+        (subst (λ s. Leaves was (stands s) new (LeavesDesk g (StepsOf (option_map sha256 (option_map (λ k. k.now) ask.key)) (IsDayBy moment rule) ask.question))) asks.store_is
+        (leaves_weaker was (stands ask.store.now) new
+        (LeavesDesk g (StepsOf (option_map sha256 (option_map (λ k. k.now) ask.key)) (IsDayAt ask.when.seconds ask.when.zone) ask.question))
+        (LeavesDesk g (StepsOf (option_map sha256 (option_map (λ k. k.now) ask.key)) (IsDayBy moment rule) ask.question))
+        (λ before after leaves. record {
+          lasts = leaves.lasts;
+          reached = λ is_open. steps_on (IsDayAt ask.when.seconds ask.when.zone) (IsDayBy moment rule) (option_map sha256 (option_map (λ k. k.now) ask.key)) ask.question _ _
+              (λ day at. record { zone = ask.when.zone; zone_is = asks.when_is.zone_is; day_is = subst (λ m. IsDayAt m ask.when.zone day) asks.when_is.moment_is at })
+              (leaves.reached is_open);
+        }) leaves)))
+    once_leaves ask store key asked moment rule asks leaves = absurd asks
+
+    pub once_names : (ask : Ask) (store : List ℕ) (key : Option (List ℕ)) (asked : Question) (moment : Option ℤ) (rule : List ℕ) (out written : Option (List ℕ))
+        (refusal : Refusal) → IsOnceAsk store key asked moment rule ask → LeavesRefused g was stands new out written ask refusal
+        → NamesOpening g (stands store) new refusal
+    once_names (Once ask) store key asked moment rule out written refusal asks left = subst (λ s. NamesOpening g (stands s) new refusal) asks.store_is left
+    once_names ask store key asked moment rule out written refusal asks left = absurd asks

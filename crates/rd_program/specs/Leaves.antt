@@ -1,0 +1,164 @@
+-- What a command leaves of the store: what is said of the connection that stood for it and of the one that was taken back,
+-- where the machine tells both. Where no connection was to be had none was taken back, and more is not said of such a run:
+-- what stands in the file then the machine alone knows.
+use Rattle.std.specs.Prelude.{◌≡◌, ◌⊎◌, ⊤, ◌++◌, ℕ, ℤ, List, [], ◌∷◌, IfSome, Option, Some, option_map}
+use Rattle.std.specs.Io.KnownBytes.{Appends}
+use Rattle.sha2.specs.Sha256.{sha256}
+use Rattle.sqlite.specs.Store.{Ghosts}
+use Rattle.sqlite.specs.Held.{Held}
+use Rattle.rd_policy.specs.Days.{HasDay}
+use Rattle.rd_policy.specs.Zones.{IsZoneOf, day_number}
+use Rattle.rd_policy.specs.declared.zone.Zone.{Zone}
+use Rattle.rd_store.specs.Created.{IsUntouched}
+use Rattle.rd_store.specs.Held.{IsOpen, Lasts, desk}
+use Rattle.rd_store.specs.Opened.{IsNotOpened}
+use Rattle.rd_store.specs.State.{Desk}
+use Rattle.rd_store.specs.declared.faults.OpenFault.TheVariants as open_fault
+use Rattle.rd_desk.specs.Replies.{IsStep}
+use Rattle.rd_desk.specs.declared.request.What.{What}
+use Rattle.rd_desk.specs.declared.request.What.TheVariants as request
+use Rattle.rd_program.specs.Serving.{listening_line}
+use Rattle.rd_program.specs.Sheets.{Says}
+use Rattle.rd_program.specs.declared.refusal.Refusal.{Refusal}
+use Rattle.rd_program.specs.declared.refusal.Refusal.TheVariants.{Clock, Device, Inconsistent, NoMemory, NotADesk, Store, Version}
+use Rattle.rd_program.specs.declared.sheet.SheetRow.{SheetRow}
+use Rattle.rd_program.specs.declared.words.Ask.{Ask}
+use Rattle.rd_program.specs.declared.words.Ask.TheVariants.{Import, Once, Serve}
+use Rattle.rd_program.specs.declared.words.Question.{Question}
+use Rattle.rd_program.specs.declared.words.Question.TheVariants as question
+
+-- ---- two connections
+
+-- what holds of the connection that stood for the store and of the one that was left, where both are told
+abbrev pub IfBoth : {S : Type 0} → Option (Held S) → Option (Held S) → (Held S → Held S → Type 0) → Type 0
+IfBoth old new P = IfSome old (λ before. IfSome new (P before))
+
+-- no connection was taken back: the one that is told, if any is, was told before
+abbrev pub LeavesNone : {S : Type 0} → Option (Held S) → Option (Held S) → Type 0
+LeavesNone was new = IfSome new (λ after. was ≡ Some after)
+
+-- this holds of the connection that stood and of the one that was left, where both are told; or none was taken back
+abbrev pub Leaves : {S : Type 0} → Option (Held S) → Option (Held S) → Option (Held S) → (Held S → Held S → Type 0) → Type 0
+Leaves was old new P = IfBoth old new (λ before after. (was ≡ Some after) ⊎ P before after)
+
+-- A connection is open only where it was, and shows the database that it showed.
+pub record KeepsDatabase {S : Type 0} (g : Ghosts S) (before after : Held S) : Type 0 where
+  pub lasts : Lasts g before after
+  pub untouched : IsOpen g after → IsUntouched g before after
+
+-- A connection is open only where it was, and shows a desk that was reached so from the one that it showed.
+pub record LeavesDesk {S : Type 0} (g : Ghosts S) (Reached : Desk → Desk → Type 0) (before after : Held S) : Type 0 where
+  pub lasts : Lasts g before after
+  pub reached : IsOpen g after → Reached (desk g before) (desk g after)
+
+-- ---- where no desk was opened
+
+-- a command tells by these names that no desk was opened only where the opening of the connection that stood does
+abbrev pub NamesOpening : {S : Type 0} → Ghosts S → Option (Held S) → Option (Held S) → Refusal → Type 0
+NamesOpening g old new NotADesk = IfBoth old new (λ before after. IsNotOpened g before after open_fault.NotADesk)
+NamesOpening g old new Version = IfBoth old new (λ before after. IsNotOpened g before after open_fault.Version)
+NamesOpening g old new Inconsistent = IfBoth old new (λ before after. IsNotOpened g before after open_fault.Inconsistent)
+NamesOpening g old new refusal = ⊤
+
+-- and where the store failed before a desk was opened, it was its opening, or there was no connection; where memory was
+-- refused there was none
+abbrev pub LeavesUnopened : {S : Type 0} → Ghosts S → Option (Held S) → Option (Held S) → Option (Held S) → Refusal → Type 0
+LeavesUnopened g was old new Store = Leaves was old new (λ before after. IsNotOpened g before after open_fault.Sql)
+LeavesUnopened g was old new NoMemory = LeavesNone was new
+LeavesUnopened g was old new refusal = NamesOpening g old new refusal
+
+-- what a desk that was opened is refused by
+abbrev pub IsOfOpenDesk : Refusal → Type 0
+IsOfOpenDesk NotADesk = ⊥
+IsOfOpenDesk Version = ⊥
+IsOfOpenDesk Inconsistent = ⊥
+IsOfOpenDesk refusal = ⊤
+
+-- ---- visits
+
+-- the line that tells at which port visits come was written, and it may be more
+abbrev pub HasListened : ℕ → Option (List ℕ) → Option (List ℕ) → Type 0
+HasListened port old new = (more : List ℕ) × Appends old new (listening_line port ++ more)
+
+-- What stands where `serve` is refused: no desk was opened; or the database is as it was, unless the line that tells of
+-- visits was written, and visits may have come: what these did is said by the run of visits.
+abbrev pub LeavesServe : {S : Type 0} → Ghosts S → Option (Held S) → Option (Held S) → Option (Held S) → ℕ
+    → Option (List ℕ) → Option (List ℕ) → Refusal → Type 0
+LeavesServe g was old new port out written Clock = HasListened port out written
+LeavesServe g was old new port out written Device = HasListened port out written ⊎ Leaves was old new (KeepsDatabase g)
+LeavesServe g was old new port out written NoMemory = HasListened port out written ⊎ Leaves was old new (KeepsDatabase g)
+LeavesServe g was old new port out written refusal = LeavesUnopened g was old new refusal
+
+-- ---- what a desk is asked
+
+-- The day by the clocks of a zone: that of the moment which is told, or, where none is, of the one that the clock shows.
+pub record IsDayAt (moment : Option ℤ) (zone : Zone) (day : ℤ) : Type 0 where
+  pub seconds : ℤ
+  pub told : IfSome moment (λ asked. seconds ≡ asked)
+  pub in_range : HasDay seconds
+  pub is : day ≡ day_number seconds zone
+
+-- It is that by the clocks of the rule.
+pub record IsDayBy (moment : Option ℤ) (rule : List ℕ) (day : ℤ) : Type 0 where
+  pub zone : Zone
+  pub zone_is : IsZoneOf rule zone
+  pub day_is : IsDayAt moment zone day
+
+-- the desk is as it was
+abbrev pub IsSame : Desk → Desk → Type 0
+IsSame old new = new ≡ old
+
+-- the desk is as it was, or after the step of one check of the accession, for a caller with this badge, on one of these days
+abbrev pub Checks : Option (List ℕ) → ℕ → (ℤ → Type 0) → Desk → Desk → Type 0
+Checks badge acc Days old new = (new ≡ old) ⊎ ((day : ℤ) × Days day × IsStep old day (record { badge = badge; what = request.Check acc }) new)
+
+-- the catalogue leaves the desk as it was, and a check may record what it finds
+abbrev pub StepsOf : Option (List ℕ) → (ℤ → Type 0) → Question → Desk → Desk → Type 0
+StepsOf badge Days question.Catalogue old new = IsSame old new
+StepsOf badge Days (question.Check acc) old new = Checks badge acc Days old new
+
+-- ---- images that are taken in
+
+-- it is asked that an image be taken in
+abbrev pub IsPutImage : What → Type 0
+IsPutImage (request.PutImage acc kind deed digest bytes) = ⊤
+IsPutImage other = ⊥
+
+-- this is asked in turn, for a caller with this badge on a day: each time that an image be taken in, and the desk is after
+-- each that of its step
+abbrev pub TakesInTurn : List ℕ → ℤ → List What → Desk → Desk → Type 0
+TakesInTurn badge day [] old new = new ≡ old
+TakesInTurn badge day (asked ∷ more) old new =
+    IsPutImage asked × ((mid : Desk) × IsStep old day (record { badge = Some badge; what = asked }) mid × TakesInTurn badge day more mid new)
+
+-- the desk is as it was, or images were taken in, in turn, on one of these days
+abbrev pub TakesIn : List ℕ → (ℤ → Type 0) → Desk → Desk → Type 0
+TakesIn badge Days old new = (new ≡ old) ⊎ ((day : ℤ) × Days day × ((asked : List What) × TakesInTurn badge day asked old new))
+
+-- the desk is as it was, or after the step of one request to take in the image of this row, whatever its bytes
+abbrev pub TakesRow : List ℕ → ℤ → SheetRow → Desk → Desk → Type 0
+TakesRow badge day row old new = (new ≡ old)
+    ⊎ ((bytes : List ℕ) × IsStep old day (record { badge = Some badge; what = request.PutImage row.acc row.kind row.deed row.digest bytes }) new)
+
+-- and so of the row that these fields say
+abbrev pub TakesFields : List ℕ → ℤ → List (List ℕ) → Desk → Desk → Type 0
+TakesFields badge day fields old new = (new ≡ old) ⊎ ((row : SheetRow) × Says fields row × TakesRow badge day row old new)
+
+-- ---- by what is asked for
+
+-- what `serve`, `import`, `export` and `check` leave, whatever they end with
+abbrev pub LeavesBy : {S : Type 0} → Ghosts S → Option (Held S) → (List ℕ → Option (Held S)) → Option (Held S) → Ask → Type 0
+LeavesBy g was stands new (Serve ask) = Leaves was (stands ask.store.now) new (Lasts g)
+LeavesBy g was stands new (Import ask) =
+    Leaves was (stands ask.store.now) new (LeavesDesk g (TakesIn (sha256 ask.key.now) (IsDayAt ask.when.seconds ask.when.zone)))
+LeavesBy g was stands new (Once ask) =
+    Leaves was (stands ask.store.now) new (LeavesDesk g (StepsOf (option_map sha256 (option_map (λ key. key.now) ask.key)) (IsDayAt ask.when.seconds ask.when.zone) ask.question))
+LeavesBy g was stands new ask = ⊤
+
+-- and what stands where they are refused
+abbrev pub LeavesRefused : {S : Type 0} → Ghosts S → Option (Held S) → (List ℕ → Option (Held S)) → Option (Held S)
+    → Option (List ℕ) → Option (List ℕ) → Ask → Refusal → Type 0
+LeavesRefused g was stands new out written (Serve ask) refusal = LeavesServe g was (stands ask.store.now) new ask.port out written refusal
+LeavesRefused g was stands new out written (Import ask) refusal = NamesOpening g (stands ask.store.now) new refusal
+LeavesRefused g was stands new out written (Once ask) refusal = NamesOpening g (stands ask.store.now) new refusal
+LeavesRefused g was stands new out written ask refusal = ⊤

@@ -1,0 +1,169 @@
+//! Trials of the program, played line by line.
+
+use crate::machine::{File, Museum};
+use crate::run::Run;
+use crate::visitor::Visitor;
+use anyhow::{Context, Result, bail};
+use rd_played::{
+    Change, Effect, KeptTables, Line, Question, Tally, contents_of, parts_of, script_of,
+};
+use std::mem;
+
+/// What is told by more than one line.
+#[derive(Drop)]
+enum Item<'a> {
+    Nothing,
+    Run(Run<'a>),
+    File(File<'a>),
+    Change(Change<'a>),
+    Question(Question<'a>),
+}
+
+/// A trial that is played.
+#[derive(Drop)]
+struct Player<'a> {
+    tally: Tally,
+    museum: Museum<'a>,
+    /// The moment of visits, which the clock shows.
+    seconds: Option<i64>,
+    item: Item<'a>,
+    contents: KeptTables,
+}
+
+/// Whether a line with this word ends what is told before.
+fn is_first(word: &str) -> bool {
+    matches!(
+        word,
+        "run"
+            | "no-command"
+            | "file"
+            | "sql"
+            | "sql-idle"
+            | "sql-refused"
+            | "query"
+            | "tables"
+            | "anew"
+    )
+}
+
+impl<'a> Player<'a> {
+    fn new(rt: &HostRuntime) -> Result<Player<'a>> {
+        Ok(Player {
+            tally: Tally::default(),
+            museum: Museum::new(rt.alloc())?,
+            seconds: None,
+            item: Item::Nothing,
+            contents: KeptTables::default(),
+        })
+    }
+
+    /// Plays a line.
+    fn play(&mut self, rt: &HostRuntime, line: &'a Line) -> Result<()> {
+        let place = line.place.as_str();
+        let (word, text) = parts_of(line.text.as_str());
+        let played = if is_first(word) {
+            self.finish(rt)?;
+            self.begin(rt, place, word, text)
+        } else {
+            self.read(rt, place, word, text)
+        };
+        played.context(format_args!("{place}: {word}"))
+    }
+
+    /// Reads a line on what is begun, or the moment.
+    fn read(
+        &mut self,
+        rt: &HostRuntime,
+        place: &'a str,
+        word: &'a str,
+        text: &'a str,
+    ) -> Result<()> {
+        if word == "at" {
+            self.seconds = Some(text.parse()?);
+            return Ok(());
+        }
+        match &mut self.item {
+            Item::Run(run) if word == "visit" => {
+                run.add_visitor(Visitor::new(rt.alloc(), place, text, self.seconds))
+            }
+            Item::Run(run) => run.read(rt, word, text),
+            Item::File(file) => file.read(rt, word, text),
+            Item::Change(change) => change.read(rt, word, text),
+            Item::Question(question) => question.read(word, text),
+            Item::Nothing => bail!("no such word"),
+        }
+    }
+
+    /// Begins what a line tells, or does it.
+    fn begin(
+        &mut self,
+        rt: &HostRuntime,
+        place: &'a str,
+        word: &'a str,
+        text: &'a str,
+    ) -> Result<()> {
+        match word {
+            "run" => self.item = Item::Run(Run::new(rt.alloc(), place, text, self.seconds)),
+            "no-command" => {
+                self.item = Item::Run(Run::mistake(rt.alloc(), place, text, self.seconds)?)
+            }
+            "file" => self.item = Item::File(File::new(rt.alloc(), text)),
+            "query" => self.item = Item::Question(Question::new(rt.alloc(), place, text)),
+            "anew" => self.museum = Museum::new(rt.alloc())?,
+            "tables" => self.compare(rt, place, text)?,
+            _ => self.item = Item::Change(Change::new(place, Effect::of(word), text)),
+        }
+        Ok(())
+    }
+
+    /// Does what is told up to here.
+    fn finish(&mut self, rt: &HostRuntime) -> Result<()> {
+        match mem::replace(&mut self.item, Item::Nothing) {
+            Item::Nothing => Ok(()),
+            Item::Run(run) => run
+                .play(rt, &mut self.museum, &mut self.tally)
+                .context(run.place),
+            Item::File(file) => self.museum.keep(file),
+            Item::Change(change) => self.change(rt, &change).context(change.place),
+            Item::Question(question) => self.ask(rt, &question).context(question.place),
+        }
+    }
+
+    /// Changes the tables of the store.
+    fn change(&mut self, rt: &HostRuntime, change: &Change<'a>) -> Result<()> {
+        match &mut self.museum.store {
+            Some(conn) => change.play(rt, conn, &mut self.tally),
+            None => bail!("no store"),
+        }
+    }
+
+    /// Asks for rows of the tables of the store.
+    fn ask(&mut self, rt: &HostRuntime, question: &Question<'a>) -> Result<()> {
+        match &mut self.museum.store {
+            Some(conn) => question.play(rt, conn, &mut self.tally),
+            None => bail!("no store"),
+        }
+    }
+
+    /// Keeps what the tables of the store hold, or compares it with what is kept.
+    fn compare(&mut self, rt: &HostRuntime, place: &'a str, word: &'a str) -> Result<()> {
+        let contents = match &mut self.museum.store {
+            Some(conn) => contents_of(rt.alloc(), conn)?,
+            None => bail!("no store"),
+        };
+        self.contents
+            .play(rt, (place, word), contents, &mut self.tally)
+    }
+}
+
+/// Plays the trial of a file, and adds its cases.
+pub(crate) fn play_file(rt: &HostRuntime, file: &str, tally: &mut Tally) -> Result<()> {
+    let lines = script_of(rt, file)?;
+    let mut player = Player::new(rt)?;
+    for line in &lines {
+        player.play(rt, line)?;
+    }
+    player.finish(rt)?;
+    tally.add(&player.tally);
+    Ok(())
+}

@@ -1,0 +1,219 @@
+//! Runs as a trial tells them.
+
+use crate::machine::{Lack, Museum};
+use crate::output::Output;
+use crate::visitor::{Visitor, outcome_at};
+use crate::wanted::{Ran, Wanted};
+use anyhow::{Context, Result, bail};
+use rd_geometry::{Items, NoMemory};
+use rd_http::MemoryDoor;
+use rd_played::{Tally, build_with, bytes_of};
+use rd_program::{MachineFault, run};
+use std::alloc::{AllocError, Global};
+
+/// A run: its name and its place, the words, the standard input, how much the output takes, what the machine does
+/// not give, the visits, and what it has to leave.
+#[derive(Drop)]
+pub(crate) struct Run<'a> {
+    pub(crate) place: &'a str,
+    name: &'a str,
+    words: Vec<String>,
+    input: Vec<u8>,
+    /// How many bytes the output takes, and how many flushes.
+    room: usize,
+    flushes: usize,
+    lacks: Vec<Lack<'a>>,
+    /// What the clock of the machine shows.
+    clock: Option<i64>,
+    visitors: Vec<Visitor<'a>>,
+    wanted: Wanted<'a>,
+}
+
+/// A word of a command, of which `''` is the empty one.
+fn word_of(alloc: Global, text: &str) -> Result<String> {
+    match text {
+        "" => bail!("a blank too many: the empty word is ''"),
+        "''" => Ok(String::new(alloc)),
+        _ => match String::from_utf8(bytes_of(alloc, text)?) {
+            Ok(word) => Ok(word),
+            Err(_) => bail!("a word that is no text"),
+        },
+    }
+}
+
+/// The words of a command, which blanks part.
+fn words_of(alloc: Global, text: &str) -> Result<Vec<String>> {
+    let mut words = Vec::new(alloc);
+    if !text.is_empty() {
+        for part in text.split(' ') {
+            words.push(word_of(alloc, part)?)?;
+        }
+    }
+    Ok(words)
+}
+
+/// The words as slices.
+fn slices_of(alloc: Global, words: &[String]) -> Result<Vec<&str>, AllocError> {
+    words.iter().map(|word| word.as_str()).collect(alloc)
+}
+
+/// Runs the program on a machine, without a clause, so that a proof does not carry what the run says.
+fn run_program(
+    alloc: Global,
+    words: &[&str],
+    mut input: &[u8],
+    (output, errors): (&mut Output, &mut Vec<u8>),
+    museum: &mut Museum<'_>,
+) -> u8 {
+    run(alloc, words, &mut input, output, errors, museum)
+}
+
+/// A door through which these visits come.
+fn new_door(alloc: Global, to_come: Vec<(i64, Items<u8>)>) -> Result<MemoryDoor, NoMemory> {
+    MemoryDoor::new(alloc, to_come)
+}
+
+/// A door through which these visitors come.
+fn door_of(rt: &HostRuntime, visitors: &[Visitor<'_>]) -> Result<MemoryDoor> {
+    let mut to_come = Vec::new(rt.alloc());
+    for visitor in visitors {
+        let coming = visitor
+            .coming(rt)
+            .context(format_args!("{}", visitor.place))?;
+        to_come.push(coming)?;
+    }
+    Ok(new_door(rt.alloc(), to_come)?)
+}
+
+impl<'a> Run<'a> {
+    /// A run of words that has to leave this, with nothing else about it told.
+    fn of(
+        alloc: Global,
+        (place, name): (&'a str, &'a str),
+        clock: Option<i64>,
+        words: Vec<String>,
+        wanted: Wanted<'a>,
+    ) -> Run<'a> {
+        Run {
+            place,
+            name,
+            words,
+            input: Vec::new(alloc),
+            room: usize::MAX,
+            flushes: usize::MAX,
+            lacks: Vec::new(alloc),
+            clock,
+            visitors: Vec::new(alloc),
+            wanted,
+        }
+    }
+
+    /// A run whose words come later.
+    pub(crate) fn new(alloc: Global, place: &'a str, name: &'a str, clock: Option<i64>) -> Run<'a> {
+        let words = Vec::new(alloc);
+        Run::of(alloc, (place, name), clock, words, Wanted::new(alloc))
+    }
+
+    /// A run of words that are no command.
+    pub(crate) fn mistake(
+        alloc: Global,
+        place: &'a str,
+        words: &'a str,
+        clock: Option<i64>,
+    ) -> Result<Run<'a>> {
+        let given = words_of(alloc, words)?;
+        Ok(Run::of(alloc, (place, words), clock, given, Wanted::mistake(alloc)))
+    }
+
+    /// Begins one more visit at its door.
+    pub(crate) fn add_visitor(&mut self, visitor: Visitor<'a>) -> Result<()> {
+        Ok(self.visitors.push(visitor)?)
+    }
+
+    /// Reads a line: its first word, and the text after it. After the first visit it is one on the last visit.
+    pub(crate) fn read(&mut self, rt: &HostRuntime, word: &str, text: &'a str) -> Result<()> {
+        if let Some(visitor) = self.visitors.last_mut() {
+            return visitor.read(rt, word, text);
+        }
+        match word {
+            "words" => self.words = words_of(rt.alloc(), text)?,
+            "room" => self.room = text.parse()?,
+            "flushes" => self.flushes = text.parse()?,
+            "fails" => self.add_lack(text, MachineFault::Failed)?,
+            "no-memory" => self.add_lack(text, MachineFault::NoMemory)?,
+            "status" | "out" | "out-fill" | "errors" | "port" | "part" => {
+                self.wanted.read(rt.alloc(), word, text)?
+            }
+            _ => build_with(rt, &mut self.input, word, text)?,
+        }
+        Ok(())
+    }
+
+    /// Adds what the machine does not give: the store, the clock, the door, or the file at a path.
+    fn add_lack(&mut self, what: &'a str, fault: MachineFault) -> Result<()> {
+        if !matches!(what, "store" | "clock" | "door") && !what.contains('.') {
+            bail!("the machine has no such thing");
+        }
+        Ok(self.lacks.push(Lack { what, fault })?)
+    }
+
+    /// Makes the machine ready for it.
+    fn prepare(&self, rt: &HostRuntime, museum: &mut Museum<'a>) -> Result<()> {
+        museum.lacks = self.lacks.clone()?;
+        museum.clock = self.clock;
+        museum.door = door_of(rt, self.visitors.as_slice())?;
+        museum.port = None;
+        Ok(())
+    }
+
+    /// Runs the program on a machine.
+    fn ran(&self, alloc: Global, museum: &mut Museum<'a>) -> Result<Ran> {
+        let words = slices_of(alloc, self.words.as_slice())?;
+        let mut output = Output::new(alloc);
+        output.room = self.room;
+        output.flushes = self.flushes;
+        let mut errors = Vec::new(alloc);
+        let status = run_program(
+            alloc,
+            words.as_slice(),
+            self.input.as_slice(),
+            (&mut output, &mut errors),
+            museum,
+        );
+        Ok(Ran {
+            status,
+            output: output.taken,
+            errors,
+            port: museum.port,
+            is_released: museum.store.is_some(),
+        })
+    }
+
+    /// Compares what came of each visit with what had to.
+    fn judge_visits(&self, rt: &HostRuntime, museum: &Museum<'a>, tally: &mut Tally) -> Result<()> {
+        let mut number = 0usize;
+        for visitor in &self.visitors {
+            let case = (visitor.place, visitor.name);
+            let wanted = visitor
+                .wanted(rt.alloc())
+                .context(format_args!("{}", visitor.place))?;
+            let came = outcome_at(rt.alloc(), &museum.door, number)?;
+            tally.judge(rt, case, wanted.as_slice(), came.as_slice())?;
+            number = number.saturating_add(1);
+        }
+        Ok(())
+    }
+
+    /// Plays it on a machine. It is a case, and so is each of its visits.
+    pub(crate) fn play(
+        &self,
+        rt: &HostRuntime,
+        museum: &mut Museum<'a>,
+        tally: &mut Tally,
+    ) -> Result<()> {
+        self.prepare(rt, museum)?;
+        let ran = self.ran(rt.alloc(), museum)?;
+        self.wanted.judge(rt, (self.place, self.name), &ran, tally)?;
+        self.judge_visits(rt, museum, tally)
+    }
+}

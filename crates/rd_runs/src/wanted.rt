@@ -1,0 +1,143 @@
+//! What a run has to leave.
+
+use anyhow::Result;
+use rd_played::{Tally, add_bytes, add_out};
+use std::alloc::{AllocError, Global};
+
+/// What a run left.
+#[derive(Drop)]
+pub(crate) struct Ran {
+    pub(crate) status: u8,
+    pub(crate) output: Vec<u8>,
+    pub(crate) errors: Vec<u8>,
+    /// The port that the machine was asked for.
+    pub(crate) port: Option<u16>,
+    /// Whether the machine has its store back.
+    pub(crate) is_released: bool,
+}
+
+/// What a run has to leave: its status, what it writes and tells, and the port that it asks for.
+#[derive(Drop)]
+pub(crate) struct Wanted<'a> {
+    status: u8,
+    output: Vec<u8>,
+    errors: Vec<u8>,
+    port: Option<u16>,
+    /// Texts that have to stand in the output. Where there are any, the rest of it is not compared.
+    parts: Vec<&'a str>,
+    /// Whether something has to be told, whatever it is.
+    is_mistake: bool,
+}
+
+/// What is told of a run that leaves this.
+fn outcome_of(
+    alloc: Global,
+    status: u8,
+    output: &[u8],
+    errors: &[u8],
+    port: Option<u16>,
+) -> Result<Vec<u8>, AllocError> {
+    let mut text = format!(in alloc; "[status {status}")?;
+    if let Some(port) = port {
+        write!(text, ", port {port}")?;
+    }
+    text.push_str("] ")?;
+    let mut told = text.into_bytes();
+    told.extend_from_slice(output)?;
+    if !errors.is_empty() {
+        told.extend_from_slice(b" [told] ")?;
+        told.extend_from_slice(errors)?;
+    }
+    Ok(told)
+}
+
+impl<'a> Wanted<'a> {
+    pub(crate) fn new(alloc: Global) -> Wanted<'a> {
+        Wanted {
+            status: 0,
+            output: Vec::new(alloc),
+            errors: Vec::new(alloc),
+            port: None,
+            parts: Vec::new(alloc),
+            is_mistake: false,
+        }
+    }
+
+    /// What words leave that are no command.
+    pub(crate) fn mistake(alloc: Global) -> Wanted<'a> {
+        let mut wanted = Wanted::new(alloc);
+        wanted.status = 2;
+        wanted.is_mistake = true;
+        wanted
+    }
+
+    /// Reads a line: its first word, and the text after it.
+    pub(crate) fn read(&mut self, alloc: Global, word: &str, text: &'a str) -> Result<()> {
+        match word {
+            "status" => self.status = text.parse()?,
+            "port" => self.port = Some(text.parse()?),
+            "part" => self.parts.push(text)?,
+            "errors" => add_bytes(&mut self.errors, text)?,
+            _ => add_out(alloc, &mut self.output, word, text)?,
+        }
+        Ok(())
+    }
+
+    /// What has to be told of the run.
+    fn outcome(&self, alloc: Global) -> Result<Vec<u8>, AllocError> {
+        let errors = if self.is_mistake {
+            b"a mistake".as_slice()
+        } else {
+            self.errors.as_slice()
+        };
+        outcome_of(
+            alloc,
+            self.status,
+            self.output.as_slice(),
+            errors,
+            self.port,
+        )
+    }
+
+    /// What is told of the run, as far as it is compared.
+    fn outcome_of(&self, alloc: Global, ran: &Ran) -> Result<Vec<u8>, AllocError> {
+        let output = if self.parts.is_empty() {
+            ran.output.as_slice()
+        } else {
+            &[]
+        };
+        let errors = if self.is_mistake && !ran.errors.is_empty() {
+            b"a mistake".as_slice()
+        } else {
+            ran.errors.as_slice()
+        };
+        let mut told = outcome_of(alloc, ran.status, output, errors, ran.port)?;
+        if !ran.is_released {
+            told.extend_from_slice(b" [the store is kept]")?;
+        }
+        Ok(told)
+    }
+
+    /// Compares it with what a run left. Each text that has to stand in the output is a case more.
+    pub(crate) fn judge(
+        &self,
+        rt: &HostRuntime,
+        case: (&str, &str),
+        ran: &Ran,
+        tally: &mut Tally,
+    ) -> Result<()> {
+        let wanted = self.outcome(rt.alloc())?;
+        let came = self.outcome_of(rt.alloc(), ran)?;
+        tally.judge(rt, case, wanted.as_slice(), came.as_slice())?;
+        let output = String::from_utf8_lossy(rt.alloc(), ran.output.as_slice())?;
+        for part in &self.parts {
+            let came = if output.as_str().contains(*part) {
+                *part
+            } else {
+                output.as_str()
+            };
+            tally.judge(rt, case, part.as_bytes(), came.as_bytes())?;
+        }
+        Ok(())
+    }
+}

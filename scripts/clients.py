@@ -1,0 +1,182 @@
+"""Clients that visit a desk, and the program while it serves them."""
+
+import contextlib
+import datetime
+import http.client
+import os
+import resource
+import socket
+import struct
+import subprocess
+import sys
+import threading
+import time
+
+from client_cases import ENDS, HOST, LIMIT, OPEN_FILES, PAUSE, head
+
+# Clients: each gives what comes of a visit
+
+
+class Lost(Exception):
+    """Nobody answers."""
+
+
+def curl(port, path, *words):
+    """The words of a visit by curl, without the settings of its user."""
+    always = ["-q", "-sS", "-i", "--raw", "-g", "--path-as-is", "--noproxy", "*", "--max-time", str(LIMIT)]
+    return ["curl", *always, *words, f"http://{HOST}:{port}{path}"]
+
+
+def by_curl(port, asked):
+    """The bytes that curl shows, or how it failed."""
+    words = ["-X", asked.method]
+    if asked.key is not None:
+        words += ["-H", f"Desk-Key: {asked.key}"]
+    if asked.body is not None:
+        words += ["--data-binary", "@-"]
+    ran = subprocess.run(curl(port, asked.path, *words), input=asked.body or b"", capture_output=True)
+    # no connection, and no end in time
+    if ran.returncode in (7, 28):
+        raise Lost(ran.stderr.decode(errors="replace").strip())
+    return (ran.stderr, ran.stdout) if ran.returncode else ran.stdout
+
+
+def by_client(port, asked):
+    """The bytes of what http.client tells of a reply."""
+    fields = {} if asked.key is None else {"Desk-Key": asked.key}
+    with contextlib.closing(http.client.HTTPConnection(HOST, port, timeout=LIMIT)) as connection:
+        connection.request(asked.method, asked.path, asked.body, fields)
+        response = connection.getresponse()
+        version = f"HTTP/{response.version // 10}.{response.version % 10}"
+        lines = [f"{name}: {value}" for name, value in response.getheaders()]
+        return head(f"{version} {response.status} {response.reason}", *lines) + response.read()
+
+
+def connected(port, room=None):
+    """A plain socket, that sends at once what it is given; its system keeps so much that it has not read yet."""
+    connection = socket.socket()
+    connection.settimeout(LIMIT)
+    connection.setsockopt(socket.IPPROTO_TCP, socket.TCP_NODELAY, 1)
+    if room:
+        connection.setsockopt(socket.SOL_SOCKET, socket.SO_RCVBUF, room)
+    connection.connect((HOST, port))
+    return connection
+
+
+def read_all(connection):
+    """The bytes that come, and how they end: with an end or a reset."""
+    came = b""
+    while True:
+        try:
+            part = connection.recv(65536)
+        except ConnectionResetError:
+            return came, "a reset"
+        if not part:
+            return came, "an end"
+        came += part
+
+
+def by_socket(port, parts, then):
+    """The bytes that come, and how they end. A desk that closes early is heard all the same."""
+    with connected(port) as connection:
+        for number, part in enumerate(parts):
+            time.sleep(PAUSE if number else 0)
+            with contextlib.suppress(BrokenPipeError, ConnectionResetError):
+                connection.sendall(part)
+        if then == ENDS:
+            connection.shutdown(socket.SHUT_WR)
+        return read_all(connection)
+
+
+def leave(port, sent, resets):
+    """Sends bytes and goes."""
+    with connected(port) as connection:
+        connection.sendall(sent)
+        if resets:
+            connection.setsockopt(socket.SOL_SOCKET, socket.SO_LINGER, struct.pack("ii", 1, 0))
+
+
+def tried(visit, *words):
+    """What a visit gives, or the fault by which it broke."""
+    try:
+        return visit(*words)
+    except (socket.timeout, ConnectionRefusedError) as fault:
+        raise Lost(repr(fault)) from fault
+    except (OSError, http.client.HTTPException) as fault:
+        return repr(fault)
+
+
+# Zones
+
+
+def zone_of(minutes):
+    """The rule of clocks that are so many minutes ahead of UTC; a rule counts how far they are behind it."""
+    return f"<DAY>{'-' if minutes >= 0 else ''}{abs(minutes) // 60}:{abs(minutes) % 60:02}"
+
+
+def minutes_to_noon():
+    """How far a clock has to be ahead of UTC to show about noon of the day that UTC has."""
+    now = datetime.datetime.now(datetime.timezone.utc)
+    return 720 - 60 * now.hour - now.minute
+
+
+def noon_zone():
+    """The rule of such a clock: it shows one day for eleven hours and more."""
+    return zone_of(minutes_to_noon())
+
+
+# The program
+
+
+def free_port():
+    with socket.socket() as probe:
+        probe.bind((HOST, 0))
+        return probe.getsockname()[1]
+
+
+class Serving:
+    """The program while it serves visits of a store."""
+
+    def __init__(self, program, store, count, words=(), environment=None):
+        self.port = free_port()
+        options = ["--store", store, "--port", str(self.port), "--count", str(count), *words]
+        self.process = subprocess.Popen(
+            [program, "serve", *options],
+            bufsize=0,
+            env={**os.environ, **(environment or {})},
+            stdin=subprocess.DEVNULL,
+            stdout=subprocess.PIPE,
+            stderr=subprocess.PIPE,
+        )
+        with contextlib.suppress(ProcessLookupError):
+            resource.prlimit(self.process.pid, resource.RLIMIT_NOFILE, (OPEN_FILES, OPEN_FILES))
+
+    def __enter__(self):
+        return self
+
+    def __exit__(self, *_):
+        self.process.kill()
+        self.process.communicate()
+
+    def listens(self):
+        """Waits until it listens. The script ends where it does not."""
+        line = self.line()
+        if line != f"listening {HOST}:{self.port}\n":
+            sys.exit(f"it does not listen: {line!r}, {self.end()}")
+
+    def line(self):
+        """The line that it writes first. It is killed where it writes none in time."""
+        watch = threading.Timer(LIMIT, self.process.kill)
+        watch.start()
+        try:
+            return self.process.stdout.readline().decode()
+        finally:
+            watch.cancel()
+
+    def end(self):
+        """How it ends: its status, what else it wrote, and its errors."""
+        try:
+            written, errors = self.process.communicate(timeout=LIMIT)
+        except subprocess.TimeoutExpired:
+            return "it does not end"
+        return self.process.returncode, written.decode(), errors.decode()

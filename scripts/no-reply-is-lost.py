@@ -1,0 +1,84 @@
+#!/usr/bin/env python3
+"""scripts/no-reply-is-lost.py [PROGRAM]: counts the replies that are lost to clients who send more than the desk reads.
+
+Where a program closes a connection with bytes unread, Linux tells the client of a reset, and throws away what it has
+not sent yet: so a reply can be lost though it was written. Three sorts of clients send such bytes, each 200 times: a
+plain socket that sends two bytes after its question, and reads a long file late; Python's http.client and curl, which
+send a body that is refused by its length. Every reply has to come whole: all its bytes are compared.
+
+It wants Python 3 with its standard library alone, curl, and Linux. PROGRAM is ./desk of this repository where none is
+named."""
+
+import collections
+import contextlib
+import select
+import sys
+import time
+
+import reading_room
+import tools
+
+from client_cases import FIRST, FRAMING, LIMIT, LONG, LONG_FILE, MORE, content, head, put_image
+from clients import by_client, by_curl, connected, read_all, tried
+
+VISITS = 200
+# After how many seconds the two bytes are sent, and how long after a reply's first bytes the client reads.
+SENDS_MORE, READS = 0.02, 0.1
+TOO_MUCH = put_image(30, "cpm8", 9, bytes(819200))
+
+
+def with_two_bytes_more(port):
+    """A long file for a client that sends an empty line after its question, and reads late."""
+    with connected(port) as connection:
+        connection.sendall(head("GET /images/21/files/0 HTTP/1.1"))
+        time.sleep(SENDS_MORE)
+        with contextlib.suppress(BrokenPipeError, ConnectionResetError):
+            connection.sendall(b"\r\n")
+        select.select([connection], [], [], LIMIT)
+        time.sleep(READS)
+        return read_all(connection)[0]
+
+
+# Clients, what they are called, and the reply that is due to them.
+CLIENTS = [
+    ("246,784 bytes by a socket that sends two bytes more", with_two_bytes_more, content(LONG_FILE)),
+    ("819,200 bytes sent by http.client", lambda port: by_client(port, TOO_MUCH), FRAMING),
+    ("819,200 bytes sent by curl", lambda port: by_curl(port, TOO_MUCH), FRAMING),
+]
+
+
+def what_came(reply, due):
+    """Of a reply that is not whole: how many bytes came of it, or how the client failed."""
+    if isinstance(reply, bytes):
+        return f"{len(reply)} bytes of {len(due)}" + ("" if due.startswith(reply) else ", which are others")
+    return reply if isinstance(reply, str) else reply[0].decode(errors="replace").strip()
+
+
+def see_client(seen, room, label, client, due):
+    """Visits often, and tells how many replies were lost or cut, and how."""
+    lost = collections.Counter()
+    for _ in range(VISITS):
+        reply = tried(client, room.desk_port)
+        if reply != due:
+            lost[what_came(reply, due)] += 1
+    print(f"{label}: {lost.total()} of {VISITS} replies are lost or cut", flush=True)
+    for how, count in lost.most_common(5):
+        print(f"    {count} times: {how}")
+    seen.same(f"{label}: replies that are lost", 0, lost.total())
+
+
+def main():
+    missing = tools.missing(["curl"])
+    if missing:
+        sys.exit(f"missing: {' '.join(missing)}")
+    seen = reading_room.Seen()
+    with reading_room.Room(reading_room.program(sys.argv[1:])) as room:
+        room.fill((*FIRST, *MORE, *LONG))
+        for label, client, due in CLIENTS:
+            see_client(seen, room, label, client, due)
+        seen.same("the desk still serves", None, room.desk.poll())
+    sys.exit(seen.told())
+
+
+if __name__ == "__main__":
+    main()
