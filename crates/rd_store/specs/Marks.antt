@@ -10,7 +10,7 @@ use Rattle.rd_geometry.specs.declared.kind.Kind.TheVariants.{D64, D64e}
 use Rattle.rd_store.specs.declared.rows.ImageRow.{ImageRow}
 
 -- the map that has, at each key, what f makes of the key and of the value there
-pub map_values : {K X Y : Type 0} {cmp : K → K → Ordering} → (K → X → Y) → FinMap cmp X → FinMap cmp Y
+unfoldable pub map_values : {K X Y : Type 0} {cmp : K → K → Ordering} → (K → X → Y) → FinMap cmp X → FinMap cmp Y
 map_values f m = from_sorted (map (λ e. (e.0, f e.0 e.1)) (entries m))
 
 -- an image with its error bytes, if it has any: they follow its blocks

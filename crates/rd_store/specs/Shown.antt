@@ -27,6 +27,10 @@ as_row image = record image { kind = kind_in (kind_code image.kind) }
 abbrev pub marks_shown : List ℕ → Row
 marks_shown marks = Blob marks ∷ []
 
+-- that there are any
+abbrev pub one_shown : List ℕ → Row
+one_shown marks = Int (pos 1) ∷ []
+
 -- an image without its bytes
 abbrev pub heading_of : ImageRow → Heading
 heading_of image = record { kind = image.kind; deed = image.deed; digest = image.digest }
