@@ -15,6 +15,7 @@ mod images;
 mod judging;
 mod keys;
 mod limits;
+mod marks;
 mod opening;
 mod outside;
 mod read;

@@ -64,7 +64,7 @@ fn is_before(row: &Row, next: &Row) -> bool
 }
 
 /// Whether the first column of each row is a number above that of the row before.
-fn are_rising(rows: &[Row]) -> bool
+pub(crate) fn are_rising(rows: &[Row]) -> bool
     ensures { IsTrue result → AreRising rows.now }
 {
     let mut at = 1;
