@@ -10,6 +10,7 @@ pub mod Whole
 pub mod Making
 pub mod Depositing
 pub mod Lawful
+pub mod Marks
 pub mod Creating
 pub mod Columns
 pub mod Shapes

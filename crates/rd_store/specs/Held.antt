@@ -20,7 +20,7 @@ use Rattle.rd_store.specs.Spelled.{SpellDesk, HaveOwnRowids, desk_of, index_of}
 -- The database has the tables of a desk, and their rows spell this one, and an index of which this is true.
 pub record IsOfWith (desk : Desk) (Index : FinMap file_cmp Found → Type 0) (db : Database) : Type 0 where
   pub schema : db.schema ≡ desk_schema
-  pub rows : SpellDesk db.trees
+  pub rows : SpellDesk 2 db.trees
   pub rowids : HaveOwnRowids db.trees
   pub sound : IsDatabase db
   pub is : desk_of db.trees ≡ desk

@@ -2,6 +2,7 @@ pub mod State
 pub mod Codes
 pub mod Index
 pub mod Lawful
+pub mod Marks
 pub mod Spelled
 pub mod Held
 pub mod Shown

@@ -35,15 +35,15 @@ use Rattle.rd_store.specs.State.{Place, Terms, Checkup, rule_of}
 use Rattle.rd_store.specs.Lawful.{IsDeed, IsImage, IsKey, IsLawful}
 use Rattle.rd_store.specs.Cells.{is_one_of}
 use Rattle.rd_store.specs.Index.{AreFilesIn, IsIndexOf}
-use Rattle.rd_store.specs.Spelled.{SpellDesk, HasVersion, desk_of, index_of, deed_sheet, image_sheet, rule_sheet, key_sheet, check_sheet, file_sheet}
+use Rattle.rd_store.specs.Spelled.{SpellDesk, HasVersion, desk_of, images_of, index_of, deed_sheet, image_sheet, rule_sheet, key_sheet, check_sheet, file_sheet}
 use Rattle.rd_store.specs.Created.{IsUntouched}
 use Rattle.rd_store.specs.Held.{RestsOver, IsDeskAt, IsOpen, IsClean, Lasts, LeavesOld, LeavesOnly, LeavesOpen, Stays, desk as desk_at}
 
 -- The rows spell a desk, it is a lawful one, and the index is that of its images.
 pub record IsConsistent (trees : Trees) : Type 0 where
-  pub spelled : SpellDesk trees
+  pub spelled : SpellDesk 2 trees
   pub lawful : IsLawful (desk_of trees)
-  pub index : IsIndexOf (map_of image_sheet (trees 2)) (index_of trees)
+  pub index : IsIndexOf (images_of trees) (index_of trees)
 
 -- the desk's own table comes first, as it is declared in each desk
 pub record HasDeskFirst (schema : Schema) : Type 0 where
