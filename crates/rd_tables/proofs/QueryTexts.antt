@@ -59,7 +59,7 @@ marks_asks = record { names = codes "bytes" ∷ []; means = refl; plain = (refl,
 
 pub has_marks_asks : AsksBy has_marks_text 11 has_marks_query
 unfolding understood everything
-has_marks_asks = record { names = codes "acc" ∷ []; means = refl; plain = (refl, refl); stored = refl; here = λ trees. refl }
+has_marks_asks = record { names = codes "1" ∷ []; means = refl; plain = (refl, refl); stored = refl; here = λ trees. refl }
 
 pub audience_asks : AsksBy audience_text 5 audience_query
 unfolding understood everything

@@ -1,6 +1,7 @@
 -- The questions that the store asks of its tables, and the queries that their texts are.
-use Rattle.std.specs.Prelude.{ℕ, List, [], ◌∷◌, codes}
-use Rattle.sqlite.specs.Term.{Term, col, op1}
+use Rattle.std.specs.Prelude.{ℕ, List, [], ◌∷◌, codes, pos}
+use Rattle.sqlite.specs.declared.types.Value.TheVariants.{Int}
+use Rattle.sqlite.specs.Term.{Term, lit, col, op1}
 use Rattle.sqlite_sql.specs.declared.ops.UnaryOp.TheVariants.{Length, TypeOf}
 use Rattle.sqlite.specs.Query.{Query}
 use Rattle.rd_tables.specs.Asked.{asks_of, equals, rising}
@@ -43,10 +44,10 @@ marks_query = asks_of 11 (equals 0 0 ∷ []) (col 1 2 ∷ []) []
 
 -- whether it has any
 abbrev pub has_marks_text : List ℕ
-has_marks_text = codes "SELECT acc FROM marks WHERE acc = ?1"
+has_marks_text = codes "SELECT 1 FROM marks WHERE acc = ?1"
 
 abbrev pub has_marks_query : Query
-has_marks_query = asks_of 11 (equals 0 0 ∷ []) (col 1 0 ∷ []) []
+has_marks_query = asks_of 11 (equals 0 0 ∷ []) (lit (Int (pos 1)) ∷ []) []
 
 abbrev pub audience_text : List ℕ
 audience_text = codes "SELECT audience FROM badge WHERE digest = ?1"
