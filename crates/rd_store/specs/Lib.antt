@@ -9,4 +9,5 @@ pub mod Shown
 pub mod Created
 pub mod Cells
 pub mod Opened
+pub mod Migrated
 pub mod RulesFor

@@ -1,5 +1,5 @@
 -- When a database is that of a desk, and why it is not opened as one.
-use Rattle.std.specs.Prelude.{◌≡◌, ◌≢◌, ◌↔◌, ℕ, pos, List, length, Bool, true, false, Option, Some, None, IsSome, option_map, IsTrue, Result, Ok, Err, IfErr, OnOk, MatchBool, ⊤}
+use Rattle.std.specs.Prelude.{◌≡◌, ◌≢◌, ◌↔◌, ℕ, pos, List, length, Bool, true, false, Option, Some, None, IsSome, option_map, IsTrue, Result, Ok, Err, IfOk, IfErr, MatchBool, ⊤}
 use Rattle.std.specs.Ordering.{nat_cmp}
 use Rattle.std.specs.FinMap.{FinMap, get}
 use Rattle.sqlite.specs.declared.types.Value.TheVariants.{Int}
@@ -28,9 +28,11 @@ use Rattle.rd_tables.specs.Schemas.{desk_schema, has_desk_columns, has_foreign_d
 use Rattle.rd_volume.specs.declared.found.Found.{Found}
 use Rattle.rd_tables.specs.Sheets.{HaveRowids, Spells, SpellLawful, map_of, seen}
 use Rattle.rd_store.specs.declared.faults.OpenFault.{OpenFault}
-use Rattle.rd_store.specs.declared.faults.OpenFault.TheVariants.{NotADesk, Version, Inconsistent, Sql}
+use Rattle.rd_store.specs.declared.faults.OpenFault.TheVariants.{NotADesk, Version as OtherVersion, Inconsistent, Sql}
 use Rattle.rd_store.specs.declared.opening.Listing.{Listing}
 use Rattle.rd_store.specs.declared.opening.Listing.TheVariants as all
+use Rattle.rd_store.specs.declared.version.Version.{Version}
+use Rattle.rd_store.specs.declared.version.Version.TheVariants.{First, Second}
 use Rattle.rd_store.specs.declared.rows.ImageRow.{ImageRow}
 use Rattle.rd_store.specs.declared.rows.Outcome.{Outcome}
 use Rattle.rd_store.specs.State.{Place, Terms, Checkup, rule_of}
@@ -40,7 +42,7 @@ use Rattle.rd_store.specs.Index.{AreFilesIn, IsFileIn, IsIndexOf}
 use Rattle.rd_store.specs.Marks.{with_marks}
 use Rattle.rd_store.specs.Spelled.{SpellDesk, HasVersion, desk_of, images_of, index_of, deed_sheet, image_sheet, marks_sheet, rule_sheet, key_sheet, check_sheet, file_sheet}
 use Rattle.rd_store.specs.Created.{IsUntouched}
-use Rattle.rd_store.specs.Held.{RestsOver, HasTables, HoldsTables, HoldsCommonTables, IsDeskAt, IsOpen, IsClean, Lasts, LeavesOld, LeavesOnly, LeavesOpen, Stays, desk as desk_at}
+use Rattle.rd_store.specs.Held.{RestsOver, HasTables, HoldsTables, HoldsCommonTables, Holds, IsOpen, IsClean, Lasts, LeavesOld, LeavesOnly, LeavesOpen, Stays, desk as desk_at}
 
 -- The rows spell a desk of this version, it is a lawful one, and the index is that of its images.
 pub record IsConsistentAs (number : ℕ) (trees : Trees) : Type 0 where
@@ -62,7 +64,7 @@ pub record HasDeskFirst (schema : Schema) : Type 0 where
 -- what is told of a database by each refusal; why Sql is answered is not told
 abbrev pub Refuses : OpenFault → Database → Type 0
 Refuses NotADesk db = may_be_desk db.schema ≡ false
-Refuses Version db = (has_desk_columns db.schema ≡ true) × HasDeskFirst db.schema × ¬ HasVersion 2 (db.trees 0)
+Refuses OtherVersion db = (has_desk_columns db.schema ≡ true) × HasDeskFirst db.schema × ¬ HasVersion 2 (db.trees 0)
 Refuses Inconsistent db = (db.schema ≡ desk_schema) × HasVersion 2 (db.trees 0) × ¬ IsConsistent db.trees
 Refuses Sql db = may_be_desk db.schema ≡ true
 
@@ -112,6 +114,10 @@ pub record IsSettledAt (s : State) : Type 0 where
   pub settled : IsTrue s.is_open → s.committed ≡ s.now
   pub autocommit : s.in_transaction ≡ false
 
+-- the desk that it shows is a lawful one
+abbrev pub IsHeld : Database → Type 0
+IsHeld db = Holds (desk_of db.trees) db
+
 -- the rows keep what their tables declare
 abbrev pub IsSoundAt : State → Type 0
 IsSoundAt s = IsTrue s.is_open → IsDatabase s.now
@@ -119,7 +125,7 @@ IsSoundAt s = IsTrue s.is_open → IsDatabase s.now
 -- what each refusal by a test of rows says: after Inconsistent it does not hold
 abbrev pub Denied : Type 0 → OpenFault → Type 0
 Denied P NotADesk = ⊥
-Denied P Version = ⊥
+Denied P OtherVersion = ⊥
 Denied P Inconsistent = ¬ P
 Denied P Sql = ⊤
 
@@ -144,17 +150,27 @@ pub record TestsPart {S T : Type 0} (g : Ghosts S) (old new : Held S) (result : 
 abbrev pub Tests : {S T : Type 0} → Ghosts S → Held S → Held S → Result T OpenFault → (Trees → Type 0) → Type 0
 Tests g old new result P = TestsPart g old new result P P
 
--- A test of a database: after Ok it is that of a desk, and each refusal says why it is none.
-pub record TestsDesk {S T : Type 0} (g : Ghosts S) (old new : Held S) (result : Result T OpenFault) : Type 0 where
+-- A test of the database that a connection shows: what it says after Ok, and by each refusal.
+pub record TestsDatabase {S T : Type 0} (g : Ghosts S) (old new : Held S) (result : Result T OpenFault) (Good : T → Database → Type 0) (Bad : OpenFault → Database → Type 0) : Type 0 where
   pub stays : Stays g old new
-  pub desk : IsOpen g new → OnOk result (IsDeskAt (state g old))
-  pub refused : IsOpen g new → IfErr result (λ fault. Refuses fault (state g old).now)
+  pub holds : IsOpen g new → IfOk result (λ value. Good value (state g old).now)
+  pub refused : IsOpen g new → IfErr result (λ fault. Bad fault (state g old).now)
   pub ends_open : LeavesOpen g new result
   pub refuses : RefusesOpen g new result
+
+-- after Ok it is that of a desk
+abbrev pub TestsDesk : {S T : Type 0} → Ghosts S → Held S → Held S → Result T OpenFault → Type 0
+TestsDesk g old new result = TestsDatabase g old new result (λ value. IsHeld) Refuses
 
 -- the numbers are the keys of the map
 abbrev pub AreKeys : {X : Type 0} → FinMap nat_cmp X → List ℕ → Type 0
 AreKeys map numbers = (n : ℕ) → Has numbers n ↔ IsSome (get map n)
+
+-- what is told of the version that the one row says
+abbrev pub IsSaid : Option Version → List Row → Type 0
+IsSaid (Some First) rows = HasVersion 1 rows
+IsSaid (Some Second) rows = HasVersion 2 rows
+IsSaid None rows = ¬ HasVersion 1 rows × ¬ HasVersion 2 rows
 
 -- ---- the listing of a table
 

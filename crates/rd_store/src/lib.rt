@@ -16,6 +16,7 @@ mod judging;
 mod keys;
 mod limits;
 mod marks;
+mod migrating;
 mod opening;
 mod outside;
 mod read;

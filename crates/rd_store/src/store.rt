@@ -9,6 +9,7 @@ ghost use Rattle.rd_store.specs.Created.{IsCreated, IsNotCreated};
 ghost use Rattle.sqlite.specs.Steps.{over_memory};
 ghost use Rattle.rd_store.specs.Held.{Changes, HoldsDesk, IsClean, IsOpen, Judges, Reads, Rests, desk};
 ghost use Rattle.rd_store.specs.Index.{AreFilesIn, IsFileIn};
+ghost use Rattle.rd_store.specs.Migrated.{IsMigrated, IsNotMigrated};
 ghost use Rattle.rd_store.specs.Opened.{IsNotOpened, IsOpened};
 ghost use Rattle.rd_store.specs.Shown.{accession_of, registered};
 ghost use Rattle.rd_store.specs.Lawful.{IsDeed, IsImage, IsKey};
@@ -17,7 +18,7 @@ ghost use Rattle.rd_store.specs.State.{HasOtherImage, IsLastStaff, Stands, place
 use crate::faults::{CreateFault, OpenFault, Refused, StoreFault};
 use crate::outside::outside;
 use crate::rows::{Accession, DeedRow, ImageRow, Outcome};
-use crate::{checks, create, deeds, files, images, judging, keys, rules};
+use crate::{checks, create, deeds, files, images, judging, keys, migrating, rules};
 use rd_geometry::Kind;
 use rd_policy::{Audience, Band, Rule};
 use rd_tables::{has_desk as has_desk_table, is_blank};
@@ -84,7 +85,7 @@ impl<S: Alter> Store<S> {
     /// Opens the desk that a database holds. The connection is outside a transaction.
     ///
     /// It fails with `NotADesk` where no table `desk` with the columns of one stands; then with `Version`
-    /// where that table comes first and does not have its one row, or the row says another version; then
+    /// where that table comes first and does not have its one row, or the row says another version than 2; then
     /// with `Inconsistent` where the rows are not those of a desk; and with `Sql`, also where another table
     /// stands, where one is declared otherwise, and where the columns of a table `desk` are not told, since
     /// SQL keeps it as it is for something on it that is not understood, as a trigger.
@@ -95,6 +96,28 @@ impl<S: Alter> Store<S> {
     {
         let _outside = conn.is_autocommit();
         match judging::judge(alloc, &mut conn) {
+            Ok(()) => Ok(Store { conn }),
+            Err(fault) => Err(Refused { fault, conn }),
+        }
+    }
+
+    /// Opens the desk that a database holds, after bringing tables of version 1 to version 2: in one transaction it
+    /// makes the table of error bytes, without rows, and sets the version. The desk is the same. Tables of version
+    /// 2 it leaves as they are. The connection is outside a transaction.
+    ///
+    /// It fails as `open` does: with `Version` where the row says neither 1 nor 2, with `Inconsistent` where the
+    /// rows are not those of a desk of their version, and with `Sql` also where another table than those of their
+    /// version stands. The database is then as it was.
+    pub fn migrate(
+        alloc: Global,
+        mut conn: Connection<S>,
+    ) -> Result<Store<S>, Refused<OpenFault, S>>
+        requires outside { conn.in_transaction ≡ false }
+        ensures migrated { IfOk result (λ store. IsMigrated S.Store conn store) }
+        ensures refused { IfErr result (λ refused. IsNotMigrated S.Store conn refused.conn refused.fault) }
+    {
+        let _outside = conn.is_autocommit();
+        match migrating::migrate(alloc, &mut conn) {
             Ok(()) => Ok(Store { conn }),
             Err(fault) => Err(Refused { fault, conn }),
         }
