@@ -37,7 +37,7 @@ use Rattle.rd_store.specs.State.{Desk, Place, Terms, digest_cmp, rule_of, HasOth
 use Rattle.rd_store.specs.declared.rows.ImageRow.{ImageRow}
 use Rattle.rd_store.specs.Shown.{as_row, deed_shown, image_shown, heading_shown, marks_shown, one_shown, given_shown, accession_shown, registered, registered_shown, registered_in, audience_shown, ShowsOther, IsOtherKey}
 use Rattle.rd_store.specs.Spelled.{deed_sheet, image_sheet, key_sheet, marks_sheet, rule_sheet}
-use Rattle.rd_store.proofs.Marks.{deed_marked, entries_joined, kind_marked}
+use Rattle.rd_store.proofs.Joined.{deed_marked, entries_joined, kind_marked}
 use Rattle.rd_store.proofs.Orders.{number_order, digest_order, place_order, kind_back, rule_back, key_back}
 
 -- the first column equals the parameter

@@ -7,7 +7,7 @@ use Rattle.rd_tables.proofs.Reading.{shown_was_open, shown_picks}
 use Rattle.rd_store.proofs.images.image_rows.Goals as goal
 
 pub read_all-requires-clause-plain : goal.read_all-requires-clause-plain
-read_all-requires-clause-plain g c = image_asks.plain
+read_all-requires-clause-plain g c = (image_asks _).plain
 
 pub returns : goal.returns
 returns g c = record {
@@ -20,6 +20,6 @@ returns g c = record {
         let new = state g.S.Store c.read_all.new.conn in
         let params = Int (pos c.args.acc) ∷ [] in
         let shown = (rw c.to_sql-key.ensures at (c.read_all.ensures.asks.answer is_open)) in
-        IfOk-weaker c.read_all.result _ _ (λ rows h. shown_picks image_asks params old new (c.requires.tables (shown_was_open _ params old new rows.items h)).schema rows.items h) shown;
+        IfOk-weaker c.read_all.result _ _ (λ rows h. shown_picks (image_asks _) params old new (c.requires.tables (shown_was_open _ params old new rows.items h)).schema rows.items h) shown;
   };
 }
