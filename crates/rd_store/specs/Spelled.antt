@@ -1,5 +1,5 @@
 -- How the rows of the tables spell a desk.
-use Rattle.std.specs.Prelude.{◌≡◌, ℕ, pos, List, [], ◌∷◌, map, option_map}
+use Rattle.std.specs.Prelude.{◌≡◌, ◌==◌, ℕ, pos, List, [], ◌∷◌, map, cond, option_map}
 use Rattle.std.specs.Ordering.{nat_cmp}
 use Rattle.std.specs.FinMap.{FinMap}
 use Rattle.sqlite.specs.declared.types.Value.TheVariants.{Int, Text, Blob}
@@ -112,9 +112,9 @@ file_sheet = record {
   entry = λ row. (record { acc = natural (column row 0); slot = natural (column row 1) }, file_in (later row));
 }
 
--- the desk has its one row, which says this version
+-- the desk has its one row, with the id 1, which says this version
 abbrev pub HasVersion : ℕ → List Row → Type 0
-HasVersion version rows = map (λ row. column row 2) rows ≡ Int (pos version) ∷ []
+HasVersion version rows = map (λ row. column row 0 ∷ column row 2 ∷ []) rows ≡ (Int (pos 1) ∷ Int (pos version) ∷ []) ∷ []
 
 -- the images, each with its error bytes
 abbrev pub images_of : Trees → FinMap nat_cmp ImageRow
@@ -140,6 +140,11 @@ desk_of trees = record {
   keys = map_of key_sheet (trees 5);
   checks = map_of check_sheet (trees 7);
 }
+
+-- The tables of version 1 tell no error bytes: they spell the desk that the same rows spell in the tables of
+-- version 2, where no image has error bytes.
+abbrev pub unmarked : Trees → Trees
+unmarked trees = λ tree. cond (tree == 11) [] (trees tree)
 
 abbrev pub index_of : Trees → FinMap file_cmp Found
 index_of trees = map_of file_sheet (trees 9)

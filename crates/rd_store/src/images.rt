@@ -11,8 +11,8 @@ ghost use Rattle.rd_store.specs.declared.rows.ImageRow.{ImageRow};
 ghost use Rattle.rd_tables.specs.Asked.{IsPicked};
 ghost use Rattle.rd_tables.specs.Queries.{image_query};
 ghost use Rattle.rd_tables.specs.Sheets.{Spells, map_of, natural};
-ghost use Rattle.rd_store.specs.Held.{Asks, Changes, HoldsDesk, HoldsTables, IsOfWith, IsOpen, Judges, LacksImage, Moves, desk};
-ghost use Rattle.rd_store.specs.Index.{AreFilesIn, IsFiledTo, with_new_image};
+ghost use Rattle.rd_store.specs.Held.{Asks, Changes, HoldsCommonTables, HoldsDesk, IsOfWith, IsOpen, Judges, LacksImage, Moves, desk};
+ghost use Rattle.rd_store.specs.Index.{IsFiledTo, with_new_image};
 ghost use Rattle.rd_store.specs.Lawful.{IsImage};
 ghost use Rattle.rd_store.specs.Shown.{accession_of, as_row, accession_shown, given_shown, image_shown, image_with, heading_of, heading_shown, registered, registered_in, registered_shown};
 ghost use Rattle.rd_store.specs.Spelled.{image_sheet};
@@ -24,7 +24,7 @@ use crate::faults::StoreFault;
 use crate::files::insert_files;
 use crate::marks::{insert_marks, kind_at, kind_with, marked, marked_image};
 use crate::outside::outside;
-use crate::read::read_all;
+use crate::read::{read_all, read_over};
 use crate::rows::{Accession, ImageRow};
 use crate::{codes, deeds};
 use rd_geometry::{Image, Items, Kind};
@@ -43,12 +43,12 @@ pub(crate) struct Heading {
 
 /// The rows for the image of an accession.
 fn image_rows<S: Alter>(conn: &mut Connection<S>, acc: u32) -> Result<Vec<Row>, StoreFault>
-    requires tables { HoldsTables (state S.Store conn.old) }
+    requires tables { HoldsCommonTables (state S.Store conn.old) }
     ensures asks { Asks S.Store conn.old conn.new result StoreFault.Sql (λ rows.
         IsPicked image_query (Int (pos acc) ∷ []) ((state S.Store conn.old).now.trees 2) rows.items) }
 {
     let key = acc.to_sql();
-    read_all(
+    read_over(
         conn,
         "SELECT kind, deed, digest, bytes FROM image WHERE acc = ?1",
         &[key],
@@ -85,12 +85,12 @@ fn first_image(alloc: Global, rows: &[Row]) -> Result<Option<ImageRow>, StoreFau
 
 /// The image of an accession without its error bytes, `None` where there is none. The rows of the images need not
 /// be those of a desk.
-fn image_at<S: Alter>(
+pub(crate) fn image_at<S: Alter>(
     alloc: Global,
     conn: &mut Connection<S>,
     acc: u32,
 ) -> Result<Option<ImageRow>, StoreFault>
-    requires tables { HoldsTables (state S.Store conn.old) }
+    requires tables { HoldsCommonTables (state S.Store conn.old) }
     ensures asks { Asks S.Store conn.old conn.new result StoreFault.Sql (λ found.
         Spells image_sheet ((state S.Store conn.old).now.trees 2)
         → found ≡ get (map_of image_sheet ((state S.Store conn.old).now.trees 2)) acc) }
@@ -332,7 +332,7 @@ pub(crate) fn register<S: Alter>(
 }
 
 /// The files of an image.
-fn survey_of(alloc: Global, kind: Kind, bytes: &[u8]) -> Result<Items<Found>, StoreFault>
+pub(crate) fn survey_of(alloc: Global, kind: Kind, bytes: &[u8]) -> Result<Items<Found>, StoreFault>
     ensures files { IfOk result (AreFounds kind bytes.now) }
     ensures fault { IfErr result (λ fault. fault ≡ StoreFault.Sql) }
 {
@@ -340,23 +340,6 @@ fn survey_of(alloc: Global, kind: Kind, bytes: &[u8]) -> Result<Items<Found>, St
         return Err(StoreFault::Sql);
     };
     survey(alloc, &image).map_err(|_| StoreFault::Sql)
-}
-
-/// The files of the image of an accession, walked anew; none where it is not there.
-pub(crate) fn survey_at<S: Alter>(
-    alloc: Global,
-    conn: &mut Connection<S>,
-    acc: u32,
-) -> Result<Items<Found>, StoreFault>
-    requires tables { HoldsTables (state S.Store conn.old) }
-    ensures asks { Asks S.Store conn.old conn.new result StoreFault.Sql (λ files.
-        Spells image_sheet ((state S.Store conn.old).now.trees 2)
-        → AreFilesIn (get (map_of image_sheet ((state S.Store conn.old).now.trees 2)) acc) files) }
-{
-    match image_at(alloc, conn, acc)? {
-        Some(image) => survey_of(alloc, image.kind, image.bytes.as_slice()),
-        None => Ok(Items::of(Vec::new(alloc))),
-    }
 }
 
 /// Puts the row of an image where none stands, inside a transaction, without error bytes; of its files none is in
