@@ -155,6 +155,10 @@ pub kind_marked : (m : Option (List ℕ)) (image : ImageRow) → (with_marks m i
 kind_marked None image = refl
 kind_marked (Some bytes) image = refl
 
+pub digest_marked : (m : Option (List ℕ)) (image : ImageRow) → image.digest ≡ (with_marks m image).digest
+digest_marked None image = refl
+digest_marked (Some bytes) image = refl
+
 pub deed_marked : (m : Option (List ℕ)) (image : ImageRow) → image.deed ≡ (with_marks m image).deed
 deed_marked None image = refl
 deed_marked (Some bytes) image = refl
