@@ -1,4 +1,4 @@
-use Rattle.std.proofs.Common.{◌≡◌, ◌++◌, ◌∙◌, ℕ, Ok, Err, Some, Result, ap, sym, subst, rules}
+use Rattle.std.proofs.Common.{◌≡◌, ◌++◌, ◌∙◌, ℕ, Ok, Err, Some, Result, ap, sym, subst}
 use Rattle.std.specs.FinMap.{get, insert}
 use Rattle.sqlite.specs.declared.error.Error.{Error}
 use Rattle.rd_geometry.specs.declared.kind.Kind.TheVariants.{D64, D64e}
@@ -37,7 +37,7 @@ returns-clause-moves g c before files =
     let new = c.insert_marks.new.tx.conn.now in
     let image = image_with heading c.args.bytes.now in
     let row = as_row (image_with heading blocks) in
-    let whole : blocks ++ marks ≡ c.args.bytes.now = search rules in
+    let whole : blocks ++ marks ≡ c.args.bytes.now = sym c.split_at.ensures.by_index.0 in
     let is : with_marks (Some marks) row ≡ image = λ i. record { kind = sym c.requires.kind i; deed = heading.deed; digest = heading.digest; bytes = whole i } in
     let kind : row.kind ≡ D64 = ap (λ k. kind_in (kind_code k)) c.requires.kind in
     let filed = λ (d : Desk). IsOfWith d (IsFiledTo before.images acc files 0) in
