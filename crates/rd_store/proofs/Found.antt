@@ -1,5 +1,5 @@
 -- What the queries show of a desk.
-use Rattle.std.proofs.Common.{◌≡◌, inl, inr, ℕ, zero, suc, ◌<◌, slice_index_or, pos, List, [], ◌∷◌, map, Bool, true, false, Option, Some, None, option_map, is_some, refl, sym, ap, ap₂, ◌∙◌, arith, nat_cmp, int_cmp, is_lt, is_eq, Less, Equal, Greater, Ordering, ◌&&◌, ◌||◌, ◌==◌, All, subst, length}
+use Rattle.std.proofs.Common.{◌≡◌, inl, inr, ℕ, zero, suc, ◌<◌, slice_get, slice_index_or, pos, List, [], ◌∷◌, map, Bool, true, false, Option, Some, None, option_map, is_some, refl, sym, ap, ap₂, ◌∙◌, arith, nat_cmp, int_cmp, is_lt, is_eq, Less, Equal, Greater, Ordering, ◌&&◌, ◌||◌, ◌==◌, All, subst, length}
 use Rattle.std.specs.Prelude.{MatchBool}
 use Rattle.std.specs.Option.{option_to_list}
 use Rattle.std.specs.List.{Any, list_any}
@@ -37,7 +37,7 @@ use Rattle.rd_store.specs.State.{Desk, Place, Terms, digest_cmp, rule_of, HasOth
 use Rattle.rd_store.specs.declared.rows.ImageRow.{ImageRow}
 use Rattle.rd_store.specs.Shown.{as_row, deed_shown, image_shown, heading_shown, marks_shown, one_shown, given_shown, accession_shown, registered, registered_shown, registered_in, audience_shown, ShowsOther, IsOtherKey}
 use Rattle.rd_store.specs.Spelled.{deed_sheet, image_sheet, key_sheet, marks_sheet, rule_sheet}
-use Rattle.rd_store.proofs.Marks.{deed_marked, entries_joined, kind_marked}
+use Rattle.rd_store.proofs.Joined.{deed_marked, entries_joined, kind_marked}
 use Rattle.rd_store.proofs.Orders.{number_order, digest_order, place_order, kind_back, rule_back, key_back}
 
 -- the first column equals the parameter
@@ -69,6 +69,11 @@ module _ (n : ℕ) (table rows : List Row) where
   pub has_marks_found : Spells marks_sheet table → IsPicked has_marks_query (Int (pos n) ∷ []) table rows → rows ≡ map one_shown (option_to_list (get (map_of marks_sheet table) n))
   has_marks_found spells picks = looked_up marks_sheet number_order has_marks_query (Int (pos n) ∷ []) table rows spells picks n one_shown
       (λ row is. ap (λ s. is_true (binary (Compare Eq Binary) (column s 0) (Int (pos n))) && true) is ∙ first_is n _) (λ row is. refl)
+
+-- the first row shows what was looked up
+pub first_shown : {X : Type 0} (show : X → Row) (found : Option X) (rows : List Row) (row : Row) → rows ≡ map show (option_to_list found) → Some row ≡ slice_get rows 0 → (x : X) × (found ≡ Some x) × (row ≡ show x)
+first_shown show None rows row are first = let wrong : Some row ≡ None = first ∙ ap (λ l. slice_get l 0) are in absurd cc
+first_shown show (Some x) rows row are first = let is : Some row ≡ Some (show x) = first ∙ ap (λ l. slice_get l 0) are in (x, refl, cc)
 
 -- ORDER BY a number, whose numbers differ
 numbers_rise : (a b : ℕ) → true ≡ true → true ≡ true → is_lt (key_cmp 0 (rising ∷ []) (Int (pos b) ∷ []) (Int (pos a) ∷ [])) ≡ false → eq_by_cmp nat_cmp a b ≡ false → nat_cmp a b ≡ Less

@@ -10,7 +10,7 @@ pub mod Whole
 pub mod Making
 pub mod Depositing
 pub mod Lawful
-pub mod Marks
+pub mod Joined
 pub mod Creating
 pub mod Columns
 pub mod Shapes

@@ -1,5 +1,5 @@
 -- What the statements make of a database of a desk.
-use Rattle.std.proofs.Common.{◌≡◌, ◌==◌, ◌+◌, ◌<◌, ◌∷◌, AllPairs, get_or, length, option_map, ℕ, ℤ, pos, List, filter, Bool, true, false, not, ◌&&◌, Some, None, refl, sym, ap, ap₂, subst, subst₂, ◌∙◌, IsTrue, Equal, nat_cmp, int_cmp, arith}
+use Rattle.std.proofs.Common.{◌≡◌, ◌==◌, ◌+◌, ◌<◌, [], ◌∷◌, inl, inr, AllPairs, get_or, length, option_map, ℕ, ℤ, pos, List, filter, Bool, true, false, not, ◌&&◌, Some, None, refl, sym, ap, ap₂, subst, subst₂, ◌∙◌, IsTrue, Equal, nat_cmp, int_cmp, arith}
 use Rattle.std.specs.List.{AllByRecursion}
 use Rattle.std.specs.Ordering.{eq_by_cmp}
 use Rattle.std.specs.FinMap.{FinMap, get, insert, remove}
@@ -20,7 +20,8 @@ use Rattle.sqlite_rules.proofs.ListLemmas.{all_has}
 use Rattle.sqlite_value.proofs.OrderLemmas.{value_cmp-Int}
 use Rattle.sqlite_value.specs.Keys.{first_key}
 use Rattle.rd_geometry.specs.Blocks.{CBM_BLOCKS}
-use Rattle.rd_geometry.specs.declared.kind.Kind.TheVariants.{D64}
+use Rattle.rd_geometry.specs.declared.kind.Kind.{Kind}
+use Rattle.rd_geometry.specs.declared.kind.Kind.TheVariants.{Cpm8, D64, D64e}
 use Rattle.rd_policy.specs.declared.audience.Audience.{Audience}
 use Rattle.rd_tables.specs.Schemas.{desk_schema}
 use Rattle.rd_tables.specs.Sheets.{Sheet, Spells, SpellLawful, IsSpelled, HaveRowids, entry_of, map_of}
@@ -37,7 +38,7 @@ use Rattle.rd_tables.proofs.Statements.{deed_params, deed_row, has_number, by_ro
 use Rattle.rd_store.specs.declared.rows.DeedRow.{DeedRow}
 use Rattle.rd_store.specs.declared.rows.ImageRow.{ImageRow}
 use Rattle.rd_store.specs.declared.rows.Outcome.{Outcome}
-use Rattle.rd_store.specs.Codes.{kind_code, band_code, audiences_code, audience_code, effect_code, outcome_code, how, number, word, class_code, units_code}
+use Rattle.rd_store.specs.Codes.{kind_code, kind_in, band_code, audiences_code, audience_code, effect_code, outcome_code, how, number, word, class_code, units_code}
 use Rattle.rd_store.specs.State.{Desk, Place, Terms, Checkup, place_cmp, digest_cmp, checkup_cmp, with_deed, with_rule, without_rule, with_check, without_check, with_key, without_key}
 use Rattle.rd_volume.specs.Volumes.{AreFounds}
 use Rattle.rd_volume.specs.declared.found.Found.{Found}
@@ -48,7 +49,7 @@ use Rattle.rd_store.specs.Spelled.{HaveOwnRowids, deed_sheet, image_sheet, image
 use Rattle.rd_store.specs.Held.{IsOf, IsOfWith, LacksImage}
 use Rattle.rd_store.proofs.Filed.{none_filed, next_free, one_filed, all_filed}
 use Rattle.rd_store.proofs.Lawful.{found_after}
-use Rattle.rd_store.proofs.Marks.{joined_image, joined_marks, no_marks, none_apart, plain_there, still_marks}
+use Rattle.rd_store.proofs.Joined.{joined_image, joined_marks, no_marks, none_apart, plain_there, still_marks}
 use Rattle.rd_store.proofs.Orders.{number_order, place_order, digest_order, checkup_order, file_order, audience_back, outcome_back, rule_back, entry_back}
 
 -- ---- one table is set, and the others stay
@@ -223,8 +224,14 @@ module _ (acc : ℕ) (image : ImageRow) where
   abbrev new_image : Row
   new_image = image_row acc (kind_code image.kind) image.deed image.digest image.bytes
 
-  image_read : entry_of image_sheet new_image ≡ (acc, as_row image)
-  image_read = refl
+  -- which has the number of the kind
+  same_number : (kind : Kind) → kind_code (kind_in (kind_code kind)) ≡ kind_code kind
+  same_number Cpm8 = refl
+  same_number D64 = refl
+  same_number D64e = refl
+
+  image_spelled : IsSpelled image_sheet new_image
+  image_spelled = λ i. Int (pos acc) ∷ Int (pos (sym (same_number image.kind) i)) ∷ Int (pos image.deed) ∷ Blob image.digest ∷ Blob image.bytes ∷ []
 
   -- a row of an image, which tells no error bytes, is put where no image stands
   pub makes_image : (desk : Desk) (files : List Found)
@@ -234,7 +241,7 @@ module _ (acc : ℕ) (image : ImageRow) where
       let table = map_of image_sheet rows in
       let marks = map_of marks_sheet (db.trees 11) in
       let h = puts_image acc (kind_code image.kind) image.deed image.digest image.bytes (statement_of put_image_text (understood desk_schema put_image_text)) limit db after tally of.schema does in
-      let is : IsSpelled image_sheet new_image = sym (ap image_sheet.columns image_read) in
+      let is = image_spelled in
       let apart : get table acc ≡ None = none_apart table marks acc (ap (λ (d : Desk). get d.images acc) of.is ∙ free) in
       let unmarked : get marks acc ≡ None = no_marks table marks of.rows.marks.lawful acc apart in
       let none = none_at image_sheet number_order acc rows apart in

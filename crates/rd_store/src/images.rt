@@ -393,10 +393,9 @@ fn insert_image<S: Alter>(
         (LacksImage acc before) (IsOfWith (with_new_image acc (image_with heading.now bytes.now) before) (IsFiledTo before.images acc files 0)) result }
 {
     if heading.kind == Kind::D64e {
-        insert_both(tx, acc, heading, bytes)
-    } else {
-        insert_row(tx, acc, heading, bytes)
+        return insert_both(tx, acc, heading, bytes);
     }
+    insert_row(tx, acc, heading, bytes)
 }
 
 /// Puts an image where none stands, and its files into the index, in one transaction.

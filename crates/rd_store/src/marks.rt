@@ -11,7 +11,7 @@ ghost use Rattle.rd_tables.specs.Asked.{IsPicked};
 ghost use Rattle.rd_tables.specs.Queries.{marked_query, marks_query};
 ghost use Rattle.rd_tables.specs.Sheets.{Spells, map_of};
 ghost use Rattle.rd_store.specs.declared.rows.ImageRow.{ImageRow};
-ghost use Rattle.rd_store.specs.Held.{Asks, HoldsDesk, HoldsTables, IsOfWith, Moves, desk};
+ghost use Rattle.rd_store.specs.Held.{Asks, HoldsDesk, HoldsTables, IsClean, IsOfWith, IsOpen, Moves, desk};
 ghost use Rattle.rd_store.specs.Index.{IsFiledTo, with_new_image};
 ghost use Rattle.rd_store.specs.Marks.{kind_with as kind_marked, with_marks as image_marked};
 ghost use Rattle.rd_store.specs.Shown.{marks_shown, one_shown};
@@ -98,6 +98,7 @@ pub(crate) fn marked_image<S: Alter>(
     row: ImageRow,
 ) -> Result<ImageRow, StoreFault>
     requires holds { HoldsDesk (state S.Store conn.old) }
+    requires awake { IsClean S.Store conn.old → IsOpen S.Store conn.old }
     ensures asks { Asks S.Store conn.old conn.new result StoreFault.Sql (λ image.
         get (map_of image_sheet ((state S.Store conn.old).now.trees 2)) acc ≡ Some row
         → get (desk S.Store conn.old).images acc ≡ Some image) }
@@ -147,6 +148,7 @@ pub(crate) fn kind_at<S: Alter>(
     kind: Kind,
 ) -> Result<Kind, StoreFault>
     requires holds { HoldsDesk (state S.Store conn.old) }
+    requires awake { IsClean S.Store conn.old → IsOpen S.Store conn.old }
     ensures asks { Asks S.Store conn.old conn.new result StoreFault.Sql (λ found. (row : ImageRow)
         → get (map_of image_sheet ((state S.Store conn.old).now.trees 2)) acc ≡ Some row → row.kind ≡ kind
         → found ≡ (image_marked (get (map_of marks_sheet ((state S.Store conn.old).now.trees 11)) acc) row).kind) }

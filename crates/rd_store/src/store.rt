@@ -248,8 +248,8 @@ impl<S: Alter> Store<S> {
 
     /// Puts an image of its kind's length where none stands, at an accession, 1 to 999,999, under the deed
     /// with a number, with the SHA-256 that was given for it. The same kind, deed and digest again are done,
-    /// and change nothing, whatever the bytes. What `survey` tells of its files goes into the index in the same
-    /// transaction.
+    /// and change nothing, whatever the bytes. Its error bytes, where it has any, and what `survey` tells of its
+    /// files are written in the same transaction.
     ///
     /// It fails with `Missing` where there is no such deed, with `Conflict` where another kind, deed or
     /// digest stands at the accession, and with `Sql`.

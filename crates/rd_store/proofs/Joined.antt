@@ -1,14 +1,17 @@
 -- Maps whose values are made into others, and the images with their error bytes.
-use Rattle.std.proofs.Common.{◌≡◌, inl, inr, ℕ, List, [], ◌∷◌, ◌&&◌, map, cond, T, Option, Some, None, option_map, is_some, refl, sym, ap, ap₂, subst, ◌∙◌, Ordering, nat_cmp, is_lt}
+use Rattle.std.proofs.Common.{◌≡◌, inl, inr, ℕ, List, [], ◌∷◌, ◌&&◌, map, Bool, true, false, cond, T, Option, Some, None, option_map, is_some, refl, sym, ap, ap₂, subst, ◌∙◌, Ordering, nat_cmp, is_lt}
 use Rattle.std.specs.Option.{unwrap_or}
 use Rattle.std.specs.Ordering.{eq_by_cmp}
 use Rattle.std.specs.FinMap.{FinMap, get, entries, keys, insert, from_entries, get-entries, get-insert, get-from_entries, get-from_sorted, entries-from_sorted, entries_sorted, same_map}
 use Rattle.std.specs.FinMap.Entries.{find, is_sorted, below_all}
 use Rattle.std.proofs.lemmas.Bool.{cases_Bool}
-use Rattle.rd_geometry.specs.declared.kind.Kind.TheVariants.{D64, D64e}
+use Rattle.rd_geometry.specs.declared.kind.Kind.{Kind}
+use Rattle.rd_geometry.specs.declared.kind.Kind.TheVariants.{Cpm8, D64, D64e}
 use Rattle.rd_tables.proofs.Lists.{map_map}
 use Rattle.rd_tables.proofs.Entries.{IsKeyOrder, tie}
 use Rattle.rd_store.specs.declared.rows.ImageRow.{ImageRow}
+use Rattle.rd_store.specs.Codes.{kind_code, kind_in}
+use Rattle.rd_store.specs.Shown.{as_row}
 use Rattle.rd_store.specs.Marks.{AreMarksIn, joined, kind_with, map_values, with_marks}
 use Rattle.rd_store.proofs.Lawful.{others_stay}
 use Rattle.rd_store.proofs.Orders.{number_order}
@@ -152,6 +155,57 @@ pub kind_marked : (m : Option (List ℕ)) (image : ImageRow) → (with_marks m i
 kind_marked None image = refl
 kind_marked (Some bytes) image = refl
 
+pub digest_marked : (m : Option (List ℕ)) (image : ImageRow) → image.digest ≡ (with_marks m image).digest
+digest_marked None image = refl
+digest_marked (Some bytes) image = refl
+
 pub deed_marked : (m : Option (List ℕ)) (image : ImageRow) → image.deed ≡ (with_marks m image).deed
 deed_marked None image = refl
 deed_marked (Some bytes) image = refl
+
+-- ---- what is told of one accession
+
+module _ (images : Images) (marks : Marks) (acc : ℕ) where
+  pub joined_at : (row : ImageRow) → get images acc ≡ Some row → get (joined images marks) acc ≡ Some (with_marks (get marks acc) row)
+  joined_at row stands = get_joined images marks acc ∙ ap (option_map (with_marks (get marks acc))) stands
+
+  pub joined_nowhere : get images acc ≡ None → get (joined images marks) acc ≡ None
+  joined_nowhere none = get_joined images marks acc ∙ ap (option_map (with_marks (get marks acc))) none
+
+  module _ {T : Type 0} (told : ImageRow → T) where
+    -- what a row tells, where there is one
+    pub row_told : (t : T) → Some t ≡ option_map told (get images acc) → (row : ImageRow) × (get images acc ≡ Some row) × (t ≡ told row)
+    row_told t is = go (get images acc) refl is
+      where
+        go : (found : Option ImageRow) → get images acc ≡ found → Some t ≡ option_map told found → (row : ImageRow) × (get images acc ≡ Some row) × (t ≡ told row)
+        go None none is = absurd cc
+        go (Some row) stands is = (row, stands, cc)
+
+    -- what is told where there is none
+    pub none_told : (other : ImageRow → T) → None ≡ option_map told (get images acc) → None ≡ option_map other (get (joined images marks) acc)
+    none_told other is = go (get images acc) refl is
+      where
+        go : (found : Option ImageRow) → get images acc ≡ found → None ≡ option_map told found → None ≡ option_map other (get (joined images marks) acc)
+        go None none is = sym (ap (option_map other) (joined_nowhere none))
+        go (Some row) stands is = absurd cc
+
+-- ---- an image that is put in two steps
+
+-- what an image replaces does not matter
+pub image_again : (images : Images) (acc : ℕ) (first second : ImageRow) → insert (insert images acc first) acc second ≡ insert images acc second
+image_again images acc first second = same_map number_order.total number_order.same _ _ (λ q.
+    get-insert number_order.total (insert images acc first) acc second q ∙ ap (cond (eq_by_cmp nat_cmp q acc) (Some second)) (get-insert number_order.total images acc first q)
+    ∙ either (eq_by_cmp nat_cmp q acc) (Some second) (Some first) (get images q) ∙ sym (get-insert number_order.total images acc second q))
+  where
+    either : {A : Type 0} (b : Bool) (x y z : A) → cond b x (cond b y z) ≡ cond b x z
+    either true x y z = refl
+    either false x y z = refl
+
+-- without error bytes the row of an image is the image
+pub plain_as_row : (image : ImageRow) → ¬ (image.kind ≡ D64e) → as_row image ≡ image
+plain_as_row image plain = λ i. record image { kind = same image.kind plain i }
+  where
+    same : (kind : Kind) → ¬ (kind ≡ D64e) → kind_in (kind_code kind) ≡ kind
+    same Cpm8 plain = refl
+    same D64 plain = refl
+    same D64e plain = absurd (plain refl)
