@@ -1,5 +1,5 @@
 -- What making the tables and their first rows comes to.
-use Rattle.std.proofs.Common.{◌≡◌, inl, inr, ℕ, ◌+◌, ◌<◌, List, [], ◌∷◌, ◌++◌, length, get_or, false, Option, Some, None, Result, Ok, refl, sym, ap, subst, subst₂, ◌∙◌}
+use Rattle.std.proofs.Common.{◌≡◌, inl, inr, ℕ, ◌+◌, ◌<◌, List, [], ◌∷◌, ◌++◌, length, get_or, false, Option, Some, None, Result, Ok, refl, sym, ap, ap₂, subst, ◌∙◌}
 use Rattle.std.specs.List.{AllByRecursion, IsDistinct}
 use Rattle.std.specs.FinMap.{get, from_entries, get-from_entries}
 use Rattle.sqlite.specs.Order.{Row}
@@ -16,7 +16,7 @@ use Rattle.sqlite.specs.Listing.{understood}
 use Rattle.sqlite.proofs.Callers.{statement_of}
 use Rattle.rd_policy.specs.declared.audience.Audience.TheVariants.{Staff}
 use Rattle.rd_tables.specs.Schemas.{desk_schema}
-use Rattle.rd_tables.specs.Sheets.{Sheet, Spells, HaveRowids, map_of}
+use Rattle.rd_tables.specs.Sheets.{Sheet, Spells, SpellLawful, HaveRowids, map_of}
 use Rattle.rd_tables.specs.Statements.{create_texts, schema_after, put_version_text, put_version}
 use Rattle.rd_tables.proofs.CreateTexts.{Creates, creates, creates_writes}
 use Rattle.rd_tables.proofs.Entries.{IsKeyOrder, get_inserted}
@@ -26,11 +26,13 @@ use Rattle.rd_tables.proofs.StatementTexts.{put_version_writes}
 use Rattle.rd_tables.proofs.Steps.{went, same_value}
 use Rattle.rd_store.specs.State.{digest_cmp}
 use Rattle.rd_store.specs.Lawful.{IsLawful, IsKey}
+use Rattle.rd_store.specs.Marks.{AreMarksIn, joined}
 use Rattle.rd_store.specs.Index.{IsFileIn, IsIndexOf}
-use Rattle.rd_store.specs.Spelled.{deed_sheet, image_sheet, rule_sheet, key_sheet, check_sheet, file_sheet, HasVersion}
+use Rattle.rd_store.specs.Spelled.{deed_sheet, image_sheet, marks_sheet, rule_sheet, key_sheet, check_sheet, file_sheet, HasVersion}
 use Rattle.rd_store.specs.Held.{IsOf, IsDeskAt, HoldsDesk, IsOpen, LeavesOnly, desk}
 use Rattle.rd_store.specs.Created.{IsAt, IsMade, LeavesOldOrNew, Turns, empty_desk, new_desk}
 use Rattle.rd_store.proofs.Laws.{Laws, leaves_only, left_is}
+use Rattle.rd_store.proofs.Marks.{joined_none}
 use Rattle.rd_store.proofs.Single.{rests_on}
 use Rattle.rd_store.proofs.Orders.{number_order, place_order, digest_order, checkup_order, file_order}
 use Rattle.rd_store.proofs.Lawful.{found_after}
@@ -46,9 +48,10 @@ empty_after [] old new kept all = tt
 empty_after (t ∷ tables) old new kept all = (kept.0 ∙ all.0, empty_after tables old new kept.1 all.1)
 
 module _ (before : Schema) (text : List ℕ) (after : Schema) (m : Creates before text after) where
-  one_table : (limit : Option ℕ) (db now : Database) (tally : Tally) → db.schema ≡ before → AllByRecursion (λ table. db.trees table.tree ≡ []) before.tables → Does limit plain_mode [] db text None CreateTable (Ok (tally, now))
-      → (now.schema ≡ after) × AllByRecursion (λ table. now.trees table.tree ≡ []) after.tables
-  one_table limit db now tally has empty h =
+  -- a table is made, without rows, and the others keep theirs
+  pub one_made : (limit : Option ℕ) (db now : Database) (tally : Tally) → db.schema ≡ before → Does limit plain_mode [] db text None CreateTable (Ok (tally, now))
+      → (now.schema ≡ after) × KeepsRows before.tables db.trees now.trees × (now.trees (next_tree before) ≡ [])
+  one_made limit db now tally has h =
       let all = went h in
       let first = went all.1 in
       let made = first.1 in
@@ -57,13 +60,24 @@ module _ (before : Schema) (text : List ℕ) (after : Schema) (m : Creates befor
       let schema : first.0.schema ≡ after = made.is ∙ ap (λ x. created x made.table) has ∙ ap (created before) same ∙ m.is in
       let none : lacks_sequence first.0.schema ≡ false = ap lacks_sequence schema ∙ m.unsequenced in
       let is : now ≡ first.0 = ap (λ (p : Tally × Database). p.1) (same_value all.2) ∙ same_value (rw none at first.2) in
-      let new : Table = record m.table { tree = next_tree before } in
       let fresh : first.0.trees (next_tree before) ≡ [] = subst (λ x. first.0.trees (next_tree x) ≡ []) has made.empty in
-      let others = empty_after before.tables db.trees first.0.trees (subst (λ x. KeepsRows x.tables db.trees first.0.trees) has made.others) empty in
-      let tables : AllByRecursion (λ table. first.0.trees table.tree ≡ []) (created before m.table).tables = all_push (λ table. first.0.trees table.tree ≡ []) before.tables new others fresh in
-      (ap (λ (d : Database). d.schema) is ∙ schema, subst₂ (λ (d : Database) (x : Schema). AllByRecursion (λ table. d.trees table.tree ≡ []) x.tables) (sym is) m.is tables)
+      let others : KeepsRows before.tables db.trees first.0.trees = subst (λ x. KeepsRows x.tables db.trees first.0.trees) has made.others in
+      (
+        ap (λ (d : Database). d.schema) is ∙ schema,
+        subst (λ (d : Database). KeepsRows before.tables db.trees d.trees) (sym is) others,
+        subst (λ (d : Database). d.trees (next_tree before) ≡ []) (sym is) fresh,
+      )
 
-pub makes_table : (i : ℕ) (low : i < 7) → Makes (schema_after i) (get_or create_texts i []) CreateTable (creates_writes i low) [] (IsMade i) (IsMade (i + 1))
+  one_table : (limit : Option ℕ) (db now : Database) (tally : Tally) → db.schema ≡ before → AllByRecursion (λ table. db.trees table.tree ≡ []) before.tables → Does limit plain_mode [] db text None CreateTable (Ok (tally, now))
+      → (now.schema ≡ after) × AllByRecursion (λ table. now.trees table.tree ≡ []) after.tables
+  one_table limit db now tally has empty h =
+      let it = one_made limit db now tally has h in
+      let new : Table = record m.table { tree = next_tree before } in
+      let others = empty_after before.tables db.trees now.trees it.1 empty in
+      let tables : AllByRecursion (λ table. now.trees table.tree ≡ []) (created before m.table).tables = all_push (λ table. now.trees table.tree ≡ []) before.tables new others it.2 in
+      (it.0, subst (λ (x : Schema). AllByRecursion (λ table. now.trees table.tree ≡ []) x.tables) m.is tables)
+
+pub makes_table : (i : ℕ) (low : i < 8) → Makes (schema_after i) (get_or create_texts i []) CreateTable (creates_writes i low) [] (IsMade i) (IsMade (i + 1))
 makes_table i low limit db after tally made does sound =
     let m = creates i low in
     let it = one_table (schema_after i) (get_or create_texts i []) (schema_after (i + 1)) m limit db after tally made.schema made.empty (subst (λ text. Does limit plain_mode [] db text None CreateTable (Ok (tally, after))) m.whole does) in
@@ -74,9 +88,15 @@ made_schema i db made = made.schema
 
 -- ---- the first rows
 
+none_got : {K X : Type 0} (cmp : K → K → _) → IsKeyOrder cmp → (k : K) (x : X) → ¬ (get (from_entries {R = cmp} []) k ≡ Some x)
+none_got cmp order k x is = let e = sym (get-from_entries order.total [] k) ∙ is in absurd cc
+
 none_spell : {K X : Type 0} (sheet : Sheet K X) (rows : List Row) → rows ≡ [] → Spells sheet rows
 unfolding IsDistinct
 none_spell sheet rows is = subst (Spells sheet) (sym is) (record { spelled = tt; apart = tt })
+
+none_lawful : {K X : Type 0} (sheet : Sheet K X) (P : K × X → Type 0) → IsKeyOrder sheet.cmp → (rows : List Row) → rows ≡ [] → SpellLawful sheet P rows
+none_lawful sheet P order rows is = subst (SpellLawful sheet P) (sym is) (record { spells = none_spell sheet [] refl; lawful = λ key value found. absurd (none_got sheet.cmp order key value found) })
 
 none_have : (rows : List Row) → rows ≡ [] → HaveRowids rows
 none_have rows is = subst HaveRowids (sym is) (record { keyed = λ row here. absurd here; apart = λ row other here there tie. absurd here })
@@ -87,7 +107,7 @@ empty_index rows is acc slot =
     subst (λ image. IsFileIn image slot (get (map_of file_sheet rows) (record { acc = acc; slot = slot }))) (sym (get-from_entries number_order.total [] acc))
     (ap (λ l. get (map_of file_sheet l) (record { acc = acc; slot = slot })) is ∙ get-from_entries file_order.total [] (record { acc = acc; slot = slot }))
 
-pub makes_version : Makes desk_schema put_version_text put_version put_version_writes [] (IsMade 7) (IsOf empty_desk)
+pub makes_version : Makes desk_schema put_version_text put_version put_version_writes [] (IsMade 8) (IsOf empty_desk)
 makes_version limit db after tally made does sound =
     let h = puts_version (statement_of put_version_text (understood desk_schema put_version_text)) limit db after tally made.schema does in
     let e = made.empty in
@@ -97,28 +117,27 @@ makes_version limit db after tally made does sound =
     let keys = h.1.stays 5 refl refl ∙ e.1.1.1.1.0 in
     let checks = h.1.stays 7 refl refl ∙ e.1.1.1.1.1.0 in
     let files = h.1.stays 9 refl refl ∙ e.1.1.1.1.1.1.0 in
+    let marks = h.1.stays 11 refl refl ∙ e.1.1.1.1.1.1.1.0 in
     let version : after.trees 0 ≡ version_row ∷ [] = h.1.now ∙ ap (put_row version_row) e.0 in
     record {
       schema = h.1.schema;
       rows = record {
-        version = subst (HasVersion 1) (sym version) refl;
+        version = subst (HasVersion 2) (sym version) refl;
         deeds = none_spell deed_sheet _ deeds;
         images = none_spell image_sheet _ images;
         rules = none_spell rule_sheet _ rules;
         keys = none_spell key_sheet _ keys;
         checks = none_spell check_sheet _ checks;
         files = none_spell file_sheet _ files;
+        marks = none_lawful marks_sheet (AreMarksIn (map_of image_sheet (after.trees 2))) number_order _ marks;
       };
       rowids = record { rules = none_have _ rules; keys = none_have _ keys; checks = none_have _ checks; files = none_have _ files };
       sound = sound;
-      is = λ i. record { deeds = map_of deed_sheet (deeds i); images = map_of image_sheet (images i); rules = map_of rule_sheet (rules i); keys = map_of key_sheet (keys i); checks = map_of check_sheet (checks i) };
+      is = λ i. record { deeds = map_of deed_sheet (deeds i); images = (ap₂ (λ rows bytes. joined (map_of image_sheet rows) (map_of marks_sheet bytes)) images marks ∙ joined_none (from_entries [])) i; rules = map_of rule_sheet (rules i); keys = map_of key_sheet (keys i); checks = map_of check_sheet (checks i) };
       index = empty_index (after.trees 9) files;
     }
 
 -- ---- a new desk is lawful
-
-none_got : {K X : Type 0} (cmp : K → K → _) → IsKeyOrder cmp → (k : K) (x : X) → ¬ (get (from_entries {R = cmp} []) k ≡ Some x)
-none_got cmp order k x is = let e = sym (get-from_entries order.total [] k) ∙ is in absurd cc
 
 pub no_key : (digest : List ℕ) → get empty_desk.keys digest ≡ None
 no_key digest = get-from_entries digest_order.total [] digest

@@ -29,7 +29,7 @@ use Rattle.rd_tables.proofs.Entries.{entry_got, got_entry, below_has}
 use Rattle.rd_tables.proofs.Finding.{looked_up, in_order}
 use Rattle.rd_tables.proofs.Listed.{all_in}
 use Rattle.rd_store.specs.declared.rows.ImageRow.{ImageRow}
-use Rattle.rd_store.specs.Index.{FileAt, file_cmp, AreFilesIn, IsFileIn, IsIndexOf}
+use Rattle.rd_store.specs.Index.{FileAt, file_cmp, AreFilesIn, IsFileIn}
 use Rattle.rd_store.specs.Spelled.{file_sheet, file_shown, later}
 use Rattle.rd_store.proofs.Orders.{file_order}
 
@@ -76,7 +76,7 @@ parts : (a b : Bool) → T (a && b) → T a × T b
 parts true b h = (tt, h)
 parts false b h = absurd h
 
-module _ (images : FinMap nat_cmp ImageRow) (index : FinMap file_cmp Found) (is : IsIndexOf images index) (acc : ℕ) where
+module _ (image : Option ImageRow) (index : FinMap file_cmp Found) (acc : ℕ) (is : (slot : ℕ) → IsFileIn image slot (get index (record { acc = acc; slot = slot }))) where
   abbrev of_acc : FileAt → Bool
   of_acc at = at.acc == acc
 
@@ -157,14 +157,14 @@ module _ (images : FinMap nat_cmp ImageRow) (index : FinMap file_cmp Found) (is 
       go [] none = refl
       go (e ∷ es) none = absurd (none e (inl refl))
 
-  pub files_in : AreFilesIn (get images acc) files_of
-  files_in = go (get images acc) (is acc)
+  pub files_in : AreFilesIn image files_of
+  files_in = go image is
     where
       go : (image : Option ImageRow) → ((slot : ℕ) → IsFileIn image slot (get index (record { acc = acc; slot = slot }))) → AreFilesIn image files_of
       go None told = no_files told
       go (Some image) told = are_founds image told
 
 -- the index shows the files of an accession
-pub files_found : (images : FinMap nat_cmp ImageRow) (table rows : List Row) (acc : ℕ) → Spells file_sheet table → IsIndexOf images (map_of file_sheet table) → IsPicked files_query (Int (pos acc) ∷ []) table rows
-    → (files : List Found) × AreFilesIn (get images acc) files × (rows ≡ map file_shown files)
-files_found images table rows acc spells is picks = (files_of images (map_of file_sheet table) is acc, files_in images (map_of file_sheet table) is acc, files_shown acc table rows spells picks)
+pub files_found : (image : Option ImageRow) (table rows : List Row) (acc : ℕ) → Spells file_sheet table → ((slot : ℕ) → IsFileIn image slot (get (map_of file_sheet table) (record { acc = acc; slot = slot }))) → IsPicked files_query (Int (pos acc) ∷ []) table rows
+    → (files : List Found) × AreFilesIn image files × (rows ≡ map file_shown files)
+files_found image table rows acc spells is picks = (files_of image (map_of file_sheet table) acc is, files_in image (map_of file_sheet table) acc is, files_shown acc table rows spells picks)

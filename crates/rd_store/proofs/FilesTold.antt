@@ -1,5 +1,6 @@
 -- What the tests of the index say of it.
-use Rattle.std.proofs.Common.{◌≡◌, inl, inr, ℕ, zero, suc, ◌+◌, ◌<◌, pos, List, [], ◌∷◌, filter, map, All, length, get_or, Bool, true, false, Option, Some, None, IsSome, refl, sym, ap, subst, ◌∙◌, arith, nat_cmp, is_eq}
+use Rattle.std.proofs.Common.{◌≡◌, ◌≢◌, inl, inr, ℕ, zero, suc, ◌+◌, ◌<◌, pos, List, [], ◌∷◌, filter, map, All, length, get_or, Bool, true, false, Option, Some, None, IsSome, option_map, refl, sym, ap, subst, ◌∙◌, arith, nat_cmp, is_eq}
+use Rattle.std.specs.Option.{unwrap_or}
 use Rattle.std.specs.Prelude.{MatchBool}
 use Rattle.std.specs.List.{AllByRecursion, list_all}
 use Rattle.std.specs.List.Sorted.{IsPermutation}
@@ -13,6 +14,7 @@ use Rattle.sqlite.specs.declared.types.Value.TheVariants.{Int}
 use Rattle.sqlite.specs.Order.{Row, column, value_cmp}
 use Rattle.sqlite.specs.Tree.{Trees, rowid}
 use Rattle.sqlite.specs.Effect.{Database, IsDatabase}
+use Rattle.sqlite.specs.Table.{Table}
 use Rattle.sqlite.specs.Query.{Output, output}
 use Rattle.sqlite_sql.specs.Term.{holds}
 use Rattle.sqlite_rules.specs.Lists.{Has}
@@ -22,18 +24,20 @@ use Rattle.rd_volume.specs.declared.found.Found.{Found}
 use Rattle.rd_volume.proofs.OneSurvey.{one_survey}
 use Rattle.rd_tables.specs.Asked.{picked, IsPicked, IsListed}
 use Rattle.rd_tables.specs.Queries.{files_query, all_files_query}
-use Rattle.rd_tables.specs.Schemas.{desk_schema}
+use Rattle.rd_tables.specs.Schemas.{desk_with}
 use Rattle.rd_tables.specs.Sheets.{Spells, IsSpelled, HaveRowids, entry_of, map_of, seen}
 use Rattle.rd_tables.proofs.Lists.{and_true, in_map, from_map}
 use Rattle.rd_tables.proofs.Values.{equal_numbers}
 use Rattle.rd_tables.proofs.Entries.{tie}
 use Rattle.rd_tables.proofs.Listed.{to_permuted, all_in, each_shown, shown_each, rowids_apart, have_rowids, apart_by_rowids, row_got, got_row}
 use Rattle.rd_tables.proofs.Unique.{same_int, agree_two, one_file}
+use Rattle.rd_geometry.specs.declared.kind.Kind.TheVariants.{D64}
 use Rattle.rd_store.specs.declared.rows.ImageRow.{ImageRow}
 use Rattle.rd_store.specs.Cells.{is_one_of, IsFiledRow, IsFileRow, ShowFiles}
-use Rattle.rd_store.specs.Index.{FileAt, file_cmp, AreFilesIn, IsFileIn, IsIndexOf}
-use Rattle.rd_store.specs.Opened.{AreFiledUnder, AreKeys, HasFiles, HaveAccessions, HaveFiles, LawfulFiles}
-use Rattle.rd_store.specs.Spelled.{file_sheet, file_shown, image_sheet, index_of, later}
+use Rattle.rd_store.specs.Index.{FileAt, file_cmp, AreFilesIn, IsFileIn}
+use Rattle.rd_store.specs.Opened.{AreFiledUnder, AreKeys, HasDiskIf, HasFiles, HaveAccessions, HasDisk, HaveFiles, IsFiledAt, IsIndexAt, LawfulFiles, image_among, image_if, is_among}
+use Rattle.rd_store.specs.Marks.{with_marks}
+use Rattle.rd_store.specs.Spelled.{file_sheet, file_shown, image_sheet, index_of, later, marks_sheet}
 use Rattle.rd_store.proofs.Columns.{one_of_spelled, one_of_shown}
 use Rattle.rd_store.proofs.FilesFound.{files_found}
 use Rattle.rd_store.proofs.Orders.{file_order, entry_back}
@@ -99,12 +103,13 @@ same_shown files rows is = (
 
 -- ---- one accession
 
-module _ (acc : ℕ) (trees : Trees) (rows : List Row) (files : List Found) (are : AreFilesIn (get (map_of image_sheet (trees 2)) acc) files) (picks : IsPicked files_query (Int (pos acc) ∷ []) (trees 9) rows) where
-  pub has_files : HaveAccessions trees → ShowFiles files rows → HasFiles acc trees
-  has_files numbered show =
+module _ (is_marked : Bool) (acc : ℕ) (trees : Trees) (rows : List Row) (files : List Found) (are : AreFilesIn (image_if is_marked trees acc) files) (picks : IsPicked files_query (Int (pos acc) ∷ []) (trees 9) rows) where
+  pub has_files : HasDiskIf is_marked acc trees → HaveAccessions trees → ShowFiles files rows → HasFiles is_marked acc trees
+  has_files disk numbered show =
       let same : rows ≡ map file_shown files = shown_same files rows show (λ shown here. let it = shown_from acc (trees 9) rows picks shown here in (it.0, it.3)) in
       record {
         files = files;
+        disk = disk;
         are = are;
         each = λ row here is.
             let passes = of_number acc (trees 9) rows picks row acc is ∙ itself acc in
@@ -125,10 +130,29 @@ module _ (acc : ℕ) (trees : Trees) (rows : List Row) (files : List Found) (are
       tied n e = grind (arith, nat_tests)
 
   -- the index of the images shows them
-  pub shows_files : LawfulFiles trees → ShowFiles files rows
+  pub shows_files : IsFiledAt is_marked acc trees → ShowFiles files rows
   shows_files lawful =
-      let it = files_found (map_of image_sheet (trees 2)) (trees 9) rows acc lawful.0 lawful.1 picks in
-      same_shown files rows (it.2 ∙ ap (map file_shown) (one_files (get (map_of image_sheet (trees 2)) acc) it.0 files it.1 are))
+      let it = files_found (image_if is_marked trees acc) (trees 9) rows acc lawful.spells lawful.index picks in
+      same_shown files rows (it.2 ∙ ap (map file_shown) (one_files (image_if is_marked trees acc) it.0 files it.1 are))
+
+-- ---- the image of one accession
+
+module _ (trees : Trees) (acc : ℕ) (row : ImageRow) (found : Option ImageRow) (is : found ≡ get (map_of image_sheet (trees 2)) acc) (some : found ≡ Some row) where
+  stands : get (map_of image_sheet (trees 2)) acc ≡ Some row
+  stands = sym is ∙ some
+
+  pub unmarked_image : (is_marked : Bool) → is_marked ≡ false → image_if is_marked trees acc ≡ Some row
+  unmarked_image is_marked apart = rw (apart, stands) refl
+
+  pub marked_image : (is_marked : Bool) → is_marked ≡ true → (marks : Option (List ℕ)) → marks ≡ get (map_of marks_sheet (trees 11)) acc → (image : ImageRow) → image ≡ with_marks marks row → image_if is_marked trees acc ≡ Some image
+  marked_image is_marked here marks asked image joined = rw (here, stands) (ap (λ m. Some (with_marks m row)) (sym asked) ∙ ap Some (sym joined))
+
+  pub no_disk : row.kind ≢ D64 → ¬ HasDisk acc trees
+  no_disk other disk = other (ap (λ (o : Option ImageRow). (unwrap_or o row).kind) (sym stands ∙ disk.stands) ∙ disk.kind)
+
+-- what is lawful of all accessions, is lawful of one
+pub filed_at : (marked accessions : List ℕ) (trees : Trees) (acc : ℕ) → Has accessions acc → LawfulFiles marked accessions trees → IsFiledAt (is_among marked acc) acc trees
+filed_at marked accessions trees acc here lawful = record { spells = lawful.spells; disk = lawful.disks acc here; index = lawful.index acc }
 
 -- ---- all rows
 
@@ -146,15 +170,25 @@ module _ (accessions : List ℕ) (trees : Trees) (rows : List Row) (listed : IsL
 pub have_accessions : (accessions : List ℕ) (trees : Trees) → AreFiledUnder accessions trees → HaveAccessions trees
 have_accessions accessions trees filed row here = let it = one_of_spelled accessions (column row 1) (filed row here) in (_, it.0)
 
-module _ (accessions : List ℕ) (trees : Trees) (are : AreKeys (map_of image_sheet (trees 2)) accessions) where
+-- an image stands, with error bytes or without them
+pub joined_stands : (f : ImageRow → ImageRow) (found : Option ImageRow) → IsSome (option_map f found) → IsSome found
+joined_stands f None some = absurd cc
+joined_stands f (Some image) some = refl
+
+pub stands_joined : (f : ImageRow → ImageRow) (found : Option ImageRow) → IsSome found → IsSome (option_map f found)
+stands_joined f None some = absurd cc
+stands_joined f (Some image) some = refl
+
+module _ (marked accessions : List ℕ) (trees : Trees) (are : AreKeys (map_of image_sheet (trees 2)) accessions) where
   -- the index of the images has their accessions
-  pub filed_in : LawfulFiles trees → AreFiledUnder accessions trees
+  pub filed_in : LawfulFiles marked accessions trees → AreFiledUnder accessions trees
   filed_in lawful row here =
       let key = (entry_of file_sheet row).0 in
       let file = (entry_of file_sheet row).1 in
-      let number : column row 1 ≡ Int (pos key.acc) = ap (λ s. column s 0) (all_has (IsSpelled file_sheet) (trees 9) row lawful.0.spelled here) in
-      let there : IsFileIn (get (map_of image_sheet (trees 2)) key.acc) key.slot (Some file) = subst (IsFileIn (get (map_of image_sheet (trees 2)) key.acc) key.slot) (row_got file_sheet file_order (trees 9) lawful.0 row here) (lawful.1 key.acc key.slot) in
-      subst (λ v. is_one_of accessions v ≡ true) (sym number) (one_of_shown accessions key.acc ((are key.acc).1 (some (get (map_of image_sheet (trees 2)) key.acc) key.slot file there)))
+      let number : column row 1 ≡ Int (pos key.acc) = ap (λ s. column s 0) (all_has (IsSpelled file_sheet) (trees 9) row lawful.spells.spelled here) in
+      let image = image_among marked trees key.acc in
+      let there : IsFileIn image key.slot (Some file) = subst (IsFileIn image key.slot) (row_got file_sheet file_order (trees 9) lawful.spells row here) (lawful.index key.acc key.slot) in
+      subst (λ v. is_one_of accessions v ≡ true) (sym number) (one_of_shown accessions key.acc ((are key.acc).1 (joined_stands _ (get (map_of image_sheet (trees 2)) key.acc) (some image key.slot file there))))
     where
       some : (image : Option ImageRow) (slot : ℕ) (file : Found) → IsFileIn image slot (Some file) → IsSome image
       some None slot file there = absurd cc
@@ -170,7 +204,7 @@ record Spelt (accessions : List ℕ) (row : Row) : Type 0 where
   file : Found
   is : seen file_sheet.places row ≡ file_sheet.columns (record { acc = acc; slot = file.slot }, file)
 
-module _ (accessions : List ℕ) (trees : Trees) (are : AreKeys (map_of image_sheet (trees 2)) accessions) (filed : AreFiledUnder accessions trees) (have : HaveFiles accessions trees) where
+module _ (marked accessions : List ℕ) (trees : Trees) (are : AreKeys (map_of image_sheet (trees 2)) accessions) (filed : AreFiledUnder accessions trees) (have : HaveFiles marked accessions trees) where
   spelt : (row : Row) → Has (trees 9) row → Spelt accessions row
   spelt row here =
       let number = one_of_spelled accessions (column row 1) (filed row here) in
@@ -183,14 +217,14 @@ module _ (accessions : List ℕ) (trees : Trees) (are : AreKeys (map_of image_sh
   spelled_at : (row : Row) → Has (trees 9) row → IsSpelled file_sheet row
   spelled_at row here = let spells = spelt row here in spells.is ∙ sym (ap file_sheet.columns (entry_is row spells))
 
-  module _ (rows : List Row) (listed : IsListed all_files_query (trees 9) rows) (db : Database) (within : db.trees ≡ trees) (schema : db.schema ≡ desk_schema) (sound : IsDatabase db) where
+  module _ (rows : List Row) (listed : IsListed all_files_query (trees 9) rows) (more : List Table) (db : Database) (within : db.trees ≡ trees) (schema : db.schema ≡ desk_with more) (sound : IsDatabase db) where
     ties : (row other : Row) → Has (trees 9) row → Has (trees 9) other → eq_by_cmp file_cmp (entry_of file_sheet row).0 (entry_of file_sheet other).0 ≡ true → eq_by_cmp value_cmp (rowid row) (rowid other) ≡ true
     ties row other here there tied =
         let ids = have_rowids 9 _ _ (trees 9) rows listed in
         let first = spelled_at row here in
         let second = spelled_at other there in
         let same : (entry_of file_sheet row).0 ≡ (entry_of file_sheet other).0 = file_order.same _ _ (tie (file_cmp (entry_of file_sheet row).0 (entry_of file_sheet other).0) tied) in
-        one_file db schema sound row other (subst (λ t. Has (t 9) row) (sym within) here) (subst (λ t. Has (t 9) other) (sym within) there) (ids.keyed row here) (ids.keyed other there) (agree_two 1 2 other row
+        one_file more db schema sound row other (subst (λ t. Has (t 9) row) (sym within) here) (subst (λ t. Has (t 9) other) (sym within) there) (ids.keyed row here) (ids.keyed other there) (agree_two 1 2 other row
         (same_int _ _ _ (ap (λ s. column s 0) second ∙ ap (λ (k : FileAt). Int (pos k.acc)) (sym same) ∙ sym (ap (λ s. column s 0) first)) (ap (λ s. column s 0) first))
         (same_int _ _ _ (ap (λ s. column s 1) second ∙ ap (λ (k : FileAt). Int (pos k.slot)) (sym same) ∙ sym (ap (λ s. column s 1) first)) (ap (λ s. column s 1) first)))
 
@@ -220,19 +254,19 @@ module _ (accessions : List ℕ) (trees : Trees) (are : AreKeys (map_of image_sh
         let entry : entry_of file_sheet r.0 ≡ (record { acc = acc; slot = file.slot }, file) = ap file_sheet.entry r.2 ∙ entry_back acc file in
         subst (λ (e : FileAt × Found). get (index_of trees) e.0 ≡ Some e.1) entry (row_got file_sheet file_order (trees 9) files_spell r.0 r.1)
 
-    indexed : IsIndexOf (map_of image_sheet (trees 2)) (index_of trees)
-    indexed acc slot = go (get (map_of image_sheet (trees 2)) acc) refl (get (index_of trees) (record { acc = acc; slot = slot })) refl
+    indexed : (acc : ℕ) → IsIndexAt (image_among marked trees acc) acc trees
+    indexed acc slot = go (image_among marked trees acc) refl (get (index_of trees) (record { acc = acc; slot = slot })) refl
       where
-        some : (image : ImageRow) → get (map_of image_sheet (trees 2)) acc ≡ Some image → Has accessions acc
-        some image is = (are acc).1 (subst IsSome (sym is) refl)
+        some : (image : ImageRow) → image_among marked trees acc ≡ Some image → Has accessions acc
+        some image is = (are acc).1 (joined_stands _ (get (map_of image_sheet (trees 2)) acc) (subst IsSome (sym is) refl))
 
-        founds : (image : ImageRow) → get (map_of image_sheet (trees 2)) acc ≡ Some image → (here : Has accessions acc) → AreFounds image.kind image.bytes (have acc here).files
+        founds : (image : ImageRow) → image_among marked trees acc ≡ Some image → (here : Has accessions acc) → AreFounds image.kind image.bytes (have acc here).files
         founds image is here = subst (λ o. AreFilesIn o (have acc here).files) is (have acc here).are
 
-        go : (image : Option ImageRow) → get (map_of image_sheet (trees 2)) acc ≡ image → (found : Option Found) → get (index_of trees) (record { acc = acc; slot = slot }) ≡ found → IsFileIn image slot found
+        go : (image : Option ImageRow) → image_among marked trees acc ≡ image → (found : Option Found) → get (index_of trees) (record { acc = acc; slot = slot }) ≡ found → IsFileIn image slot found
         go None none None nothing = refl
         go None none (Some file) found =
-            let there : IsSome (get (map_of image_sheet (trees 2)) acc) = (are acc).0 (at_place acc slot file found).0 in
+            let there : IsSome (image_among marked trees acc) = stands_joined _ (get (map_of image_sheet (trees 2)) acc) ((are acc).0 (at_place acc slot file found).0) in
             absurd (let wrong : IsSome {T = ImageRow} None = subst (λ (o : Option ImageRow). IsSome o) none there in cc)
         go (Some image) is (Some file) found =
             let at = at_place acc slot file found in
@@ -249,5 +283,5 @@ module _ (accessions : List ℕ) (trees : Trees) (are : AreKeys (map_of image_sh
               cc;
         }
 
-    pub lawful_files : LawfulFiles trees
-    lawful_files = (files_spell, indexed)
+    pub lawful_files : LawfulFiles marked accessions trees
+    lawful_files = record { spells = files_spell; disks = λ acc here. (have acc here).disk; index = indexed }

@@ -1,16 +1,19 @@
 -- The laws of a store that are used, and what they say of a connection.
-use Rattle.std.proofs.Common.{◌≡◌, inl, inr, ◌∙◌, false, Result, Ok, Err, OnOk, OnErr, sym, ap, subst, IsTrue, refl, arith}
+use Rattle.std.proofs.Common.{◌≡◌, [], ◌∷◌, inl, inr, ◌∙◌, Bool, false, Result, Ok, Err, OnOk, OnErr, sym, ap, subst, IsTrue, refl, arith}
 use Rattle.sqlite.specs.Tree.{Trees}
 use Rattle.sqlite.specs.Store.{Ghosts}
 use Rattle.sqlite.specs.Effect.{Database}
 use Rattle.sqlite.specs.State.{State, Survives}
 use Rattle.sqlite.specs.Held.{Held, state}
 use Rattle.sqlite.proofs.StateLemmas.{clean_if_open}
+use Rattle.rd_tables.specs.Schemas.{marks_table}
+use Rattle.rd_tables.specs.Sheets.{Spells}
 use Rattle.rd_store.specs.declared.faults.StoreFault.{StoreFault}
 use Rattle.rd_store.specs.declared.faults.StoreFault.TheVariants.{Sql}
 use Rattle.rd_store.specs.State.{Desk}
-use Rattle.rd_store.specs.Spelled.{desk_of}
-use Rattle.rd_store.specs.Held.{Holds, IsLeft, HoldsDesk, HoldsTables, Asks, Changes, Lasts, LeavesOnly, LeavesOpen, Reads, Rests, Stays, IsOpen, IsClean, desk}
+use Rattle.rd_store.specs.Spelled.{desk_of, marks_sheet}
+use Rattle.rd_store.specs.Opened.{HoldsMarksIf}
+use Rattle.rd_store.specs.Held.{Holds, IsLeft, HoldsDesk, HoldsTables, HoldsCommonTables, Asks, Changes, Lasts, LeavesOnly, LeavesOpen, Reads, Rests, Stays, IsOpen, IsClean, desk}
 
 pub record Laws {S : Type 0} (g : Ghosts S) : Type 0 where
   -- while the store is open, a crash leaves the last commit
@@ -66,11 +69,26 @@ lasts_then g a b c one two = record {
 pub holds_tables : (s : State) → HoldsDesk s → HoldsTables s
 holds_tables s holds is_open = (holds is_open).tables
 
+-- the tables of a desk are also those of each version
+pub common_tables : (s : State) → HoldsTables s → HoldsCommonTables s
+common_tables s held is_open = record { more = marks_table 11 ∷ []; rests = held is_open }
+
 module _ {S : Type 0} (g : Ghosts S) (old new : Held S) (stays : Stays g old new) where
+  pub stays_common : HoldsCommonTables (state g old) → HoldsCommonTables (state g new)
+  stays_common held is_open =
+      let was = held (stays.lasts.was_open is_open) in
+      record {
+        more = was.more;
+        rests = record { schema = ap (λ (db : Database). db.schema) (stays.now is_open) ∙ was.rests.schema; settled = stays.committed is_open ∙ was.rests.settled ∙ sym (stays.now is_open); autocommit = stays.autocommit is_open };
+      }
+
   pub stays_tables : HoldsTables (state g old) → HoldsTables (state g new)
   stays_tables held is_open =
       let was = held (stays.lasts.was_open is_open) in
       record { schema = ap (λ (db : Database). db.schema) (stays.now is_open) ∙ was.schema; settled = stays.committed is_open ∙ was.settled ∙ sym (stays.now is_open); autocommit = stays.autocommit is_open }
+
+  pub stays_marks : (is_marked : Bool) → HoldsMarksIf is_marked (state g old) → HoldsMarksIf is_marked (state g new)
+  stays_marks is_marked held is o = (stays_tables (λ was. (held is was).0) o, subst (λ (db : Database). Spells marks_sheet (db.trees 11)) (sym (stays.now o)) (held is (stays.lasts.was_open o)).1)
 
   pub stays_desk : HoldsDesk (state g old) → HoldsDesk (state g new)
   stays_desk held is_open = record {
@@ -116,8 +134,11 @@ asks_reads g laws old new holds r Answers asks = record {
 }
 
 -- no query at all
+pub stays_here : {S : Type 0} (g : Ghosts S) (h : Held S) → (IsOpen g h → (state g h).in_transaction ≡ false) → Stays g h h
+stays_here g h outside = record { lasts = lasts_still g h; now = λ o. refl; committed = λ o. refl; autocommit = outside; quiet = λ was clean left may. may }
+
 pub stays_still : {S : Type 0} (g : Ghosts S) (h : Held S) → HoldsTables (state g h) → Stays g h h
-stays_still g h held = record { lasts = lasts_still g h; now = λ o. refl; committed = λ o. refl; autocommit = λ o. (held o).autocommit; quiet = λ was clean left may. may }
+stays_still g h held = stays_here g h (λ o. (held o).autocommit)
 
 -- one query after another
 pub stays_then : {S : Type 0} (g : Ghosts S) (a b c : Held S) → Stays g a b → (IsClean g b → IsOpen g b) → Stays g b c → Stays g a c

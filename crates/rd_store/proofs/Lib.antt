@@ -10,6 +10,7 @@ pub mod Whole
 pub mod Making
 pub mod Depositing
 pub mod Lawful
+pub mod Joined
 pub mod Creating
 pub mod Columns
 pub mod Shapes
@@ -20,3 +21,5 @@ pub mod RulesFor
 pub mod Searching
 pub mod Filed
 pub mod FilesTold
+pub mod Migrating
+pub mod Judged

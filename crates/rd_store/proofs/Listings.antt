@@ -1,34 +1,35 @@
 -- What the texts that ask for all rows of a table show.
-use Rattle.std.proofs.Common.{◌≡◌, ◌⊎◌, inl, inr, ℕ, zero, suc, ◌+◌, ◌<◌, List, [], ◌∷◌, length, slice_index_or, get_or, refl, sym, ap, ◌∙◌, arith}
+use Rattle.std.proofs.Common.{◌≡◌, ◌⊎◌, inl, inr, ℕ, zero, suc, ◌+◌, ◌<◌, List, [], ◌∷◌, length, slice_index_or, get_or, refl, sym, ap, ◌∙◌, IsTrue, arith}
 use Rattle.sqlite.specs.Order.{Row}
-use Rattle.sqlite.specs.Listing.{understood}
 use Rattle.sqlite.specs.State.{State, Shown}
-use Rattle.sqlite.proofs.Callers.{IsPlain}
 use Rattle.rd_tables.specs.Asked.{IsPicked}
 use Rattle.sqlite.specs.Schema.{Schema}
 use Rattle.sqlite.specs.Table.{Table}
 use Rattle.rd_tables.specs.Schemas.{desk_schema, desk_table, SharesFirstTable}
-use Rattle.rd_tables.proofs.QueryTexts.{all_deeds_asks, all_images_asks, all_rules_asks, all_keys_asks, all_checks_asks, all_files_asks}
+use Rattle.rd_tables.proofs.QueryTexts.{all_deeds_asks, all_images_asks, all_rules_asks, all_keys_asks, all_checks_asks, all_files_asks, all_marks_asks}
 use Rattle.rd_tables.proofs.Reading.{shown_picks}
 use Rattle.rd_store.specs.declared.opening.Listing.{Listing}
-use Rattle.rd_store.specs.declared.opening.Listing.TheVariants.{Deeds, Images, Rules, Keys, Checks, Files}
-use Rattle.rd_store.specs.Opened.{HasDeskFirst, IsSettledAt, StartsWithDesk, listing_text, listing_query, listing_tree}
+use Rattle.rd_store.specs.declared.opening.Listing.TheVariants.{Deeds, Images, Rules, Keys, Checks, Files, Marks}
+use Rattle.rd_store.specs.Held.{IsReadable}
+use Rattle.rd_store.specs.Opened.{HasDeskFirst, HoldsListed, IsSettledAt, StartsWithDesk, listing_text, listing_query, listing_tree}
 
-pub listing_plain : (table : Listing) → IsPlain (understood desk_schema (listing_text table))
-listing_plain Deeds = all_deeds_asks.plain
-listing_plain Images = all_images_asks.plain
-listing_plain Rules = all_rules_asks.plain
-listing_plain Keys = all_keys_asks.plain
-listing_plain Checks = all_checks_asks.plain
-listing_plain Files = all_files_asks.plain
+pub listing_reads : (table : Listing) (s : State) → HoldsListed table s → IsTrue s.is_open → IsReadable (listing_text table) s
+listing_reads Deeds s held is_open = let at = held is_open in record { over = _; rests = at.rests; plain = (all_deeds_asks at.more).plain }
+listing_reads Images s held is_open = let at = held is_open in record { over = _; rests = at.rests; plain = (all_images_asks at.more).plain }
+listing_reads Rules s held is_open = let at = held is_open in record { over = _; rests = at.rests; plain = (all_rules_asks at.more).plain }
+listing_reads Keys s held is_open = let at = held is_open in record { over = _; rests = at.rests; plain = (all_keys_asks at.more).plain }
+listing_reads Checks s held is_open = let at = held is_open in record { over = _; rests = at.rests; plain = (all_checks_asks at.more).plain }
+listing_reads Files s held is_open = let at = held is_open in record { over = _; rests = at.rests; plain = (all_files_asks at.more).plain }
+listing_reads Marks s held is_open = record { over = desk_schema; rests = held is_open; plain = all_marks_asks.plain }
 
-pub listing_picks : (table : Listing) (old new : State) → old.now.schema ≡ desk_schema → (rows : List Row) → Shown (listing_text table) [] old new rows → IsPicked (listing_query table) [] (old.now.trees (listing_tree table)) rows
-listing_picks Deeds old new schema rows shown = shown_picks all_deeds_asks [] old new schema rows shown
-listing_picks Images old new schema rows shown = shown_picks all_images_asks [] old new schema rows shown
-listing_picks Rules old new schema rows shown = shown_picks all_rules_asks [] old new schema rows shown
-listing_picks Keys old new schema rows shown = shown_picks all_keys_asks [] old new schema rows shown
-listing_picks Checks old new schema rows shown = shown_picks all_checks_asks [] old new schema rows shown
-listing_picks Files old new schema rows shown = shown_picks all_files_asks [] old new schema rows shown
+pub listing_picks : (table : Listing) (old new : State) → HoldsListed table old → IsTrue old.is_open → (rows : List Row) → Shown (listing_text table) [] old new rows → IsPicked (listing_query table) [] (old.now.trees (listing_tree table)) rows
+listing_picks Deeds old new held is_open rows shown = let at = held is_open in shown_picks (all_deeds_asks at.more) [] old new at.rests.schema rows shown
+listing_picks Images old new held is_open rows shown = let at = held is_open in shown_picks (all_images_asks at.more) [] old new at.rests.schema rows shown
+listing_picks Rules old new held is_open rows shown = let at = held is_open in shown_picks (all_rules_asks at.more) [] old new at.rests.schema rows shown
+listing_picks Keys old new held is_open rows shown = let at = held is_open in shown_picks (all_keys_asks at.more) [] old new at.rests.schema rows shown
+listing_picks Checks old new held is_open rows shown = let at = held is_open in shown_picks (all_checks_asks at.more) [] old new at.rests.schema rows shown
+listing_picks Files old new held is_open rows shown = let at = held is_open in shown_picks (all_files_asks at.more) [] old new at.rests.schema rows shown
+listing_picks Marks old new held is_open rows shown = shown_picks all_marks_asks [] old new (held is_open).schema rows shown
 
 -- the desk's own table comes first where it does in a desk's schema
 pub desk_first : (schema other : Schema) → other ≡ desk_schema → SharesFirstTable schema other → HasDeskFirst schema

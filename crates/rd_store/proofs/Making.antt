@@ -1,5 +1,5 @@
 -- What the statements make of a database of a desk.
-use Rattle.std.proofs.Common.{◌≡◌, ◌==◌, ◌+◌, ◌<◌, ◌∷◌, AllPairs, get_or, length, option_map, ℕ, ℤ, pos, List, filter, Bool, true, false, not, ◌&&◌, None, refl, sym, ap, subst, ◌∙◌, IsTrue, Equal, nat_cmp, int_cmp, arith}
+use Rattle.std.proofs.Common.{◌≡◌, ◌==◌, ◌+◌, ◌<◌, [], ◌∷◌, inl, inr, AllPairs, get_or, length, option_map, ℕ, ℤ, pos, List, filter, Bool, true, false, not, ◌&&◌, Some, None, refl, sym, ap, ap₂, subst, subst₂, ◌∙◌, IsTrue, Equal, nat_cmp, int_cmp, arith}
 use Rattle.std.specs.List.{AllByRecursion}
 use Rattle.std.specs.Ordering.{eq_by_cmp}
 use Rattle.std.specs.FinMap.{FinMap, get, insert, remove}
@@ -19,10 +19,13 @@ use Rattle.sqlite_trees.specs.View.{is_int}
 use Rattle.sqlite_rules.proofs.ListLemmas.{all_has}
 use Rattle.sqlite_value.proofs.OrderLemmas.{value_cmp-Int}
 use Rattle.sqlite_value.specs.Keys.{first_key}
+use Rattle.rd_geometry.specs.Blocks.{CBM_BLOCKS}
+use Rattle.rd_geometry.specs.declared.kind.Kind.{Kind}
+use Rattle.rd_geometry.specs.declared.kind.Kind.TheVariants.{Cpm8, D64, D64e}
 use Rattle.rd_policy.specs.declared.audience.Audience.{Audience}
 use Rattle.rd_tables.specs.Schemas.{desk_schema}
-use Rattle.rd_tables.specs.Sheets.{Sheet, Spells, IsSpelled, HaveRowids, entry_of, map_of}
-use Rattle.rd_tables.specs.Statements.{put_deed_text, put_deed, put_image_text, put_image, put_rule_text, put_rule, drop_rule_text, drop_rule, put_key_text, put_key, drop_key_text, drop_key, put_check_text, put_check, drop_check_text, drop_check, put_file_text, put_file}
+use Rattle.rd_tables.specs.Sheets.{Sheet, Spells, SpellLawful, IsSpelled, HaveRowids, entry_of, map_of}
+use Rattle.rd_tables.specs.Statements.{put_deed_text, put_deed, put_image_text, put_image, put_marks_text, put_marks, put_rule_text, put_rule, drop_rule_text, drop_rule, put_key_text, put_key, drop_key_text, drop_key, put_check_text, put_check, drop_check_text, drop_check, put_file_text, put_file}
 use Rattle.rd_tables.proofs.Lists.{and_true, one_row}
 use Rattle.rd_tables.proofs.Values.{equal_numbers, equal_integers, equal_blobs}
 use Rattle.rd_tables.proofs.Entries.{insert_removed}
@@ -30,20 +33,24 @@ use Rattle.rd_tables.proofs.Changed.{spells_put, map_put, none_at, map_left, spe
 use Rattle.rd_tables.proofs.Removed.{rowids_left, rowids_put}
 use Rattle.rd_tables.proofs.Running.{Makes}
 use Rattle.rd_tables.proofs.Setting.{Sets, is_index_tree, not_taken}
-use Rattle.rd_tables.proofs.StatementTexts.{put_deed_writes, put_image_writes, put_rule_writes, drop_rule_writes, put_key_writes, drop_key_writes, put_check_writes, drop_check_writes, put_file_writes}
-use Rattle.rd_tables.proofs.Statements.{deed_params, deed_row, has_number, by_rowid, puts_deed, image_params, image_row, puts_image, place_params, has_place, drops_rule, rule_row, puts_rule, digest_params, has_digest, drops_key, key_params, key_row, puts_key, checkup_params, has_checkup, drops_check, check_params, check_row, puts_check, file_row, puts_file}
+use Rattle.rd_tables.proofs.StatementTexts.{put_deed_writes, put_image_writes, put_marks_writes, put_rule_writes, drop_rule_writes, put_key_writes, drop_key_writes, put_check_writes, drop_check_writes, put_file_writes}
+use Rattle.rd_tables.proofs.Statements.{deed_params, deed_row, has_number, by_rowid, puts_deed, image_params, image_row, puts_image, marks_params, marks_row, puts_marks, place_params, has_place, drops_rule, rule_row, puts_rule, digest_params, has_digest, drops_key, key_params, key_row, puts_key, checkup_params, has_checkup, drops_check, check_params, check_row, puts_check, file_row, puts_file}
 use Rattle.rd_store.specs.declared.rows.DeedRow.{DeedRow}
 use Rattle.rd_store.specs.declared.rows.ImageRow.{ImageRow}
 use Rattle.rd_store.specs.declared.rows.Outcome.{Outcome}
-use Rattle.rd_store.specs.Codes.{kind_code, band_code, audiences_code, audience_code, effect_code, outcome_code, how, number, word, class_code, units_code}
+use Rattle.rd_store.specs.Codes.{kind_code, kind_in, band_code, audiences_code, audience_code, effect_code, outcome_code, how, number, word, class_code, units_code}
 use Rattle.rd_store.specs.State.{Desk, Place, Terms, Checkup, place_cmp, digest_cmp, checkup_cmp, with_deed, with_rule, without_rule, with_check, without_check, with_key, without_key}
 use Rattle.rd_volume.specs.Volumes.{AreFounds}
 use Rattle.rd_volume.specs.declared.found.Found.{Found}
 use Rattle.rd_store.specs.Index.{FileAt, file_cmp, IsFiledTo, IsIndexOf, with_new_image}
-use Rattle.rd_store.specs.Spelled.{HaveOwnRowids, deed_sheet, image_sheet, rule_sheet, key_sheet, check_sheet, file_sheet, file_shown, index_of, HasVersion}
+use Rattle.rd_store.specs.Marks.{AreMarksIn, joined, with_marks}
+use Rattle.rd_store.specs.Shown.{as_row}
+use Rattle.rd_store.specs.Spelled.{HaveOwnRowids, deed_sheet, image_sheet, images_of, marks_sheet, rule_sheet, key_sheet, check_sheet, file_sheet, file_shown, index_of, HasVersion}
 use Rattle.rd_store.specs.Held.{IsOf, IsOfWith, LacksImage}
 use Rattle.rd_store.proofs.Filed.{none_filed, next_free, one_filed, all_filed}
-use Rattle.rd_store.proofs.Orders.{number_order, place_order, digest_order, checkup_order, file_order, kind_back, audience_back, outcome_back, rule_back, entry_back}
+use Rattle.rd_store.proofs.Lawful.{found_after}
+use Rattle.rd_store.proofs.Joined.{joined_image, joined_marks, no_marks, none_apart, plain_there, still_marks}
+use Rattle.rd_store.proofs.Orders.{number_order, place_order, digest_order, checkup_order, file_order, audience_back, outcome_back, rule_back, entry_back}
 
 -- ---- one table is set, and the others stay
 
@@ -58,12 +65,18 @@ set sheet tree db after rows h spells m are = record { spells = subst (Spells sh
 stays : {K X : Type 0} (sheet : Sheet K X) (tree : ℕ) (db after : Database) (m : FinMap sheet.cmp X) → after.trees tree ≡ db.trees tree → Part sheet tree db m → Part sheet tree after m
 stays sheet tree db after m same part = record { spells = subst (Spells sheet) (sym same) part.spells; is = ap (map_of sheet) same ∙ part.is }
 
+-- The rows on two trees spell these images, each with its error bytes.
+record Pictured (db : Database) (images : FinMap nat_cmp ImageRow) : Type 0 where
+  rows : Spells image_sheet (db.trees 2)
+  marks : SpellLawful marks_sheet (AreMarksIn (map_of image_sheet (db.trees 2))) (db.trees 11)
+  is : images_of db.trees ≡ images
+
 -- the parts of a desk and of an index
-whole : (desk : Desk) (Index : FinMap file_cmp Found → Type 0) (db : Database) → db.schema ≡ desk_schema → HasVersion 1 (db.trees 0) → Part deed_sheet 1 db desk.deeds → Part image_sheet 2 db desk.images → Part rule_sheet 3 db desk.rules
+whole : (desk : Desk) (Index : FinMap file_cmp Found → Type 0) (db : Database) → db.schema ≡ desk_schema → HasVersion 2 (db.trees 0) → Part deed_sheet 1 db desk.deeds → Pictured db desk.images → Part rule_sheet 3 db desk.rules
     → Part key_sheet 5 db desk.keys → Part check_sheet 7 db desk.checks → Spells file_sheet (db.trees 9) → Index (index_of db.trees) → HaveOwnRowids db.trees → IsDatabase db → IsOfWith desk Index db
 whole desk Index db schema version deeds images rules keys checks files index rowids sound = record {
   schema = schema;
-  rows = record { version = version; deeds = deeds.spells; images = images.spells; rules = rules.spells; keys = keys.spells; checks = checks.spells; files = files };
+  rows = record { version = version; deeds = deeds.spells; images = images.rows; rules = rules.spells; keys = keys.spells; checks = checks.spells; files = files; marks = images.marks };
   rowids = rowids;
   sound = sound;
   is = λ i. record { deeds = deeds.is i; images = images.is i; rules = rules.is i; keys = keys.is i; checks = checks.is i };
@@ -71,14 +84,18 @@ whole desk Index db schema version deeds images rules keys checks files index ro
 }
 
 module _ (desk : Desk) (Index : FinMap file_cmp Found → Type 0) (db after : Database) (rows : List Row) (of : IsOfWith desk Index db) (sound : IsDatabase after) where
-  version_stays : after.trees 0 ≡ db.trees 0 → HasVersion 1 (after.trees 0)
-  version_stays same = subst (HasVersion 1) (sym same) of.rows.version
+  version_stays : after.trees 0 ≡ db.trees 0 → HasVersion 2 (after.trees 0)
+  version_stays same = subst (HasVersion 2) (sym same) of.rows.version
 
   deeds_stay : after.trees 1 ≡ db.trees 1 → Part deed_sheet 1 after desk.deeds
   deeds_stay same = stays deed_sheet 1 db after desk.deeds same (record { spells = of.rows.deeds; is = ap (λ (d : Desk). d.deeds) of.is })
 
-  images_stay : after.trees 2 ≡ db.trees 2 → Part image_sheet 2 after desk.images
-  images_stay same = stays image_sheet 2 db after desk.images same (record { spells = of.rows.images; is = ap (λ (d : Desk). d.images) of.is })
+  images_stay : after.trees 2 ≡ db.trees 2 → after.trees 11 ≡ db.trees 11 → Pictured after desk.images
+  images_stay rows marks = record {
+    rows = subst (Spells image_sheet) (sym rows) of.rows.images;
+    marks = subst₂ (λ i m. SpellLawful marks_sheet (AreMarksIn (map_of image_sheet i)) m) (sym rows) (sym marks) of.rows.marks;
+    is = ap₂ (λ i m. joined (map_of image_sheet i) (map_of marks_sheet m)) rows marks ∙ ap (λ (d : Desk). d.images) of.is;
+  }
 
   rules_stay : after.trees 3 ≡ db.trees 3 → Part rule_sheet 3 after desk.rules
   rules_stay same = stays rule_sheet 3 db after desk.rules same (record { spells = of.rows.rules; is = ap (λ (d : Desk). d.rules) of.is })
@@ -107,42 +124,49 @@ module _ (desk : Desk) (Index : FinMap file_cmp Found → Type 0) (db after : Da
   of_deeds : Sets 1 db after rows → Spells deed_sheet rows → (m : FinMap nat_cmp DeedRow) → map_of deed_sheet rows ≡ m → IsOfWith (record desk { deeds = m }) Index after
   of_deeds h spells m are =
       let at = λ (t : ℕ) (other : (t == 1) ≡ false) (table : is_index_tree t ≡ false). h.stays t other table in
-      whole (record desk { deeds = m }) Index after h.schema (version_stays (at 0 refl refl)) (set deed_sheet 1 db after rows h spells m are) (images_stay (at 2 refl refl)) (rules_stay (at 3 refl refl)) (keys_stay (at 5 refl refl))
+      whole (record desk { deeds = m }) Index after h.schema (version_stays (at 0 refl refl)) (set deed_sheet 1 db after rows h spells m are) (images_stay (at 2 refl refl) (at 11 refl refl)) (rules_stay (at 3 refl refl)) (keys_stay (at 5 refl refl))
       (checks_stay (at 7 refl refl)) (files_stay (at 9 refl refl)) (index_stays (at 9 refl refl))
       (rowids_of _ _ _ _ (at 3 refl refl) (at 5 refl refl) (at 7 refl refl) (at 9 refl refl) of.rowids.rules of.rowids.keys of.rowids.checks of.rowids.files) sound
 
-  of_images : Sets 2 db after rows → Spells image_sheet rows → (m : FinMap nat_cmp ImageRow) → map_of image_sheet rows ≡ m → IsOfWith (record desk { images = m }) Index after
-  of_images h spells m are =
+  of_images : Sets 2 db after rows → (m : FinMap nat_cmp ImageRow) → Pictured after m → IsOfWith (record desk { images = m }) Index after
+  of_images h m pictured =
       let at = λ (t : ℕ) (other : (t == 2) ≡ false) (table : is_index_tree t ≡ false). h.stays t other table in
-      whole (record desk { images = m }) Index after h.schema (version_stays (at 0 refl refl)) (deeds_stay (at 1 refl refl)) (set image_sheet 2 db after rows h spells m are) (rules_stay (at 3 refl refl)) (keys_stay (at 5 refl refl))
+      whole (record desk { images = m }) Index after h.schema (version_stays (at 0 refl refl)) (deeds_stay (at 1 refl refl)) pictured (rules_stay (at 3 refl refl)) (keys_stay (at 5 refl refl))
+      (checks_stay (at 7 refl refl)) (files_stay (at 9 refl refl)) (index_stays (at 9 refl refl))
+      (rowids_of _ _ _ _ (at 3 refl refl) (at 5 refl refl) (at 7 refl refl) (at 9 refl refl) of.rowids.rules of.rowids.keys of.rowids.checks of.rowids.files) sound
+
+  of_marks : Sets 11 db after rows → (m : FinMap nat_cmp ImageRow) → Pictured after m → IsOfWith (record desk { images = m }) Index after
+  of_marks h m pictured =
+      let at = λ (t : ℕ) (other : (t == 11) ≡ false) (table : is_index_tree t ≡ false). h.stays t other table in
+      whole (record desk { images = m }) Index after h.schema (version_stays (at 0 refl refl)) (deeds_stay (at 1 refl refl)) pictured (rules_stay (at 3 refl refl)) (keys_stay (at 5 refl refl))
       (checks_stay (at 7 refl refl)) (files_stay (at 9 refl refl)) (index_stays (at 9 refl refl))
       (rowids_of _ _ _ _ (at 3 refl refl) (at 5 refl refl) (at 7 refl refl) (at 9 refl refl) of.rowids.rules of.rowids.keys of.rowids.checks of.rowids.files) sound
 
   of_rules : Sets 3 db after rows → Spells rule_sheet rows → HaveRowids rows → (m : FinMap place_cmp Terms) → map_of rule_sheet rows ≡ m → IsOfWith (record desk { rules = m }) Index after
   of_rules h spells rowids m are =
       let at = λ (t : ℕ) (other : (t == 3) ≡ false) (table : is_index_tree t ≡ false). h.stays t other table in
-      whole (record desk { rules = m }) Index after h.schema (version_stays (at 0 refl refl)) (deeds_stay (at 1 refl refl)) (images_stay (at 2 refl refl)) (set rule_sheet 3 db after rows h spells m are) (keys_stay (at 5 refl refl))
+      whole (record desk { rules = m }) Index after h.schema (version_stays (at 0 refl refl)) (deeds_stay (at 1 refl refl)) (images_stay (at 2 refl refl) (at 11 refl refl)) (set rule_sheet 3 db after rows h spells m are) (keys_stay (at 5 refl refl))
       (checks_stay (at 7 refl refl)) (files_stay (at 9 refl refl)) (index_stays (at 9 refl refl))
       (rowids_of _ _ _ _ h.now (at 5 refl refl) (at 7 refl refl) (at 9 refl refl) rowids of.rowids.keys of.rowids.checks of.rowids.files) sound
 
   of_keys : Sets 5 db after rows → Spells key_sheet rows → HaveRowids rows → (m : FinMap digest_cmp Audience) → map_of key_sheet rows ≡ m → IsOfWith (record desk { keys = m }) Index after
   of_keys h spells rowids m are =
       let at = λ (t : ℕ) (other : (t == 5) ≡ false) (table : is_index_tree t ≡ false). h.stays t other table in
-      whole (record desk { keys = m }) Index after h.schema (version_stays (at 0 refl refl)) (deeds_stay (at 1 refl refl)) (images_stay (at 2 refl refl)) (rules_stay (at 3 refl refl)) (set key_sheet 5 db after rows h spells m are)
+      whole (record desk { keys = m }) Index after h.schema (version_stays (at 0 refl refl)) (deeds_stay (at 1 refl refl)) (images_stay (at 2 refl refl) (at 11 refl refl)) (rules_stay (at 3 refl refl)) (set key_sheet 5 db after rows h spells m are)
       (checks_stay (at 7 refl refl)) (files_stay (at 9 refl refl)) (index_stays (at 9 refl refl))
       (rowids_of _ _ _ _ (at 3 refl refl) h.now (at 7 refl refl) (at 9 refl refl) of.rowids.rules rowids of.rowids.checks of.rowids.files) sound
 
   of_checks : Sets 7 db after rows → Spells check_sheet rows → HaveRowids rows → (m : FinMap checkup_cmp Outcome) → map_of check_sheet rows ≡ m → IsOfWith (record desk { checks = m }) Index after
   of_checks h spells rowids m are =
       let at = λ (t : ℕ) (other : (t == 7) ≡ false) (table : is_index_tree t ≡ false). h.stays t other table in
-      whole (record desk { checks = m }) Index after h.schema (version_stays (at 0 refl refl)) (deeds_stay (at 1 refl refl)) (images_stay (at 2 refl refl)) (rules_stay (at 3 refl refl)) (keys_stay (at 5 refl refl))
+      whole (record desk { checks = m }) Index after h.schema (version_stays (at 0 refl refl)) (deeds_stay (at 1 refl refl)) (images_stay (at 2 refl refl) (at 11 refl refl)) (rules_stay (at 3 refl refl)) (keys_stay (at 5 refl refl))
       (set check_sheet 7 db after rows h spells m are) (files_stay (at 9 refl refl)) (index_stays (at 9 refl refl))
       (rowids_of _ _ _ _ (at 3 refl refl) (at 5 refl refl) h.now (at 9 refl refl) of.rowids.rules of.rowids.keys rowids of.rowids.files) sound
 
   of_files : Sets 9 db after rows → Spells file_sheet rows → HaveRowids rows → (Next : FinMap file_cmp Found → Type 0) → Next (map_of file_sheet rows) → IsOfWith desk Next after
   of_files h spells rowids Next next =
       let at = λ (t : ℕ) (other : (t == 9) ≡ false) (table : is_index_tree t ≡ false). h.stays t other table in
-      whole desk Next after h.schema (version_stays (at 0 refl refl)) (deeds_stay (at 1 refl refl)) (images_stay (at 2 refl refl)) (rules_stay (at 3 refl refl)) (keys_stay (at 5 refl refl)) (checks_stay (at 7 refl refl))
+      whole desk Next after h.schema (version_stays (at 0 refl refl)) (deeds_stay (at 1 refl refl)) (images_stay (at 2 refl refl) (at 11 refl refl)) (rules_stay (at 3 refl refl)) (keys_stay (at 5 refl refl)) (checks_stay (at 7 refl refl))
       (subst (Spells file_sheet) (sym h.now) spells) (subst Next (ap (map_of file_sheet) (sym h.now)) next)
       (rowids_of _ _ _ _ (at 3 refl refl) (at 5 refl refl) (at 7 refl refl) h.now of.rowids.rules of.rowids.keys of.rowids.checks rowids) sound
 
@@ -200,23 +224,69 @@ module _ (acc : ℕ) (image : ImageRow) where
   abbrev new_image : Row
   new_image = image_row acc (kind_code image.kind) image.deed image.digest image.bytes
 
-  image_read : entry_of image_sheet new_image ≡ (acc, image)
-  image_read = λ i. (acc, record { kind = kind_back image.kind i; deed = image.deed; digest = image.digest; bytes = image.bytes })
+  -- which has the number of the kind
+  same_number : (kind : Kind) → kind_code (kind_in (kind_code kind)) ≡ kind_code kind
+  same_number Cpm8 = refl
+  same_number D64 = refl
+  same_number D64e = refl
 
+  image_spelled : IsSpelled image_sheet new_image
+  image_spelled = λ i. Int (pos acc) ∷ Int (pos (sym (same_number image.kind) i)) ∷ Int (pos image.deed) ∷ Blob image.digest ∷ Blob image.bytes ∷ []
+
+  -- a row of an image, which tells no error bytes, is put where no image stands
   pub makes_image : (desk : Desk) (files : List Found)
-      → Makes desk_schema put_image_text put_image put_image_writes (image_params acc (kind_code image.kind) image.deed image.digest image.bytes) (LacksImage acc desk) (IsOfWith (with_new_image acc image desk) (IsFiledTo desk.images acc files 0))
+      → Makes desk_schema put_image_text put_image put_image_writes (image_params acc (kind_code image.kind) image.deed image.digest image.bytes) (LacksImage acc desk) (IsOfWith (with_new_image acc (as_row image) desk) (IsFiledTo desk.images acc files 0))
   makes_image desk files limit db after tally (of, free) does sound =
       let rows = db.trees 2 in
+      let table = map_of image_sheet rows in
+      let marks = map_of marks_sheet (db.trees 11) in
       let h = puts_image acc (kind_code image.kind) image.deed image.digest image.bytes (statement_of put_image_text (understood desk_schema put_image_text)) limit db after tally of.schema does in
-      let is : IsSpelled image_sheet new_image = sym (ap image_sheet.columns image_read) in
-      let none = subst (λ (e : ℕ × ImageRow). AllByRecursion (λ row. eq_by_cmp nat_cmp e.0 (entry_of image_sheet row).0 ≡ false) rows) (sym image_read)
-      (none_at image_sheet number_order acc rows (ap (λ (d : Desk). get d.images acc) of.is ∙ free)) in
+      let is = image_spelled in
+      let apart : get table acc ≡ None = none_apart table marks acc (ap (λ (d : Desk). get d.images acc) of.is ∙ free) in
+      let unmarked : get marks acc ≡ None = no_marks table marks of.rows.marks.lawful acc apart in
+      let none = none_at image_sheet number_order acc rows apart in
       let put = spells_put image_sheet number_order new_image rows of.rows.images is none h.0 in
-      let are = map_put image_sheet number_order new_image rows of.rows.images is none h.0 ∙ ap (λ (e : ℕ × ImageRow). insert (map_of image_sheet rows) e.0 e.1) image_read
-      ∙ ap (λ (d : Desk). insert d.images acc image) of.is in
+      let are : map_of image_sheet (after.trees 2) ≡ insert table acc (as_row image) = ap (map_of image_sheet) h.1.now ∙ map_put image_sheet number_order new_image rows of.rows.images is none h.0 in
+      let kept : after.trees 11 ≡ db.trees 11 = h.1.stays 11 refl refl in
+      let pictured : Pictured after (insert desk.images acc (as_row image)) = record {
+        rows = subst (Spells image_sheet) (sym h.1.now) put;
+        marks = subst₂ (λ i m. SpellLawful marks_sheet (AreMarksIn i) m) (sym are) (sym kept)
+            (record { spells = of.rows.marks.spells; lawful = λ other bytes found. still_marks table marks acc (as_row image) unmarked other bytes found (of.rows.marks.lawful other bytes found) });
+        is = ap₂ (λ i m. joined i (map_of marks_sheet m)) are kept ∙ joined_image table marks acc (as_row image) unmarked ∙ ap (λ (d : Desk). insert d.images acc (as_row image)) of.is;
+      } in
       let filed : IsOfWith desk (IsFiledTo desk.images acc files 0) db =
       record { schema = of.schema; rows = of.rows; rowids = of.rowids; sound = of.sound; is = of.is; index = none_filed desk.images acc files (index_of db.trees) free of.index } in
-      of_images desk (IsFiledTo desk.images acc files 0) db after (put_row new_image rows) filed sound h.1 put (insert desk.images acc image) are
+      of_images desk (IsFiledTo desk.images acc files 0) db after (put_row new_image rows) filed sound h.1 (insert desk.images acc (as_row image)) pictured
+
+  -- error bytes are put where a D64 stands
+  pub makes_marks : (bytes : List ℕ) (desk : Desk) (Index : FinMap file_cmp Found → Type 0) → get desk.images acc ≡ Some image → image.kind ≡ D64 → length bytes ≡ CBM_BLOCKS
+      → Makes desk_schema put_marks_text put_marks put_marks_writes (marks_params acc bytes) (IsOfWith desk Index) (IsOfWith (with_new_image acc (with_marks (Some bytes) image) desk) Index)
+  makes_marks bytes desk Index stands kind count limit db after tally of does sound =
+      let rows = db.trees 11 in
+      let table = map_of image_sheet (db.trees 2) in
+      let marks = map_of marks_sheet rows in
+      let new = marks_row acc bytes in
+      let h = puts_marks acc bytes (statement_of put_marks_text (understood desk_schema put_marks_text)) limit db after tally of.schema does in
+      let plain = plain_there table marks acc image (ap (λ (d : Desk). get d.images acc) of.is ∙ stands) kind in
+      let none = none_at marks_sheet number_order acc rows plain.1 in
+      let put = spells_put marks_sheet number_order new rows of.rows.marks.spells refl none h.0 in
+      let are : map_of marks_sheet (after.trees 11) ≡ insert marks acc bytes = ap (map_of marks_sheet) h.1.now ∙ map_put marks_sheet number_order new rows of.rows.marks.spells refl none h.0 in
+      let kept : after.trees 2 ≡ db.trees 2 = h.1.stays 2 refl refl in
+      let image_now = with_marks (Some bytes) image in
+      let mine : AreMarksIn table (acc, bytes) = record { count = count; image = image; stands = plain.0; kind = kind } in
+      let pictured : Pictured after (insert desk.images acc image_now) = record {
+        rows = subst (Spells image_sheet) (sym kept) of.rows.images;
+        marks = record {
+          spells = subst (Spells marks_sheet) (sym h.1.now) put;
+          lawful = λ other found there. subst (λ i. AreMarksIn (map_of image_sheet i) (other, found)) (sym kept)
+              (elim (found_after nat_cmp number_order marks acc bytes other found (subst (λ m. get m other ≡ Some found) are there)) [
+                | inl this ↦ subst (AreMarksIn table) (λ i. (sym this.0 i, this.1 i)) mine
+                | inr was ↦ of.rows.marks.lawful other found was
+              ]);
+        };
+        is = ap₂ (λ i m. joined (map_of image_sheet i) m) kept are ∙ joined_marks table marks acc bytes image plain.0 ∙ ap (λ (d : Desk). insert d.images acc image_now) of.is;
+      } in
+      of_marks desk Index db after (put_row new rows) of sound h.1 (insert desk.images acc image_now) pictured
 
   pub lacks_schema : (desk : Desk) (db : Database) → LacksImage acc desk db → db.schema ≡ desk_schema
   lacks_schema desk db lacks = lacks.0.schema

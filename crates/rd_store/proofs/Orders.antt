@@ -1,12 +1,10 @@
 -- The orders of the keys, and that columns spell the entry that they come from.
-use Rattle.std.proofs.Common.{◌≡◌, ◌+◌, ◌*◌, map, ◌/◌, ◌%◌, ◌∙◌, ap₂, ℕ, ℤ, pos, List, [], ◌∷◌, Bool, Option, Some, None, true, false, option_map, refl, sym, arith, nat_cmp}
+use Rattle.std.proofs.Common.{◌≡◌, ◌+◌, ◌*◌, map, ◌/◌, ◌%◌, ◌∙◌, ap₂, ℕ, zero, suc, ℤ, pos, List, [], ◌∷◌, Bool, Option, Some, None, true, false, option_map, refl, sym, arith, nat_cmp}
 use Rattle.std.specs.FinMap.{nat_cmp-IsAntisymmetric, int_cmp-IsAntisymmetric, slice_cmp-IsAntisymmetric}
 use Rattle.std.proofs.lemmas.Cmp.{nat_cmp_total, nat_list_cmp_total, int_cmp_total, then_total, on_total}
 use Rattle.sqlite.specs.declared.types.Value.TheVariants.{Int}
 use Rattle.sqlite.specs.Values.{or_null}
 use Rattle.sqlite_value.proofs.KeyLemmas.{then_tied}
-use Rattle.rd_geometry.specs.declared.kind.Kind.{Kind}
-use Rattle.rd_geometry.specs.declared.kind.Kind.TheVariants.{Cpm8, D64}
 use Rattle.rd_policy.specs.declared.audience.Audience.{Audience}
 use Rattle.rd_policy.specs.declared.audience.Audience.TheVariants.{Public, Room, Staff}
 use Rattle.rd_policy.specs.declared.audience.Audiences.{Audiences}
@@ -71,9 +69,10 @@ file_order = record {
 
 -- ---- what is written is read back
 
-pub kind_back : (kind : Kind) → kind_in (kind_code kind) ≡ kind
-kind_back Cpm8 = refl
-kind_back D64 = refl
+-- a kind that was read, as is that of each row of an image
+pub kind_back : (code : ℕ) → kind_in (kind_code (kind_in code)) ≡ kind_in code
+kind_back zero = refl
+kind_back (suc code) = refl
 
 pub audience_back : (audience : Audience) → audience_in (audience_code audience) ≡ audience
 audience_back Public = refl

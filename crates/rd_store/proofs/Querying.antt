@@ -4,12 +4,10 @@ use Rattle.sqlite.specs.Order.{Row}
 use Rattle.sqlite.specs.Store.{Ghosts}
 use Rattle.sqlite.specs.Schema.{Schema}
 use Rattle.sqlite.specs.declared.error.Error.{Error}
-use Rattle.sqlite.specs.Listing.{understood}
 use Rattle.sqlite.specs.State.{State, IsUnchanged, IsRolledBack, FailsToQuery, Shown, Survives, CommitsShowing}
 use Rattle.sqlite.specs.Held.{Held, state}
-use Rattle.sqlite.proofs.Callers.{IsPlain}
 use Rattle.rd_tables.proofs.Reading.{query_fails, shown_was_open, shown_unchanged, read_survives}
-use Rattle.rd_store.specs.Held.{RestsOver, Stays, IsOpen, IsClean}
+use Rattle.rd_store.specs.Held.{RestsOver, IsReadable, Stays, IsOpen, IsClean}
 use Rattle.rd_store.proofs.Laws.{Laws, clean_at, lasts_of}
 
 -- the connection was open, and shows what it did
@@ -26,25 +24,25 @@ undone : {over : Schema} (old new : State) → RestsOver over old → IsTrue new
 undone {over} old new tables is_open back =
     record { was_open = back.was_open is_open; now = (back.undone is_open).0 ∙ tables.settled; committed = (back.undone is_open).1; autocommit = back.autocommit ∙ sym tables.autocommit }
 
-module _ {S : Type 0} {over : Schema} (g : Ghosts S) (laws : Laws g) (text : List ℕ) (params : Row) (old new : Held S) (held : IsOpen g old → RestsOver over (state g old)) (plain : IsPlain (understood over text))
+module _ {S : Type 0} (g : Ghosts S) (laws : Laws g) (text : List ℕ) (params : Row) (old new : Held S) (readable : IsOpen g old → IsReadable text (state g old))
     (survives : Survives (state g old) (state g new) (CommitsShowing text params (state g old))) where
   stays : (IsOpen g new → Same (state g old) (state g new)) → Stays g old new
   stays same = record {
     lasts = lasts_of g old new (CommitsShowing text params (state g old)) survives (λ is_open. (same is_open).was_open);
     now = λ is_open. (same is_open).now;
     committed = λ is_open. (same is_open).committed;
-    autocommit = λ is_open. let at = same is_open in at.autocommit ∙ (held at.was_open).autocommit;
-    quiet = λ was clean left may. elim ((read_survives text params (state g old) (state g new) (held was).schema plain survives).crash clean left may) [ inl before ↦ before | inr none ↦ absurd none ];
+    autocommit = λ is_open. let at = same is_open in at.autocommit ∙ (readable at.was_open).rests.autocommit;
+    quiet = λ was clean left may. elim ((read_survives text params (state g old) (state g new) (readable was).rests.schema (readable was).plain survives).crash clean left may) [ inl before ↦ before | inr none ↦ absurd none ];
   }
 
   pub shown_stays : (rows : List Row) → (IsClean g new → Shown text params (state g old) (state g new) rows) → Stays g old new
   shown_stays rows shown = stays (λ is_open.
       let h = shown (clean_at g laws new is_open) in
-      let tables = held (shown_was_open text params (state g old) (state g new) rows h) in
-      unchanged (state g old) (state g new) (shown_unchanged text params (state g old) (state g new) tables.schema plain rows h))
+      let at = readable (shown_was_open text params (state g old) (state g new) rows h) in
+      unchanged (state g old) (state g new) (shown_unchanged text params (state g old) (state g new) at.rests.schema at.plain rows h))
 
   pub failed_stays : (e : Error) → (IsClean g new → FailsToQuery text params (state g old) (state g new) e) → Stays g old new
   failed_stays e fails = stays (λ is_open. elim (query_fails (state g old) (state g new) text params e (fails (clean_at g laws new is_open))) [
     | inl same ↦ unchanged (state g old) (state g new) same
-    | inr back ↦ undone (state g old) (state g new) (held (back.was_open is_open)) is_open back
+    | inr back ↦ undone (state g old) (state g new) (readable (back.was_open is_open)).rests is_open back
   ])

@@ -7,8 +7,6 @@ use Rattle.sqlite_value.specs.Order.{bytes}
 use Rattle.sqlite_sql.specs.Ops.{unary}
 use Rattle.sqlite_sql.specs.declared.ops.UnaryOp.TheVariants.{Length, TypeOf}
 use Rattle.rd_geometry.specs.Kinds.{size_of}
-use Rattle.rd_geometry.specs.declared.kind.Kind.{Kind}
-use Rattle.rd_geometry.specs.declared.kind.Kind.TheVariants.{Cpm8, D64}
 use Rattle.rd_policy.specs.Audiences.{IsEmpty}
 use Rattle.rd_policy.specs.Rules.{IsPlainText, IsSelect}
 use Rattle.rd_policy.specs.declared.audience.Audience.{Audience}
@@ -24,10 +22,10 @@ use Rattle.rd_store.specs.declared.rows.Outcome.TheVariants.{Sound, Changed}
 use Rattle.rd_tables.specs.Sheets.{entry_of, IsSpelled, natural}
 use Rattle.rd_tables.proofs.Lists.{both}
 use Rattle.rd_store.specs.Codes.{kind_code, kind_in, band_code, band_in, effect_code, effect_in, audiences_code, audiences_in, audience_code, audience_in, outcome_code, outcome_in, how, number, word, select_in}
-use Rattle.rd_store.specs.Spelled.{deed_sheet, image_sheet, rule_sheet, key_sheet, check_sheet}
+use Rattle.rd_store.specs.Spelled.{deed_sheet, image_sheet, marks_sheet, rule_sheet, key_sheet, check_sheet}
 use Rattle.rd_store.specs.Lawful.{IsDeed, IsKey}
-use Rattle.rd_store.specs.Opened.{IsImageOf, IsRuleOf, IsCheckOf, StandsAmong}
-use Rattle.rd_store.specs.Cells.{is_number, is_one_of, is_size_of, blob_name, is_band, HasParts, IsDeedRow, IsImageRow, IsSelectAt, IsRuleRow, IsKeyRow, IsCheckRow}
+use Rattle.rd_store.specs.Opened.{AreMarksOf, IsImageOf, IsRuleOf, IsCheckOf, StandsAmong}
+use Rattle.rd_store.specs.Cells.{is_number, is_one_of, is_size_of, blob_name, is_band, HasParts, IsDeedRow, IsImageRow, IsMarksRow, IsSelectAt, IsRuleRow, IsKeyRow, IsCheckRow}
 use Rattle.rd_store.proofs.Columns.{number_spelled, number_shown, one_of_spelled, one_of_shown, day_spelled, day_shown, some_day_spelled, some_day_shown, digest_spelled, digest_shown, donor_spelled, word_spelled}
 
 either : (a b : Bool) → (a || b) ≡ true → (a ≡ true) ⊎ (b ≡ true)
@@ -103,9 +101,9 @@ size_is kind n is = elim (either (is_number 0 0 kind && is_number 256_256 256_25
       (code.0 ∙ ap (λ c. Int (pos c)) (sym (kind_back (natural kind) (omega (arith, code.2)))), subst (λ c. n ≡ size_of (kind_in c)) (sym one_code) (omega (arith, size.1, size.2)))
 ]
 
-is_size : (kind : Kind) (n : ℕ) → n ≡ size_of kind → is_size_of (Int (pos (kind_code kind))) (Int (pos n)) ≡ true
-is_size Cpm8 n is = rw is refl
-is_size D64 n is = rw is refl
+is_size : (code n : ℕ) → n ≡ size_of (kind_in code) → is_size_of (Int (pos (kind_code (kind_in code)))) (Int (pos n)) ≡ true
+is_size zero n is = rw is refl
+is_size (suc code) n is = rw is refl
 
 -- what a listing shows of an image
 abbrev pub image_listed : Row → Row
@@ -127,8 +125,30 @@ image_from deeds row is lawful =
       acc = number_shown 1 999_999 e.0 lawful.0.scope.0 lawful.0.scope.1;
       deed = one_of_shown deeds e.1.deed lawful.1;
       digest = digest_shown e.1.digest lawful.0.digest;
-      size = subst (λ v. is_size_of (Int (pos (kind_code e.1.kind))) v ≡ true) (sym (length_of_blob e.1.bytes)) (is_size e.1.kind (length e.1.bytes) lawful.0.bytes);
+      size = subst (λ v. is_size_of (Int (pos (kind_code e.1.kind))) v ≡ true) (sym (length_of_blob e.1.bytes)) (is_size (natural (column row 2)) (length e.1.bytes) lawful.0.bytes);
       kind_of = type_of_blob e.1.bytes;
+    })
+
+-- ---- error bytes
+
+-- what a listing shows of error bytes
+abbrev pub marks_listed : Row → Row
+marks_listed row = column row 0 ∷ unary Length (column row 2) ∷ unary TypeOf (column row 2) ∷ []
+
+pub marks_to : (accessions : List ℕ) (row : Row) → IsMarksRow accessions (marks_listed row) → IsSpelled marks_sheet row × AreMarksOf accessions (entry_of marks_sheet row)
+marks_to accessions row q =
+    let acc = one_of_spelled accessions (column row 0) q.acc in
+    let blob = blob_spelled (column row 2) q.kind_of in
+    let count = number_spelled 683 683 (Int (pos (length (bytes (column row 2))))) (subst (λ v. is_number 683 683 v ≡ true) (ap (unary Length) blob ∙ length_of_blob (bytes (column row 2))) q.count) in
+    (λ i. acc.0 i ∷ blob i ∷ [], (omega (arith, count.1, count.2), acc.1))
+
+pub marks_from : (accessions : List ℕ) (row : Row) → IsSpelled marks_sheet row → AreMarksOf accessions (entry_of marks_sheet row) → IsMarksRow accessions (marks_listed row)
+marks_from accessions row is lawful =
+    let e = entry_of marks_sheet row in
+    subst (λ s. IsMarksRow accessions (column s 0 ∷ unary Length (column s 1) ∷ unary TypeOf (column s 1) ∷ [])) (sym is) (record {
+      acc = one_of_shown accessions e.0 lawful.1;
+      count = subst (λ v. is_number 683 683 v ≡ true) (sym (length_of_blob e.1)) (number_shown 683 683 (length e.1) (omega (arith, lawful.0)) (omega (arith, lawful.0)));
+      kind_of = type_of_blob e.1;
     })
 
 -- ---- rules

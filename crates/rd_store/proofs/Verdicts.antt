@@ -12,6 +12,7 @@ use Rattle.sqlite.specs.declared.types.Value.TheVariants.{Int, Blob}
 use Rattle.sqlite.specs.Order.{Row, column, value_cmp}
 use Rattle.sqlite.specs.Tree.{rowid}
 use Rattle.sqlite.specs.Effect.{Database, IsDatabase}
+use Rattle.sqlite.specs.Table.{Table}
 use Rattle.sqlite.proofs.Callers.{one_permutation}
 use Rattle.sqlite_sql.specs.Term.{Term, col}
 use Rattle.sqlite_value.specs.declared.keys.Key.{Key}
@@ -20,35 +21,40 @@ use Rattle.sqlite_rules.specs.Lists.{Has}
 use Rattle.rd_policy.specs.declared.audience.Audience.{Audience}
 use Rattle.rd_policy.specs.declared.audience.Audience.TheVariants.{Staff}
 use Rattle.rd_tables.specs.Asked.{asks_of, IsPicked, IsListed}
-use Rattle.rd_tables.specs.Queries.{all_deeds_query, all_images_query, all_rules_query, all_keys_query, all_checks_query, version_query}
-use Rattle.rd_tables.specs.Schemas.{desk_schema}
+use Rattle.rd_tables.specs.Queries.{all_deeds_query, all_images_query, all_rules_query, all_keys_query, all_checks_query, all_marks_query, version_query}
+use Rattle.rd_tables.specs.Schemas.{desk_with}
 use Rattle.rd_tables.specs.Sheets.{Sheet, entry_of, IsSpelled, SpellLawful, map_of, natural}
 use Rattle.rd_tables.proofs.Entries.{IsKeyOrder, tie}
 use Rattle.rd_tables.proofs.Lists.{map_map, in_map, from_map}
 use Rattle.rd_tables.proofs.Listed.{to_permuted, show, all_shown, each_shown, shown_each, rowids_apart, have_rowids, apart_by_rowids, row_got, got_row, rows_lawful, lawful_rows}
 use Rattle.rd_tables.proofs.Unique.{same_int, same_blob, agree_one, agree_two, agree_three, one_rule, one_key, one_check}
-use Rattle.rd_store.specs.Cells.{is_number, IsDeedRow, IsImageRow, IsRuleRow, IsKeyRow, IsCheckRow, IsStaffRow}
+use Rattle.rd_store.specs.Cells.{is_number, IsDeedRow, IsImageRow, IsRuleRow, IsKeyRow, IsCheckRow, IsMarksRow, IsStaffRow}
 use Rattle.rd_store.specs.Codes.{band_code, audience_code, audience_in}
 use Rattle.rd_store.specs.Lawful.{IsDeed, IsKey}
-use Rattle.rd_store.specs.Opened.{AreKeys, IsImageOf, IsRuleOf, IsCheckOf}
-use Rattle.rd_store.specs.Spelled.{deed_sheet, image_sheet, rule_sheet, key_sheet, check_sheet}
+use Rattle.rd_store.specs.Opened.{AreKeys, AreMarksOf, IsImageOf, IsRuleOf, IsCheckOf}
+use Rattle.rd_store.specs.Spelled.{HasVersion, deed_sheet, image_sheet, marks_sheet, rule_sheet, key_sheet, check_sheet}
 use Rattle.rd_store.specs.State.{Place, Checkup}
 use Rattle.rd_store.proofs.Found.{any_has}
 use Rattle.rd_store.proofs.Columns.{number_spelled}
 use Rattle.rd_store.proofs.Orders.{number_order, place_order, digest_order, checkup_order}
-use Rattle.rd_store.proofs.Shapes.{deed_to, deed_from, image_to, image_from, rule_to, rule_from, key_to, key_from, check_to, check_from}
+use Rattle.rd_store.proofs.Shapes.{deed_to, deed_from, image_to, image_from, marks_to, marks_from, rule_to, rule_from, key_to, key_from, check_to, check_from}
 
 -- ---- the version
 
-versions_listed : (table rows : List Row) → IsPicked version_query [] table rows → IsPermutation (map (λ row. column row 2) table) (map (λ row. column row 0) rows)
-versions_listed table rows picks =
-    subst (λ l. IsPermutation l (map (λ row. column row 0) rows)) (map_map (λ row. column row 0) (show 0 (col 1 2) [] [] table rows) table) (IsPermutation-map (λ row. column row 0) _ _ (all_shown 0 (col 1 2) [] [] table rows picks))
+-- the id and the version that a row shows
+abbrev said : ℕ → Row
+said number = Int (pos 1) ∷ Int (pos number) ∷ []
 
-pub version_told : (b : Bool) (table rows : List Row) → IsPicked version_query [] table rows → MatchBool b (map (λ row. column row 0) rows ≡ Int (pos 1) ∷ []) (¬ (map (λ row. column row 0) rows ≡ Int (pos 1) ∷ []))
-    → MatchBool b (map (λ row. column row 2) table ≡ Int (pos 1) ∷ []) (¬ (map (λ row. column row 2) table ≡ Int (pos 1) ∷ []))
-version_told true table rows picks is =
-    one_permutation (Int (pos 1)) _ (IsPermutation-sym _ _ (subst (IsPermutation (map (λ row. column row 2) table)) is (versions_listed table rows picks)))
-version_told false table rows picks isnt = λ is. isnt (one_permutation (Int (pos 1)) _ (subst (λ l. IsPermutation l (map (λ row. column row 0) rows)) is (versions_listed table rows picks)))
+versions_listed : (table rows : List Row) → IsPicked version_query [] table rows → IsPermutation (map (λ row. column row 0 ∷ column row 2 ∷ []) table) (map (λ row. column row 0 ∷ column row 1 ∷ []) rows)
+versions_listed table rows picks =
+    subst (λ l. IsPermutation l (map (λ row. column row 0 ∷ column row 1 ∷ []) rows)) (map_map (λ row. column row 0 ∷ column row 1 ∷ []) (show 0 (col 1 0) (col 1 2 ∷ []) [] table rows) table)
+    (IsPermutation-map (λ row. column row 0 ∷ column row 1 ∷ []) _ _ (all_shown 0 (col 1 0) (col 1 2 ∷ []) [] table rows picks))
+
+pub version_told : (number : ℕ) (b : Bool) (table rows : List Row) → IsPicked version_query [] table rows
+    → MatchBool b (map (λ row. column row 0 ∷ column row 1 ∷ []) rows ≡ said number ∷ []) (¬ (map (λ row. column row 0 ∷ column row 1 ∷ []) rows ≡ said number ∷ [])) → MatchBool b (HasVersion number table) (¬ HasVersion number table)
+version_told number true table rows picks is =
+    one_permutation (said number) _ (IsPermutation-sym _ _ (subst (IsPermutation (map (λ row. column row 0 ∷ column row 2 ∷ []) table)) is (versions_listed table rows picks)))
+version_told number false table rows picks isnt = λ is. isnt (one_permutation (said number) _ (subst (λ l. IsPermutation l (map (λ row. column row 0 ∷ column row 1 ∷ []) rows)) is (versions_listed table rows picks)))
 
 -- ---- a table
 
@@ -129,16 +135,29 @@ module _ (deeds : List ℕ) (table rows : List Row) (listed : IsListed all_image
   pub accession_numbers : SpellLawful image_sheet (IsImageOf deeds) table → AreKeys (map_of image_sheet table) (map (λ row. natural (column row 0)) rows)
   accession_numbers lawful = are_keys image_sheet table _ (keys_told image_sheet number_order (IsImageOf deeds) (IsImageRow deeds) 2 _ _ table rows (image_to deeds) (image_from deeds) listed image_ties (λ n. n) (λ row. refl) lawful)
 
+-- ---- error bytes
+
+module _ (accessions : List ℕ) (table rows : List Row) (listed : IsListed all_marks_query table rows) where
+  marks_ties : (row other : Row) → Has table row → Has table other → IsSpelled marks_sheet row → IsSpelled marks_sheet other → (entry_of marks_sheet row).0 ≡ (entry_of marks_sheet other).0 → eq_by_cmp value_cmp (rowid row) (rowid other) ≡ true
+  marks_ties row other here there first second same = rowid_tied (rowid row) (rowid other) (ap (λ s. column s 0) first ∙ ap (λ n. Int (pos n)) same ∙ sym (ap (λ s. column s 0) second))
+
+  pub marks_told : (b : Bool) → MatchBool b (All (IsMarksRow accessions) rows) (¬ All (IsMarksRow accessions) rows) → MatchBool b (SpellLawful marks_sheet (AreMarksOf accessions) table) (¬ SpellLawful marks_sheet (AreMarksOf accessions) table)
+  marks_told = told marks_sheet number_order (AreMarksOf accessions) (IsMarksRow accessions) 11 _ _ table rows (marks_to accessions) (marks_from accessions) listed marks_ties
+
+  pub marked_numbers : SpellLawful marks_sheet (AreMarksOf accessions) table → AreKeys (map_of marks_sheet table) (map (λ row. natural (column row 0)) rows)
+  marked_numbers lawful =
+      are_keys marks_sheet table _ (keys_told marks_sheet number_order (AreMarksOf accessions) (IsMarksRow accessions) 11 _ _ table rows (marks_to accessions) (marks_from accessions) listed marks_ties (λ n. n) (λ row. refl) lawful)
+
 -- ---- rules, desk keys and checks, whose keys are unique
 
-module _ (db : Database) (schema : db.schema ≡ desk_schema) (sound : IsDatabase db) (rows : List Row) where
+module _ (more : List Table) (db : Database) (schema : db.schema ≡ desk_with more) (sound : IsDatabase db) (rows : List Row) where
   module _ (accessions deeds : List ℕ) (listed : IsListed all_rules_query (db.trees 3) rows) where
     rule_ties : (row other : Row) → Has (db.trees 3) row → Has (db.trees 3) other → IsSpelled rule_sheet row → IsSpelled rule_sheet other → (entry_of rule_sheet row).0 ≡ (entry_of rule_sheet other).0 → eq_by_cmp value_cmp (rowid row) (rowid other) ≡ true
     rule_ties row other here there first second same =
         let ids = have_rowids 3 _ _ (db.trees 3) rows listed in
         let alike = λ (at : ℕ) (number : Place → ℕ) (f : column (map (λ p. column row p) rule_sheet.places) at ≡ Int (pos (number (entry_of rule_sheet row).0))) (s : column (map (λ p. column other p) rule_sheet.places) at ≡ Int (pos (number (entry_of rule_sheet other).0))).
         same_int _ _ _ (s ∙ ap (λ (p : Place). Int (pos (number p))) (sym same) ∙ sym f) f in
-        one_rule db schema sound row other here there (ids.keyed row here) (ids.keyed other there) (agree_three 1 2 3 other row
+        one_rule more db schema sound row other here there (ids.keyed row here) (ids.keyed other there) (agree_three 1 2 3 other row
         (alike 0 (λ p. band_code p.band) (ap (λ s. column s 0) first) (ap (λ s. column s 0) second))
         (alike 1 (λ p. p.scope) (ap (λ s. column s 1) first) (ap (λ s. column s 1) second))
         (alike 2 (λ p. p.rank) (ap (λ s. column s 2) first) (ap (λ s. column s 2) second)))
@@ -150,7 +169,7 @@ module _ (db : Database) (schema : db.schema ≡ desk_schema) (sound : IsDatabas
     check_ties : (row other : Row) → Has (db.trees 7) row → Has (db.trees 7) other → IsSpelled check_sheet row → IsSpelled check_sheet other → (entry_of check_sheet row).0 ≡ (entry_of check_sheet other).0 → eq_by_cmp value_cmp (rowid row) (rowid other) ≡ true
     check_ties row other here there first second same =
         let ids = have_rowids 7 _ _ (db.trees 7) rows listed in
-        one_check db schema sound row other here there (ids.keyed row here) (ids.keyed other there) (agree_two 1 2 other row
+        one_check more db schema sound row other here there (ids.keyed row here) (ids.keyed other there) (agree_two 1 2 other row
         (same_int _ _ _ (ap (λ s. column s 0) second ∙ ap (λ (k : Checkup). Int (pos k.acc)) (sym same) ∙ sym (ap (λ s. column s 0) first)) (ap (λ s. column s 0) first))
         (same_int _ _ _ (ap (λ s. column s 1) second ∙ ap (λ (k : Checkup). Int k.day) (sym same) ∙ sym (ap (λ s. column s 1) first)) (ap (λ s. column s 1) first)))
 
@@ -161,7 +180,7 @@ module _ (db : Database) (schema : db.schema ≡ desk_schema) (sound : IsDatabas
     key_ties : (row other : Row) → Has (db.trees 5) row → Has (db.trees 5) other → IsSpelled key_sheet row → IsSpelled key_sheet other → (entry_of key_sheet row).0 ≡ (entry_of key_sheet other).0 → eq_by_cmp value_cmp (rowid row) (rowid other) ≡ true
     key_ties row other here there first second same =
         let ids = have_rowids 5 _ _ (db.trees 5) rows listed in
-        one_key db schema sound row other here there (ids.keyed row here) (ids.keyed other there) (agree_one 1 other row
+        one_key more db schema sound row other here there (ids.keyed row here) (ids.keyed other there) (agree_one 1 other row
         (same_blob _ _ _ (ap (λ s. column s 0) second ∙ ap (λ (k : List ℕ). Blob k) (sym same) ∙ sym (ap (λ s. column s 0) first)) (ap (λ s. column s 0) first)))
 
     abbrev AreLawfulKeys : Type 0

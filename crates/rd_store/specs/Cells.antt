@@ -66,6 +66,12 @@ pub record IsImageRow (deeds : List ℕ) (row : Row) : Type 0 where
   pub size : is_size_of (column row 1) (column row 4) ≡ true
   pub kind_of : column row 5 ≡ Text blob_name
 
+-- Of the error bytes of an accession the row shows the count and the type.
+pub record IsMarksRow (accessions : List ℕ) (row : Row) : Type 0 where
+  pub acc : is_one_of accessions (column row 0) ≡ true
+  pub count : is_number 683 683 (column row 1) ≡ true
+  pub kind_of : column row 2 ≡ Text blob_name
+
 -- a takedown of an accession denies or lists, and a rule of a deed may also let read
 abbrev pub is_band : List ℕ → List ℕ → Value → Value → Value → Bool
 is_band accessions deeds band scope effect = (is_number 0 0 band && is_one_of accessions scope && is_number 0 1 effect) || (is_number 1 1 band && is_one_of deeds scope && is_number 0 2 effect)

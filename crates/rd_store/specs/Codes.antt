@@ -4,7 +4,7 @@ use Rattle.sqlite.specs.declared.types.Value.{Value}
 use Rattle.sqlite.specs.declared.types.Value.TheVariants.{Null, Int, Real, Text, Blob}
 use Rattle.rd_tables.specs.Sheets.{natural_of}
 use Rattle.rd_geometry.specs.declared.kind.Kind.{Kind}
-use Rattle.rd_geometry.specs.declared.kind.Kind.TheVariants.{Cpm8, D64}
+use Rattle.rd_geometry.specs.declared.kind.Kind.TheVariants.{Cpm8, D64, D64e}
 use Rattle.rd_policy.specs.declared.audience.Audience.{Audience}
 use Rattle.rd_policy.specs.declared.audience.Audience.TheVariants.{Public, Room, Staff}
 use Rattle.rd_policy.specs.declared.audience.Audiences.{Audiences}
@@ -17,9 +17,11 @@ use Rattle.rd_policy.specs.declared.select.Select.TheVariants.{All, Slot, Prefix
 use Rattle.rd_store.specs.declared.rows.Outcome.{Outcome}
 use Rattle.rd_store.specs.declared.rows.Outcome.TheVariants.{Sound, Changed}
 
+-- a D64 with error bytes has the number of one without: they stand in a table of their own
 abbrev pub kind_code : Kind → ℕ
 kind_code Cpm8 = 0
 kind_code D64 = 1
+kind_code D64e = 1
 
 abbrev pub kind_in : ℕ → Kind
 kind_in zero = Cpm8

@@ -1,15 +1,18 @@
 -- What a store holds, what a call makes of it, and what a crash leaves.
-use Rattle.std.specs.Prelude.{◌≡◌, ◌⊎◌, ◌≤◌, ℕ, None, false, IsTrue, Result, Ok, Err, OnOk, OnErr, IfOk, IfErr, ⊤}
+use Rattle.std.specs.Prelude.{◌≡◌, ◌⊎◌, ◌≤◌, ℕ, List, None, false, IsTrue, Result, Ok, Err, OnOk, OnErr, IfOk, IfErr, ⊤}
 use Rattle.std.specs.FinMap.{FinMap, get}
 use Rattle.sqlite_disk.specs.Disk.{MoreFaults}
 use Rattle.sqlite.specs.Tree.{Trees}
 use Rattle.sqlite.specs.Store.{Ghosts}
 use Rattle.sqlite.specs.Schema.{Schema}
+use Rattle.sqlite.specs.Table.{Table}
+use Rattle.sqlite.specs.Given.{IsPlain}
+use Rattle.sqlite.specs.Listing.{understood}
 use Rattle.sqlite.specs.Effect.{Database, IsDatabase}
 use Rattle.sqlite.specs.State.{State, HasCleanDisk, Survives, KeepsCommit}
 use Rattle.sqlite.specs.Held.{Held, state}
 use Rattle.rd_volume.specs.declared.found.Found.{Found}
-use Rattle.rd_tables.specs.Schemas.{desk_schema}
+use Rattle.rd_tables.specs.Schemas.{desk_schema, desk_with}
 use Rattle.rd_store.specs.declared.faults.StoreFault.{StoreFault}
 use Rattle.rd_store.specs.declared.faults.StoreFault.TheVariants.{Sql, Missing, Conflict}
 use Rattle.rd_store.specs.State.{Desk}
@@ -20,7 +23,7 @@ use Rattle.rd_store.specs.Spelled.{SpellDesk, HaveOwnRowids, desk_of, index_of}
 -- The database has the tables of a desk, and their rows spell this one, and an index of which this is true.
 pub record IsOfWith (desk : Desk) (Index : FinMap file_cmp Found → Type 0) (db : Database) : Type 0 where
   pub schema : db.schema ≡ desk_schema
-  pub rows : SpellDesk db.trees
+  pub rows : SpellDesk 2 db.trees
   pub rowids : HaveOwnRowids db.trees
   pub sound : IsDatabase db
   pub is : desk_of db.trees ≡ desk
@@ -48,6 +51,20 @@ pub record RestsOver (over : Schema) (s : State) : Type 0 where
   pub schema : s.now.schema ≡ over
   pub settled : s.committed ≡ s.now
   pub autocommit : s.in_transaction ≡ false
+
+-- The same over the tables that each version has, and what may follow them.
+pub record HasCommonTables (s : State) : Type 0 where
+  pub more : List Table
+  pub rests : RestsOver (desk_with more) s
+
+abbrev pub HoldsCommonTables : State → Type 0
+HoldsCommonTables s = IsTrue s.is_open → HasCommonTables s
+
+-- The same over tables of which the text asks something, and changes nothing.
+pub record IsReadable (text : List ℕ) (s : State) : Type 0 where
+  pub over : Schema
+  pub rests : RestsOver over s
+  pub plain : IsPlain (understood over text)
 
 -- between two calls they are the tables of a desk
 abbrev pub HasTables : State → Type 0

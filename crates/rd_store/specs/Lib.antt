@@ -2,10 +2,12 @@ pub mod State
 pub mod Codes
 pub mod Index
 pub mod Lawful
+pub mod Marks
 pub mod Spelled
 pub mod Held
 pub mod Shown
 pub mod Created
 pub mod Cells
 pub mod Opened
+pub mod Migrated
 pub mod RulesFor

@@ -1,5 +1,5 @@
 -- When a database is that of a desk, and why it is not opened as one.
-use Rattle.std.specs.Prelude.{◌≡◌, ◌≢◌, ◌↔◌, ℕ, pos, List, true, false, Some, IsSome, IsTrue, Result, Ok, Err, IfErr, OnOk, MatchBool, ⊤}
+use Rattle.std.specs.Prelude.{◌≡◌, ◌≢◌, ◌↔◌, ℕ, pos, List, length, Bool, true, false, Option, Some, None, IsSome, option_map, IsTrue, Result, Ok, Err, IfOk, IfErr, MatchBool, ⊤}
 use Rattle.std.specs.Ordering.{nat_cmp}
 use Rattle.std.specs.FinMap.{FinMap, get}
 use Rattle.sqlite.specs.declared.types.Value.TheVariants.{Int}
@@ -15,6 +15,8 @@ use Rattle.sqlite_rules.specs.Lists.{Has}
 use Rattle.sqlite.specs.Schema.{Schema}
 use Rattle.sqlite_schema.specs.declared.schema.Index.{Index}
 use Rattle.sqlite_schema.specs.declared.schema.View.{View}
+use Rattle.rd_geometry.specs.Blocks.{CBM_BLOCKS}
+use Rattle.rd_geometry.specs.declared.kind.Kind.TheVariants.{D64}
 use Rattle.rd_policy.specs.Days.{IsDay}
 use Rattle.rd_policy.specs.Rules.{IsRule}
 use Rattle.rd_policy.specs.declared.audience.Audience.TheVariants.{Staff}
@@ -26,24 +28,31 @@ use Rattle.rd_tables.specs.Schemas.{desk_schema, has_desk_columns, has_foreign_d
 use Rattle.rd_volume.specs.declared.found.Found.{Found}
 use Rattle.rd_tables.specs.Sheets.{HaveRowids, Spells, SpellLawful, map_of, seen}
 use Rattle.rd_store.specs.declared.faults.OpenFault.{OpenFault}
-use Rattle.rd_store.specs.declared.faults.OpenFault.TheVariants.{NotADesk, Version, Inconsistent, Sql}
+use Rattle.rd_store.specs.declared.faults.OpenFault.TheVariants.{NotADesk, Version as OtherVersion, Inconsistent, Sql}
 use Rattle.rd_store.specs.declared.opening.Listing.{Listing}
 use Rattle.rd_store.specs.declared.opening.Listing.TheVariants as all
+use Rattle.rd_store.specs.declared.version.Version.{Version}
+use Rattle.rd_store.specs.declared.version.Version.TheVariants.{First, Second}
 use Rattle.rd_store.specs.declared.rows.ImageRow.{ImageRow}
 use Rattle.rd_store.specs.declared.rows.Outcome.{Outcome}
 use Rattle.rd_store.specs.State.{Place, Terms, Checkup, rule_of}
 use Rattle.rd_store.specs.Lawful.{IsDeed, IsImage, IsKey, IsLawful}
 use Rattle.rd_store.specs.Cells.{is_one_of}
-use Rattle.rd_store.specs.Index.{AreFilesIn, IsIndexOf}
-use Rattle.rd_store.specs.Spelled.{SpellDesk, HasVersion, desk_of, index_of, deed_sheet, image_sheet, rule_sheet, key_sheet, check_sheet, file_sheet}
+use Rattle.rd_store.specs.Index.{AreFilesIn, IsFileIn, IsIndexOf}
+use Rattle.rd_store.specs.Marks.{with_marks}
+use Rattle.rd_store.specs.Spelled.{SpellDesk, HasVersion, desk_of, images_of, index_of, deed_sheet, image_sheet, marks_sheet, rule_sheet, key_sheet, check_sheet, file_sheet}
 use Rattle.rd_store.specs.Created.{IsUntouched}
-use Rattle.rd_store.specs.Held.{RestsOver, IsDeskAt, IsOpen, IsClean, Lasts, LeavesOld, LeavesOnly, LeavesOpen, Stays, desk as desk_at}
+use Rattle.rd_store.specs.Held.{RestsOver, HasTables, HoldsTables, HoldsCommonTables, Holds, IsOpen, IsClean, Lasts, LeavesOld, LeavesOnly, LeavesOpen, Stays, desk as desk_at}
 
--- The rows spell a desk, it is a lawful one, and the index is that of its images.
-pub record IsConsistent (trees : Trees) : Type 0 where
-  pub spelled : SpellDesk trees
+-- The rows spell a desk of this version, it is a lawful one, and the index is that of its images.
+pub record IsConsistentAs (number : ℕ) (trees : Trees) : Type 0 where
+  pub spelled : SpellDesk number trees
   pub lawful : IsLawful (desk_of trees)
-  pub index : IsIndexOf (map_of image_sheet (trees 2)) (index_of trees)
+  pub index : IsIndexOf (images_of trees) (index_of trees)
+
+-- and this version is 2
+abbrev pub IsConsistent : Trees → Type 0
+IsConsistent = IsConsistentAs 2
 
 -- the desk's own table comes first, as it is declared in each desk
 pub record HasDeskFirst (schema : Schema) : Type 0 where
@@ -55,8 +64,8 @@ pub record HasDeskFirst (schema : Schema) : Type 0 where
 -- what is told of a database by each refusal; why Sql is answered is not told
 abbrev pub Refuses : OpenFault → Database → Type 0
 Refuses NotADesk db = may_be_desk db.schema ≡ false
-Refuses Version db = (has_desk_columns db.schema ≡ true) × HasDeskFirst db.schema × ¬ HasVersion 1 (db.trees 0)
-Refuses Inconsistent db = (db.schema ≡ desk_schema) × HasVersion 1 (db.trees 0) × ¬ IsConsistent db.trees
+Refuses OtherVersion db = (has_desk_columns db.schema ≡ true) × HasDeskFirst db.schema × ¬ HasVersion 2 (db.trees 0)
+Refuses Inconsistent db = (db.schema ≡ desk_schema) × HasVersion 2 (db.trees 0) × ¬ IsConsistent db.trees
 Refuses Sql db = may_be_desk db.schema ≡ true
 
 -- A desk was opened: a table `desk` with its columns stands, and where the connection is open, all tables are
@@ -105,6 +114,10 @@ pub record IsSettledAt (s : State) : Type 0 where
   pub settled : IsTrue s.is_open → s.committed ≡ s.now
   pub autocommit : s.in_transaction ≡ false
 
+-- the desk that it shows is a lawful one
+abbrev pub IsHeld : Database → Type 0
+IsHeld db = Holds (desk_of db.trees) db
+
 -- the rows keep what their tables declare
 abbrev pub IsSoundAt : State → Type 0
 IsSoundAt s = IsTrue s.is_open → IsDatabase s.now
@@ -112,7 +125,7 @@ IsSoundAt s = IsTrue s.is_open → IsDatabase s.now
 -- what each refusal by a test of rows says: after Inconsistent it does not hold
 abbrev pub Denied : Type 0 → OpenFault → Type 0
 Denied P NotADesk = ⊥
-Denied P Version = ⊥
+Denied P OtherVersion = ⊥
 Denied P Inconsistent = ¬ P
 Denied P Sql = ⊤
 
@@ -137,17 +150,27 @@ pub record TestsPart {S T : Type 0} (g : Ghosts S) (old new : Held S) (result : 
 abbrev pub Tests : {S T : Type 0} → Ghosts S → Held S → Held S → Result T OpenFault → (Trees → Type 0) → Type 0
 Tests g old new result P = TestsPart g old new result P P
 
--- A test of a database: after Ok it is that of a desk, and each refusal says why it is none.
-pub record TestsDesk {S T : Type 0} (g : Ghosts S) (old new : Held S) (result : Result T OpenFault) : Type 0 where
+-- A test of the database that a connection shows: what it says after Ok, and by each refusal.
+pub record TestsDatabase {S T : Type 0} (g : Ghosts S) (old new : Held S) (result : Result T OpenFault) (Good : T → Database → Type 0) (Bad : OpenFault → Database → Type 0) : Type 0 where
   pub stays : Stays g old new
-  pub desk : IsOpen g new → OnOk result (IsDeskAt (state g old))
-  pub refused : IsOpen g new → IfErr result (λ fault. Refuses fault (state g old).now)
+  pub holds : IsOpen g new → IfOk result (λ value. Good value (state g old).now)
+  pub refused : IsOpen g new → IfErr result (λ fault. Bad fault (state g old).now)
   pub ends_open : LeavesOpen g new result
   pub refuses : RefusesOpen g new result
+
+-- after Ok it is that of a desk
+abbrev pub TestsDesk : {S T : Type 0} → Ghosts S → Held S → Held S → Result T OpenFault → Type 0
+TestsDesk g old new result = TestsDatabase g old new result (λ value. IsHeld) Refuses
 
 -- the numbers are the keys of the map
 abbrev pub AreKeys : {X : Type 0} → FinMap nat_cmp X → List ℕ → Type 0
 AreKeys map numbers = (n : ℕ) → Has numbers n ↔ IsSome (get map n)
+
+-- what is told of the version that the one row says
+abbrev pub IsSaid : Option Version → List Row → Type 0
+IsSaid (Some First) rows = HasVersion 1 rows
+IsSaid (Some Second) rows = HasVersion 2 rows
+IsSaid None rows = ¬ HasVersion 1 rows × ¬ HasVersion 2 rows
 
 -- ---- the listing of a table
 
@@ -158,6 +181,7 @@ listing_text all.Rules = ask.all_rules_text
 listing_text all.Keys = ask.all_keys_text
 listing_text all.Checks = ask.all_checks_text
 listing_text all.Files = ask.all_files_text
+listing_text all.Marks = ask.all_marks_text
 
 abbrev pub listing_query : Listing → Query
 listing_query all.Deeds = ask.all_deeds_query
@@ -166,6 +190,7 @@ listing_query all.Rules = ask.all_rules_query
 listing_query all.Keys = ask.all_keys_query
 listing_query all.Checks = ask.all_checks_query
 listing_query all.Files = ask.all_files_query
+listing_query all.Marks = ask.all_marks_query
 
 abbrev pub listing_tree : Listing → ℕ
 listing_tree all.Deeds = 1
@@ -174,6 +199,17 @@ listing_tree all.Rules = 3
 listing_tree all.Keys = 5
 listing_tree all.Checks = 7
 listing_tree all.Files = 9
+listing_tree all.Marks = 11
+
+-- the tables that a listing wants
+abbrev pub HoldsListed : Listing → State → Type 0
+HoldsListed all.Deeds = HoldsCommonTables
+HoldsListed all.Images = HoldsCommonTables
+HoldsListed all.Rules = HoldsCommonTables
+HoldsListed all.Keys = HoldsCommonTables
+HoldsListed all.Checks = HoldsCommonTables
+HoldsListed all.Files = HoldsCommonTables
+HoldsListed all.Marks = HoldsTables
 
 -- ---- the rows of one table spell lawful entries
 
@@ -206,9 +242,60 @@ IsCheckOf accessions e = IsDay e.0.day × Has accessions e.0.acc
 abbrev pub LawfulChecks : List ℕ → Trees → Type 0
 LawfulChecks accessions trees = SpellLawful check_sheet (IsCheckOf accessions) (trees 7)
 
--- the index is that of the images
-abbrev pub LawfulFiles : Trees → Type 0
-LawfulFiles trees = Spells file_sheet (trees 9) × IsIndexOf (map_of image_sheet (trees 2)) (index_of trees)
+-- error bytes, one for each block, of one of these accessions
+abbrev pub AreMarksOf : List ℕ → ℕ × List ℕ → Type 0
+AreMarksOf accessions e = (length e.1 ≡ CBM_BLOCKS) × Has accessions e.0
+
+abbrev pub LawfulMarks : List ℕ → Trees → Type 0
+LawfulMarks accessions trees = SpellLawful marks_sheet (AreMarksOf accessions) (trees 11)
+
+-- Error bytes are asked for where an accession is one of those that have any.
+abbrev pub marks_if : Bool → Option (List ℕ) → Option (List ℕ)
+marks_if false marks = None
+marks_if true marks = marks
+
+abbrev pub image_if : Bool → Trees → ℕ → Option ImageRow
+image_if is_marked trees acc = option_map (with_marks (marks_if is_marked (get (map_of marks_sheet (trees 11)) acc))) (get (map_of image_sheet (trees 2)) acc)
+
+abbrev pub is_among : List ℕ → ℕ → Bool
+is_among numbers n = is_one_of numbers (Int (pos n))
+
+-- the image of an accession, where these have error bytes
+abbrev pub image_among : List ℕ → Trees → ℕ → Option ImageRow
+image_among marked trees acc = image_if (is_among marked acc) trees acc
+
+-- A D64 stands at the accession.
+pub record HasDisk (acc : ℕ) (trees : Trees) : Type 0 where
+  pub image : ImageRow
+  pub stands : get (map_of image_sheet (trees 2)) acc ≡ Some image
+  pub kind : image.kind ≡ D64
+
+-- an accession with error bytes has a D64
+abbrev pub HasDiskIf : Bool → ℕ → Trees → Type 0
+HasDiskIf is_marked acc trees = IsTrue is_marked → HasDisk acc trees
+
+-- error bytes can be asked for
+abbrev pub HoldsMarksIf : Bool → State → Type 0
+HoldsMarksIf is_marked s = IsTrue is_marked → IsTrue s.is_open → HasTables s × Spells marks_sheet (s.now.trees 11)
+
+abbrev pub HoldsMarksOf : List ℕ → State → Type 0
+HoldsMarksOf marked s = (acc : ℕ) → HoldsMarksIf (is_among marked acc) s
+
+-- the index has the files of an image, each at its slot, and nothing else of its accession
+abbrev pub IsIndexAt : Option ImageRow → ℕ → Trees → Type 0
+IsIndexAt image acc trees = (slot : ℕ) → IsFileIn image slot (get (index_of trees) (record { acc = acc; slot = slot }))
+
+-- The rows of the index spell it, and at one accession it is that of its image.
+pub record IsFiledAt (is_marked : Bool) (acc : ℕ) (trees : Trees) : Type 0 where
+  pub spells : Spells file_sheet (trees 9)
+  pub disk : HasDiskIf is_marked acc trees
+  pub index : IsIndexAt (image_if is_marked trees acc) acc trees
+
+-- The index is that of the images, of which these have error bytes, and a D64 stands at each of those.
+pub record LawfulFiles (marked accessions : List ℕ) (trees : Trees) : Type 0 where
+  pub spells : Spells file_sheet (trees 9)
+  pub disks : (acc : ℕ) → Has accessions acc → HasDiskIf (is_among marked acc) acc trees
+  pub index : (acc : ℕ) → IsIndexAt (image_among marked trees acc) acc trees
 
 -- each row of the index is for one of these accessions
 abbrev pub AreFiledUnder : List ℕ → Trees → Type 0
@@ -223,21 +310,27 @@ abbrev pub HaveAccessions : Trees → Type 0
 HaveAccessions trees = (row : Row) → Has (trees 9) row → (acc : ℕ) × (column row 1 ≡ Int (pos acc))
 
 -- Of an accession the rows of the index are those of the files of its image.
-pub record HasFiles (acc : ℕ) (trees : Trees) : Type 0 where
+pub record HasFiles (is_marked : Bool) (acc : ℕ) (trees : Trees) : Type 0 where
   pub files : List Found
-  pub are : AreFilesIn (get (map_of image_sheet (trees 2)) acc) files
+  pub disk : HasDiskIf is_marked acc trees
+  pub are : AreFilesIn (image_if is_marked trees acc) files
   pub each : (row : Row) → Has (trees 9) row → column row 1 ≡ Int (pos acc) → (file : Found) × Has files file × (seen file_sheet.places row ≡ file_sheet.columns (record { acc = acc; slot = file.slot }, file))
   pub all : (file : Found) → Has files file → (row : Row) × Has (trees 9) row × (seen file_sheet.places row ≡ file_sheet.columns (record { acc = acc; slot = file.slot }, file))
 
 -- and so they are of each of these accessions
-abbrev pub HaveFiles : List ℕ → Trees → Type 0
-HaveFiles accessions trees = (acc : ℕ) → Has accessions acc → HasFiles acc trees
+abbrev pub HaveFiles : List ℕ → List ℕ → Trees → Type 0
+HaveFiles marked accessions trees = (acc : ℕ) → Has accessions acc → HasFiles (is_among marked acc) acc trees
 
 -- ---- and those of several tables
 
 -- the deeds, and images each of a deed that stands
 abbrev pub LawfulGiven : Trees → Type 0
 LawfulGiven trees = LawfulDeeds trees × SpellLawful image_sheet (λ e. IsImage e.0 e.1 × IsSome (get (map_of deed_sheet (trees 1)) e.1.deed)) (trees 2)
+
+-- the accession or the deed of a rule stands
+abbrev pub StandsIn : Trees → Band → ℕ → Type 0
+StandsIn trees Takedown scope = IsSome (get (map_of image_sheet (trees 2)) scope)
+StandsIn trees Deed scope = IsSome (get (map_of deed_sheet (trees 1)) scope)
 
 -- the numbers of the deeds and the accessions
 abbrev pub AreNumbers : Trees → List ℕ → List ℕ → Type 0
@@ -250,3 +343,10 @@ HaveOtherRowids trees = HaveRowids (trees 3) × HaveRowids (trees 5) × HaveRowi
 -- the rules, the desk keys and the checks
 abbrev pub LawfulOthers : List ℕ → List ℕ → Trees → Type 0
 LawfulOthers accessions deeds trees = LawfulRules accessions deeds trees × LawfulKeys trees × LawfulChecks accessions trees
+
+-- The rows of the tables that each version has, but for the index, are those of a desk.
+pub record LawfulCommon (trees : Trees) : Type 0 where
+  pub given : LawfulGiven trees
+  pub rules : SpellLawful rule_sheet (λ e. IsRule (rule_of e) × StandsIn trees e.0.band e.0.scope) (trees 3)
+  pub keys : LawfulKeys trees
+  pub checks : SpellLawful check_sheet (λ e. IsDay e.0.day × IsSome (get (map_of image_sheet (trees 2)) e.0.acc)) (trees 7)

@@ -9,7 +9,9 @@ use Rattle.rd_store.specs.declared.images.Heading.{Heading}
 use Rattle.rd_store.specs.declared.rows.Accession.{Accession}
 use Rattle.rd_store.specs.declared.rows.DeedRow.{DeedRow}
 use Rattle.rd_store.specs.declared.rows.ImageRow.{ImageRow}
+use Rattle.rd_store.specs.Cells.{is_one_of}
 use Rattle.rd_store.specs.Codes.{kind_code, kind_in, audience_code}
+use Rattle.rd_store.specs.Marks.{kind_with}
 use Rattle.rd_store.specs.Spelled.{key_sheet}
 
 abbrev pub deed_shown : DeedRow → Row
@@ -17,6 +19,17 @@ deed_shown deed = Text deed.donor ∷ Int deed.signed ∷ []
 
 abbrev pub image_shown : ImageRow → Row
 image_shown image = Int (pos (kind_code image.kind)) ∷ Int (pos image.deed) ∷ Blob image.digest ∷ Blob image.bytes ∷ []
+
+-- an image as its row tells it: with error bytes or without them it is a D64
+abbrev pub as_row : ImageRow → ImageRow
+as_row image = record image { kind = kind_in (kind_code image.kind) }
+
+abbrev pub marks_shown : List ℕ → Row
+marks_shown marks = Blob marks ∷ []
+
+-- that there are any
+abbrev pub one_shown : List ℕ → Row
+one_shown marks = Int (pos 1) ∷ []
 
 -- an image without its bytes
 abbrev pub heading_of : ImageRow → Heading
@@ -48,8 +61,12 @@ registered e = (e.0, accession_of e.1)
 abbrev pub registered_shown : ℕ × ImageRow → Row
 registered_shown e = Int (pos e.0) ∷ given_shown e.1
 
-abbrev pub registered_in : Row → ℕ × Accession
-registered_in row = (natural (column row 0), record { kind = kind_in (natural (column row 1)); deed = natural (column row 2) })
+-- the accession that a row shows, where these have error bytes
+abbrev pub registered_in : List ℕ → Row → ℕ × Accession
+registered_in marked row = (
+  natural (column row 0),
+  record { kind = kind_with (is_one_of marked (column row 0)) (kind_in (natural (column row 1))); deed = natural (column row 2) },
+)
 
 -- a key of the staff with another digest
 abbrev pub IsOtherKey : List ℕ → List ℕ × Audience → Type 0

@@ -1,5 +1,5 @@
 -- How the rows of the tables spell a desk.
-use Rattle.std.specs.Prelude.{◌≡◌, ℕ, pos, List, [], ◌∷◌, map, option_map}
+use Rattle.std.specs.Prelude.{◌≡◌, ◌==◌, ℕ, pos, List, [], ◌∷◌, map, cond, option_map}
 use Rattle.std.specs.Ordering.{nat_cmp}
 use Rattle.std.specs.FinMap.{FinMap}
 use Rattle.sqlite.specs.declared.types.Value.TheVariants.{Int, Text, Blob}
@@ -10,12 +10,13 @@ use Rattle.sqlite_value.specs.Order.{bytes}
 use Rattle.sqlite_rules.specs.Edit.{id_in}
 use Rattle.rd_policy.specs.declared.audience.Audience.{Audience}
 use Rattle.rd_volume.specs.declared.found.Found.{Found}
-use Rattle.rd_tables.specs.Sheets.{Sheet, Spells, HaveRowids, map_of, natural}
+use Rattle.rd_tables.specs.Sheets.{Sheet, Spells, SpellLawful, HaveRowids, map_of, natural}
 use Rattle.rd_store.specs.declared.rows.DeedRow.{DeedRow}
 use Rattle.rd_store.specs.declared.rows.ImageRow.{ImageRow}
 use Rattle.rd_store.specs.declared.rows.Outcome.{Outcome}
 use Rattle.rd_store.specs.Codes.{kind_code, kind_in, band_code, band_in, effect_code, effect_in, audiences_code, audiences_in, audience_code, audience_in, outcome_code, outcome_in, how, number, word, select_in, day_in, number_in, units_code, units_in, class_code, class_in}
 use Rattle.rd_store.specs.Index.{FileAt, file_cmp}
+use Rattle.rd_store.specs.Marks.{AreMarksIn, joined}
 use Rattle.rd_store.specs.State.{Desk, Place, Terms, Checkup, place_cmp, digest_cmp, checkup_cmp}
 
 abbrev pub deed_sheet : Sheet ℕ DeedRow
@@ -35,6 +36,15 @@ image_sheet = record {
     natural (column row 0),
     record { kind = kind_in (natural (column row 1)); deed = natural (column row 2); digest = bytes (column row 3); bytes = bytes (column row 4) },
   );
+}
+
+-- error bytes by accession
+abbrev pub marks_sheet : Sheet ℕ (List ℕ)
+marks_sheet = record {
+  places = 0 ∷ 2 ∷ [];
+  cmp = nat_cmp;
+  columns = λ e. Int (pos e.0) ∷ Blob e.1 ∷ [];
+  entry = λ row. (natural (column row 0), bytes (column row 1));
 }
 
 abbrev pub rule_sheet : Sheet Place Terms
@@ -102,29 +112,39 @@ file_sheet = record {
   entry = λ row. (record { acc = natural (column row 0); slot = natural (column row 1) }, file_in (later row));
 }
 
--- the desk has its one row, which says this version
+-- the desk has its one row, with the id 1, which says this version
 abbrev pub HasVersion : ℕ → List Row → Type 0
-HasVersion version rows = map (λ row. column row 2) rows ≡ Int (pos version) ∷ []
+HasVersion version rows = map (λ row. column row 0 ∷ column row 2 ∷ []) rows ≡ (Int (pos 1) ∷ Int (pos version) ∷ []) ∷ []
 
--- The rows spell a desk of version 1, and an index.
-pub record SpellDesk (trees : Trees) : Type 0 where
-  pub version : HasVersion 1 (trees 0)
+-- the images, each with its error bytes
+abbrev pub images_of : Trees → FinMap nat_cmp ImageRow
+images_of trees = joined (map_of image_sheet (trees 2)) (map_of marks_sheet (trees 11))
+
+-- The rows spell a desk of this version, and an index.
+pub record SpellDesk (number : ℕ) (trees : Trees) : Type 0 where
+  pub version : HasVersion number (trees 0)
   pub deeds : Spells deed_sheet (trees 1)
   pub images : Spells image_sheet (trees 2)
   pub rules : Spells rule_sheet (trees 3)
   pub keys : Spells key_sheet (trees 5)
   pub checks : Spells check_sheet (trees 7)
   pub files : Spells file_sheet (trees 9)
+  pub marks : SpellLawful marks_sheet (AreMarksIn (map_of image_sheet (trees 2))) (trees 11)
 
 -- and these are the desk and the index
 abbrev pub desk_of : Trees → Desk
 desk_of trees = record {
   deeds = map_of deed_sheet (trees 1);
-  images = map_of image_sheet (trees 2);
+  images = images_of trees;
   rules = map_of rule_sheet (trees 3);
   keys = map_of key_sheet (trees 5);
   checks = map_of check_sheet (trees 7);
 }
+
+-- The tables of version 1 tell no error bytes: they spell the desk that the same rows spell in the tables of
+-- version 2, where no image has error bytes.
+abbrev pub unmarked : Trees → Trees
+unmarked trees = λ tree. cond (tree == 11) [] (trees tree)
 
 abbrev pub index_of : Trees → FinMap file_cmp Found
 index_of trees = map_of file_sheet (trees 9)

@@ -21,7 +21,7 @@ pub(crate) fn has_number(row: &Row, at: usize, low: u32, high: u32) -> bool
 }
 
 /// Whether an ascending list has a number.
-fn is_among(number: i64, numbers: &[u32]) -> bool
+pub(crate) fn is_among(number: i64, numbers: &[u32]) -> bool
     requires { IsNonDecreasing numbers.now }
     ensures { result ≡ is_one_of numbers.now (Int number) }
 {

@@ -7,13 +7,13 @@ use rd_geometry::Kind;
 use rd_policy::{Audience, Audiences, Band, Effect, Select};
 use std::alloc::Global;
 
-/// The number of a kind in the tables.
+/// The number of a kind in the tables. A D64 with error bytes has that of one without.
 pub(crate) fn of_kind(kind: Kind) -> u32
     ensures { result ≡ kind_code kind }
 {
     match kind {
         Kind::Cpm8 => 0,
-        Kind::D64 => 1,
+        Kind::D64 | Kind::D64e => 1,
     }
 }
 

@@ -1,4 +1,4 @@
-ghost use Rattle.std.specs.Prelude.{◌≡◌, ◌<◌, ◌+◌, [], false, get_or};
+ghost use Rattle.std.specs.Prelude.{◌≡◌, ◌<◌, ◌≤◌, ◌+◌, [], false, get_or};
 ghost use Rattle.sqlite.specs.Held.{state};
 ghost use Rattle.rd_tables.specs.Statements.{create_texts};
 ghost use Rattle.rd_store.specs.Created.{IsAt, IsMade, Turns, empty_desk, new_desk};
@@ -9,8 +9,8 @@ use rd_policy::Audience;
 use sqlite::{Alter, Connection, Error, Transaction};
 
 /// The text that declares a table, in the order in which they are made.
-fn create_text(at: usize) -> &'static str
-    requires { at < 7 }
+pub(crate) fn create_text(at: usize) -> &'static str
+    requires { at < 8 }
     ensures { result.now ≡ get_or create_texts at [] }
 {
     match at {
@@ -26,26 +26,28 @@ fn create_text(at: usize) -> &'static str
             "CREATE TABLE badge (digest BLOB NOT NULL PRIMARY KEY, audience INTEGER NOT NULL CHECK (audience BETWEEN 1 AND 2)) STRICT",
         5 =>
             "CREATE TABLE checked (acc INTEGER NOT NULL, day INTEGER NOT NULL, outcome INTEGER NOT NULL CHECK (outcome BETWEEN 0 AND 1), PRIMARY KEY (acc, day)) STRICT",
-        _ =>
+        6 =>
             "CREATE TABLE found (acc INTEGER NOT NULL, slot INTEGER NOT NULL, name TEXT NOT NULL, ty TEXT NOT NULL, user_no INTEGER, served INTEGER NOT NULL CHECK (served BETWEEN 0 AND 1), size INTEGER, faults INTEGER NOT NULL CHECK (faults BETWEEN 0 AND 127), units BLOB NOT NULL, last_len INTEGER NOT NULL, PRIMARY KEY (acc, slot)) STRICT",
+        _ => "CREATE TABLE marks (acc INTEGER PRIMARY KEY, bytes BLOB NOT NULL) STRICT",
     }
 }
 
 /// Makes one table.
 fn make_table<S: Alter>(tx: &mut Transaction<'_, S>, at: usize) -> Result<usize, Error>
-    requires { at < 7 }
+    requires { at < 8 }
     ensures same_reference { tx.new.conn.ghost_name ≡ tx.old.conn.ghost_name }
     ensures moves { Moves S.Store tx.old.conn.now tx.new.conn.now (IsMade at) (IsMade (at + 1)) result }
 {
     tx.execute(create_text(at), &[])
 }
 
-/// Makes all tables.
-fn make_tables<S: Alter>(tx: &mut Transaction<'_, S>) -> Result<(), Error>
+/// Makes the first so many of the tables.
+fn make_tables<S: Alter>(tx: &mut Transaction<'_, S>, count: usize) -> Result<(), Error>
+    requires { count ≤ 8 }
     ensures same_reference { tx.new.conn.ghost_name ≡ tx.old.conn.ghost_name }
-    ensures moves { Moves S.Store tx.old.conn.now tx.new.conn.now (IsMade 0) (IsMade 7) result }
+    ensures moves { Moves S.Store tx.old.conn.now tx.new.conn.now (IsMade 0) (IsMade count) result }
 {
-    for at in 0..7 {
+    for at in 0..count {
         make_table(tx, at)?;
     }
     Ok(())
@@ -54,9 +56,9 @@ fn make_tables<S: Alter>(tx: &mut Transaction<'_, S>) -> Result<(), Error>
 /// Writes the version of the tables.
 fn insert_version<S: Alter>(tx: &mut Transaction<'_, S>) -> Result<usize, Error>
     ensures same_reference { tx.new.conn.ghost_name ≡ tx.old.conn.ghost_name }
-    ensures moves { Moves S.Store tx.old.conn.now tx.new.conn.now (IsMade 7) (IsOf empty_desk) result }
+    ensures moves { Moves S.Store tx.old.conn.now tx.new.conn.now (IsMade 8) (IsOf empty_desk) result }
 {
-    tx.execute("INSERT INTO desk (id, version) VALUES (1, 1)", &[])
+    tx.execute("INSERT INTO desk (id, version) VALUES (1, 2)", &[])
 }
 
 /// Makes a new desk in a blank database.
@@ -64,7 +66,7 @@ fn fill<S: Alter>(tx: &mut Transaction<'_, S>, staff: &[u8; 32]) -> Result<(), E
     ensures same_reference { tx.new.conn.ghost_name ≡ tx.old.conn.ghost_name }
     ensures moves { Moves S.Store tx.old.conn.now tx.new.conn.now (IsMade 0) (IsOf (new_desk staff.now)) result }
 {
-    make_tables(tx)?;
+    make_tables(tx, 8)?;
     insert_version(tx)?;
     insert_key(tx, staff, Audience::Staff)?;
     Ok(())
@@ -78,5 +80,16 @@ pub(crate) fn write_desk<S: Alter>(conn: &mut Connection<S>, staff: &[u8; 32]) -
 {
     let mut tx = conn.transaction();
     fill(&mut tx, staff)?;
+    tx.commit()
+}
+
+/// Makes the tables of version 1 in a blank database, in one transaction.
+pub(crate) fn make_first_tables<S: Alter>(conn: &mut Connection<S>) -> Result<(), Error>
+    requires mode { conn.old.in_transaction ≡ false }
+    requires start { IsOpen S.Store conn.old → IsAt (IsMade 0) (state S.Store conn.old) }
+    ensures turns { Turns S.Store conn.old conn.new (IsMade 7) result }
+{
+    let mut tx = conn.transaction();
+    make_tables(&mut tx, 7)?;
     tx.commit()
 }

@@ -75,7 +75,7 @@ pub(crate) fn bytes_at(alloc: Global, row: &Row, at: usize) -> Result<Vec<u8>, S
     }
 }
 
-/// The kind with a number.
+/// The kind with a number, without error bytes.
 pub(crate) fn kind(code: u32) -> Kind
     ensures { result ≡ kind_in code }
 {

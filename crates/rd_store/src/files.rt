@@ -12,14 +12,14 @@ ghost use Rattle.rd_tables.specs.Asked.{IsPicked};
 ghost use Rattle.rd_tables.specs.Queries.{files_query};
 ghost use Rattle.rd_tables.specs.Sheets.{natural};
 ghost use Rattle.rd_store.specs.Codes.{number_in, units_code, units_in};
-ghost use Rattle.rd_store.specs.Held.{Asks, HoldsDesk, HoldsTables, IsOfWith, Moves, desk};
+ghost use Rattle.rd_store.specs.Held.{Asks, HoldsCommonTables, HoldsDesk, IsOfWith, Moves, desk};
 ghost use Rattle.rd_store.specs.Index.{AreFilesIn, IsFileIn, IsFiledTo};
 ghost use Rattle.rd_store.specs.Spelled.{file_in, file_shown, index_of};
 
 use crate::codes;
 use crate::decode::{class, number_at, some_number_at, text_at, units};
 use crate::faults::StoreFault;
-use crate::read::read_all;
+use crate::read::{read_all, read_over};
 use rd_geometry::{Items, Text};
 use rd_volume::Found;
 use sqlite::types::{ToSql, ValueRef};
@@ -31,12 +31,12 @@ pub(crate) fn file_rows<S: Alter>(
     conn: &mut Connection<S>,
     acc: u32,
 ) -> Result<Vec<Row>, StoreFault>
-    requires tables { HoldsTables (state S.Store conn.old) }
+    requires tables { HoldsCommonTables (state S.Store conn.old) }
     ensures asks { Asks S.Store conn.old conn.new result StoreFault.Sql (λ rows.
         IsPicked files_query (Int (pos acc) ∷ []) ((state S.Store conn.old).now.trees 9) rows.items) }
 {
     let key = acc.to_sql();
-    read_all(
+    read_over(
         conn,
         "SELECT slot, name, ty, user_no, served, size, faults, units, last_len FROM found WHERE acc = ?1 ORDER BY slot",
         &[key],

@@ -1,26 +1,30 @@
-ghost use Rattle.std.specs.Prelude.{◌≡◌, ◌∷◌, [], IfOk, IfErr, IsSome, Option, None, map, option_map, pos, false};
+ghost use Rattle.std.specs.Prelude.{◌≡◌, ◌∷◌, [], IfOk, IfErr, IsSome, Option, None, length, map, option_map, pos, false};
 ghost use Rattle.std.specs.FinMap.{entries, get, keys};
+ghost use Rattle.std.specs.List.Sorted.{IsNonDecreasing};
 ghost use Rattle.std.specs.Option.{option_to_list};
 ghost use Rattle.sqlite.specs.Held.{state};
 ghost use Rattle.sqlite.specs.declared.types.Value.TheVariants.{Int};
 ghost use Rattle.sqlite.specs.Order.{column};
+ghost use Rattle.rd_geometry.specs.Kinds.{size_of};
 ghost use Rattle.rd_volume.specs.Volumes.{AreFounds};
 ghost use Rattle.rd_store.specs.declared.rows.ImageRow.{ImageRow};
 ghost use Rattle.rd_tables.specs.Asked.{IsPicked};
 ghost use Rattle.rd_tables.specs.Queries.{image_query};
 ghost use Rattle.rd_tables.specs.Sheets.{Spells, map_of, natural};
-ghost use Rattle.rd_store.specs.Held.{Asks, Changes, HoldsDesk, HoldsTables, IsOfWith, IsOpen, Judges, LacksImage, Moves, desk};
-ghost use Rattle.rd_store.specs.Index.{AreFilesIn, IsFiledTo, with_new_image};
+ghost use Rattle.rd_store.specs.Held.{Asks, Changes, HoldsCommonTables, HoldsDesk, IsOfWith, IsOpen, Judges, LacksImage, Moves, desk};
+ghost use Rattle.rd_store.specs.Index.{IsFiledTo, with_new_image};
 ghost use Rattle.rd_store.specs.Lawful.{IsImage};
-ghost use Rattle.rd_store.specs.Shown.{accession_of, accession_shown, given_shown, image_shown, image_with, heading_of, heading_shown, registered, registered_in, registered_shown};
+ghost use Rattle.rd_store.specs.Shown.{accession_of, as_row, accession_shown, given_shown, image_shown, image_with, heading_of, heading_shown, registered, registered_in, registered_shown};
 ghost use Rattle.rd_store.specs.Spelled.{image_sheet};
 ghost use Rattle.rd_store.specs.State.{HasOtherImage, with_image};
 
 use crate::decode::{bytes_at, digest_at, kind, number_at};
+use crate::cells::has_one_of;
 use crate::faults::StoreFault;
 use crate::files::insert_files;
+use crate::marks::{insert_marks, kind_at, kind_with, marked, marked_image};
 use crate::outside::outside;
-use crate::read::read_all;
+use crate::read::{read_all, read_over};
 use crate::rows::{Accession, ImageRow};
 use crate::{codes, deeds};
 use rd_geometry::{Image, Items, Kind};
@@ -39,21 +43,21 @@ pub(crate) struct Heading {
 
 /// The rows for the image of an accession.
 fn image_rows<S: Alter>(conn: &mut Connection<S>, acc: u32) -> Result<Vec<Row>, StoreFault>
-    requires tables { HoldsTables (state S.Store conn.old) }
+    requires tables { HoldsCommonTables (state S.Store conn.old) }
     ensures asks { Asks S.Store conn.old conn.new result StoreFault.Sql (λ rows.
         IsPicked image_query (Int (pos acc) ∷ []) ((state S.Store conn.old).now.trees 2) rows.items) }
 {
     let key = acc.to_sql();
-    read_all(
+    read_over(
         conn,
         "SELECT kind, deed, digest, bytes FROM image WHERE acc = ?1",
         &[key],
     )
 }
 
-/// The image that a row shows.
+/// The image that a row shows, without error bytes.
 fn read_image(alloc: Global, row: &Row) -> Result<ImageRow, StoreFault>
-    ensures image { IfOk result (λ read. (image : ImageRow) → row.now ≡ image_shown image → read ≡ image) }
+    ensures image { IfOk result (λ read. (image : ImageRow) → row.now ≡ image_shown image → read ≡ as_row image) }
     ensures fault { IfErr result (λ fault. fault ≡ StoreFault.Sql) }
 {
     let kind = kind(number_at(row, 0)?);
@@ -68,9 +72,9 @@ fn read_image(alloc: Global, row: &Row) -> Result<ImageRow, StoreFault>
     })
 }
 
-/// The image that the first of some rows shows, `None` where there are none.
+/// The image that the first of some rows shows, without error bytes; `None` where there are none.
 fn first_image(alloc: Global, rows: &[Row]) -> Result<Option<ImageRow>, StoreFault>
-    ensures image { IfOk result (λ read. (found : Option ImageRow) → rows.now ≡ map image_shown (option_to_list found) → read ≡ found) }
+    ensures image { IfOk result (λ read. (found : Option ImageRow) → rows.now ≡ map image_shown (option_to_list found) → read ≡ option_map as_row found) }
     ensures fault { IfErr result (λ fault. fault ≡ StoreFault.Sql) }
 {
     match rows.first() {
@@ -79,13 +83,14 @@ fn first_image(alloc: Global, rows: &[Row]) -> Result<Option<ImageRow>, StoreFau
     }
 }
 
-/// The image of an accession, `None` where there is none. The rows of the images need not be those of a desk.
-fn image_at<S: Alter>(
+/// The image of an accession without its error bytes, `None` where there is none. The rows of the images need not
+/// be those of a desk.
+pub(crate) fn image_at<S: Alter>(
     alloc: Global,
     conn: &mut Connection<S>,
     acc: u32,
 ) -> Result<Option<ImageRow>, StoreFault>
-    requires tables { HoldsTables (state S.Store conn.old) }
+    requires tables { HoldsCommonTables (state S.Store conn.old) }
     ensures asks { Asks S.Store conn.old conn.new result StoreFault.Sql (λ found.
         Spells image_sheet ((state S.Store conn.old).now.trees 2)
         → found ≡ get (map_of image_sheet ((state S.Store conn.old).now.trees 2)) acc) }
@@ -105,14 +110,18 @@ pub(crate) fn image<S: Alter>(
         found ≡ get (desk S.Store conn.old).images acc) }
     ensures kept { HoldsDesk (state S.Store conn.new) }
 {
-    image_at(alloc, conn, acc)
+    let found = image_at(alloc, conn, acc)?;
+    let Some(row) = found else {
+        return Ok(None);
+    };
+    Ok(Some(marked_image(alloc, conn, acc, row)?))
 }
 
 /// The rows for the image of an accession without its bytes.
 fn heading_rows<S: Alter>(conn: &mut Connection<S>, acc: u32) -> Result<Vec<Row>, StoreFault>
     requires holds { HoldsDesk (state S.Store conn.old) }
     ensures asks { Asks S.Store conn.old conn.new result StoreFault.Sql (λ rows.
-        rows.items ≡ map heading_shown (option_to_list (get (desk S.Store conn.old).images acc))) }
+        rows.items ≡ map heading_shown (option_to_list (get (map_of image_sheet ((state S.Store conn.old).now.trees 2)) acc))) }
     ensures kept { HoldsDesk (state S.Store conn.new) }
 {
     let key = acc.to_sql();
@@ -123,15 +132,32 @@ fn heading_rows<S: Alter>(conn: &mut Connection<S>, acc: u32) -> Result<Vec<Row>
     )
 }
 
-/// What a row shows of an image.
+/// What a row shows of an image, without error bytes.
 fn read_heading(row: &Row) -> Result<Heading, StoreFault>
-    ensures heading { IfOk result (λ read. (image : ImageRow) → row.now ≡ heading_shown image → read ≡ heading_of image) }
+    ensures heading { IfOk result (λ read. (image : ImageRow) → row.now ≡ heading_shown image → read ≡ heading_of (as_row image)) }
     ensures fault { IfErr result (λ fault. fault ≡ StoreFault.Sql) }
 {
     let kind = kind(number_at(row, 0)?);
     let deed = number_at(row, 1)?;
     let digest = digest_at(row, 2)?;
     Ok(Heading { kind, deed, digest })
+}
+
+/// What the row of an accession shows of its image, `None` where there is none.
+fn heading_row<S: Alter>(
+    conn: &mut Connection<S>,
+    acc: u32,
+) -> Result<Option<Heading>, StoreFault>
+    requires holds { HoldsDesk (state S.Store conn.old) }
+    ensures asks { Asks S.Store conn.old conn.new result StoreFault.Sql (λ found.
+        found ≡ option_map heading_of (get (map_of image_sheet ((state S.Store conn.old).now.trees 2)) acc)) }
+    ensures kept { HoldsDesk (state S.Store conn.new) }
+{
+    let rows = heading_rows(conn, acc)?;
+    match rows.first() {
+        Some(row) => Ok(Some(read_heading(row)?)),
+        None => Ok(None),
+    }
 }
 
 /// The image of an accession without its bytes, `None` where there is none.
@@ -144,32 +170,50 @@ pub(crate) fn heading_at<S: Alter>(
         found ≡ option_map heading_of (get (desk S.Store conn.old).images acc)) }
     ensures kept { HoldsDesk (state S.Store conn.new) }
 {
-    let rows = heading_rows(conn, acc)?;
-    match rows.first() {
-        Some(row) => Ok(Some(read_heading(row)?)),
-        None => Ok(None),
-    }
+    let found = heading_row(conn, acc)?;
+    let Some(heading) = found else {
+        return Ok(None);
+    };
+    let kind = kind_at(conn, acc, heading.kind)?;
+    Ok(Some(Heading { kind, ..heading }))
 }
 
 /// The rows for an accession without its image.
 fn given_rows<S: Alter>(conn: &mut Connection<S>, acc: u32) -> Result<Vec<Row>, StoreFault>
     requires holds { HoldsDesk (state S.Store conn.old) }
     ensures asks { Asks S.Store conn.old conn.new result StoreFault.Sql (λ rows.
-        rows.items ≡ map given_shown (option_to_list (get (desk S.Store conn.old).images acc))) }
+        rows.items ≡ map given_shown (option_to_list (get (map_of image_sheet ((state S.Store conn.old).now.trees 2)) acc))) }
     ensures kept { HoldsDesk (state S.Store conn.new) }
 {
     let key = acc.to_sql();
     read_all(conn, "SELECT kind, deed FROM image WHERE acc = ?1", &[key])
 }
 
-/// The accession that a row shows.
+/// The accession that a row shows, without error bytes.
 fn read_given(row: &Row) -> Result<Accession, StoreFault>
-    ensures accession { IfOk result (λ read. (image : ImageRow) → row.now ≡ given_shown image → read ≡ accession_of image) }
+    ensures accession { IfOk result (λ read. (image : ImageRow) → row.now ≡ given_shown image → read ≡ accession_of (as_row image)) }
     ensures fault { IfErr result (λ fault. fault ≡ StoreFault.Sql) }
 {
     let kind = kind(number_at(row, 0)?);
     let deed = number_at(row, 1)?;
     Ok(Accession { kind, deed })
+}
+
+/// What the row of an accession shows of it, `None` where it is not there.
+fn given_row<S: Alter>(
+    conn: &mut Connection<S>,
+    acc: u32,
+) -> Result<Option<Accession>, StoreFault>
+    requires holds { HoldsDesk (state S.Store conn.old) }
+    ensures asks { Asks S.Store conn.old conn.new result StoreFault.Sql (λ found.
+        found ≡ option_map accession_of (get (map_of image_sheet ((state S.Store conn.old).now.trees 2)) acc)) }
+    ensures kept { HoldsDesk (state S.Store conn.new) }
+{
+    let rows = given_rows(conn, acc)?;
+    match rows.first() {
+        Some(row) => Ok(Some(read_given(row)?)),
+        None => Ok(None),
+    }
 }
 
 /// An accession without its image, `None` where it is not there.
@@ -182,11 +226,12 @@ pub(crate) fn accession<S: Alter>(
         found ≡ option_map accession_of (get (desk S.Store conn.old).images acc)) }
     ensures kept { HoldsDesk (state S.Store conn.new) }
 {
-    let rows = given_rows(conn, acc)?;
-    match rows.first() {
-        Some(row) => Ok(Some(read_given(row)?)),
-        None => Ok(None),
-    }
+    let found = given_row(conn, acc)?;
+    let Some(given) = found else {
+        return Ok(None);
+    };
+    let kind = kind_at(conn, acc, given.kind)?;
+    Ok(Some(Accession { kind, ..given }))
 }
 
 /// The rows for all accessions.
@@ -233,31 +278,37 @@ pub(crate) fn accessions<S: Alter>(
 fn register_rows<S: Alter>(conn: &mut Connection<S>) -> Result<Vec<Row>, StoreFault>
     requires holds { HoldsDesk (state S.Store conn.old) }
     ensures asks { Asks S.Store conn.old conn.new result StoreFault.Sql (λ rows.
-        rows.items ≡ map registered_shown (entries (desk S.Store conn.old).images)) }
+        rows.items ≡ map registered_shown (entries (map_of image_sheet ((state S.Store conn.old).now.trees 2)))) }
     ensures kept { HoldsDesk (state S.Store conn.new) }
 {
     read_all(conn, "SELECT acc, kind, deed FROM image ORDER BY acc", &[])
 }
 
-/// The accession that a row shows, with its number.
-fn read_registered(row: &Row) -> Result<(u32, Accession), StoreFault>
-    ensures registered { IfOk result (λ read. read ≡ registered_in row.now) }
+/// The accession that a row shows, with its number, where these have error bytes; they ascend.
+fn read_registered(row: &Row, marked: &[u32]) -> Result<(u32, Accession), StoreFault>
+    requires { IsNonDecreasing marked.now }
+    ensures registered { IfOk result (λ read. read ≡ registered_in marked.now row.now) }
     ensures fault { IfErr result (λ fault. fault ≡ StoreFault.Sql) }
 {
     let number = number_at(row, 0)?;
-    let kind = kind(number_at(row, 1)?);
+    let kind = kind_with(has_one_of(row, 0, marked), kind(number_at(row, 1)?));
     let deed = number_at(row, 2)?;
     Ok((number, Accession { kind, deed }))
 }
 
-/// The accessions that rows show, each with its number.
-fn read_register(alloc: Global, rows: &[Row]) -> Result<Vec<(u32, Accession)>, StoreFault>
-    ensures register { IfOk result (λ register. register.items ≡ map registered_in rows.now) }
+/// The accessions that rows show, each with its number, where these have error bytes; they ascend.
+fn read_register(
+    alloc: Global,
+    rows: &[Row],
+    marked: &[u32],
+) -> Result<Vec<(u32, Accession)>, StoreFault>
+    requires { IsNonDecreasing marked.now }
+    ensures register { IfOk result (λ register. register.items ≡ map (registered_in marked.now) rows.now) }
     ensures fault { IfErr result (λ fault. fault ≡ StoreFault.Sql) }
 {
     let mut register = Vec::new(alloc);
     for row in rows {
-        let registered = read_registered(row)?;
+        let registered = read_registered(row, marked)?;
         if register.push(registered).is_err() {
             return Err(StoreFault::Sql);
         }
@@ -275,12 +326,13 @@ pub(crate) fn register<S: Alter>(
         register.items ≡ map registered (entries (desk S.Store conn.old).images)) }
     ensures kept { HoldsDesk (state S.Store conn.new) }
 {
+    let marked = marked(alloc, conn)?;
     let rows = register_rows(conn)?;
-    read_register(alloc, &rows)
+    read_register(alloc, &rows, &marked)
 }
 
 /// The files of an image.
-fn survey_of(alloc: Global, kind: Kind, bytes: &[u8]) -> Result<Items<Found>, StoreFault>
+pub(crate) fn survey_of(alloc: Global, kind: Kind, bytes: &[u8]) -> Result<Items<Found>, StoreFault>
     ensures files { IfOk result (AreFounds kind bytes.now) }
     ensures fault { IfErr result (λ fault. fault ≡ StoreFault.Sql) }
 {
@@ -290,21 +342,42 @@ fn survey_of(alloc: Global, kind: Kind, bytes: &[u8]) -> Result<Items<Found>, St
     survey(alloc, &image).map_err(|_| StoreFault::Sql)
 }
 
-/// The files of the image of an accession, walked anew; none where it is not there.
-pub(crate) fn survey_at<S: Alter>(
-    alloc: Global,
-    conn: &mut Connection<S>,
+/// Puts the row of an image where none stands, inside a transaction, without error bytes; of its files none is in
+/// the index yet.
+fn insert_row<S: Alter>(
+    tx: &mut Transaction<'_, S>,
     acc: u32,
-) -> Result<Items<Found>, StoreFault>
-    requires tables { HoldsTables (state S.Store conn.old) }
-    ensures asks { Asks S.Store conn.old conn.new result StoreFault.Sql (λ files.
-        Spells image_sheet ((state S.Store conn.old).now.trees 2)
-        → AreFilesIn (get (map_of image_sheet ((state S.Store conn.old).now.trees 2)) acc) files) }
+    heading: &Heading,
+    bytes: &[u8],
+) -> Result<usize, Error>
+    ensures same_reference { tx.new.conn.ghost_name ≡ tx.old.conn.ghost_name }
+    ensures moves { (before : _) (files : _) → Moves S.Store tx.old.conn.now tx.new.conn.now
+        (LacksImage acc before) (IsOfWith (with_new_image acc (as_row (image_with heading.now bytes.now)) before) (IsFiledTo before.images acc files 0)) result }
 {
-    match image_at(alloc, conn, acc)? {
-        Some(image) => survey_of(alloc, image.kind, image.bytes.as_slice()),
-        None => Ok(Items::of(Vec::new(alloc))),
-    }
+    let code = codes::of_kind(heading.kind);
+    let sum = heading.digest.as_slice();
+    tx.execute(
+        "INSERT INTO image (acc, kind, deed, digest, bytes) VALUES (?1, ?2, ?3, ?4, ?5)",
+        params![acc, code, heading.deed, sum, bytes],
+    )
+}
+
+/// Puts an image with error bytes where none stands, inside a transaction: its blocks and then its error bytes.
+fn insert_both<S: Alter>(
+    tx: &mut Transaction<'_, S>,
+    acc: u32,
+    heading: &Heading,
+    bytes: &[u8],
+) -> Result<usize, Error>
+    requires kind { heading.now.kind ≡ Kind.D64e }
+    requires size { length bytes.now ≡ size_of Kind.D64e }
+    ensures same_reference { tx.new.conn.ghost_name ≡ tx.old.conn.ghost_name }
+    ensures moves { (before : _) (files : _) → Moves S.Store tx.old.conn.now tx.new.conn.now
+        (LacksImage acc before) (IsOfWith (with_new_image acc (image_with heading.now bytes.now) before) (IsFiledTo before.images acc files 0)) result }
+{
+    let (blocks, marks) = bytes.split_at(Kind::D64.size());
+    insert_row(tx, acc, heading, blocks)?;
+    insert_marks(tx, acc, marks)
 }
 
 /// Puts an image where none stands, inside a transaction; of its files none is in the index yet.
@@ -314,16 +387,15 @@ fn insert_image<S: Alter>(
     heading: &Heading,
     bytes: &[u8],
 ) -> Result<usize, Error>
+    requires size { length bytes.now ≡ size_of heading.now.kind }
     ensures same_reference { tx.new.conn.ghost_name ≡ tx.old.conn.ghost_name }
     ensures moves { (before : _) (files : _) → Moves S.Store tx.old.conn.now tx.new.conn.now
         (LacksImage acc before) (IsOfWith (with_new_image acc (image_with heading.now bytes.now) before) (IsFiledTo before.images acc files 0)) result }
 {
-    let code = codes::of_kind(heading.kind);
-    let sum = heading.digest.as_slice();
-    tx.execute(
-        "INSERT INTO image (acc, kind, deed, digest, bytes) VALUES (?1, ?2, ?3, ?4, ?5)",
-        params![acc, code, heading.deed, sum, bytes],
-    )
+    if heading.kind == Kind::D64e {
+        return insert_both(tx, acc, heading, bytes);
+    }
+    insert_row(tx, acc, heading, bytes)
 }
 
 /// Puts an image where none stands, and its files into the index, in one transaction.

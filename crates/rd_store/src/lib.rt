@@ -15,6 +15,8 @@ mod images;
 mod judging;
 mod keys;
 mod limits;
+mod marks;
+mod migrating;
 mod opening;
 mod outside;
 mod read;

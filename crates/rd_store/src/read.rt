@@ -1,17 +1,33 @@
-ghost use Rattle.std.specs.Prelude.{};
+ghost use Rattle.std.specs.Prelude.{IsTrue};
 ghost use Rattle.sqlite.specs.Given.{IsPlain};
 ghost use Rattle.sqlite.specs.Held.{state};
 ghost use Rattle.sqlite.specs.Listing.{understood};
 ghost use Rattle.sqlite.specs.State.{Shown};
 ghost use Rattle.sqlite.specs.Values.{bound};
 ghost use Rattle.rd_tables.specs.Schemas.{desk_schema};
-ghost use Rattle.rd_store.specs.Held.{Asks, HoldsTables};
+ghost use Rattle.rd_store.specs.Held.{Asks, HoldsTables, IsReadable};
 
 use crate::faults::StoreFault;
 use sqlite::types::ValueRef;
 use sqlite::{Alter, Connection, Row};
 
-/// All rows that a query shows.
+/// All rows that a query shows, over the tables that stand.
+pub(crate) fn read_over<S: Alter>(
+    conn: &mut Connection<S>,
+    sql: &str,
+    params: &[ValueRef<'_>],
+) -> Result<Vec<Row>, StoreFault>
+    requires readable { IsTrue (state S.Store conn.old).is_open → IsReadable sql.now (state S.Store conn.old) }
+    ensures asks { Asks S.Store conn.old conn.new result StoreFault.Sql (λ rows.
+        Shown sql.now (bound params.now) (state S.Store conn.old) (state S.Store conn.new) rows.items) }
+{
+    match conn.query_all(sql, params) {
+        Ok(rows) => Ok(rows),
+        Err(_) => Err(StoreFault::Sql),
+    }
+}
+
+/// All rows that a query over the tables of a desk shows.
 pub(crate) fn read_all<S: Alter>(
     conn: &mut Connection<S>,
     sql: &str,
@@ -22,8 +38,5 @@ pub(crate) fn read_all<S: Alter>(
     ensures asks { Asks S.Store conn.old conn.new result StoreFault.Sql (λ rows.
         Shown sql.now (bound params.now) (state S.Store conn.old) (state S.Store conn.new) rows.items) }
 {
-    match conn.query_all(sql, params) {
-        Ok(rows) => Ok(rows),
-        Err(_) => Err(StoreFault::Sql),
-    }
+    read_over(conn, sql, params)
 }

@@ -9,6 +9,7 @@ ghost use Rattle.rd_store.specs.Created.{IsCreated, IsNotCreated};
 ghost use Rattle.sqlite.specs.Steps.{over_memory};
 ghost use Rattle.rd_store.specs.Held.{Changes, HoldsDesk, IsClean, IsOpen, Judges, Reads, Rests, desk};
 ghost use Rattle.rd_store.specs.Index.{AreFilesIn, IsFileIn};
+ghost use Rattle.rd_store.specs.Migrated.{IsMigrated, IsNotMigrated};
 ghost use Rattle.rd_store.specs.Opened.{IsNotOpened, IsOpened};
 ghost use Rattle.rd_store.specs.Shown.{accession_of, registered};
 ghost use Rattle.rd_store.specs.Lawful.{IsDeed, IsImage, IsKey};
@@ -17,7 +18,7 @@ ghost use Rattle.rd_store.specs.State.{HasOtherImage, IsLastStaff, Stands, place
 use crate::faults::{CreateFault, OpenFault, Refused, StoreFault};
 use crate::outside::outside;
 use crate::rows::{Accession, DeedRow, ImageRow, Outcome};
-use crate::{checks, create, deeds, files, images, judging, keys, rules};
+use crate::{checks, create, deeds, files, images, judging, keys, migrating, rules};
 use rd_geometry::Kind;
 use rd_policy::{Audience, Band, Rule};
 use rd_tables::{has_desk as has_desk_table, is_blank};
@@ -85,10 +86,10 @@ impl<S: Alter> Store<S> {
     ///
     /// It fails with `NotADesk` where no table `desk` with the columns of one stands; then with
     /// `Version` where that table comes first and does not have its one row, or the row says
-    /// another version; then with `Inconsistent` where the rows are not those of a desk; and with
-    /// `Sql`, also where another table stands, where one is declared otherwise, and where SQL does
-    /// not show the columns of a table `desk`, because it does not understand something on it,
-    /// such as a trigger.
+    /// another version than 2; then with `Inconsistent` where the rows are not those of a desk; and
+    /// with `Sql`, also where another table stands, where one is declared otherwise, and where SQL
+    /// does not show the columns of a table `desk`, because it does not understand something on
+    /// it, such as a trigger.
     pub fn open(alloc: Global, mut conn: Connection<S>) -> Result<Store<S>, Refused<OpenFault, S>>
         requires outside { conn.in_transaction ≡ false }
         ensures opened { IfOk result (λ store. IsOpened S.Store conn store) }
@@ -96,6 +97,28 @@ impl<S: Alter> Store<S> {
     {
         let _outside = conn.is_autocommit();
         match judging::judge(alloc, &mut conn) {
+            Ok(()) => Ok(Store { conn }),
+            Err(fault) => Err(Refused { fault, conn }),
+        }
+    }
+
+    /// Opens the desk that a database holds, after bringing tables of version 1 to version 2: in one transaction it
+    /// makes the table of error bytes, without rows, and sets the version. The desk is the same. Tables of version
+    /// 2 it leaves as they are. The connection is outside a transaction.
+    ///
+    /// It fails as `open` does: with `Version` where the row says neither 1 nor 2, with `Inconsistent` where the
+    /// rows are not those of a desk of their version, and with `Sql` also where another table than those of their
+    /// version stands. The database is then as it was.
+    pub fn migrate(
+        alloc: Global,
+        mut conn: Connection<S>,
+    ) -> Result<Store<S>, Refused<OpenFault, S>>
+        requires outside { conn.in_transaction ≡ false }
+        ensures migrated { IfOk result (λ store. IsMigrated S.Store conn store) }
+        ensures refused { IfErr result (λ refused. IsNotMigrated S.Store conn refused.conn refused.fault) }
+    {
+        let _outside = conn.is_autocommit();
+        match migrating::migrate(alloc, &mut conn) {
             Ok(()) => Ok(Store { conn }),
             Err(fault) => Err(Refused { fault, conn }),
         }
@@ -228,8 +251,9 @@ impl<S: Alter> Store<S> {
 
     /// Puts an image of its kind's length where none stands, at an accession, 1 to 999,999, under
     /// the deed with a number, with the SHA-256 that was given for it. Putting the same kind, deed
-    /// and digest again succeeds and changes nothing, whatever the bytes. What `survey` gives of
-    /// its files goes into the index in the same transaction.
+    /// and digest again succeeds and changes nothing, whatever the bytes. The same transaction
+    /// writes its error bytes, if it has any, and puts what `survey` gives of its files into the
+    /// index.
     ///
     /// It fails with `Missing` where there is no such deed, with `Conflict` where another kind, deed or
     /// digest stands at the accession, and with `Sql`.

@@ -1,7 +1,7 @@
 ghost use Rattle.std.specs.Prelude.{◌≡◌, ◌↔◌, All, Any, MatchBool};
 ghost use Rattle.std.specs.List.Sorted.{IsNonDecreasing};
 ghost use Rattle.sqlite.specs.Order.{column};
-ghost use Rattle.rd_store.specs.Cells.{HasParts, IsCheckRow, IsDeedRow, IsFiledRow, IsImageRow, IsKeyRow, IsRuleRow, IsSelectAt, IsStaffRow, is_band, is_size_of};
+ghost use Rattle.rd_store.specs.Cells.{HasParts, IsCheckRow, IsDeedRow, IsFiledRow, IsImageRow, IsKeyRow, IsMarksRow, IsRuleRow, IsSelectAt, IsStaffRow, is_band, is_size_of};
 
 use crate::cells::{
     has_day, has_digest, has_donor, has_number, has_one_of, has_some_day, has_word, names_blob,
@@ -104,6 +104,14 @@ fn is_filed(row: &Row, accessions: &[u32]) -> bool
     has_one_of(row, 1, accessions)
 }
 
+/// Whether a row shows error bytes, one for each block, of one of these accessions, which ascend.
+fn is_marks(row: &Row, accessions: &[u32]) -> bool
+    requires { IsNonDecreasing accessions.now }
+    ensures { MatchBool result (IsMarksRow accessions.now row.now) (¬ IsMarksRow accessions.now row.now) }
+{
+    has_one_of(row, 0, accessions) && has_number(row, 1, 683, 683) && names_blob(row, 2)
+}
+
 /// Whether a row of the desk keys shows one of the staff.
 fn is_staff(row: &Row) -> bool
     ensures { MatchBool result (IsStaffRow row.now) (¬ IsStaffRow row.now) }
@@ -156,4 +164,12 @@ pub(crate) fn are_filed(rows: &[Row], accessions: &[u32]) -> bool
     ensures { MatchBool result (All (IsFiledRow accessions.now) rows.now) (¬ All (IsFiledRow accessions.now) rows.now) }
 {
     rows.iter().all(|row| is_filed(row, accessions))
+}
+
+/// Whether each row shows error bytes of one of these accessions.
+pub(crate) fn are_marks(rows: &[Row], accessions: &[u32]) -> bool
+    requires { IsNonDecreasing accessions.now }
+    ensures { MatchBool result (All (IsMarksRow accessions.now) rows.now) (¬ All (IsMarksRow accessions.now) rows.now) }
+{
+    rows.iter().all(|row| is_marks(row, accessions))
 }

@@ -5,12 +5,20 @@ ghost use Rattle.sqlite.specs.declared.types.Value.TheVariants.{Int};
 ghost use Rattle.rd_tables.specs.Asked.{IsPicked};
 ghost use Rattle.rd_tables.specs.Queries.{version_query};
 ghost use Rattle.rd_store.specs.Held.{Asks};
-ghost use Rattle.rd_store.specs.Opened.{StartsWithDesk};
-ghost use Rattle.rd_store.specs.Spelled.{HasVersion};
+ghost use Rattle.rd_store.specs.Opened.{IsSaid, StartsWithDesk};
 
-use crate::cells::has_number;
+use crate::cells::has_just;
 use crate::faults::OpenFault;
 use sqlite::{Alter, Connection, Row};
+
+/// A version of the tables.
+#[derive(Clone, Copy)]
+pub(crate) enum Version {
+    /// Without a table of error bytes.
+    First,
+    /// With it.
+    Second,
+}
 
 /// The rows of the table `desk`, whatever other tables stand.
 fn version_rows<S: Alter>(conn: &mut Connection<S>) -> Result<Vec<Row>, OpenFault>
@@ -18,29 +26,36 @@ fn version_rows<S: Alter>(conn: &mut Connection<S>) -> Result<Vec<Row>, OpenFaul
     ensures asks { Asks S.Store conn.old conn.new result OpenFault.Sql (λ rows.
         IsPicked version_query [] ((state S.Store conn.old).now.trees 0) rows.items) }
 {
-    match conn.query_all("SELECT version FROM desk", &[]) {
+    match conn.query_all("SELECT id, version FROM desk", &[]) {
         Ok(rows) => Ok(rows),
         Err(_) => Err(OpenFault::Sql),
     }
 }
 
-/// Whether there is one row, which says version 1.
-fn is_version(rows: &[Row]) -> bool
-    ensures { MatchBool result (map (λ row. column row 0) rows.now ≡ Int (pos 1) ∷ [])
-        (¬ (map (λ row. column row 0) rows.now ≡ Int (pos 1) ∷ [])) }
+/// Whether there is one row, with the id 1, which says this version.
+fn is_version(rows: &[Row], number: u32) -> bool
+    ensures { MatchBool result (map (λ row. column row 0 ∷ column row 1 ∷ []) rows.now ≡ (Int (pos 1) ∷ Int (pos number) ∷ []) ∷ [])
+        (¬ (map (λ row. column row 0 ∷ column row 1 ∷ []) rows.now ≡ (Int (pos 1) ∷ Int (pos number) ∷ []) ∷ [])) }
 {
     match rows {
-        [row] => has_number(row, 0, 1, 1),
+        [row] => has_just(row, 0, 1) && has_just(row, 1, number),
         _ => false,
     }
 }
 
-/// Whether the table `desk` has its one row, which says version 1.
-pub(crate) fn has_version<S: Alter>(conn: &mut Connection<S>) -> Result<bool, OpenFault>
+/// The version that the one row of the table `desk` says; `None` where there is no such row, or it says another
+/// than 1 and 2.
+pub(crate) fn said_version<S: Alter>(conn: &mut Connection<S>) -> Result<Option<Version>, OpenFault>
     requires first { StartsWithDesk (state S.Store conn.old) }
     ensures asks { Asks S.Store conn.old conn.new result OpenFault.Sql (λ said.
-        MatchBool said (HasVersion 1 ((state S.Store conn.old).now.trees 0)) (¬ HasVersion 1 ((state S.Store conn.old).now.trees 0))) }
+        IsSaid said ((state S.Store conn.old).now.trees 0)) }
 {
     let rows = version_rows(conn)?;
-    Ok(is_version(&rows))
+    if is_version(&rows, 2) {
+        return Ok(Some(Version::Second));
+    }
+    if is_version(&rows, 1) {
+        return Ok(Some(Version::First));
+    }
+    Ok(None)
 }

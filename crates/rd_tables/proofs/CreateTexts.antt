@@ -10,8 +10,8 @@ use Rattle.sqlite.specs.Listing.{understood}
 use Rattle.sqlite.proofs.Callers.{IsPlain, command_of, statement_of}
 use Rattle.sqlite_tied.specs.Compute.{everything}
 use Rattle.rd_tables.proofs.Running.{IsWrite}
-use Rattle.rd_tables.specs.Schemas.{desk_table, deed_table, image_table, rule_table, badge_table, checked_table, found_table}
-use Rattle.rd_tables.specs.Statements.{desk_text, deed_text, image_text, rule_text, badge_text, checked_text, found_text, create_texts, schema_after}
+use Rattle.rd_tables.specs.Schemas.{desk_table, deed_table, image_table, rule_table, badge_table, checked_table, found_table, marks_table}
+use Rattle.rd_tables.specs.Statements.{desk_text, deed_text, image_text, rule_text, badge_text, checked_text, found_text, marks_text, create_texts, schema_after}
 
 desk_defined : table_defined_by desk_text ≡ Ok (desk_table 0)
 unfolding everything
@@ -41,6 +41,10 @@ found_defined : table_defined_by found_text ≡ Ok (found_table 0)
 unfolding everything
 found_defined = refl
 
+marks_defined : table_defined_by marks_text ≡ Ok (marks_table 0)
+unfolding everything
+marks_defined = refl
+
 -- The text makes one table more.
 pub record Creates (before : Schema) (text : List ℕ) (after : Schema) : Type 0 where
   pub command : command_of (understood before text) ≡ CreateTable
@@ -51,7 +55,7 @@ pub record Creates (before : Schema) (text : List ℕ) (after : Schema) : Type 0
   pub is : created before table ≡ after
   pub unsequenced : lacks_sequence after ≡ false
 
-pub creates : (i : ℕ) → i < 7 → Creates (schema_after i) (get_or create_texts i []) (schema_after (i + 1))
+pub creates : (i : ℕ) → i < 8 → Creates (schema_after i) (get_or create_texts i []) (schema_after (i + 1))
 unfolding understood everything
 creates zero low = record { command = refl; plain = (refl, refl); whole = refl; table = desk_table 0; defined = desk_defined; is = refl; unsequenced = refl }
 creates (suc zero) low = record { command = refl; plain = (refl, refl); whole = refl; table = deed_table 0; defined = deed_defined; is = refl; unsequenced = refl }
@@ -60,9 +64,10 @@ creates (suc (suc (suc zero))) low = record { command = refl; plain = (refl, ref
 creates (suc (suc (suc (suc zero)))) low = record { command = refl; plain = (refl, refl); whole = refl; table = badge_table 0; defined = badge_defined; is = refl; unsequenced = refl }
 creates (suc (suc (suc (suc (suc zero))))) low = record { command = refl; plain = (refl, refl); whole = refl; table = checked_table 0; defined = checked_defined; is = refl; unsequenced = refl }
 creates (suc (suc (suc (suc (suc (suc zero)))))) low = record { command = refl; plain = (refl, refl); whole = refl; table = found_table 0; defined = found_defined; is = refl; unsequenced = refl }
-creates (suc (suc (suc (suc (suc (suc (suc i))))))) low = absurd (omega arith)
+creates (suc (suc (suc (suc (suc (suc (suc zero))))))) low = record { command = refl; plain = (refl, refl); whole = refl; table = marks_table 0; defined = marks_defined; is = refl; unsequenced = refl }
+creates (suc (suc (suc (suc (suc (suc (suc (suc i)))))))) low = absurd (omega arith)
 
-pub creates_writes : (i : ℕ) → i < 7 → IsWrite (schema_after i) (get_or create_texts i []) CreateTable
+pub creates_writes : (i : ℕ) → i < 8 → IsWrite (schema_after i) (get_or create_texts i []) CreateTable
 creates_writes i low =
     let it = creates i low in
     record { is = it.command; plain = it.plain; writes = λ old new statement params count h. h; no_commit = λ e. absurd cc; no_release = λ name e. absurd cc }

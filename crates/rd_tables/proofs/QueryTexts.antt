@@ -14,8 +14,8 @@ use Rattle.sqlite_value.specs.declared.keys.Key.{Key}
 use Rattle.sqlite.proofs.Callers.{IsPlain, command_of}
 use Rattle.sqlite_tied.specs.Compute.{everything}
 use Rattle.rd_tables.specs.Asked.{asks_of}
-use Rattle.rd_tables.specs.Schemas.{desk_schema, starts_with_desk}
-use Rattle.rd_tables.specs.Queries.{deed_text, deed_query, image_text, image_query, heading_text, heading_query, accession_text, accession_query, audience_text, audience_query, rules_text, rules_query, accessions_text, accessions_query, register_text, register_query, keys_text, keys_query, all_deeds_text, all_deeds_query, all_images_text, all_images_query, all_rules_text, all_rules_query, all_keys_text, all_keys_query, all_checks_text, all_checks_query, file_text, file_query, files_text, files_query, all_files_text, all_files_query, version_text, version_query}
+use Rattle.rd_tables.specs.Schemas.{desk_schema, desk_with, starts_with_desk}
+use Rattle.rd_tables.specs.Queries.{deed_text, deed_query, image_text, image_query, heading_text, heading_query, accession_text, accession_query, marks_text, marks_query, has_marks_text, has_marks_query, audience_text, audience_query, rules_text, rules_query, accessions_text, accessions_query, register_text, register_query, marked_text, marked_query, keys_text, keys_query, all_deeds_text, all_deeds_query, all_images_text, all_images_query, all_rules_text, all_rules_query, all_keys_text, all_keys_query, all_checks_text, all_checks_query, file_text, file_query, files_text, files_query, all_files_text, all_files_query, all_marks_text, all_marks_query, version_text, version_query}
 
 -- Over these tables the text asks this of the rows on one tree.
 pub record AsksOver (schema : Schema) (text : List ℕ) (tree : ℕ) (tests shown : List Term) (order : List (Term × Key)) : Type 0 where
@@ -33,13 +33,17 @@ Asks = AsksOver desk_schema
 abbrev pub AsksBy : List ℕ → ℕ → Query → Type 0
 AsksBy text tree query = Asks text tree query.filter query.project query.order
 
+-- and over the tables of each version
+abbrev pub AsksInEach : List ℕ → ℕ → Query → Type 0
+AsksInEach text tree query = (more : List Table) → AsksOver (desk_with more) text tree query.filter query.project query.order
+
 pub deed_asks : AsksBy deed_text 1 deed_query
 unfolding understood everything
 deed_asks = record { names = codes "donor" ∷ codes "signed" ∷ []; means = refl; plain = (refl, refl); stored = refl; here = λ trees. refl }
 
-pub image_asks : AsksBy image_text 2 image_query
+pub image_asks : AsksInEach image_text 2 image_query
 unfolding understood everything
-image_asks = record { names = codes "kind" ∷ codes "deed" ∷ codes "digest" ∷ codes "bytes" ∷ []; means = refl; plain = (refl, refl); stored = refl; here = λ trees. refl }
+image_asks more = record { names = codes "kind" ∷ codes "deed" ∷ codes "digest" ∷ codes "bytes" ∷ []; means = refl; plain = (refl, refl); stored = refl; here = λ trees. refl }
 
 pub heading_asks : AsksBy heading_text 2 heading_query
 unfolding understood everything
@@ -48,6 +52,14 @@ heading_asks = record { names = codes "kind" ∷ codes "deed" ∷ codes "digest"
 pub accession_asks : AsksBy accession_text 2 accession_query
 unfolding understood everything
 accession_asks = record { names = codes "kind" ∷ codes "deed" ∷ []; means = refl; plain = (refl, refl); stored = refl; here = λ trees. refl }
+
+pub marks_asks : AsksBy marks_text 11 marks_query
+unfolding understood everything
+marks_asks = record { names = codes "bytes" ∷ []; means = refl; plain = (refl, refl); stored = refl; here = λ trees. refl }
+
+pub has_marks_asks : AsksBy has_marks_text 11 has_marks_query
+unfolding understood everything
+has_marks_asks = record { names = codes "1" ∷ []; means = refl; plain = (refl, refl); stored = refl; here = λ trees. refl }
 
 pub audience_asks : AsksBy audience_text 5 audience_query
 unfolding understood everything
@@ -71,29 +83,33 @@ pub register_asks : AsksBy register_text 2 register_query
 unfolding understood everything
 register_asks = record { names = codes "acc" ∷ codes "kind" ∷ codes "deed" ∷ []; means = refl; plain = (refl, refl); stored = refl; here = λ trees. refl }
 
+pub marked_asks : AsksBy marked_text 11 marked_query
+unfolding understood everything
+marked_asks = record { names = codes "acc" ∷ []; means = refl; plain = (refl, refl); stored = refl; here = λ trees. refl }
+
 pub keys_asks : AsksBy keys_text 5 keys_query
 unfolding understood everything
 keys_asks = record { names = codes "digest" ∷ codes "audience" ∷ []; means = refl; plain = (refl, refl); stored = refl; here = λ trees. refl }
 
-pub all_deeds_asks : AsksBy all_deeds_text 1 all_deeds_query
+pub all_deeds_asks : AsksInEach all_deeds_text 1 all_deeds_query
 unfolding understood everything
-all_deeds_asks = record { names = codes "num" ∷ codes "donor" ∷ codes "signed" ∷ []; means = refl; plain = (refl, refl); stored = refl; here = λ trees. refl }
+all_deeds_asks more = record { names = codes "num" ∷ codes "donor" ∷ codes "signed" ∷ []; means = refl; plain = (refl, refl); stored = refl; here = λ trees. refl }
 
-pub all_images_asks : AsksBy all_images_text 2 all_images_query
+pub all_images_asks : AsksInEach all_images_text 2 all_images_query
 unfolding understood everything
-all_images_asks = record { names = codes "acc" ∷ codes "kind" ∷ codes "deed" ∷ codes "digest" ∷ codes "length(bytes)" ∷ codes "typeof(bytes)" ∷ []; means = refl; plain = (refl, refl); stored = refl; here = λ trees. refl }
+all_images_asks more = record { names = codes "acc" ∷ codes "kind" ∷ codes "deed" ∷ codes "digest" ∷ codes "length(bytes)" ∷ codes "typeof(bytes)" ∷ []; means = refl; plain = (refl, refl); stored = refl; here = λ trees. refl }
 
-pub all_rules_asks : AsksBy all_rules_text 3 all_rules_query
+pub all_rules_asks : AsksInEach all_rules_text 3 all_rules_query
 unfolding understood everything
-all_rules_asks = record { names = codes "rowid" ∷ codes "band" ∷ codes "scope" ∷ codes "rank" ∷ codes "audiences" ∷ codes "day_from" ∷ codes "day_until" ∷ codes "how" ∷ codes "number" ∷ codes "word" ∷ codes "effect" ∷ []; means = refl; plain = (refl, refl); stored = refl; here = λ trees. refl }
+all_rules_asks more = record { names = codes "rowid" ∷ codes "band" ∷ codes "scope" ∷ codes "rank" ∷ codes "audiences" ∷ codes "day_from" ∷ codes "day_until" ∷ codes "how" ∷ codes "number" ∷ codes "word" ∷ codes "effect" ∷ []; means = refl; plain = (refl, refl); stored = refl; here = λ trees. refl }
 
-pub all_keys_asks : AsksBy all_keys_text 5 all_keys_query
+pub all_keys_asks : AsksInEach all_keys_text 5 all_keys_query
 unfolding understood everything
-all_keys_asks = record { names = codes "rowid" ∷ codes "digest" ∷ codes "audience" ∷ []; means = refl; plain = (refl, refl); stored = refl; here = λ trees. refl }
+all_keys_asks more = record { names = codes "rowid" ∷ codes "digest" ∷ codes "audience" ∷ []; means = refl; plain = (refl, refl); stored = refl; here = λ trees. refl }
 
-pub all_checks_asks : AsksBy all_checks_text 7 all_checks_query
+pub all_checks_asks : AsksInEach all_checks_text 7 all_checks_query
 unfolding understood everything
-all_checks_asks = record { names = codes "rowid" ∷ codes "acc" ∷ codes "day" ∷ codes "outcome" ∷ []; means = refl; plain = (refl, refl); stored = refl; here = λ trees. refl }
+all_checks_asks more = record { names = codes "rowid" ∷ codes "acc" ∷ codes "day" ∷ codes "outcome" ∷ []; means = refl; plain = (refl, refl); stored = refl; here = λ trees. refl }
 
 -- what is told of a file, in the order of the columns
 file_names : List (List ℕ)
@@ -103,15 +119,19 @@ pub file_asks : AsksBy file_text 9 file_query
 unfolding understood everything file_names
 file_asks = record { names = file_names; means = refl; plain = (refl, refl); stored = refl; here = λ trees. refl }
 
-pub files_asks : AsksBy files_text 9 files_query
+pub files_asks : AsksInEach files_text 9 files_query
 unfolding understood everything file_names
-files_asks = record { names = file_names; means = refl; plain = (refl, refl); stored = refl; here = λ trees. refl }
+files_asks more = record { names = file_names; means = refl; plain = (refl, refl); stored = refl; here = λ trees. refl }
 
-pub all_files_asks : AsksBy all_files_text 9 all_files_query
+pub all_files_asks : AsksInEach all_files_text 9 all_files_query
 unfolding understood everything
-all_files_asks = record { names = codes "rowid" ∷ codes "acc" ∷ []; means = refl; plain = (refl, refl); stored = refl; here = λ trees. refl }
+all_files_asks more = record { names = codes "rowid" ∷ codes "acc" ∷ []; means = refl; plain = (refl, refl); stored = refl; here = λ trees. refl }
+
+pub all_marks_asks : AsksBy all_marks_text 11 all_marks_query
+unfolding understood everything
+all_marks_asks = record { names = codes "acc" ∷ codes "length(bytes)" ∷ codes "typeof(bytes)" ∷ []; means = refl; plain = (refl, refl); stored = refl; here = λ trees. refl }
 
 -- the version is read in one way whatever tables follow the first
 pub version_asks : (more : List Table) (indexes : List Index) (views : List View) → AsksOver (starts_with_desk more indexes views) version_text 0 version_query.filter version_query.project version_query.order
 unfolding understood everything
-version_asks more indexes views = record { names = codes "version" ∷ []; means = refl; plain = (refl, refl); stored = refl; here = λ trees. refl }
+version_asks more indexes views = record { names = codes "id" ∷ codes "version" ∷ []; means = refl; plain = (refl, refl); stored = refl; here = λ trees. refl }

@@ -1,31 +1,38 @@
 -- What each statement makes of the rows of its table.
-use Rattle.std.proofs.Common.{◌≡◌, ℕ, ℤ, pos, List, [], ◌∷◌, filter, Bool, false, not, Option, None, Ok, refl, sym, subst, ◌∙◌, is_eq}
+use Rattle.std.proofs.Common.{◌≡◌, ℕ, ℤ, pos, List, [], ◌∷◌, map, filter, Bool, true, false, not, Option, None, Ok, refl, sym, ap, subst, ◌∙◌, is_eq}
 use Rattle.std.specs.List.{list_all}
+use Rattle.std.proofs.lemmas.Cmp.{eq_by_cmp_equiv}
 use Rattle.sqlite.specs.declared.types.Value.TheVariants.{Null, Int, Text, Blob}
-use Rattle.sqlite.specs.Order.{Row, value_cmp}
-use Rattle.sqlite.specs.Tree.{put_row, rowid}
-use Rattle.sqlite.specs.Edit.{with_rowid, next_rowid, is_taken}
+use Rattle.sqlite.specs.Order.{Row, column, value_cmp}
+use Rattle.sqlite.specs.Tree.{Trees, put_row, rowid, has_rowid, without_rowid}
+use Rattle.sqlite.specs.Edit.{edit_of, with_rowid, next_rowid, is_taken}
+use Rattle.sqlite.specs.Query.{Output}
 use Rattle.sqlite.specs.Effect.{Database}
 use Rattle.sqlite.specs.Does.{Tally, Does}
-use Rattle.sqlite.specs.Rows.{Task, mended}
+use Rattle.sqlite.specs.Rows.{Task, Edited, Written, mended}
 use Rattle.sqlite.specs.Table.{Table}
 use Rattle.sqlite.specs.Term.{Term, lit, col, holds}
 use Rattle.sqlite.specs.Cast.{cast_row}
-use Rattle.sqlite.specs.Rowids.TheVariants.{Chosen}
+use Rattle.sqlite.specs.Rowids.TheVariants.{Chosen, Given}
 use Rattle.sqlite.specs.Values.{or_null}
 use Rattle.sqlite.specs.Command.{Command}
+use Rattle.sqlite.proofs.Callers.{one_permutation, one_step}
 use Rattle.sqlite_schema.specs.declared.command.Conflict.TheVariants.{Replace}
 use Rattle.sqlite_schema.specs.declared.schema.Keys.TheVariants.{Enforced}
 use Rattle.sqlite_schema.specs.Rules.{agree}
 use Rattle.sqlite_value.specs.Keys.{plain, first_key}
+use Rattle.sqlite_value.proofs.OrderLemmas.{value_cmp_total}
+use Rattle.sqlite_rules.specs.Calls.{ids_of}
 use Rattle.sqlite_rules.specs.Keys.{AreConflicts}
+use Rattle.rd_tables.specs.Asked.{asks_of, IsPicked}
 use Rattle.rd_tables.specs.Sheets.{HaveRowids}
-use Rattle.rd_tables.specs.Schemas.{desk_schema, desk_table, deed_table, image_table, rule_table, badge_table, checked_table, found_table}
-use Rattle.rd_tables.specs.Statements.{put_version, put_deed, put_image, put_rule, drop_rule, by_place, put_key, drop_key, by_digest, put_check, drop_check, by_checkup, put_file}
+use Rattle.rd_tables.specs.Schemas.{desk_schema, desk_table, deed_table, image_table, rule_table, badge_table, checked_table, found_table, marks_table}
+use Rattle.rd_tables.specs.Statements.{put_version, set_version, put_deed, put_image, put_rule, drop_rule, by_place, put_key, drop_key, by_digest, put_check, drop_check, by_checkup, put_file, put_marks}
 use Rattle.rd_tables.proofs.Lists.{and_true, or_false}
 use Rattle.rd_tables.proofs.Values.{cast_int, cast_null, cast_or_null, equal_int}
+use Rattle.rd_tables.proofs.Picking.{answer_picks}
 use Rattle.rd_tables.proofs.Removed.{Picks, removed_rows}
-use Rattle.rd_tables.proofs.Steps.{SetsRows, went, inserts, replaces}
+use Rattle.rd_tables.proofs.Steps.{SetsRows, went, same_value, inserts, replaces}
 use Rattle.rd_tables.proofs.Deleting.{deletes}
 use Rattle.rd_tables.proofs.Running.{plain_mode}
 use Rattle.rd_tables.proofs.Setting.{Sets, sets_rows, concluded}
@@ -50,20 +57,48 @@ PutsIn tree db after new = (is_taken (db.trees tree) (new (db.trees tree)) ≡ f
 abbrev pub TakesOut : ℕ → Database → Database → (Row → Bool) → Type 0
 TakesOut tree db after test = Sets tree db after (filter (λ row. not (test row)) (db.trees tree))
 
--- ---- the first row of the desk
+-- ---- the one row of the desk
 
 abbrev pub version_row : Row
-version_row = Int (pos 1) ∷ Null ∷ Int (pos 1) ∷ []
+version_row = Int (pos 1) ∷ Null ∷ Int (pos 2) ∷ []
+
+version_cast : cast_row (desk_table 0) version_row ≡ version_row
+version_cast = rw (cast_int (pos 1), cast_int (pos 2), cast_null) refl
 
 pub puts_version : (statement : List ℕ) (limit : Option ℕ) (db after : Database) (tally : Tally) → db.schema ≡ desk_schema → Runs statement limit [] put_version db after tally → PutsIn 0 db after (λ _. version_row)
 puts_version statement limit db after tally schema h =
     let task = task_on limit (desk_table 0) [] in
     let done = went (over_desk statement limit [] put_version db after tally schema h) in
     let end = concluded task plain_mode done.0 (tally, after) done.2 in
-    let terms : List Term = lit (Int (pos 1)) ∷ lit Null ∷ lit (Int (pos 1)) ∷ [] in
-    let is : with_rowid Chosen (db.trees 0) (cast_row (desk_table 0) version_row) ≡ version_row = rw (cast_int (pos 1), cast_null) refl in
+    let terms : List Term = lit (Int (pos 1)) ∷ lit Null ∷ lit (Int (pos 2)) ∷ [] in
+    let is : with_rowid Chosen (db.trees 0) (cast_row (desk_table 0) version_row) ≡ version_row = ap (with_rowid Chosen (db.trees 0)) version_cast in
     let it = inserts task (λ olds. refl) (λ olds row. refl) refl terms 3 version_row db.trees done.0 refl done.1 version_row is in
     (it.0, sets_rows 0 db after done.0.trees (put_row version_row (db.trees 0)) it.1 end)
+
+-- where there is one row, with the id 1, it has the version 2 then
+pub sets_version : (statement : List ℕ) (limit : Option ℕ) (db after : Database) (tally : Tally) → db.schema ≡ desk_schema → (row : Row) → db.trees 0 ≡ row ∷ [] → column row 0 ≡ Int (pos 1)
+    → Runs statement limit [] set_version db after tally → Sets 0 db after (version_row ∷ [])
+sets_version statement limit db after tally schema row one id h =
+    let task = task_on limit (desk_table 0) [] in
+    let done = went (over_desk statement limit [] set_version db after tally schema h) in
+    let end = concluded task plain_mode done.0 (tally, after) done.2 in
+    let answered = went done.1 in
+    let edited = went answered.2 in
+    let terms : List Term = col 1 0 ∷ col 1 0 ∷ lit Null ∷ lit (Int (pos 2)) ∷ [] in
+    let picks = subst (λ rows. IsPicked (asks_of 0 [] terms []) [] rows answered.0) one (answer_picks 0 [] terms [] db.trees [] answered.0 refl (answered.1.answer Null)) in
+    let shown : answered.0 ≡ (Int (pos 1) ∷ version_row) ∷ [] =
+    picks.shown ∙ ap (map (λ (out : Output). out.1)) (one_permutation _ _ picks.same) ∙ ap (λ v. (v ∷ v ∷ Null ∷ Int (pos 2) ∷ []) ∷ []) id in
+    let by = subst (λ rows. Edited desk_schema Enforced db.trees (edit_of db.trees (desk_table 0) (ids_of rows) Given 1 rows) (Ok edited.0)) shown edited.1 in
+    let applied = one_step desk_schema Enforced db.trees edited.0 (edit_of db.trees (desk_table 0) (pos 1 ∷ []) Given 1 ((Int (pos 1) ∷ version_row) ∷ [])) refl by in
+    let same : done.0.trees ≡ edited.0 = ap (λ (it : Written). it.trees) (same_value edited.2) in
+    let gone : without_rowid (pos 1) (db.trees 0) ≡ [] = ap (without_rowid (pos 1)) one ∙ dropped (pos 1) row (ap (λ v. is_eq (value_cmp v (Int (pos 1)))) id ∙ (eq_by_cmp_equiv value_cmp_total).refl (Int (pos 1))) in
+    sets_rows 0 db after done.0.trees (version_row ∷ []) (record {
+      now = ap (λ (t : Trees). t 0) same ∙ applied.rows ∙ ap (put_row (cast_row (desk_table 0) version_row)) gone ∙ ap (λ new. new ∷ []) version_cast;
+      others = λ t other none. ap (λ (it : Trees). it t) same ∙ applied.others t other none;
+    }) end
+  where
+    dropped : (n : ℤ) (r : Row) → has_rowid n r ≡ true → without_rowid n (r ∷ []) ≡ []
+    dropped n r is = rw is refl
 
 -- ---- deeds
 
@@ -249,3 +284,22 @@ module _ (acc slot : ℕ) (name type : List ℕ) (user : Option ℤ) (served : �
       rw (cast_null, cast_int (pos acc), cast_int (pos slot), cast_or_null user, cast_int (pos served), cast_or_null size, cast_int (pos faults), cast_int (pos last)) refl in
       let it = inserts task (λ olds. refl) (λ olds row. refl) refl terms 11 (Null ∷ file_params) db.trees done.0 refl done.1 (file_row rows) is in
       (it.0, sets_rows 9 db after done.0.trees (put_row (file_row rows) rows) it.1 end)
+
+-- ---- error bytes
+
+module _ (acc : ℕ) (bytes : List ℕ) where
+  abbrev pub marks_params : Row
+  marks_params = Int (pos acc) ∷ Blob bytes ∷ []
+
+  abbrev pub marks_row : Row
+  marks_row = Int (pos acc) ∷ Null ∷ Blob bytes ∷ []
+
+  pub puts_marks : (statement : List ℕ) (limit : Option ℕ) (db after : Database) (tally : Tally) → db.schema ≡ desk_schema → Runs statement limit marks_params put_marks db after tally → PutsIn 11 db after (λ _. marks_row)
+  puts_marks statement limit db after tally schema h =
+      let task = task_on limit (marks_table 11) marks_params in
+      let done = went (over_desk statement limit marks_params put_marks db after tally schema h) in
+      let end = concluded task plain_mode done.0 (tally, after) done.2 in
+      let terms : List Term = col 0 0 ∷ lit Null ∷ col 0 1 ∷ [] in
+      let is : with_rowid Chosen (db.trees 11) (cast_row (marks_table 11) marks_row) ≡ marks_row = rw (cast_int (pos acc), cast_null) refl in
+      let it = inserts task (λ olds. refl) (λ olds row. refl) refl terms 3 marks_row db.trees done.0 refl done.1 marks_row is in
+      (it.0, sets_rows 11 db after done.0.trees (put_row marks_row (db.trees 11)) it.1 end)

@@ -22,7 +22,7 @@ use Rattle.sqlite_value.specs.Keys.{plain, first_key}
 use Rattle.sqlite_value.proofs.OrderLemmas.{value_cmp_total}
 use Rattle.sqlite_rules.specs.Lists.{Has}
 use Rattle.sqlite_rules.proofs.ListLemmas.{all_has, some_from}
-use Rattle.rd_tables.specs.Schemas.{desk_schema, rule_table, badge_table, checked_table, found_table, rule_index, badge_index, checked_index, found_index, rule_key, badge_key, checked_key, found_key}
+use Rattle.rd_tables.specs.Schemas.{desk_with, rule_table, badge_table, checked_table, found_table, rule_index, badge_index, checked_index, found_index, rule_key, badge_key, checked_key, found_key}
 use Rattle.rd_tables.proofs.Values.{equal_int, equal_blobs, truth_kept}
 
 pub same_int : (a b : Value) (n : ℤ) → a ≡ b → b ≡ Int n → equal Binary a b ≡ true
@@ -101,19 +101,19 @@ one_rowid schema trees table index keeps stands guarding row other here there fi
       | inr same ↦ rowids_same (rowid row) (rowid other) first second same
     ]
 
-module _ (db : Database) (schema : db.schema ≡ desk_schema) (sound : IsDatabase db) where
-  unique : Keeps Unique desk_schema db.trees
+module _ (more : List Table) (db : Database) (schema : db.schema ≡ desk_with more) (sound : IsDatabase db) where
+  unique : Keeps Unique (desk_with more) db.trees
   unique = (subst (λ s. IsSound s db.trees) schema sound).obeys.rules Unique
 
   -- the rows of the rules, of the desk keys, of the checks and of the files
   pub one_rule : (row other : Row) → Has (db.trees 3) row → Has (db.trees 3) other → is_int (rowid row) ≡ true → is_int (rowid other) ≡ true → agree plain rule_key other rule_key row ≡ true → eq_by_cmp value_cmp (rowid row) (rowid other) ≡ true
-  one_rule = one_rowid desk_schema db.trees (rule_table 3) rule_index unique.1.1.1.0 (inl refl) refl
+  one_rule = one_rowid (desk_with more) db.trees (rule_table 3) rule_index unique.1.1.1.0 (inl refl) refl
 
   pub one_key : (row other : Row) → Has (db.trees 5) row → Has (db.trees 5) other → is_int (rowid row) ≡ true → is_int (rowid other) ≡ true → agree plain badge_key other badge_key row ≡ true → eq_by_cmp value_cmp (rowid row) (rowid other) ≡ true
-  one_key = one_rowid desk_schema db.trees (badge_table 5) badge_index unique.1.1.1.1.0 (inr (inl refl)) refl
+  one_key = one_rowid (desk_with more) db.trees (badge_table 5) badge_index unique.1.1.1.1.0 (inr (inl refl)) refl
 
   pub one_check : (row other : Row) → Has (db.trees 7) row → Has (db.trees 7) other → is_int (rowid row) ≡ true → is_int (rowid other) ≡ true → agree plain checked_key other checked_key row ≡ true → eq_by_cmp value_cmp (rowid row) (rowid other) ≡ true
-  one_check = one_rowid desk_schema db.trees (checked_table 7) checked_index unique.1.1.1.1.1.0 (inr (inr (inl refl))) refl
+  one_check = one_rowid (desk_with more) db.trees (checked_table 7) checked_index unique.1.1.1.1.1.0 (inr (inr (inl refl))) refl
 
   pub one_file : (row other : Row) → Has (db.trees 9) row → Has (db.trees 9) other → is_int (rowid row) ≡ true → is_int (rowid other) ≡ true → agree plain found_key other found_key row ≡ true → eq_by_cmp value_cmp (rowid row) (rowid other) ≡ true
-  one_file = one_rowid desk_schema db.trees (found_table 9) found_index unique.1.1.1.1.1.1.0 (inr (inr (inr (inl refl)))) refl
+  one_file = one_rowid (desk_with more) db.trees (found_table 9) found_index unique.1.1.1.1.1.1.0 (inr (inr (inr (inl refl)))) refl

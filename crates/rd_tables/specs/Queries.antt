@@ -1,6 +1,7 @@
 -- The questions that the store asks of its tables, and the queries that their texts are.
-use Rattle.std.specs.Prelude.{ℕ, List, [], ◌∷◌, codes}
-use Rattle.sqlite.specs.Term.{Term, col, op1}
+use Rattle.std.specs.Prelude.{ℕ, List, [], ◌∷◌, codes, pos}
+use Rattle.sqlite.specs.declared.types.Value.TheVariants.{Int}
+use Rattle.sqlite.specs.Term.{Term, lit, col, op1}
 use Rattle.sqlite_sql.specs.declared.ops.UnaryOp.TheVariants.{Length, TypeOf}
 use Rattle.sqlite.specs.Query.{Query}
 use Rattle.rd_tables.specs.Asked.{asks_of, equals, rising}
@@ -33,6 +34,20 @@ accession_text = codes "SELECT kind, deed FROM image WHERE acc = ?1"
 
 abbrev pub accession_query : Query
 accession_query = asks_of 2 (equals 0 0 ∷ []) (col 1 2 ∷ col 1 3 ∷ []) []
+
+-- the error bytes of an image
+abbrev pub marks_text : List ℕ
+marks_text = codes "SELECT bytes FROM marks WHERE acc = ?1"
+
+abbrev pub marks_query : Query
+marks_query = asks_of 11 (equals 0 0 ∷ []) (col 1 2 ∷ []) []
+
+-- whether it has any
+abbrev pub has_marks_text : List ℕ
+has_marks_text = codes "SELECT 1 FROM marks WHERE acc = ?1"
+
+abbrev pub has_marks_query : Query
+has_marks_query = asks_of 11 (equals 0 0 ∷ []) (lit (Int (pos 1)) ∷ []) []
 
 abbrev pub audience_text : List ℕ
 audience_text = codes "SELECT audience FROM badge WHERE digest = ?1"
@@ -77,6 +92,13 @@ register_text = codes "SELECT acc, kind, deed FROM image ORDER BY acc"
 
 abbrev pub register_query : Query
 register_query = asks_of 2 [] (col 1 0 ∷ col 1 2 ∷ col 1 3 ∷ []) ((col 1 0, rising) ∷ [])
+
+-- the accessions whose images have error bytes
+abbrev pub marked_text : List ℕ
+marked_text = codes "SELECT acc FROM marks ORDER BY acc"
+
+abbrev pub marked_query : Query
+marked_query = asks_of 11 [] (col 1 0 ∷ []) ((col 1 0, rising) ∷ [])
 
 abbrev pub keys_text : List ℕ
 keys_text = codes "SELECT digest, audience FROM badge ORDER BY digest"
@@ -125,10 +147,17 @@ all_files_text = codes "SELECT rowid, acc FROM found ORDER BY rowid"
 abbrev pub all_files_query : Query
 all_files_query = asks_of 9 [] (col 1 0 ∷ col 1 1 ∷ []) ((col 1 0, rising) ∷ [])
 
+-- of the error bytes the length and the type
+abbrev pub all_marks_text : List ℕ
+all_marks_text = codes "SELECT acc, length(bytes), typeof(bytes) FROM marks ORDER BY acc"
+
+abbrev pub all_marks_query : Query
+all_marks_query = asks_of 11 [] (col 1 0 ∷ op1 Length (col 1 2) ∷ op1 TypeOf (col 1 2) ∷ []) ((col 1 0, rising) ∷ [])
+
 -- ---- the version, whatever tables follow the first
 
 abbrev pub version_text : List ℕ
-version_text = codes "SELECT version FROM desk"
+version_text = codes "SELECT id, version FROM desk"
 
 abbrev pub version_query : Query
-version_query = asks_of 0 [] (col 1 2 ∷ []) []
+version_query = asks_of 0 [] (col 1 0 ∷ col 1 2 ∷ []) []

@@ -110,6 +110,10 @@ found_table tree = keyed (codes "found") tree
     ∷ column_of (codes "faults") Integer true ∷ column_of (codes "units") Blob true ∷ column_of (codes "last_len") Integer true ∷ [])
     found_key (between 6 0 1 ∷ between 8 0 127 ∷ [])
 
+-- the error bytes of an image
+abbrev pub marks_table : ℕ → Table
+marks_table tree = numbered (codes "marks") tree (column_of (codes "acc") Integer false ∷ column_of (codes "bytes") Blob true ∷ []) [] []
+
 abbrev pub rule_index : Index
 rule_index = index_of (codes "sqlite_autoindex_rule_1") 4 3 rule_key
 
@@ -122,13 +126,21 @@ checked_index = index_of (codes "sqlite_autoindex_checked_1") 8 7 checked_key
 abbrev pub found_index : Index
 found_index = index_of (codes "sqlite_autoindex_found_1") 10 9 found_key
 
--- the tables of a desk, in the order in which a new desk makes them
-abbrev pub desk_schema : Schema
-desk_schema = record {
-  tables = desk_table 0 ∷ deed_table 1 ∷ image_table 2 ∷ rule_table 3 ∷ badge_table 5 ∷ checked_table 7 ∷ found_table 9 ∷ [];
+-- the tables that each version has, and these after them
+abbrev pub desk_with : List Table → Schema
+desk_with more = record {
+  tables = desk_table 0 ∷ deed_table 1 ∷ image_table 2 ∷ rule_table 3 ∷ badge_table 5 ∷ checked_table 7 ∷ found_table 9 ∷ more;
   indexes = rule_index ∷ badge_index ∷ checked_index ∷ found_index ∷ [];
   views = [];
 }
+
+-- the tables of version 1
+abbrev pub first_schema : Schema
+first_schema = desk_with []
+
+-- the tables of a desk, in the order in which a new desk makes them
+abbrev pub desk_schema : Schema
+desk_schema = desk_with (marks_table 11 ∷ [])
 
 -- the desk's own table comes first, and whatever else stands follows
 abbrev pub starts_with_desk : List Table → List Index → List View → Schema

@@ -6,10 +6,10 @@ use Rattle.sqlite.specs.Term.{Term, lit, col}
 use Rattle.sqlite.specs.Query.{Query}
 use Rattle.sqlite.specs.Source.TheVariants.{Values}
 use Rattle.sqlite.specs.Command.{Command}
-use Rattle.sqlite.specs.Command.TheVariants.{Insert, InsertOr, Delete}
+use Rattle.sqlite.specs.Command.TheVariants.{Insert, InsertOr, Update, Delete}
 use Rattle.sqlite_schema.specs.declared.command.Conflict.TheVariants.{Replace}
 use Rattle.rd_tables.specs.Asked.{asks_of, equals}
-use Rattle.rd_tables.specs.Schemas.{desk_table, deed_table, image_table, rule_table, badge_table, checked_table, rule_index, badge_index, checked_index, desk_schema}
+use Rattle.rd_tables.specs.Schemas.{desk_table, deed_table, image_table, rule_table, badge_table, checked_table, rule_index, badge_index, checked_index, first_schema, desk_schema}
 
 -- ---- CREATE TABLE
 
@@ -34,9 +34,12 @@ checked_text = codes "CREATE TABLE checked (acc INTEGER NOT NULL, day INTEGER NO
 abbrev pub found_text : List ℕ
 found_text = codes "CREATE TABLE found (acc INTEGER NOT NULL, slot INTEGER NOT NULL, name TEXT NOT NULL, ty TEXT NOT NULL, user_no INTEGER, served INTEGER NOT NULL CHECK (served BETWEEN 0 AND 1), size INTEGER, faults INTEGER NOT NULL CHECK (faults BETWEEN 0 AND 127), units BLOB NOT NULL, last_len INTEGER NOT NULL, PRIMARY KEY (acc, slot)) STRICT"
 
+abbrev pub marks_text : List ℕ
+marks_text = codes "CREATE TABLE marks (acc INTEGER PRIMARY KEY, bytes BLOB NOT NULL) STRICT"
+
 -- in the order in which a new desk makes them
 abbrev pub create_texts : List (List ℕ)
-create_texts = desk_text ∷ deed_text ∷ image_text ∷ rule_text ∷ badge_text ∷ checked_text ∷ found_text ∷ []
+create_texts = desk_text ∷ deed_text ∷ image_text ∷ rule_text ∷ badge_text ∷ checked_text ∷ found_text ∷ marks_text ∷ []
 
 -- the tables once so many are made
 abbrev pub schema_after : ℕ → Schema
@@ -49,19 +52,27 @@ schema_after (suc (suc (suc (suc (suc zero))))) =
     record { tables = desk_table 0 ∷ deed_table 1 ∷ image_table 2 ∷ rule_table 3 ∷ badge_table 5 ∷ []; indexes = rule_index ∷ badge_index ∷ []; views = [] }
 schema_after (suc (suc (suc (suc (suc (suc zero)))))) =
     record { tables = desk_table 0 ∷ deed_table 1 ∷ image_table 2 ∷ rule_table 3 ∷ badge_table 5 ∷ checked_table 7 ∷ []; indexes = rule_index ∷ badge_index ∷ checked_index ∷ []; views = [] }
-schema_after (suc (suc (suc (suc (suc (suc (suc count))))))) = desk_schema
+schema_after (suc (suc (suc (suc (suc (suc (suc zero))))))) = first_schema
+schema_after (suc (suc (suc (suc (suc (suc (suc (suc count)))))))) = desk_schema
 
--- ---- INSERT and DELETE
+-- ---- INSERT, UPDATE and DELETE
 
 -- the rowids of the rows that pass each test
 abbrev pub rowids_of : ℕ → List Term → Query
 rowids_of tree tests = asks_of tree tests (col 1 0 ∷ []) []
 
 abbrev pub put_version_text : List ℕ
-put_version_text = codes "INSERT INTO desk (id, version) VALUES (1, 1)"
+put_version_text = codes "INSERT INTO desk (id, version) VALUES (1, 2)"
 
 abbrev pub put_version : Command
-put_version = Insert 0 (Values (lit (Int (pos 1)) ∷ lit Null ∷ lit (Int (pos 1)) ∷ []) 3)
+put_version = Insert 0 (Values (lit (Int (pos 1)) ∷ lit Null ∷ lit (Int (pos 2)) ∷ []) 3)
+
+abbrev pub set_version_text : List ℕ
+set_version_text = codes "UPDATE desk SET version = 2"
+
+-- each row has the version 2 then
+abbrev pub set_version : Command
+set_version = Update 0 (record { lets = []; body = asks_of 0 [] (col 1 0 ∷ col 1 0 ∷ lit Null ∷ lit (Int (pos 2)) ∷ []) [] })
 
 abbrev pub put_deed_text : List ℕ
 put_deed_text = codes "INSERT OR REPLACE INTO deed (num, donor, signed) VALUES (?1, ?2, ?3)"
@@ -125,3 +136,9 @@ put_file_text = codes "INSERT INTO found (acc, slot, name, ty, user_no, served, 
 
 abbrev pub put_file : Command
 put_file = Insert 6 (Values (lit Null ∷ col 0 0 ∷ col 0 1 ∷ col 0 2 ∷ col 0 3 ∷ col 0 4 ∷ col 0 5 ∷ col 0 6 ∷ col 0 7 ∷ col 0 8 ∷ col 0 9 ∷ []) 11)
+
+abbrev pub put_marks_text : List ℕ
+put_marks_text = codes "INSERT INTO marks (acc, bytes) VALUES (?1, ?2)"
+
+abbrev pub put_marks : Command
+put_marks = Insert 7 (Values (col 0 0 ∷ lit Null ∷ col 0 1 ∷ []) 3)

@@ -2,8 +2,8 @@ use Rattle.std.proofs.Common.{◌≡◌, ◌⊎◌, inl, inr, ℕ, zero, suc, �
 use Rattle.sqlite.specs.Effect.{Database}
 use Rattle.sqlite.specs.Held.{state}
 use Rattle.sqlite_rules.specs.Lists.{Has}
-use Rattle.rd_store.specs.Opened.{HasFiles}
-use Rattle.rd_store.proofs.Laws.{stays_then}
+use Rattle.rd_store.specs.Opened.{HasFiles, HoldsMarksIf, is_among}
+use Rattle.rd_store.proofs.Laws.{stays_common, stays_marks, stays_then}
 use Rattle.rd_store.proofs.filing.check_each.Goals as goal
 
 -- what is taken up to a place is taken before it, or stands there
@@ -17,18 +17,35 @@ has_taken (x ∷ xs) (suc i) n low (inr there) = elim (has_taken xs i n (omega (
   | inr is ↦ inr is
 ]
 
+has_at : (xs : List ℕ) (i : ℕ) → i < length xs → Has xs (slice_index xs i)
+has_at [] i low = absurd (omega (arith, low))
+has_at (x ∷ xs) zero low = inl refl
+has_at (x ∷ xs) (suc i) low = inr (has_at xs i (omega (arith, low)))
+
+pub check_files-requires-clause-tables : goal.check_files-requires-clause-tables
+check_files-requires-clause-tables g c = stays_common g.S.Store c.args.conn.now c.loop-acc.conn c.loop-acc.invariant.0 c.requires.tables
+
+pub check_files-requires-clause-marks : goal.check_files-requires-clause-marks
+check_files-requires-clause-marks g c =
+    stays_marks g.S.Store c.args.conn.now c.loop-acc.conn c.loop-acc.invariant.0 c.is_marked.result
+    (subst (λ b. HoldsMarksIf b (state g.S.Store c.args.conn.now)) (sym c.is_marked.ensures) (c.requires.marks (slice_index c.args.accessions.now c.loop-acc.acc-index)))
+
 pub loop-acc-preserved : goal.loop-acc-preserved
 loop-acc-preserved g c = (
   stays_then g.S.Store c.args.conn.now c.loop-acc.conn c.check_files.new.conn c.loop-acc.invariant.0 c.loop-acc.invariant.1 c.check_files.ensures.tests.stays,
   c.in_ok-check_files.ensures.tests.ends_open,
   λ is_open acc here.
       let accessions = c.args.accessions.now in
+      let marked = c.args.marked.now in
       let at = c.loop-acc.acc-index in
+      let one = slice_index accessions at in
       let was = c.check_files.ensures.tests.stays.lasts.was_open is_open in
       let next : at + 1 ≡ suc at = omega arith in
       elim (has_taken accessions at acc c.loop-acc-test.true (subst (λ n. Has (take n accessions) acc) next here)) [
         | inl before ↦ c.loop-acc.invariant.2 was acc before
-        | inr is ↦ subst (λ n. HasFiles n (state g.S.Store c.args.conn.now).now.trees) (sym is)
-            (subst (λ (db : Database). HasFiles (slice_index accessions at) db.trees) (c.loop-acc.invariant.0.now was) (c.in_ok-check_files.ensures.tests.judges is_open))
+        | inr is ↦
+            let middle = (state g.S.Store c.loop-acc.conn).now in
+            let files = subst (λ b. HasFiles b one middle.trees) c.is_marked.ensures (c.in_ok-check_files.ensures.tests.judges is_open) in
+            subst (λ n. HasFiles (is_among marked n) n (state g.S.Store c.args.conn.now).now.trees) (sym is) (subst (λ (db : Database). HasFiles (is_among marked one) one db.trees) (c.loop-acc.invariant.0.now was) files)
       ],
 )

@@ -28,3 +28,6 @@ returns-clause-tests g c = record {
 
 pub returns-clause-listed : goal.returns-clause-listed
 returns-clause-listed g c is_open = (_, c.in_ok-rows.ensures.asks.answer is_open)
+
+pub read_listing-requires : goal.read_listing-requires
+read_listing-requires g c = record { tables = c.requires.tables }

@@ -1,10 +1,14 @@
-use Rattle.std.proofs.Common.{[]}
+use Rattle.std.proofs.Common.{[], ◌∙◌, ap, map, sym}
 use Rattle.std.proofs.lemmas.Result.{IfOk-weaker}
 use Rattle.sqlite.specs.Held.{state}
 use Rattle.rd_tables.proofs.QueryTexts.{accessions_asks}
 use Rattle.rd_tables.proofs.Reading.{shown_was_open, shown_picks}
+use Rattle.rd_tables.specs.Sheets.{map_of}
+use Rattle.rd_store.specs.Shown.{accession_shown}
+use Rattle.rd_store.specs.Spelled.{image_sheet, marks_sheet}
 use Rattle.rd_store.proofs.Laws.{holds_tables, stays_desk}
 use Rattle.rd_store.proofs.Found.{accessions_found}
+use Rattle.rd_store.proofs.Joined.{keys_joined}
 use Rattle.rd_store.proofs.images.accession_rows.Goals as goal
 
 pub read_all-requires-clause-tables : goal.read_all-requires-clause-tables
@@ -25,7 +29,9 @@ returns-clause-asks g c = record {
       let shown = c.read_all.ensures.asks.answer is_open in
       IfOk-weaker c.read_all.result _ _ (λ rows h.
       let at = c.requires.holds (shown_was_open _ params old new rows.items h) in
-      accessions_found _ rows.items at.holds.of.rows.images (shown_picks accessions_asks params old new at.tables.schema rows.items h)) shown;
+      let trees = old.now.trees in
+      accessions_found _ rows.items at.holds.of.rows.images (shown_picks accessions_asks params old new at.tables.schema rows.items h)
+      ∙ ap (map accession_shown) (sym (keys_joined (map_of image_sheet (trees 2)) (map_of marks_sheet (trees 11))))) shown;
 }
 
 pub returns-clause-kept : goal.returns-clause-kept

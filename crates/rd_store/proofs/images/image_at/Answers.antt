@@ -1,7 +1,7 @@
 use Rattle.std.proofs.Common.{rules, ◌∙◌}
 use Rattle.std.proofs.lemmas.Result.{IfOk-weaker}
 use Rattle.sqlite.specs.Held.{state}
-use Rattle.rd_store.proofs.Found.{image_found}
+use Rattle.rd_store.proofs.Found.{image_found, rows_back}
 use Rattle.rd_store.proofs.images.image_at.Goals as goal
 
 pub returns : goal.returns
@@ -13,6 +13,6 @@ returns g c = record {
     answer = λ is_open.
         let table = (state g.S.Store c.args.conn.now).now.trees 2 in
         let picks = c.in_ok-rows.ensures.asks.answer is_open in
-        IfOk-weaker c.first_image.result _ _ (λ read is spells. is _ (c.deref.ensures.value ∙ image_found c.args.acc table _ spells picks)) c.first_image.ensures.image;
+        IfOk-weaker c.first_image.result _ _ (λ read is spells. is _ (c.deref.ensures.value ∙ image_found c.args.acc table _ spells picks) ∙ rows_back table c.args.acc) c.first_image.ensures.image;
   };
 }

@@ -39,3 +39,6 @@ returns-in-Ok-clause-numbers g c is_open =
 pub returns-in-Ok-clause-ascending : goal.returns-in-Ok-clause-ascending
 returns-in-Ok-clause-ascending g c =
     subst IsNonDecreasing (sym (c.in-Ok.ensures.numbers ∙ ap (map (λ row. natural (column row 0))) c.deref-2.ensures.value)) (numbers_ascend _ c.in_ok-rows.ensures.rising)
+
+pub read_listing-requires : goal.read_listing-requires
+read_listing-requires g c = record { tables = c.requires.tables }

@@ -2,7 +2,7 @@ use Rattle.std.proofs.Common.{rules, sym, subst}
 use Rattle.sqlite.specs.Effect.{Database}
 use Rattle.sqlite.specs.Held.{state}
 use Rattle.rd_store.specs.Opened.{LawfulGiven, LawfulImages}
-use Rattle.rd_store.proofs.Laws.{stays_then}
+use Rattle.rd_store.proofs.Laws.{stays_common, stays_then}
 use Rattle.rd_store.proofs.Sequels.{denied_part, judged_err, given, images_of}
 use Rattle.rd_store.proofs.opening.check_given.Goals as goal
 
@@ -39,3 +39,6 @@ returns-clause-tests g c = record {
       let images = subst (λ (db : Database). LawfulImages deeds db.trees) same (subst (λ l. LawfulImages l middle) c.deref.ensures.value (c.in_ok-accessions.ensures.tests.judges is_open)) in
       given trees deeds (c.in_ok-deeds.ensures.numbers was) (c.in_ok-deeds.ensures.tests.judges was) images;
 }
+
+pub check_images-requires-clause-tables : goal.check_images-requires-clause-tables
+check_images-requires-clause-tables g c = stays_common g.S.Store c.args.conn.now c.check_deeds.new.conn c.check_deeds.ensures.tests.stays c.requires.tables

@@ -16,7 +16,7 @@ returns-clause-tests g c = record {
   named = search rules;
   judges = λ is_open.
       let was = c.read_listing.ensures.asks.stays.lasts.was_open is_open in
-      staff_told (state g.S.Store c.args.conn.now).now (c.requires.tables was).schema (c.requires.sound was) _ (c.in_ok-rows.ensures.asks.answer is_open) true (subst (λ (rows : List Row). All IsKeyRow rows × Any IsStaffRow rows) c.deref.ensures.value c.if-not-are_keys.ensures);
+      staff_told (c.requires.tables was).more (state g.S.Store c.args.conn.now).now (c.requires.tables was).rests.schema (c.requires.sound was) _ (c.in_ok-rows.ensures.asks.answer is_open) true (subst (λ (rows : List Row). All IsKeyRow rows × Any IsStaffRow rows) c.deref.ensures.value c.if-not-are_keys.ensures);
 }
 
 pub returns-clause-rowids : goal.returns-clause-rowids
@@ -30,5 +30,8 @@ returns-then-not-are_keys-clause-tests g c = record {
   named = search rules;
   judges = λ is_open.
       let was = c.read_listing.ensures.asks.stays.lasts.was_open is_open in
-      staff_told (state g.S.Store c.args.conn.now).now (c.requires.tables was).schema (c.requires.sound was) _ (c.in_ok-rows.ensures.asks.answer is_open) false (subst (λ (rows : List Row). ¬ (All IsKeyRow rows × Any IsStaffRow rows)) c.deref.ensures.value c.if-not-are_keys.ensures);
+      staff_told (c.requires.tables was).more (state g.S.Store c.args.conn.now).now (c.requires.tables was).rests.schema (c.requires.sound was) _ (c.in_ok-rows.ensures.asks.answer is_open) false (subst (λ (rows : List Row). ¬ (All IsKeyRow rows × Any IsStaffRow rows)) c.deref.ensures.value c.if-not-are_keys.ensures);
 }
+
+pub read_listing-requires : goal.read_listing-requires
+read_listing-requires g c = record { tables = c.requires.tables }

@@ -1,69 +1,106 @@
-use Rattle.std.proofs.Common.{rules, IfOk, Result, Ok, Err, sym, subst}
+use Rattle.std.proofs.Common.{rules, sym, subst}
 use Rattle.sqlite.specs.Effect.{Database}
 use Rattle.sqlite.specs.Held.{state}
-use Rattle.rd_store.specs.Opened.{IsConsistent, LawfulFiles, LawfulGiven, LawfulOthers}
-use Rattle.rd_store.proofs.Laws.{stays_then}
-use Rattle.rd_store.proofs.Sequels.{denied_part, judged_err, judged_same, files_in, given_in, others_in, consistent}
+use Rattle.rd_tables.specs.Sheets.{Spells, map_of}
+use Rattle.rd_store.specs.Opened.{AreKeys, IsConsistent, LawfulCommon, LawfulFiles, LawfulMarks}
+use Rattle.rd_store.specs.Spelled.{image_sheet, marks_sheet}
+use Rattle.rd_store.proofs.Laws.{common_tables, stays_common, stays_tables, stays_then}
+use Rattle.rd_store.proofs.Sequels.{denied_part, judged_err, judged_same, common_in, marks_in, files_in, consistent_second}
 use Rattle.rd_store.proofs.opening.check_rows.Goals as goal
 
-pub returns-in_err-deeds-clause-tests : goal.returns-in_err-deeds-clause-tests
-returns-in_err-deeds-clause-tests g c = record {
-  stays = c.check_given.ensures.tests.stays;
+pub check_common-requires-clause-tables : goal.check_common-requires-clause-tables
+check_common-requires-clause-tables g c = common_tables (state g.S.Store c.args.conn.now) c.requires.tables
+
+pub returns-in_err-accessions-clause-tests : goal.returns-in_err-accessions-clause-tests
+returns-in_err-accessions-clause-tests g c = record {
+  stays = c.check_common.ensures.tests.stays;
   ends_open = search rules;
   refuses = search rules;
   named = search rules;
   judges = λ is_open.
       let trees = (state g.S.Store c.args.conn.now).now.trees in
-      judged_err (IsConsistent trees) c.from_residual.result c.in_err-deeds.field-0.0 c.from_residual.ensures.1
-      (denied_part (LawfulGiven trees) (IsConsistent trees) c.in_err-deeds.field-0.0 (given_in trees) (c.in_err-deeds.ensures.tests.judges is_open));
+      judged_err (IsConsistent trees) c.from_residual.result c.in_err-accessions.field-0.0 c.from_residual.ensures.1
+      (denied_part (LawfulCommon trees) (IsConsistent trees) c.in_err-accessions.field-0.0 (common_in trees 2) (c.in_err-accessions.ensures.tests.judges is_open));
 }
 
-pub returns-in_err-check_others-clause-tests : goal.returns-in_err-check_others-clause-tests
-returns-in_err-check_others-clause-tests g c = record {
-  stays = stays_then g.S.Store c.args.conn.now c.check_given.new.conn c.check_others.new.conn c.check_given.ensures.tests.stays c.in_ok-deeds.ensures.tests.ends_open c.check_others.ensures.tests.stays;
+pub returns-in_err-marked-clause-tests : goal.returns-in_err-marked-clause-tests
+returns-in_err-marked-clause-tests g c = record {
+  stays = stays_then g.S.Store c.args.conn.now c.check_common.new.conn c.check_marks.new.conn c.check_common.ensures.tests.stays c.in_ok-accessions.ensures.tests.ends_open c.check_marks.ensures.tests.stays;
   ends_open = search rules;
   refuses = search rules;
   named = search rules;
   judges = λ is_open.
-      let was = c.check_others.ensures.tests.stays.lasts.was_open is_open in
-      let same = c.check_given.ensures.tests.stays.now was in
+      let was = c.check_marks.ensures.tests.stays.lasts.was_open is_open in
+      let same = c.check_common.ensures.tests.stays.now was in
       let trees = (state g.S.Store c.args.conn.now).now.trees in
-      let middle = (state g.S.Store c.check_given.new.conn).now.trees in
-      let deeds = c.in_ok-deeds.deeds.items in
-      let accessions = c.in_ok-deeds.accessions.items in
-      let are = c.in_ok-deeds.ensures.numbers was in
+      let middle = (state g.S.Store c.check_common.new.conn).now.trees in
+      let accessions = c.in_ok-accessions.accessions.items in
       let from = λ (all : IsConsistent trees).
-      subst (λ l. LawfulOthers l c.deref-2.result.now middle) (sym c.deref.ensures.value) (subst (λ l. LawfulOthers accessions l middle) (sym c.deref-2.ensures.value) (subst (λ (db : Database). LawfulOthers accessions deeds db.trees) (sym same) (others_in trees deeds accessions are all))) in
-      judged_err (IsConsistent trees) c.from_residual-in_err-check_others.result c.in_err-check_others.field-0.0 c.from_residual-in_err-check_others.ensures.1
-      (denied_part (LawfulOthers c.deref.result.now c.deref-2.result.now middle) (IsConsistent trees) c.in_err-check_others.field-0.0 from (c.in_err-check_others.ensures.tests.judges is_open));
+      subst (λ l. LawfulMarks l middle) (sym c.deref.ensures.value) (subst (λ (db : Database). LawfulMarks accessions db.trees) (sym same) (marks_in trees accessions (c.in_ok-accessions.ensures.numbers was) all)) in
+      judged_err (IsConsistent trees) c.from_residual-in_err-marked.result c.in_err-marked.field-0.0 c.from_residual-in_err-marked.ensures.1
+      (denied_part (LawfulMarks c.deref.result.now middle) (IsConsistent trees) c.in_err-marked.field-0.0 from (c.in_err-marked.ensures.tests.judges is_open));
 }
+
+pub check_index-requires-clause-tables : goal.check_index-requires-clause-tables
+check_index-requires-clause-tables g c =
+    let old = c.args.conn.now in
+    stays_common g.S.Store old c.check_marks.new.conn (stays_then g.S.Store old c.check_common.new.conn c.check_marks.new.conn c.check_common.ensures.tests.stays c.in_ok-accessions.ensures.tests.ends_open c.check_marks.ensures.tests.stays)
+    (common_tables (state g.S.Store old) c.requires.tables)
+
+pub check_index-requires-clause-marks : goal.check_index-requires-clause-marks
+check_index-requires-clause-marks g c acc is is_open =
+    let old = c.args.conn.now in
+    let to_second = stays_then g.S.Store old c.check_common.new.conn c.check_marks.new.conn c.check_common.ensures.tests.stays c.in_ok-accessions.ensures.tests.ends_open c.check_marks.ensures.tests.stays in
+    (
+      stays_tables g.S.Store old c.check_marks.new.conn to_second c.requires.tables is_open,
+      subst (λ (db : Database). Spells marks_sheet (db.trees 11)) (sym (c.check_marks.ensures.tests.stays.now is_open)) (c.in_ok-marked.ensures.tests.judges is_open).spells,
+    )
+
+pub check_index-requires-clause-images : goal.check_index-requires-clause-images
+check_index-requires-clause-images g c is_open =
+    let was = c.check_marks.ensures.tests.stays.lasts.was_open is_open in
+    let same = c.check_marks.ensures.tests.stays.now is_open in
+    subst (λ (db : Database). Spells image_sheet (db.trees 2)) (sym same) (subst (λ (db : Database). Spells image_sheet (db.trees 2)) (sym (c.check_common.ensures.tests.stays.now was)) (c.in_ok-accessions.ensures.tests.judges was).given.1.spells)
+
+pub check_index-requires-clause-numbers : goal.check_index-requires-clause-numbers
+check_index-requires-clause-numbers g c is_open =
+    let was = c.check_marks.ensures.tests.stays.lasts.was_open is_open in
+    let accessions = c.in_ok-accessions.accessions.items in
+    let late = (state g.S.Store c.check_marks.new.conn).now in
+    subst (λ l. AreKeys (map_of image_sheet (late.trees 2)) l) (sym c.deref-2.ensures.value)
+    (subst (λ (db : Database). AreKeys (map_of image_sheet (db.trees 2)) accessions) (sym (c.check_marks.ensures.tests.stays.now is_open))
+    (subst (λ (db : Database). AreKeys (map_of image_sheet (db.trees 2)) accessions) (sym (c.check_common.ensures.tests.stays.now was)) (c.in_ok-accessions.ensures.numbers was)))
 
 pub returns-clause-tests : goal.returns-clause-tests
 returns-clause-tests g c =
     let old = c.args.conn.now in
-    let first = c.check_given.new.conn in
-    let second = c.check_others.new.conn in
+    let first = c.check_common.new.conn in
+    let second = c.check_marks.new.conn in
     let last = c.check_index.new.conn in
-    let to_second = stays_then g.S.Store old first second c.check_given.ensures.tests.stays c.in_ok-deeds.ensures.tests.ends_open c.check_others.ensures.tests.stays in
+    let to_second = stays_then g.S.Store old first second c.check_common.ensures.tests.stays c.in_ok-accessions.ensures.tests.ends_open c.check_marks.ensures.tests.stays in
     record {
-      stays = stays_then g.S.Store old second last to_second c.in_ok-check_others.ensures.tests.ends_open c.check_index.ensures.tests.stays;
+      stays = stays_then g.S.Store old second last to_second c.in_ok-marked.ensures.tests.ends_open c.check_index.ensures.tests.stays;
       ends_open = search rules;
       refuses = search rules;
       named = search rules;
       judges = λ is_open.
-          let then = c.check_index.ensures.tests.stays.lasts.was_open is_open in
-          let was = c.check_others.ensures.tests.stays.lasts.was_open then in
-          let same = c.check_given.ensures.tests.stays.now was in
-          let both = to_second.now then in
+          let late_open = c.check_index.ensures.tests.stays.lasts.was_open is_open in
+          let was = c.check_marks.ensures.tests.stays.lasts.was_open late_open in
+          let same = c.check_common.ensures.tests.stays.now was in
+          let both = to_second.now late_open in
           let trees = (state g.S.Store old).now.trees in
           let middle = (state g.S.Store first).now.trees in
           let late = (state g.S.Store second).now.trees in
-          let deeds = c.in_ok-deeds.deeds.items in
-          let accessions = c.in_ok-deeds.accessions.items in
-          let are = c.in_ok-deeds.ensures.numbers was in
-          let others = subst (λ (db : Database). LawfulOthers accessions deeds db.trees) same (subst (λ l. LawfulOthers accessions l middle) c.deref-2.ensures.value (subst (λ l. LawfulOthers l c.deref-2.result.now middle) c.deref.ensures.value (c.in_ok-check_others.ensures.tests.judges then))) in
-          let to = λ (files : LawfulFiles late). consistent trees deeds accessions are (c.requires.version (c.check_given.ensures.tests.stays.lasts.was_open was)) (c.in_ok-deeds.ensures.tests.judges was) others
-          (subst (λ (db : Database). LawfulFiles db.trees) both files) in
-          let from = λ (all : IsConsistent trees). subst (λ (db : Database). LawfulFiles db.trees) (sym both) (files_in trees all) in
-          judged_same (LawfulFiles late) (IsConsistent trees) c.check_index.result to from (c.check_index.ensures.tests.judges is_open);
+          let accessions = c.in_ok-accessions.accessions.items in
+          let marked = c.in_ok-marked.marked.items in
+          let are = c.in_ok-accessions.ensures.numbers was in
+          let those = subst (λ (db : Database). AreKeys (map_of marks_sheet (db.trees 11)) marked) same (c.in_ok-marked.ensures.numbers late_open) in
+          let marks = subst (λ (db : Database). LawfulMarks accessions db.trees) same (subst (λ l. LawfulMarks l middle) c.deref.ensures.value (c.in_ok-marked.ensures.tests.judges late_open)) in
+          let version = c.requires.version (c.check_common.ensures.tests.stays.lasts.was_open was) in
+          let to = λ (files : LawfulFiles c.deref-3.result.now c.deref-2.result.now late).
+          consistent_second trees accessions marked those version (c.in_ok-accessions.ensures.tests.judges was) marks
+          (subst (λ (db : Database). LawfulFiles marked accessions db.trees) both (subst (λ l. LawfulFiles marked l late) c.deref-2.ensures.value (subst (λ l. LawfulFiles l c.deref-2.result.now late) c.deref-3.ensures.value files))) in
+          let from = λ (all : IsConsistent trees).
+          subst (λ l. LawfulFiles l c.deref-2.result.now late) (sym c.deref-3.ensures.value) (subst (λ l. LawfulFiles marked l late) (sym c.deref-2.ensures.value) (subst (λ (db : Database). LawfulFiles marked accessions db.trees) (sym both) (files_in trees accessions marked those all))) in
+          judged_same (LawfulFiles c.deref-3.result.now c.deref-2.result.now late) (IsConsistent trees) c.check_index.result to from (c.check_index.ensures.tests.judges is_open);
     }

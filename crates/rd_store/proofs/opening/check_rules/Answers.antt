@@ -15,7 +15,7 @@ returns-clause-tests g c = record {
   named = search rules;
   judges = λ is_open.
       let was = c.read_listing.ensures.asks.stays.lasts.was_open is_open in
-      rules_told (state g.S.Store c.args.conn.now).now (c.requires.tables was).schema (c.requires.sound was) _ c.args.accessions.now c.args.deeds.now (c.in_ok-rows.ensures.asks.answer is_open) true (subst (λ (rows : List Row). All (IsRuleRow c.args.accessions.now c.args.deeds.now) rows) c.deref.ensures.value c.if-not-are_rules.ensures);
+      rules_told (c.requires.tables was).more (state g.S.Store c.args.conn.now).now (c.requires.tables was).rests.schema (c.requires.sound was) _ c.args.accessions.now c.args.deeds.now (c.in_ok-rows.ensures.asks.answer is_open) true (subst (λ (rows : List Row). All (IsRuleRow c.args.accessions.now c.args.deeds.now) rows) c.deref.ensures.value c.if-not-are_rules.ensures);
 }
 
 pub returns-clause-rowids : goal.returns-clause-rowids
@@ -29,5 +29,8 @@ returns-then-not-are_rules-clause-tests g c = record {
   named = search rules;
   judges = λ is_open.
       let was = c.read_listing.ensures.asks.stays.lasts.was_open is_open in
-      rules_told (state g.S.Store c.args.conn.now).now (c.requires.tables was).schema (c.requires.sound was) _ c.args.accessions.now c.args.deeds.now (c.in_ok-rows.ensures.asks.answer is_open) false (subst (λ (rows : List Row). ¬ (All (IsRuleRow c.args.accessions.now c.args.deeds.now) rows)) c.deref.ensures.value c.if-not-are_rules.ensures);
+      rules_told (c.requires.tables was).more (state g.S.Store c.args.conn.now).now (c.requires.tables was).rests.schema (c.requires.sound was) _ c.args.accessions.now c.args.deeds.now (c.in_ok-rows.ensures.asks.answer is_open) false (subst (λ (rows : List Row). ¬ (All (IsRuleRow c.args.accessions.now c.args.deeds.now) rows)) c.deref.ensures.value c.if-not-are_rules.ensures);
 }
+
+pub read_listing-requires : goal.read_listing-requires
+read_listing-requires g c = record { tables = c.requires.tables }

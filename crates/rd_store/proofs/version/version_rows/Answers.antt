@@ -14,7 +14,7 @@ returns-in-Ok g c =
     let first = c.requires.first in
     record {
       asks = record {
-        stays = shown_stays g.S.Store laws _ _ c.args.conn.now c.query_all.new.self first.rests (version_asks first.more first.indexes first.views).plain c.query_all.ensures.survives _ c.in-Ok.ensures.ok;
+        stays = shown_stays g.S.Store laws _ _ c.args.conn.now c.query_all.new.self (λ is_open. record { over = _; rests = first.rests is_open; plain = (version_asks first.more first.indexes first.views).plain }) c.query_all.ensures.survives _ c.in-Ok.ensures.ok;
         answer = λ is_open.
             let shown = c.in-Ok.ensures.ok (clean_at g.S.Store laws c.query_all.new.self is_open) in
             shown_picks (version_asks first.more first.indexes first.views) [] old new (first.rests (shown_was_open _ [] old new c.in-Ok.rows.items shown)).schema c.in-Ok.rows.items shown;
@@ -29,7 +29,7 @@ returns-in-Err g c =
     let first = c.requires.first in
     record {
       asks = record {
-        stays = failed_stays g.S.Store laws _ _ c.args.conn.now c.query_all.new.self first.rests (version_asks first.more first.indexes first.views).plain c.query_all.ensures.survives _ c.in-Err.ensures.err;
+        stays = failed_stays g.S.Store laws _ _ c.args.conn.now c.query_all.new.self (λ is_open. record { over = _; rests = first.rests is_open; plain = (version_asks first.more first.indexes first.views).plain }) c.query_all.ensures.survives _ c.in-Err.ensures.err;
         answer = λ is_open. tt;
         ends_open = λ clean. tt;
         fault = search rules;

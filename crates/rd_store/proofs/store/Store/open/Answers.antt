@@ -2,7 +2,7 @@ use Rattle.std.proofs.Common.{ap, subst, rules}
 use Rattle.sqlite.specs.Effect.{Database}
 use Rattle.rd_store.specs.Held.{LeavesOnly}
 use Rattle.rd_store.specs.Spelled.{desk_of}
-use Rattle.rd_store.proofs.Laws.{Laws, leaves_only, stays_desk}
+use Rattle.rd_store.proofs.Laws.{Laws, leaves_only}
 use Rattle.rd_store.proofs.store.Store.open.Goals as goal
 
 pub returns-in-Ok-clause-opened : goal.returns-in-Ok-clause-opened
@@ -14,15 +14,14 @@ returns-in-Ok-clause-opened g c =
       lasts = stays.lasts;
       named = c.in-Ok.ensures.named;
       plain = c.in-Ok.ensures.plain;
-      tables = λ is_open. (tests.desk is_open).tables.schema;
-      consistent = search rules;
+      tables = λ is_open. (tests.holds is_open).of.schema;
+      consistent = λ is_open. let it = tests.holds is_open in record { spelled = it.of.rows; lawful = it.lawful; index = it.of.index };
       is = λ is_open. ap (λ (db : Database). desk_of db.trees) (stays.now is_open);
       untouched = search rules;
       ends_open = tests.ends_open;
       crash = stays.quiet;
       durable = λ is_open.
-          let holds = stays_desk g.S.Store c.args.conn c.judge.new.conn stays (λ was. tests.desk is_open) in
-          subst (LeavesOnly g.S.Store c.judge.new.conn) (ap (λ (db : Database). desk_of db.trees) (stays.now is_open)) (leaves_only g.S.Store laws c.judge.new.conn holds is_open);
+          subst (LeavesOnly g.S.Store c.judge.new.conn) (ap (λ (db : Database). desk_of db.trees) (stays.now is_open)) (leaves_only g.S.Store laws c.judge.new.conn c.in-Ok.ensures.kept is_open);
     }
 
 pub returns-in-Err-clause-refused : goal.returns-in-Err-clause-refused

@@ -1,0 +1,92 @@
+-- What the tests of a database say of it, from the tests of its rows.
+use Rattle.std.proofs.Common.{◌≡◌, ◌≢◌, inl, inr, true, Result, Ok, Err, IfOk, IfErr, refl, sym, subst}
+use Rattle.std.specs.Prelude.{IsErrAnd}
+use Rattle.sqlite.specs.Store.{Ghosts}
+use Rattle.sqlite.specs.Effect.{Database, IsDatabase}
+use Rattle.sqlite.specs.Held.{Held, state}
+use Rattle.rd_tables.specs.Schemas.{desk_schema, first_schema, has_desk_columns}
+use Rattle.rd_store.specs.declared.faults.OpenFault.{OpenFault}
+use Rattle.rd_store.specs.declared.faults.OpenFault.TheVariants.{NotADesk, Version as OtherVersion, Inconsistent, Sql}
+use Rattle.rd_store.specs.Spelled.{HasVersion, HaveOwnRowids, unmarked}
+use Rattle.rd_store.specs.Held.{IsClean, IsOpen, Stays}
+use Rattle.rd_store.specs.Opened.{IsConsistent, IsConsistentAs, Denied, Judged, IsHeld, Refuses, Tests, TestsDatabase}
+use Rattle.rd_store.specs.Migrated.{IsHeldFirst, RefusesEach}
+use Rattle.rd_store.proofs.Laws.{stays_then}
+
+held : (db : Database) → db.schema ≡ desk_schema → IsDatabase db → IsConsistent db.trees → HaveOwnRowids db.trees → IsHeld db
+held db schema sound all rowids = record { of = record { schema = schema; rows = all.spelled; rowids = rowids; sound = sound; is = refl; index = all.index }; lawful = all.lawful }
+
+held_first : (db : Database) → db.schema ≡ first_schema → IsDatabase db → IsConsistentAs 1 (unmarked db.trees) → HaveOwnRowids db.trees → IsHeldFirst db
+held_first db schema sound all rowids = record { of = record { schema = schema; rows = all.spelled; rowids = rowids; sound = sound; is = refl; index = all.index }; lawful = all.lawful }
+
+-- what holds after Ok
+both_ok : {T : Type 0} (r : Result T OpenFault) (P R Q : Type 0) → Judged P r → IfOk r (λ _. R) → (P → R → Q) → IfOk r (λ _. Q)
+both_ok (Ok value) P R Q judged also from = from judged also
+both_ok (Err fault) P R Q judged also from = tt
+
+-- and what a refusal tells
+refused_by : {T : Type 0} (r : Result T OpenFault) (P : Type 0) (Bad : OpenFault → Type 0) → Judged P r → (¬ P → Bad Inconsistent) → Bad Sql → IfErr r Bad
+refused_by (Ok value) P Bad judged inconsistent sql = tt
+refused_by (Err NotADesk) P Bad judged inconsistent sql = absurd judged
+refused_by (Err OtherVersion) P Bad judged inconsistent sql = absurd judged
+refused_by (Err Inconsistent) P Bad judged inconsistent sql = inconsistent judged
+refused_by (Err Sql) P Bad judged inconsistent sql = sql
+
+module _ {S : Type 0} (g : Ghosts S) (old new : Held S) (named : has_desk_columns old.schema ≡ true) (sound : IsOpen g old → IsDatabase (state g old).now) where
+  -- the tables are those of version 2, and it is said
+  pub judged_second : {T : Type 0} (r : Result T OpenFault) → (state g old).now.schema ≡ desk_schema → (IsOpen g old → HasVersion 2 ((state g old).now.trees 0)) → Tests g old new r IsConsistent
+      → (IsOpen g new → IfOk r (λ _. HaveOwnRowids (state g old).now.trees)) → TestsDatabase g old new r (λ _. IsHeld) Refuses
+  judged_second r schema version tests rowids = record {
+    stays = tests.stays;
+    holds = λ o. both_ok r _ _ _ (tests.judges o) (rowids o) (held (state g old).now schema (sound (tests.stays.lasts.was_open o)));
+    refused = λ o. refused_by r _ (λ fault. Refuses fault (state g old).now) (tests.judges o) (λ other. (schema, version (tests.stays.lasts.was_open o), other)) (rw named refl);
+    ends_open = tests.ends_open;
+    refuses = tests.refuses;
+  }
+
+  -- those of version 1
+  pub judged_first : {T : Type 0} (r : Result T OpenFault) → (state g old).now.schema ≡ first_schema → (IsOpen g old → HasVersion 1 ((state g old).now.trees 0)) → Tests g old new r (λ trees. IsConsistentAs 1 (unmarked trees))
+      → (IsOpen g new → IfOk r (λ _. HaveOwnRowids (state g old).now.trees)) → TestsDatabase g old new r (λ _. IsHeldFirst) RefusesEach
+  judged_first r schema version tests rowids = record {
+    stays = tests.stays;
+    holds = λ o. both_ok r _ _ _ (tests.judges o) (rowids o) (held_first (state g old).now schema (sound (tests.stays.lasts.was_open o)));
+    refused = λ o. refused_by r _ (λ fault. RefusesEach fault (state g old).now) (tests.judges o) (λ other. inl (schema, version (tests.stays.lasts.was_open o), other)) (rw named refl);
+    ends_open = tests.ends_open;
+    refuses = tests.refuses;
+  }
+
+-- a test after a query
+module _ {S : Type 0} (g : Ghosts S) (a b c : Held S) (stays : Stays g a b) (opens : IsClean g b → IsOpen g b) where
+  pub then_database : {T : Type 0} (r : Result T OpenFault) (Good : T → Database → Type 0) (Bad : OpenFault → Database → Type 0) → TestsDatabase g b c r Good Bad → TestsDatabase g a c r Good Bad
+  then_database r Good Bad next = record {
+    stays = stays_then g a b c stays opens next.stays;
+    holds = λ o. subst (λ (db : Database). IfOk r (λ value. Good value db)) (stays.now (next.stays.lasts.was_open o)) (next.holds o);
+    refused = λ o. subst (λ (db : Database). IfErr r (λ fault. Bad fault db)) (stays.now (next.stays.lasts.was_open o)) (next.refused o);
+    ends_open = next.ends_open;
+    refuses = next.refuses;
+  }
+
+-- a test whose result tells more, or less
+module _ {S : Type 0} (g : Ghosts S) (a b : Held S) {T U : Type 0} (Good : T → Database → Type 0) (More : U → Database → Type 0) (Bad Worse : OpenFault → Database → Type 0) where
+  pub told_ok : (value : T) (other : U) → (IsOpen g b → Good value (state g a).now → More other (state g a).now) → TestsDatabase g a b (Ok value) Good Bad → TestsDatabase g a b (Ok other) More Worse
+  told_ok value other more tests = record { stays = tests.stays; holds = λ o. more o (tests.holds o); refused = λ o. tt; ends_open = tests.ends_open; refuses = tt }
+
+  pub told_err : (fault : OpenFault) (q : Result U OpenFault) → IsErrAnd q (λ other. other ≡ fault) → (Bad fault (state g a).now → Worse fault (state g a).now) → TestsDatabase {T = T} g a b (Err fault) Good Bad → TestsDatabase g a b q More Worse
+  told_err fault (Ok value) is worse tests = absurd is
+  told_err fault (Err other) is worse tests = subst (λ e. TestsDatabase {T = U} g a b (Err e) More Worse) (sym is) (record { stays = tests.stays; holds = λ o. tt; refused = λ o. worse (tests.refused o); ends_open = λ clean. tt; refuses = tests.refuses })
+
+-- a refusal of tables of version 2
+pub each_of : (fault : OpenFault) (db : Database) → fault ≢ NotADesk → fault ≢ OtherVersion → Refuses fault db → RefusesEach fault db
+each_of NotADesk db not_desk known refused = absurd (not_desk refl)
+each_of OtherVersion db not_desk known refused = absurd (known refl)
+each_of Inconsistent db not_desk known refused = inr refused
+each_of Sql db not_desk known refused = refused
+
+-- what is so after Ok, wherever the connection is open
+pub hold_ok : {T X : Type 0} (r : Result T X) (O P Q : Type 0) → (O → IfOk r (λ _. P)) → (O → P → Q) → IfOk r (λ _. O → Q)
+hold_ok (Ok value) O P Q holds from = λ o. from o (holds o)
+hold_ok (Err e) O P Q holds from = tt
+
+pub ok_any : {T X : Type 0} (r : Result T X) (P : Type 0) → P → IfOk r (λ _. P)
+ok_any (Ok value) P holds = holds
+ok_any (Err e) P holds = tt

@@ -1,0 +1,25 @@
+use Rattle.std.proofs.Common.{IsTrue, Some}
+use Rattle.sqlite.specs.State.{ExecutesInside}
+use Rattle.sqlite.specs.Held.{state}
+use Rattle.rd_tables.specs.Schemas.{desk_schema}
+use Rattle.rd_tables.specs.Statements.{put_marks_text, put_marks}
+use Rattle.rd_tables.proofs.Statements.{marks_params}
+use Rattle.rd_tables.proofs.StatementTexts.{put_marks_writes}
+use Rattle.rd_store.specs.Held.{IsOfWith, IsClean}
+use Rattle.rd_store.specs.Index.{IsFiledTo, with_new_image}
+use Rattle.rd_store.specs.Marks.{with_marks}
+use Rattle.rd_store.proofs.Inside.{moves}
+use Rattle.rd_store.proofs.Making.{makes_marks, with_schema}
+use Rattle.rd_store.proofs.marks.insert_marks.Goals as goal
+
+pub returns-clause-moves : goal.returns-clause-moves
+returns-clause-moves g c before images files count image stands kind =
+    let acc = c.args.acc in
+    let marks = c.args.marks.now in
+    let params = marks_params acc marks in
+    let old = c.args.tx.now.conn.now in
+    let new = c.execute.new.self.conn.now in
+    let Index = IsFiledTo images acc files count in
+    let runs : IsClean g.S.Store new → IsTrue old.in_transaction → ExecutesInside 0 put_marks_text params (state g.S.Store old) (state g.S.Store new) c.execute.result =
+    rw (c.params-to_sql.ensures, c.params-to_sql-2.ensures) at c.execute.ensures.runs in
+    moves desk_schema put_marks_text put_marks put_marks_writes params (IsOfWith before Index) (IsOfWith (with_new_image acc (with_marks (Some marks) image) before) Index) (with_schema before Index) (makes_marks acc image marks before Index stands kind c.requires.count) g.S.Store old new c.execute.result c.execute.ensures.ended runs c.execute.ensures.survives

@@ -1,0 +1,25 @@
+use Rattle.std.proofs.Common.{[], ◌∷◌, pos}
+use Rattle.std.proofs.lemmas.Result.{IfOk-weaker}
+use Rattle.sqlite.specs.declared.types.Value.TheVariants.{Int}
+use Rattle.sqlite.specs.Held.{state}
+use Rattle.rd_tables.proofs.QueryTexts.{marks_asks}
+use Rattle.rd_tables.proofs.Reading.{shown_was_open, shown_picks}
+use Rattle.rd_store.proofs.marks.marks_rows.Goals as goal
+
+pub read_all-requires-clause-plain : goal.read_all-requires-clause-plain
+read_all-requires-clause-plain g c = marks_asks.plain
+
+pub returns : goal.returns
+returns g c = record {
+  asks = record {
+    stays = c.read_all.ensures.asks.stays;
+    ends_open = c.read_all.ensures.asks.ends_open;
+    fault = c.read_all.ensures.asks.fault;
+    answer = λ is_open.
+        let old = state g.S.Store c.args.conn.now in
+        let new = state g.S.Store c.read_all.new.conn in
+        let params = Int (pos c.args.acc) ∷ [] in
+        let shown = (rw c.to_sql-key.ensures at (c.read_all.ensures.asks.answer is_open)) in
+        IfOk-weaker c.read_all.result _ _ (λ rows h. shown_picks marks_asks params old new (c.requires.tables (shown_was_open _ params old new rows.items h)).schema rows.items h) shown;
+  };
+}

@@ -1,0 +1,15 @@
+use Rattle.std.proofs.Common.{[]}
+use Rattle.rd_tables.specs.Schemas.{desk_schema}
+use Rattle.rd_tables.specs.Statements.{set_version_text, set_version}
+use Rattle.rd_tables.proofs.StatementTexts.{set_version_writes}
+use Rattle.rd_store.specs.Held.{IsOf}
+use Rattle.rd_store.specs.Migrated.{IsHalfway}
+use Rattle.rd_store.proofs.Migrating.{makes_second}
+use Rattle.rd_store.proofs.Inside.{moves}
+use Rattle.rd_store.proofs.migrating.set_version.Goals as goal
+
+pub returns-clause-moves : goal.returns-clause-moves
+returns-clause-moves g c desk =
+    let old = c.args.tx.now.conn.now in
+    let new = c.execute.new.self.conn.now in
+    moves desk_schema set_version_text set_version set_version_writes [] (IsHalfway desk) (IsOf desk) (λ db of. of.schema) (makes_second desk) g.S.Store old new c.execute.result c.execute.ensures.ended c.execute.ensures.runs c.execute.ensures.survives

@@ -1,0 +1,69 @@
+//! Bringing a desk from the tables of version 1 to those of version 2.
+
+ghost use Rattle.std.specs.Prelude.{◌≡◌, ◌≢◌, IfOk, IfErr, MatchBool, false, true};
+ghost use Rattle.sqlite.specs.Held.{state};
+ghost use Rattle.rd_tables.specs.Schemas.{has_desk_columns, has_foreign_desk, may_be_desk};
+ghost use Rattle.rd_store.specs.Created.{IsAt, Turns};
+ghost use Rattle.rd_store.specs.Held.{HoldsDesk, IsOf, IsOpen, Moves};
+ghost use Rattle.rd_store.specs.Migrated.{IsFirst, IsHalfway, IsMigrated, IsNotMigrated, first_desk};
+ghost use Rattle.rd_store.specs.Opened.{IsSettledAt, IsSoundAt};
+
+use crate::create::create_text;
+use crate::faults::OpenFault;
+use crate::judging::judge_each;
+use crate::version::Version;
+use sqlite::{Alter, Connection, Error, Transaction};
+use std::alloc::Global;
+
+/// Makes the table of error bytes.
+fn make_marks<S: Alter>(tx: &mut Transaction<'_, S>) -> Result<usize, Error>
+    ensures same_reference { tx.new.conn.ghost_name ≡ tx.old.conn.ghost_name }
+    ensures moves { (desk : _) → Moves S.Store tx.old.conn.now tx.new.conn.now (IsFirst desk) (IsHalfway desk) result }
+{
+    tx.execute(create_text(7), &[])
+}
+
+/// Says version 2.
+fn set_version<S: Alter>(tx: &mut Transaction<'_, S>) -> Result<usize, Error>
+    ensures same_reference { tx.new.conn.ghost_name ≡ tx.old.conn.ghost_name }
+    ensures moves { (desk : _) → Moves S.Store tx.old.conn.now tx.new.conn.now (IsHalfway desk) (IsOf desk) result }
+{
+    tx.execute("UPDATE desk SET version = 2", &[])
+}
+
+/// Brings the tables of version 1 to version 2.
+fn bring<S: Alter>(tx: &mut Transaction<'_, S>) -> Result<usize, Error>
+    ensures same_reference { tx.new.conn.ghost_name ≡ tx.old.conn.ghost_name }
+    ensures moves { (desk : _) → Moves S.Store tx.old.conn.now tx.new.conn.now (IsFirst desk) (IsOf desk) result }
+{
+    make_marks(tx)?;
+    set_version(tx)
+}
+
+/// Brings the tables of version 1 to version 2, in one transaction.
+fn write_version<S: Alter>(conn: &mut Connection<S>) -> Result<(), Error>
+    requires mode { conn.old.in_transaction ≡ false }
+    requires start { IsOpen S.Store conn.old → IsAt (IsFirst (first_desk (state S.Store conn.old).now.trees)) (state S.Store conn.old) }
+    ensures turns { Turns S.Store conn.old conn.new (IsOf (first_desk (state S.Store conn.old).now.trees)) result }
+{
+    let mut tx = conn.transaction();
+    bring(&mut tx)?;
+    tx.commit()
+}
+
+/// Tests a database for a desk, and brings tables of version 1 to version 2.
+pub(crate) fn migrate<S: Alter>(alloc: Global, conn: &mut Connection<S>) -> Result<(), OpenFault>
+    requires settled { IsSettledAt (state S.Store conn.old) }
+    requires sound { IsSoundAt (state S.Store conn.old) }
+    ensures migrated { IfOk result (λ done. IsMigrated S.Store conn.old conn.new) }
+    ensures holds { IfOk result (λ done. HoldsDesk (state S.Store conn.new)) }
+    ensures refused { IfErr result (λ fault. IsNotMigrated S.Store conn.old conn.new fault) }
+{
+    match judge_each(alloc, conn)? {
+        Version::Second => Ok(()),
+        Version::First => match write_version(conn) {
+            Ok(()) => Ok(()),
+            Err(_) => Err(OpenFault::Sql),
+        },
+    }
+}
