@@ -311,7 +311,7 @@ def see_init(desk):
     desk.same("init: a new store", done, desk.init(desk.store, " \t abc\t "))
     desk.same("init: again", stops("exists", 1), desk.init(desk.store, " \t abc\t "))
     desk.same("init: with another key", stops("exists", 1), desk.init(desk.store, "another"))
-    desk.shows("init", [("the key", BADGE_ROWS, BADGES[1:]), ("how many rows", COUNTS, ["1|0|0|0|1|0"])])
+    desk.shows("init", [("the key", BADGE_ROWS, BADGES[1:]), ("how many rows", COUNTS, ["1|0|0|0|1|0|0"])])
     desk.same("init: an empty key", done, desk.init(desk.path("empty-key.sqlite"), "\t "))
     came = desk.sql(desk.path("empty-key.sqlite"), BADGE_ROWS)
     desk.same("init: that key", f"{digest(b'')}|2\n", came)

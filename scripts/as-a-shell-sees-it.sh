@@ -55,6 +55,8 @@ ends 1 "desk: wrong-size" "$work/nothing" "$desk" cat cpm8 "$work/long" 0
 ends 1 "desk: no-file" "$work/nothing" "$desk" cat cpm8 "$hello" 1
 ends 1 "desk: listed-only" "$work/nothing" "$desk" cat d64 images/museum.d64 1
 ends 1 "desk: faulty crossed" "$work/nothing" "$desk" cat cpm8 images/damaged.img 0
+ends 1 "desk: faulty read-error" "$work/nothing" "$desk" cat d64e images/damaged.d64 0
+ends 1 "desk: wrong-size" "$work/nothing" "$desk" list d64 images/damaged.d64
 ends 2 '*' "$work/nothing" "$desk"
 ends 2 '*' "$work/nothing" "$desk" cat cpm8 "$hello" 10000
 ends 2 '*' "$work/nothing" "$desk" list d65 "$hello"

@@ -2,12 +2,12 @@
 """scripts/as-strangers-see-it.py [PROGRAM]: takes in 100 images by sheets that other programs write, and has other
 programs read what desk exports.
 
-It makes 50 images with cpmtools and 50 with cc1541, of which some are then damaged. Python's csv writes one sheet of
-them and `sqlite3 -csv` another; their paths have blanks, commas and quotation marks. desk imports both under three
-deeds. Then it exports as the public, the reading room and the staff, on the last day of an embargo and on the day
-after. Each export is read by Python's csv and by sqlite3's .import, and both have to read the same table: the one that
-`desk list` of each image and the rules, as the plain function `verdict` of rules_by_hand.py reads them,
-make together.
+It makes 50 images with cpmtools and 50 with cc1541, damages some and adds error bytes to others. Python's csv writes
+one sheet of them and `sqlite3 -csv` another; their paths have blanks, commas and quotation marks. desk imports both
+under three deeds. Then it exports as the public, the reading room and the staff, on the last day of an embargo and on
+the day after. Each export is read by Python's csv and by sqlite3's .import, and both have to read the same table: the
+one that `desk list` of each image and the rules, as the plain function `verdict` of rules_by_hand.py reads them, make
+together.
 
 PROGRAM is crates/rd_main/out/rd_main of this repository where none is named. Run as root, it installs Debian's packages
 where one is missing."""
@@ -140,10 +140,12 @@ def new_images(folder):
     local = os.path.join(folder, "local")
     told = {}
     for acc in range(1, 101):
-        kind = "cpm8" if acc % 2 else "d64"
+        kind = "cpm8" if acc % 2 else "d64e" if acc % 10 == 0 else "d64"
         name = random_.choice([f"disk {acc}", f"a, {acc}", f'the "{acc}"', f"'{acc}'"])
         path = os.path.join(folder, f"{name}.{kind}")
         (new_cpm if kind == "cpm8" else new_cbm)(random_, path, local)
+        if kind == "d64e":
+            write(path, bytes_of(path) + cbm_image.marks_by_chance(random.Random(acc)))
         told[acc] = kind, 31 + acc // 2 % 3, path
     return told
 
@@ -287,7 +289,7 @@ def compare(desk, folder, holdings):
 def check_cases(desk, files, tables):
     """That the images and the rules are such that a mistake would be seen."""
     faults = {file["faults"] for file in files}
-    lacking = [word for word in ("", "not-closed", "crossed") if word not in faults]
+    lacking = [word for word in ("", "not-closed", "crossed", "read-error") if word not in faults]
     desk.same("files with faults and without", [], lacking)
     names = "".join(file["name"] for file in files)
     desk.same("names that CSV has to quote", [], [sign for sign in ',"' if sign not in names])

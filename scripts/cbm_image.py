@@ -21,6 +21,14 @@ def mark_place(track, sector):
     return SIZE + place(track, sector) // 256
 
 
+def marks_by_chance(random_):
+    """The error bytes of a disk, of which up to 40 tell of an error."""
+    marks = bytearray(random_.choice([0, 1]) for _ in range(BLOCKS))
+    for block in random_.sample(range(BLOCKS), random_.choice([0, 1, 10, 40])):
+        marks[block] = random_.randint(2, 255)
+    return bytes(marks)
+
+
 def padded(name):
     return name.ljust(16, b"\xa0")
 

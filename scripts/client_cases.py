@@ -674,7 +674,7 @@ CHANGED = [
     ("the version before, with the tables of this one", "UPDATE desk SET version = 1", "store"),
     ("no table for error bytes", "DROP TABLE marks", "store"),
     ("error bytes of no accession", "INSERT INTO marks VALUES (99, zeroblob(683))", "inconsistent"),
-    ("error bytes of a CP/M disk", "INSERT INTO marks VALUES (15, zeroblob(683))", "inconsistent"),
+    ("error bytes beside a cpm8", "INSERT INTO marks VALUES (15, zeroblob(683))", "inconsistent"),
     ("an error byte too few", "INSERT INTO marks VALUES (12, zeroblob(682))", "inconsistent"),
     ("an error byte too many", "INSERT INTO marks VALUES (12, zeroblob(684))", "inconsistent"),
     ("error bytes that tell of no error", "UPDATE marks SET bytes = zeroblob(683)", "inconsistent"),

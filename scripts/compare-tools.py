@@ -209,14 +209,6 @@ def cc1541_rows(image):
     return rows
 
 
-def add_marks(random_, image):
-    """Adds error bytes to a 1541 image, of which up to 40 tell of an error."""
-    marks = bytearray(random_.choice([0, 1]) for _ in range(cbm_image.BLOCKS))
-    for block in random_.sample(range(cbm_image.BLOCKS), random_.choice([0, 1, 10, 40])):
-        marks[block] = random_.randint(2, 255)
-    write(image, bytes_of(image) + bytes(marks))
-
-
 def is_unread(image, slot, kind):
     """Whether a block that the file at a slot claims has an error byte that tells of an error."""
     data = bytes_of(image)
@@ -253,7 +245,7 @@ def compare_cbm(desk, number, cwd, differences, kind):
     fill_d64(random_, disk, cwd)
     shutil.copy(disk, image)
     if kind == "d64e":
-        add_marks(random_, image)
+        write(image, bytes_of(image) + cbm_image.marks_by_chance(random_))
     rows = listed(desk, kind, image)
     shutil.copy(image, copy)
     theirs = cc1541_rows(copy)

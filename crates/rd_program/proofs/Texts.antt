@@ -1,5 +1,5 @@
 -- The texts of a command's operands, as `clap` looks at them.
-use Rattle.std.proofs.Common.{◌≡◌, ◌∙◌, ◌≢◌, inl, inr, ℕ, List, [], ◌∷◌, Some, Bool, true, false, codes, refl, ap, sym, subst, arith, drop, length, cond, eqb-true, ◌==◌}
+use Rattle.std.proofs.Common.{◌≡◌, ◌∙◌, ◌≢◌, inl, inr, ℕ, List, [], ◌∷◌, Some, Bool, true, false, refl, ap, sym, subst, arith, map, drop, length, slice_index_or, cond, eqb-true, ◌==◌}
 use Rattle.std.specs.Prelude.{pos}
 use Rattle.std.specs.List.{list_any}
 use Rattle.std.specs.Str.Parse.{IsNumeral, without_leading_plus, digits_value, starts_with_minus}
@@ -45,11 +45,11 @@ kind_accepted kinds kind names =
 pub same_kind : (k l : Kind) → word_of k ≡ word_of l → k ≡ l
 same_kind Cpm8 Cpm8 same = refl
 same_kind Cpm8 D64 same = absurd (let lengths : 4 ≡ 3 = ap length same in omega arith)
-same_kind Cpm8 D64e same = absurd (let first : 99 ≡ 100 = ap (λ word. slice_index word 0) same in omega arith)
+same_kind Cpm8 D64e same = absurd (let first : 99 ≡ 100 = ap (λ word. slice_index_or word 0 0) same in omega arith)
 same_kind D64 Cpm8 same = absurd (let lengths : 3 ≡ 4 = ap length same in omega arith)
 same_kind D64 D64 same = refl
 same_kind D64 D64e same = absurd (let lengths : 3 ≡ 4 = ap length same in omega arith)
-same_kind D64e Cpm8 same = absurd (let first : 100 ≡ 99 = ap (λ word. slice_index word 0) same in omega arith)
+same_kind D64e Cpm8 same = absurd (let first : 100 ≡ 99 = ap (λ word. slice_index_or word 0 0) same in omega arith)
 same_kind D64e D64 same = absurd (let lengths : 4 ≡ 3 = ap length same in omega arith)
 same_kind D64e D64e same = refl
 

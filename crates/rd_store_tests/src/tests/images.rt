@@ -93,11 +93,7 @@ const MARKS: &[Case] = &[
             Step::Tells(Question::Accession(12, Some(COMMODORE))),
             Step::Tells(Question::Accession(13, Some(WITH_MARKS))),
             Step::Tells(Question::Accessions(&[11, 12, 13])),
-            Step::Tells(Question::Register(&[
-                (11, WITH_MARKS),
-                (12, COMMODORE),
-                (13, WITH_MARKS),
-            ])),
+            Step::Tells(Question::Register(&[(11, WITH_MARKS), (12, COMMODORE), (13, WITH_MARKS)])),
             Step::Tells(Question::Files(11, &[HELLO])),
             Step::Tells(Question::Files(13, &[HELLO_UNREAD])),
             Step::Tells(Question::FileAt(13, 0, Some(HELLO_UNREAD))),
