@@ -5,7 +5,7 @@ use Rattle.rd_tables.specs.Sheets.{Spells, map_of}
 use Rattle.rd_store.specs.Opened.{AreKeys, IsConsistentAs, LawfulCommon, LawfulFiles}
 use Rattle.rd_store.specs.Spelled.{image_sheet, unmarked}
 use Rattle.rd_store.proofs.Laws.{stays_common, stays_then}
-use Rattle.rd_store.proofs.Sequels.{denied_part, judged_err, judged_same, common_in, files_in_first, consistent_first}
+use Rattle.rd_store.proofs.Sequels.{denied_part, judged_err, judged_same, common_in_first, files_in_first, consistent_first}
 use Rattle.rd_store.proofs.opening.check_first_rows.Goals as goal
 
 pub returns-in_err-accessions-clause-tests : goal.returns-in_err-accessions-clause-tests
@@ -17,7 +17,7 @@ returns-in_err-accessions-clause-tests g c = record {
   judges = λ is_open.
       let trees = (state g.S.Store c.args.conn.now).now.trees in
       judged_err (IsConsistentAs 1 (unmarked trees)) c.from_residual.result c.in_err-accessions.field-0.0 c.from_residual.ensures.1
-      (denied_part (LawfulCommon trees) (IsConsistentAs 1 (unmarked trees)) c.in_err-accessions.field-0.0 (common_in (unmarked trees) 1) (c.in_err-accessions.ensures.tests.judges is_open));
+      (denied_part (LawfulCommon trees) (IsConsistentAs 1 (unmarked trees)) c.in_err-accessions.field-0.0 (common_in_first trees) (c.in_err-accessions.ensures.tests.judges is_open));
 }
 
 pub check_index-requires-clause-tables : goal.check_index-requires-clause-tables

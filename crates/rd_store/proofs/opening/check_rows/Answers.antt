@@ -50,8 +50,7 @@ check_index-requires-clause-tables g c =
 pub check_index-requires-clause-marks : goal.check_index-requires-clause-marks
 check_index-requires-clause-marks g c acc is is_open =
     let old = c.args.conn.now in
-    let to_second = stays_then g.S.Store old c.check_common.new.conn c.check_marks.new.conn c.check_common.ensures.tests.stays c.in_ok-accessions.ensures.tests.ends_open c.check_marks.ensures.tests.stays in
-    (
+    let to_second = stays_then g.S.Store old c.check_common.new.conn c.check_marks.new.conn c.check_common.ensures.tests.stays c.in_ok-accessions.ensures.tests.ends_open c.check_marks.ensures.tests.stays in (
       stays_tables g.S.Store old c.check_marks.new.conn to_second c.requires.tables is_open,
       subst (λ (db : Database). Spells marks_sheet (db.trees 11)) (sym (c.check_marks.ensures.tests.stays.now is_open)) (c.in_ok-marked.ensures.tests.judges is_open).spells,
     )
