@@ -1,5 +1,5 @@
 -- One test of tables after another.
-use Rattle.std.proofs.Common.{◌≡◌, inl, inr, ℕ, pos, List, [], length, length-append, true, false, Option, Some, None, IsSome, option_map, Result, Ok, Err, refl, sym, ap, subst, ◌∙◌, arith, nat_cmp, true≢false}
+use Rattle.std.proofs.Common.{◌≡◌, inl, inr, ℕ, pos, List, [], ◌++◌, length, length-append, true, false, Option, Some, None, IsSome, option_map, Result, Ok, Err, refl, sym, ap, subst, ◌∙◌, arith, nat_cmp, true≢false}
 use Rattle.std.specs.Prelude.{IsErrAnd}
 use Rattle.std.specs.List.{IsDistinct}
 use Rattle.std.specs.Option.{unwrap_or}
@@ -10,7 +10,7 @@ use Rattle.sqlite.specs.Tree.{Trees}
 use Rattle.sqlite.specs.Order.{Row}
 use Rattle.rd_geometry.specs.Blocks.{CBM_BLOCKS}
 use Rattle.rd_geometry.specs.Kinds.{size_of}
-use Rattle.rd_geometry.specs.declared.kind.Kind.TheVariants.{D64}
+use Rattle.rd_geometry.specs.declared.kind.Kind.TheVariants.{D64, D64e}
 use Rattle.rd_tables.specs.Sheets.{Sheet, Spells, SpellLawful, map_of}
 use Rattle.rd_policy.specs.declared.rule.Band.{Band}
 use Rattle.rd_policy.specs.declared.rule.Band.TheVariants.{Takedown, Deed}
@@ -96,19 +96,16 @@ module _ (trees : Trees) where
 
   -- a lawful image with error bytes is one of blocks with one for each
   without : (acc : ℕ) (image : ImageRow) (bytes : List ℕ) → length bytes ≡ CBM_BLOCKS → image.kind ≡ D64 → AreGiven acc (with_marks (Some bytes) image) → AreGiven acc image
-  without acc image bytes count kind (is, deed) = (
-    record {
-      scope = is.scope;
-      digest = is.digest;
-      bytes = subst (λ k. length image.bytes ≡ size_of k) (sym kind) (omega (arith, is.bytes, count, length-append image.bytes bytes));
-    },
-    deed,
-  )
+  without acc image bytes count kind (is, deed) =
+      let all : length (image.bytes ++ bytes) ≡ size_of D64e = is.bytes in
+      let blocks : length image.bytes ≡ size_of D64 = omega (arith, all, count, length-append image.bytes bytes) in
+      (record { scope = is.scope; digest = is.digest; bytes = subst (λ k. length image.bytes ≡ size_of k) (sym kind) blocks }, deed)
 
   with_both : (acc : ℕ) (image : ImageRow) (bytes : List ℕ) → length bytes ≡ CBM_BLOCKS → image.kind ≡ D64 → AreGiven acc image → AreGiven acc (with_marks (Some bytes) image)
   with_both acc image bytes count kind (is, deed) =
       let blocks : length image.bytes ≡ size_of D64 = subst (λ k. length image.bytes ≡ size_of k) kind is.bytes in
-      (record { scope = is.scope; digest = is.digest; bytes = omega (arith, blocks, count, length-append image.bytes bytes) }, deed)
+      let all : length (image.bytes ++ bytes) ≡ size_of D64e = omega (arith, blocks, count, length-append image.bytes bytes) in
+      (record { scope = is.scope; digest = is.digest; bytes = all }, deed)
 
   abbrev AreMarked : Type 0
   AreMarked = SpellLawful marks_sheet (AreMarksIn images) (trees 11)
