@@ -32,7 +32,7 @@ use Rattle.rd_store.specs.Spelled.{deed_sheet, image_sheet, marks_sheet, rule_sh
 use Rattle.rd_store.specs.Held.{IsOf, IsDeskAt, HoldsDesk, IsOpen, LeavesOnly, desk}
 use Rattle.rd_store.specs.Created.{IsAt, IsMade, LeavesOldOrNew, Turns, empty_desk, new_desk}
 use Rattle.rd_store.proofs.Laws.{Laws, leaves_only, left_is}
-use Rattle.rd_store.proofs.Marks.{joined_none}
+use Rattle.rd_store.proofs.Joined.{joined_none}
 use Rattle.rd_store.proofs.Single.{rests_on}
 use Rattle.rd_store.proofs.Orders.{number_order, place_order, digest_order, checkup_order, file_order}
 use Rattle.rd_store.proofs.Lawful.{found_after}
@@ -61,8 +61,7 @@ module _ (before : Schema) (text : List ℕ) (after : Schema) (m : Creates befor
       let none : lacks_sequence first.0.schema ≡ false = ap lacks_sequence schema ∙ m.unsequenced in
       let is : now ≡ first.0 = ap (λ (p : Tally × Database). p.1) (same_value all.2) ∙ same_value (rw none at first.2) in
       let fresh : first.0.trees (next_tree before) ≡ [] = subst (λ x. first.0.trees (next_tree x) ≡ []) has made.empty in
-      let others : KeepsRows before.tables db.trees first.0.trees = subst (λ x. KeepsRows x.tables db.trees first.0.trees) has made.others in
-      (
+      let others : KeepsRows before.tables db.trees first.0.trees = subst (λ x. KeepsRows x.tables db.trees first.0.trees) has made.others in (
         ap (λ (d : Database). d.schema) is ∙ schema,
         subst (λ (d : Database). KeepsRows before.tables db.trees d.trees) (sym is) others,
         subst (λ (d : Database). d.trees (next_tree before) ≡ []) (sym is) fresh,

@@ -147,6 +147,9 @@ module _ (trees : Trees) (acc : ℕ) (row : ImageRow) (found : Option ImageRow) 
   pub marked_image : (is_marked : Bool) → is_marked ≡ true → (marks : Option (List ℕ)) → marks ≡ get (map_of marks_sheet (trees 11)) acc → (image : ImageRow) → image ≡ with_marks marks row → image_if is_marked trees acc ≡ Some image
   marked_image is_marked here marks asked image joined = rw (here, stands) (ap (λ m. Some (with_marks m row)) (sym asked) ∙ ap Some (sym joined))
 
+  pub has_disk : row.kind ≡ D64 → HasDisk acc trees
+  has_disk kind = record { image = row; stands = stands; kind = kind }
+
   pub no_disk : row.kind ≢ D64 → ¬ HasDisk acc trees
   no_disk other disk = other (ap (λ (o : Option ImageRow). (unwrap_or o row).kind) (sym stands ∙ disk.stands) ∙ disk.kind)
 

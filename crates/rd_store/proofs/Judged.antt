@@ -1,17 +1,19 @@
 -- What the tests of a database say of it, from the tests of its rows.
-use Rattle.std.proofs.Common.{◌≡◌, ◌≢◌, inl, inr, true, Result, Ok, Err, IfOk, IfErr, refl, sym, subst}
+use Rattle.std.proofs.Common.{◌≡◌, ◌≢◌, inl, inr, ◌||◌, List, [], get_or, Bool, true, false, Result, Ok, Err, IfOk, IfErr, refl, sym, ap, subst, ◌∙◌, true≢false, arith}
 use Rattle.std.specs.Prelude.{IsErrAnd}
+use Rattle.sqlite.specs.Order.{Row, column}
 use Rattle.sqlite.specs.Store.{Ghosts}
 use Rattle.sqlite.specs.Effect.{Database, IsDatabase}
 use Rattle.sqlite.specs.Held.{Held, state}
-use Rattle.rd_tables.specs.Schemas.{desk_schema, first_schema, has_desk_columns}
+use Rattle.rd_tables.specs.Schemas.{desk_schema, first_schema, has_desk_columns, has_foreign_desk, may_be_desk}
+use Rattle.rd_tables.specs.Sheets.{natural}
 use Rattle.rd_store.specs.declared.faults.OpenFault.{OpenFault}
 use Rattle.rd_store.specs.declared.faults.OpenFault.TheVariants.{NotADesk, Version as OtherVersion, Inconsistent, Sql}
 use Rattle.rd_store.specs.Spelled.{HasVersion, HaveOwnRowids, unmarked}
 use Rattle.rd_store.specs.Held.{IsClean, IsOpen, Stays}
-use Rattle.rd_store.specs.Opened.{IsConsistent, IsConsistentAs, Denied, Judged, IsHeld, Refuses, Tests, TestsDatabase}
+use Rattle.rd_store.specs.Opened.{IsConsistent, IsConsistentAs, IsNamed, IsNoDesk, IsResting, IsSettledAt, Judged, IsHeld, NamesDesk, Refuses, Tests, TestsDatabase}
 use Rattle.rd_store.specs.Migrated.{IsHeldFirst, RefusesEach}
-use Rattle.rd_store.proofs.Laws.{stays_then}
+use Rattle.rd_store.proofs.Laws.{stays_here, stays_then}
 
 held : (db : Database) → db.schema ≡ desk_schema → IsDatabase db → IsConsistent db.trees → HaveOwnRowids db.trees → IsHeld db
 held db schema sound all rowids = record { of = record { schema = schema; rows = all.spelled; rowids = rowids; sound = sound; is = refl; index = all.index }; lawful = all.lawful }
@@ -32,14 +34,14 @@ refused_by (Err OtherVersion) P Bad judged inconsistent sql = absurd judged
 refused_by (Err Inconsistent) P Bad judged inconsistent sql = inconsistent judged
 refused_by (Err Sql) P Bad judged inconsistent sql = sql
 
-module _ {S : Type 0} (g : Ghosts S) (old new : Held S) (named : has_desk_columns old.schema ≡ true) (sound : IsOpen g old → IsDatabase (state g old).now) where
+module _ {S : Type 0} (g : Ghosts S) (old new : Held S) (named : IsOpen g old → has_desk_columns (state g old).now.schema ≡ true) (sound : IsOpen g old → IsDatabase (state g old).now) where
   -- the tables are those of version 2, and it is said
   pub judged_second : {T : Type 0} (r : Result T OpenFault) → (state g old).now.schema ≡ desk_schema → (IsOpen g old → HasVersion 2 ((state g old).now.trees 0)) → Tests g old new r IsConsistent
       → (IsOpen g new → IfOk r (λ _. HaveOwnRowids (state g old).now.trees)) → TestsDatabase g old new r (λ _. IsHeld) Refuses
   judged_second r schema version tests rowids = record {
     stays = tests.stays;
     holds = λ o. both_ok r _ _ _ (tests.judges o) (rowids o) (held (state g old).now schema (sound (tests.stays.lasts.was_open o)));
-    refused = λ o. refused_by r _ (λ fault. Refuses fault (state g old).now) (tests.judges o) (λ other. (schema, version (tests.stays.lasts.was_open o), other)) (rw named refl);
+    refused = λ o. refused_by r _ (λ fault. Refuses fault (state g old).now) (tests.judges o) (λ other. (schema, version (tests.stays.lasts.was_open o), other)) (rw (named (tests.stays.lasts.was_open o)) refl);
     ends_open = tests.ends_open;
     refuses = tests.refuses;
   }
@@ -50,7 +52,7 @@ module _ {S : Type 0} (g : Ghosts S) (old new : Held S) (named : has_desk_column
   judged_first r schema version tests rowids = record {
     stays = tests.stays;
     holds = λ o. both_ok r _ _ _ (tests.judges o) (rowids o) (held_first (state g old).now schema (sound (tests.stays.lasts.was_open o)));
-    refused = λ o. refused_by r _ (λ fault. RefusesEach fault (state g old).now) (tests.judges o) (λ other. inl (schema, version (tests.stays.lasts.was_open o), other)) (rw named refl);
+    refused = λ o. refused_by r _ (λ fault. RefusesEach fault (state g old).now) (tests.judges o) (λ other. inl (schema, version (tests.stays.lasts.was_open o), other)) (rw (named (tests.stays.lasts.was_open o)) refl);
     ends_open = tests.ends_open;
     refuses = tests.refuses;
   }
@@ -82,6 +84,46 @@ each_of OtherVersion db not_desk known refused = absurd (known refl)
 each_of Inconsistent db not_desk known refused = inr refused
 each_of Sql db not_desk known refused = refused
 
+pub each_database : {S T : Type 0} (g : Ghosts S) (a b : Held S) (r : Result T OpenFault) → IfErr r (λ fault. (fault ≢ NotADesk) × (fault ≢ OtherVersion)) → TestsDatabase g a b r (λ _. IsHeld) Refuses
+    → TestsDatabase g a b r (λ _. IsHeld) RefusesEach
+each_database g a b (Ok value) known tests = record { stays = tests.stays; holds = tests.holds; refused = λ o. tt; ends_open = tests.ends_open; refuses = tt }
+each_database g a b (Err fault) known tests = record { stays = tests.stays; holds = λ o. tt; refused = λ o. each_of fault (state g a).now known.0 known.1 (tests.refused o); ends_open = λ clean. tt; refuses = tests.refuses }
+
+-- a refusal that is passed on
+pub err_told : {T : Type 0} (q : Result T OpenFault) (fault : OpenFault) → IsErrAnd q (λ other. other ≡ fault) → (P : OpenFault → Type 0) → P fault → IfErr q P
+err_told (Ok value) fault is P held = absurd is
+err_told (Err other) fault is P held = subst P (sym is) held
+
+-- ---- the table `desk`
+
+or_true : (a b : Bool) → b ≡ true → (a || b) ≡ true
+or_true true b is = refl
+or_true false b is = is
+
+module _ {S T : Type 0} (g : Ghosts S) (h : Held S) (outside : IsOpen g h → (state g h).in_transaction ≡ false) (Good : T → Database → Type 0) (Bad : OpenFault → Database → Type 0)
+    (none : may_be_desk (state g h).now.schema ≡ false → Bad NotADesk (state g h).now) (some : may_be_desk (state g h).now.schema ≡ true → Bad Sql (state g h).now) where
+  -- where there is none
+  pub no_desk_tests : (fault : OpenFault) → IsNoDesk fault (state g h).now.schema → TestsDatabase g h h (Err fault) Good Bad
+  no_desk_tests NotADesk is = record { stays = stays_here g h outside; holds = λ o. tt; refused = λ o. none is; ends_open = λ clean. tt; refuses = λ not_desk not_sql clean. absurd (not_desk refl) }
+  no_desk_tests OtherVersion is = absurd is
+  no_desk_tests Inconsistent is = absurd is
+  no_desk_tests Sql is = record { stays = stays_here g h outside; holds = λ o. tt; refused = λ o. some (or_true _ _ is); ends_open = λ clean. tt; refuses = λ not_desk not_sql clean. absurd (not_sql refl) }
+
+pub no_desk_names : {S T : Type 0} (h : Held S) (fault : OpenFault) → IsNoDesk fault h.schema → NamesDesk {T = T} h h (Err fault)
+no_desk_names h NotADesk is = record { named = tt; no_desk = rw is refl; foreign = λ other. absurd (true≢false (sym (or_true (has_desk_columns h.schema) (has_foreign_desk h.schema) other) ∙ is)); same = λ e. refl }
+no_desk_names h OtherVersion is = absurd is
+no_desk_names h Inconsistent is = absurd is
+no_desk_names h Sql is = record { named = tt; no_desk = rw (or_true (has_desk_columns h.schema) (has_foreign_desk h.schema) is) (λ e. absurd cc); foreign = λ other. refl; same = λ e. absurd cc }
+
+-- where there is one
+pub desk_names : {S T : Type 0} (old new : Held S) (r : Result T OpenFault) → IsNamed old.schema → IfErr r (λ fault. fault ≢ NotADesk) → NamesDesk old new r
+desk_names old new (Ok value) named known = record { named = named; no_desk = tt; foreign = tt; same = tt }
+desk_names old new (Err fault) named known = record { named = tt; no_desk = rw named.0 known; foreign = λ other. absurd (true≢false (sym other ∙ named.1)); same = λ is. absurd (known is) }
+
+pub names_told : {S T U : Type 0} (old new : Held S) (fault : OpenFault) (q : Result U OpenFault) → IsErrAnd q (λ other. other ≡ fault) → NamesDesk {T = T} old new (Err fault) → NamesDesk old new q
+names_told old new fault (Ok value) is names = absurd is
+names_told {S} {T} {U} old new fault (Err other) is names = subst (λ e. NamesDesk {T = U} old new (Err e)) (sym is) (record { named = tt; no_desk = names.no_desk; foreign = names.foreign; same = names.same })
+
 -- what is so after Ok, wherever the connection is open
 pub hold_ok : {T X : Type 0} (r : Result T X) (O P Q : Type 0) → (O → IfOk r (λ _. P)) → (O → P → Q) → IfOk r (λ _. O → Q)
 hold_ok (Ok value) O P Q holds from = λ o. from o (holds o)
@@ -90,3 +132,19 @@ hold_ok (Err e) O P Q holds from = tt
 pub ok_any : {T X : Type 0} (r : Result T X) (P : Type 0) → P → IfOk r (λ _. P)
 ok_any (Ok value) P holds = holds
 ok_any (Err e) P holds = tt
+
+pub not_desk : {T : Type 0} (r : Result T OpenFault) → IfErr r (λ fault. (fault ≢ NotADesk) × (fault ≢ OtherVersion)) → IfErr r (λ fault. fault ≢ NotADesk)
+not_desk (Ok value) known = tt
+not_desk (Err fault) known = known.0
+
+-- what is told of the version
+pub other_version : (rows : List Row) → HasVersion 1 rows → ¬ HasVersion 2 rows
+other_version rows one two = let e : 1 ≡ 2 = ap (λ (shown : List Row). natural (column (get_or shown 0 []) 1)) (sym one ∙ two) in absurd (omega (arith, e))
+
+-- what a query leaves of a connection at rest
+module _ {S : Type 0} (g : Ghosts S) (a b : Held S) (stays : Stays g a b) where
+  pub still_resting : IsSettledAt (state g a) → IsResting (state g b)
+  still_resting settled o = record { schema = refl; settled = stays.committed o ∙ settled.settled (stays.lasts.was_open o) ∙ sym (stays.now o); autocommit = stays.autocommit o }
+
+  pub still : (P : Database → Type 0) → (IsOpen g a → P (state g a).now) → IsOpen g b → P (state g b).now
+  still P held o = subst P (sym (stays.now o)) (held (stays.lasts.was_open o))

@@ -21,5 +21,5 @@ pub mod RulesFor
 pub mod Searching
 pub mod Filed
 pub mod FilesTold
-pub mod Migrating
+pub mod Brought
 pub mod Judged

@@ -1,5 +1,5 @@
 -- One test of tables after another.
-use Rattle.std.proofs.Common.{◌≡◌, inl, inr, ℕ, pos, List, [], length, length-append, true, false, Option, Some, None, IsSome, option_map, Result, Ok, Err, refl, sym, ap, subst, ◌∙◌, arith, nat_cmp, true≢false}
+use Rattle.std.proofs.Common.{◌≡◌, inl, inr, ℕ, pos, List, [], ◌++◌, length, length-append, true, false, Option, Some, None, IsSome, option_map, Result, Ok, Err, refl, sym, ap, subst, ◌∙◌, arith, nat_cmp, true≢false}
 use Rattle.std.specs.Prelude.{IsErrAnd}
 use Rattle.std.specs.List.{IsDistinct}
 use Rattle.std.specs.Option.{unwrap_or}
@@ -10,7 +10,7 @@ use Rattle.sqlite.specs.Tree.{Trees}
 use Rattle.sqlite.specs.Order.{Row}
 use Rattle.rd_geometry.specs.Blocks.{CBM_BLOCKS}
 use Rattle.rd_geometry.specs.Kinds.{size_of}
-use Rattle.rd_geometry.specs.declared.kind.Kind.TheVariants.{D64}
+use Rattle.rd_geometry.specs.declared.kind.Kind.TheVariants.{D64, D64e}
 use Rattle.rd_tables.specs.Sheets.{Sheet, Spells, SpellLawful, map_of}
 use Rattle.rd_policy.specs.declared.rule.Band.{Band}
 use Rattle.rd_policy.specs.declared.rule.Band.TheVariants.{Takedown, Deed}
@@ -25,7 +25,7 @@ use Rattle.rd_store.specs.Opened.{IsConsistent, IsConsistentAs, Denied, HasDisk,
 use Rattle.rd_store.specs.Spelled.{HasVersion, desk_of, images_of, index_of, unmarked, deed_sheet, image_sheet, marks_sheet, file_sheet}
 use Rattle.rd_store.proofs.Columns.{one_of_spelled, one_of_shown}
 use Rattle.rd_store.proofs.FilesTold.{joined_stands, stands_joined}
-use Rattle.rd_store.proofs.Marks.{get_joined}
+use Rattle.rd_store.proofs.Joined.{get_joined}
 use Rattle.rd_store.proofs.Orders.{number_order}
 
 -- what a test refuses, a wider one refuses
@@ -96,19 +96,16 @@ module _ (trees : Trees) where
 
   -- a lawful image with error bytes is one of blocks with one for each
   without : (acc : ℕ) (image : ImageRow) (bytes : List ℕ) → length bytes ≡ CBM_BLOCKS → image.kind ≡ D64 → AreGiven acc (with_marks (Some bytes) image) → AreGiven acc image
-  without acc image bytes count kind (is, deed) = (
-    record {
-      scope = is.scope;
-      digest = is.digest;
-      bytes = subst (λ k. length image.bytes ≡ size_of k) (sym kind) (omega (arith, is.bytes, count, length-append image.bytes bytes));
-    },
-    deed,
-  )
+  without acc image bytes count kind (is, deed) =
+      let all : length (image.bytes ++ bytes) ≡ size_of D64e = is.bytes in
+      let blocks : length image.bytes ≡ size_of D64 = omega (arith, all, count, length-append image.bytes bytes) in
+      (record { scope = is.scope; digest = is.digest; bytes = subst (λ k. length image.bytes ≡ size_of k) (sym kind) blocks }, deed)
 
   with_both : (acc : ℕ) (image : ImageRow) (bytes : List ℕ) → length bytes ≡ CBM_BLOCKS → image.kind ≡ D64 → AreGiven acc image → AreGiven acc (with_marks (Some bytes) image)
   with_both acc image bytes count kind (is, deed) =
       let blocks : length image.bytes ≡ size_of D64 = subst (λ k. length image.bytes ≡ size_of k) kind is.bytes in
-      (record { scope = is.scope; digest = is.digest; bytes = omega (arith, blocks, count, length-append image.bytes bytes) }, deed)
+      let all : length (image.bytes ++ bytes) ≡ size_of D64e = omega (arith, blocks, count, length-append image.bytes bytes) in
+      (record { scope = is.scope; digest = is.digest; bytes = all }, deed)
 
   abbrev AreMarked : Type 0
   AreMarked = SpellLawful marks_sheet (AreMarksIn images) (trees 11)
@@ -218,6 +215,24 @@ module _ (trees : Trees) where
 
 -- ---- in the tables of version 1, which tell no error bytes
 
+module _ (trees : Trees) where
+  stands_there : (band : Band) (scope : ℕ) → StandsIn (unmarked trees) band scope → StandsIn trees band scope
+  stands_there Takedown scope stands = stands
+  stands_there Deed scope stands = stands
+
+  stands_unmarked : (band : Band) (scope : ℕ) → StandsIn trees band scope → StandsIn (unmarked trees) band scope
+  stands_unmarked Takedown scope stands = stands
+  stands_unmarked Deed scope stands = stands
+
+  pub common_in_first : IsConsistentAs 1 (unmarked trees) → LawfulCommon trees
+  common_in_first consistent_tables =
+      let all = common_in (unmarked trees) 1 consistent_tables in
+      record { given = all.given; rules = record { spells = all.rules.spells; lawful = λ place terms is. let it = all.rules.lawful place terms is in (it.0, stands_there place.band place.scope it.1) }; keys = all.keys; checks = all.checks }
+
+  common_unmarked : LawfulCommon trees → LawfulCommon (unmarked trees)
+  common_unmarked all =
+      record { given = all.given; rules = record { spells = all.rules.spells; lawful = λ place terms is. let it = all.rules.lawful place terms is in (it.0, stands_unmarked place.band place.scope it.1) }; keys = all.keys; checks = all.checks }
+
 module _ (trees : Trees) (accessions : List ℕ) where
   no_marks : (acc : ℕ) → get (map_of marks_sheet []) acc ≡ None
   no_marks acc = get-from_entries number_order.total [] acc
@@ -225,14 +240,14 @@ module _ (trees : Trees) (accessions : List ℕ) where
   pub files_in_first : IsConsistentAs 1 (unmarked trees) → LawfulFiles [] accessions trees
   files_in_first all = record {
     spells = all.spelled.files;
-    disks = λ acc here is. absurd cc;
+    disks = λ acc here is. absurd (true≢false (sym is));
     index = λ acc slot. subst (λ image. IsFileIn image slot (get (index_of trees) (record { acc = acc; slot = slot }))) (images_as trees [] (map_of marks_sheet []) no_marks acc) (all.index acc slot);
   }
 
   pub consistent_first : HasVersion 1 (trees 0) → LawfulCommon trees → LawfulFiles [] accessions trees → IsConsistentAs 1 (unmarked trees)
-  consistent_first version all files = consistent (unmarked trees) 1 version all (record { spells = none_spell marks_sheet; lawful = λ acc bytes found. let wrong : None ≡ Some bytes = sym (no_marks acc) ∙ found in absurd cc }) files.spells
+  unfolding IsDistinct
+  consistent_first version all files = consistent (unmarked trees) 1 version (common_unmarked trees all) (record { spells = none_spell marks_sheet; lawful = λ acc bytes found. let wrong : None ≡ Some bytes = sym (no_marks acc) ∙ found in absurd cc }) files.spells
       (λ acc slot. subst (λ image. IsFileIn image slot (get (index_of trees) (record { acc = acc; slot = slot }))) (sym (images_as trees [] (map_of marks_sheet []) no_marks acc)) (files.index acc slot))
     where
       none_spell : {K X : Type 0} (sheet : Sheet K X) → Spells sheet []
-      unfolding IsDistinct
       none_spell sheet = record { spelled = tt; apart = tt }

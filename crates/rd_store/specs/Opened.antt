@@ -114,6 +114,10 @@ pub record IsSettledAt (s : State) : Type 0 where
   pub settled : IsTrue s.is_open → s.committed ≡ s.now
   pub autocommit : s.in_transaction ≡ false
 
+-- while it is open, it is so over the tables that stand
+abbrev pub IsResting : State → Type 0
+IsResting s = IsTrue s.is_open → RestsOver s.now.schema s
+
 -- the desk that it shows is a lawful one
 abbrev pub IsHeld : Database → Type 0
 IsHeld db = Holds (desk_of db.trees) db
@@ -161,6 +165,24 @@ pub record TestsDatabase {S T : Type 0} (g : Ghosts S) (old new : Held S) (resul
 -- after Ok it is that of a desk
 abbrev pub TestsDesk : {S T : Type 0} → Ghosts S → Held S → Held S → Result T OpenFault → Type 0
 TestsDesk g old new result = TestsDatabase g old new result (λ value. IsHeld) Refuses
+
+-- a table `desk` with its columns stands, and none whose columns are not told
+abbrev pub IsNamed : Schema → Type 0
+IsNamed schema = (has_desk_columns schema ≡ true) × (has_foreign_desk schema ≡ false)
+
+-- there is none, or one whose columns are not told
+abbrev pub IsNoDesk : OpenFault → Schema → Type 0
+IsNoDesk NotADesk schema = may_be_desk schema ≡ false
+IsNoDesk OtherVersion schema = ⊥
+IsNoDesk Inconsistent schema = ⊥
+IsNoDesk Sql schema = has_foreign_desk schema ≡ true
+
+-- What the test of a database tells of the table `desk`.
+pub record NamesDesk {S T : Type 0} (old new : Held S) (result : Result T OpenFault) : Type 0 where
+  pub named : IfOk result (λ value. IsNamed old.schema)
+  pub no_desk : IfErr result (λ fault. MatchBool (may_be_desk old.schema) (fault ≢ NotADesk) (fault ≡ NotADesk))
+  pub foreign : IfErr result (λ fault. has_foreign_desk old.schema ≡ true → fault ≡ Sql)
+  pub same : IfErr result (λ fault. fault ≡ NotADesk → new ≡ old)
 
 -- the numbers are the keys of the map
 abbrev pub AreKeys : {X : Type 0} → FinMap nat_cmp X → List ℕ → Type 0

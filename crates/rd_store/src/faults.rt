@@ -32,7 +32,7 @@ pub enum OpenFault {
     /// The table `desk` does not have its one row, or the row says another version.
     Version,
     /// The rows are not those of a desk: a value is out of its range, what it refers to is not there, no staff
-    /// key is there, or the index of the files is not that of the images.
+    /// key is there, error bytes stand where no D64 does, or the index of the files is not that of the images.
     Inconsistent,
     /// Tables are declared in another way, the database failed, or memory ran out.
     Sql,

@@ -18,8 +18,8 @@ ghost use Rattle.rd_store.specs.Shown.{accession_of, as_row, accession_shown, gi
 ghost use Rattle.rd_store.specs.Spelled.{image_sheet};
 ghost use Rattle.rd_store.specs.State.{HasOtherImage, with_image};
 
-use crate::decode::{bytes_at, digest_at, kind, number_at};
 use crate::cells::has_one_of;
+use crate::decode::{bytes_at, digest_at, kind, number_at};
 use crate::faults::StoreFault;
 use crate::files::insert_files;
 use crate::marks::{insert_marks, kind_at, kind_with, marked, marked_image};
@@ -144,10 +144,7 @@ fn read_heading(row: &Row) -> Result<Heading, StoreFault>
 }
 
 /// What the row of an accession shows of its image, `None` where there is none.
-fn heading_row<S: Alter>(
-    conn: &mut Connection<S>,
-    acc: u32,
-) -> Result<Option<Heading>, StoreFault>
+fn heading_row<S: Alter>(conn: &mut Connection<S>, acc: u32) -> Result<Option<Heading>, StoreFault>
     requires holds { HoldsDesk (state S.Store conn.old) }
     ensures asks { Asks S.Store conn.old conn.new result StoreFault.Sql (λ found.
         found ≡ option_map heading_of (get (map_of image_sheet ((state S.Store conn.old).now.trees 2)) acc)) }
@@ -200,10 +197,7 @@ fn read_given(row: &Row) -> Result<Accession, StoreFault>
 }
 
 /// What the row of an accession shows of it, `None` where it is not there.
-fn given_row<S: Alter>(
-    conn: &mut Connection<S>,
-    acc: u32,
-) -> Result<Option<Accession>, StoreFault>
+fn given_row<S: Alter>(conn: &mut Connection<S>, acc: u32) -> Result<Option<Accession>, StoreFault>
     requires holds { HoldsDesk (state S.Store conn.old) }
     ensures asks { Asks S.Store conn.old conn.new result StoreFault.Sql (λ found.
         found ≡ option_map accession_of (get (map_of image_sheet ((state S.Store conn.old).now.trees 2)) acc)) }

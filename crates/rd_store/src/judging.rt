@@ -1,10 +1,10 @@
-ghost use Rattle.std.specs.Prelude.{◌≡◌, ◌≢◌, true, false, IfOk, IfErr, MatchBool};
+ghost use Rattle.std.specs.Prelude.{◌≡◌, ◌≢◌, true, IfOk, IfErr, Some};
 ghost use Rattle.sqlite.specs.Held.{state};
 ghost use Rattle.sqlite.specs.Steps.{over_memory};
-ghost use Rattle.rd_tables.specs.Schemas.{desk_schema, first_schema, has_desk_columns, has_foreign_desk, may_be_desk};
+ghost use Rattle.rd_tables.specs.Schemas.{desk_schema, first_schema, has_desk_columns};
 ghost use Rattle.rd_store.specs.Held.{Asks, HoldsDesk, IsOpen};
 ghost use Rattle.rd_store.specs.Migrated.{IsHeldFirst, IsHeldIn, RefusesEach};
-ghost use Rattle.rd_store.specs.Opened.{HasDeskFirst, IsSaid, IsSettledAt, IsSoundAt, TestsDatabase, TestsDesk};
+ghost use Rattle.rd_store.specs.Opened.{HasDeskFirst, IsNamed, IsNoDesk, IsResting, IsSaid, IsSettledAt, IsSoundAt, NamesDesk, TestsDatabase, TestsDesk};
 ghost use Rattle.rd_store.specs.Spelled.{HasVersion};
 
 use crate::create::make_first_tables;
@@ -75,10 +75,10 @@ fn judge_second<S: Alter>(
     conn: &mut Connection<S>,
     sample: &Connection<MemStore>,
 ) -> Result<(), OpenFault>
-    requires settled { IsSettledAt (state S.Store conn.old) }
+    requires rests { IsResting (state S.Store conn.old) }
     requires sound { IsSoundAt (state S.Store conn.old) }
     requires sample { (state over_memory sample.now).now.schema ≡ desk_schema }
-    requires desk { has_desk_columns (state S.Store conn.old).now.schema ≡ true }
+    requires desk { IsOpen S.Store conn.old → has_desk_columns (state S.Store conn.old).now.schema ≡ true }
     requires version { IsOpen S.Store conn.old → HasVersion 2 ((state S.Store conn.old).now.trees 0) }
     ensures tests { TestsDesk S.Store conn.old conn.new result }
     ensures known { IfErr result (λ fault. (fault ≢ OpenFault.NotADesk) × (fault ≢ OpenFault.Version)) }
@@ -91,9 +91,9 @@ fn judge_second<S: Alter>(
 
 /// Whether a database that says version 1 is that of a desk.
 fn judge_first<S: Alter>(alloc: Global, conn: &mut Connection<S>) -> Result<(), OpenFault>
-    requires settled { IsSettledAt (state S.Store conn.old) }
+    requires rests { IsResting (state S.Store conn.old) }
     requires sound { IsSoundAt (state S.Store conn.old) }
-    requires desk { has_desk_columns (state S.Store conn.old).now.schema ≡ true }
+    requires desk { IsOpen S.Store conn.old → has_desk_columns (state S.Store conn.old).now.schema ≡ true }
     requires version { IsOpen S.Store conn.old → HasVersion 1 ((state S.Store conn.old).now.trees 0) }
     ensures tests { TestsDatabase S.Store conn.old conn.new result (λ done. IsHeldFirst) RefusesEach }
     ensures known { IfErr result (λ fault. (fault ≢ OpenFault.NotADesk) × (fault ≢ OpenFault.Version)) }
@@ -105,6 +105,27 @@ fn judge_first<S: Alter>(alloc: Global, conn: &mut Connection<S>) -> Result<(), 
     check_first_rows(alloc, conn)
 }
 
+/// Whether a database is that of a desk of the version that it says. The sample has the tables of version 2.
+fn judge_as<S: Alter>(
+    alloc: Global,
+    conn: &mut Connection<S>,
+    sample: &Connection<MemStore>,
+    version: Version,
+) -> Result<(), OpenFault>
+    requires rests { IsResting (state S.Store conn.old) }
+    requires sound { IsSoundAt (state S.Store conn.old) }
+    requires sample { (state over_memory sample.now).now.schema ≡ desk_schema }
+    requires desk { IsOpen S.Store conn.old → has_desk_columns (state S.Store conn.old).now.schema ≡ true }
+    requires said { IsOpen S.Store conn.old → IsSaid (Some version) ((state S.Store conn.old).now.trees 0) }
+    ensures tests { TestsDatabase S.Store conn.old conn.new result (λ done. IsHeldIn version) RefusesEach }
+    ensures known { IfErr result (λ fault. (fault ≢ OpenFault.NotADesk) × (fault ≢ OpenFault.Version)) }
+{
+    match version {
+        Version::First => judge_first(alloc, conn),
+        Version::Second => judge_second(alloc, conn, sample),
+    }
+}
+
 /// Whether a database with a table `desk` is that of a desk of version 2.
 fn judge_tables<S: Alter>(alloc: Global, conn: &mut Connection<S>) -> Result<(), OpenFault>
     requires settled { IsSettledAt (state S.Store conn.old) }
@@ -114,13 +135,17 @@ fn judge_tables<S: Alter>(alloc: Global, conn: &mut Connection<S>) -> Result<(),
     ensures no_desk { IfErr result (λ fault. fault ≢ OpenFault.NotADesk) }
 {
     let sample = sample(alloc)?;
-    match known_version(conn, &sample)? {
-        Some(Version::Second) => judge_second(alloc, conn, &sample),
-        _ => Err(OpenFault::Version),
+    let said = known_version(conn, &sample)?;
+    let Some(version) = said else {
+        return Err(OpenFault::Version);
+    };
+    match version {
+        Version::First => Err(OpenFault::Version),
+        Version::Second => judge_second(alloc, conn, &sample),
     }
 }
 
-/// The version of a desk whose database has a table `desk`.
+/// The version of the desk whose database has a table `desk`.
 fn judge_each_tables<S: Alter>(
     alloc: Global,
     conn: &mut Connection<S>,
@@ -132,31 +157,18 @@ fn judge_each_tables<S: Alter>(
     ensures no_desk { IfErr result (λ fault. fault ≢ OpenFault.NotADesk) }
 {
     let sample = sample(alloc)?;
-    match known_version(conn, &sample)? {
-        Some(Version::First) => {
-            judge_first(alloc, conn)?;
-            Ok(Version::First)
-        }
-        Some(Version::Second) => {
-            judge_second(alloc, conn, &sample)?;
-            Ok(Version::Second)
-        }
-        None => Err(OpenFault::Version),
-    }
+    let said = known_version(conn, &sample)?;
+    let Some(version) = said else {
+        return Err(OpenFault::Version);
+    };
+    judge_as(alloc, conn, &sample, version)?;
+    Ok(version)
 }
 
-/// Whether a database is that of a desk of version 2.
-pub(crate) fn judge<S: Alter>(alloc: Global, conn: &mut Connection<S>) -> Result<(), OpenFault>
-    requires settled { IsSettledAt (state S.Store conn.old) }
-    requires sound { IsSoundAt (state S.Store conn.old) }
-    ensures tests { TestsDesk S.Store conn.old conn.new result }
-    ensures kept { IfOk result (λ done. HoldsDesk (state S.Store conn.new)) }
-    ensures named { IfOk result (λ done. has_desk_columns (state S.Store conn.old).now.schema ≡ true) }
-    ensures plain { IfOk result (λ done. has_foreign_desk (state S.Store conn.old).now.schema ≡ false) }
-    ensures foreign { IfErr result (λ fault. has_foreign_desk (state S.Store conn.old).now.schema ≡ true → fault ≡ OpenFault.Sql) }
-    ensures no_desk { IfErr result (λ fault. MatchBool (may_be_desk (state S.Store conn.old).now.schema)
-        (fault ≢ OpenFault.NotADesk) (fault ≡ OpenFault.NotADesk)) }
-    ensures same { IfErr result (λ fault. fault ≡ OpenFault.NotADesk → conn.new ≡ conn.old) }
+/// Whether a table `desk` with its columns stands, and none whose columns are not told.
+fn find_desk<S: Alter>(conn: &Connection<S>) -> Result<(), OpenFault>
+    ensures found { IfOk result (λ done. IsNamed (state S.Store conn.now).now.schema) }
+    ensures none { IfErr result (λ fault. IsNoDesk fault (state S.Store conn.now).now.schema) }
 {
     if has_foreign_desk(conn.schema()) {
         return Err(OpenFault::Sql);
@@ -164,6 +176,18 @@ pub(crate) fn judge<S: Alter>(alloc: Global, conn: &mut Connection<S>) -> Result
     if !has_desk_columns(conn.schema()) {
         return Err(OpenFault::NotADesk);
     }
+    Ok(())
+}
+
+/// Whether a database is that of a desk of version 2.
+pub(crate) fn judge<S: Alter>(alloc: Global, conn: &mut Connection<S>) -> Result<(), OpenFault>
+    requires settled { IsSettledAt (state S.Store conn.old) }
+    requires sound { IsSoundAt (state S.Store conn.old) }
+    ensures tests { TestsDesk S.Store conn.old conn.new result }
+    ensures names { NamesDesk conn.old conn.new result }
+    ensures kept { IfOk result (λ done. HoldsDesk (state S.Store conn.new)) }
+{
+    find_desk(conn)?;
     judge_tables(alloc, conn)
 }
 
@@ -175,18 +199,8 @@ pub(crate) fn judge_each<S: Alter>(
     requires settled { IsSettledAt (state S.Store conn.old) }
     requires sound { IsSoundAt (state S.Store conn.old) }
     ensures tests { TestsDatabase S.Store conn.old conn.new result IsHeldIn RefusesEach }
-    ensures named { IfOk result (λ version. has_desk_columns (state S.Store conn.old).now.schema ≡ true) }
-    ensures plain { IfOk result (λ version. has_foreign_desk (state S.Store conn.old).now.schema ≡ false) }
-    ensures foreign { IfErr result (λ fault. has_foreign_desk (state S.Store conn.old).now.schema ≡ true → fault ≡ OpenFault.Sql) }
-    ensures no_desk { IfErr result (λ fault. MatchBool (may_be_desk (state S.Store conn.old).now.schema)
-        (fault ≢ OpenFault.NotADesk) (fault ≡ OpenFault.NotADesk)) }
-    ensures same { IfErr result (λ fault. fault ≡ OpenFault.NotADesk → conn.new ≡ conn.old) }
+    ensures names { NamesDesk conn.old conn.new result }
 {
-    if has_foreign_desk(conn.schema()) {
-        return Err(OpenFault::Sql);
-    }
-    if !has_desk_columns(conn.schema()) {
-        return Err(OpenFault::NotADesk);
-    }
+    find_desk(conn)?;
     judge_each_tables(alloc, conn)
 }

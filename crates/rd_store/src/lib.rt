@@ -5,6 +5,7 @@
 mod cells;
 mod checks;
 mod codes;
+mod crash_laws;
 mod create;
 mod decode;
 mod deeds;
@@ -27,6 +28,7 @@ mod store;
 mod tested;
 mod version;
 
+pub use crash_laws::left_desks_open;
 pub use faults::{CreateFault, OpenFault, Refused, StoreFault};
 pub use limits::is_donor;
 pub use rows::{Accession, DeedRow, ImageRow, Outcome};

@@ -51,6 +51,21 @@ fn write_version<S: Alter>(conn: &mut Connection<S>) -> Result<(), Error>
     tx.commit()
 }
 
+/// Brings the tables of version 1 to version 2, where no transaction has begun.
+fn bring_up<S: Alter>(conn: &mut Connection<S>) -> Result<(), OpenFault>
+    requires start { IsOpen S.Store conn.old → IsAt (IsFirst (first_desk (state S.Store conn.old).now.trees)) (state S.Store conn.old) }
+    ensures turns { Turns S.Store conn.old conn.new (IsOf (first_desk (state S.Store conn.old).now.trees)) result }
+    ensures fault { IfErr result (λ fault. fault ≡ OpenFault.Sql) }
+{
+    if !conn.is_autocommit() {
+        return Err(OpenFault::Sql);
+    }
+    match write_version(conn) {
+        Ok(()) => Ok(()),
+        Err(_) => Err(OpenFault::Sql),
+    }
+}
+
 /// Tests a database for a desk, and brings tables of version 1 to version 2.
 pub(crate) fn migrate<S: Alter>(alloc: Global, conn: &mut Connection<S>) -> Result<(), OpenFault>
     requires settled { IsSettledAt (state S.Store conn.old) }
@@ -59,11 +74,9 @@ pub(crate) fn migrate<S: Alter>(alloc: Global, conn: &mut Connection<S>) -> Resu
     ensures holds { IfOk result (λ done. HoldsDesk (state S.Store conn.new)) }
     ensures refused { IfErr result (λ fault. IsNotMigrated S.Store conn.old conn.new fault) }
 {
-    match judge_each(alloc, conn)? {
+    let version = judge_each(alloc, conn)?;
+    match version {
+        Version::First => bring_up(conn),
         Version::Second => Ok(()),
-        Version::First => match write_version(conn) {
-            Ok(()) => Ok(()),
-            Err(_) => Err(OpenFault::Sql),
-        },
     }
 }

@@ -1,8 +1,10 @@
-use Rattle.std.proofs.Common.{◌≡◌, ◌⊎◌, inl, inr, ℕ, zero, suc, ◌+◌, ◌<◌, List, [], ◌∷◌, arith, length, refl, slice_index, subst, sym, take}
+use Rattle.std.proofs.Common.{◌≡◌, ◌⊎◌, inl, inr, ℕ, zero, suc, ◌+◌, ◌<◌, List, [], ◌∷◌, arith, length, refl, rules, slice_index, subst, sym, take}
 use Rattle.sqlite.specs.Effect.{Database}
 use Rattle.sqlite.specs.Held.{state}
 use Rattle.sqlite_rules.specs.Lists.{Has}
-use Rattle.rd_store.specs.Opened.{HasFiles, HoldsMarksIf, is_among}
+use Rattle.rd_store.specs.Opened.{HasFiles, HaveFiles, HoldsMarksIf, IsFiledAt, LawfulFiles, is_among}
+use Rattle.rd_store.proofs.FilesTold.{filed_at}
+use Rattle.rd_store.proofs.Sequels.{denied_part, part_err}
 use Rattle.rd_store.proofs.Laws.{stays_common, stays_marks, stays_then}
 use Rattle.rd_store.proofs.filing.check_each.Goals as goal
 
@@ -29,6 +31,29 @@ pub check_files-requires-clause-marks : goal.check_files-requires-clause-marks
 check_files-requires-clause-marks g c =
     stays_marks g.S.Store c.args.conn.now c.loop-acc.conn c.loop-acc.invariant.0 c.is_marked.result
     (subst (λ b. HoldsMarksIf b (state g.S.Store c.args.conn.now)) (sym c.is_marked.ensures) (c.requires.marks (slice_index c.args.accessions.now c.loop-acc.acc-index)))
+
+pub returns-in_err-check_files : goal.returns-in_err-check_files
+returns-in_err-check_files g c = record {
+  tests = record {
+    stays = stays_then g.S.Store c.args.conn.now c.loop-acc.conn c.check_files.new.conn c.loop-acc.invariant.0 c.loop-acc.invariant.1 c.check_files.ensures.tests.stays;
+    ends_open = search rules;
+    refuses = search rules;
+    named = search rules;
+    judges = λ is_open.
+        let accessions = c.args.accessions.now in
+        let marked = c.args.marked.now in
+        let one = slice_index accessions c.loop-acc.acc-index in
+        let was = c.check_files.ensures.tests.stays.lasts.was_open is_open in
+        let same = c.loop-acc.invariant.0.now was in
+        let trees = (state g.S.Store c.args.conn.now).now.trees in
+        let middle = (state g.S.Store c.loop-acc.conn).now.trees in
+        let fault = c.in_err-check_files.field-0.0 in
+        let part = λ (lawful : LawfulFiles marked accessions trees).
+        subst (λ (db : Database). IsFiledAt c.is_marked.result one db.trees) (sym same) (subst (λ b. IsFiledAt b one trees) (sym c.is_marked.ensures) (filed_at marked accessions trees one (has_at accessions c.loop-acc.acc-index c.loop-acc-test.true) lawful)) in
+        part_err (HaveFiles marked accessions trees) (LawfulFiles marked accessions trees) c.from_residual.result fault c.from_residual.ensures.1
+        (denied_part (IsFiledAt c.is_marked.result one middle) (LawfulFiles marked accessions trees) fault part (c.in_err-check_files.ensures.tests.judges is_open));
+  };
+}
 
 pub loop-acc-preserved : goal.loop-acc-preserved
 loop-acc-preserved g c = (

@@ -1,9 +1,28 @@
 use Rattle.sqlite.specs.Held.{state}
 use Rattle.rd_store.specs.Held.{IsDeskAt, IsOpen}
-use Rattle.rd_store.specs.Opened.{IsHeld}
-use Rattle.rd_store.proofs.Judged.{hold_ok}
-use Rattle.rd_store.proofs.Migrating.{rests_by}
+use Rattle.rd_store.specs.Opened.{IsHeld, Refuses}
+use Rattle.rd_store.proofs.Brought.{rests_by}
+use Rattle.rd_store.proofs.Judged.{desk_names, hold_ok, names_told, no_desk_names, no_desk_tests, told_err}
 use Rattle.rd_store.proofs.judging.judge.Goals as goal
+
+pub returns-in_err-find_desk-clause-tests : goal.returns-in_err-find_desk-clause-tests
+returns-in_err-find_desk-clause-tests g c =
+    let old = c.args.conn.now in
+    let fault = c.in_err-find_desk.field-0.0 in
+    told_err g.S.Store old old (λ (done : Unit {0}). IsHeld) (λ _. IsHeld) Refuses Refuses fault c.from_residual.result c.from_residual.ensures.1 (λ refused. refused)
+    (no_desk_tests g.S.Store old (λ is_open. c.requires.settled.autocommit) (λ _. IsHeld) Refuses (λ none. none) (λ some. some) fault c.in_err-find_desk.ensures.none)
+
+pub returns-in_err-find_desk-clause-names : goal.returns-in_err-find_desk-clause-names
+returns-in_err-find_desk-clause-names g c =
+    let old = c.args.conn.now in
+    let fault = c.in_err-find_desk.field-0.0 in
+    names_told {T = Unit {0}} old old fault c.from_residual.result c.from_residual.ensures.1 (no_desk_names old fault c.in_err-find_desk.ensures.none)
+
+pub judge_tables-requires-clause-desk : goal.judge_tables-requires-clause-desk
+judge_tables-requires-clause-desk g c = c.in_ok-find_desk.ensures.found.0
+
+pub returns-clause-names : goal.returns-clause-names
+returns-clause-names g c = desk_names c.args.conn.now c.judge_tables.new.conn c.judge_tables.result c.in_ok-find_desk.ensures.found c.judge_tables.ensures.no_desk
 
 pub returns-clause-kept : goal.returns-clause-kept
 returns-clause-kept g c =

@@ -1,8 +1,26 @@
-use Rattle.std.proofs.Common.{refl, ◌∙◌}
+use Rattle.std.proofs.Common.{◌≡◌, refl, sym, ◌∙◌}
+use Rattle.sqlite.specs.Held.{state}
+use Rattle.rd_tables.specs.Schemas.{desk_schema}
 use Rattle.rd_store.proofs.Judged.{judged_second}
+use Rattle.rd_store.proofs.Laws.{stays_here}
 use Rattle.rd_store.proofs.judging.judge_second.Goals as goal
+
+pub check_rows-requires-clause-tables : goal.check_rows-requires-clause-tables
+check_rows-requires-clause-tables g c is_open =
+    let rests = c.requires.rests is_open in
+    let schema : (state g.S.Store c.args.conn.now).now.schema ≡ desk_schema = sym c.schema.ensures.value ∙ c.if-not-same_schema.ensures refl ∙ c.schema-2.ensures.value ∙ c.requires.sample in
+    record { schema = schema; settled = rests.settled; autocommit = rests.autocommit }
+
+pub returns-then-not-same_schema-clause-tests : goal.returns-then-not-same_schema-clause-tests
+returns-then-not-same_schema-clause-tests g c = record {
+  stays = stays_here g.S.Store c.args.conn.now (λ is_open. (c.requires.rests is_open).autocommit);
+  holds = λ is_open. tt;
+  refused = λ is_open. rw (c.requires.desk is_open) refl;
+  ends_open = λ clean. tt;
+  refuses = λ not_desk not_sql clean. absurd (not_sql refl);
+}
 
 pub returns-clause-tests : goal.returns-clause-tests
 returns-clause-tests g c =
-    let schema = c.if-not-same_schema.ensures refl ∙ c.requires.sample in
+    let schema : (state g.S.Store c.args.conn.now).now.schema ≡ desk_schema = sym c.schema.ensures.value ∙ c.if-not-same_schema.ensures refl ∙ c.schema-2.ensures.value ∙ c.requires.sample in
     judged_second g.S.Store c.args.conn.now c.check_rows.new.conn c.requires.desk c.requires.sound c.check_rows.result schema c.requires.version c.check_rows.ensures.tests c.check_rows.ensures.rowids

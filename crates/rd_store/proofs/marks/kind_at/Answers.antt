@@ -20,4 +20,3 @@ returns-then-ne-clause-asks g c = record {
       let none = no_others (map_of image_sheet (trees 2)) (map_of marks_sheet (trees 11)) (c.requires.holds is_open).holds.of.rows.marks.lawful c.args.acc row stands (λ is. other (sym kind ∙ is)) in
       sym kind ∙ ap (λ m. (with_marks m row).kind) (sym none);
 }
-

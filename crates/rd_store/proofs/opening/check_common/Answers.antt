@@ -1,7 +1,7 @@
 use Rattle.std.proofs.Common.{rules, sym, subst}
 use Rattle.sqlite.specs.Effect.{Database}
 use Rattle.sqlite.specs.Held.{state}
-use Rattle.rd_store.specs.Opened.{LawfulCommon, LawfulGiven, LawfulOthers}
+use Rattle.rd_store.specs.Opened.{HaveOtherRowids, LawfulCommon, LawfulGiven, LawfulOthers}
 use Rattle.rd_store.proofs.Laws.{stays_common, stays_then}
 use Rattle.rd_store.proofs.Sequels.{denied_part, judged_err, others_in, common}
 use Rattle.rd_store.proofs.opening.check_common.Goals as goal
@@ -57,3 +57,14 @@ returns-clause-tests g c = record {
 
 pub check_others-requires-clause-tables : goal.check_others-requires-clause-tables
 check_others-requires-clause-tables g c = stays_common g.S.Store c.args.conn.now c.check_given.new.conn c.check_given.ensures.tests.stays c.requires.tables
+
+pub returns-clause-rowids : goal.returns-clause-rowids
+returns-clause-rowids g c is_open =
+    let was = c.check_others.ensures.tests.stays.lasts.was_open is_open in
+    subst (λ (db : Database). HaveOtherRowids db.trees) (c.check_given.ensures.tests.stays.now was) (c.in_ok-check_others.ensures.rowids is_open)
+
+pub returns-clause-numbers : goal.returns-clause-numbers
+returns-clause-numbers g c is_open = (c.in_ok-deeds.ensures.numbers (c.check_others.ensures.tests.stays.lasts.was_open is_open)).1
+
+pub returns-clause-ascending : goal.returns-clause-ascending
+returns-clause-ascending g c = c.in_ok-deeds.ensures.ascending.1

@@ -1,11 +1,12 @@
 use Rattle.std.proofs.Common.{rules, [], sym, subst}
+use Rattle.std.proofs.lemmas.Result.{IfOk-weaker}
 use Rattle.sqlite.specs.Effect.{Database}
 use Rattle.sqlite.specs.Held.{state}
-use Rattle.rd_tables.specs.Sheets.{Spells, map_of}
+use Rattle.rd_tables.specs.Sheets.{HaveRowids, Spells, map_of}
 use Rattle.rd_store.specs.Opened.{AreKeys, IsConsistentAs, LawfulCommon, LawfulFiles}
 use Rattle.rd_store.specs.Spelled.{image_sheet, unmarked}
 use Rattle.rd_store.proofs.Laws.{stays_common, stays_then}
-use Rattle.rd_store.proofs.Sequels.{denied_part, judged_err, judged_same, common_in, files_in_first, consistent_first}
+use Rattle.rd_store.proofs.Sequels.{denied_part, judged_err, judged_same, common_in_first, files_in_first, consistent_first}
 use Rattle.rd_store.proofs.opening.check_first_rows.Goals as goal
 
 pub returns-in_err-accessions-clause-tests : goal.returns-in_err-accessions-clause-tests
@@ -17,7 +18,7 @@ returns-in_err-accessions-clause-tests g c = record {
   judges = λ is_open.
       let trees = (state g.S.Store c.args.conn.now).now.trees in
       judged_err (IsConsistentAs 1 (unmarked trees)) c.from_residual.result c.in_err-accessions.field-0.0 c.from_residual.ensures.1
-      (denied_part (LawfulCommon trees) (IsConsistentAs 1 (unmarked trees)) c.in_err-accessions.field-0.0 (common_in (unmarked trees) 1) (c.in_err-accessions.ensures.tests.judges is_open));
+      (denied_part (LawfulCommon trees) (IsConsistentAs 1 (unmarked trees)) c.in_err-accessions.field-0.0 (common_in_first trees) (c.in_err-accessions.ensures.tests.judges is_open));
 }
 
 pub check_index-requires-clause-tables : goal.check_index-requires-clause-tables
@@ -60,3 +61,9 @@ returns-clause-tests g c =
           subst (λ l. LawfulFiles [] l late) (sym c.deref.ensures.value) (subst (λ (db : Database). LawfulFiles [] accessions db.trees) (sym same) (files_in_first trees accessions all)) in
           judged_same (LawfulFiles [] c.deref.result.now late) (IsConsistentAs 1 (unmarked trees)) c.check_index.result to from (c.check_index.ensures.tests.judges is_open);
     }
+
+pub returns-clause-rowids : goal.returns-clause-rowids
+returns-clause-rowids g c is_open =
+    let late = c.check_index.ensures.tests.stays.lasts.was_open is_open in
+    let others = c.in_ok-accessions.ensures.rowids late in
+    IfOk-weaker c.check_index.result _ _ (λ done files. record { rules = others.0; keys = others.1; checks = others.2; files = subst (λ (db : Database). HaveRowids (db.trees 9)) (c.check_common.ensures.tests.stays.now late) files }) (c.check_index.ensures.rowids is_open)

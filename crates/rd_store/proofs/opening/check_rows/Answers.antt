@@ -1,7 +1,8 @@
 use Rattle.std.proofs.Common.{rules, sym, subst}
+use Rattle.std.proofs.lemmas.Result.{IfOk-weaker}
 use Rattle.sqlite.specs.Effect.{Database}
 use Rattle.sqlite.specs.Held.{state}
-use Rattle.rd_tables.specs.Sheets.{Spells, map_of}
+use Rattle.rd_tables.specs.Sheets.{HaveRowids, Spells, map_of}
 use Rattle.rd_store.specs.Opened.{AreKeys, IsConsistent, LawfulCommon, LawfulFiles, LawfulMarks}
 use Rattle.rd_store.specs.Spelled.{image_sheet, marks_sheet}
 use Rattle.rd_store.proofs.Laws.{common_tables, stays_common, stays_tables, stays_then}
@@ -50,8 +51,7 @@ check_index-requires-clause-tables g c =
 pub check_index-requires-clause-marks : goal.check_index-requires-clause-marks
 check_index-requires-clause-marks g c acc is is_open =
     let old = c.args.conn.now in
-    let to_second = stays_then g.S.Store old c.check_common.new.conn c.check_marks.new.conn c.check_common.ensures.tests.stays c.in_ok-accessions.ensures.tests.ends_open c.check_marks.ensures.tests.stays in
-    (
+    let to_second = stays_then g.S.Store old c.check_common.new.conn c.check_marks.new.conn c.check_common.ensures.tests.stays c.in_ok-accessions.ensures.tests.ends_open c.check_marks.ensures.tests.stays in (
       stays_tables g.S.Store old c.check_marks.new.conn to_second c.requires.tables is_open,
       subst (λ (db : Database). Spells marks_sheet (db.trees 11)) (sym (c.check_marks.ensures.tests.stays.now is_open)) (c.in_ok-marked.ensures.tests.judges is_open).spells,
     )
@@ -104,3 +104,11 @@ returns-clause-tests g c =
           subst (λ l. LawfulFiles l c.deref-2.result.now late) (sym c.deref-3.ensures.value) (subst (λ l. LawfulFiles marked l late) (sym c.deref-2.ensures.value) (subst (λ (db : Database). LawfulFiles marked accessions db.trees) (sym both) (files_in trees accessions marked those all))) in
           judged_same (LawfulFiles c.deref-3.result.now c.deref-2.result.now late) (IsConsistent trees) c.check_index.result to from (c.check_index.ensures.tests.judges is_open);
     }
+
+pub returns-clause-rowids : goal.returns-clause-rowids
+returns-clause-rowids g c is_open =
+    let old = c.args.conn.now in
+    let to_second = stays_then g.S.Store old c.check_common.new.conn c.check_marks.new.conn c.check_common.ensures.tests.stays c.in_ok-accessions.ensures.tests.ends_open c.check_marks.ensures.tests.stays in
+    let late = c.check_index.ensures.tests.stays.lasts.was_open is_open in
+    let others = c.in_ok-accessions.ensures.rowids (c.check_marks.ensures.tests.stays.lasts.was_open late) in
+    IfOk-weaker c.check_index.result _ _ (λ done files. record { rules = others.0; keys = others.1; checks = others.2; files = subst (λ (db : Database). HaveRowids (db.trees 9)) (to_second.now late) files }) (c.check_index.ensures.rowids is_open)

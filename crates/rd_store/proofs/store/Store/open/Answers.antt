@@ -12,8 +12,8 @@ returns-in-Ok-clause-opened g c =
     let stays = tests.stays in
     record {
       lasts = stays.lasts;
-      named = c.in-Ok.ensures.named;
-      plain = c.in-Ok.ensures.plain;
+      named = c.in-Ok.ensures.names.named.0;
+      plain = c.in-Ok.ensures.names.named.1;
       tables = λ is_open. (tests.holds is_open).of.schema;
       consistent = λ is_open. let it = tests.holds is_open in record { spelled = it.of.rows; lawful = it.lawful; index = it.of.index };
       is = λ is_open. ap (λ (db : Database). desk_of db.trees) (stays.now is_open);
@@ -29,10 +29,10 @@ returns-in-Err-clause-refused g c =
     let tests = c.in-Err.ensures.tests in
     record {
       lasts = tests.stays.lasts;
-      no_desk = c.in-Err.ensures.no_desk;
-      foreign = c.in-Err.ensures.foreign;
+      no_desk = c.in-Err.ensures.names.no_desk;
+      foreign = c.in-Err.ensures.names.foreign;
       refused = tests.refused;
-      same = c.in-Err.ensures.same;
+      same = c.in-Err.ensures.names.same;
       untouched = search rules;
       ends_open = tests.refuses;
       crash = tests.stays.quiet;

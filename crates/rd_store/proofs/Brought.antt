@@ -1,5 +1,5 @@
 -- What bringing the tables of version 1 to version 2 comes to.
-use Rattle.std.proofs.Common.{◌≡◌, inl, inr, ℕ, pos, List, [], ◌∷◌, map, length, get_or, true, false, None, Ok, Err, Result, refl, sym, ap, subst, subst₂, ◌∙◌, arith}
+use Rattle.std.proofs.Common.{◌≡◌, inl, inr, ℕ, pos, List, [], ◌∷◌, map, length, get_or, true, false, None, Ok, Err, Result, IfOk, IfErr, refl, sym, ap, subst, subst₂, ◌∙◌, arith}
 use Rattle.sqlite.specs.declared.types.Value.TheVariants.{Int}
 use Rattle.sqlite.specs.Order.{Row, column}
 use Rattle.sqlite.specs.Tree.{Trees}
@@ -30,7 +30,7 @@ use Rattle.rd_store.specs.Held.{Holds, HoldsDesk, IsClean, IsDeskAt, IsLeft, IsO
 use Rattle.rd_store.specs.Opened.{IsHeld, IsSettledAt}
 use Rattle.rd_store.specs.Migrated.{IsFirst, IsHalfway, IsHeldFirst, IsMigrated, IsNotMigrated, LeavesOldOrMigrated, first_desk}
 use Rattle.rd_store.proofs.Creating.{one_made}
-use Rattle.rd_store.proofs.Laws.{Laws, lasts_then, leaves_only, left_is}
+use Rattle.rd_store.proofs.Laws.{Laws, lasts_still, lasts_then, leaves_only, left_is}
 use Rattle.rd_store.proofs.Single.{rests_on}
 
 -- ---- trees that differ in the version alone
@@ -160,9 +160,9 @@ module _ {S : Type 0} (g : Ghosts S) (a b : Held S) (settled : IsSettledAt (stat
         elim (turns.crash o clean left may) [
           | inl before ↦ inl (stays.quiet was early left before)
           | inr made ↦ inr (
-              (held o).of.schema,
-              subst (λ (db : Database). IsLeft (first_desk db.trees) left) (stays.now o) (left_is (first_desk (state g b).now.trees) made.0 left (record { of = made.1; lawful = lawful o }) made.2),
-            )
+            (held o).of.schema,
+            subst (λ (db : Database). IsLeft (first_desk db.trees) left) (stays.now o) (left_is (first_desk (state g b).now.trees) made.0 left (record { of = made.1; lawful = lawful o }) made.2),
+          )
         ]
 
     module _ {T X : Type 0} (value : T) (turns : Turns {X = X} g b c Brought (Ok value)) where
@@ -204,3 +204,33 @@ module _ {S : Type 0} (g : Ghosts S) (a b : Held S) (settled : IsSettledAt (stat
       ends_open = λ not_desk not_sql clean. absurd (not_sql refl);
       crash = crashed (Err e) turns;
     })
+
+    -- whatever the transaction answers
+    pub all_migrated : {T : Type 0} (r : Result T OpenFault) → Turns g b c Brought r → Laws g → has_desk_columns a.schema ≡ true → has_foreign_desk a.schema ≡ false → IfOk r (λ _. IsMigrated g a c)
+    all_migrated (Ok value) turns laws named plain = migrated value turns laws named plain
+    all_migrated (Err e) turns laws named plain = tt
+
+    pub all_brought : {T : Type 0} (r : Result T OpenFault) → Turns g b c Brought r → IfOk r (λ _. HoldsDesk (state g c))
+    all_brought (Ok value) turns = brought value turns
+    all_brought (Err e) turns = tt
+
+    pub none_brought : {T : Type 0} (r : Result T OpenFault) → Turns g b c Brought r → has_desk_columns a.schema ≡ true → IfErr r (λ fault. fault ≡ Sql) → IfErr r (IsNotMigrated g a c)
+    none_brought (Ok value) turns named is = tt
+    none_brought {T} (Err fault) turns named is = not_brought {T = T} fault turns named fault is
+
+-- a transaction that is not begun
+pub not_begun : {S T : Type 0} (g : Ghosts S) (h : Held S) (Before After : Database → Type 0) → (IsOpen g h → IsAt Before (state g h)) → (fault : OpenFault) → Turns {T = T} g h h After (Err fault)
+not_begun g h Before After start fault = record {
+  lasts = lasts_still g h;
+  ok = λ o. tt;
+  err = λ o. let at = start o in record { settled = at.settled; autocommit = at.autocommit; holds = refl };
+  ends_open = λ clean. tt;
+  crash = λ was clean left may. inl may;
+}
+
+-- a transaction told by another result
+pub turns_told : {S T U X Y : Type 0} (g : Ghosts S) (old new : Held S) (After : Database → Type 0) (value : T) (other : U) → Turns {X = X} g old new After (Ok value) → Turns {X = Y} g old new After (Ok other)
+turns_told g old new After value other h = record { lasts = h.lasts; ok = h.ok; err = λ o. tt; ends_open = h.ends_open; crash = h.crash }
+
+pub turns_failed : {S T U X Y : Type 0} (g : Ghosts S) (old new : Held S) (After : Database → Type 0) (e : X) (other : Y) → Turns {T = T} g old new After (Err e) → Turns {T = U} g old new After (Err other)
+turns_failed g old new After e other h = record { lasts = h.lasts; ok = λ o. tt; err = h.err; ends_open = λ clean. tt; crash = h.crash }

@@ -1,0 +1,47 @@
+use Rattle.std.proofs.Common.{◌≡◌, ◌∙◌, Some, ap, true, subst, sym}
+use Rattle.sqlite.specs.Effect.{Database, IsDatabase}
+use Rattle.sqlite.specs.Held.{state}
+use Rattle.rd_tables.specs.Schemas.{has_desk_columns}
+use Rattle.rd_store.specs.Opened.{IsHeld, IsSaid, Refuses}
+use Rattle.rd_store.specs.Spelled.{HasVersion}
+use Rattle.rd_store.proofs.Judged.{not_desk, other_version, still, still_resting, then_database}
+use Rattle.rd_store.proofs.judging.judge_tables.Goals as goal
+
+pub returns-in_default-clause-tests : goal.returns-in_default-clause-tests
+returns-in_default-clause-tests g c = record {
+  stays = c.known_version.ensures.asks.stays;
+  holds = λ is_open. tt;
+  refused = λ is_open. (c.requires.desk, c.in_ok-said.ensures.first, (subst (λ said. IsSaid said ((state g.S.Store c.args.conn.now).now.trees 0)) c.in_default.is (c.in_ok-said.ensures.asks.answer is_open)).1);
+  ends_open = λ clean. tt;
+  refuses = λ not_desk not_sql clean. c.in_ok-said.ensures.asks.ends_open clean;
+}
+
+pub returns-in-First-clause-tests : goal.returns-in-First-clause-tests
+returns-in-First-clause-tests g c = record {
+  stays = c.known_version.ensures.asks.stays;
+  holds = λ is_open. tt;
+  refused = λ is_open. (c.requires.desk, c.in_ok-said.ensures.first, other_version _ (subst (λ said. IsSaid said ((state g.S.Store c.args.conn.now).now.trees 0)) (c.in-Some.is ∙ ap Some c.in-First.is) (c.in_ok-said.ensures.asks.answer is_open)));
+  ends_open = λ clean. tt;
+  refuses = λ not_desk not_sql clean. c.in_ok-said.ensures.asks.ends_open clean;
+}
+
+pub judge_second-requires-clause-rests : goal.judge_second-requires-clause-rests
+judge_second-requires-clause-rests g c = still_resting g.S.Store c.args.conn.now c.known_version.new.conn c.known_version.ensures.asks.stays c.requires.settled
+
+pub judge_second-requires-clause-sound : goal.judge_second-requires-clause-sound
+judge_second-requires-clause-sound g c = still g.S.Store c.args.conn.now c.known_version.new.conn c.known_version.ensures.asks.stays IsDatabase c.requires.sound
+
+pub judge_second-requires-clause-desk : goal.judge_second-requires-clause-desk
+judge_second-requires-clause-desk g c = still g.S.Store c.args.conn.now c.known_version.new.conn c.known_version.ensures.asks.stays (λ db. has_desk_columns db.schema ≡ true) (λ was. c.requires.desk)
+
+pub judge_second-requires-clause-version : goal.judge_second-requires-clause-version
+judge_second-requires-clause-version g c is_open =
+    let stays = c.known_version.ensures.asks.stays in
+    subst (λ (db : Database). HasVersion 2 (db.trees 0)) (sym (stays.now is_open)) (subst (λ said. IsSaid said ((state g.S.Store c.args.conn.now).now.trees 0)) (c.in-Some.is ∙ ap Some c.in-Second.is) (c.in_ok-said.ensures.asks.answer is_open))
+
+pub returns-in-Second-clause-tests : goal.returns-in-Second-clause-tests
+returns-in-Second-clause-tests g c =
+    then_database g.S.Store c.args.conn.now c.known_version.new.conn c.judge_second.new.conn c.known_version.ensures.asks.stays c.in_ok-said.ensures.asks.ends_open c.judge_second.result (λ _. IsHeld) Refuses c.judge_second.ensures.tests
+
+pub returns-in-Second-clause-no_desk : goal.returns-in-Second-clause-no_desk
+returns-in-Second-clause-no_desk g c = not_desk c.judge_second.result c.judge_second.ensures.known
