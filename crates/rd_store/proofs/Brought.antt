@@ -24,7 +24,7 @@ use Rattle.rd_store.specs.State.{Desk}
 use Rattle.rd_store.specs.Index.{IsIndexOf}
 use Rattle.rd_store.specs.Lawful.{IsLawful}
 use Rattle.rd_store.specs.Marks.{AreMarksIn, joined}
-use Rattle.rd_store.specs.Spelled.{SpellDesk, HasVersion, HaveOwnRowids, desk_of, index_of, unmarked, deed_sheet, image_sheet, marks_sheet, rule_sheet, key_sheet, check_sheet, file_sheet}
+use Rattle.rd_store.specs.Spelled.{SpellDesk, HasVersion, HaveOwnRowids, desk_of, unmarked, deed_sheet, image_sheet, marks_sheet, rule_sheet, key_sheet, check_sheet, file_sheet}
 use Rattle.rd_store.specs.Created.{IsAt, IsUntouched, Turns}
 use Rattle.rd_store.specs.Held.{Holds, HoldsDesk, IsClean, IsDeskAt, IsLeft, IsOf, IsOpen, Stays}
 use Rattle.rd_store.specs.Opened.{IsHeld, IsSettledAt}

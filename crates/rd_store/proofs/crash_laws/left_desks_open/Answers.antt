@@ -1,4 +1,4 @@
-use Rattle.std.proofs.Common.{◌≡◌, inl, inr, length, refl, sym, ap, subst, ◌∙◌, true≢false, true, false, arith}
+use Rattle.std.proofs.Common.{◌≡◌, inl, inr, length, refl, sym, ap, subst, true≢false, true, false, arith}
 use Rattle.sqlite.specs.Tree.{Trees}
 use Rattle.sqlite.specs.Schema.{Schema}
 use Rattle.rd_tables.specs.Schemas.{desk_schema, first_schema}

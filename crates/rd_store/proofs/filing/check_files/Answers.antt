@@ -1,4 +1,4 @@
-use Rattle.std.proofs.Common.{◌≡◌, ◌∷◌, [], List, pos, refl, sym, subst, subst₂}
+use Rattle.std.proofs.Common.{◌∷◌, [], List, pos, sym, subst, subst₂}
 use Rattle.std.specs.Prelude.{MatchBool}
 use Rattle.sqlite.specs.declared.types.Value.TheVariants.{Int}
 use Rattle.sqlite.specs.Effect.{Database}

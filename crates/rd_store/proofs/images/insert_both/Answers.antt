@@ -1,7 +1,7 @@
-use Rattle.std.proofs.Common.{◌≡◌, ◌++◌, ◌∙◌, ℕ, Ok, Err, Some, Result, ap, sym, subst}
-use Rattle.std.specs.FinMap.{get, insert}
+use Rattle.std.proofs.Common.{◌≡◌, ◌++◌, ◌∙◌, ℕ, Ok, Err, Some, ap, sym, subst}
+use Rattle.std.specs.FinMap.{insert}
 use Rattle.sqlite.specs.declared.error.Error.{Error}
-use Rattle.rd_geometry.specs.declared.kind.Kind.TheVariants.{D64, D64e}
+use Rattle.rd_geometry.specs.declared.kind.Kind.TheVariants.{D64}
 use Rattle.rd_tables.proofs.Entries.{get_inserted}
 use Rattle.rd_store.specs.declared.rows.ImageRow.{ImageRow}
 use Rattle.rd_store.specs.Codes.{kind_code, kind_in}

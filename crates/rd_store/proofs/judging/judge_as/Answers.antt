@@ -1,7 +1,7 @@
-use Rattle.std.proofs.Common.{IfErr, Result, Ok, Err, Some, rules, subst, sym}
+use Rattle.std.proofs.Common.{Some, subst, sym}
 use Rattle.sqlite.specs.Held.{state}
 use Rattle.rd_store.specs.Migrated.{IsHeldIn, RefusesEach}
-use Rattle.rd_store.specs.Opened.{IsHeld, IsSaid, Refuses, TestsDatabase}
+use Rattle.rd_store.specs.Opened.{IsSaid, TestsDatabase}
 use Rattle.rd_store.specs.declared.version.Version.{Version}
 use Rattle.rd_store.proofs.Judged.{each_database}
 use Rattle.rd_store.proofs.judging.judge_as.Goals as goal

@@ -1,4 +1,4 @@
-use Rattle.std.proofs.Common.{◌≡◌, Ok, Err, Some, true, subst, sym, rules}
+use Rattle.std.proofs.Common.{◌≡◌, Ok, Err, Some, true, subst, sym}
 use Rattle.sqlite.specs.Effect.{Database, IsDatabase}
 use Rattle.sqlite.specs.Held.{state}
 use Rattle.rd_tables.specs.Schemas.{has_desk_columns}

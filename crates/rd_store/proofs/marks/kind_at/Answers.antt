@@ -4,7 +4,7 @@ use Rattle.rd_geometry.specs.declared.kind.Kind.TheVariants.{D64}
 use Rattle.rd_tables.specs.Sheets.{map_of}
 use Rattle.rd_store.specs.Marks.{with_marks}
 use Rattle.rd_store.specs.Spelled.{image_sheet, marks_sheet}
-use Rattle.rd_store.proofs.Joined.{kind_marked, no_others}
+use Rattle.rd_store.proofs.Joined.{no_others}
 use Rattle.rd_store.proofs.Laws.{holds_tables, stays_still}
 use Rattle.rd_store.proofs.marks.kind_at.Goals as goal
 

@@ -1,5 +1,4 @@
-use Rattle.std.proofs.Common.{◌≡◌, ◌≢◌, ◌∙◌, Some, ap, rules, sym}
-use Rattle.std.specs.FinMap.{get}
+use Rattle.std.proofs.Common.{◌≢◌, ◌∙◌, Some, ap, rules, sym}
 use Rattle.std.proofs.lemmas.Result.{IfOk-weaker}
 use Rattle.sqlite.specs.Held.{state}
 use Rattle.rd_geometry.specs.declared.kind.Kind.TheVariants.{D64}
@@ -7,7 +6,7 @@ use Rattle.rd_tables.specs.Sheets.{map_of}
 use Rattle.rd_store.specs.Marks.{with_marks}
 use Rattle.rd_store.specs.Spelled.{image_sheet, marks_sheet}
 use Rattle.rd_store.proofs.Joined.{joined_at, no_others}
-use Rattle.rd_store.proofs.Laws.{holds_tables, stays_still, stays_desk}
+use Rattle.rd_store.proofs.Laws.{holds_tables, stays_still}
 use Rattle.rd_store.proofs.marks.marked_image.Goals as goal
 
 -- nothing is asked
