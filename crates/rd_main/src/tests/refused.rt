@@ -1,5 +1,5 @@
-//! Runs that a script makes under an allocator that refuses one growth. A run that tells that memory was
-//! refused is made again, and then has to end as ever. Outputs are arrays, which ask for no memory.
+//! Runs that a script makes with an allocator that fails once. A run that reports that memory ran
+//! out runs again, and must then end as usual. Outputs are arrays, which need no memory.
 
 use super::fakes::{Bare, Museum, Sheet};
 use super::museums::{museum, new_connection, recorded, run_on_museum, write_over};
@@ -23,8 +23,8 @@ fn one_file(alloc: Global, kind: Kind) -> Result<Vec<u8>, NoMemory> {
     }
 }
 
-/// Runs words on the image of one file, again where memory was refused, and gives the status. A run that
-/// was refused has to leave the output, which is all zeros, as it was.
+/// Runs words on the image of one file, again if memory ran out, and gives the status. A run
+/// without memory must leave the output, which is all zeros, as it was.
 fn run_again(alloc: Global, kind: Kind, words: &[&str], output: &mut [u8]) -> Result<u8, Fail> {
     let image = match one_file(alloc, kind) {
         Ok(image) => image,
@@ -186,7 +186,7 @@ fn is_left(left: &Left, status: u8, output: &str, errors: &str) -> bool {
     left.status == status && says(&left.output, output) && says(&left.errors, errors)
 }
 
-/// Memory was refused, or the store failed, which cannot tell why; so much was written.
+/// Whether memory ran out, or the store failed, which cannot say why, after so much output.
 fn is_refused(left: &Left, output: &str) -> bool {
     is_left(left, 3, output, "desk: no-memory\n") || is_left(left, 3, output, "desk: store\n")
 }
@@ -207,7 +207,8 @@ fn museum_again(alloc: Global) -> Result<Museum, NoMemory> {
     Ok(museum(conn, door_again(alloc, &[])?))
 }
 
-/// `init` leaves this, at the second time where memory is refused at the first, which leaves nothing.
+/// `init` leaves this; if memory runs out at the first try, that try leaves nothing and the second
+/// leaves this.
 fn assert_init(rt: &impl Abort, museum: &mut Museum, alloc: Global, wanted: (u8, &str, &str)) {
     let words = ["init", "--store", "museum.sqlite", "--key", "abc"];
     let (status, output, errors) = wanted;
@@ -238,7 +239,7 @@ const DEED: &[Visit] = &[(
 const PUT: &[u8] =
     b"HTTP/1.1 200 OK\r\nContent-Type: application/json\r\nContent-Length: 13\r\nConnection: close\r\n\r\n{\"done\":true}";
 
-/// What goes out where memory is refused and nothing was done.
+/// What goes out if memory runs out and nothing was done.
 const UNAVAILABLE: &[u8] =
     b"HTTP/1.1 503 Service Unavailable\r\nContent-Type: application/json\r\nContent-Length: 23\r\nConnection: close\r\n\r\n{\"error\":\"unavailable\"}";
 
@@ -263,13 +264,13 @@ fn serve_once(alloc: Global, museum: &mut Museum, visits: &[Visit]) -> Result<Le
     Ok(run_once(alloc, words.as_slice(), museum))
 }
 
-/// The `serve` ended as ever, and at the visit its reply went out.
+/// Whether the `serve` ended as usual, and the reply to the visit went out.
 fn is_whole(left: &Left, museum: &Museum) -> bool {
     is_left(left, 0, BOTH_LINES, "")
         && matches!(museum.door.visits(), [visit] if visit.out() == PUT)
 }
 
-/// At the visit its reply went out, or that of a desk that is unavailable, or a front of its reply where a
+/// Whether the visit got its reply, or that of an unavailable desk, or a front of its reply if a
 /// write failed.
 fn is_answered(museum: &Museum) -> bool {
     match museum.door.visits() {
@@ -279,8 +280,8 @@ fn is_answered(museum: &Museum) -> bool {
     }
 }
 
-/// A `serve` under refused memory ended as ever, or after the visit without the second line, or before it
-/// without the first.
+/// Whether a `serve` with failing memory ended as usual, or after the visit without the second
+/// line, or before it without the first.
 fn is_served(left: &Left, museum: &Museum) -> bool {
     if museum.door.visits().is_empty() {
         return is_refused(left, "");
@@ -289,7 +290,7 @@ fn is_served(left: &Left, museum: &Museum) -> bool {
         && (is_left(left, 0, BOTH_LINES, "") || is_left(left, 3, FIRST_LINE, "desk: no-memory\n"))
 }
 
-/// A `serve` of a visit ends as ever, at the second time where memory is refused at the first.
+/// A `serve` of a visit ends as usual, at the second try if memory runs out at the first.
 fn assert_serve(
     rt: &impl Abort,
     museum: &mut Museum,
@@ -350,7 +351,7 @@ const LINES: [&str; 4] = [
     "",
 ];
 
-/// Whether the store of a museum has accession 12, asked for again where memory was refused.
+/// Whether the store of a museum has accession 12. It asks again if memory ran out.
 fn stands(museum: &mut Museum) -> bool {
     let Some(conn) = &mut museum.conn else {
         return false;
@@ -362,8 +363,8 @@ fn stands(museum: &mut Museum) -> bool {
             .is_ok()
 }
 
-/// An `import` of three rows ends as ever, at the second time where memory is refused at the first, which tells
-/// what it did: a row that is told as done stands.
+/// An `import` of three rows ends as usual, at the second try if memory runs out at the first,
+/// which says what it did: a row that it reports as done stands.
 fn assert_import(rt: &impl Abort, museum: &mut Museum, alloc: Global) {
     museum.sheet = Sheet::Texts(&[HEADER, HELLO_12, OTHER_DIGEST, EMPTY]);
     let first = run_once(alloc, IMPORT, museum);
@@ -384,8 +385,8 @@ fn import_when_memory_is_refused(rt: HostRuntime) -> Result<(), Fail> {
     Ok(())
 }
 
-/// What a desk is asked once: the words, the status and the output, and what is recorded of checks before and
-/// after it.
+/// One question to a desk: the words, the status and the output, and the recorded checks before
+/// and after it.
 #[derive(Clone, Copy)]
 struct Asked {
     words: &'static [&'static str],
@@ -431,7 +432,7 @@ const CHECK: Asked = Asked {
     after: "12 21915 0;",
 };
 
-/// The same where the image is changed.
+/// The same question about a changed image.
 const CHANGED: Asked = like!(Asked, CHECK,
     status: 1,
     output: "12 changed\n",
@@ -443,8 +444,8 @@ fn recorded_again(alloc: Global, museum: &mut Museum) -> Option<String> {
     recorded(alloc, museum).or_else(|| recorded(alloc, museum))
 }
 
-/// What is asked ends as ever, at the second time where memory is refused at the first, which writes nothing and
-/// records nothing.
+/// The question ends as usual, at the second try if memory runs out at the first, which writes
+/// nothing and records nothing.
 fn assert_asked(
     rt: &impl Abort,
     museum: &mut Museum,
