@@ -7,6 +7,11 @@ macro_rules! like {
     };
 }
 
+/// A table, of which each row stands on one line.
+macro_rules! table {
+    ($($row:expr;)+) => { &[$($row),+] };
+}
+
 mod edges;
 mod failing;
 mod fakes;
