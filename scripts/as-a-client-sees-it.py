@@ -1,7 +1,7 @@
 #!/usr/bin/env python3
 """scripts/as-a-client-sees-it.py [PROGRAM]: makes a desk in a file, serves it, and visits it as clients do.
 
-It wants Python 3 with its standard library alone, the programs curl and sqlite3, and Linux. PROGRAM is
+You need Python 3 with its standard library alone, the programs curl and sqlite3, and Linux. PROGRAM is
 crates/rd_main/out/rd_main of this repository where none is named: `rt run` in crates/rd_main builds it.
 
 A request that curl and Python's http.client can both say is sent by both, so each of these commands is given twice.

@@ -17,7 +17,7 @@ The status is 0 only if every edit is refused so. At the end those that are not 
 still proved, one that is refused only since a proof names what it takes away, one that does not compile, one of which
 the prover tells nothing.
 
-It wants Python 3.11, Linux, and the command rt of the kit on the path. Each crate has to be proved by `rt check` in
+You need Python 3.11, Linux, and the command rt of the kit on the path. Each crate has to be proved by `rt check` in
 this clone before, since a round begins with what that kept. A round takes a check's fixed part, 5 to 60 seconds of
 processor, and some seconds for each edit; docs/ARCHITECTURE.md tells the time of the whole. Nothing in the clone is
 changed, and the copies are removed, also where the command is stopped.

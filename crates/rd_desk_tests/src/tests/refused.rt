@@ -2,14 +2,16 @@
 //! desk that is unavailable, nothing has changed, and the same request again, with memory, gets the usual one.
 
 use super::cases::{
-    ALL_OF_12, BAD_BODY, COLUMNS, DONE, HELLO, ONE_IMAGE, SOUND, STAFF_ONLY, SURVEY_OF_12, Told,
-    UNAVAILABLE, UNKNOWN_KEY, UNTIL_2030, Visit, Wanted, told, wanted_of,
+    ALL_OF_12, BAD_BODY, COLUMNS, DONE, HELLO, NO_ACCESSION, NO_FILE, NO_IMAGES, NO_RULE,
+    ONE_IMAGE, SOUND, STAFF_ONLY, SURVEY_OF_12, TAKEN_DOWN, Told, UNAVAILABLE, UNKNOWN_KEY,
+    UNTIL_2030, Visit, Wanted, told, wanted_of,
 };
-use super::images::{LOOPED_14, PROGRAM_12, QUOTED_18};
-use super::requests::{Ask, Key, PUBLIC, ROOM, STAFF, request_of};
+use super::images::{LOOPED_14, NewImage, PROGRAM_12, PROGRAM_13, Picture, QUOTED_18};
+use super::requests::{Ask, Key, NOBODY, PUBLIC, ROOM, STAFF, request_of};
+use super::rows::OPENING;
 use super::state::{
-    AFTER, BEFORE, CLOSED, Memory, OPEN, TAKEDOWN, answer, create, desk_over, into_connection,
-    new_connection, opened, tables_of,
+    AFTER, BEFORE, CLOSED, GIVEN, Memory, OPEN, TAKEDOWN, answer, create, desk_over,
+    into_connection, new_connection, opened, tables_of,
 };
 use rd_desk::{Reply, Request};
 use rd_geometry::NoMemory;
@@ -96,21 +98,21 @@ fn assert_reply(
     assert_told(rt, alloc, &reply, wanted)
 }
 
-/// A desk that was unavailable has the tables of one that has these commands done.
-fn assert_unchanged(
+/// A desk has the tables of another.
+fn assert_tables(
     rt: &impl Abort,
     alloc: Global,
     desk: Memory,
-    commands: &[Ask],
+    other: Memory,
 ) -> Result<Memory, Fail> {
     let mut conn = into_connection(desk);
-    let mut kept = into_connection(made(rt, alloc, commands)?);
+    let mut kept = into_connection(other);
     assert_eq!(rt; tables_of(alloc, &mut conn)?, tables_of(alloc, &mut kept)?);
     opened(rt, alloc, conn)
 }
 
 /// The first visit of a plan gets the reply that is wanted, or that of a desk that is unavailable and
-/// changes nothing.
+/// changes nothing. Then the same visit again gets the reply that is wanted, and changes what it has to.
 fn assert_first(
     rt: &impl Abort,
     alloc: Global,
@@ -125,9 +127,12 @@ fn assert_first(
         return Ok(desk);
     }
     assert_told(rt, alloc, &reply, UNAVAILABLE)?;
-    let mut desk = assert_unchanged(rt, alloc, desk, plan.given)?;
+    let kept = made(rt, alloc, plan.given)?;
+    let mut desk = assert_tables(rt, alloc, desk, kept)?;
     assert_reply(rt, alloc, &mut desk, plan.visit)?;
-    Ok(desk)
+    let mut kept = made(rt, alloc, plan.given)?;
+    assert_reply(rt, alloc, &mut kept, plan.visit)?;
+    assert_tables(rt, alloc, desk, kept)
 }
 
 fn assert_plan(rt: &impl Abort, alloc: Global, plan: &Plan) -> Result<(), Fail> {
@@ -135,6 +140,25 @@ fn assert_plan(rt: &impl Abort, alloc: Global, plan: &Plan) -> Result<(), Fail> 
     let mut desk = assert_first(rt, alloc, desk, plan)?;
     for visit in plan.then {
         assert_reply(rt, alloc, &mut desk, *visit)?;
+    }
+    Ok(())
+}
+
+/// Visits of one desk, of which none changes anything, get the replies that are wanted.
+fn assert_visits_again(
+    rt: &impl Abort,
+    alloc: Global,
+    given: &'static [Ask],
+    visits: &[Visit],
+) -> Result<(), Fail> {
+    let mut desk = made(rt, alloc, given)?;
+    for visit in visits {
+        let plan = Plan {
+            given,
+            visit: *visit,
+            then: &[],
+        };
+        desk = assert_first(rt, alloc, desk, &plan)?;
     }
     Ok(())
 }
@@ -315,4 +339,80 @@ const UNREAD: Plan = Plan {
 #[test]
 fn a_body_that_was_not_read_when_memory_is_refused(rt: HostRuntime) -> Result<(), Fail> {
     assert_plan(&rt, rt.alloc(), &UNREAD)
+}
+
+#[test]
+fn questions_when_memory_is_refused(rt: HostRuntime) -> Result<(), Fail> {
+    assert_visits_again(&rt, rt.alloc(), GIVEN, OPENING)
+}
+
+/// A desk on which one accession is taken down, and another has a deed without rules.
+const TAKEN: &[Ask] = &[
+    DEED,
+    Ask::PutDeed(8, "B. Donor", 18_321),
+    Ask::PutKey("hello", Audience::Room),
+    Ask::PutRule(OPEN),
+    Ask::PutImage(PROGRAM_12),
+    Ask::PutRule(TAKEDOWN),
+    Ask::PutImage(PROGRAM_13),
+];
+
+const VERDICTS: &[Visit] = &[
+    (ROOM, AFTER, Ask::Bytes(12, 0), TAKEN_DOWN),
+    (STAFF, AFTER, Ask::Bytes(12, 0), HELLO),
+    (PUBLIC, AFTER, Ask::Bytes(13, 0), NO_RULE),
+    (STAFF, AFTER, Ask::Bytes(13, 0), NO_RULE),
+    (PUBLIC, AFTER, Ask::Images, NO_IMAGES),
+    (STAFF, AFTER, Ask::Images, ONE_IMAGE),
+    (NOBODY, AFTER, Ask::Images, UNKNOWN_KEY),
+    (ROOM, AFTER, Ask::Survey(12), STAFF_ONLY),
+    (PUBLIC, AFTER, Ask::Listing(99), NO_ACCESSION),
+    (STAFF, AFTER, Ask::Bytes(12, 1), NO_FILE),
+];
+
+#[test]
+fn verdicts_when_memory_is_refused(rt: HostRuntime) -> Result<(), Fail> {
+    assert_visits_again(&rt, rt.alloc(), TAKEN, VERDICTS)
+}
+
+const CONFLICT: Wanted = Wanted::Json(409, r#"{"error":"conflict"}"#);
+
+const NO_DEED: Wanted = Wanted::Json(404, r#"{"error":"no-deed"}"#);
+
+const DIFFERS: Wanted = Wanted::Json(422, r#"{"error":"digest-differs"}"#);
+
+const WRONG_SIZE: Wanted = Wanted::Json(422, r#"{"error":"wrong-size"}"#);
+
+/// Commands that leave the desk as it is, in which accession 12 stands.
+const REPEATS: &[Visit] = table![
+    (STAFF, AFTER, Ask::PutImage(PROGRAM_12), DONE);
+    (STAFF, AFTER, Ask::PutImage(like!(NewImage, LOOPED_14, acc: 12)), CONFLICT);
+    (STAFF, AFTER, Ask::PutImage(like!(NewImage, PROGRAM_12, bytes: Picture::Looped)), DIFFERS);
+    (STAFF, AFTER, Ask::PutImage(like!(NewImage, PROGRAM_12, bytes: Picture::Cut)), WRONG_SIZE);
+    (STAFF, AFTER, Ask::PutImage(like!(NewImage, PROGRAM_12, deed: 9)), NO_DEED);
+];
+
+#[test]
+fn images_again_when_memory_is_refused(rt: HostRuntime) -> Result<(), Fail> {
+    assert_visits_again(&rt, rt.alloc(), HELD, REPEATS)
+}
+
+const RULED: &[Ask] = &[DEED, Ask::PutRule(OPEN)];
+
+/// The same of a desk without an image.
+const COMMANDS: &[Visit] = table![
+    (STAFF, AFTER, DEED, DONE);
+    (STAFF, AFTER, Ask::PutRule(OPEN), DONE);
+    (STAFF, AFTER, Ask::PutRule(TAKEDOWN), NO_ACCESSION);
+    (STAFF, AFTER, Ask::DropRule(Band::Deed, 7, 1), DONE);
+    (STAFF, AFTER, Ask::DropRule(Band::Deed, 9, 1), NO_DEED);
+    (STAFF, AFTER, Ask::DropKey("abc"), CONFLICT);
+    (STAFF, AFTER, Ask::PutKey("abc", Audience::Room), CONFLICT);
+    (STAFF, AFTER, Ask::DropKey("hello"), DONE);
+    (STAFF, AFTER, Ask::Check(12), NO_ACCESSION);
+];
+
+#[test]
+fn commands_again_when_memory_is_refused(rt: HostRuntime) -> Result<(), Fail> {
+    assert_visits_again(&rt, rt.alloc(), RULED, COMMANDS)
 }

@@ -16,7 +16,7 @@ use rd_policy::Effect;
 use std::test::Fail;
 
 /// What an opened desk answers too.
-const OPENING: &[Visit] = &[
+pub(super) const OPENING: &[Visit] = &[
     (PUBLIC, BEFORE, Ask::Bytes(12, 0), UNTIL_2030),
     (PUBLIC, AFTER, Ask::Bytes(12, 0), HELLO),
     (PUBLIC, BEFORE, Ask::Images, NO_IMAGES),

@@ -56,7 +56,7 @@ pub(super) const TAKEDOWN: NewRule =
     like!(NewRule, OPEN, band: Band::Takedown, scope: 12, rank: 1, audiences: NOT_STAFF, files: Files::Slot(0), effect: Effect::Deny);
 
 /// What a new desk is given.
-const GIVEN: &[Ask] = &[
+pub(super) const GIVEN: &[Ask] = &[
     Ask::PutKey("hello", Audience::Room),
     Ask::PutDeed(7, "A. Curator", 18_020),
     Ask::PutDeed(8, "B. Donor", 18_321),

@@ -116,7 +116,7 @@ pub(super) const TAKEN_DOWN: Wanted = reply!(
 pub(super) const NO_RULE: Wanted = reply!("403 Forbidden", r#"{"error":"denied","rule":"D0"}"#);
 
 /// What a desk is given: a key for the reading room, two deeds, two rules of the first and an image.
-const GIVEN: &[Visit] = table![
+pub(super) const GIVEN: &[Visit] = table![
     ("key", AFTER, Came::Asked("PUT /badges/2cf24dba5fb0a30e26e83b2ac5b9e29e1b161e5c1fa7425e73043362938b9824", STAFF, r#"{"audience":"room"}"#), DONE);
     ("deed 7", AFTER, Came::Asked("PUT /deeds/7", STAFF, r#"{"donor":"A. Curator","signed":"2019-05-04"}"#), DONE);
     ("deed 8", AFTER, Came::Asked("PUT /deeds/8", STAFF, r#"{"donor":"B. Donor","signed":"2020-02-29"}"#), DONE);

@@ -7,7 +7,7 @@ use rd_geometry::NoMemory;
 use rd_http::{Door, MemoryDoor, Served, serve_many};
 use rd_policy::Zone;
 use rd_store::{Refused, Store};
-use sqlite::{Connection, MemStore};
+use sqlite::{Connection, Error, MemStore, Row};
 use std::alloc::{AllocError, Global};
 use std::process::Abort;
 use std::test::Fail;
@@ -95,4 +95,58 @@ pub(super) fn out_of(alloc: Global, door: &MemoryDoor, n: usize) -> Result<Strin
 /// Serves visits, as many as `count`.
 pub(super) fn run<D: Door>(alloc: Global, door: &mut D, desk: &mut Memory, count: u32) -> Served {
     serve_many(alloc, door, desk, count)
+}
+
+pub(super) fn into_connection(desk: Memory) -> Connection<MemStore> {
+    desk.into_store().into_connection()
+}
+
+/// The store that a database holds, or the connection where it is not opened.
+fn open(
+    rt: &impl Abort,
+    alloc: Global,
+    conn: Connection<MemStore>,
+) -> Result<Store<MemStore>, Connection<MemStore>> {
+    assert!(rt; conn.is_autocommit());
+    match Store::open(alloc, conn) {
+        Ok(store) => Ok(store),
+        Err(Refused { fault: _, conn }) => Err(conn),
+    }
+}
+
+/// The desk over the store that a database holds.
+pub(super) fn opened(
+    rt: &impl Abort,
+    alloc: Global,
+    conn: Connection<MemStore>,
+) -> Result<Memory, Fail> {
+    match open(rt, alloc, conn) {
+        Ok(store) => Ok(Desk::new(store, Zone::read(CENTRAL)?)),
+        Err(_) => Err(Fail::new("not opened")),
+    }
+}
+
+/// Asks for all rows of all tables; of an image for the number of its bytes.
+const TABLES: &[&str] = &[
+    "SELECT id, version FROM desk",
+    "SELECT num, donor, signed FROM deed ORDER BY num",
+    "SELECT acc, kind, deed, digest, length(bytes) FROM image ORDER BY acc",
+    "SELECT * FROM rule ORDER BY band, scope, rank",
+    "SELECT digest, audience FROM badge ORDER BY digest",
+    "SELECT acc, day, outcome FROM checked ORDER BY acc, day",
+    "SELECT * FROM found ORDER BY acc, slot",
+];
+
+fn rows(conn: &mut Connection<MemStore>, sql: &str) -> Result<Vec<Row>, Error> {
+    conn.query_all(sql, &[])
+}
+
+/// The rows of all tables, in words.
+pub(super) fn tables_of(alloc: Global, conn: &mut Connection<MemStore>) -> Result<String, Fail> {
+    let mut told = String::new(alloc);
+    for sql in TABLES {
+        let rows = rows(conn, *sql)?;
+        told.push_str(format!(in alloc; "{rows:?}\n")?.as_str())?;
+    }
+    Ok(told)
 }

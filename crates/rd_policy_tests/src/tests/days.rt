@@ -147,7 +147,7 @@ fn rules_are_read(rt: HostRuntime) {
     assert_rules(&rt, RULES);
 }
 
-const DATES: &[(&str, i32)] = table![
+pub(super) const DATES: &[(&str, i32)] = table![
     ("1970-01-01", 0);
     ("1969-12-31", -1);
     ("0001-01-01", -719_162);
@@ -182,7 +182,7 @@ fn dates_have_days(rt: HostRuntime) -> Result<(), Fail> {
     assert_dates(&rt, rt.alloc(), DATES)
 }
 
-const NO_DATES: &[&str] = table![
+pub(super) const NO_DATES: &[&str] = table![
     ""; "2030-02-30"; "1900-02-29"; "2030-13-01"; "2030-00-10"; "2030-01-00"; "0000-12-31"; "2030-1-1";
     "20300101"; "2030/01/01"; "+2030-01-01"; "-002030-01-01"; "+002030-01-01"; "12030-01-01"; "2030-01-01 ";
     " 2030-01-01"; "2030-01-01T00:00:00"; "2030-01-01 00:00"; "2030-01-01T00:00:00Z"; "2030-01-01[UTC]";

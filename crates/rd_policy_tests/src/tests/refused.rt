@@ -1,27 +1,62 @@
 //! Calls that allocate, which a script runs under an allocator that refuses one growth. A call that
 //! answers that memory was refused is made again, and must then answer as ever.
 
-use super::OPENING;
+use super::days::{DATES, NO_DATES};
 use rd_geometry::NoMemory;
-use rd_policy::{DateFault, date_read, date_text};
+use rd_policy::{DateFault, date_read, date_text, is_day};
+use std::alloc::Global;
+use std::process::Abort;
 use std::test::Fail;
 
-#[test]
-fn a_date_when_memory_is_refused(rt: HostRuntime) -> Result<(), Fail> {
-    let text = match date_text(rt.alloc(), OPENING) {
-        Ok(text) => text,
-        Err(NoMemory) => date_text(rt.alloc(), OPENING)?,
-    };
-    assert_eq!(rt; text.as_str(), "2030-01-01");
+fn text_again(rt: &impl Abort, alloc: Global, day: i32) -> Result<String, NoMemory> {
+    assert!(rt; is_day(day));
+    match date_text(alloc, day) {
+        Ok(text) => Ok(text),
+        Err(NoMemory) => date_text(alloc, day),
+    }
+}
+
+fn day_again(alloc: Global, text: &str) -> Result<i32, DateFault> {
+    match date_read(alloc, text) {
+        Err(DateFault::NoMemory) => date_read(alloc, text),
+        answer => answer,
+    }
+}
+
+fn assert_texts(rt: &impl Abort, alloc: Global, cases: &[(&str, i32)]) -> Result<(), Fail> {
+    for (date, day) in cases {
+        assert_eq!(rt; text_again(rt, alloc, *day)?.as_str(), *date);
+    }
     Ok(())
 }
 
 #[test]
-fn a_day_when_memory_is_refused(rt: HostRuntime) -> Result<(), Fail> {
-    let day = match date_read(rt.alloc(), "2030-01-01") {
-        Err(DateFault::NoMemory) => date_read(rt.alloc(), "2030-01-01"),
-        answer => answer,
-    };
-    assert_eq!(rt; day, Ok(OPENING));
-    Ok(())
+fn dates_when_memory_is_refused(rt: HostRuntime) -> Result<(), Fail> {
+    assert_texts(&rt, rt.alloc(), DATES)
+}
+
+fn assert_days(rt: &impl Abort, alloc: Global, cases: &[(&str, i32)]) {
+    for (date, day) in cases {
+        assert_eq!(rt; day_again(alloc, *date), Ok(*day), "{date}");
+    }
+}
+
+#[test]
+fn days_when_memory_is_refused(rt: HostRuntime) {
+    assert_days(&rt, rt.alloc(), DATES);
+}
+
+fn assert_no_days(rt: &impl Abort, alloc: Global, texts: &[&str]) {
+    for text in texts {
+        assert_eq!(rt;
+            day_again(alloc, *text),
+            Err(DateFault::BadDate),
+            "{text:?}"
+        );
+    }
+}
+
+#[test]
+fn texts_without_a_day_when_memory_is_refused(rt: HostRuntime) {
+    assert_no_days(&rt, rt.alloc(), NO_DATES);
 }

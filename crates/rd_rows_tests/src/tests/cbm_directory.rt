@@ -36,7 +36,7 @@ const LONG: Sample =
 /// A disk whose block 18/0 links to a file's.
 const LINKED: Sample = like!(Sample, MIXED, blocks: &[(357, &[17, 5])]);
 
-const CASES: &[Case] = table![
+pub(super) const DIRECTORIES: &[Case] = table![
     ("used entries are told by slot", MIXED, Wanted::Directory(&[(358, 1)], End::Last(255), 3));
     ("used entries are told by slot: the first", MIXED, Wanted::CbmEntry(0, DATA));
     ("used entries are told by slot: the last", MIXED, Wanted::CbmEntry(2, LOST));
@@ -47,6 +47,9 @@ const CASES: &[Case] = table![
     ("the link of 18/0 is not followed: the first", LINKED, Wanted::CbmEntry(0, DATA));
     ("the link of 18/0 is not followed: the last", LINKED, Wanted::CbmEntry(2, LOST));
     ("a directory that loops", NO_END, Wanted::Directory(&[(358, 1)], End::Loop, 0));
+];
+
+const HOSTILE: &[Case] = table![
     ("an image of 00", CBM_00, Wanted::Directory(&[(358, 1)], End::Last(0), 0));
     ("an image of 01", CBM_01, Wanted::Directory(&[(358, 1), (1, 1)], End::Loop, 16));
     ("an image of FF", CBM_FF, Wanted::Directory(&[(358, 1)], End::Off, 8));
@@ -87,5 +90,10 @@ pub(super) fn has_entry(
 
 #[test]
 fn directories_are_told(rt: HostRuntime) {
-    assert_cases(&rt, rt.alloc(), CASES);
+    assert_cases(&rt, rt.alloc(), DIRECTORIES);
+}
+
+#[test]
+fn directories_of_hostile_images_are_told(rt: HostRuntime) {
+    assert_cases(&rt, rt.alloc(), HOSTILE);
 }

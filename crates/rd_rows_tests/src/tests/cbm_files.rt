@@ -45,7 +45,7 @@ const FILE: Told = Told {
 };
 
 /// What is told of the one program `HELLO`.
-pub(super) const HELLO_TOLD: Told =
+const HELLO_TOLD: Told =
     like!(Told, FILE, name: b"HELLO", blocks: &[(336, 1), (346, 1)], last: 5, size_field: 2, claimed: 2);
 
 /// What is told of `FILE`, where it is crossed with another of one block.
@@ -65,7 +65,7 @@ macro_rules! holding {
     };
 }
 
-const FILES: &[Case] = table![
+pub(super) const FILES: &[Case] = table![
     ("a sound file is its chain", ONE_PROGRAM, Wanted::CbmFiles(&[HELLO_TOLD]));
     ("a file may have 681 blocks", FULL, Wanted::CbmFiles(&[
         like!(Told, FILE, name: b"LONG", blocks: &[(0, 357), (359, 324)], last: 255, size_field: 681, claimed: 681)

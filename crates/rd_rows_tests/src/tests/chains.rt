@@ -34,15 +34,8 @@ fn blocks_lead_where_their_links_tell(rt: HostRuntime) {
     assert_cases(&rt, rt.alloc(), LINKS);
 }
 
-/// The chain from 17/0 of a disk with one program.
-pub(super) const PROGRAM_CHAIN: Case = (
-    "a chain ends at track 0",
-    ONE_PROGRAM,
-    Wanted::Chain((17, 0), &[(336, 1), (346, 1)], End::Last(5)),
-);
-
-const ENDING: &[Case] = table![
-    PROGRAM_CHAIN;
+pub(super) const ENDING: &[Case] = table![
+    ("a chain ends at track 0", ONE_PROGRAM, Wanted::Chain((17, 0), &[(336, 1), (346, 1)], End::Last(5)));
     ("a last block without bytes", like!(Sample, ONE_PROGRAM, blocks: &[(346, &[0, 1])]), Wanted::Chain((17, 0), &[(336, 1), (346, 1)], End::Last(1)));
     ("a loop that does not come back to the start", LOOPED, Wanted::Chain((17, 0), &[(336, 3)], End::Loop));
     ("a loop of one block", like!(Sample, LOOPED, blocks: &[(336, &[17, 0])]), Wanted::Chain((17, 0), &[(336, 1)], End::Loop));

@@ -50,7 +50,7 @@ const EMPTY: Told = Told {
 /// What is told of it, where it has one record in block 2.
 const ONE_TOLD: Told = like!(Told, EMPTY, sectors: &[(16, 1)]);
 
-pub(super) const HELLO_TOLD: Told = like!(Told, ONE_TOLD, name: b"HELLO   TXT");
+const HELLO_TOLD: Told = like!(Told, ONE_TOLD, name: b"HELLO   TXT");
 
 /// An extent of the file `FILE` with one record in block 2.
 const ONE: NewEntry<'static> = like!(NewEntry, FILE, rc: 1, pointers: b"\x02");
@@ -76,7 +76,7 @@ const SIXTEEN: NewEntry<'static> = like!(NewEntry, FILE, rc: 128,
 
 const SIXTEEN_TOLD: Told = like!(Told, EMPTY, sectors: &[(16, 128)]);
 
-const FILES: &[Case] = table![
+pub(super) const FILES: &[Case] = table![
     ("a blank disk has no files", BLANK, Wanted::CpmFiles(&[]));
     ("one record is one sector", HELLO, Wanted::CpmFiles(&[HELLO_TOLD]));
     ("extents in any slots are joined by number", SCATTERED, Wanted::CpmFiles(&[like!(Told, EMPTY, sectors: &[(16, 1_928)])]));
@@ -116,7 +116,7 @@ const FAULTY: &[Case] = table![
     ("255 records", with!(like!(NewEntry, SIXTEEN, rc: 255)), faulty!(BAD_COUNT));
 ];
 
-const CLAIMS: &[Case] = table![
+pub(super) const CLAIMS: &[Case] = table![
     ("user 16 claims nothing", with!(ONE, like!(NewEntry, CLAIMING, user: 16)), Wanted::CpmFiles(&[ONE_TOLD]));
     ("user 20 hex claims nothing", with!(ONE, like!(NewEntry, CLAIMING, user: 0x20)), Wanted::CpmFiles(&[ONE_TOLD]));
     ("a free entry claims nothing", with!(ONE, like!(NewEntry, CLAIMING, user: 0xe5)), Wanted::CpmFiles(&[ONE_TOLD]));

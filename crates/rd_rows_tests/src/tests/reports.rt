@@ -14,7 +14,7 @@ use std::alloc::Global;
 const COUNTED: Sample =
     like!(Sample, FORMATTED, blocks: &[(357, &[18, 1, 0x41, 0, 0x14, 0xff, 0xff, 0x1f, 0x14, 0xfe, 0xff, 0x1f])]);
 
-const MAPS: &[Case] = table![
+pub(super) const MAPS: &[Case] = table![
     ("an empty disk has an exact map", FORMATTED, Wanted::Map((0, 0, 0)));
     ("one program", ONE_PROGRAM, Wanted::Map((0, 2, 0)));
     ("files of other types", MIXED, Wanted::Map((0, 2, 0)));
@@ -23,8 +23,14 @@ const MAPS: &[Case] = table![
     ("an image of 00", CBM_00, Wanted::Map((0, 0, 681)));
     ("an image of 01", CBM_01, Wanted::Map((35, 1, 576)));
     ("an image of FF", CBM_FF, Wanted::Map((35, 2, 0)));
-    ("all blocks are in use", ALL_PROGRAMS, Wanted::Map((4, 12, 0)));
 ];
+
+/// A disk on which 5,464 programs have all blocks.
+const FULL_MAP: Case = (
+    "all blocks are in use",
+    ALL_PROGRAMS,
+    Wanted::Map((4, 12, 0)),
+);
 
 fn is_so(map: MapReport, (wrong_counts, claimed_free, unclaimed_used): (u16, u16, u16)) -> bool {
     map.wrong_counts == wrong_counts
@@ -47,6 +53,7 @@ pub(super) fn is_map(
 #[test]
 fn block_maps_are_told(rt: HostRuntime) {
     assert_cases(&rt, rt.alloc(), MAPS);
+    assert_cases(&rt, rt.alloc(), &[FULL_MAP]);
 }
 
 const OTHER_SIZE: Sample =
@@ -55,7 +62,7 @@ const OTHER_SIZE: Sample =
 const DELETED: Sample =
     like!(Sample, FORMATTED, entries: &[(DIRECTORY, 0, like!(NewCbmEntry, PROGRAM, type_byte: 0x80, size: 3))]);
 
-const REPORTS: &[Case] = table![
+pub(super) const REPORTS: &[Case] = table![
     ("a blank disk", BLANK, Wanted::Report((0, 0, 0, 0), (0, 0, 0), End::Last(0), b""));
     ("one program", ONE_PROGRAM, Wanted::Report((1, 1, 0, 0), (0, 2, 0), End::Last(255), b"MUSEUM"));
     ("a program that tells another size", OTHER_SIZE, Wanted::Report((1, 1, 0, 1), (0, 2, 0), End::Last(255), b"MUSEUM"));
@@ -69,8 +76,19 @@ const REPORTS: &[Case] = table![
     ("a 1541 image of 00", CBM_00, Wanted::Report((0, 0, 0, 0), (0, 0, 681), End::Last(0), b"%00%00%00%00%00%00%00%00%00%00%00%00%00%00%00%00"));
     ("a 1541 image of 01", CBM_01, Wanted::Report((16, 0, 16, 0), (35, 1, 576), End::Loop, b"%01%01%01%01%01%01%01%01%01%01%01%01%01%01%01%01"));
     ("a 1541 image of FF", CBM_FF, Wanted::Report((8, 0, 0, 0), (35, 2, 0), End::Off, b"%FF%FF%FF%FF%FF%FF%FF%FF%FF%FF%FF%FF%FF%FF%FF%FF"));
-    ("a directory of all blocks", ALL_DELETED, Wanted::Report((5_464, 0, 0, 0), (4, 4, 0), End::Loop, b"%00%00%00%00%00%00%00%00%00%00%00%00%00%00%00%00"));
 ];
+
+/// A disk with as many files as a directory can hold.
+const LARGE: Case = (
+    "a directory of all blocks",
+    ALL_DELETED,
+    Wanted::Report(
+        (5_464, 0, 0, 0),
+        (4, 4, 0),
+        End::Loop,
+        b"%00%00%00%00%00%00%00%00%00%00%00%00%00%00%00%00",
+    ),
+);
 
 /// Whether an image is reported so.
 pub(super) fn is_report(
@@ -98,4 +116,5 @@ pub(super) fn is_report(
 #[test]
 fn images_are_reported(rt: HostRuntime) {
     assert_cases(&rt, rt.alloc(), REPORTS);
+    assert_cases(&rt, rt.alloc(), &[LARGE]);
 }

@@ -75,7 +75,7 @@ const OTHER: NewEntry<'static> = like!(NewEntry, ONE, pointers: b"\x03");
 const BAD: NewEntry<'static> = like!(NewEntry, FILE, rc: 129,
     pointers: b"\x02\x03\x04\x05\x06\x07\x08\x09\x0a\x0b\x0c\x0d\x0e\x0f\x10\x11");
 
-const OF_CPM: &[Case] = table![
+pub(super) const OF_CPM: &[Case] = table![
     ("a CP/M file is told and served", HELLO, Wanted::Survey(&[HELLO_TXT]));
     ("a file without records has no pieces", with!(FILE), Wanted::Survey(&[EMPTY]));
     ("names of CP/M files are printed", with!(like!(NewEntry, FILE, name: b"A.B%", extension: b"\xc3")), Wanted::Survey(&[
@@ -136,7 +136,7 @@ const C: Told =
 const DELETED: Told =
     like!(Told, CBM_FILE, ty: b"DEL", name: b"%00%00%00%00%00%00%00%00%00%00%00%00%00%00%00%00", served: false);
 
-const OF_CBM: &[Case] = table![
+pub(super) const OF_CBM: &[Case] = table![
     ("a 1541 file is told and served", ONE_PROGRAM, Wanted::Survey(&[HELLO_TOLD]));
     ("a last block may have no bytes", like!(Sample, ONE_PROGRAM, blocks: &[(346, &[0, 1])]), Wanted::Survey(&[
         like!(Told, HELLO_TOLD, size: Some(254), last_len: 0, contents: Contents::Joined(&[&[b'A'; 254]]))
@@ -162,6 +162,10 @@ const OF_CBM: &[Case] = table![
     ("a 1541 image of FF", CBM_FF, Wanted::Survey(&[
         like!(Told, CBM_FILE, count: 8, ty: b"OTHER", name: b"%FF%FF%FF%FF%FF%FF%FF%FF%FF%FF%FF%FF%FF%FF%FF%FF", served: false)
     ]));
+];
+
+/// Disks with as many files as a directory can hold, or almost.
+const LARGE: &[Case] = table![
     ("a directory of all blocks", ALL_DELETED, Wanted::Survey(&[like!(Told, DELETED, count: 5_464)]));
     ("a directory of all blocks with a free slot", like!(Sample, ALL_DELETED, blocks: &[(0, &[1, 1, 0])]), Wanted::Survey(&[
         like!(Told, DELETED, count: 2_600),
@@ -174,10 +178,17 @@ fn files_of_1541_disks_are_surveyed(rt: HostRuntime) {
     assert_cases(&rt, rt.alloc(), OF_CBM);
 }
 
+#[test]
+fn files_of_large_directories_are_surveyed(rt: HostRuntime) {
+    assert_cases(&rt, rt.alloc(), LARGE);
+}
+
 /// A disk whose entries at slots 0 and 2 are of one file, and at slot 1 of no user.
 const DOUBLE: Sample = with!(FILE, like!(NewEntry, FILE, user: 16), FILE);
 
-const AT_SLOTS: &[Case] = table![
+pub(super) const AT_SLOTS: &[Case] = table![
+    ("the one program", ONE_PROGRAM, Wanted::File(0, Some(HELLO_TOLD)));
+    ("the one CP/M file", HELLO, Wanted::File(0, Some(HELLO_TXT)));
     ("the first of crossed programs", CROSSED, Wanted::File(0, Some(A)));
     ("the second of crossed programs", CROSSED, Wanted::File(1, Some(B)));
     ("the program beside crossed ones", CROSSED, Wanted::File(2, Some(C)));

@@ -2,17 +2,45 @@
 //! answers `Sql` has changed nothing. It is made again, and must then answer as ever.
 
 use super::steps::{
-    COMMODORE, Call, DONE, Digest, Named, Question, Step, answer, assert_steps, tells_so,
+    COMMODORE, CONFLICT, Call, DONE, Digest, MISSING, Named, Picture, Question, Step, answer,
+    tells_so,
 };
-use super::told::HELLO;
-use super::{Desk, PROGRAM, STAFF, into_connection, new_connection, number, open_desk, put_check};
-use rd_geometry::NoMemory;
-use rd_policy::Audience;
-use rd_store::{OpenFault, Outcome, Refused, Store, StoreFault};
-use sqlite::{Connection, Error, MemStore};
+use super::told::{HELLO, HELLO_TXT};
+use super::{
+    CPM, Desk, LOOPED, PROGRAM, STAFF, into_connection, new_connection, number, open_desk, run,
+};
+use rd_geometry::{Kind, NoMemory};
+use rd_policy::{Audience, Band};
+use rd_store::{Accession, CreateFault, OpenFault, Outcome, Refused, Store, StoreFault};
+use sqlite::{Connection, Error, MemStore, Row};
 use std::alloc::Global;
 use std::process::Abort;
 use std::test::Fail;
+
+/// Asks for all rows of all tables; of an image for the number of its bytes.
+const TABLES: &[&str] = &[
+    "SELECT id, version FROM desk",
+    "SELECT num, donor, signed FROM deed ORDER BY num",
+    "SELECT acc, kind, deed, digest, length(bytes) FROM image ORDER BY acc",
+    "SELECT * FROM rule ORDER BY band, scope, rank",
+    "SELECT digest, audience FROM badge ORDER BY digest",
+    "SELECT acc, day, outcome FROM checked ORDER BY acc, day",
+    "SELECT * FROM found ORDER BY acc, slot",
+];
+
+fn rows(conn: &mut Connection<MemStore>, sql: &str) -> Result<Vec<Row>, Error> {
+    conn.query_all(sql, &[])
+}
+
+/// The rows of all tables, in words.
+fn tables_of(alloc: Global, conn: &mut Connection<MemStore>) -> Result<String, Fail> {
+    let mut told = String::new(alloc);
+    for sql in TABLES {
+        let rows = rows(conn, *sql)?;
+        told.push_str(format!(in alloc; "{rows:?}\n")?.as_str())?;
+    }
+    Ok(told)
+}
 
 fn connection_again(alloc: Global) -> Result<Connection<MemStore>, NoMemory> {
     match new_connection(alloc) {
@@ -21,25 +49,38 @@ fn connection_again(alloc: Global) -> Result<Connection<MemStore>, NoMemory> {
     }
 }
 
-fn create(rt: &impl Abort, conn: Connection<MemStore>) -> Result<Desk, Connection<MemStore>> {
+/// The desk that is made over a connection, or why none is made, and the connection.
+fn create(
+    rt: &impl Abort,
+    conn: Connection<MemStore>,
+) -> Result<Desk, (CreateFault, Connection<MemStore>)> {
     assert!(rt; conn.is_autocommit());
     match Store::create(conn, &STAFF) {
         Ok(desk) => Ok(desk),
-        Err(Refused { fault: _, conn }) => Err(conn),
+        Err(Refused { fault, conn }) => Err((fault, conn)),
     }
 }
 
+/// A desk that is made, at the second time where memory was refused at the first, which left no table.
 fn create_again(rt: &impl Abort, conn: Connection<MemStore>) -> Result<Desk, Fail> {
     match create(rt, conn) {
         Ok(desk) => Ok(desk),
-        Err(conn) => match create(rt, conn) {
-            Ok(desk) => Ok(desk),
-            Err(_) => Err(Fail::new("no desk")),
-        },
+        Err((fault, mut conn)) => {
+            assert_eq!(rt; fault, CreateFault::Sql);
+            assert_eq!(rt; number(&mut conn, "SELECT count(*) FROM sqlite_master")?, 0);
+            match create(rt, conn) {
+                Ok(desk) => Ok(desk),
+                Err((fault, _)) => Err(Fail::from(fault)),
+            }
+        }
     }
 }
 
-/// Whether a step answers what it has to, or the fault that it answers.
+fn new_desk_again(rt: &impl Abort, alloc: Global) -> Result<Desk, Fail> {
+    create_again(rt, connection_again(alloc)?)
+}
+
+/// Whether a step answers what it has to, or that memory was refused.
 fn taken(
     rt: &impl Abort,
     alloc: Global,
@@ -48,34 +89,102 @@ fn taken(
 ) -> Result<Result<bool, StoreFault>, NoMemory> {
     match step {
         Step::Does(call, wanted) => match answer(rt, alloc, desk, *call)? {
-            Ok(()) => Ok(Ok(wanted.is_ok())),
-            Err(fault) => Ok(Err(fault)),
+            Err(StoreFault::Sql) => Ok(Err(StoreFault::Sql)),
+            told => Ok(Ok(told == *wanted)),
         },
         Step::Tells(question) => tells_so(alloc, desk, *question),
     }
 }
 
-/// All steps answer what they have to, each taken again where memory was refused. They are counted from 0.
-fn assert_again(
+/// A step answers what it has to, at the second time where memory was refused at the first.
+fn assert_step_again(
     rt: &impl Abort,
     alloc: Global,
     desk: &mut Desk,
-    steps: &[Step<'_>],
+    n: usize,
+    step: &Step<'_>,
 ) -> Result<(), Fail> {
-    for (n, step) in steps.iter().enumerate() {
-        let answer = match taken(rt, alloc, desk, step) {
-            Err(NoMemory) | Ok(Err(StoreFault::Sql)) => taken(rt, alloc, desk, step)?,
-            Ok(answer) => answer,
-        };
-        assert_eq!(rt; answer, Ok(true), "step {n}");
-    }
+    let answer = match taken(rt, alloc, desk, step) {
+        Err(NoMemory) | Ok(Err(StoreFault::Sql)) => taken(rt, alloc, desk, step)?,
+        Ok(answer) => answer,
+    };
+    assert_eq!(rt; answer, Ok(true), "step {n}");
     Ok(())
 }
 
-/// A desk with deed 7.
-fn desk_again(rt: &impl Abort, alloc: Global) -> Result<Desk, Fail> {
-    let mut desk = create_again(rt, connection_again(alloc)?)?;
-    assert_again(rt, alloc, &mut desk, &[PUT_DEED])?;
+/// A new desk after the first steps, so many. They are counted from 0.
+fn made(rt: &impl Abort, alloc: Global, steps: &[Step<'_>], count: usize) -> Result<Desk, Fail> {
+    let mut desk = new_desk_again(rt, alloc)?;
+    for (n, step) in steps.iter().enumerate() {
+        if n < count {
+            assert_step_again(rt, alloc, &mut desk, n, step)?;
+        }
+    }
+    Ok(desk)
+}
+
+/// The database at which memory was refused has the tables of a desk after the first steps, so many.
+fn assert_tables(
+    rt: &impl Abort,
+    alloc: Global,
+    conn: &mut Connection<MemStore>,
+    steps: &[Step<'_>],
+    count: usize,
+) -> Result<(), Fail> {
+    let mut kept = into_connection(made(rt, alloc, steps, count)?);
+    assert_eq!(rt; tables_of(alloc, conn)?, tables_of(alloc, &mut kept)?);
+    Ok(())
+}
+
+/// The same of a desk.
+fn assert_kept(
+    rt: &impl Abort,
+    alloc: Global,
+    desk: Desk,
+    steps: &[Step<'_>],
+    count: usize,
+) -> Result<Desk, Fail> {
+    let mut conn = into_connection(desk);
+    assert_tables(rt, alloc, &mut conn, steps, count)?;
+    match open_desk(rt, alloc, conn) {
+        Ok(desk) => Ok(desk),
+        Err((fault, _)) => Err(Fail::from(fault)),
+    }
+}
+
+/// The next step, before which so many were taken, answers what it has to, at the second time where memory was
+/// refused at the first. That changes nothing, and the second time what the step changes.
+fn assert_next(
+    rt: &impl Abort,
+    alloc: Global,
+    mut desk: Desk,
+    steps: &[Step<'_>],
+    (n, step): (usize, &Step<'_>),
+) -> Result<Desk, Fail> {
+    let first = taken(rt, alloc, &mut desk, step);
+    if first == Ok(Ok(true)) {
+        return Ok(desk);
+    }
+    assert!(rt;
+        matches!(&first, Err(NoMemory) | Ok(Err(StoreFault::Sql))),
+        "step {n}"
+    );
+    let mut desk = assert_kept(rt, alloc, desk, steps, n)?;
+    assert_eq!(rt;
+        taken(rt, alloc, &mut desk, step)?,
+        Ok(true),
+        "step {n} again"
+    );
+    assert_kept(rt, alloc, desk, steps, n.saturating_add(1))
+}
+
+/// All steps, from a new desk on, answer what they have to, each of which memory was refused at the second time.
+/// They are counted from 0.
+fn assert_steps_again(rt: &impl Abort, alloc: Global, steps: &[Step<'_>]) -> Result<Desk, Fail> {
+    let mut desk = new_desk_again(rt, alloc)?;
+    for (n, step) in steps.iter().enumerate() {
+        desk = assert_next(rt, alloc, desk, steps, (n, step))?;
+    }
     Ok(desk)
 }
 
@@ -83,112 +192,164 @@ const PUT_DEED: Step<'static> = Step::Does(Call::PutDeed(7, "A. Curator", 18_020
 
 const PUT_IMAGE: Step<'static> = Step::Does(Call::PutImage(12, PROGRAM), DONE);
 
-/// Tells that a desk has deed 7 and the staff key, and nothing else.
-const BARE: &[Step<'static>] = &[
+/// Puts a deed, and another in its place.
+const DEEDS: &[Step<'static>] = &[
+    Step::Tells(Question::Deed(7, None)),
+    Step::Does(Call::PutDeed(7, "B. Donor", 18_321), DONE),
+    PUT_DEED,
     Step::Tells(Question::Deed(7, Some(("A. Curator", 18_020)))),
-    Step::Tells(Question::AudienceOf(Digest::Staff, Some(Audience::Staff))),
-    Step::Tells(Question::Accessions(&[])),
-    Step::Tells(Question::Register(&[])),
-    Step::Tells(Question::RulesFor(12, &[])),
-    Step::Tells(Question::Files(12, &[])),
-    Step::Tells(Question::FileAt(12, 0, None)),
 ];
 
-/// Tells that image 12 and no other stands.
+#[test]
+fn deeds_when_memory_is_refused(rt: HostRuntime) -> Result<(), Fail> {
+    assert_steps_again(&rt, rt.alloc(), DEEDS)?;
+    Ok(())
+}
+
+/// Puts an image, and asks for it in each way.
 const IMAGE: &[Step<'static>] = &[
+    PUT_DEED,
+    PUT_IMAGE,
     Step::Tells(Question::Image(12, Some(PROGRAM))),
+    Step::Tells(Question::Image(13, None)),
+    Step::Tells(Question::Accession(12, Some(COMMODORE))),
     Step::Tells(Question::Accessions(&[12])),
     Step::Tells(Question::Register(&[(12, COMMODORE)])),
-    Step::Tells(Question::Files(12, &[HELLO])),
 ];
 
 #[test]
 fn an_image_when_memory_is_refused(rt: HostRuntime) -> Result<(), Fail> {
-    let alloc = rt.alloc();
-    let mut desk = desk_again(&rt, alloc)?;
-    let first = taken(&rt, alloc, &mut desk, &PUT_IMAGE);
-    if first != Ok(Ok(true)) {
-        assert!(rt; matches!(&first, Err(NoMemory) | Ok(Err(StoreFault::Sql))));
-        assert_steps(&rt, alloc, &mut desk, "after a refusal", BARE)?;
-        assert_again(&rt, alloc, &mut desk, &[PUT_IMAGE])?;
-    }
-    assert_again(&rt, alloc, &mut desk, IMAGE)
+    assert_steps_again(&rt, rt.alloc(), IMAGE)?;
+    Ok(())
 }
 
-/// Puts an image, and asks for its files.
-const FILES: &[Step<'static>] = &[
+/// Puts an image, the same again, and images that are not taken in.
+const IMAGES: &[Step<'static>] = &[
+    PUT_DEED,
     PUT_IMAGE,
+    PUT_IMAGE,
+    Step::Does(Call::PutImage(12, LOOPED), CONFLICT),
+    Step::Does(
+        Call::PutImage(13, (Picture::Program, 9, Digest::Program)),
+        MISSING,
+    ),
+    Step::Tells(Question::Image(12, Some(PROGRAM))),
+];
+
+#[test]
+fn an_image_again_when_memory_is_refused(rt: HostRuntime) -> Result<(), Fail> {
+    assert_steps_again(&rt, rt.alloc(), IMAGES)?;
+    Ok(())
+}
+
+/// A CP/M disk under deed 7.
+const CONTROL_PROGRAM: Accession = Accession {
+    kind: Kind::Cpm8,
+    deed: 7,
+};
+
+/// Puts images of both kinds, and asks for their files.
+const FILES: &[Step<'static>] = &[
+    PUT_DEED,
+    PUT_IMAGE,
+    Step::Does(Call::PutImage(15, CPM), DONE),
+    Step::Tells(Question::Register(&[(12, COMMODORE), (15, CONTROL_PROGRAM)])),
     Step::Tells(Question::Files(12, &[HELLO])),
     Step::Tells(Question::FileAt(12, 0, Some(HELLO))),
     Step::Tells(Question::FileAt(12, 1, None)),
     Step::Tells(Question::Files(13, &[])),
+    Step::Tells(Question::Files(15, &[HELLO_TXT])),
+    Step::Tells(Question::FileAt(15, 0, Some(HELLO_TXT))),
 ];
 
 #[test]
 fn files_when_memory_is_refused(rt: HostRuntime) -> Result<(), Fail> {
-    let mut desk = desk_again(&rt, rt.alloc())?;
-    assert_again(&rt, rt.alloc(), &mut desk, FILES)
+    assert_steps_again(&rt, rt.alloc(), FILES)?;
+    Ok(())
 }
 
-/// Puts an image, its rules and its takedown, and asks for them.
+/// Puts rules and a takedown, asks for them, and drops some.
 const RULES: &[Step<'static>] = &[
+    PUT_DEED,
     PUT_IMAGE,
     Step::Does(Call::PutRule(Named::Open, 7), DONE),
-    Step::Does(Call::PutRule(Named::Closed, 7), DONE),
+    Step::Does(Call::PutRule(Named::ByPrefix, 7), DONE),
     Step::Does(Call::PutRule(Named::Takedown, 12), DONE),
     Step::Tells(Question::RulesFor(
         12,
-        &[(Named::Takedown, 12), (Named::Closed, 7), (Named::Open, 7)],
+        &[
+            (Named::Takedown, 12),
+            (Named::ByPrefix, 7),
+            (Named::Open, 7),
+        ],
     )),
+    Step::Tells(Question::RulesUnder(
+        12,
+        7,
+        &[
+            (Named::Takedown, 12),
+            (Named::ByPrefix, 7),
+            (Named::Open, 7),
+        ],
+    )),
+    Step::Does(Call::PutRule(Named::Open, 9), MISSING),
 ];
 
 #[test]
 fn rules_when_memory_is_refused(rt: HostRuntime) -> Result<(), Fail> {
-    let mut desk = desk_again(&rt, rt.alloc())?;
-    assert_again(&rt, rt.alloc(), &mut desk, RULES)
+    assert_steps_again(&rt, rt.alloc(), RULES)?;
+    Ok(())
 }
 
-/// The desk that a database holds, opened again where memory was refused.
-fn open_again(rt: &impl Abort, alloc: Global, conn: Connection<MemStore>) -> Result<Desk, Fail> {
-    match open_desk(rt, alloc, conn) {
-        Ok(desk) => Ok(desk),
-        Err((fault, conn)) => {
-            assert_eq!(rt; fault, OpenFault::Sql);
-            match open_desk(rt, alloc, conn) {
-                Ok(desk) => Ok(desk),
-                Err((fault, _)) => Err(Fail::from(fault)),
-            }
-        }
-    }
-}
-
-/// Puts an image, a key for the room, a rule and a takedown.
-const PUT_SMALL: &[Step<'static>] = &[
+/// Puts two rules, and drops them, each twice.
+const DROPPED: &[Step<'static>] = &[
+    PUT_DEED,
     PUT_IMAGE,
-    Step::Does(Call::PutRoomKey(Digest::Room), DONE),
     Step::Does(Call::PutRule(Named::Open, 7), DONE),
     Step::Does(Call::PutRule(Named::Takedown, 12), DONE),
-];
-
-/// Asks for what they put.
-const SMALL: &[Step<'static>] = &[
-    Step::Tells(Question::Deed(7, Some(("A. Curator", 18_020)))),
-    Step::Tells(Question::AudienceOf(Digest::Staff, Some(Audience::Staff))),
-    Step::Tells(Question::AudienceOf(Digest::Room, Some(Audience::Room))),
-    Step::Tells(Question::Image(12, Some(PROGRAM))),
-    Step::Tells(Question::Accessions(&[12])),
-    Step::Tells(Question::RulesFor(12, &[(Named::Takedown, 12), (Named::Open, 7)])),
-    Step::Tells(Question::Files(12, &[HELLO])),
+    Step::Does(Call::DropRule(Band::Takedown, 12, 1), DONE),
+    Step::Does(Call::DropRule(Band::Takedown, 12, 1), DONE),
+    Step::Tells(Question::RulesFor(12, &[(Named::Open, 7)])),
+    Step::Does(Call::DropRule(Band::Deed, 7, 20), DONE),
+    Step::Does(Call::DropRule(Band::Deed, 9, 20), MISSING),
+    Step::Tells(Question::RulesFor(12, &[])),
 ];
 
 #[test]
-fn opening_when_memory_is_refused(rt: HostRuntime) -> Result<(), Fail> {
-    let alloc = rt.alloc();
-    let mut desk = desk_again(&rt, alloc)?;
-    assert_again(&rt, alloc, &mut desk, PUT_SMALL)?;
-    let mut desk = open_again(&rt, alloc, into_connection(desk))?;
-    assert_again(&rt, alloc, &mut desk, SMALL)
+fn dropped_rules_when_memory_is_refused(rt: HostRuntime) -> Result<(), Fail> {
+    assert_steps_again(&rt, rt.alloc(), DROPPED)?;
+    Ok(())
 }
+
+/// Puts desk keys, and drops some; the last one of the staff stays.
+const KEYS: &[Step<'static>] = &[
+    Step::Does(Call::PutRoomKey(Digest::Room), DONE),
+    Step::Tells(Question::AudienceOf(Digest::Room, Some(Audience::Room))),
+    Step::Does(Call::PutRoomKey(Digest::Staff), CONFLICT),
+    Step::Does(Call::DropKey(Digest::Staff), CONFLICT),
+    Step::Tells(Question::AudienceOf(Digest::Staff, Some(Audience::Staff))),
+    Step::Does(Call::DropKey(Digest::Room), DONE),
+    Step::Tells(Question::AudienceOf(Digest::Room, None)),
+    Step::Does(Call::PutStaffKey(Digest::Other), DONE),
+    Step::Does(Call::DropKey(Digest::Staff), DONE),
+    Step::Tells(Question::AudienceOf(Digest::Other, Some(Audience::Staff))),
+    Step::Tells(Question::AudienceOf(Digest::Staff, None)),
+];
+
+#[test]
+fn keys_when_memory_is_refused(rt: HostRuntime) -> Result<(), Fail> {
+    assert_steps_again(&rt, rt.alloc(), KEYS)?;
+    Ok(())
+}
+
+/// Puts an image, and what checks of it found on a day.
+const CHECKED: &[Step<'static>] = &[
+    PUT_DEED,
+    PUT_IMAGE,
+    Step::Does(Call::PutCheck(12, 18_021, Outcome::Sound), DONE),
+    Step::Does(Call::PutCheck(12, 18_021, Outcome::Changed), DONE),
+    Step::Does(Call::PutCheck(13, 18_021, Outcome::Sound), MISSING),
+];
 
 /// What was found of image 12 on day 18,021, by its number in the tables.
 fn outcome_again(conn: &mut Connection<MemStore>) -> Result<i64, Error> {
@@ -199,32 +360,136 @@ fn outcome_again(conn: &mut Connection<MemStore>) -> Result<i64, Error> {
     }
 }
 
-/// Asserts that the first outcome of the check still stands, and puts the second one.
-fn check_again(rt: &impl Abort, alloc: Global, desk: Desk) -> Result<Desk, Fail> {
+#[test]
+fn checks_when_memory_is_refused(rt: HostRuntime) -> Result<(), Fail> {
+    let desk = assert_steps_again(&rt, rt.alloc(), CHECKED)?;
     let mut conn = into_connection(desk);
-    assert_eq!(rt; outcome_again(&mut conn)?, 0);
-    let mut desk = open_again(rt, alloc, conn)?;
-    put_check(rt, &mut desk, 12, 18_021, Outcome::Changed)?;
-    Ok(desk)
+    assert_eq!(rt; outcome_again(&mut conn)?, 1);
+    Ok(())
 }
 
-/// Puts an image and what a check of it found.
-const CHECKED: &[Step<'static>] = &[
+/// The desk that a database holds, opened again where memory was refused, which left the tables as the steps
+/// made them.
+fn open_again(
+    rt: &impl Abort,
+    alloc: Global,
+    conn: Connection<MemStore>,
+    steps: &[Step<'_>],
+) -> Result<Desk, Fail> {
+    match open_desk(rt, alloc, conn) {
+        Ok(desk) => Ok(desk),
+        Err((fault, mut conn)) => {
+            assert_eq!(rt; fault, OpenFault::Sql);
+            assert_tables(rt, alloc, &mut conn, steps, steps.len())?;
+            match open_desk(rt, alloc, conn) {
+                Ok(desk) => Ok(desk),
+                Err((fault, _)) => Err(Fail::from(fault)),
+            }
+        }
+    }
+}
+
+/// Puts an image, a key for the room, a rule and a takedown.
+const PUT_SMALL: &[Step<'static>] = &[
+    PUT_DEED,
     PUT_IMAGE,
+    Step::Does(Call::PutRoomKey(Digest::Room), DONE),
+    Step::Does(Call::PutRule(Named::Open, 7), DONE),
+    Step::Does(Call::PutRule(Named::Takedown, 12), DONE),
     Step::Does(Call::PutCheck(12, 18_021, Outcome::Sound), DONE),
 ];
 
+/// Asks for what they put.
+const SMALL: &[Step<'static>] = &[
+    Step::Tells(Question::Deed(7, Some(("A. Curator", 18_020)))),
+    Step::Tells(Question::AudienceOf(Digest::Staff, Some(Audience::Staff))),
+    Step::Tells(Question::AudienceOf(Digest::Room, Some(Audience::Room))),
+    Step::Tells(Question::Image(12, Some(PROGRAM))),
+    Step::Tells(Question::RulesFor(12, &[(Named::Takedown, 12), (Named::Open, 7)])),
+    Step::Tells(Question::Files(12, &[HELLO])),
+];
+
 #[test]
-fn checks_when_memory_is_refused(rt: HostRuntime) -> Result<(), Fail> {
+fn opening_when_memory_is_refused(rt: HostRuntime) -> Result<(), Fail> {
     let alloc = rt.alloc();
-    let mut desk = desk_again(&rt, alloc)?;
-    assert_again(&rt, alloc, &mut desk, CHECKED)?;
-    let second = put_check(&rt, &mut desk, 12, 18_021, Outcome::Changed);
-    if second.is_err() {
-        assert_eq!(rt; second, Err(StoreFault::Sql));
-        desk = check_again(&rt, alloc, desk)?;
+    let desk = made(&rt, alloc, PUT_SMALL, PUT_SMALL.len())?;
+    let mut desk = open_again(&rt, alloc, into_connection(desk), PUT_SMALL)?;
+    for (n, step) in SMALL.iter().enumerate() {
+        assert_step_again(&rt, alloc, &mut desk, n, step)?;
     }
-    let mut conn = into_connection(desk);
-    assert_eq!(rt; outcome_again(&mut conn)?, 1);
+    Ok(())
+}
+
+/// What is done to the database of a desk, and why none is opened then.
+const UNSOUND: &[(&str, OpenFault)] = &[
+    ("UPDATE desk SET version = 9", OpenFault::Version),
+    ("DELETE FROM found", OpenFault::Inconsistent),
+    ("UPDATE badge SET audience = 1", OpenFault::Inconsistent),
+    ("DROP TABLE desk", OpenFault::NotADesk),
+];
+
+/// Why a database is not opened, told again where memory was refused.
+fn fault_again(
+    rt: &impl Abort,
+    alloc: Global,
+    conn: Connection<MemStore>,
+) -> Result<OpenFault, Fail> {
+    let Err((fault, conn)) = open_desk(rt, alloc, conn) else {
+        return Err(Fail::new("a desk"));
+    };
+    if fault != OpenFault::Sql {
+        return Ok(fault);
+    }
+    match open_desk(rt, alloc, conn) {
+        Ok(_) => Err(Fail::new("a desk")),
+        Err((fault, _)) => Ok(fault),
+    }
+}
+
+fn assert_faults(rt: &impl Abort, alloc: Global, cases: &[(&str, OpenFault)]) -> Result<(), Fail> {
+    for (sql, wanted) in cases {
+        let mut conn = into_connection(made(rt, alloc, FEW, FEW.len())?);
+        if run(&mut conn, *sql).is_err() {
+            run(&mut conn, *sql)?;
+        }
+        assert_eq!(rt; fault_again(rt, alloc, conn)?, *wanted, "{sql}");
+    }
+    Ok(())
+}
+
+/// Puts a deed and an image.
+const FEW: &[Step<'static>] = &[PUT_DEED, PUT_IMAGE];
+
+#[test]
+fn no_desk_when_memory_is_refused(rt: HostRuntime) -> Result<(), Fail> {
+    assert_faults(&rt, rt.alloc(), UNSOUND)
+}
+
+/// Why no desk is made over the database of a desk, told again where memory was refused, which left the tables as
+/// the steps made them.
+fn refusal_again(
+    rt: &impl Abort,
+    alloc: Global,
+    conn: Connection<MemStore>,
+    steps: &[Step<'_>],
+) -> Result<CreateFault, Fail> {
+    let Err((fault, mut conn)) = create(rt, conn) else {
+        return Err(Fail::new("a desk"));
+    };
+    if fault != CreateFault::Sql {
+        return Ok(fault);
+    }
+    assert_tables(rt, alloc, &mut conn, steps, steps.len())?;
+    match create(rt, conn) {
+        Ok(_) => Err(Fail::new("a desk")),
+        Err((fault, _)) => Ok(fault),
+    }
+}
+
+#[test]
+fn a_desk_that_stands_when_memory_is_refused(rt: HostRuntime) -> Result<(), Fail> {
+    let desk = made(&rt, rt.alloc(), DEEDS, DEEDS.len())?;
+    let fault = refusal_again(&rt, rt.alloc(), into_connection(desk), DEEDS)?;
+    assert_eq!(rt; fault, CreateFault::Exists);
     Ok(())
 }
