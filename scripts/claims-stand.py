@@ -6,8 +6,9 @@ something is not.
 - A row's sets have all spec files with a definition on which its clauses rest, and no set without one. These are the
   definitions that the clauses name, those that these name, and so on. Of a record of which the row names fields, only
   these count. Numbers of files and lines are counted again.
-- A row's premises are explained, and each promise has a row of tests.
-- Tests, labels of trials, wrong bodies, functions and files are there.
+- A row's premises are explained. A row has a premise on the connection where a clause has one in its own words, and
+  likewise one on the disk. Each promise has a row of tests.
+- Tests, labels of trials, wrong bodies, functions and files are there, and files have as many lines as the page says.
 
 It does not judge what a sentence says. `--write` puts the right lines and numbers into the page; names of clauses and
 sets you change yourself. You need Python 3.11 with its standard library alone."""
@@ -24,7 +25,10 @@ PROMISES, PREMISES, SETS = "## The promises", "### Premises", "### Definitions t
 TESTS, ALONE, END = "### Tests and wrong bodies", "## What rests on reading the code", "## Places"
 
 LINK = re.compile(r"\[`?([^\]`]+)`?\]\(\.\./([^)#]+)(?:#L(\d+))?\)")
-COUNT = re.compile(r"([\d,]+) files?, ([\d,]+) lines")
+COUNT = re.compile(r"[\d,]+ files?, [\d,]+ lines")
+LENGTH = re.compile(r"\]\(\.\./([^)#]+)\), ([\d,]+) lines")
+# What a clause says of the connection and of the disk, and the premises that mean it.
+MEANT = {"IsOpen": ("open", "open before"), "IsClean": ("clean",)}
 # What begins a definition, and what a module hands to all of its own.
 ITEM = re.compile(r" *(?:(?:abbrev|unfoldable) pub|abbrev|unfoldable|pub record|pub data|record|data|pub) ([^\s:(]+)")
 MODULE = re.compile(r"( *)module _(.*) where$")
@@ -227,17 +231,20 @@ def seen_by(clause, specs):
 
 
 def count(files, specs):
-    return f"{commas(len(files))} file{'s' * (len(files) != 1)}, {commas(sum(specs[file].lines for file in files))} lines"
+    lines = sum(specs[file].lines for file in files)
+    return f"{commas(len(files))} file{'s' * (len(files) != 1)}, {commas(lines)} lines"
 
 
 # What does not stand
 
 
 def wrong_clauses(name, cell):
+    if cell.count("](") != len(clauses(cell)) or not (clauses(cell) or cell.startswith("none")):
+        yield f"{name}: its clauses do not have the form of links to lines"
     for clause in clauses(cell):
         at = place(clause)
         if at is None:
-            yield f"{name}: {clause.path} has no clause {clause.name} of {clause.owner or 'the function with this name'}"
+            yield f"{name}: {clause.path} has no clause {clause.name} of {clause.owner or 'a function of this name'}"
         elif at != clause.line:
             yield f"{name}: the clause {clause.name} is in line {at} of {clause.path}, and not in {clause.line}"
 
@@ -246,24 +253,35 @@ def wrong_sets(name, cell, told, known, specs):
     """What is wrong with the sets of a row, of which each clause is there."""
     listed = names_of(told)
     yield from (f"{name}: there is no set {one}" for one in listed if one not in known)
+    listed = [one for one in listed if one in known]
     needed = rests_on(cell, specs)
-    files = {file for one in listed for file in known.get(one, [])}
+    files = {file for one in listed for file in known[one]} & set(specs)
     yield from (f"{name}: it rests on {'/'.join(file)}, which its sets lack" for file in sorted(needed - files))
-    yield from (f"{name}: it rests on no definition of the set {one}" for one in listed if not needed & set(known.get(one, needed)))
-    if listed and count(files & set(specs), specs) not in told:
-        yield f"{name}: its sets have {count(files & set(specs), specs)}"
+    yield from (f"{name}: it rests on nothing in the set {one}" for one in listed if not needed & set(known[one]))
+    if listed and not told.endswith(f": {count(files, specs)}"):
+        yield f"{name}: its sets have {count(files, specs)}"
+
+
+def premises_of(cell):
+    """The premises of a row; "the last sentence: open" is one too."""
+    return [one.rpartition(": ")[2] for one in re.split("[,;] ", cell) if one != "none"]
+
+
+def wrong_premises(name, cell, listed, explained):
+    yield from (f"{name}: the premise {one} is not explained" for one in listed if one not in explained)
+    for word, meant in MEANT.items():
+        if any(re.search(rf"\b{word}\b", text_of(clause)) for clause in clauses(cell)) and not set(meant) & set(listed):
+            yield f"{name}: a clause has the premise {word}, and the row does not"
 
 
 def wrong_promises(page, specs):
     known, explained, used = sets(page), premises(page), set()
     for name, (cell, told, wanted) in promises(page).items():
-        wrong = list(wrong_clauses(name, cell))
-        yield from wrong
-        if not any("no clause" in one for one in wrong):
+        yield from wrong_clauses(name, cell)
+        if all(place(clause) for clause in clauses(cell)):
             yield from wrong_sets(name, cell, told, known, specs)
-        of_row = [one.rpartition(": ")[2] for one in re.split(r"[,;] ", wanted) if one != "none"]
-        used |= set(of_row)
-        yield from (f"{name}: the premise {one} is not explained" for one in of_row if one not in explained)
+            yield from wrong_premises(name, cell, premises_of(wanted), explained)
+        used |= set(premises_of(wanted))
     yield from (f"no promise has the premise {one}" for one in explained if one not in used)
 
 
@@ -288,7 +306,8 @@ def is_there(text, path):
         return True
     if file.suffix == ".rt":
         test = r"#\[test\]\s+" if "/tests" in path else ""
-        return re.search(rf"{test}(pub(\(\w+\))? )?fn {re.escape(text.rpartition('::')[2])}\b", file.read_text()) is not None
+        name = re.escape(text.rpartition("::")[2])
+        return re.search(rf"{test}(pub(\(\w+\))? )?fn {name}\b", file.read_text()) is not None
     if file.suffix == ".trial":
         return any(line in (f"visit {text}", f"run {text}") for line in file.read_text().splitlines())
     return file.suffix == ".edit" and file.stem == text
@@ -299,9 +318,15 @@ def wrong_tests(page):
     yield from (f"{name}: the promise has no row of tests" for name in promises(page) if name not in names)
     yield from (f"{name}: tests of a promise that is not there" for name in names if name not in promises(page))
     for heading in (TESTS, ALONE):
-        for text, path, _ in LINK.findall(part(page, heading)):
-            if not is_there(text, path):
-                yield f"{heading.strip('# ')}: {path} has no {text}"
+        below = part(page, heading)
+        links = LINK.findall(below)
+        missing = [link for link in links if not is_there(*link[:2])]
+        yield from (f"{heading.strip('# ')}: {path} has no {text}" for text, path, _ in missing)
+        if below.count("](../") != len(links):
+            yield f"{heading.strip('# ')}: a link does not have the form of the others"
+    for path, told in LENGTH.findall(part(page, ALONE)):
+        if (ROOT / path).is_file() and told != commas(len(lines_of(path))):
+            yield f"{path} has {commas(len(lines_of(path)))} lines, and not {told}"
 
 
 # The page written anew
@@ -323,6 +348,9 @@ def rewritten(page, specs):
     for name, files, told in rows(page, SETS):
         lines = sum(specs[file].lines for file in known[name] if file in specs)
         page = page.replace(f"| {name} | {files} | {told} |", f"| {name} | {files} | {commas(lines)} |")
+    for path, told in LENGTH.findall(part(page, ALONE)):
+        if (ROOT / path).is_file():
+            page = page.replace(f"(../{path}), {told} lines", f"(../{path}), {commas(len(lines_of(path)))} lines")
     return page
 
 
