@@ -3,15 +3,15 @@
 something is not.
 
 - A clause is in the line that its link names, in that function, trait or record.
-- A row's sets have all spec files with a definition on which its clauses rest, and no set without one. These are the
+- A row names the sets of spec files with a definition on which its clauses rest, and no others. These are the
   definitions that the clauses name, those that these name, and so on. Of a record of which the row names fields, only
-  these count. Numbers of files and lines are counted again.
+  these count. Files and lines are counted again.
 - A row's premises are explained. A row has a premise on the connection where a clause has one in its own words, and
   likewise one on the disk. Each promise has a row of tests.
 - Tests, labels of trials, wrong bodies, functions and files are there, and files have as many lines as the page says.
 
-It does not judge what a sentence says. `--write` puts the right lines and numbers into the page; names of clauses and
-sets you change yourself. You need Python 3.11 with its standard library alone."""
+It does not judge what a sentence says. `--write` puts the right lines, sets and numbers into the page; names of clauses
+and the files of sets you change yourself. You need Python 3.11 with its standard library alone."""
 
 import collections
 import pathlib
@@ -25,7 +25,6 @@ PROMISES, PREMISES, SETS = "## The promises", "### Premises", "### Definitions t
 TESTS, ALONE, END = "### Tests and wrong bodies", "## What rests on reading the code", "## Places"
 
 LINK = re.compile(r"\[`?([^\]`]+)`?\]\(\.\./([^)#]+)(?:#L(\d+))?\)")
-COUNT = re.compile(r"[\d,]+ files?, [\d,]+ lines")
 LENGTH = re.compile(r"\]\(\.\./([^)#]+)\), ([\d,]+) lines")
 # What a clause says of the connection and of the disk, and the premises that mean it.
 MEANT = {"IsOpen": ("open", "open before"), "IsClean": ("clean",)}
@@ -83,11 +82,6 @@ def files_of(cell):
     """The spec files of a cell such as "[`rd_cpm`](..): Entries, Files; [`rd_cbm`](..): Links"."""
     groups = re.findall(r"\[`(\w+)`\]\([^)]*\): ([^;]+)", cell)
     return [(crate, name.strip()) for crate, names in groups for name in names.split(",")]
-
-
-def names_of(cell):
-    """The sets of a cell such as "places, links: 8 files, 216 lines"."""
-    return [name for name in COUNT.sub("", cell).strip(" :").split(", ") if name not in ("", "none")]
 
 
 def clauses(cell):
@@ -168,7 +162,7 @@ def read_spec(path):
         elif module := MODULE.match(code):
             item, depth, handed = None, len(module[1]) + 2, module[2]
         elif code and indent in (0, depth) and (begins := ITEM.match(code)):
-            item = begins[1]
+            item, depth = begins[1], indent
             items[item] = handed * (indent > 0)
         if item:
             items[item] += f"\n{code}"
@@ -249,17 +243,21 @@ def wrong_clauses(name, cell):
             yield f"{name}: the clause {clause.name} is in line {at} of {clause.path}, and not in {clause.line}"
 
 
-def wrong_sets(name, cell, told, known, specs):
-    """What is wrong with the sets of a row, of which each clause is there."""
-    listed = names_of(told)
-    yield from (f"{name}: there is no set {one}" for one in listed if one not in known)
-    listed = [one for one in listed if one in known]
+def told_of(cell, known, specs):
+    """What a row has to say of its definitions, of which each clause is there: the sets that have some, and how many
+    files and lines these sets have."""
     needed = rests_on(cell, specs)
-    files = {file for one in listed for file in known[one]} & set(specs)
-    yield from (f"{name}: it rests on {'/'.join(file)}, which its sets lack" for file in sorted(needed - files))
-    yield from (f"{name}: it rests on nothing in the set {one}" for one in listed if not needed & set(known[one]))
-    if listed and not told.endswith(f": {count(files, specs)}"):
-        yield f"{name}: its sets have {count(files, specs)}"
+    names = [name for name, files in known.items() if needed & set(files)]
+    files = {file for name in names for file in known[name]} & set(specs)
+    return f"{', '.join(names)}: {count(files, specs)}" if names else "none"
+
+
+def wrong_sets(name, cell, told, known, specs):
+    """What is wrong with the definitions of a row, of which each clause is there."""
+    lacking = rests_on(cell, specs) - {file for files in known.values() for file in files}
+    yield from (f"{name}: it rests on {'/'.join(file)}, which is in no set" for file in sorted(lacking))
+    if told != told_of(cell, known, specs):
+        yield f"{name}: its definitions are {told_of(cell, known, specs)}"
 
 
 def premises_of(cell):
@@ -339,12 +337,11 @@ def with_lines(cell):
 
 
 def rewritten(page, specs):
-    """The page with the lines of clauses and the numbers of files and lines as they are."""
+    """The page with the lines of clauses, the sets of rows and the numbers of files and lines as they are."""
     known = sets(page)
     for cell, told, _ in promises(page).values():
-        files = {file for name in names_of(told) for file in known.get(name, [])}
-        numbers = COUNT.sub(count(files & set(specs), specs), told)
-        page = page.replace(f"| {cell} | {told} |", f"| {with_lines(cell)} | {numbers} |")
+        new = told_of(cell, known, specs) if all(place(clause) for clause in clauses(cell)) else told
+        page = page.replace(f"| {cell} | {told} |", f"| {with_lines(cell)} | {new} |")
     for name, files, told in rows(page, SETS):
         lines = sum(specs[file].lines for file in known[name] if file in specs)
         page = page.replace(f"| {name} | {files} | {told} |", f"| {name} | {files} | {commas(lines)} |")
