@@ -6,7 +6,8 @@ something is not.
 Of each crate it sees that crates.txt has it, and stands on those that the page says; of each link, that the file is
 there and is the one that the link's text names; and then, by the column:
 
-- Where, Coded: the file in src/ has a function of each name. On a way each but the first is called by another one.
+- Where, Coded: the file in src/ has a function of each name. On a way each but the first is called by another one
+  of the way, or of the first way.
 - Defined: the file in specs/ has a definition of the name. NAME.FIELD is a field of a record.
 - Proved: the proof is of a function that Coded names, and each of these is there, with a proof or as automatic. For
   an automatic one proofs/ has no folder.
@@ -260,13 +261,14 @@ def functions_on(section):
     ]
 
 
-def way_faults(heading, section, on_ways):
-    """What is wrong with the steps of a way, by the functions on all ways."""
+def way_faults(heading, section, first):
+    """What is wrong with the steps of a way, which may go on from a step of the first one."""
     found = [fault for step in rows(section) for fault in name_faults(step["Where"], ["src"], has_function, "function")]
+    callers = [*functions_on(first), *functions_on(section)]
     for file, name, text in functions_on(section)[1:]:
         call = re.compile(rf"(?<!fn )\b{re.escape(name)}(?:\(|::<)")
-        if not any(call.search(other) for _, _, other in on_ways if other != text):
-            found.append(f"{file}: no other function on a way calls {name}")
+        if not any(call.search(other) for _, _, other in callers if other != text):
+            found.append(f"{file}: no other function of the way calls {name}")
     return [f"{heading}: {fault}" for fault in found]
 
 
@@ -276,10 +278,10 @@ def main():
     rules = rows(page.get(RULES, ""))
     if GRAPH not in page or not ways or not all(map(rows, ways.values())) or not rules or list(rules[0]) != COLUMNS:
         sys.exit(f"{PAGE.relative_to(ROOT)} lacks the graph, a way or the table of rules")
-    on_ways = [function for section in ways.values() for function in functions_on(section)]
+    first = next(iter(ways.values()))
     found = [
         *graph_faults(page[GRAPH]),
-        *(fault for heading, section in ways.items() for fault in way_faults(heading, section, on_ways)),
+        *(fault for heading, section in ways.items() for fault in way_faults(heading, section, first)),
         *(fault for row in rules for fault in rule_faults(row)),
     ]
     for fault in found:
