@@ -1,7 +1,7 @@
 #!/usr/bin/env bash
-# Runs each test of refused memory, and the program itself, once for each growth of memory that it
-# asks for, with that growth refused, until a run asks for no more. Wants gcc with the C library's headers, and
-# the crates' built tests and program: `rt test` in crates/rd_policy_tests, crates/rd_rows_tests,
+# Runs each test of refused memory, and commands of the program itself, once for each growth of memory that it
+# asks for, with that growth refused, until a run asks for no more. Wants gcc with the C library's headers, the shell
+# sqlite3, and the crates' built tests and program: `rt test` in crates/rd_policy_tests, crates/rd_rows_tests,
 # crates/rd_store_tests, crates/rd_desk_tests, crates/rd_http_tests and crates/rd_main, and `rt run` in crates/rd_main.
 set -u
 cd "$(dirname "$0")/.." || exit 1
@@ -9,11 +9,19 @@ work=$(mktemp -d) || exit 1
 trap 'rm -rf "$work"' EXIT
 gcc -O2 -shared -fPIC -o "$work/refuse.so" scripts/refuse.c -ldl || exit 1
 cp crates/rd_main/out/rd_main "$work/desk" && cp crates/rd_main/stdin "$work/image" || exit 1
+store=$work/store port=$((20000 + RANDOM % 10000))
+when=(--at 1893452400 --zone "CET-1CEST,M3.5.0,M10.5.0/3")
 passed=0 failed=0 at=0
 
 # refused COMMAND..: runs it with the growth of number $at refused
 refused() {
     REFUSE_AT=$at REFUSED_MARK=$work/mark LD_PRELOAD=$work/refuse.so "$@"
+}
+
+# fails TEXT: tells what failed, and counts it
+fails() {
+    echo "FAILED: $1"
+    failed=$((failed + 1))
 }
 
 # sweep NAME COMMAND..: the command has to succeed with each growth refused
@@ -23,41 +31,142 @@ sweep() {
     for ((at = 1; ; at++)); do
         rm -f "$work/mark"
         if ! "$@" >"$work/told" 2>&1; then
-            echo "FAILED: $name, with growth $at refused: $(tail -n 1 "$work/told")"
-            failed=$((failed + 1))
+            fails "$name, with growth $at refused: $(tail -n 1 "$work/told")"
             return
         fi
         [ -e "$work/mark" ] || break
     done
     if [ "$at" -eq 1 ]; then
-        echo "FAILED: $name asked for no memory, so that nothing was tried"
-        failed=$((failed + 1))
+        fails "$name asked for no memory, so that nothing was tried"
         return
     fi
     echo "$name: each of $((at - 1)) growths refused"
     passed=$((passed + 1))
 }
 
-# The program either writes the file, or tells that memory was refused and wrote a front of it at most.
-program() {
-    local status
-    refused "$work/desk" cat cpm8 "$1" 0 <"$work/image" >"$work/stdout" 2>"$work/stderr"
+# run COMMAND..: runs it, and keeps its status and what it writes and tells
+run() {
+    "$@" >"$work/stdout" 2>"$work/stderr"
     status=$?
+}
+
+# odd: says how what was run ended, which is not as it has to be
+odd() {
+    echo "status $status: $(head -n 1 "$work/stderr")"
+    return 1
+}
+
+# cats IMAGE: the program either writes the file, or tells that memory was refused and wrote a front of it at most
+cats() {
+    run refused "$work/desk" cat cpm8 "$1" 0 <"$work/image"
     if [ "$status" -eq 0 ]; then
-        cmp -s "$work/stdout" crates/rd_main/stdout && [ ! -s "$work/stderr" ]
+        cmp -s "$work/stdout" crates/rd_main/stdout && [ ! -s "$work/stderr" ] || odd
     else
         [ "$status" -eq 3 ] && [ "$(cat "$work/stderr")" = "desk: no-memory" ] &&
-            cmp -s -n "$(stat -c %s "$work/stdout")" "$work/stdout" crates/rd_main/stdout
+            cmp -s -n "$(stat -c %s "$work/stdout")" "$work/stdout" crates/rd_main/stdout || odd
     fi
+}
+
+# wrote TEXT: what was run wrote this text, or nothing where it is empty
+wrote() {
+    { [ -z "$1" ] || printf '%s\n' "$1"; } | cmp -s - "$work/stdout"
+}
+
+# ended TEXT: it ended well, wrote this text and told nothing
+ended() {
+    [ "$status" -eq 0 ] && wrote "$1" && [ ! -s "$work/stderr" ]
+}
+
+# was_refused: it told that memory was refused, as the program tells it or as its store does, which cannot tell why
+was_refused() {
+    [ "$status" -eq 3 ] && [[ $(cat "$work/stderr") =~ ^'desk: '(no-memory|store)$ ]]
+}
+
+# begins FILE: the store is a copy of this file, or is not there where the file is not
+begins() {
+    rm -f "$store" "$store"-*
+    [ ! -e "$1" ] || cp "$1" "$store"
+}
+
+# dump FILE: all that a store holds, as statements
+dump() {
+    sqlite3 -batch -bail "$1" .dump 2>&1
+}
+
+# holds FILE: the store holds what this file holds
+holds() {
+    cmp -s <(dump "$store") "$1.sql"
+}
+
+# over BEFORE AFTER TEXT COMMAND..: over a copy of the store BEFORE the command writes the text and makes of it the store
+# AFTER. Or it tells that memory was refused, wrote nothing, or $first where that is given, and left the store; run
+# again it then does so.
+over() {
+    local before=$1 after=$2 text=$3
+    shift 3
+    begins "$before"
+    run refused "$@"
+    if ! ended "$text"; then
+        was_refused && { wrote "" || wrote "${first:-}"; } && holds "$before" || { odd; return; }
+        run "$@"
+        ended "$text" || { odd; return; }
+    fi
+    holds "$after" || odd
+}
+
+# imports: the same of an import, but that a row which was taken stays, whether it was told or not
+imports() {
+    begins "$work/ruled"
+    run refused "${import[@]}"
+    if ! ended "12 done"; then
+        was_refused && { wrote "" || wrote "12 done"; } || { odd; return; }
+        holds "$work/filled" || { wrote "" && holds "$work/ruled"; } || { odd; return; }
+        run "${import[@]}"
+        ended "12 done" || { odd; return; }
+    fi
+    holds "$work/filled" || odd
+}
+
+# makes NAME BEFORE TEXT COMMAND..: the store NAME, which the command makes of the store BEFORE, and its dump
+makes() {
+    local name=$1 before=$2 text=$3
+    shift 3
+    begins "$before"
+    run "$@"
+    ended "$text" && cp "$store" "$work/$name" && dump "$work/$name" >"$work/$name.sql"
 }
 
 for crate in rd_policy_tests rd_rows_tests rd_store_tests rd_desk_tests rd_http_tests rd_main; do
     tests=crates/$crate/out/${crate}_tests
-    for name in $("$tests" --list | sed -n 's/^\(tests::.*_when_memory_is_refused\): test$/\1/p'); do
+    names=$("$tests" --list | sed -n 's/^\(tests::.*_when_memory_is_refused\): test$/\1/p')
+    [ -n "$names" ] || fails "$crate has no built test of refused memory"
+    for name in $names; do
         sweep "$crate $name" refused "$tests" "$name"
     done
 done
-sweep "desk cat of a file" program "$work/image"
-sweep "desk cat of standard input" program -
+
+init=("$work/desk" init --store "$store" --key abc)
+import=("$work/desk" import --store "$store" --key abc --sheet "$work/sheet" "${when[@]}")
+export=("$work/desk" export --store "$store" "${when[@]}")
+check=("$work/desk" check --store "$store" --key abc --acc 12 "${when[@]}")
+serve=("$work/desk" serve --store "$store" --port "$port" --count 0)
+table='accession,deed,kind,slot,user,name,type,size,faults,rule,effect
+12,7,cpm8,0,0,HELLO.TXT,TXT,128,,R7.20,read'
+rows="INSERT INTO deed VALUES (7, 'A. Curator', 18020); INSERT INTO rule VALUES (1, 7, 20, 7, NULL, NULL, 0, 0, '', 2)"
+printf 'accession,kind,deed,sha256,file\n12,cpm8,7,%s,%s\n' "$(sha256sum <"$work/image" | cut -c 1-64)" "$work/image" >"$work/sheet"
+dump "$work/none" >"$work/none.sql"
+makes made "$work/none" "done" "${init[@]}" &&
+    makes ruled "$work/made" "" sqlite3 -batch -bail "$store" "$rows" &&
+    makes filled "$work/ruled" "12 done" "${import[@]}" &&
+    makes checked "$work/filled" "12 sound" "${check[@]}" || fails "no stores to run on: $(cat "$work/stderr")"
+
+sweep "desk cat of a file" cats "$work/image"
+sweep "desk cat of standard input" cats -
+sweep "desk init" over "$work/none" "$work/made" "done" "${init[@]}"
+sweep "desk import" imports
+sweep "desk export" over "$work/filled" "$work/filled" "$table" "${export[@]}"
+sweep "desk check" over "$work/filled" "$work/checked" "12 sound" "${check[@]}"
+first="listening 127.0.0.1:$port" sweep "desk serve" over "$work/filled" "$work/filled" "listening 127.0.0.1:$port
+served 0" "${serve[@]}"
 echo "$passed passed, $failed failed"
 [ "$failed" -eq 0 ]

@@ -465,14 +465,21 @@ fn no_desk_when_memory_is_refused(rt: HostRuntime) -> Result<(), Fail> {
     assert_faults(&rt, rt.alloc(), UNSOUND)
 }
 
-/// Why no desk is made over a connection, told again where memory was refused.
-fn refusal_again(rt: &impl Abort, conn: Connection<MemStore>) -> Result<CreateFault, Fail> {
-    let Err((fault, conn)) = create(rt, conn) else {
+/// Why no desk is made over the database of a desk, told again where memory was refused, which left the tables as
+/// the steps made them.
+fn refusal_again(
+    rt: &impl Abort,
+    alloc: Global,
+    conn: Connection<MemStore>,
+    steps: &[Step<'_>],
+) -> Result<CreateFault, Fail> {
+    let Err((fault, mut conn)) = create(rt, conn) else {
         return Err(Fail::new("a desk"));
     };
     if fault != CreateFault::Sql {
         return Ok(fault);
     }
+    assert_tables(rt, alloc, &mut conn, steps, steps.len())?;
     match create(rt, conn) {
         Ok(_) => Err(Fail::new("a desk")),
         Err((fault, _)) => Ok(fault),
@@ -482,7 +489,7 @@ fn refusal_again(rt: &impl Abort, conn: Connection<MemStore>) -> Result<CreateFa
 #[test]
 fn a_desk_that_stands_when_memory_is_refused(rt: HostRuntime) -> Result<(), Fail> {
     let desk = made(&rt, rt.alloc(), DEEDS, DEEDS.len())?;
-    let fault = refusal_again(&rt, into_connection(desk))?;
+    let fault = refusal_again(&rt, rt.alloc(), into_connection(desk), DEEDS)?;
     assert_eq!(rt; fault, CreateFault::Exists);
     Ok(())
 }
