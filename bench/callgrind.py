@@ -12,8 +12,8 @@ the whole of the C program, its copies left out. --tree also prints the function
 
 It fails where, of the desk that is named last, the crates of its own take more than the whole of the C program for a
 question, or a function of rd_cpm or rd_cbm is called at such a visit; and where there is no C program beside it. Where
-two desks are named, it also prints the ratio of the last to the first without what reading rows of the table `image`
-takes."""
+two desks are named, it also prints the ratio of the last to the first, of their own crates alone, and of all without
+what reading rows of the table `image` takes."""
 
 import argparse
 import collections
@@ -165,13 +165,15 @@ def tell_tree(profile):
 
 
 def tell_pair(case, profiles):
-    """Prints the ratio of the last desk to the first without the reading of images' rows."""
+    """Prints the ratio of the last desk to the first, of their own crates and without the reading of images' rows."""
     names = [name for name in profiles if name != visits.C_NAME]
     if len(names) < 2:
         return
     rest = {name: sum(profiles[name].own.values()) - profiles[name].row_reads() for name in names}
     reads = {name: profiles[name].row_reads() / sum(profiles[name].own.values()) for name in names}
     first, last = names[0], names[-1]
+    own = {name: own_of(by_crate(profiles[name])) for name in names}
+    print(f"    own crates: {last} over {first} {own[last] / own[first]:.3f}")
     shares = ", ".join(f"{share:.0%} of {name}" for name, share in reads.items())
     print(f"    beside the rows of images ({shares}): {last} over {first} {rest[last] / rest[first]:.2f}")
 

@@ -1,7 +1,7 @@
 #!/usr/bin/env python3
 """scripts/as-a-client-sees-it.py [PROGRAM]: makes a desk in a file, serves it, and visits it as clients do.
 
-It wants Python 3 with its standard library alone, the programs curl and sqlite3, and Linux. PROGRAM is
+You need Python 3 with its standard library alone, the programs curl and sqlite3, and Linux. PROGRAM is
 crates/rd_main/out/rd_main of this repository where none is named: `rt run` in crates/rd_main builds it.
 
 A request that curl and Python's http.client can both say is sent by both, so each of these commands is given twice.
@@ -9,6 +9,8 @@ Plain sockets say the others: parts with pauses, heads at their limit, clients t
 byte for byte, head and body. A store is filled first; each group of visits after that is served from a copy of it, and
 no group needs what another left. In between sqlite3 shows the tables, and changes copies that are then not opened. The
 last run reads the filled store again.
+
+Refusals, and other cases that the trials of crates/rd_trials/data have too, are read from there.
 
 What is a client's own or the system's, as how long curl waits before it sends an image, is told in lines that begin
 with `observed`; of that only what has to be so is judged. Status 503 is not among the cases, for no client can bring

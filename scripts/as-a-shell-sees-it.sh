@@ -1,7 +1,7 @@
 #!/usr/bin/env bash
 # Runs the built program as a shell does, and compares what it writes to its standard output and its standard
 # errors, and its exit status, for each of the statuses 0 to 3; a closed standard output and a full device are
-# among the cases. Wants `rt run` in crates/rd_main, or the program as an argument.
+# among the cases. You need `rt run` in crates/rd_main, or the program as an argument.
 set -u
 desk=$(realpath "${1:-$(dirname "$0")/../crates/rd_main/out/rd_main}") || exit 1
 cd "$(dirname "$0")/.." || exit 1

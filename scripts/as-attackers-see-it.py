@@ -13,7 +13,7 @@ A visit that sends fewer bytes than its head tells ends its sending. Replies tha
 come after a whole reply, are counted; those of visits that send bytes beyond the request, or beyond what shows that
 there is none, are told by themselves. All four counts have to be 0.
 
-It wants Python 3 with its standard library alone, its SQLite of 3.37 or later, and Linux. PROGRAM is
+You need Python 3 with its standard library alone, its SQLite of 3.37 or later, and Linux. PROGRAM is
 crates/rd_main/out/rd_main of this repository where none is named."""
 
 import argparse

@@ -2,14 +2,15 @@
 """scripts/as-the-page-says.py [PAGE] [PROGRAM]: runs every command of a page and compares what it gives with what the
 page shows.
 
-PAGE is docs/OPERATING.md, which it is where none is named, or README.md. PROGRAM is ./desk of this repository where
-none is named. It wants Python 3 with its standard library alone, Linux, and Debian's packages, which it installs where
-it runs as root and they are missing: nginx, openssl, sqlite3, curl, tzdata, logrotate, adduser and systemd for the
-first page, sqlite3, curl and cpmtools for the other. The ports 8041, 8042, 8043, 8080 and 8443 have to be free.
+PAGE is docs/OPERATING.md, README.md or docs/COMMANDS.md; without one it is the first. PROGRAM is a built desk; without
+one it is ./desk of this repository. You need Linux, Python 3 with its standard library alone, and packages of Debian,
+which the script installs as root: for the first page nginx, openssl, sqlite3, curl, tzdata, logrotate, adduser and
+systemd, for README.md sqlite3 and curl, for docs/COMMANDS.md curl and cpmtools. The ports 8041, 8042, 8043, 8080 and
+8443 have to be free.
 
-Commands after `$` run in one shell, in a copy of what they need of this repository; those of README.md have a /tmp of
-their own. Commands after `#` need the rights of root. Where it has them, they run in another shell, in a mount
-namespace whose /etc, /usr and /var are throw-away layers over the machine's.
+Commands after `$` run in one shell, in a copy of what they need of this repository; those of README.md and
+docs/COMMANDS.md have a /tmp of their own. Commands after `#` need the rights of root. Where it has them, they run in
+another shell, in a mount namespace whose /etc, /usr and /var are throw-away layers over the machine's.
 
 Some commands are named and not run: those that prove, build or measure, that want a network, and, from the first on
 that wants a systemd which runs, those of root. scripts/under-systemd.py runs these last ones."""
@@ -53,7 +54,8 @@ PAGES = {
         [*reading_room.NEEDED, "curl", ZONES, "/usr/sbin/logrotate", "adduser", "systemd-analyze"],
         [*reading_room.PACKAGES, "curl", "tzdata", "logrotate", "adduser", "systemd"],
     ),
-    "README.md": Page({"$": OWN_TMP}, [], ["sqlite3", "curl", "cpmcp"], ["sqlite3", "curl", "cpmtools"]),
+    "README.md": Page({"$": OWN_TMP}, [], ["sqlite3", "curl"], ["sqlite3", "curl"]),
+    "docs/COMMANDS.md": Page({"$": OWN_TMP}, [], ["curl", "cpmcp"], ["curl", "cpmtools"]),
 }
 
 

@@ -1,8 +1,8 @@
 #!/usr/bin/env bash
 # scripts/back-up-and-restore.sh [PROGRAM]: backs up a desk's store in the two ways of docs/OPERATING.md, changes and
-# damages the store, and restores each backup. PROGRAM is ./desk where none is named. Wants Debian's curl and sqlite3,
-# which it installs where it runs as root and they are missing. Each backup has to give the catalogue of its moment,
-# images with the SHA-256 that they came with, and the last change before it, which is in the log alone.
+# damages the store, and restores each backup. PROGRAM is ./desk by default. You need Debian's curl and sqlite3,
+# which the script installs as root if they are missing. Each backup must give the catalogue of its moment, images
+# with the SHA-256 that they came with, and the last change before it, which is only in the log.
 set -u
 desk=$(realpath "${1:-$(dirname "$0")/../desk}") || exit 1
 cd "$(dirname "$0")/.." || exit 1

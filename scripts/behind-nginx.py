@@ -1,8 +1,8 @@
 #!/usr/bin/env python3
 """scripts/behind-nginx.py [PROGRAM]: visits a desk from outside, through the real nginx as operate/ configures it.
 
-It wants Python 3 with its standard library alone, Linux, and Debian's nginx, openssl and sqlite3, which it installs
-where it runs as root and they are missing. PROGRAM is ./desk of this repository where none is named.
+You need Python 3 with its standard library alone, Linux, and Debian's nginx, openssl and sqlite3, which the
+script installs as root if they are missing. Without PROGRAM it takes ./desk of this repository.
 
 What clients ask of the desk in scripts/as-a-client-sees-it.py is asked again: each GET through nginx, and status, body
 and fields have to be those that the desk gives; each other request through nginx too, which has to answer 403, and then

@@ -8,7 +8,7 @@ however it is sent; that such a fault ends its visit alone, and a command that w
 visit is that at which the visitor came. Then clients reset their connections before they are accepted, during a visit
 and after it. Each broken visit is followed by another, which has to have its answer.
 
-It wants Python 3 with its standard library alone, gcc with the C library's headers, and Linux. PROGRAM is
+You need Python 3 with its standard library alone, gcc with the C library's headers, and Linux. PROGRAM is
 crates/rd_main/out/rd_main of this repository where none is named."""
 
 import collections

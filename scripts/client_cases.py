@@ -1,5 +1,5 @@
 """The requests of clients and what has to come back: samples, replies and the cases that as-a-client-sees-it.py
-walks."""
+walks. A case that a trial has too is read from there."""
 
 import collections
 import csv
@@ -13,6 +13,7 @@ import time
 
 import cbm_image
 import cpm_image
+import trials
 
 ROOT = os.path.dirname(os.path.dirname(os.path.abspath(__file__)))
 PROGRAM = os.path.join(ROOT, "crates", "rd_main", "out", "rd_main")
@@ -299,6 +300,45 @@ SURVEY_OF_14 = surveyed(14, DONOR_OF_9, "0001-01-01", "MUSEUM", free_but_claimed
 SURVEY_OF_15 = surveyed(15, DONOR_OF_9, "0001-01-01", "", None, files=1, served=1, faulty=0)
 SOUND, DIFFERS = (told(outcome=word) for word in ("sound", "changed"))
 
+# Cases that trials have too. Their replies are due at the filled store as well: it has all that the desk of those trials
+# has, and more.
+
+
+def cases_of(wanted, *names):
+    """The cases of trials whose reply is one of some, as far as a client can send them: label, request and reply."""
+    visits = ((name, trials.plain(visit)) for name in names for visit in trials.visits_of(f"{name}.trial"))
+    return [
+        (f"{name}: {visit.name}", Asked(*visit.request), visit.reply)
+        for name, visit in visits
+        if visit.request and visit.reply in wanted
+    ]
+
+
+def visit_of(name, label):
+    """The one visit of a trial with this name."""
+    (visit,) = (visit for visit in trials.visits_of(f"{name}.trial") if visit.name == label)
+    return visit
+
+
+def case_of(name, label):
+    """Its label, request and reply."""
+    visit = trials.plain(visit_of(name, label))
+    return f"{name}: {label}", Asked(*visit.request), visit.reply
+
+
+def sent_of(name, label, then):
+    """The same of one whose bytes the trial tells: label, the bytes as one part, what the client does then, and the
+    reply."""
+    visit = visit_of(name, label)
+    return f"{name}: {label}", [visit.came], then, visit.reply
+
+
+NOT_ALLOWED = {allows(methods) for methods in ("GET", "POST", "PUT", "PUT, DELETE")}
+# Refusals that the day does not decide, nor what else a desk holds.
+ALWAYS_REFUSED = {
+    BAD_BODY, UNKNOWN_KEY, STAFF_ONLY, NO_ROUTE, NO_ACCESSION, CONFLICT, WRONG_SIZE, DIGEST_DIFFERS, *NOT_ALLOWED,
+}
+
 # Cases by curl and by http.client: label, request and reply
 
 FOR_HELLO, FOR_RECORD = get("/images/12/files/0"), get("/images/15/files/0")
@@ -308,12 +348,7 @@ TAKEDOWN = put_rule("/images/15/rules/1", "deny", {"slot": 0}, "public", "room")
 EVERY = {"all": True}
 
 FIRST = [
-    ("a key for the room", put(badge(ROOM), {"audience": "room"}), DONE),
-    ("deed 7", put("/deeds/7", {"donor": "A. Curator", "signed": "2019-05-04"}), DONE),
-    ("deed 8", put("/deeds/8", {"donor": "B. Donor", "signed": "2020-02-29"}), DONE),
-    ("rule 10", put_rule("/deeds/7/rules/10", "deny", EVERY, "public", "room", until="2030-01-01"), DONE),
-    ("rule 20", put_rule("/deeds/7/rules/20", "read", EVERY, *ALL), DONE),
-    ("image 12", put_image(12, *IMAGES[12]), DONE),
+    *cases_of({DONE}, "filled-desk"),
     ("the catalogue of it", get("/catalogue", STAFF), catalogue((12, HELLO_LINE))),
 ]
 
@@ -349,16 +384,16 @@ READ_BACK = [
 ROUTES = [
     ("the images", get("/images"), TO_OTHERS),
     ("the files of an image", get("/images/14"), listing(14, LOOP_LINE)),
-    ("a file of a 1541 disk", FOR_HELLO_BY_STAFF, HELLO),
-    ("a file of a CP/M disk", FOR_RECORD, RECORD),
+    case_of("rows-takedowns", "not to the staff"),
+    case_of("rows-disks", "a record"),
     ("a query is not looked at", get("/images/15/files/0?/files/1"), RECORD),
     ("nor is the body of a question", Asked("GET", "/images/15/files/0", None, b"{"), RECORD),
-    ("a survey of a 1541 disk", survey(12), SURVEY_OF_12),
+    case_of("rows-surveys", "a disk"),
     ("of one with a fault", survey(14), SURVEY_OF_14),
     ("of a CP/M disk", survey(15), SURVEY_OF_15),
     ("with a query", get("/images/15/survey?/check", STAFF), SURVEY_OF_15),
-    ("a check", check(12), SOUND),
-    ("with a body", check(12, STAFF, b'{"outcome":"changed"}'), SOUND),
+    case_of("rows-checks", "check"),
+    case_of("order-left-alone", "body of a check"),
     ("a deed is put", put("/deeds/999999", DEED), DONE),
     ("a rule of it is put", put_rule("/deeds/999999/rules/9999", "read", {"prefix": ""}, "staff"), DONE),
     ("an image is put under it", put_image(999999, "d64", 999999, PROGRAM_DISK), DONE),
@@ -380,76 +415,32 @@ ROUTES = [
     ("it is unknown", get("/images/15/files/0", "visitor"), UNKNOWN_KEY),
 ]
 
-# Paths, the methods that each has, and others.
-METHODS = [
-    ("/images", "GET", "POST PUT DELETE PATCH OPTIONS get"),
-    ("/images/12", "GET", "POST PUT DELETE PATCH OPTIONS get"),
-    ("/images/12/files/0", "GET", "POST PUT DELETE PATCH OPTIONS GETS"),
-    ("/images/12/survey", "GET", "POST PUT DELETE PATCH OPTIONS get"),
-    ("/images/12/check", "POST", "GET PUT DELETE PATCH OPTIONS post"),
-    ("/images/12/rules/1", "PUT, DELETE", "GET POST PATCH OPTIONS put"),
-    (f"/accessions/12/d64/7/{digest(PROGRAM_DISK)}", "PUT", "GET POST DELETE PATCH OPTIONS"),
-    ("/deeds/7", "PUT", "GET POST DELETE PATCH OPTIONS put"),
-    ("/deeds/7/rules/1", "PUT, DELETE", "GET POST PATCH OPTIONS delete"),
-    (badge(ROOM), "PUT, DELETE", "GET POST PATCH OPTIONS DEL"),
-    ("/catalogue", "GET", "POST PUT DELETE PATCH OPTIONS get"),
-]
-
 OTHER_METHODS = [
-    (f"{method} {path}", Asked(method, path), allows(methods))
-    for path, methods, others in METHODS
-    for method in others.split()
+    *cases_of(NOT_ALLOWED, "routes-methods"),
+    ("put /images/12/rules/1", Asked("put", "/images/12/rules/1"), allows("PUT, DELETE")),
+    ("DEL of a key", Asked("DEL", badge(ROOM)), allows("PUT, DELETE")),
 ]
 
 NO_ROUTES = [
-    ("the root", get("/"), NO_ROUTE),
-    ("a slash more", get("/images/"), NO_ROUTE),
-    ("capitals", get("/Images"), NO_ROUTE),
-    ("accession 0", get("/images/0"), NO_ROUTE),
-    ("accession 012", get("/images/012"), NO_ROUTE),
-    ("accession 1,000,000", get("/images/1000000"), NO_ROUTE),
-    ("an encoded digit", get("/images/%312"), NO_ROUTE),
-    ("slot 00", get("/images/12/files/00"), NO_ROUTE),
-    ("slot 10,000", get("/images/12/files/10000"), NO_ROUTE),
-    ("rank 0", drop("/deeds/7/rules/0"), NO_ROUTE),
+    *cases_of(
+        {NO_ROUTE}, "routes-accessions", "routes-digests", "routes-kinds", "routes-numbers", "routes-paths",
+        "routes-slots", "routes-targets", "rows-refusals",
+    ),
     ("another kind", put_image(12, "d81", 7, PROGRAM_DISK), NO_ROUTE),
-    ("63 digits", drop(badge(STAFF)[:-1]), NO_ROUTE),
-    ("no such path, and no such method", Asked("POST", "/images/012"), NO_ROUTE),
     ("no such path, and no such key", get("/nowhere", NOBODY), NO_ROUTE),
-    ("a survey of accession 012", survey("012"), NO_ROUTE),
-    ("a survey of all", get("/images/survey", STAFF), NO_ROUTE),
     ("a check of accession 0", check(0), NO_ROUTE),
-    ("checks", Asked("POST", "/images/12/checks", STAFF), NO_ROUTE),
     ("the catalogue, and a slash more", get("/catalogue/"), NO_ROUTE),
 ]
 
 REFUSALS = [
-    ("a key that nobody has", get("/images", NOBODY), UNKNOWN_KEY),
-    ("no accession, and such a key", get("/images/99", NOBODY), UNKNOWN_KEY),
-    ("the catalogue, and such a key", get("/catalogue", NOBODY), UNKNOWN_KEY),
-    ("a check of no accession, and such a key", check(99, NOBODY), UNKNOWN_KEY),
-    ("a survey of the public", survey(12, PUBLIC), STAFF_ONLY),
-    ("a survey of the room", survey(12, ROOM), STAFF_ONLY),
-    ("a check of the public", check(12, PUBLIC), STAFF_ONLY),
-    ("of the room, without an accession", check(99, ROOM), STAFF_ONLY),
+    *cases_of(
+        ALWAYS_REFUSED - {NO_ROUTE}, "rows-checks", "rows-disks", "rows-images", "rows-refusals", "rows-surveys",
+        "order-requests", "bodies-audiences", "bodies-dates", "bodies-deeds", "bodies-donors", "bodies-keys",
+        "bodies-numbers", "bodies-rules", "bodies-selectors",
+    ),
+    *cases_of(ALWAYS_REFUSED, "order-bytes"),
+    ("a check of the room, without an accession", check(99, ROOM), STAFF_ONLY),
     ("a command of the public", put("/deeds/10", DEED, PUBLIC), STAFF_ONLY),
-    ("a command of the room", put("/deeds/10", DEED, ROOM), STAFF_ONLY),
-    ("of the room, without a deed", put("/deeds/10", {}, ROOM), STAFF_ONLY),
-    ("a body that is no deed", put("/deeds/10", {}), BAD_BODY),
-    ("no body", Asked("PUT", "/deeds/10", STAFF), BAD_BODY),
-    ("a body that is no JSON", Asked("PUT", "/deeds/10", STAFF, b"donor"), BAD_BODY),
-    ("a donor without a name", put("/deeds/10", {**DEED, "donor": ""}), BAD_BODY),
-    ("a day that is none", put("/deeds/10", {**DEED, "signed": "2021-02-29"}), BAD_BODY),
-    ("a key more", put("/deeds/10", {**DEED, "until": None}), BAD_BODY),
-    ("a rule for nobody", put_rule("/deeds/7/rules/30", "list", EVERY), BAD_BODY),
-    ("a rule with two selectors", put_rule("/deeds/7/rules/30", "list", {**EVERY, "slot": 0}, "room"), BAD_BODY),
-    ("a takedown that lets read", put_rule("/images/12/rules/1", "read", EVERY, "room"), BAD_BODY),
-    ("a key for the public", put(badge(ROOM), {"audience": "public"}), BAD_BODY),
-    ("no accession", get("/images/99"), NO_ACCESSION),
-    ("a survey of no accession", survey(99), NO_ACCESSION),
-    ("a check of no accession", check(99), NO_ACCESSION),
-    ("a file of no accession", get("/images/99/files/0"), NO_ACCESSION),
-    ("a takedown of no accession", put_rule("/images/99/rules/1", "deny", EVERY, "room"), NO_ACCESSION),
     ("a takedown dropped of none", drop("/images/99/rules/1"), NO_ACCESSION),
     ("no file", get("/images/12/files/9999"), NO_FILE),
     ("a rule of no deed", put_rule("/deeds/10/rules/1", "deny", EVERY, "room"), NO_DEED),
@@ -461,11 +452,6 @@ REFUSALS = [
     ("a byte less", put_image(12, "d64", 7, PROGRAM_DISK[:-1]), WRONG_SIZE),
     ("the length of another kind", put_image(12, "cpm8", 7, PROGRAM_DISK), WRONG_SIZE),
     ("no byte", put_image(12, "d64", 7, b""), WRONG_SIZE),
-    ("another digest", put_image(12, "d64", 7, LOOP_DISK, digest(PROGRAM_DISK)), DIGEST_DIFFERS),
-    ("another image", put_image(12, "d64", 7, LOOP_DISK), CONFLICT),
-    ("another deed", put_image(12, "d64", 8, PROGRAM_DISK), CONFLICT),
-    ("the last key of the staff", drop(badge(STAFF)), CONFLICT),
-    ("that key given to the room", put(badge(STAFF), {"audience": "room"}), CONFLICT),
     ("all is as it was", get("/images", STAFF), TO_STAFF),
 ]
 
@@ -502,7 +488,7 @@ SECOND = "the second, with blanks"
 
 KEYS = [
     ("blanks and tabs at both ends", drop("/deeds/7/rules/99", " \t abc \t "), DONE),
-    ("in capitals", get("/images", "ABC"), UNKNOWN_KEY),
+    case_of("heads-keys", "in capitals"),
     ("a second key of the staff", put(badge(SECOND), {"audience": "staff"}), DONE),
     ("the first is dropped", drop(badge(STAFF), SECOND), DONE),
     ("it is unknown", get("/images", STAFF), UNKNOWN_KEY),
@@ -529,7 +515,7 @@ QUESTION = with_fields("Host: desk")
 TOO_LONG = 262145
 
 CUT = [
-    ("nothing, and an end", [], ENDS, BAD_HEAD),
+    sent_of("heads-heads", "no byte", ENDS),
     ("half a head, and an end", [QUESTION[:30]], ENDS, BAD_HEAD),
     ("a head without its body, and an end", [DEED_HEAD], ENDS, FRAMING),
     ("a head and half a body, and an end", [DEED_HEAD + DEED_BODY[:20]], ENDS, FRAMING),
@@ -547,24 +533,24 @@ PARTS = [
 
 HEADS = [
     ("HTTP/1.0", [head("GET /images/15/files/0 HTTP/1.0")], WAITS, RECORD),
-    ("HTTP/1.2", [head("GET /images/15/files/0 HTTP/1.2")], LEAVES_SOME, BAD_HEAD),
+    sent_of("heads-heads", "HTTP/1.2", LEAVES_SOME),
     ("line feeds alone", [QUESTION.replace(b"\r", b"")], WAITS, RECORD),
     ("empty lines before", [b"\r\n\r\n" + QUESTION], WAITS, RECORD),
-    ("a target that is no UTF-8", [b"GET /images\xff HTTP/1.1\r\n\r\n"], LEAVES_SOME, BAD_HEAD),
-    ("a host in the target", [head("GET http://desk/images HTTP/1.1")], WAITS, NO_ROUTE),
-    ("HEAD", [head("HEAD /images HTTP/1.1")], WAITS, allows("GET")),
+    sent_of("heads-fields", "a target that is no UTF-8", LEAVES_SOME),
+    sent_of("routes-targets", "a host in front", WAITS),
+    sent_of("routes-methods", "HEAD of /images", WAITS),
     ("8,192 bytes", [head_of(8192)], WAITS, RECORD),
-    ("8,193 bytes", [head_of(8193)], LEAVES_SOME, BAD_HEAD),
+    sent_of("heads-limits", "8,193 bytes", LEAVES_SOME),
     ("8,192 bytes, the last after a pause", [head_of(8192)[:-1], b"\n"], WAITS, RECORD),
     ("64 fields", [with_fields(*["A: b"] * 64)], WAITS, RECORD),
-    ("65 fields", [with_fields(*["A: b"] * 65)], LEAVES_SOME, BAD_HEAD),
-    ("an empty key", [with_fields("Desk-Key:")], WAITS, UNKNOWN_KEY),
+    sent_of("heads-limits", "65 fields", LEAVES_SOME),
+    sent_of("heads-keys", "an empty key", WAITS),
     ("a key, its field in other letters", [with_fields("DESK-kEY:\t nobody")], WAITS, UNKNOWN_KEY),
-    ("two keys", [with_fields("Desk-Key: abc", "Desk-Key: abc")], WAITS, FRAMING),
-    ("two lengths", [with_fields("Content-Length: 0", "Content-Length: 0")], WAITS, FRAMING),
-    ("a length with a sign", [with_fields("Content-Length: +0")], WAITS, FRAMING),
+    sent_of("heads-keys", "one key twice", WAITS),
+    sent_of("heads-no-lengths", "twice, in other letters", WAITS),
+    sent_of("heads-no-lengths", "plus", LEAVES_SOME),
     ("a length with zeros in front", [with_fields("Content-Length: 0005") + b"hello"], WAITS, RECORD),
-    ("chunks", [with_fields("Transfer-Encoding: chunked") + b"0\r\n\r\n"], LEAVES_SOME, FRAMING),
+    sent_of("heads-codings", "chunked", LEAVES_SOME),
     ("a body of 262,144 bytes", [with_fields("Content-Length: 262144") + bytes(262144)], WAITS, RECORD),
     ("a length of 262,145, and no body", [with_fields(f"Content-Length: {TOO_LONG}")], WAITS, FRAMING),
     ("Expect, with the body later", [with_fields("Expect: 100-continue", "Content-Length: 1"), b"1"], WAITS, RECORD),

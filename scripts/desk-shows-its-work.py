@@ -1,6 +1,6 @@
 #!/usr/bin/env python3
 """scripts/desk-shows-its-work.py: what ./desk shows, leaves and ends while it builds, in a small repository with
-scripts/fake-rt.py in the place of rt. Each case is one run of ./desk or two. Wants nothing but Python and git's files.
+scripts/fake-rt.py in the place of rt. Each case is one run of ./desk or two. You need only Python and git's files.
 """
 
 import contextlib

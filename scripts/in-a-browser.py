@@ -1,9 +1,9 @@
 #!/usr/bin/env python3
 """scripts/in-a-browser.py [--pictures] [PROGRAM]: opens both pages in headless Chromium, through nginx.
 
-It wants Python 3 with its standard library alone, Linux, and Debian's nginx, openssl, sqlite3, chromium and
-chromium-driver, which it installs where it runs as root and they are missing. PROGRAM is ./desk of this repository
-where none is named. With --pictures it also writes the pictures of the pages in docs/.
+You need Python 3 with its standard library alone, Linux, and Debian's nginx, openssl, sqlite3, chromium and
+chromium-driver, which the script installs as root if they are missing. Without PROGRAM it takes ./desk of this
+repository. With --pictures it also writes the pictures of the pages in docs/.
 
 Of the page for readers it looks at what the public, the room and the staff see before and after a takedown; at denied,
 faulty and listed files; at files that are found by name; at names that are markup; at the bytes of files as text, in
@@ -139,7 +139,7 @@ def see_callers(seen, page, room):
         seen.same(f"{label}: its file", wanted, shown["refusal"])
         seen.same(f"{label}: its bytes", None if closed else "A" * 254 + "BCDE", shown["bytes"])
         shown = page.go("13/0")
-        wanted = [NOT_READ, "Refusal: denied", "Rule: D0, no rule lets anybody see it"]
+        wanted = [NOT_READ, "Refusal: denied", "Rule: D0, no rule lets you see it"]
         seen.same(f"{label}: a file without a rule", (wanted, None), (shown["refusal"], shown["bytes"]))
         page.give(None)
 
@@ -225,7 +225,7 @@ def see_changed(seen, page, room):
         window.fetch = (path, options) => asked(path === "/images/15" ? "/images/13" : path, options);
     """)
     shown = page.go("15/0")
-    wanted = ["What you may see has just changed. Ask again."]
+    wanted = ["What you may see has just changed. Try again."]
     seen.same("changed in between", (wanted, None), (shown["refusal"], shown["bytes"]))
     page.browser.command("POST", "/refresh", {})
     seen.same("asked again", "HELLO FROM CP/M", page.read()["bytes"].strip())
@@ -299,7 +299,7 @@ def see_fetched(seen, page, room):
 
 
 # Replies in the place of the desk's: their length as it is told, how many files they have, and what the page says.
-LONG = "The list of all files is longer than 5 MB, so it is not fetched. Look for the file on its disk."
+LONG = "The list of all files is above 5 MB, so this page does not fetch it. Look for the file on its disk."
 LENGTHS = [
     (5000000, 1, "You may see 1 file with it in the name.", 1, False), (5000001, 1, "Refused.", 0, True),
     (100, 500, "You may see 500 files with it in the name.", 500, False),

@@ -1,12 +1,13 @@
 #!/bin/sh
 # Prints how many proofs run side by side: one for each processor, but no more than the free memory holds.
 
-# The largest proof took this many GiB at its peak, measured from nothing.
-lane_memory=5
+# MB at their peaks, measured from nothing: the largest proof, that of `rd_main` with its tests, and any other beside it.
+largest_memory=6900
+lane_memory=5000
 
 processors=$(nproc)
-free_memory=$(awk '$1 == "MemAvailable:" { print int($2 / 1048576) }' /proc/meminfo)
-lanes=$((free_memory / lane_memory))
+free_memory=$(awk '$1 == "MemAvailable:" { print int($2 / 1024) }' /proc/meminfo)
+lanes=1
+[ "$free_memory" -le "$largest_memory" ] || lanes=$(((free_memory - largest_memory) / lane_memory + 1))
 [ "$lanes" -le "$processors" ] || lanes=$processors
-[ "$lanes" -ge 1 ] || lanes=1
 echo "$lanes"

@@ -1,5 +1,5 @@
 #!/usr/bin/env python3
-"""scripts/more-edits.py [CRATE..] [--most N] [--jobs N]: tries every wrong body of must-fail/ and of more-edits/.
+"""scripts/more-edits.py [CRATE..] [--lanes N]: tries every wrong body of must-fail/ and of more-edits/.
 
 An edit makes one body wrong by one line for another: crates/NAME/must-fail/*.edit and crates/NAME/more-edits/*.edit,
 all in the form of must-fail/. The gate tries those of must-fail/ alone, each in a check of its own. This command tries
@@ -17,12 +17,15 @@ The status is 0 only if every edit is refused so. At the end those that are not 
 still proved, one that is refused only since a proof names what it takes away, one that does not compile, one of which
 the prover tells nothing.
 
-It wants Python 3.11, Linux, and the command rt of the kit on the path. Each crate has to be proved by `rt check` in
+You need Python 3.11, Linux, and the command rt of the kit on the path. Each crate has to be proved by `rt check` in
 this clone before, since a round begins with what that kept. A round takes a check's fixed part, 5 to 60 seconds of
 processor, and some seconds for each edit; docs/ARCHITECTURE.md tells the time of the whole. Nothing in the clone is
 changed, and the copies are removed, also where the command is stopped.
 
---most N: at most N edits in one check. --jobs N: as many jobs of the prover (1)."""
+--libraries FOLDER: the crates below are taken from FOLDER/NAME.rlib, built of the same files, and `rt check` is not
+asked for. --kept FOLDER: a round of a crate begins with what FOLDER/NAME keeps of a check; where it keeps nothing, the
+crate is checked once before, and what that check proved is kept there. --lanes N: N crates side by side (1).
+--most N: at most N edits in one check. --jobs N: as many jobs of the prover in each (1)."""
 
 import argparse
 import contextlib
@@ -30,13 +33,13 @@ import importlib.machinery
 import importlib.util
 import os
 import re
-import resource
 import shutil
 import signal
 import subprocess
 import sys
 import tempfile
-import time
+import threading
+from concurrent.futures import ThreadPoolExecutor, as_completed
 from dataclasses import dataclass, field
 
 ROOT = os.path.dirname(os.path.dirname(os.path.realpath(__file__)))
@@ -281,8 +284,22 @@ def tool():
     return made
 
 
-def said_by_check(rt, crate, texts, jobs):
-    """What the prover says of a copy of the crate with these texts, up to its verdict on each function."""
+class Stopped(Exception):
+    """The command ends before its checks do."""
+
+
+@dataclass(frozen=True)
+class Check:
+    """What the prover says of a copy of a crate up to its verdict on each function, its status, and the seconds of
+    processor that it took."""
+
+    said: str
+    status: int
+    seconds: float
+
+
+def checked(rt, crate, texts, jobs, kept):
+    """Checks a copy of the crate with these texts, over what a folder keeps, which the check changes."""
     with tempfile.TemporaryDirectory(prefix="more-edits-") as room:
         for part in rt.rtlib.PARTS:
             if os.path.isdir(f"{crate.folder}/{part}"):
@@ -290,31 +307,53 @@ def said_by_check(rt, crate, texts, jobs):
         for path, text in texts.items():
             with open(f"{room}/{path}", "w", encoding="utf-8") as it:
                 it.write(text)
-        rt.linked(f"{crate.folder}/out/incremental", f"{room}/kept")
         words = [rt.rtlib.RATTLE, "check", *crate.words(["--jobs", str(jobs)], keeps=False)]
-        words += ["--incremental", f"{room}/kept", "--stage-times", f"{room}/stages"]
+        words += ["--incremental", kept, "--stage-times", f"{room}/stages"]
         with open(f"{room}/said", "wb") as said:
             how = {"cwd": room, "stdin": subprocess.DEVNULL, "stdout": said, "stderr": subprocess.STDOUT}
-            status = ended(words, how, room)
-        return status, text_of(f"{room}/said")
+            status, seconds = ended(words, how, room)
+        return Check(text_of(f"{room}/said"), status, seconds)
+
+
+def checked_over(rt, crate, texts, jobs, kept):
+    """The same over a copy of what a folder keeps."""
+    with tempfile.TemporaryDirectory(prefix="more-edits-") as room:
+        rt.linked(kept, f"{room}/kept")
+        return checked(rt, crate, texts, jobs, f"{room}/kept")
+
+
+# Set where the command is to end.
+STOP = threading.Event()
 
 
 def ended(words, how, room):
-    """Waits for a check and gives its status. Once it has told of each function that it refuses, what is left is advice
-    for a proof's writer, and it is stopped."""
+    """Waits for a check, and gives its status and the seconds of processor that it took. Once it has told of each
+    function that it refuses, what is left is advice for a proof's writer, and it is stopped."""
     child = subprocess.Popen(words, start_new_session=True, **how)
-    size = -1
+    size, is_told, usage = -1, False, None
     try:
-        while child.poll() is None:
-            time.sleep(1)
+        while not is_told and usage is None:
+            if STOP.wait(1):
+                raise Stopped
             before, size = size, os.path.getsize(f"{room}/said")
-            if "stage lines" in text_of(f"{room}/stages") and size == before and is_refused(text_of(f"{room}/said")):
-                return 1
-        return child.returncode
+            is_at_end = "stage lines" in text_of(f"{room}/stages") and size == before
+            is_told = is_at_end and is_refused(text_of(f"{room}/said"))
+            usage = usage_of(child, os.WNOHANG)
     finally:
-        with contextlib.suppress(ProcessLookupError):
-            os.killpg(child.pid, signal.SIGKILL)
-        child.wait()
+        if usage is None:
+            with contextlib.suppress(ProcessLookupError):
+                os.killpg(child.pid, signal.SIGKILL)
+            usage = usage_of(child, 0)
+    return 1 if is_told else child.returncode, usage.ru_utime + usage.ru_stime
+
+
+def usage_of(child, options):
+    """What a child that has ended took of the processor, None of one that has not; its status is its `returncode`."""
+    ended_child, status, usage = os.wait4(child.pid, options)
+    if not ended_child:
+        return None
+    child.returncode = os.waitstatus_to_exitcode(status)
+    return usage
 
 
 def is_refused(said):
@@ -442,39 +481,79 @@ def strangers(said, batch):
 # Runs
 
 
+def say(line):
+    """Prints a line at once, which no other lane's line breaks."""
+    sys.stdout.write(f"{line}\n")
+    sys.stdout.flush()
+
+
 class Run:
     """The run over the edits of one crate."""
 
-    def __init__(self, rt, crate, most, jobs):
-        self.rt, self.crate, self.most, self.jobs = rt, crate, most, jobs
+    def __init__(self, rt, crate, asked):
+        self.rt, self.crate, self.most, self.jobs = rt, crate, asked.most, asked.jobs
+        self.kept = f"{asked.kept}/{crate.name}" if asked.kept else f"{crate.folder}/out/incremental"
         self.sources = Sources(crate)
         self.edits, self.faults = edits_of(rt, self.sources)
+        self.left = list(self.edits)
         self.refused = 0
+        self.seconds = 0
 
-    def stop_unless_ready(self):
-        lacking = [it.name for it in self.crate.below() if not it.is_built()]
-        if lacking or not os.path.isdir(f"{self.crate.folder}/out/incremental"):
-            raise Unready(f"{self.crate.name} is not proved in this clone: run `rt check` in crates/{self.crate.name}")
+    def stop_unless_ready(self, asked):
+        """Stops where a library below or what a check keeps is not there, and is not to be made."""
+        name, below = self.crate.name, self.crate.below()
+        if asked.libraries:
+            lacking = [it.rlib for it in below if not os.path.isdir(it.rlib)]
+        else:
+            lacking = [it.name for it in below if not it.is_built()]
+        if lacking and asked.libraries:
+            raise Unready(f"there is no {lacking[0]}")
+        if lacking or not (asked.kept or os.path.isdir(self.kept)):
+            raise Unready(f"{name} is not proved in this clone: run `rt check` in crates/{name}")
 
     def run(self):
-        """Tries all edits, round by round."""
-        left, number = list(self.edits), 0
+        """Tries all edits. Where it cannot go on, those that are left are told with the reason."""
         for name, why in self.faults.items():
             self.tell(name, "-", f"NOT TRIED: {why}")
-        while left:
+        try:
+            if not os.path.isdir(self.kept):
+                self.keep()
+            self.try_all()
+        except Unready as why:
+            say(f"{self.crate.name}: {why}")
+            self.faults |= {edit.name: f"not tried: {why}" for edit in self.left}
+
+    def try_all(self):
+        """Tries all edits, round by round."""
+        number = 0
+        while self.left:
             number += 1
-            left = self.round(left, number)
+            self.left = self.round(self.left, number)
+
+    def keep(self):
+        """Checks the crate as it stands, and keeps what that proves."""
+        name = self.crate.name
+        with tempfile.TemporaryDirectory(prefix=f"{name}-", dir=os.path.dirname(self.kept)) as room:
+            os.mkdir(f"{room}/kept")
+            check = checked(self.rt, self.crate, {}, self.jobs, f"{room}/kept")
+            self.add_time(check)
+            if check.status:
+                raise Unready(f"{name} is not proved: {check.said[-160:]!r}")
+            os.rename(f"{room}/kept", self.kept)
+
+    def add_time(self, check):
+        self.seconds += check.seconds
+        say(f"{self.crate.name}: {check.seconds:.0f} seconds of processor")
 
     def round(self, left, number):
         """Tries the edits of one round, and gives those that are left."""
         batch, texts = batch_of(self.sources, left, self.most)
-        print(f"{self.crate.name}: round {number}, {len(batch)} of {len(left)} edits", flush=True)
-        begun = processor_seconds()
-        status, text = said_by_check(self.rt, self.crate, texts, self.jobs)
-        print(f"{self.crate.name}: {processor_seconds() - begun:.0f} seconds of processor", flush=True)
-        said = Said(self.crate, self.sources, text)
+        say(f"{self.crate.name}: round {number}, {len(batch)} of {len(left)} edits")
+        check = checked_over(self.rt, self.crate, texts, self.jobs, self.kept)
+        self.add_time(check)
+        said = Said(self.crate, self.sources, check.said)
         if not said.status:
-            return self.without_verdict(left, batch, status, text)
+            return self.without_verdict(left, batch, check)
         self.stop_at_strangers(said, batch)
         done = [edit.name for edit in batch if self.settles(said, edit, batch)]
         waiting = [edit for edit in batch if edit.name not in done]
@@ -493,17 +572,18 @@ class Run:
             self.fail(edit, what)
         return True
 
-    def without_verdict(self, left, batch, status, text):
+    def without_verdict(self, left, batch, check):
         """What is left after a check that told of no function: those that do not compile go, or fewer are tried at a
         time."""
-        found = uncompiled(self.sources, text, batch)
+        found = uncompiled(self.sources, check.said, batch)
         if not found and len(batch) > 1:
             half = {edit.name for edit in batch[: len(batch) // 2]}
             for edit in batch[len(batch) // 2 :]:
                 edit.apart |= half
             return left
         for edit in batch:
-            if why := found.get(edit.name, "" if found else f"no verdict, status {status}: {text[-160:]!r}"):
+            none = "" if found else f"no verdict, status {check.status}: {check.said[-160:]!r}"
+            if why := found.get(edit.name, none):
                 self.fail(edit, why)
         return [edit for edit in left if edit.name not in self.faults]
 
@@ -517,22 +597,22 @@ class Run:
         self.tell(edit.name, edit.label(), f"NOT REFUSED: {why}")
 
     def tell(self, name, label, what):
-        print(f"{self.crate.name}/{name}    {label}    {what}", flush=True)
-
-
-def processor_seconds():
-    """The processor time of all checks that have ended."""
-    used = resource.getrusage(resource.RUSAGE_CHILDREN)
-    return used.ru_utime + used.ru_stime
+        say(f"{self.crate.name}/{name}    {label}    {what}")
 
 
 def words():
     """What is asked for on the command line."""
     parser = argparse.ArgumentParser(description="Tries every edit of must-fail/ and more-edits/, many in one check.")
     parser.add_argument("crates", nargs="*", metavar="CRATE", help="a crate of crates.txt; all where none is named")
+    parser.add_argument("--libraries", metavar="FOLDER", help="take the crates below from FOLDER/NAME.rlib")
+    parser.add_argument("--kept", metavar="FOLDER", help="begin with what FOLDER/NAME keeps, and keep there what lacks")
+    parser.add_argument("--lanes", type=int, default=1, metavar="N", help="N crates side by side (1)")
     parser.add_argument("--most", type=int, default=0, metavar="N", help="at most N edits in one check (no limit)")
     parser.add_argument("--jobs", type=int, default=1, metavar="N", help="as many jobs of the prover (1)")
-    return parser.parse_args()
+    asked = parser.parse_args()
+    asked.kept = asked.kept and os.path.realpath(asked.kept)
+    asked.libraries = asked.libraries and os.path.realpath(asked.libraries)
+    return asked
 
 
 def runs_of(rt, asked):
@@ -541,27 +621,43 @@ def runs_of(rt, asked):
     unknown = [name for name in asked.crates if name not in [crate.name for crate in crates]]
     if unknown:
         raise Unready(f"{unknown[0]} is no crate of crates.txt")
-    runs = [Run(rt, it, asked.most, asked.jobs) for it in crates if not asked.crates or it.name in asked.crates]
+    for crate in crates if asked.libraries else ():
+        crate.rlib = f"{asked.libraries}/{crate.name}.rlib"
+    runs = [Run(rt, it, asked) for it in crates if not asked.crates or it.name in asked.crates]
     runs = [run for run in runs if run.edits or run.faults]
     for run in runs:
-        run.stop_unless_ready()
+        run.stop_unless_ready(asked)
+    if asked.kept:
+        os.makedirs(asked.kept, exist_ok=True)
     return runs
 
 
-def summary(runs, minutes):
+def run_all(runs, lanes):
+    """Runs so many side by side, those of the most edits first. Where the command is stopped, all of them end."""
+    with ThreadPoolExecutor(lanes) as pool:
+        begun = [pool.submit(run.run) for run in sorted(runs, key=lambda run: -len(run.edits))]
+        try:
+            for run in as_completed(begun):
+                run.result()
+        finally:
+            STOP.set()
+            pool.shutdown(cancel_futures=True)
+
+
+def summary(runs):
     """Tells each crate's count, the time, and the edits that are not refused; gives the status."""
     print()
     for run in runs:
-        print(counts(run.crate.name, run.refused, len(run.faults), minutes[run.crate.name]))
+        print(counts(run.crate.name, run.refused, len(run.faults), run.seconds))
     faults = [f"{run.crate.name}/{name}: {why}" for run in runs for name, why in run.faults.items()]
-    print(counts("together", sum(run.refused for run in runs), len(faults), sum(minutes.values())))
+    print(counts("together", sum(run.refused for run in runs), len(faults), sum(run.seconds for run in runs)))
     for fault in faults:
         print(fault)
     return 1 if faults else 0
 
 
-def counts(name, refused, others, minutes):
-    return f"{name}: {refused} refused, {others} not; {minutes:.1f} minutes of processor"
+def counts(name, refused, others, seconds):
+    return f"{name}: {refused} refused, {others} not; {seconds / 60:.1f} minutes of processor"
 
 
 def main():
@@ -570,12 +666,9 @@ def main():
     os.chdir(ROOT)
     try:
         rt = tool()
-        runs, minutes = runs_of(rt, asked), {}
-        for run in runs:
-            begun = processor_seconds()
-            run.run()
-            minutes[run.crate.name] = (processor_seconds() - begun) / 60
-        return summary(runs, minutes)
+        runs = runs_of(rt, asked)
+        run_all(runs, asked.lanes)
+        return summary(runs)
     except Unready as why:
         print(f"more-edits: {why}", file=sys.stderr)
         return 2

@@ -6,7 +6,7 @@ not sent yet: so a reply can be lost though it was written. Three sorts of clien
 plain socket that sends two bytes after its question, and reads a long file late; Python's http.client and curl, which
 send a body that is refused by its length. Every reply has to come whole: all its bytes are compared.
 
-It wants Python 3 with its standard library alone, curl, and Linux. PROGRAM is ./desk of this repository where none is
+You need Python 3 with its standard library alone, curl, and Linux. PROGRAM is ./desk of this repository where none is
 named."""
 
 import collections

@@ -2,7 +2,7 @@
 # Makes a desk in a file by the store's test, reads it with the sqlite3 shell, and has the store open it
 # again after VACUUM, and after ANALYZE, whose tables it refuses until they are dropped. Then tables, views
 # and triggers named desk: what the store answers where it is to open them, and to make a desk beside them.
-# Wants the shell sqlite3, and `rt test` in crates/rd_store_tests, or the store's built tests as an argument.
+# You need the shell sqlite3, and `rt test` in crates/rd_store_tests, or the store's built tests as an argument.
 set -u
 cd "$(dirname "$0")/.." || exit 1
 tests=${1:-crates/rd_store_tests/out/rd_store_tests_tests}

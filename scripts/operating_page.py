@@ -1,5 +1,5 @@
 """A page as commands in their order, a shell that is given them, and a copy of what they need of this repository. The
-scripts that run docs/OPERATING.md or README.md share this."""
+scripts that run docs/OPERATING.md, README.md or docs/COMMANDS.md share this."""
 
 import contextlib
 import os
@@ -15,7 +15,7 @@ from client_cases import LIMIT, ROOT
 PAGE = "docs/OPERATING.md"
 COPIED = ("operate", "web", "images", "docs", "README.md")
 # What is not run: what proves, builds or measures for long, and what wants a network.
-LEFT_OUT = re.compile(r"bash \.ci/run|python3 bench/|rt |apt-get update|ssh ")
+LEFT_OUT = re.compile(r"bash \.ci/run|python3 bench/|rt |\(cd \S+ && rt |apt-get update|ssh ")
 # What a shell tells of its jobs, nginx tells an ordinary user of its line `user`, and debconf tells without a terminal.
 NOISE = re.compile(
     rb"^(\S*: line \d+: +\d+ Terminated|\[\d+\]|.*\[warn\].* the \"user\" directive |debconf: ).*\n", re.M

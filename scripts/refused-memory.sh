@@ -1,6 +1,6 @@
 #!/usr/bin/env bash
 # Runs each test of refused memory, and commands of the program itself, once for each growth of memory that it
-# asks for, with that growth refused, until a run asks for no more. Wants gcc with the C library's headers, the shell
+# asks for, with that growth refused, until a run asks for no more. You need gcc with the C library's headers, the shell
 # sqlite3, and the crates' built tests and program: `rt test` in crates/rd_policy_tests, crates/rd_rows_tests,
 # crates/rd_store_tests, crates/rd_desk_tests, crates/rd_http_tests and crates/rd_main, and `rt run` in crates/rd_main.
 set -u

@@ -12,7 +12,7 @@ from client_cases import (
     LIMIT, LOOP_DISK, NOBODY, PROGRAM_DISK, PUBLIC, ROOM, ROOT, STAFF, badge, bytes_of, check, digest, drop, put,
 )
 
-CLOSED = "The desk is closed at the moment. Ask again later."
+CLOSED = "The desk is closed at the moment. Try again later."
 AGAIN = "The desk may have done it all the same. You can safely send it again."
 
 READ = """
@@ -150,7 +150,7 @@ def see_keys_taken(seen, page, room):
     seen.same("key: none", (False, "You have given no key."), (shown["works"], shown["caller"]))
     refused = [
         (NOBODY, ["The desk does not know this key. Type it again, or use another.", "Refusal: unknown-key"]),
-        (ROOM, ["That is for the staff. Use a key of the staff.", "Refusal: staff-only"]),
+        (ROOM, ["Only the staff may do this. Use a key of the staff.", "Refusal: staff-only"]),
     ]
     for key, wanted in refused:
         shown = page.give(key)
@@ -265,7 +265,7 @@ def see_other_key(seen, page, number):
     seen.same("keys: by its SHA-256", [f"Done: key of the staff, SHA-256 {number}."], page.press("keys")[0])
     seen.same("keys: another of the staff", ["The desk takes this key."], page.give(OTHER)["status"])
     page.fill("keys", key=OTHER)
-    words = f"Drop key with SHA-256 {number}? Who has it is told that the desk does not know it."
+    words = f"Drop key with SHA-256 {number}? Nobody can use it any more."
     asked = page.drop("#keys [name=drop]", "drop")
     seen.same("keys: one's own", f"{words} It is the key that you use now.", asked)
     seen.same("keys: it is gone", [f"Done: there is no key with SHA-256 {number} now."], page.of("keys")[0])
@@ -286,7 +286,7 @@ def see_looks(seen, page, room):
     page.fill("looks", accession="32")
     wanted = ["32, CP/M, 8 inches", "2 files: 2 can be given out, 0 damaged"]
     seen.same("survey: of CP/M", (wanted, 4), (page.press("looks")[0][0:4:2], len(page.of("looks")[0])))
-    sound = "Sound: the disk has the SHA-256 that was given when it came."
+    sound = "Sound: the disk still has the SHA-256 that came with it."
     seen.same("check", [f"Disk 32. {sound}"], page.press("looks", "[name=check]")[0])
 
 
@@ -355,14 +355,14 @@ CONFLICT += "Give the disk another accession; put another key of the staff first
 def see_refused(seen, page, room):
     """What the desk itself refuses."""
     told, rows = page.rule("rules", "99", "1", "deny", "all", None, "public")
-    words = "There is no such deed. Look at its number, or put the deed first."
+    words = "There is no such deed. Check its number, or put the deed first."
     seen.same("refused: no deed", [words, "Refusal: no-deed"], told)
     seen.same("refused: it is not in the table", [], [row for row in rows if row[0] == "99"])
     told, rows = page.rule("takedowns", "99", "1", "deny", "all", None, "public")
-    words = "There is no disk with this number. Look at the number."
+    words = "There is no disk with this number. Check the number."
     seen.same("refused: no accession", ([words, "Refusal: no-accession"], []), (told, rows))
     page.fill("deeds", deed="32", donor="\u20ac" * 400, signed="2020-01-01")
-    words = "A value is beyond its limits. Look at each one. A donor has 1,000 bytes at most; an umlaut is two."
+    words = "A value is beyond its limits. Check each one. A donor has at most 1,000 bytes; an umlaut is two."
     seen.same("refused: a donor of 1,200 bytes", [words, "Refusal: bad-body"], page.press("deeds")[0])
     page.fill("keys", key=STAFF, audience="room")
     seen.same("refused: the last key of the staff", [CONFLICT, "Refusal: conflict"], page.press("keys")[0])
@@ -380,34 +380,34 @@ def see_refused(seen, page, room):
 OTHERWISE = [
     (
         "asked(path.replace(/[0-9a-f]{64}/, '0'.repeat(64)), options)",
-        "Other bytes came than were sent. Send them again.Refusal: digest-differs",
+        "The desk got other bytes than you sent. Send them again.Refusal: digest-differs",
     ),
     (
         "asked(path.replace('d64', 'cpm8'), options)",
-        "The image has not the length of its kind. Choose the file again, and see whether it is whole."
+        "The image does not have the length of its kind. Check that the file is whole, and choose it again."
         "Refusal: wrong-size",
     ),
     (
         "asked(path, { ...options, body: new Uint8Array(262145) })",
-        "That is longer than the desk takes. It takes 262,144 bytes at most.",
+        "That is longer than the desk takes. It takes at most 262,144 bytes.",
     ),
     (
         "asked(path, { ...options, headers: {} })",
-        "That is for the staff. Use a key of the staff.Refusal: staff-onlyRule: S0, for the staff",
+        "Only the staff may do this. Use a key of the staff.Refusal: staff-onlyRule: S0, for the staff",
     ),
     (
         "asked(path.replace('/31/d64', '/031/d64'), options)",
-        "There is nothing at that address. Look at the numbers in it.Refusal: no-route",
+        "There is nothing at that address. Check the numbers in it.Refusal: no-route",
     ),
     (
         "asked(path, { ...options, method: 'PATCH' })",
         "The desk does not answer that. Load this page again.Refusal: method",
     ),
-    ("new Response('', { status: 429 })", "You ask too often. Wait a little and ask again."),
-    ("new Response('', { status: 504 })", f"The desk took too long. Ask again. {AGAIN}"),
+    ("new Response('', { status: 429 })", "You ask too often. Wait a little, and try again."),
+    ("new Response('', { status: 504 })", f"The desk took too long. Try again. {AGAIN}"),
     (
         "new Response('{\"error\":\"unavailable\"}', { status: 503 })",
-        "The desk cannot answer now, and has changed nothing. Ask again; if that fails, tell who runs it."
+        "The desk cannot answer now, and has changed nothing. Try again. If that fails, call whoever runs it."
         "Refusal: unavailable",
     ),
     ("new Response('<html>', { status: 418 })", "The desk refuses that. Load this page again."),
@@ -432,7 +432,7 @@ def see_lost(seen, page, room):
     room.stop_desk()
     seen.same("lost: the desk is down", [f"{CLOSED} {AGAIN}"], page.press("deeds")[0])
     room.stop_nginx()
-    words = f"The desk cannot be reached. Look at the connection, and ask again. {AGAIN}"
+    words = f"The desk cannot be reached. Check the connection, and try again. {AGAIN}"
     seen.same("lost: nobody answers", [words], page.press("deeds")[0])
     room.start_nginx()
     room.start_desk()
@@ -448,7 +448,7 @@ def see_lost(seen, page, room):
     seen.same("lost: no disk", 404, room.ask_desk(check(36))[0])
     page.browser.script("Object.defineProperty(crypto, 'subtle', { value: undefined });")
     page.fill("keys", key="x", audience="room")
-    words = "This browser makes no SHA-256 here. Open the page at 127.0.0.1, or in another browser."
+    words = "This browser cannot make a SHA-256 here. Open the page at 127.0.0.1, or in another browser."
     seen.same("lost: no SHA-256", [words], page.press("keys")[0])
 
 

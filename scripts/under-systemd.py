@@ -2,9 +2,9 @@
 """scripts/under-systemd.py [PROGRAM]: boots a small Debian by systemd, types there what docs/OPERATING.md has a museum
 type on its machine, and looks at the service that comes of it.
 
-It wants Python 3 with its standard library alone, Linux, the rights of root, and Debian's debootstrap and
-systemd-container, which it installs where they are missing. PROGRAM is ./desk of this repository where none is named.
-The Debian is kept in /var/tmp/desk-under-systemd for the next run, and no run changes it.
+You need Python 3 with its standard library alone, Linux, the rights of root, and Debian's debootstrap and
+systemd-container, which the script installs if they are missing. PROGRAM is ./desk of this repository where none is
+named. The Debian is kept in /var/tmp/desk-under-systemd for the next run, and no run changes it.
 
 What is looked at: what the page's commands give; the files, the process and their rights; what a process in the place
 of the service may do; visits through nginx; a desk that is killed, stopped, or ends by its count; a setting that is

@@ -1,14 +1,14 @@
-// The page for readers. It asks the desk by GET alone.
+// The page for readers. It sends the desk GET and nothing else.
 "use strict";
 
-// How often the view has changed: a reply to an earlier view is passed over.
+// How often the view has changed: the page drops a reply to an earlier view.
 let turn = 0;
 
-// What the bytes that are shown are kept as for a download, until the view changes.
+// The bytes on show, as a download, until the view changes.
 let download = null;
 
-// The list of all files that the key in use may know of, until the key changes or the reader asks anew; up to how many
-// bytes it is fetched, and how many files are shown of those that are found.
+// The list of all files that the key in use may know of, until the key changes or the reader fetches it again; the most
+// bytes of it that the page fetches; and the most files that the page shows.
 let catalogue = null;
 const LONGEST_CATALOGUE = 5000000;
 const MOST_FOUND = 500;
@@ -56,7 +56,7 @@ function fileCells(accession, file) {
   ];
 }
 
-// What may be done with a file that is listed, and why no more than that.
+// What the reader may do with a file of the list, and why no more than that.
 function permission(file) {
   const words = listOf(file.faults).map(textOf);
   if (file.effect !== "read") return "see that it is there";
@@ -75,8 +75,8 @@ async function showFiles(accession) {
   return { heading: `Disk ${accession}`, told, parts: [...parts, slotForm(accession)] };
 }
 
-// The listing tells how the bytes are to be read, and is asked for first. A file that is given and was not listed was
-// opened in between.
+// The listing says how to read the bytes, and comes first. A file that comes though the listing lacks it was opened in
+// between.
 async function showFile(accession, slot) {
   const listing = await askObject(`/images/${accession}`);
   const reply = await ask(`/images/${accession}/files/${slot}`);
@@ -106,7 +106,7 @@ function recordsOf(text) {
   return records.slice(0, -1);
 }
 
-// A record as the file that it tells of.
+// The file of a record.
 function fileOf([accession, , , slot, user, name, type, size, faults, rule, effect]) {
   const number = (text) => (text === "" ? null : Number(text));
   const numbers = { accession: number(accession), slot: number(slot), user: number(user), size: number(size) };
@@ -319,7 +319,7 @@ async function show(focuses) {
   const here = place();
   const mine = ++turn;
   places(here);
-  part("status").textContent = "The desk is asked.";
+  part("status").textContent = "Asking the desk.";
   part("view").setAttribute("aria-busy", "true");
   const came = await Promise.resolve(here).then(asked).catch((fault) => refusedView(here, fault));
   if (mine !== turn) return;

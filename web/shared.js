@@ -1,47 +1,56 @@
-// What both pages share: the words for what the desk says, the key, how the desk is asked, and how a refusal is shown.
-// All is shown as text: nothing that the desk or a disk says is ever read as markup, as a script or as an address.
+// What both pages share: words for the replies of the desk, the key, requests to the desk, and how a refusal shows. The
+// pages show everything as text: they never take what the desk or a disk says as markup, a script or an address.
 "use strict";
 
-// What each refusal of the desk means, and what to do then.
+// What each refusal of the desk means, and what to do. docs/FORMATS.md has all of them.
 const REFUSALS = {
-  "bad-head": ["The desk could not read the request.", "Load this page again. A key may be too long."],
-  framing: ["The desk could not read the request.", "Load this page again, and ask again."],
-  "no-route": ["There is nothing at that address.", "Look at the numbers in it."],
+  "bad-head": ["The desk cannot read the request.", "Load this page again. Your key may be too long."],
+  framing: ["The desk cannot read the request.", "Load this page again, and try again."],
+  "no-route": ["There is nothing at that address.", "Check the numbers in it."],
   method: ["The desk does not answer that.", "Load this page again."],
   "unknown-key": ["The desk does not know this key.", "Type it again, or use another."],
-  "staff-only": ["That is for the staff.", "Use a key of the staff."],
-  "bad-body": ["A value is beyond its limits.", "Look at each one. A donor has 1,000 bytes at most; an umlaut is two."],
-  "no-accession": ["There is no disk with this number.", "Look at the number."],
-  "no-file": ["There is no file at that slot.", "Ask for one that the disk's list has."],
-  "no-deed": ["There is no such deed.", "Look at its number, or put the deed first."],
+  "staff-only": ["Only the staff may do this.", "Use a key of the staff."],
+  "bad-body": ["A value is beyond its limits.", "Check each one. A donor has at most 1,000 bytes; an umlaut is two."],
+  "no-accession": ["There is no disk with this number.", "Check the number."],
+  "no-file": ["There is no file at that slot.", "Take a slot from the list of the disk."],
+  "no-deed": ["There is no such deed.", "Check its number, or put the deed first."],
   denied: ["You may not read this file.", "Ask the staff, who know why."],
-  "listed-only": ["This file is listed, but its kind is not given out.", "The staff has the whole disk."],
-  faulty: ["This file is damaged on the disk, so its bytes are not given out.", "The staff has the whole disk."],
-  "wrong-size": ["The image has not the length of its kind.", "Choose the file again, and see whether it is whole."],
-  "digest-differs": ["Other bytes came than were sent.", "Send them again."],
+  "listed-only": ["The desk only lists files of this kind.", "Ask the staff, who have the whole disk."],
+  faulty: [
+    "This file is damaged on the disk, so the desk does not give it out.",
+    "Ask the staff, who have the whole disk.",
+  ],
+  "wrong-size": [
+    "The image does not have the length of its kind.",
+    "Check that the file is whole, and choose it again.",
+  ],
+  "digest-differs": ["The desk got other bytes than you sent.", "Send them again."],
   conflict: [
     "Another image or deed stands at this accession, or no key of the staff would be left.",
     "Give the disk another accession; put another key of the staff first.",
   ],
-  unavailable: ["The desk cannot answer now, and has changed nothing.", "Ask again; if that fails, tell who runs it."],
+  unavailable: [
+    "The desk cannot answer now, and has changed nothing.",
+    "Try again. If that fails, call whoever runs it.",
+  ],
 };
 
-// The same of a status that comes without such a name: from what stands before the desk, or from nobody.
+// The same for a reply without such a name: from nginx, from nobody, or from this page itself.
 const STATUSES = {
-  0: ["The desk cannot be reached.", "Look at the connection, and ask again."],
-  400: ["The request could not be read.", "A key may be too long."],
-  403: ["What stands before the desk refuses that.", "The staff's page is on the museum's machine alone."],
-  404: ["There is nothing at that address.", "Look at the numbers in it."],
-  408: ["The request took too long.", "Ask again."],
-  413: ["That is longer than the desk takes.", "It takes 262,144 bytes at most."],
-  429: ["You ask too often.", "Wait a little and ask again."],
-  502: ["The desk is closed at the moment.", "Ask again later."],
-  503: ["The desk cannot answer now.", "Ask again."],
-  504: ["The desk took too long.", "Ask again."],
-  changed: ["What you may see has just changed.", "Ask again."],
-  digest: ["This browser makes no SHA-256 here.", "Open the page at 127.0.0.1, or in another browser."],
+  0: ["The desk cannot be reached.", "Check the connection, and try again."],
+  400: ["The request cannot be read.", "Your key may be too long."],
+  403: ["Only the museum's own machine may do that.", "The staff works there, or through a tunnel."],
+  404: ["There is nothing at that address.", "Check the numbers in it."],
+  408: ["The request took too long.", "Try again."],
+  413: ["That is longer than the desk takes.", "It takes at most 262,144 bytes."],
+  429: ["You ask too often.", "Wait a little, and try again."],
+  502: ["The desk is closed at the moment.", "Try again later."],
+  503: ["The desk cannot answer now.", "Try again."],
+  504: ["The desk took too long.", "Try again."],
+  changed: ["What you may see has just changed.", "Try again."],
+  digest: ["This browser cannot make a SHA-256 here.", "Open the page at 127.0.0.1, or in another browser."],
   file: ["The file cannot be read: it is gone, or was changed after you chose it.", "Choose it again."],
-  long: ["The list of all files is longer than 5 MB, so it is not fetched.", "Look for the file on its disk."],
+  long: ["The list of all files is above 5 MB, so this page does not fetch it.", "Look for the file on its disk."],
 };
 const OTHERS = ["The desk refuses that.", "Load this page again."];
 
@@ -58,9 +67,9 @@ const FAULTS = {
   "read-error": "the drive could not read a block of it",
 };
 
-const DESK_RULES = { D0: "no rule lets anybody see it", K0: "the key is unknown", S0: "for the staff" };
+const DESK_RULES = { D0: "no rule lets you see it", K0: "the key is unknown", S0: "for the staff" };
 
-// The kinds of image: what they are called, and how many bytes an image has.
+// The kinds of image: their words, and how many bytes an image has.
 const KINDS = {
   cpm8: { words: "CP/M, 8 inches", length: 256256 },
   d64: { words: "Commodore 1541", length: 174848 },
@@ -68,7 +77,7 @@ const KINDS = {
 
 const part = (id) => document.getElementById(id);
 
-// The key, without blanks and tabs at its ends as in a field of HTTP. It is kept here alone.
+// The key, without blanks and tabs at its ends as in a field of HTTP. The page keeps it here only.
 let key = "";
 
 class Refused extends Error {
@@ -138,7 +147,7 @@ async function ask(path, more = {}) {
   throw new Refused(reply.status, said !== null && typeof said === "object" ? said : {});
 }
 
-// The object in a reply, which is lost where the connection ends before it does.
+// The object in a reply. A connection that ends too early is a lost one.
 async function askObject(path, more) {
   const reply = await ask(path, more);
   const text = await reply.text().catch(() => {
@@ -147,7 +156,7 @@ async function askObject(path, more) {
   return JSON.parse(text);
 }
 
-// What a refusal means and what to do; more of that, where the page has more; and the desk's own words.
+// What a refusal means and what to do, with more words where the page has them, and the desk's own words.
 function refusal(fault, more = "") {
   const made = element("div", null, { className: "refused" });
   if (!(fault instanceof Refused)) {

@@ -1,5 +1,5 @@
-// The staff's page. It puts, drops, surveys and checks. The desk tells nobody which deeds, rules and keys it holds, so
-// the page shows no more than what it has put itself.
+// The staff's page. It puts, drops, surveys and checks. The desk cannot list its deeds, rules and keys, so the page
+// shows only what it has put itself.
 "use strict";
 
 const AUDIENCES = { public: "the public", room: "the reading room", staff: "the staff" };
@@ -9,7 +9,7 @@ function printed(least, most) {
   return { pattern: `[\\x20-\\x7E]{${least},${most}}`, title: "as the page for readers shows it", required: least > 0 };
 }
 
-// Ways to select files: how each is chosen and shown, and where it takes a value, how that is typed and sent.
+// Ways to select files: the words to choose and to show each, and, where it takes a value, how to type and send that.
 const SELECTORS = {
   all: { choice: "all files", shown: () => "all files", sent: () => true },
   slot: {
@@ -42,7 +42,7 @@ const SELECTORS = {
   },
 };
 
-// How fields are typed, by their names.
+// What the fields take, by their names.
 const NUMBER = { pattern: "[1-9][0-9]{0,5}", title: "a number from 1 to 999999", inputMode: "numeric", size: 7 };
 const DAY = { min: "0001-01-01", max: "9999-12-31" };
 const LIMITS = {
@@ -56,7 +56,7 @@ const LIMITS = {
   digest: { pattern: "[0-9A-Fa-f]{64}", title: "64 hexadecimal digits" },
 };
 
-// Rules of a deed and takedowns: of what they are, what they may let readers do, and where they are put.
+// Rules of a deed and takedowns: what they belong to, what they may let readers do, and their paths.
 const RULES = {
   rules: {
     of: "Deed",
@@ -74,23 +74,23 @@ const RULES = {
 const LOST = {
   rules: "The rules after it decide then.",
   takedowns: "Readers may see again what it kept from them.",
-  keys: "Who has it is told that the desk does not know it.",
+  keys: "Nobody can use it any more.",
 };
 
 const DIRECTORIES = { end: "it ends well", loop: "it leads back into itself", off: "it leads off the disk" };
 const OUTCOMES = {
-  sound: "Sound: the disk has the SHA-256 that was given when it came.",
-  changed: "Changed: the disk no longer has its SHA-256. Restore a backup.",
+  sound: "Sound: the disk still has the SHA-256 that came with it.",
+  changed: "Changed: the disk no longer has the SHA-256 that came with it. Restore a backup.",
 };
 
-// Where the connection ends early, nobody here knows what the desk has done. What is sent twice is done once.
+// Where the connection ends early, nobody here knows what the desk has done. A command sent twice is done once.
 const UNSURE = [0, 502, 504];
 const AGAIN = "The desk may have done it all the same. You can safely send it again.";
 
-// What was put here and not dropped since the key was given, by section and path.
+// What this page has put and not dropped since it got the key, by section and path.
 const standing = { deeds: new Map(), rules: new Map(), takedowns: new Map(), keys: new Map() };
 
-// The dumps that were chosen.
+// The chosen dumps.
 let dumps = [];
 
 const formOf = (name) => part(name).querySelector("form");
@@ -103,7 +103,7 @@ function tell(name, ...parts) {
 
 const refused = (fault) => refusal(fault, UNSURE.includes(fault.status) ? AGAIN : "");
 
-// Does some work of a section, one at a time, and tells there what came of it. Gives whether it was done.
+// Does some work of a section, one at a time, shows the outcome there, and says whether it was done.
 async function work(name, doing) {
   if (part(name).getAttribute("aria-busy") === "true") return false;
   part(name).setAttribute("aria-busy", "true");
@@ -122,7 +122,7 @@ async function send(method, path, body) {
   if (said.done !== true) throw new TypeError("it is not done");
 }
 
-// What is put: its path and body, what it is called, its place in the table, and its texts there, by column.
+// Puts something: its path and body, its words, its place in the table, and its texts there, by column.
 async function put(name, { path, body, words, order, texts }) {
   await send("PUT", path, JSON.stringify(body));
   standing[name].set(path, { words, order, texts });
@@ -214,7 +214,7 @@ function makeRuleForm(name) {
   needAudience(form);
 }
 
-// The field for a value is there where the way to select takes one.
+// Shows the field for a value where the way to select takes one.
 function chooseWay({ how, what }) {
   const { field, limits } = own(SELECTORS, how.value) || SELECTORS.all;
   const label = what.closest("label");
@@ -285,7 +285,7 @@ async function dropKey(fields) {
   return drop("keys", keyPath(digest), `key with SHA-256 ${digest}`);
 }
 
-// A key that was put or dropped stays in no field.
+// After a key is put or dropped, no field holds it.
 async function workWithKey(doing) {
   const form = formOf("keys");
   if (!(await work("keys", () => doing(form.elements)))) return;
@@ -361,7 +361,7 @@ async function readDump(dump) {
   }
 }
 
-// Each after the one before it: what is refused stops no other, and is sent anew at the next time.
+// One after the other: a refusal stops no other dump, and the next press sends the refused one again.
 async function putDumps() {
   const progress = part("images").querySelector("progress");
   const left = dumps.filter((dump) => dump.kind && !dump.done);
@@ -425,7 +425,7 @@ async function check({ accession }) {
 
 // The key
 
-// Whether the desk knows a key as the staff's: a survey is for the staff, and looks for the disk after that.
+// Whether the desk knows a key as the staff's: a survey is for the staff, and only then looks for the disk.
 async function isStaffs() {
   const fault = await ask("/images/1/survey").then(
     () => null,
@@ -434,7 +434,7 @@ async function isStaffs() {
   if (fault !== null && fault.said?.error !== "no-accession") throw fault;
 }
 
-// Without a key the page begins anew, so that nothing is left on it.
+// Without a key the page loads again, so that nothing is left on it.
 async function useKey(given) {
   if (given === "") {
     location.reload();
@@ -451,7 +451,7 @@ async function useKey(given) {
   part("main").setAttribute("aria-busy", "false");
 }
 
-// What a form does when it is submitted, by section.
+// What each form does, by section.
 const SUBMITTED = {
   deeds: (form) => work("deeds", () => putDeed(form.elements)),
   rules: (form) => work("rules", () => putRule("rules", form)),

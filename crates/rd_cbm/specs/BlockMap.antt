@@ -21,8 +21,8 @@ pub record IsMarkedFree (image : List ℕ) (track sector : ℕ) : Type 0 where
   pub on_disk : index_of track sector ≡ Some index
   pub bit : IsBitSet (slice_index (map_of image) (4 * track + 1 + sector / 8)) (sector % 8)
 
--- The count of free sectors that the map has for a track, in the first of its four bytes, is not
--- that of its sectors that are marked free.
+-- The map's count of free sectors for a track, the first of its four bytes, is not the number of
+-- its sectors that are marked free.
 pub record HasWrongCount (image : List ℕ) (track : ℕ) : Type 0 where
   pub first : 1 ≤ track
   pub last : track ≤ 35

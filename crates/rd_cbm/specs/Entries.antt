@@ -5,7 +5,7 @@ use Rattle.rd_geometry.specs.Blocks.{cbm_block, index_of}
 use Rattle.rd_cbm.specs.declared.class.Class.{Class}
 use Rattle.rd_cbm.specs.declared.class.Class.TheVariants.{Del, Seq, Prg, Usr, Rel, Other}
 
--- the entry at a slot, of the blocks of the directory: eight to a block, in order
+-- the entry at a slot, by the blocks of the directory: eight entries to a block, in order
 unfoldable pub entry_at : List ℕ → List ℕ → ℕ → List ℕ
 entry_at image blocks slot =
     slice_range (cbm_block image (slice_index blocks (slot / 8))) (32 * (slot % 8)) (32 * (slot % 8) + 32)
@@ -59,7 +59,7 @@ IsLocked type = IsBitSet type 6
 abbrev pub IsClosed : ℕ → Type 0
 IsClosed type = IsBitSet type 7
 
--- the file is of the class that is served: SEQ, PRG or USR
+-- desk serves files of this class: SEQ, PRG or USR
 abbrev pub IsServed : ℕ → Type 0
 IsServed type = (1 ≤ kind_of type) × (kind_of type ≤ 3)
 

@@ -1,5 +1,5 @@
--- The files of a 1541 directory, and the blocks that they claim. The blocks of the directory are
--- handed in as a list: they are the chain of 18/1.
+-- The files of a 1541 directory, and the blocks that they claim. The definitions take the blocks
+-- of the directory as a list: they are the chain of 18/1.
 use Rattle.std.specs.Prelude.{◌≡◌, ◌≢◌, ℕ, ◌*◌, ◌<◌, ◌⊎◌, List, Some, Contains, length}
 use Rattle.rd_geometry.specs.Blocks.{index_of}
 use Rattle.rd_cbm.specs.Links.{link_of}
@@ -10,7 +10,7 @@ use Rattle.rd_cbm.specs.Entries.{Way, entry_at, type_of, start_of, ClaimsBy}
 abbrev pub AreDirectoryBlocks : List ℕ → List ℕ → Type 0
 AreDirectoryBlocks image blocks = IsChain (link_of image) (index_of 18 1) blocks
 
--- The slot is a file's: one of the directory's, and its entry is used.
+-- The slot is that of a file: it is a slot of the directory, and its entry is used.
 pub record IsFileSlot (image blocks : List ℕ) (slot : ℕ) : Type 0 where
   pub inside : slot < 8 * length blocks
   pub used : type_of (entry_at image blocks slot) ≢ 0
@@ -35,7 +35,7 @@ pub record IsClaimed (image blocks : List ℕ) (block : ℕ) : Type 0 where
 abbrev pub IsInUse : List ℕ → List ℕ → ℕ → Type 0
 IsInUse image blocks block = IsSystem blocks block ⊎ IsClaimed image blocks block
 
--- Another slot claims the block, or the slot's other chain.
+-- Another slot claims the block, or the slot's other chain does.
 pub record HasOtherClaim (image blocks : List ℕ) (slot : ℕ) (way : Way) (block : ℕ) : Type 0 where
   pub other_slot : ℕ
   pub other_way : Way

@@ -1,4 +1,4 @@
--- What `directory`, `files` and `block_map` tell of an image.
+-- What `directory`, `files` and `block_map` say of an image.
 use Rattle.std.specs.Prelude.{◌≡◌, ℕ, ◌<◌, ◌↔◌, IfNone, IfSome, IsTrue, List, [], Option, slice_index, All, AllPairs, Contains, map}
 use Rattle.rd_geometry.specs.Blocks.{CBM_BLOCKS, index_of}
 use Rattle.rd_cbm.specs.Links.{link_of}
@@ -24,14 +24,15 @@ pub record HasFields (image blocks : List ℕ) (entry : CbmEntry) : Type 0 where
   pub record_len : entry.record_len ≡ record_length_of (entry_at image blocks entry.slot)
   pub size_field : entry.size_field ≡ size_field_of (entry_at image blocks entry.slot)
 
--- The used entries of the directory, by ascending slot: each is told as it is, and none is missing.
+-- The used entries of the directory, by ascending slot: each is described correctly, and none is
+-- missing.
 pub record AreEntries (image blocks : List ℕ) (entries : List CbmEntry) : Type 0 where
   pub slots : All (λ entry. IsFileSlot image blocks entry.slot) entries
   pub fields : All (HasFields image blocks) entries
   pub ascending : AllPairs (λ d e. d.slot < e.slot) entries
   pub complete : (slot : ℕ) → IsFileSlot image blocks slot → Contains (map (λ entry. entry.slot) entries) slot
 
--- The directory, as it is told, is that of the image: its blocks, how the walk along them ends, and
+-- The record describes the directory of the image: its blocks, how the walk along them ends, and
 -- its used entries.
 pub record IsDirectory (image : List ℕ) (directory : Directory) : Type 0 where
   pub blocks : AreDirectoryBlocks image directory.blocks
@@ -39,9 +40,10 @@ pub record IsDirectory (image : List ℕ) (directory : Directory) : Type 0 where
   pub end : EndsBy (link_of image) (index_of 18 1) directory.end
   pub entries : AreEntries image directory.blocks directory.entries
 
--- The file, as it is told, is one of the image: its fields are those of its entry; its faults are
--- told; its blocks are its chain, and its last byte is that of the chain's end, where it is sound,
--- else there are none, and 0; and so many blocks are claimed by it, each counted once.
+-- The record describes a file of the image: its fields are those of its entry; its faults are
+-- those of the file; if it is sound, its blocks are its chain and its last byte is that of the
+-- chain's end, and otherwise it has no blocks, and 0; and it claims so many blocks, each counted
+-- once.
 pub record Describes (image blocks : List ℕ) (file : CbmFile) : Type 0 where
   pub slot : IsFileSlot image blocks file.slot
   pub class : file.class ≡ class_of (type_of (entry_at image blocks file.slot))
@@ -57,7 +59,7 @@ pub record Describes (image blocks : List ℕ) (file : CbmFile) : Type 0 where
   pub on_disk : All (λ block. block < CBM_BLOCKS) file.blocks
   pub claimed : IsCount (λ block. (way : Way) × Claims image blocks file.slot way block) file.claimed
 
--- The files of an image, by ascending slot: each is told as it is, and none is missing.
+-- The files of an image, by ascending slot: each is described correctly, and none is missing.
 pub record AreFiles (image : List ℕ) (files : List CbmFile) : Type 0 where
   pub blocks : List ℕ
   pub directory : AreDirectoryBlocks image blocks

@@ -1,4 +1,4 @@
--- Which blocks are in use, as the pass over the slots notes it.
+-- Which blocks are in use, as the pass over the slots records it.
 use Rattle.std.specs.Prelude.{◌≡◌, ◌≢◌, ℕ, ◌<◌, ◌≤◌, ◌⊎◌, ◌↔◌, IsTrue, IsBitSet, List, [], Bool, true, false, Option, All, AllPairs, Contains, length, slice_set, if◌then◌else◌}
 use Rattle.std.specs.List.{slice_index_or}
 use Rattle.rd_geometry.specs.Blocks.{CBM_BLOCKS}
@@ -9,8 +9,8 @@ use Rattle.rd_cbm.specs.Walks.{IsChain, EndsBy}
 use Rattle.rd_cbm.specs.Entries.{Way, IsClosed, IsServed}
 use Rattle.rd_cbm.specs.Files.{Claims, IsSystem, IsInUse, HasOtherClaim}
 
--- The chain by which blocks are claimed, where they are claimed so; else no blocks, with an end
--- that tells nothing.
+-- The chain from the start, if the file claims its blocks; otherwise no blocks, and an end that
+-- says nothing.
 pub record IsClaimChain (image : List ℕ) (start : Option ℕ) (Claiming : Type 0) (chain : Chain) : Type 0 where
   pub decided : Claiming ⊎ (¬ Claiming)
   pub blocks : Claiming → IsChain (link_of image) start chain.blocks
@@ -25,8 +25,8 @@ pub record IsClaimChain (image : List ℕ) (start : Option ℕ) (Claiming : Type
 abbrev pub shared_after : List Bool → List Bool → ℕ → List Bool
 shared_after used shared block = if slice_index_or used block false then slice_set shared block true else shared
 
--- The flags after some blocks were added to them: a block is used that was used or was added, and
--- shared that was shared or was used and added.
+-- The flags after some blocks are added: a block is used if it was used before or is added, and
+-- shared if it was shared before, or was used before and is added.
 pub record AreAdded (used shared : List Bool) (blocks : List ℕ) (used_now shared_now : List Bool) : Type 0 where
   pub used_whole : length used_now ≡ CBM_BLOCKS
   pub shared_whole : length shared_now ≡ CBM_BLOCKS
@@ -34,8 +34,8 @@ pub record AreAdded (used shared : List Bool) (blocks : List ℕ) (used_now shar
   pub twice : (b : ℕ) → b < CBM_BLOCKS
       → IsTrue (slice_index_or shared_now b false) ↔ (IsTrue (slice_index_or shared b false) ⊎ (IsTrue (slice_index_or used b false) × Contains blocks b))
 
--- The flags say of each block whether it is in use, and of each that a file claims whether it is
--- the disk's own or is claimed otherwise too.
+-- The flags say of each block whether it is in use, and of each block that a file claims whether
+-- it is the disk's own or another claim has it too.
 pub record AreUses (image blocks : List ℕ) (used shared : List Bool) : Type 0 where
   pub used_whole : length used ≡ CBM_BLOCKS
   pub shared_whole : length shared ≡ CBM_BLOCKS
@@ -55,8 +55,8 @@ pub record AreTold (shared : List Bool) (type : ℕ) (contents sides : Chain) (f
   pub crossed : IsBitSet faults 3 ↔ (SomeShared shared contents.blocks ⊎ SomeShared shared sides.blocks)
   pub no_other : faults < 16
 
--- The blocks that are told of a file, and its last byte: those of its chain where it has no fault
--- and is of the served class, else none, and 0.
+-- The blocks and the last byte given for a file: those of its chain if it has no fault and desk
+-- serves its class, and otherwise none, and 0.
 pub record AreToldBlocks (type faults : ℕ) (contents : Chain) (blocks : List ℕ) (last : ℕ) : Type 0 where
   pub sound : faults ≡ 0 → IsServed type → (e : ℕ) → contents.end ≡ end.Last e → (blocks ≡ contents.blocks) × (last ≡ e)
   pub faulty : faults ≢ 0 → (blocks ≡ []) × (last ≡ 0)

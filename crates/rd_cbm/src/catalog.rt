@@ -31,7 +31,7 @@ fn class_of(ty_byte: u8) -> Class
     }
 }
 
-/// Whether a file is of the served class, by its type byte: SEQ, PRG or USR.
+/// Whether desk serves files with this type byte: SEQ, PRG or USR.
 fn is_served(ty_byte: u8) -> bool
     ensures { IsTrue result ↔ IsServed ty_byte }
 {
@@ -45,8 +45,8 @@ fn is_locked(ty_byte: u8) -> bool
     ty_byte & 0x40 != 0
 }
 
-/// The blocks of the chain of a sound file and the position of its last byte used; of another file
-/// no blocks, and 0.
+/// The blocks of the chain of a sound file, and the position of the last byte used in its last
+/// block; for any other file no blocks, and 0.
 fn told_blocks(alloc: Global, ty_byte: u8, faults: u8, contents: Chain) -> (Items<u16>, u8)
     ensures { AreToldBlocks ty_byte faults contents result.0 result.1 }
 {
@@ -104,9 +104,9 @@ pub(crate) fn is_used(disk: &CbmDisk, blocks: &[u16], slot: u16) -> bool
 
 /// The files of a disk, by slot: all used entries of its directory.
 ///
-/// Each is told with its faults and the number of blocks that it claims, and, where it is SEQ, PRG
-/// or USR and has no fault, with the blocks of its chain (1541 User's Guide). It fails only where
-/// memory is refused.
+/// Each file comes with its faults and the number of blocks that it claims; a SEQ, PRG or USR file
+/// without a fault also comes with the blocks of its chain (1541 User's Guide). It fails only when
+/// memory runs out.
 pub fn files(alloc: Global, disk: &CbmDisk) -> Result<Vec<CbmFile>, NoMemory>
     ensures { IfOk result (λ files. AreFiles (cbm_bytes disk.now) files.items) }
 {

@@ -8,7 +8,7 @@ pub enum Link {
     Last(u8),
     /// The index of the next block, 0 to 682.
     Next(u16),
-    /// A track above 0 and a sector that are not on the disk.
+    /// A track above 0 and a sector that the disk does not have.
     Off,
 }
 

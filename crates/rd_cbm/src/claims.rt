@@ -36,7 +36,7 @@ fn claims_sides(ty_byte: u8) -> bool
     is_closed(ty_byte) && ty_byte % 16 == 4
 }
 
-/// The chain of a start where it is claimed, else no blocks.
+/// The chain from a start if the file claims it, and otherwise no blocks.
 fn claimed_chain(
     alloc: Global,
     disk: &CbmDisk,
@@ -73,7 +73,7 @@ pub(crate) fn chains_of(
 pub(crate) struct Uses {
     /// Whether the block is used.
     pub(crate) used: [bool; BLOCKS],
-    /// Whether it is used twice.
+    /// Whether the block is used twice.
     pub(crate) shared: [bool; BLOCKS],
 }
 
@@ -89,7 +89,7 @@ impl Uses {
         }
     }
 
-    /// Notes one more use of a block.
+    /// Records one more use of a block.
     fn add(&mut self, block: u16)
         requires { block < CBM_BLOCKS }
         ensures used { self.new.used ≡ slice_set self.old.used block true }
@@ -101,7 +101,7 @@ impl Uses {
         self.used[block as usize] = true;
     }
 
-    /// Notes one more use of each of some blocks, all different.
+    /// Records one more use of each of these blocks, which are all different.
     pub(crate) fn add_all(&mut self, blocks: &[u16])
         requires on_disk { All (λ block. block < CBM_BLOCKS) blocks.now }
         requires once { AllPairs (λ m n. m ≢ n) blocks.now }

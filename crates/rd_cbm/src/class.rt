@@ -1,4 +1,4 @@
-/// What kind of file an entry is of, by the low four bits of its type byte (1541 User's Guide).
+/// The class of a file: the low four bits of its type byte (1541 User's Guide).
 #[derive(Clone, Copy, Debug, PartialEq, Eq, Hash)]
 pub enum Class {
     /// 0: a deleted file.
@@ -11,6 +11,6 @@ pub enum Class {
     Usr,
     /// 4: a relative file, which has side sectors.
     Rel,
-    /// 5 to 15, which this project takes as one class.
+    /// 5 to 15, which desk treats as one class.
     Other,
 }

@@ -17,7 +17,7 @@ pub struct CbmEntry {
     pub side: (u8, u8),
     /// The record length, of a relative file.
     pub record_len: u8,
-    /// The size in blocks that the entry tells.
+    /// The size in blocks that the entry states.
     pub size_field: u16,
 }
 

@@ -10,8 +10,8 @@ use crate::walk::chain;
 use rd_geometry::{CbmDisk, NoMemory};
 use std::alloc::Global;
 
-/// The file at a slot of a disk, told as `files` tells it, `None` where no file has the slot. It fails
-/// only where memory is refused.
+/// The file at a slot of a disk, as `files` gives it; `None` if no file has the slot (1541 User's
+/// Guide). It fails only when memory runs out.
 pub fn file(alloc: Global, disk: &CbmDisk, slot: u16) -> Result<Option<CbmFile>, NoMemory>
     ensures { IfOk result (IsFileAt (cbm_bytes disk.now) slot) }
 {

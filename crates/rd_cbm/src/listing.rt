@@ -6,7 +6,7 @@ use rd_geometry::Items;
 pub struct CbmFile {
     /// The slot of its entry, 0 to 5,463.
     pub slot: u16,
-    /// What kind of file it is.
+    /// The class of the file.
     pub class: Class,
     /// Whether it is locked: bit 6 of the type byte.
     pub locked: bool,
@@ -16,14 +16,14 @@ pub struct CbmFile {
     pub name: [u8; 16],
     /// The faults by bit: 0 not-closed, 1 off-disk, 2 loop, 3 crossed.
     pub faults: u8,
-    /// The indices of the blocks of its chain in order, where it is SEQ, PRG or USR and has no
-    /// fault; else none.
+    /// The indices of the blocks of its chain in order, if it is SEQ, PRG or USR and has no fault;
+    /// otherwise none.
     pub blocks: Items<u16>,
-    /// The position of the last byte used of its last block, where it has blocks here; 0 and 1 mean
-    /// no bytes. Else 0.
+    /// The position of the last byte used in its last block, if `blocks` has any; 0 and 1 mean no
+    /// bytes. Otherwise 0.
     pub last: u8,
-    /// The size in blocks that its entry tells.
+    /// The size in blocks that its entry states.
     pub size_field: u16,
-    /// How many blocks it claims, those of its side sectors among them, each counted once.
+    /// How many blocks it claims, side sectors included, each counted once.
     pub claimed: u16,
 }

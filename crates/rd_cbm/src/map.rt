@@ -17,7 +17,7 @@ use std::alloc::Global;
 /// The number after that of the last track.
 const TRACKS_END: u8 = 36;
 
-/// No track has more sectors.
+/// The most sectors that a track has.
 const MOST_SECTORS: u8 = 21;
 
 /// The bytes of 18/0, which holds the block map.
@@ -131,7 +131,7 @@ fn count_unclaimed_used(disk: &CbmDisk, uses: &Uses) -> u16
 /// Compares the block map in 18/0 with itself and with the blocks in use: the blocks that files
 /// claim, 18/0, and the blocks of the directory (1541 User's Guide).
 ///
-/// It fails only where memory is refused.
+/// It fails only when memory runs out.
 pub fn block_map(alloc: Global, disk: &CbmDisk) -> Result<MapReport, NoMemory>
     ensures { IfOk result (AreCounts (cbm_bytes disk.now)) }
 {

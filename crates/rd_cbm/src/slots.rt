@@ -12,7 +12,7 @@ use std::alloc::Global;
 /// Where the directory begins, whatever 18/0 links to.
 pub(crate) const DIRECTORY_START: (u8, u8) = (18, 1);
 
-/// The fields of the entry at a slot of the directory, whose blocks are handed in.
+/// The fields of the entry at a slot of the directory, from the directory's blocks.
 #[tactic(auto, unfolding(crate::specs::Entries::entry_at))]
 pub(crate) fn read_entry(disk: &CbmDisk, blocks: &[u16], slot: u16) -> CbmEntry
     requires slot { slot < 8 * length blocks.now }
@@ -58,7 +58,7 @@ fn entries_of(alloc: Global, disk: &CbmDisk, blocks: &[u16]) -> Result<Vec<CbmEn
 /// used entries by slot. Entry `j` of the block at position `i` has slot `8 * i + j` (1541 User's
 /// Guide).
 ///
-/// It fails only where memory is refused.
+/// It fails only when memory runs out.
 pub fn directory(alloc: Global, disk: &CbmDisk) -> Result<Directory, NoMemory>
     ensures { IfOk result (IsDirectory (cbm_bytes disk.now)) }
 {

@@ -30,7 +30,8 @@ pub fn link(disk: &CbmDisk, n: u16) -> Link
     }
 }
 
-/// Walks along the links from a start, and notes each block once, in order: how the walk ends.
+/// Walks along the links from a start, adds each block to `blocks` once, in order, and gives how
+/// the walk ends.
 fn walk(disk: &CbmDisk, start: Option<u16>, blocks: &mut Vec<u16>) -> Result<End, NoMemory>
     requires start { IfSome start (λ n. n < CBM_BLOCKS) }
     requires none { blocks.old.items ≡ [] }
@@ -59,7 +60,7 @@ fn walk(disk: &CbmDisk, start: Option<u16>, blocks: &mut Vec<u16>) -> Result<End
 /// at most 683, each once and in order, and how the walk ends. From a start that is not on the disk
 /// there are no blocks, and the end is `Off`.
 ///
-/// It fails only where memory is refused.
+/// It fails only when memory runs out.
 pub fn chain(alloc: Global, disk: &CbmDisk, start: (u8, u8)) -> Result<Chain, NoMemory>
     ensures blocks { IfOk result (λ chain. IsChain (link_of (cbm_bytes disk.now)) (index_of start.0 start.1) chain.blocks) }
     ensures end { IfOk result (λ chain. EndsBy (link_of (cbm_bytes disk.now)) (index_of start.0 start.1) chain.end) }
@@ -74,9 +75,8 @@ pub fn chain(alloc: Global, disk: &CbmDisk, start: (u8, u8)) -> Result<Chain, No
     })
 }
 
-/// A law, which no code calls: on each image the walk from each start ends in exactly one way, with
-/// one last byte where it ends at a last block; and there is a 684th place on it only where it
-/// loops.
+/// A law, which no code calls: on each image the walk from each start ends in exactly one way,
+/// with one last byte if it ends at a last block, and it has a 684th place only if it loops.
 pub fn each_walk_ends_once()
     ensures once { (image : List ℕ) (track sector : ℕ) → EndsOnce (link_of image) (index_of track sector) }
     ensures long { (image : List ℕ) (track sector n : ℕ) → walks.at (link_of image) (index_of track sector) CBM_BLOCKS ≡ Some n

@@ -1,5 +1,5 @@
--- Which blocks are claimed, as the pass over the directory notes it. Claim number p is that of pointer
--- p % 16 of slot p / 16.
+-- Which blocks are claimed, as the pass over the directory records it. Claim number p is that of
+-- pointer p % 16 of slot p / 16.
 use Rattle.std.specs.Prelude.{◌≡◌, ℕ, ◌/◌, ◌%◌, ◌<◌, ◌↔◌, IsTrue, List, Bool, true, false, length, slice_set, if◌then◌else◌}
 use Rattle.std.specs.List.{slice_index_or}
 use Rattle.rd_cpm.specs.Files.{Directory, Claims}

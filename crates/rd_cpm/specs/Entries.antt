@@ -19,7 +19,7 @@ name_of entry = slice_range entry 1 12
 abbrev pub ex_of : List ℕ → ℕ
 ex_of entry = slice_index entry 12
 
--- byte 13, S1: not looked at
+-- byte 13, S1: not used
 abbrev pub s1_of : List ℕ → ℕ
 s1_of entry = slice_index entry 13
 
@@ -44,8 +44,8 @@ pointer_of entry i = slice_index (pointers_of entry) i
 abbrev pub extent_number_of : List ℕ → ℕ
 extent_number_of entry = 32 * (s2_of entry % 64) + ex_of entry % 32
 
--- the entry is one of a file: byte 0 is a user, 0 to 15 (that all else is of no file is this project's
--- profile)
+-- the entry belongs to a file: byte 0 is a user, 0 to 15 (with any other value it belongs to none:
+-- this project's profile)
 abbrev pub IsOfFile : List ℕ → Type 0
 IsOfFile entry = first_of entry < 16
 

@@ -54,7 +54,7 @@ pub record IsOffDisk (d : Directory) (k : ℕ) : Type 0 where
   pub in_entry : place < 16
   pub beyond : 242 < pointer_of (d entry) place
 
--- Block b is claimed by another claim than that of pointer i of slot j.
+-- A claim other than that of pointer i of slot j is of block b.
 pub record HasOtherClaim (d : Directory) (j i b : ℕ) : Type 0 where
   pub slot : ℕ
   pub place : ℕ

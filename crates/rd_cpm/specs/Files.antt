@@ -2,12 +2,12 @@
 use Rattle.std.specs.Prelude.{◌≡◌, ℕ, ◌<◌, ◌≤◌, List}
 use Rattle.rd_cpm.specs.Entries.{first_of, name_of, pointer_of, IsOfFile, plain}
 
--- A directory is the entry at each slot, 0 to 63. What it gives past them counts nowhere.
+-- A directory gives the entry at each slot, 0 to 63. What it gives beyond slot 63 does not count.
 abbrev pub Directory : Type 0
 Directory = ℕ → List ℕ
 
--- Slot j has an entry of the file of slot k: both are entries of a file, with the same user and the
--- same name but for the high bits.
+-- Slot j has an entry of the file of slot k: both are entries of a file, with the same user and
+-- the same name except for the high bits.
 pub record IsEntryOf (d : Directory) (k j : ℕ) : Type 0 where
   pub slot : j < 64
   pub file : IsOfFile (d k)

@@ -38,12 +38,12 @@ pub record AreTwice (entries : List (List ℕ)) : Type 0 where
   pub inside : other < length entries
   pub same : extent_number_of (slice_index_or entries one []) ≡ extent_number_of (slice_index_or entries other [])
 
--- Pointer i of the entry is 0 though the record count reaches its block.
+-- Pointer i of the entry is 0, although the record count reaches its block.
 pub record IsHole (entry : List ℕ) (i : ℕ) : Type 0 where
   pub reached : 8 * i < rc_of entry
   pub missing : pointer_of entry i ≡ 0
 
--- a place of the entry's sixteen passes a test
+-- one of the entry's sixteen places passes a test
 abbrev pub SomePlace : (ℕ → Type 0) → Type 0
 SomePlace P = (i : ℕ) × (i < 16) × P i
 
@@ -51,7 +51,7 @@ SomePlace P = (i : ℕ) × (i < 16) × P i
 unfoldable pub IsOffDiskIn : List ℕ → Type 0
 IsOffDiskIn entry = Any (λ block. 242 < block) (pointers_of entry)
 
--- The block, as the flags say, is the directory's or is claimed twice.
+-- The block belongs to the directory or, as the flags say, is claimed twice.
 pub record IsSharedBlock (shared : List Bool) (block : ℕ) : Type 0 where
   pub some : 0 < block
   pub taken : (block ≡ 1) ⊎ IsTrue (slice_index_or shared block false)

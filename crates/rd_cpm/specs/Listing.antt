@@ -1,4 +1,4 @@
--- What `files` tells of an image.
+-- What `files` says of an image.
 use Rattle.std.specs.Prelude.{◌≡◌, ℕ, ◌<◌, ◌≤◌, ◌↔◌, IsTrue, List, [], slice_index, All, AllPairs, Contains, map}
 use Rattle.rd_geometry.specs.Places.{CPM_UNITS}
 use Rattle.rd_cpm.specs.Entries.{slot_of, first_of, name_of, plain}
@@ -7,9 +7,10 @@ use Rattle.rd_cpm.specs.Faults.{IsSound, AreFaults}
 use Rattle.rd_cpm.specs.Contents.{AreSectors}
 use Rattle.rd_cpm.specs.declared.listing.CpmFile.{CpmFile}
 
--- The file, as it is told, is one of the image: its slot is a file's; its user and its marks are those
--- of the entry at its slot, and its name too, without high bits; its faults are told; its sectors are
--- there where it is sound, else none, and lie on the disk.
+-- The record describes a file of the image: its slot is that of a file; its user, its marks and
+-- its name without high bits are those of the entry at that slot; its faults are those of the
+-- file; its sectors are those of the file if it is sound, and otherwise none; all of them lie on
+-- the disk.
 pub record Describes (image : List ℕ) (file : CpmFile) : Type 0 where
   pub slot : IsFileSlot (slot_of image) file.slot
   pub user : file.user ≡ first_of (slot_of image file.slot)
@@ -21,7 +22,7 @@ pub record Describes (image : List ℕ) (file : CpmFile) : Type 0 where
   pub none_where_faulty : ¬ IsSound (slot_of image) file.slot → file.sectors ≡ []
   pub on_disk : All (λ sector. sector < CPM_UNITS) file.sectors
 
--- The files of an image, by ascending slot: each is told as it is, and none is missing.
+-- The files of an image, by ascending slot: each is described correctly, and none is missing.
 pub record AreFiles (image : List ℕ) (files : List CpmFile) : Type 0 where
   pub each : All (Describes image) files
   pub ascending : AllPairs (λ f g. f.slot < g.slot) files

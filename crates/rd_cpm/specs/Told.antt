@@ -1,4 +1,4 @@
--- What the tests of a file's gathered entries tell of it.
+-- What the tests of a file's gathered entries say of it.
 use Rattle.std.specs.Prelude.{◌≡◌, ◌≢◌, ℕ, ◌+◌, ◌*◌, ◌/◌, ◌%◌, ◌<◌, ◌↔◌, List, [], Bool, Any, All, Contains, IsBitSet, length, slice_index, sum_by}
 use Rattle.rd_geometry.specs.Places.{CPM_UNITS}
 use Rattle.rd_cpm.specs.Entries.{rc_of, pointer_of, extent_number_of}
@@ -36,7 +36,7 @@ pub record AreRecords (entries : List (List ℕ)) (sectors : List ℕ) : Type 0 
   pub each : (r : ℕ) → r < length sectors → IsRecordIn entries r (slice_index sectors r)
   pub on_disk : All (λ sector. sector < CPM_UNITS) sectors
 
--- The faults of the entries are told, and their sectors where there is none.
+-- The faults are those of the entries; without a fault, the sectors are those of their records.
 pub record AreJudged (shared : List Bool) (entries : List (List ℕ)) (faults : ℕ) (sectors : List ℕ) : Type 0 where
   pub told : AreTold shared entries faults
   pub sound : faults ≡ 0 → AreRecords entries sectors

@@ -11,12 +11,12 @@ use rd_geometry::CpmDisk;
 pub(crate) struct Claims {
     /// Whether a pointer claims the block.
     pub(crate) claimed: [bool; 256],
-    /// Whether two pointers do.
+    /// Whether two pointers claim it.
     pub(crate) shared: [bool; 256],
 }
 
 impl Claims {
-    /// Notes one more claim of a block.
+    /// Records one more claim of a block.
     pub(crate) fn add(&mut self, block: u8)
         ensures claimed { self.new.claimed ≡ slice_set self.old.claimed block true }
         ensures shared { self.new.shared ≡ shared_after self.old.claimed self.old.shared block }
@@ -27,7 +27,7 @@ impl Claims {
         self.claimed[block as usize] = true;
     }
 
-    /// Notes the claims of the entry of a file at a slot.
+    /// Records the claims of the entry at a slot, which belongs to a file.
     pub(crate) fn add_entry(&mut self, disk: &CpmDisk, slot: u8)
         requires slot { slot < 64 }
         requires file { IsOfFile (slot_of (cpm_bytes disk.now) slot) }

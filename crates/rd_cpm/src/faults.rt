@@ -65,7 +65,7 @@ fn has_gap(entries: &[Entry<'_>]) -> bool
     entries.iter().any(|own| lacks_predecessor(entries, own))
 }
 
-/// Whether the entry's extent is not full and a later one stands.
+/// Whether the entry's extent is not full and there is a later one.
 fn ends_early(entries: &[Entry<'_>], own: &Entry<'_>) -> bool
     ensures { IsTrue result ↔ EndsEarly entries.now own.now }
 {
@@ -116,21 +116,21 @@ fn is_off_disk(entries: &[Entry<'_>]) -> bool
     entries.iter().any(is_off_disk_in)
 }
 
-/// Whether a block is the directory's or is claimed twice; block 0 is none.
+/// Whether a block belongs to the directory or is claimed twice. A pointer 0 names no block.
 fn is_shared(claims: &Claims, block: u8) -> bool
     ensures { IsTrue result ↔ IsSharedBlock claims.now.shared block }
 {
     block == DIRECTORY_BLOCK || (block != 0 && claims.shared[block as usize])
 }
 
-/// Whether a block is the directory's or is claimed twice.
+/// Whether a block of the list belongs to the directory or is claimed twice.
 fn has_shared_block(claims: &Claims, blocks: &[u8]) -> bool
     ensures { IsTrue result ↔ Any (IsSharedBlock claims.now.shared) blocks.now }
 {
     blocks.iter().any(|block| is_shared(claims, *block))
 }
 
-/// Whether a pointer of an entry names a block that is not its alone.
+/// Whether a pointer of an entry names a block that belongs to the directory or is claimed twice.
 #[tactic(auto, unfolding(crate::specs::Gathered::IsCrossedIn))]
 fn is_crossed_in(claims: &Claims, own: &Entry<'_>) -> bool
     ensures { IsTrue result ↔ IsCrossedIn claims.now.shared own.now }
@@ -138,14 +138,15 @@ fn is_crossed_in(claims: &Claims, own: &Entry<'_>) -> bool
     has_shared_block(claims, &own.pointers())
 }
 
-/// Whether a pointer names a block that is not its alone.
+/// Whether a pointer of some entry names a block that belongs to the directory or is claimed
+/// twice.
 fn is_crossed(claims: &Claims, entries: &[Entry<'_>]) -> bool
     ensures { IsTrue result ↔ Any (IsCrossedIn claims.now.shared) entries.now }
 {
     entries.iter().any(|own| is_crossed_in(claims, own))
 }
 
-/// The weight of a bit where it is set.
+/// The weight of a bit if it is set, and 0 otherwise.
 fn weight(set: bool, weight: u8) -> u8
     ensures { result ≡ (if set then weight else 0) }
 {

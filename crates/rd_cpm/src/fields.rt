@@ -3,7 +3,7 @@ ghost use Rattle.rd_cpm.specs.Entries.{first_of, name_of, ex_of, s1_of, s2_of, r
 
 use std::marker::Model;
 
-/// An entry of the directory: 32 bytes of the image, which contracts see as the list of them
+/// An entry of the directory: 32 bytes of the image. Contracts see it as the list of these bytes
 /// (CP/M 2.2 Interface Guide).
 #[derive(Debug, Drop)]
 pub struct Entry<'a> {
@@ -27,7 +27,7 @@ impl<'a> Entry<'a> {
         Entry { bytes }
     }
 
-    /// Byte 0: the user number, 0 to 15, or what stands in its place, as E5 hex in a free entry.
+    /// Byte 0: the user number, 0 to 15, or another value, such as E5 hex in a free entry.
     pub fn first(&self) -> u8
         ensures { result ≡ first_of self.now }
     {
@@ -50,7 +50,7 @@ impl<'a> Entry<'a> {
         self.bytes[12]
     }
 
-    /// The byte S1.
+    /// The byte S1, which desk does not use.
     pub fn s1(&self) -> u8
         ensures { result ≡ s1_of self.now }
     {
@@ -80,7 +80,7 @@ impl<'a> Entry<'a> {
         pointers
     }
 
-    /// Whether the entry is one of a file, of a user from 0 to 15.
+    /// Whether the entry belongs to a file: its first byte is a user number, 0 to 15.
     pub fn is_file(&self) -> bool
         ensures { IsTrue result ↔ IsOfFile self.now }
     {
@@ -101,7 +101,7 @@ impl<'a> Entry<'a> {
         self.name().map(|byte| byte % 128)
     }
 
-    /// Whether two entries have the same user, and the same name but for the high bits.
+    /// Whether two entries have the same user, and the same name except for the high bits.
     pub(crate) fn is_same_file(&self, other: &Entry<'_>) -> bool
         ensures { IsTrue result ↔ ((first_of other.now ≡ first_of self.now) × (plain (name_of other.now) ≡ plain (name_of self.now))) }
     {

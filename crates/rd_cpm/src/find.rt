@@ -12,8 +12,8 @@ use crate::walk::file_at;
 use rd_geometry::{CpmDisk, NoMemory};
 use std::alloc::Global;
 
-/// The file at a slot of a disk, told as `files` tells it, `None` where no file has the slot. It fails
-/// only where memory is refused.
+/// The file at a slot of a disk, as `files` gives it; `None` if no file has the slot (CP/M 2.2
+/// Interface Guide). It fails only when memory runs out.
 pub fn file(alloc: Global, disk: &CpmDisk, slot: u16) -> Result<Option<CpmFile>, NoMemory>
     ensures slot { IfOk result (λ answer. IfSome answer (λ file. file.slot ≡ slot)) }
     ensures file { IfOk result (λ answer. IfSome answer (Describes (cpm_bytes disk.now))) }

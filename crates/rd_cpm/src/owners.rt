@@ -6,10 +6,11 @@ ghost use Rattle.rd_cpm.specs.Owners.{IsOwner, AreOwners};
 use crate::directory::{SLOTS, entry};
 use rd_geometry::CpmDisk;
 
-/// What stands for the owner of a slot whose entry is of no file.
+/// The owner of a slot whose entry belongs to no file.
 const NO_FILE: u8 = SLOTS;
 
-/// The slot of the file of the entry at `slot`, which is looked for among the file slots before it.
+/// The owner of `slot`: the slot of the file that its entry belongs to, or 64 if it belongs to
+/// none. It searches the file slots before it.
 pub(crate) fn owner_of(disk: &CpmDisk, owners: &[u8; 64], slot: u8) -> u8
     requires slot { slot < 64 }
     requires before { AreOwners (slot_of (cpm_bytes disk.now)) slot owners.now }
@@ -27,7 +28,7 @@ pub(crate) fn owner_of(disk: &CpmDisk, owners: &[u8; 64], slot: u8) -> u8
     slot
 }
 
-/// The owner of each slot: the slot of its file, or 64 where its entry is of no file.
+/// The owner of each slot: the slot of its file, or 64 if its entry belongs to no file.
 pub(crate) fn owners_of(disk: &CpmDisk) -> [u8; 64]
     ensures { AreOwners (slot_of (cpm_bytes disk.now)) 64 result }
 {

@@ -18,7 +18,7 @@ use crate::sectors::sectors_of;
 use rd_geometry::{CpmDisk, Items, NoMemory};
 use std::alloc::Global;
 
-/// The faults of a file by bit, and its sectors where it has none, from all its entries.
+/// The faults of a file by bit and, if it has none, its sectors, from all its entries.
 fn judge(alloc: Global, claims: &Claims, entries: &[Entry<'_>]) -> Result<(u8, Vec<u16>), NoMemory>
     ensures { IfOk result (λ r. AreJudged claims.now.shared entries.now r.0 r.1.items) }
 {
@@ -60,9 +60,10 @@ pub(crate) fn file_at(
 
 /// The files of a disk, by slot.
 ///
-/// A file is all entries of one user, 0 to 15, and one name but for the high bits; its slot is the
-/// least of theirs. Each is told with its faults, and with the logical sectors of its records, in
-/// order, where it has none (CP/M 2.2 Interface Guide). It fails only where memory is refused.
+/// A file is all entries with one user, 0 to 15, and one name, whatever the high bits of the name;
+/// its slot is the lowest of theirs. Each file comes with its faults and, if it has none, with the
+/// logical sectors of its records in order (CP/M 2.2 Interface Guide). It fails only when memory
+/// runs out.
 pub fn files(alloc: Global, disk: &CpmDisk) -> Result<Vec<CpmFile>, NoMemory>
     ensures { IfOk result (λ files. AreFiles (cpm_bytes disk.now) files.items) }
 {

@@ -1,4 +1,4 @@
--- What is said of the store by the functions of which an answer is made.
+-- What the functions that make up an answer say of the store.
 use Rattle.std.specs.Prelude.{◌≡◌, ◌⊎◌, ℕ, ℤ, List, All, Option, Some, None, Result, Ok, Err, IfOk, MatchOption, map, option_map}
 use Rattle.std.specs.FinMap.{get}
 use Rattle.sqlite.specs.Store.{Ghosts}
@@ -47,12 +47,12 @@ AreRegistered desk register = All (λ one. IsRegistered desk one.0 one.1) regist
 abbrev pub numbers_of : List (ℕ × Accession) → List ℕ
 numbers_of register = map (λ one. one.0) register
 
--- what is held of an accession that stands: the kind of its image, its deed and the rules for it
+-- an accession that stands: the kind of its image, its deed and the rules for it
 abbrev pub IsHolding : Desk → ℕ → Holding → Type 0
 IsHolding desk acc holding =
     (image : ImageRow) × (get desk.images acc ≡ Some image) × (holding.kind ≡ image.kind) × (holding.deed ≡ image.deed) × (holding.rules ≡ rules_for desk acc)
 
--- the survey of an accession, or nothing, where it does not stand
+-- the survey of an accession, or nothing if it does not stand
 abbrev pub IsSurveyAt : Desk → ℕ → Option Survey → Type 0
 IsSurveyAt desk acc found = MatchOption found (get desk.images acc ≡ None) (IsSurvey desk acc)
 
@@ -61,15 +61,17 @@ abbrev pub missing_of : Band → Refusal
 missing_of Takedown = NoAccession
 missing_of Deed = NoDeed
 
--- what becomes of the desk, by what is told: carried out, it is the next one; refused or not told, it is as before
+-- the desk after a staff request, by its answer: the next one if the request is carried out, and
+-- the old one if it is refused or has no answer
 abbrev pub IsCarriedOut : {X : Type 0} → Desk → ℤ → Request → Result Said X → Desk → Type 0
 IsCarriedOut old day request (Ok (Refused refusal)) new = IsRefused old request None refusal × (new ≡ old)
 IsCarriedOut old day request (Ok answer) new =
     IsAccepted old request None × Tells old Staff day None answer request.what × (new ≡ carried_out day request.what old)
 IsCarriedOut old day request (Err fault) new = new ≡ old
 
--- A request of the staff. Of what a crash leaves it says that either nothing was done, or the desk after it; where an
--- image is put, it has the digest that was given: the other reasons to refuse it are told by that desk being lawful.
+-- A request of the staff. A crash leaves either the old desk or the one after the request, and
+-- then an image that was put has the digest given for it. (The other reasons to refuse it do not
+-- need to be named: the desk after it is lawful.)
 pub record Carries {S X : Type 0} (g : Ghosts S) (old new : Held S) (day : ℤ) (request : Request) (result : Result Said X) : Type 0 where
   pub lasts : Lasts g old new
   pub judged : IsOpen g new → IsCarriedOut (desk g old) day request result (desk g new)
@@ -89,21 +91,21 @@ abbrev pub LeavesStep : {S : Type 0} → Ghosts S → Held S → Held S → ℤ 
 LeavesStep g old new day request = (left : Trees) → g.recovers new.store left
     → IsLeft (desk g old) left ⊎ ((after : Desk) × IsStep (desk g old) day request after × IsLeft after left)
 
--- Any request, of which at most one transaction is made.
+-- Any request, which makes at most one transaction.
 pub record Responds {S X : Type 0} (g : Ghosts S) (old new : Held S) (day : ℤ) (request : Request) (result : Result Said X) : Type 0 where
   pub lasts : Lasts g old new
   pub judged : IsOpen g new → IsResponse (desk g old) day request result (desk g new)
   pub crash : IsOpen g old → IsClean g new → LeavesStep g old new day request
   pub durable : IsOpen g new → LeavesOnly g new (desk g new)
 
--- what is said of a desk that is changed
+-- the answers after which the desk may have changed
 abbrev pub IsOfChange : Said → Type 0
 IsOfChange Done = Unit {0}
 IsOfChange (Checked outcome) = Unit {0}
 IsOfChange other = ⊥
 
--- the reply tells what is said; where it is not told, or there is no memory for it, that it is unavailable,
--- but never where the desk is changed
+-- the reply says the answer; if there is no answer, or no memory for the reply, it says that the
+-- desk is unavailable, but never after the desk has changed
 abbrev pub IsWritten : {X : Type 0} → Result Said X → Reply → Type 0
 IsWritten (Ok answer) reply = (reply ≡ reply_of answer) ⊎ ((reply ≡ UNAVAILABLE) × ¬ IsOfChange answer)
 IsWritten (Err fault) reply = reply ≡ UNAVAILABLE

@@ -1,4 +1,4 @@
--- The table of all files that are listed: CSV as the crate `csv` writes it with its defaults.
+-- The table of all listed files: CSV as the crate `csv` writes it with its defaults.
 use Rattle.std.specs.Prelude.{ℕ, List, [], ◌∷◌, ◌++◌, Option, Some, None, codes}
 use Rattle.std.specs.Fmt.{decimal}
 use Rattle.std.specs.List.{flat_map, join_by}
@@ -17,7 +17,7 @@ effect_word effect.Deny = codes "deny"
 effect_word effect.List = codes "list"
 effect_word effect.Read = codes "read"
 
--- a number, and nothing where there is none
+-- a number, or nothing if there is none
 abbrev pub number_text : Option ℕ → List ℕ
 number_text None = []
 number_text (Some n) = decimal n

@@ -6,6 +6,6 @@ use Rattle.rd_store.specs.State.{digest_cmp}
 use Rattle.rd_store.specs.declared.rows.Outcome.{Outcome}
 use Rattle.rd_store.specs.declared.rows.Outcome.TheVariants.{Sound, Changed}
 
--- of bytes and a digest: sound where the SHA-256 of the bytes is the digest, else changed
+-- for bytes and a digest: sound if the SHA-256 of the bytes is the digest, otherwise changed
 abbrev pub outcome_of : List ℕ → List ℕ → Outcome
 outcome_of bytes digest = cond (is_eq (digest_cmp (sha256 bytes) digest)) Sound Changed

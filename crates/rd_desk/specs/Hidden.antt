@@ -1,4 +1,4 @@
--- What a caller is not to see of an image, and that no reply rests on it.
+-- What a caller must not see of an image, and that no reply depends on it.
 use Rattle.std.specs.Prelude.{◌≡◌, ℕ, ℤ, List, Contains, IfSome, Option, None, Some}
 use Rattle.std.specs.FinMap.{get}
 use Rattle.rd_policy.specs.Verdicts.{IsVerdict}
@@ -26,8 +26,9 @@ pub record IsReadFile (image : ImageRow) (rules : List Rule) (audience : Audienc
   pub decided : IsVerdict (Contains rules) audience day file verdict
   pub read : verdict.effect ≡ Read
 
--- An image looks like another, which stands: both are of one kind and under one deed. The slots are those of the files
--- of the one that stands which may be read, and the two agree on all bytes that are needed to tell its files and to serve these.
+-- An image looks like another, which stands: both are of one kind and under one deed. The slots
+-- are those of the readable files of the one that stands, and the two agree on all bytes that are
+-- needed to describe its files and to serve the readable ones.
 pub record LooksLike (rules : List Rule) (audience : Audience) (day : ℤ) (standing image : ImageRow) : Type 0 where
   pub kind : image.kind ≡ standing.kind
   pub deed : image.deed ≡ standing.deed
@@ -60,7 +61,7 @@ abbrev pub HidesTheRest : Desk → ℤ → Request → Reply → Type 0
 HidesTheRest desk day request reply = ¬ IsForStaff request.what → (audience : Audience) (other : Desk) → IsCallerOf desk request audience
     → LooksAlike desk audience day other → Answers other day request reply other
 
--- what is replied to a question is replied in each desk that looks alike to the caller
+-- a question has the same reply in each desk that looks alike to the caller
 abbrev pub HiddenBytesAreNotTold : Type 0
 HiddenBytesAreNotTold = (desk other : Desk) (audience : Audience) (day : ℤ) (request : Request) (reply : Reply) (new : Desk)
     → ¬ IsForStaff request.what → IsCallerOf desk request audience → LooksAlike desk audience day other

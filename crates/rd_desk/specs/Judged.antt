@@ -1,4 +1,4 @@
--- What a request asks for, which refusals of it hold, and which of them is given.
+-- What a request asks for, which reasons to refuse it hold, and which of them the reply gives.
 use Rattle.std.specs.Prelude.{◌≡◌, ◌≢◌, ◌<◌, false, ℕ, ℤ, List, Contains, length, Option, Some, None, IsSomeAnd}
 use Rattle.std.specs.FinMap.{get}
 use Rattle.sha2.specs.Sha256.{sha256}
@@ -25,8 +25,8 @@ use Rattle.rd_desk.specs.declared.request.What.TheVariants.{Listing, Bytes, Surv
 
 -- ---- who asks, and what is named
 
--- the audience to which a caller belongs. Who shows no badge is of the public; who shows one is of the
--- audience of its key, and of none where no such key stands
+-- the audience of a caller. Without a badge they are of the public; with one they are of the
+-- audience of its key, and of none if no such key stands
 abbrev pub audience_of : Desk → Option (List ℕ) → Option Audience
 audience_of desk None = Some Public
 audience_of desk (Some badge) = get desk.keys badge
@@ -40,7 +40,7 @@ abbrev pub deed_at : Band → ℕ → Option ℕ
 deed_at Takedown scope = None
 deed_at Deed scope = Some scope
 
--- a request that names an accession is refused where none of that number stands
+-- a request that names an accession is refused if none of that number stands
 abbrev pub accession_of : What → Option ℕ
 accession_of (Listing acc) = Some acc
 accession_of (Bytes acc slot) = Some acc
@@ -50,14 +50,14 @@ accession_of (PutRule rule) = accession_at rule.band rule.scope
 accession_of (DropRule band scope rank) = accession_at band scope
 accession_of other = None
 
--- and one that names a deed is, where no such deed does
+-- and one that names a deed is refused if no such deed stands
 abbrev pub deed_of : What → Option ℕ
 deed_of (PutImage acc kind deed digest bytes) = Some deed
 deed_of (PutRule rule) = deed_at rule.band rule.scope
 deed_of (DropRule band scope rank) = deed_at band scope
 deed_of other = None
 
--- where the file is that shall be read: its accession and slot
+-- where the requested file is: its accession and slot
 abbrev pub file_of : What → Option (ℕ × ℕ)
 file_of (Bytes acc slot) = Some (acc, slot)
 file_of other = None
@@ -75,8 +75,8 @@ pub record JudgedFile : Type 0 where
   pub file : Found
   pub verdict : Verdict
 
--- It is the file that the request asks for, as it is in the image that stands, with the verdict of the rules
--- for the accession on it, to the caller on that day.
+-- It is the file that the request asks for, as it is in the image that stands, with the verdict of
+-- the accession's rules on it for the caller on that day.
 pub record IsJudgedFile (desk : Desk) (day : ℤ) (request : Request) (judged : JudgedFile) : Type 0 where
   pub accession : ℕ
   pub image : ImageRow
@@ -88,7 +88,7 @@ pub record IsJudgedFile (desk : Desk) (day : ℤ) (request : Request) (judged : 
   pub told : IsFound image.kind image.bytes judged.file
   pub decided : IsVerdict (Contains (rules_for desk accession)) audience day judged.file judged.verdict
 
--- what the request asks for: that file, or none, where there is no such file or the caller is unknown
+-- what the request asks for: that file, or none if there is no such file or the caller is unknown
 abbrev pub IsAsked : Desk → ℤ → Request → Option JudgedFile → Type 0
 IsAsked desk day request (Some judged) = IsJudgedFile desk day request judged
 IsAsked desk day request None = (judged : JudgedFile) → ¬ IsJudgedFile desk day request judged
@@ -121,7 +121,7 @@ module _ (desk : Desk) (request : Request) (asked : Option JudgedFile) where
   Holds DigestDiffers = IsSomeAnd (image_of request.what) (λ image. sha256 image.bytes ≢ image.digest)
   Holds Conflict = Conflicts desk request.what
 
-  -- of the reasons with a lower number none holds
+  -- no reason with a lower number holds
   abbrev pub PassesTo : ℕ → Type 0
   PassesTo number = (refusal : Refusal) → number_of refusal < number → ¬ Holds refusal
 

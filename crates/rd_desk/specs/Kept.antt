@@ -1,4 +1,4 @@
--- The contents of a file, as they are kept: the bytes of its image, and what is told of the file.
+-- The contents of a file, as they are kept: the bytes of its image, and the record of the file.
 use Rattle.std.specs.Prelude.{◌≡◌, ℕ, List, length}
 use Rattle.rd_geometry.specs.Kinds.{size_of}
 use Rattle.rd_volume.specs.Founds.{Fits, IsSoundFile}

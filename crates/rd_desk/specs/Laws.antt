@@ -18,8 +18,8 @@ abbrev pub AnswersStep : Type 0
 AnswersStep = (old : Desk) (day : ℤ) (request : Request) (reply : Reply) (new : Desk)
     → IsReply old day request reply new → IsStep old day request new
 
--- what is for the staff and leaves its caller's key as it is, asked again on the same day of the desk that it left,
--- has the same reply and leaves that desk
+-- a staff request that leaves its caller's key as it is, sent again on the same day to the desk
+-- that it left, has the same reply and leaves that desk
 abbrev pub SameAgain : Type 0
 SameAgain = (old : Desk) (day : ℤ) (request : Request) (reply : Reply) (new : Desk)
     → IsForStaff request.what → audience_of new request.badge ≡ audience_of old request.badge

@@ -1,5 +1,5 @@
--- What the steps of a query tell, in the order in which they are taken; what a query answers as a whole is said
--- without them.
+-- What the steps of a query say, in their order. What a query answers as a whole is stated without
+-- them.
 use Rattle.std.specs.Prelude.{◌≡◌, ◌≢◌, ◌⊎◌, ℕ, ℤ, List, [], ◌∷◌, Contains, Option, None, Some, length, true, false}
 use Rattle.std.specs.FinMap.{get}
 use Rattle.rd_geometry.specs.declared.kind.Kind.{Kind}
@@ -28,7 +28,7 @@ pub record Standing : Type 0 where
   pub image : ImageRow
   pub rules : List Rule
 
--- why a file of an image of a kind is not read, or nothing, where it is
+-- why the caller may not read a file of an image of a kind, or nothing if they may
 abbrev pub IsWithheldBy : Kind → Found → Verdict → Option Refusal → Type 0
 IsWithheldBy kind file verdict None = (verdict.effect ≡ Read) × IsSoundFile file
 IsWithheldBy kind file verdict (Some (Denied label)) = (verdict.effect ≢ Read) × (verdict.label ≡ label)
@@ -37,7 +37,7 @@ IsWithheldBy kind file verdict (Some (Faulty other faults)) =
     (verdict.effect ≡ Read) × (file.served_class ≡ true) × (file.faults ≢ 0) × (other ≡ kind) × (faults ≡ file.faults)
 IsWithheldBy kind file verdict other = ⊥
 
--- by the verdict of these rules on it
+-- the same, by the verdict of these rules on it
 abbrev pub IsWithheld : Kind → List Rule → Audience → ℤ → Found → Option Refusal → Type 0
 IsWithheld kind rules audience day file refusal =
     (verdict : Verdict) × IsVerdict (Contains rules) audience day file verdict × IsWithheldBy kind file verdict refusal
@@ -70,7 +70,7 @@ IsRead holding audience day slot other = ⊥
 
 -- ---- listings
 
--- the lines are these files in turn, each with the verdict on it, but for those that are denied
+-- the lines are these files in turn, each with the verdict on it, except those that are denied
 abbrev pub AreLinesOf : List Rule → Audience → ℤ → List Found → List Line → Type 0
 AreLinesOf rules audience day [] lines = lines ≡ []
 AreLinesOf rules audience day (file ∷ files) lines =
@@ -87,7 +87,7 @@ pub record IsCounted (desk : Desk) (audience : Audience) (day : ℤ) (acc : ℕ)
   pub listed : AreLines image (rules_for desk acc) audience day lines
   pub is : line ≡ record { accession = acc; deed = image.deed; kind = image.kind; files = length lines }
 
--- the lines are these accessions in turn, but for those of which nothing is listed
+-- the lines are these accessions in turn, except those without a listed file
 abbrev pub AreLinesOfEach : Desk → Audience → ℤ → List ℕ → List ImageLine → Type 0
 AreLinesOfEach desk audience day [] lines = lines ≡ []
 AreLinesOfEach desk audience day (acc ∷ accs) lines =

@@ -1,10 +1,11 @@
--- Why a request is refused: the number that orders the reasons, the name that a reply tells, and its status.
+-- Why the desk refuses a request: the number that orders the reasons, the name that the reply
+-- gives, and its status.
 use Rattle.std.specs.Prelude.{ℕ, List, codes}
 use Rattle.rd_desk.specs.declared.refusal.Refusal.{Refusal}
 use Rattle.rd_desk.specs.declared.refusal.Refusal.TheVariants.{UnknownKey, StaffOnly, BadBody, NoAccession, NoFile, NoDeed, Denied, ListedOnly, Faulty, WrongSize, DigestDiffers, Conflict}
 
--- of the refusals that hold the one with the lowest number is given; 1 to 4 are those of a request that is
--- none, before it comes to the desk
+-- if several reasons hold, the reply gives the one with the lowest number; 1 to 4 are for bytes
+-- that are no request, which do not reach the desk
 abbrev pub number_of : Refusal → ℕ
 number_of UnknownKey = 5
 number_of StaffOnly = 6
@@ -33,7 +34,7 @@ name_of WrongSize = codes "wrong-size"
 name_of DigestDiffers = codes "digest-differs"
 name_of Conflict = codes "conflict"
 
--- the status of HTTP
+-- the HTTP status
 abbrev pub status_of : Refusal → ℕ
 status_of UnknownKey = 401
 status_of StaffOnly = 403

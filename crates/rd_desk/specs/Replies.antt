@@ -29,19 +29,20 @@ use Rattle.rd_desk.specs.declared.said.Survey.{Survey as Surveyed}
 
 -- ---- what is listed
 
--- A file of an image as it is listed: told as it is, with the verdict of the rules on it, which is not to deny.
+-- A listed file of an image: described correctly, with the verdict of the rules on it, which is
+-- not to deny.
 pub record IsLine (image : ImageRow) (rules : List Rule) (audience : Audience) (day : ℤ) (line : Line) : Type 0 where
   pub told : IsFound image.kind image.bytes line.file
   pub decided : IsVerdict (Contains rules) audience day line.file line.verdict
   pub shown : line.verdict.effect ≢ Deny
 
--- The files of an image that are listed, by slot: each of these is one, and none is left out.
+-- The listed files of an image, by slot: each of these is one, and none is left out.
 pub record AreLines (image : ImageRow) (rules : List Rule) (audience : Audience) (day : ℤ) (lines : List Line) : Type 0 where
   pub each : All (IsLine image rules audience day) lines
   pub ascending : AllPairs (λ one other. one.file.slot < other.file.slot) lines
   pub complete : (line : Line) → IsLine image rules audience day line → Contains lines line
 
--- An accession as it is told: it stands, and as many of its files are listed, at least one.
+-- The line of an accession: it stands, and so many of its files are listed, at least one.
 pub record IsImageLine (desk : Desk) (audience : Audience) (day : ℤ) (line : ImageLine) : Type 0 where
   pub image : ImageRow
   pub lines : List Line
@@ -52,7 +53,8 @@ pub record IsImageLine (desk : Desk) (audience : Audience) (day : ℤ) (line : I
   pub count : line.files ≡ length lines
   pub some : line.files ≢ 0
 
--- The accessions of which a file is listed, ascending: each of these is one, and none is left out.
+-- The accessions with at least one listed file, ascending: each of these is one, and none is left
+-- out.
 pub record AreImageLines (desk : Desk) (audience : Audience) (day : ℤ) (lines : List ImageLine) : Type 0 where
   pub each : All (IsImageLine desk audience day) lines
   pub ascending : AllPairs (λ one other. one.accession < other.accession) lines
@@ -60,7 +62,7 @@ pub record AreImageLines (desk : Desk) (audience : Audience) (day : ℤ) (lines 
 
 -- ---- what is said
 
--- The accession that is asked for, as it is listed.
+-- The requested accession, as it is listed.
 pub record IsListing (desk : Desk) (audience : Audience) (day : ℤ) (acc : ℕ) (listing : Lines) : Type 0 where
   pub image : ImageRow
   pub standing : get desk.images acc ≡ Some image
@@ -98,7 +100,7 @@ pub record IsSurvey (desk : Desk) (acc : ℕ) (survey : Surveyed) : Type 0 where
   pub given : get desk.deeds image.deed ≡ Some deed
   pub told : IsSurveyOf acc image deed survey
 
--- what is said to a request that is accepted; a file is served only where the verdict on it is to read
+-- the answer to an accepted request; the desk serves a file only if the verdict on it is to read
 abbrev pub Tells : Desk → Audience → ℤ → Option JudgedFile → Said → What → Type 0
 Tells desk audience day file said.Done what = IsPutOrDrop what
 Tells desk audience day file (said.Images lines) Images = AreImageLines desk audience day lines
@@ -148,22 +150,22 @@ pub record IsDone (old : Desk) (day : ℤ) (request : Request) (answer : Said) (
   pub tells : Tells old audience day file answer request.what
   pub after : new ≡ carried_out day request.what old
 
--- what is said to a request on a day, and the desk after it
+-- the answer to a request on a day, and the desk after it
 abbrev pub IsAnswered : Desk → ℤ → Request → Said → Desk → Type 0
 IsAnswered old day request (said.Refused refusal) new = IsRefusedOn old day request refusal × (new ≡ old)
 IsAnswered old day request answer new = IsDone old day request answer new
 
--- A request is replied to: something is answered, and the reply is its text.
+-- A request has a reply: there is an answer, and the reply is its text.
 pub record IsReply (old : Desk) (day : ℤ) (request : Request) (reply : Reply) (new : Desk) : Type 0 where
   pub answer : Said
   pub answered : IsAnswered old day request answer new
   pub written : reply ≡ reply_of answer
 
--- There was no answer, for want of memory or of the store, and nothing has changed.
+-- There was no answer, because memory or the store failed, and nothing has changed.
 pub record IsUnavailable (old : Desk) (reply : Reply) (new : Desk) : Type 0 where
   pub written : reply ≡ UNAVAILABLE
   pub after : new ≡ old
 
--- a request is answered; or it is unavailable, and counts as none
+-- the desk replies to a request; or it is unavailable, and nothing changes
 abbrev pub Answers : Desk → ℤ → Request → Reply → Desk → Type 0
 Answers old day request reply new = IsReply old day request reply new ⊎ IsUnavailable old reply new

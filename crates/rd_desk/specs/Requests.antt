@@ -1,5 +1,5 @@
--- What may be asked: the limits of its values, and which of it is for the staff. The limits are this
--- project's.
+-- What a caller may ask: the limits of its values, and what only the staff may ask. The limits are
+-- this project's.
 use Rattle.std.specs.Prelude.{◌≢◌, ◌≤◌}
 use Rattle.rd_policy.specs.Rules.{IsScope, IsRank, IsRule}
 use Rattle.rd_policy.specs.declared.audience.Audience.TheVariants.{Public}
@@ -23,7 +23,8 @@ IsRequest (PutKey digest audience) = audience ≢ Public
 IsRequest (DropKey digest) = Unit {0}
 IsRequest Unread = Unit {0}
 
--- to put something or to take it away, also where the body of the request could not be read; it is told that this is done
+-- to put something or to take it away, also when the body of the request cannot be read; the reply
+-- says that it is done
 abbrev pub IsPutOrDrop : What → Type 0
 IsPutOrDrop Images = ⊥
 IsPutOrDrop (Listing acc) = ⊥

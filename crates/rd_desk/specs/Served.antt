@@ -15,19 +15,21 @@ use Rattle.rd_desk.specs.declared.request.Request.{Request}
 use Rattle.rd_desk.specs.declared.said.Reply.{Reply}
 use Rattle.rd_desk.specs.declared.said.Said.TheVariants.{Refused}
 
--- What is for the staff, asked without a badge: the reply is that it is so, and the store is not touched.
+-- A staff request without a badge: the reply says that only the staff may ask it, and the store is
+-- not touched.
 pub record IsTurnedAway {S : Type 0} (old new : Held S) (request : Request) (reply : Reply) : Type 0 where
   pub nobody : request.badge ≡ None
   pub for_staff : IsForStaff request.what
   pub told : reply ≡ reply_of (Refused StaffOnly)
   pub same : new ≡ old
 
--- While the connection is open after the call, the request was answered or is unavailable, no crash leaves
--- anything but the desk as it now is, the staff has a key, and what is for the staff and left its caller's
--- key as it was has the same reply once more. Where all that was written came back from the disk, the connection is
--- open after any reply but that of unavailability, unless the caller was turned away and the store not used; and
--- if it was open before the call, a crash leaves the old desk or that of the step. The reply to a question rests on
--- nothing that is hidden from its caller.
+-- While the connection is open after the call, the request has its reply or the desk is
+-- unavailable, a crash leaves the desk as it now is and nothing else, there is a staff key, and a
+-- staff request that left its caller's key as it was gets the same reply once more. If all that
+-- was written came back from the disk, the connection is open after any reply but that of
+-- unavailability, unless the caller was turned away without use of the store; and if it was open
+-- before the call, a crash leaves the old desk or the one after the step. The reply to a question
+-- depends on nothing that is hidden from its caller.
 pub record Serves {S : Type 0} (g : Ghosts S) (old new : Held S) (day : ℤ) (request : Request) (reply : Reply) : Type 0 where
   pub lasts : Lasts g old new
   pub answers : IsOpen g new → Answers (desk g old) day request reply (desk g new)

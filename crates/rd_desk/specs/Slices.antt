@@ -5,7 +5,7 @@ use Rattle.rd_geometry.specs.declared.kind.Kind.{Kind}
 use Rattle.rd_volume.specs.Kinds.{room_of, unit_count_of}
 use Rattle.rd_volume.specs.Parts.{bytes_of_part, parts_of}
 
--- those of some pieces that are not empty
+-- the pieces that are not empty
 abbrev pub not_empty : List (List ℕ) → List (List ℕ)
 not_empty [] = []
 not_empty ([] ∷ pieces) = not_empty pieces

@@ -33,7 +33,7 @@ use Rattle.rd_desk.specs.declared.said.Survey.{Survey}
 abbrev pub natural : ℕ → Data
 natural n = number (unsigned n)
 
--- a number, or null where there is none
+-- a number, or null if there is none
 abbrev pub natural_or_null : Option ℕ → Data
 natural_or_null None = null
 natural_or_null (Some n) = natural n
@@ -46,7 +46,7 @@ texts words = array (items_of (map (λ word. string word) words))
 abbrev pub rule_member : List ℕ → Members
 rule_member rule = member (codes "rule") (string rule) no_members
 
--- what is told of a refusal beside its name: the rule by which it is, or the faults
+-- what a reply says of a refusal beside its name: the rule that decided, or the faults
 abbrev pub detail_of : Refusal → Members
 detail_of UnknownKey = rule_member (codes "K0")
 detail_of StaffOnly = rule_member (codes "S0")
@@ -117,12 +117,13 @@ counts_data map =
     (member (codes "unclaimed_used") (natural map.unclaimed_used)
     (member (codes "wrong_counts") (natural map.wrong_counts) no_members)))
 
--- what the block map differs in; a CP/M disk has none
+-- how the block map differs from the blocks in use; a CP/M disk has none
 abbrev pub map_data : Kind → MapReport → Data
 map_data Cpm8 map = null
 map_data D64 map = counts_data map
 
--- a survey, with the word of a kind, of the directory's end, and what is told of the block map
+-- a survey, with the words for the kind and for the directory's end, and the value for the block
+-- map
 abbrev pub survey_data : List ℕ → List ℕ → Data → Survey → Data
 survey_data kind directory map survey =
     object
@@ -158,7 +159,7 @@ DONE = object (member (codes "done") (boolean true) no_members)
 abbrev pub in_json : ℕ → Data → Reply
 in_json status said = record { status = status; form = Json; body = compact_text said }
 
--- the reply that says it
+-- the reply that says the answer
 abbrev pub reply_of : Said → Reply
 reply_of (Refused refusal) = in_json (status_of refusal) (error_data (name_of refusal) (detail_of refusal))
 reply_of Done = in_json 200 DONE
@@ -169,6 +170,6 @@ reply_of (Catalogue listings) = record { status = 200; form = Csv; body = catalo
 reply_of (Surveyed survey) = in_json 200 (surveyed_data survey)
 reply_of (Checked found) = in_json 200 (outcome_data found)
 
--- the reply where the database fails, or memory is wanting
+-- the reply when the database fails, or memory runs out
 abbrev pub UNAVAILABLE : Reply
 UNAVAILABLE = in_json 503 (error_data (codes "unavailable") no_members)

@@ -1,4 +1,5 @@
-//! What the desk asks of its store: each call fails with `Unavailable` where the store or memory fails.
+//! The desk's calls of its store. Each fails with `Unavailable` when the store fails or memory
+//! runs out.
 
 ghost use Rattle.std.specs.Prelude.{◌≡◌, ◌++◌, IfOk, is_some, map, option_map};
 ghost use Rattle.std.specs.FinMap.{entries, get};
@@ -43,7 +44,7 @@ impl From<AllocError> for Unavailable {
     }
 }
 
-/// The audience of the desk key with a digest; `None` where there is no such key.
+/// The audience of the desk key with a digest; `None` if there is no such key.
 pub(crate) fn audience<S: Alter>(
     store: &mut Store<S>,
     digest: &[u8; 32],
@@ -53,7 +54,7 @@ pub(crate) fn audience<S: Alter>(
     Ok(store.audience_of(digest)?)
 }
 
-/// The deed with a number, if there is one.
+/// The deed with a number; `None` if there is none.
 pub(crate) fn deed<S: Alter>(store: &mut Store<S>, num: u32) -> Result<Option<DeedRow>, Unavailable>
     ensures looks { Looks S.Store store.old store.new result (λ found. found ≡ get (desk S.Store store.old).deeds num) }
 {
@@ -77,7 +78,7 @@ pub(crate) fn register<S: Alter>(
     Ok(store.register(alloc)?)
 }
 
-/// The image at an accession, if one stands there.
+/// The image at an accession; `None` if there is none.
 pub(crate) fn image<S: Alter>(
     store: &mut Store<S>,
     alloc: Global,
@@ -88,7 +89,7 @@ pub(crate) fn image<S: Alter>(
     Ok(store.image(alloc, acc)?)
 }
 
-/// The kind and the deed of an accession, if it stands.
+/// The kind and the deed of an accession; `None` if it does not stand.
 pub(crate) fn accession<S: Alter>(
     store: &mut Store<S>,
     acc: u32,
@@ -98,7 +99,7 @@ pub(crate) fn accession<S: Alter>(
     Ok(store.accession(acc)?)
 }
 
-/// The files of an accession, by slot; none where it does not stand.
+/// The files of an accession, by slot; none if it does not stand.
 pub(crate) fn files<S: Alter>(
     store: &mut Store<S>,
     alloc: Global,
@@ -109,7 +110,7 @@ pub(crate) fn files<S: Alter>(
     Ok(Items::of(store.found(alloc, acc)?))
 }
 
-/// The file at a slot of an accession, if there is one.
+/// The file at a slot of an accession; `None` if there is none.
 pub(crate) fn file_at<S: Alter>(
     store: &mut Store<S>,
     alloc: Global,
@@ -121,8 +122,8 @@ pub(crate) fn file_at<S: Alter>(
     Ok(store.found_at(alloc, acc, slot)?)
 }
 
-/// The takedowns of an accession and then the rules of its deed, in order. That they are is tested: of a
-/// connection that a fault has shut, nothing is known.
+/// The takedowns of an accession and then the rules of its deed, in order. It tests the order,
+/// because nothing is known of a connection that a fault has shut.
 fn rules<S: Alter>(
     store: &mut Store<S>,
     alloc: Global,
@@ -141,7 +142,8 @@ fn rules<S: Alter>(
     }
 }
 
-/// What is held of an accession that stands, whose kind and deed these are: with the rules for its files, in order.
+/// An accession that stands, with this kind and this deed, together with the rules for its files,
+/// in order.
 pub(crate) fn hold<S: Alter>(
     store: &mut Store<S>,
     alloc: Global,

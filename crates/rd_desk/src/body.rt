@@ -20,13 +20,13 @@ pub struct Body {
 /// What holds the bytes of a body.
 #[derive(Drop)]
 enum Inner {
-    /// A text of the program itself, for which no memory is taken.
+    /// A text of the program itself. It takes no memory.
     Fixed(&'static str),
-    /// A text that was written for the reply.
+    /// A text written for the reply.
     Written(Text),
-    /// A table that was written for the reply.
+    /// A table written for the reply.
     Table(Items<u8>),
-    /// The contents of a file, as its image and what is told of it.
+    /// The contents of a file: its image, and the record of the file.
     File(Contents),
 }
 
@@ -50,7 +50,7 @@ impl Body {
         }
     }
 
-    /// A text that was written.
+    /// A text written for the reply, as a body.
     pub(crate) fn text(text: Text) -> Body
         ensures { result ≡ text }
     {
@@ -59,7 +59,7 @@ impl Body {
         }
     }
 
-    /// A table that was written.
+    /// A table written for the reply, as a body.
     pub(crate) fn table(bytes: Items<u8>) -> Body
         ensures { result ≡ bytes }
     {
@@ -89,9 +89,10 @@ impl Body {
         }
     }
 
-    /// Its bytes in pieces, in order. No piece is empty, so an empty body has none. A text or a table is one piece;
-    /// of a file each is a slice of its image, which the body keeps: of the unit of the disk that holds these bytes,
-    /// from its first byte on in a CP/M sector, and from its third, past the link, in a 1541 block.
+    /// Its bytes in pieces, in order. No piece is empty, so an empty body has none. A text or a
+    /// table is one piece. Each piece of a file is a slice of its image, which the body keeps: it
+    /// lies in the unit of the disk that holds these bytes, and begins at the first byte of a CP/M
+    /// sector, or at the third byte of a 1541 block, after the link.
     pub fn pieces(&self) -> BodyPieces<'_>
         ensures whole { concat (pieces_left result) ≡ self.now }
         ensures filled { All (λ piece. 0 < length piece) (pieces_left result) }
@@ -107,7 +108,7 @@ impl Body {
 }
 
 /// The pieces of a body that are still to come, in order: slices that the body lends, none of them
-/// empty. They take no memory.
+/// empty. The iterator takes no memory.
 #[derive(Drop)]
 pub struct BodyPieces<'a> {
     left: Left<'a>,
@@ -122,7 +123,7 @@ enum Left<'a> {
     File(Pieces<'a>),
 }
 
-/// A text as one piece, or as none where it is empty.
+/// A text as one piece, or as none if it is empty.
 fn pieces_of_text(text: &[u8]) -> BodyPieces<'_>
     ensures whole { concat (pieces_left result) ≡ text.now }
     ensures filled { All (λ piece. 0 < length piece) (pieces_left result) }
@@ -144,7 +145,7 @@ fn pieces_of_file(contents: &Contents) -> BodyPieces<'_>
     }
 }
 
-/// What is left of a text, where it is anything.
+/// The rest of a text, if any is left.
 fn next_of_text<'a>(rest: &mut &'a [u8]) -> Option<&'a [u8]>
     ensures { YieldsFirstBy (λ piece. piece.now) (λ rest. in_one_piece rest.now) rest.old result rest.new }
 {

@@ -1,4 +1,4 @@
-//! The table of all files that are listed, as a text of CSV.
+//! The table of all listed files, as CSV.
 
 ghost use Rattle.std.specs.Prelude.{◌≡◌, ◌++◌, IfOk, OnOk, List, map, ℕ};
 ghost use Rattle.std.specs.List.{flat_map};
@@ -28,14 +28,14 @@ const COLUMNS: [&[u8]; 11] = [
     b"effect",
 ];
 
-/// A text of its own.
+/// A copy of a text.
 fn cell(alloc: Global, text: &str) -> Result<Text, NoMemory>
     ensures { IfOk result (λ cell. cell ≡ text.now) }
 {
     Ok(Text::of(String::from_str(alloc, text)?))
 }
 
-/// A number as it is written, and nothing where there is none.
+/// A number in decimal digits, or an empty text if there is none.
 fn number(alloc: Global, number: Option<u32>) -> Result<Text, NoMemory>
     ensures { IfOk result (λ cell. cell ≡ number_text number) }
 {
@@ -45,14 +45,14 @@ fn number(alloc: Global, number: Option<u32>) -> Result<Text, NoMemory>
     }
 }
 
-/// A user, and nothing where there is none.
+/// A user number in decimal digits, or an empty text if there is none.
 fn user(alloc: Global, user: Option<u8>) -> Result<Text, NoMemory>
     ensures { IfOk result (λ cell. cell ≡ number_text user) }
 {
     number(alloc, user.map(u32::from))
 }
 
-/// The words of the faults whose bits are set, with one blank between each.
+/// The words of the faults whose bits are set, with one blank between them.
 fn faults(alloc: Global, kind: Kind, faults: u8) -> Result<Text, NoMemory>
     ensures { IfOk result (λ cell. cell ≡ faults_text kind faults) }
 {
@@ -150,7 +150,7 @@ fn write_listings(
     Ok(())
 }
 
-/// The table, with a line of the names of its columns. It fails only where memory is refused.
+/// The table, with a line of the names of its columns. It fails only when memory runs out.
 pub(crate) fn table(alloc: Global, listings: &[Listing]) -> Result<Items<u8>, NoMemory>
     ensures { IfOk result (λ table. table ≡ catalogue_text listings.now) }
 {

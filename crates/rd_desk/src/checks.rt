@@ -14,8 +14,9 @@ pub(crate) fn has_digest(bytes: &[u8], digest: &[u8; 32]) -> bool
     Sha256::digest(bytes) == *digest
 }
 
-/// What a check of bytes and the digest that was given for them finds: `Sound` exactly where the digest is the
-/// SHA-256 of the bytes (FIPS 180-4), and else `Changed`. It takes no memory.
+/// What a check finds, from the bytes of an image and the digest given for them: `Sound` exactly
+/// when the digest is the SHA-256 of the bytes (FIPS 180-4), and otherwise `Changed`. It takes no
+/// memory.
 pub fn check_row(bytes: &[u8], digest: &[u8; 32]) -> Outcome
     ensures sound { (result ≡ Outcome.Sound) ↔ (sha256 bytes.now ≡ digest.now) }
     ensures outcome { result ≡ outcome_of bytes.now digest.now }

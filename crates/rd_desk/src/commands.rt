@@ -1,5 +1,6 @@
-//! What is for the staff. Whoever calls these functions knows that the staff asks. Each makes one transaction
-//! at most, as its last step, and tells that it is done only once that is committed.
+//! What only the staff may do. Callers of these functions have checked that the caller is staff.
+//! Each makes at most one transaction, as its last step, and says that it is done only after the
+//! commit.
 
 ghost use Rattle.std.specs.Prelude.{◌≡◌, ◌≢◌, IsSome, Some, length, ℤ};
 ghost use Rattle.std.specs.FinMap.{get};
@@ -26,7 +27,7 @@ use rd_store::{Store, StoreFault};
 use sqlite::Alter;
 use std::alloc::Global;
 
-/// What is missing where the accession of a takedown, or the deed of a rule, does not stand.
+/// The refusal when the accession of a takedown, or the deed of a rule, does not stand.
 fn missing(band: Band) -> Refusal
     ensures { result ≡ missing_of band }
 {
@@ -121,7 +122,7 @@ fn drop_key<S: Alter>(
     }
 }
 
-/// Puts an image whose length, SHA-256 and deed were found right.
+/// Puts an image whose length, SHA-256 and deed have been checked.
 fn commit_image<S: Alter>(
     store: &mut Store<S>,
     alloc: Global,
@@ -146,7 +147,7 @@ fn commit_image<S: Alter>(
     }
 }
 
-/// Puts an image. Its bytes are digested once.
+/// Puts an image. It computes the SHA-256 of the bytes once.
 fn put_image<S: Alter>(
     store: &mut Store<S>,
     alloc: Global,
@@ -173,7 +174,7 @@ fn put_image<S: Alter>(
     commit_image(store, alloc, badge, acc, kind, deed, digest, bytes)
 }
 
-/// Refuses a command of which the body was not understood.
+/// Refuses a command whose body cannot be read.
 fn unread<S: Alter>(store: &mut Store<S>, badge: &Option<[u8; 32]>) -> Result<Said, Unavailable>
     requires known { IsOpen S.Store store.old → audience_of (desk S.Store store.old) badge.now ≡ Some Audience.Staff }
     ensures { (day : ℤ) → Carries S.Store store.old store.new day (record { badge = badge.now; what = What.Unread }) result }
@@ -183,7 +184,7 @@ fn unread<S: Alter>(store: &mut Store<S>, badge: &Option<[u8; 32]>) -> Result<Sa
     Ok(Said::Refused(Refusal::BadBody))
 }
 
-/// Checks the image of an accession, and records on the day what was found.
+/// Checks the image of an accession, and records the finding under the day.
 fn check<S: Alter>(
     store: &mut Store<S>,
     alloc: Global,
@@ -204,7 +205,7 @@ fn check<S: Alter>(
     Ok(Said::Checked(outcome))
 }
 
-/// Does what the staff asks for.
+/// Does what a request of the staff asks.
 pub(crate) fn command<S: Alter>(
     store: &mut Store<S>,
     alloc: Global,

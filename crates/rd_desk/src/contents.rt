@@ -8,8 +8,9 @@ use rd_geometry::{Image, Items, Kind};
 use rd_volume::{Found, Pieces, pieces};
 use std::marker::Model;
 
-/// The contents of a sound file, which contracts see as the list of their bytes. They keep the bytes of the image and
-/// what is told of the file, and lend slices of the image: no byte of the file is copied.
+/// The contents of a sound file, which contracts see as the list of their bytes. They keep the
+/// bytes of the image and the record of the file, and lend slices of the image: they copy no byte
+/// of the file.
 #[derive(Drop)]
 pub struct Contents {
     kind: Kind,
@@ -30,7 +31,7 @@ impl Model for Contents {
     ghost invariant = { IsKept };
 }
 
-/// How many bytes the pieces of a file have together; `None` where they cannot be lent.
+/// How many bytes the pieces of a file have together; `None` if they cannot be lent.
 fn count(kind: Kind, image: &[u8], file: &Found) -> Option<usize>
     ensures taken { IsSome result ↔ CanBeLent kind image.now file.now }
     ensures len { IfSome result (λ len. len ≡ length (contents_of kind image.now file.now)) }
@@ -52,10 +53,12 @@ impl Contents {
     ghost use Rattle.std.specs.List.{concat};
     ghost use Rattle.rd_volume.specs.PiecesLeft.{pieces_left};
 
-    /// The contents of a file of an image of a kind, of which these are the bytes. It takes no memory.
+    /// The contents of a file of an image, from the kind and the bytes of the image. It takes no
+    /// memory.
     ///
-    /// It is `None` exactly where the bytes are not as many as an image of the kind has, where the file is not sound
-    /// or does not lie in the image, and where its pieces have 2^64 bytes or more together.
+    /// It is `None` exactly when the bytes are not as many as an image of the kind has, when the
+    /// file is not sound or does not lie in the image, and when its pieces have 2^64 bytes or more
+    /// together.
     pub fn of(kind: Kind, image: Items<u8>, file: Found) -> Option<Contents>
         ensures taken { IsSome result ↔ CanBeLent kind image file }
         ensures bytes { IfSome result (λ contents. contents ≡ contents_of kind image file) }
@@ -76,7 +79,8 @@ impl Contents {
         self.len
     }
 
-    /// Their pieces, in order: for each unit of the file a slice of the image, and the last one may be empty.
+    /// Their pieces, in order: for each unit of the file a slice of the image. The last one may be
+    /// empty.
     pub(crate) fn pieces(&self) -> Pieces<'_>
         ensures { concat (pieces_left result) ≡ self.now }
     {

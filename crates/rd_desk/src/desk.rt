@@ -1,4 +1,4 @@
-//! The desk: who sees what, by which rule, and what becomes of the tables.
+//! The desk: who sees what, by which rule, and how the tables change.
 
 ghost use Rattle.std.specs.Prelude.{◌≡◌, ◌↔◌, Ok, IsOk, IfOk, IfErr, Some, None};
 ghost use Rattle.sqlite.specs.Steps.{over_memory};
@@ -23,7 +23,7 @@ use rd_store::{Store, memory_stays_open};
 use sqlite::{Alter, MemStore};
 use std::alloc::Global;
 
-/// What is said to a caller who is known.
+/// The answer to a caller whose audience is known.
 fn respond<S: Alter>(
     store: &mut Store<S>,
     alloc: Global,
@@ -46,7 +46,7 @@ fn respond<S: Alter>(
     command(store, alloc, caller, request)
 }
 
-/// What is said to a caller with a badge.
+/// The answer to a caller with a badge.
 fn respond_to_badge<S: Alter>(
     store: &mut Store<S>,
     alloc: Global,
@@ -66,7 +66,8 @@ fn respond_to_badge<S: Alter>(
     respond(store, alloc, &Caller { audience, day }, request)
 }
 
-/// What is said to a caller without a badge. What is for the staff is refused, and the store is not touched then.
+/// The answer to a caller without a badge. It refuses what only the staff may do, without touching
+/// the store.
 fn respond_to_public<S: Alter>(
     store: &mut Store<S>,
     alloc: Global,
@@ -86,7 +87,8 @@ fn respond_to_public<S: Alter>(
     query(store, alloc, &Caller { audience, day }, request)
 }
 
-/// What is said as a reply; where it was not told, or there is no memory for it, that it is unavailable.
+/// The reply that says an answer; if there is no answer, or no memory for the reply, it says that
+/// the desk is unavailable.
 fn reply_with(alloc: Global, said: Result<Said, Unavailable>) -> Reply
     ensures { IsWritten said result }
 {
@@ -154,7 +156,7 @@ pub struct Desk<S: Alter> {
 }
 
 impl<S: Alter> Desk<S> {
-    /// A desk over a store. Its clocks are those of the zone. The store is not touched.
+    /// A desk over a store, with the clocks of a zone. It does not touch the store.
     pub fn new(store: Store<S>, zone: Zone) -> Desk<S>
         ensures store { result.store ≡ store }
         ensures zone { result.zone ≡ zone }
@@ -165,8 +167,8 @@ impl<S: Alter> Desk<S> {
     /// The day of a moment by the desk's clocks, counted from 1970-01-01. The moment is in seconds since
     /// 1970-01-01T00:00:00 UTC.
     ///
-    /// It fails with `OutOfRange` exactly where the moment is before 0001-01-03T00:00:00 UTC or after
-    /// 9999-12-29T23:59:59 UTC.
+    /// It fails with `OutOfRange` exactly when the moment is before 0001-01-03T00:00:00 UTC or
+    /// after 9999-12-29T23:59:59 UTC.
     pub fn day(&self, seconds: i64) -> Result<i32, DayFault>
         ensures taken { IsOk result ↔ HasDay seconds }
         ensures day { IfOk result (λ day. day ≡ day_number seconds self.now.zone) }
@@ -184,10 +186,10 @@ impl<S: Alter> Desk<S> {
         store
     }
 
-    /// The reply to a request whose values are within their limits (`Request::fits`), at a moment in seconds
-    /// since 1970-01-01T00:00:00 UTC that has a day (`Desk::day`). Its status is 200, that of a `Refusal`, or
-    /// 503, where the store failed or `alloc` had no memory. A command and a check are done whole or not at all,
-    /// and no change comes before a 503.
+    /// The reply to a request whose values are within their limits (`Request::fits`), at a moment
+    /// in seconds since 1970-01-01T00:00:00 UTC that has a day (`Desk::day`). Its status is 200,
+    /// that of a `Refusal`, or 503 when the store fails or `alloc` has no memory. The desk carries
+    /// out a command or a check whole or not at all, and changes nothing before a 503.
     pub fn answer(&mut self, alloc: Global, seconds: i64, request: &Request) -> Reply
         requires moment { HasDay seconds }
         requires fits { IsRequest request.now.what }
@@ -202,7 +204,8 @@ impl<S: Alter> Desk<S> {
     }
 }
 
-/// `Desk::answer` of a desk in memory, where no disk can fail: the request is answered, or unavailable.
+/// `Desk::answer` of a desk in memory, where no disk can fail: the desk answers the request, or is
+/// unavailable.
 pub fn answer_in_memory(
     desk: &mut Desk<MemStore>,
     alloc: Global,

@@ -15,8 +15,8 @@ use rd_volume::Found;
 use sqlite::Alter;
 use std::alloc::Global;
 
-/// The contents of a file of an image, which keep its bytes. That the file is sound and lies in the image is
-/// tested: of a connection that a fault has shut, nothing is known.
+/// The contents of a file of an image, which keep its bytes. It tests that the file is sound and
+/// lies in the image, because nothing is known of a connection that a fault has shut.
 fn contents_in(image: ImageRow, file: Found) -> Result<Contents, Unavailable>
     ensures { IsFound image.kind image.bytes file → IfOk result (AreBytesOf image.kind image.bytes file.slot) }
 {

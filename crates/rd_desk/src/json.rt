@@ -1,4 +1,4 @@
-//! What is said, as a reply: texts of JSON, the table of the catalogue, and the bytes of files.
+//! Answers as replies: JSON, the table of the catalogue, and the bytes of files.
 
 ghost use Rattle.std.specs.Prelude.{◌≡◌, false, IfOk};
 ghost use Rattle.serde_json.specs.Data.{no_members, string};
@@ -37,14 +37,14 @@ fn fault_values(alloc: Global, kind: Kind, faults: u8) -> Result<Value, AllocErr
     Ok(Value::Array(list))
 }
 
-/// An error that has nothing beside its name.
+/// An error with its name alone.
 fn plain_error(alloc: Global, name: &str) -> Result<Value, AllocError>
     ensures { IfOk result (λ value. view value ≡ error_data name.now no_members) }
 {
     json!(in alloc; {"error": name})
 }
 
-/// An error, and the label of the rule by which it is.
+/// An error with its name and the label of the rule that decided.
 fn ruled_error(alloc: Global, name: &str, rule: &str) -> Result<Value, AllocError>
     ensures { IfOk result (λ value. view value ≡ error_data name.now (rule_member rule.now)) }
 {
@@ -83,7 +83,8 @@ fn counts_value(alloc: Global, map: &MapReport) -> Result<Value, AllocError>
     })
 }
 
-/// What the block map of an image of a kind differs in: null where the kind has none.
+/// How the block map of an image differs from the blocks in use; null for a kind that has no block
+/// map.
 fn map_value(alloc: Global, kind: Kind, map: &MapReport) -> Result<Value, AllocError>
     ensures { IfOk result (λ value. view value ≡ map_data kind map.now) }
 {
@@ -93,7 +94,8 @@ fn map_value(alloc: Global, kind: Kind, map: &MapReport) -> Result<Value, AllocE
     }
 }
 
-/// A survey, with the word of a kind, of the directory's end, and what is told of the block map.
+/// A survey, with the words for the kind and for the directory's end, and the value for the block
+/// map.
 fn survey_value(
     alloc: Global,
     kind: &str,
@@ -149,7 +151,7 @@ fn fixed_reply(status: u16, text: &'static str) -> Reply
     }
 }
 
-/// The reply to a command that is done. It takes no memory.
+/// The reply after a command is done. It takes no memory.
 pub(crate) fn done() -> Reply
     ensures { result ≡ in_json 200 DONE }
 {
@@ -178,16 +180,16 @@ pub(crate) fn checked(outcome: Outcome) -> Reply
     }
 }
 
-/// The reply where the database fails or memory is wanting: status 503 and `{"error":"unavailable"}`. It
-/// takes no memory.
+/// The reply when the database fails or memory runs out: status 503 and `{"error":"unavailable"}`.
+/// It takes no memory.
 pub fn unavailable() -> Reply
     ensures { result ≡ UNAVAILABLE }
 {
     fixed_reply(503, "{\"error\":\"unavailable\"}")
 }
 
-/// The reply that says what is said: its status, and its body as JSON by RFC 8259, as CSV by RFC 4180 for a
-/// catalogue, or as the bytes of a file. It fails only where memory is refused.
+/// The reply that says an answer: its status, and its body as JSON (RFC 8259), as CSV (RFC 4180)
+/// for a catalogue, or as the bytes of a file. It fails only when memory runs out.
 pub fn reply_to(alloc: Global, said: Said) -> Result<Reply, NoMemory>
     ensures { IfOk result (λ reply. reply ≡ reply_of said) }
 {

@@ -1,4 +1,4 @@
-//! The desk: what is asked of the museum, and what it replies.
+//! The desk: the requests that the museum gets, and its replies.
 #![tactic(auto)]
 
 mod asking;

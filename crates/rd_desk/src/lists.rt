@@ -1,4 +1,4 @@
-//! What is listed, as JSON by RFC 8259: sent to the writer one event after the other, with no value in between.
+//! Lists as JSON (RFC 8259): sent to the writer event by event, without building a value first.
 
 ghost use Rattle.std.specs.Prelude.{◌≡◌, IfOk, OnOk, map, string_bytes};
 ghost use Rattle.serde.specs.Event.{Logs, Then, field_key};
@@ -17,20 +17,20 @@ use rd_volume::{Found, fault_words};
 use serde::{Described, Serialize, Serializer};
 use std::alloc::{AllocError, Global};
 
-/// Accessions of which a file is listed.
+/// Accessions with at least one listed file.
 #[derive(Clone, Copy)]
 struct Images<'a> {
     lines: &'a [ImageLine],
 }
 
-/// An accession with its files that are listed. The allocator is for the words of each file.
+/// An accession with its listed files. The allocator is for the words of each file.
 #[derive(Clone, Copy)]
 struct Listed<'a> {
     alloc: Global,
     listing: &'a Listing,
 }
 
-/// A file that is listed, of an image of a kind.
+/// A listed file of an image of a kind.
 #[derive(Clone, Copy)]
 struct ListedFile<'a> {
     alloc: Global,
@@ -174,18 +174,19 @@ fn listed_reply(text: String) -> Reply
     }
 }
 
-/// The reply that tells accessions of which a file is listed.
+/// The reply that lists the accessions with at least one listed file.
 pub(crate) fn images_reply(alloc: Global, lines: &[ImageLine]) -> Result<Reply, NoMemory>
     ensures { IfOk result (λ reply. reply ≡ in_json 200 (images_data lines.now)) }
 {
     match serde_json::to_string(alloc, &Images { lines }) {
         Ok(text) => Ok(listed_reply(text)),
-        // Keys are texts, nothing is flattened and no number is a float, so memory alone can be wanting.
+        // Keys are texts, nothing is flattened and no number is a float, so this fails only when
+        // memory runs out.
         Err(_) => Err(NoMemory),
     }
 }
 
-/// The reply that tells an accession with its files that are listed.
+/// The reply that gives an accession with its listed files.
 pub(crate) fn listing_reply(alloc: Global, listing: &Listing) -> Result<Reply, NoMemory>
     ensures { IfOk result (λ reply. reply ≡ in_json 200 (listing_data listing.now)) }
 {

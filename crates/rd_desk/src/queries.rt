@@ -25,7 +25,7 @@ use rd_volume::Found;
 use sqlite::Alter;
 use std::alloc::Global;
 
-/// Who asks, and on which day.
+/// Who makes the request, and on which day.
 #[derive(Clone, Copy)]
 pub(crate) struct Caller {
     pub audience: Audience,
@@ -40,7 +40,8 @@ fn judge(rules: &[Rule], caller: &Caller, file: &Found) -> Verdict
     decide(rules, caller.audience, caller.day, file)
 }
 
-/// Why a file is not read; `None` where it is. The verdict comes before the class and the faults.
+/// Why the caller may not read a file; `None` if they may. The verdict comes before the class and
+/// the faults.
 fn withheld(holding: &Holding, caller: &Caller, file: &Found) -> Option<Refusal>
     requires order { AreInOrder holding.now.rules }
     ensures { IsWithheld holding.now.kind holding.now.rules caller.now.audience caller.now.day file.now result }
@@ -58,7 +59,7 @@ fn withheld(holding: &Holding, caller: &Caller, file: &Found) -> Option<Refusal>
     None
 }
 
-/// What is said of a file of an accession. Its image is read where the file is served, and not else.
+/// The answer about a file of an accession. It reads the image only if it serves the file.
 fn said_of<S: Alter>(
     store: &mut Store<S>,
     alloc: Global,
@@ -80,7 +81,7 @@ fn said_of<S: Alter>(
     Ok(Said::File(contents(store, alloc, acc, file)?))
 }
 
-/// What is said of the file at a slot of an accession.
+/// The answer about the file at a slot of an accession.
 fn read<S: Alter>(
     store: &mut Store<S>,
     alloc: Global,
@@ -123,7 +124,7 @@ fn bytes<S: Alter>(
     }
 }
 
-/// Of these files those that are listed, each with the verdict on it.
+/// Those of the files that are listed, each with the verdict on it.
 fn listed(
     alloc: Global,
     rules: &[Rule],
@@ -145,7 +146,7 @@ fn listed(
     Ok(Items::of(lines))
 }
 
-/// The files of an accession that are listed.
+/// The listed files of an accession.
 fn lines<S: Alter>(
     store: &mut Store<S>,
     alloc: Global,
@@ -161,7 +162,7 @@ fn lines<S: Alter>(
     listed(alloc, holding.rules.as_slice(), caller, files)
 }
 
-/// An accession that stands, of this kind and this deed, with its files that are listed.
+/// An accession that stands, of this kind and this deed, with its listed files.
 fn listed_at<S: Alter>(
     store: &mut Store<S>,
     alloc: Global,
@@ -182,7 +183,7 @@ fn listed_at<S: Alter>(
     })
 }
 
-/// The accession that is asked for, with its files that are listed.
+/// The requested accession, with its listed files.
 fn listing<S: Alter>(
     store: &mut Store<S>,
     alloc: Global,
@@ -201,7 +202,8 @@ fn listing<S: Alter>(
     }
 }
 
-/// How many files of an accession that stands are listed, beside what else is told of it.
+/// The line for an accession that stands: its number, its deed, its kind, and how many of its
+/// files are listed.
 fn image_line<S: Alter>(
     store: &mut Store<S>,
     alloc: Global,
@@ -221,7 +223,7 @@ fn image_line<S: Alter>(
     })
 }
 
-/// Of the accessions of a register those of which a file is listed.
+/// Those accessions of a register that have at least one listed file.
 fn image_lines<S: Alter>(
     store: &mut Store<S>,
     alloc: Global,
@@ -246,7 +248,7 @@ fn image_lines<S: Alter>(
     Ok(Items::of(lines))
 }
 
-/// The accessions of which a file is listed.
+/// The accessions with at least one listed file.
 fn images<S: Alter>(
     store: &mut Store<S>,
     alloc: Global,
@@ -262,7 +264,7 @@ fn images<S: Alter>(
     Ok(Said::Images(image_lines(store, alloc, caller, register.as_slice())?))
 }
 
-/// The accessions of a register, each with its files that are listed.
+/// The accessions of a register, each with its listed files.
 fn listings<S: Alter>(
     store: &mut Store<S>,
     alloc: Global,
@@ -285,7 +287,7 @@ fn listings<S: Alter>(
     Ok(Items::of(listings))
 }
 
-/// All accessions, each with its files that are listed.
+/// All accessions, each with its listed files.
 fn catalogue<S: Alter>(
     store: &mut Store<S>,
     alloc: Global,

@@ -3,12 +3,13 @@ ghost use Rattle.std.specs.Prelude.{◌≡◌};
 use rd_geometry::Kind;
 use rd_policy::Label;
 
-/// Why a request is refused. Of several reasons the one that stands first here is given.
+/// Why the desk refuses a request. If several reasons hold, the reply gives the first in this
+/// order.
 #[derive(Clone, Copy)]
 pub enum Refusal {
-    /// The caller's desk key is none that the museum knows.
+    /// The museum does not know the caller's desk key.
     UnknownKey,
-    /// It is for the staff, and the caller is not of the staff.
+    /// Only the staff may do this, and the caller is not staff.
     StaffOnly,
     /// The body of the command cannot be read.
     BadBody,
@@ -16,15 +17,15 @@ pub enum Refusal {
     NoAccession,
     /// The image has no file at the slot.
     NoFile,
-    /// No such deed stands.
+    /// There is no such deed.
     NoDeed,
-    /// The file may not be read, by the rule that decides.
+    /// The rule that decides does not let the caller read the file.
     Denied(Label),
-    /// The file is not of the class that is served.
+    /// The desk does not serve files of this class.
     ListedOnly,
     /// The file has these faults, by bit, in an image of this kind.
     Faulty(Kind, u8),
-    /// The image has not as many bytes as its kind.
+    /// The image does not have as many bytes as its kind.
     WrongSize,
     /// The SHA-256 of the image's bytes is not the one that was given for them.
     DigestDiffers,
@@ -35,7 +36,7 @@ pub enum Refusal {
 impl Refusal {
     ghost use Rattle.rd_desk.specs.Refusals.{name_of, status_of};
 
-    /// The name by which a reply tells it.
+    /// The name that the reply gives.
     pub(crate) fn name(self) -> &'static str
         ensures { result.now ≡ name_of self }
     {
@@ -55,7 +56,7 @@ impl Refusal {
         }
     }
 
-    /// The status of the reply that tells it.
+    /// The HTTP status of the reply.
     pub(crate) fn status(self) -> u16
         ensures { result ≡ status_of self }
     {

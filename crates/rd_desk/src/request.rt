@@ -4,20 +4,20 @@ use rd_geometry::{Items, Kind, Text};
 use rd_policy::{Audience, Band, Rule, is_day, is_rank, is_scope};
 use rd_store::is_donor;
 
-/// What is asked, and by whom.
+/// A request: what the caller asks, and who they are.
 #[derive(Drop)]
 pub struct Request {
-    /// The SHA-256 of the caller's desk key; `None` where the caller shows none, and so is the public.
+    /// The SHA-256 of the caller's desk key; `None` if they show none, and so are the public.
     pub badge: Option<[u8; 32]>,
-    /// What is asked.
+    /// What they ask.
     pub what: What,
 }
 
-/// What is asked. `Images`, `Listing`, `Bytes` and `Catalogue` are questions, which anyone may put; all others
-/// are for the staff.
+/// What a caller asks. `Images`, `Listing`, `Bytes` and `Catalogue` are questions, which anyone
+/// may ask; all others are for the staff.
 #[derive(Drop)]
 pub enum What {
-    /// Of which accessions the caller may see files, and of how many.
+    /// Which accessions have files that the caller may see, and how many.
     Images,
     /// Which files of an accession, 1 to 999,999, the caller may see.
     Listing(u32),
@@ -25,10 +25,11 @@ pub enum What {
     Bytes(u32, u16),
     /// The files of all accessions that the caller may see, as one table.
     Catalogue,
-    /// What the image of an accession, 1 to 999,999, has on it, counted, and by whose deed it came.
+    /// What the image of an accession, 1 to 999,999, has on it, in counts, and the deed by which
+    /// it came.
     Survey(u32),
-    /// To check whether the image of an accession, 1 to 999,999, has still the SHA-256 that was given for it,
-    /// and to record on the day what was found.
+    /// To check whether the image of an accession, 1 to 999,999, still has the SHA-256 given for
+    /// it, and to record the finding under the day.
     Check(u32),
     /// To take in an image.
     PutImage {
@@ -38,12 +39,12 @@ pub enum What {
         kind: Kind,
         /// The number of its deed, 1 to 999,999.
         deed: u32,
-        /// What the SHA-256 of its bytes has to be.
+        /// The SHA-256 that its bytes must have.
         digest: [u8; 32],
-        /// Its bytes, as many as they may be.
+        /// Its bytes, however many.
         bytes: Items<u8>,
     },
-    /// To put a deed in the place of what stands at its number.
+    /// To put a deed, in place of the one with its number, if there is one.
     PutDeed {
         /// Its number, 1 to 999,999.
         num: u32,
@@ -52,7 +53,8 @@ pub enum What {
         /// The day on which it was signed, of the years 1 to 9999, counted from 1970-01-01.
         signed: i32,
     },
-    /// To put a rule, whose values fit, in the place of what stands at its band, scope and rank.
+    /// To put a rule whose values are within their limits, in place of the one at its band, scope
+    /// and rank, if there is one.
     PutRule(Rule),
     /// To take a rule away.
     DropRule {
@@ -75,14 +77,14 @@ pub enum What {
         /// The SHA-256 of the key.
         digest: [u8; 32],
     },
-    /// A command whose body is not one that can be read.
+    /// A command whose body cannot be read.
     Unread,
 }
 
 impl What {
     ghost use Rattle.rd_desk.specs.Requests.{IsForStaff};
 
-    /// Whether it is for the staff.
+    /// Whether only the staff may ask it.
     pub(crate) fn is_for_staff(&self) -> bool
         ensures { IsTrue result ↔ IsForStaff self.now }
     {
@@ -104,8 +106,8 @@ impl What {
 impl Request {
     ghost use Rattle.rd_desk.specs.Requests.{IsRequest};
 
-    /// Whether each value of what is asked is within the limits that its field names. The bytes of an
-    /// image have none.
+    /// Whether each value of the request is within the limits that its field names. The bytes of
+    /// an image have no limits.
     pub fn fits(&self) -> bool
         ensures { IsTrue result ↔ IsRequest self.now.what }
     {

@@ -6,10 +6,10 @@ use rd_policy::Verdict;
 use rd_store::Outcome;
 use rd_volume::{Found, Report};
 
-/// What is replied to a request.
+/// The reply to a request.
 #[derive(Drop)]
 pub struct Reply {
-    /// The status, as HTTP counts it.
+    /// The HTTP status.
     pub status: u16,
     /// What the body is.
     pub form: Form,
@@ -35,21 +35,21 @@ pub enum Said {
     Refused(Refusal),
     /// The command is done.
     Done,
-    /// The accessions of which the caller may see files, by ascending number.
+    /// The accessions with files that the caller may see, by ascending number.
     Images(Items<ImageLine>),
     /// The files of an accession that the caller may see.
     Listed(Listing),
     /// The contents of a file.
     File(Contents),
-    /// All accessions by ascending number, each with those of its files that the caller may see.
+    /// All accessions by ascending number, each with the files that the caller may see.
     Catalogue(Items<Listing>),
-    /// What an image has on it, and by whose deed it came.
+    /// What an image has on it, and the deed by which it came.
     Surveyed(Survey),
-    /// What a check found of an image, which is now recorded.
+    /// What a check of an image found, which the desk has recorded.
     Checked(Outcome),
 }
 
-/// An accession of which the caller may see files.
+/// An accession with files that the caller may see.
 #[derive(Drop)]
 pub struct ImageLine {
     /// Its number, 1 to 999,999.
@@ -62,7 +62,7 @@ pub struct ImageLine {
     pub files: usize,
 }
 
-/// An accession, and those of its files that the caller may see.
+/// An accession, and the files of it that the caller may see.
 #[derive(Drop)]
 pub struct Listing {
     /// Its number, 1 to 999,999.
@@ -75,7 +75,7 @@ pub struct Listing {
     pub files: Items<Line>,
 }
 
-/// An accession: what its image has on it, and by whose deed it came.
+/// An accession: what its image has on it, and the deed by which it came.
 #[derive(Drop)]
 pub struct Survey {
     /// Its number, 1 to 999,999.
@@ -88,7 +88,7 @@ pub struct Survey {
     pub signed: Text,
     /// The kind of its image.
     pub kind: Kind,
-    /// What the image has on it, counted.
+    /// The counts of what the image has on it.
     pub report: Report,
 }
 
@@ -101,6 +101,6 @@ pub struct Line {
     pub verdict: Verdict,
 }
 
-/// The request is not answered: the database failed, or memory was wanting.
+/// There is no answer: the database failed, or memory ran out.
 #[derive(Clone, Copy)]
 pub(crate) struct Unavailable;

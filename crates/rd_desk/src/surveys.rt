@@ -1,4 +1,4 @@
-//! What an image has on it, as it is told to the staff.
+//! What an image has on it, for the staff.
 
 ghost use Rattle.std.specs.Prelude.{◌≡◌, IfOk, Some, ℤ};
 ghost use Rattle.rd_policy.specs.Dates.{IsDateOf};
@@ -19,7 +19,7 @@ use rd_volume::{Report, report};
 use sqlite::Alter;
 use std::alloc::Global;
 
-/// What an image has on it, counted.
+/// The counts of what an image has on it.
 fn counted(alloc: Global, image: &ImageRow) -> Result<Report, Unavailable>
     ensures { IfOk result (IsReport image.now.kind image.now.bytes) }
 {
@@ -60,7 +60,7 @@ fn survey_of(
     })
 }
 
-/// The survey of the image at an accession; `None` where none stands.
+/// The survey of the image at an accession; `None` if there is none.
 fn survey_at<S: Alter>(
     store: &mut Store<S>,
     alloc: Global,
@@ -77,7 +77,8 @@ fn survey_at<S: Alter>(
     Ok(Some(survey_of(alloc, acc, &image, deed)?))
 }
 
-/// Tells what the image of an accession has on it. Whoever calls it knows that the staff asks.
+/// The answer that says what the image of an accession has on it. The function's caller has
+/// checked that the staff asks.
 pub(crate) fn survey<S: Alter>(
     store: &mut Store<S>,
     alloc: Global,

@@ -7,7 +7,7 @@ ghost use Rattle.rd_desk.specs.Texts.{end_word};
 use rd_policy::Effect;
 use rd_volume::End;
 
-/// The word of an effect.
+/// The word for an effect.
 pub(crate) fn effect_name(effect: Effect) -> &'static str
     ensures { result.now ≡ effect_word effect }
 {
@@ -18,7 +18,7 @@ pub(crate) fn effect_name(effect: Effect) -> &'static str
     }
 }
 
-/// The word of how the walk along a directory's blocks ends.
+/// The word for how the walk along a directory's blocks ends.
 pub(crate) fn end_name(end: End) -> &'static str
     ensures { result.now ≡ end_word end }
 {

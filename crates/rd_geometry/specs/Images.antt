@@ -6,6 +6,6 @@ use Rattle.rd_geometry.specs.declared.image.Image.{Image}
 abbrev pub kind_of : Image → Kind
 kind_of image = image.kind
 
--- the bytes of an image, as many as its kind has: the type `Image` keeps that
+-- the bytes of an image; the type `Image` ensures that there are as many as its kind has
 abbrev pub bytes_of : Image → List ℕ
 bytes_of image = image.bytes.now

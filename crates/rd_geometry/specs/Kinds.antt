@@ -9,7 +9,7 @@ abbrev pub size_of : Kind → ℕ
 size_of Cpm8 = CPM_SIZE
 size_of D64 = CBM_SIZE
 
--- the word by which a kind is asked for
+-- the word that names a kind
 abbrev pub word_of : Kind → List ℕ
 word_of Cpm8 = codes "cpm8"
 word_of D64 = codes "d64"

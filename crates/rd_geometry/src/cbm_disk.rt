@@ -14,7 +14,7 @@ pub struct CbmDisk<'a> {
     pub ghost sized: { length bytes.now ≡ CBM_SIZE },
 }
 
-/// How many sectors a track has, 0 where it is not on the disk.
+/// How many sectors a track has; 0 if the disk has no such track.
 pub(crate) fn sectors(track: u8) -> u8
     ensures { result ≡ sectors_of track }
 {
@@ -43,8 +43,8 @@ pub(crate) fn blocks_before(track: u8) -> u16
     }
 }
 
-/// The track and the sector of the block that comes `rest` blocks after the first one of a track, on
-/// tracks of as many sectors.
+/// The track and the sector of the block `rest` blocks after the first block of `track`, where
+/// each track has `sectors` sectors.
 fn counted_on(track: u8, sectors: u8, rest: u16) -> (u8, u8)
     requires some { 1 ≤ sectors }
     requires near { track + rest / sectors ≤ 35 }
@@ -93,7 +93,8 @@ impl<'a> CbmDisk<'a> {
         }
     }
 
-    /// The track and the sector of the block with index `n`.
+    /// The track, 1 to 35, and the sector, counted from 0, of the block with index `n`, 0 to 682
+    /// (public D64 documentation).
     #[tactic(auto, using(crate::proofs::Zones::first_zone, crate::proofs::Zones::second_zone, crate::proofs::Zones::third_zone, crate::proofs::Zones::fourth_zone))]
     pub fn address(n: u16) -> (u8, u8)
         requires { n < CBM_BLOCKS }

@@ -33,7 +33,7 @@ impl<'a> CpmDisk<'a> {
     ghost use Rattle.rd_geometry.specs.Images.{kind_of, bytes_of};
     ghost use Rattle.rd_geometry.specs.CpmDisks.{cpm_bytes};
 
-    /// The disk of an image, `None` where the image is of another kind.
+    /// The disk of an image, `None` if the image is of another kind.
     pub fn of(image: &Image<'a>) -> Option<CpmDisk<'a>>
         ensures kind { IsSome result ↔ (kind_of image.now ≡ Kind.Cpm8) }
         ensures bytes { IfSome result (λ disk. cpm_bytes disk ≡ bytes_of image.now) }

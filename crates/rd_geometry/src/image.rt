@@ -6,7 +6,7 @@ use crate::kind::Kind;
 use std::error::Error;
 use std::fmt;
 
-/// The bytes are not as many as an image of the kind has.
+/// The number of bytes is not that of an image of the kind.
 #[derive(Clone, Copy, Debug, PartialEq, Eq, Hash)]
 pub struct WrongSize {
     /// How many bytes there are.
@@ -24,7 +24,7 @@ impl fmt::Display for WrongSize {
 
 impl Error for WrongSize {}
 
-/// An image: a kind, and bytes of exactly that kind's length, which it borrows.
+/// An image: a kind, and the bytes that it borrows, exactly as many as the kind has.
 #[derive(Debug, Drop)]
 pub struct Image<'a> {
     kind: Kind,
@@ -35,9 +35,9 @@ pub struct Image<'a> {
 impl<'a> Image<'a> {
     ghost use Rattle.rd_geometry.specs.Images.{kind_of, bytes_of};
 
-    /// The image of a kind with these bytes, whatever they are.
+    /// The image of a kind with these bytes, whatever their values.
     ///
-    /// It fails with `WrongSize` where they are not as many as an image of the kind has.
+    /// It fails with `WrongSize` when their number is not that of the kind (`Kind::size`).
     pub fn new(kind: Kind, bytes: &'a [u8]) -> Result<Image<'a>, WrongSize>
         ensures taken { IsOk result ↔ (length bytes.entry.now ≡ size_of kind) }
         ensures kind { IfOk result (λ image. kind_of image ≡ kind) }
@@ -51,14 +51,14 @@ impl<'a> Image<'a> {
         }
     }
 
-    /// The kind.
+    /// The kind of the image.
     pub fn kind(&self) -> Kind
         ensures { result ≡ kind_of self.now }
     {
         self.kind
     }
 
-    /// The bytes, which outlive the image.
+    /// The bytes of the image, which outlive it.
     pub fn bytes(&self) -> &'a [u8]
         ensures value { result.now ≡ bytes_of self.now }
         ensures sized { length result.now ≡ size_of (kind_of self.now) }

@@ -29,7 +29,7 @@ impl<T> Items<T> {
         self.items.as_slice()
     }
 
-    /// Gives the `Vec` back.
+    /// Gives the `Vec` back, with the same items.
     pub fn into_vec(self) -> Vec<T>
         ensures { result.items ≡ self }
     {

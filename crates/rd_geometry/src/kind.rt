@@ -32,7 +32,7 @@ impl Kind {
         }
     }
 
-    /// The kind that has this word, `None` where no kind has it.
+    /// The kind that has this word, `None` if no kind has it.
     pub fn from_word(word: &str) -> Option<Kind>
         ensures found { IfSome result (λ kind. word.now ≡ word_of kind) }
         ensures none { IfNone result ((kind : Kind) → word.now ≢ word_of kind) }

@@ -29,7 +29,7 @@ impl Text {
         self.text.as_str()
     }
 
-    /// Gives the `String` back.
+    /// Gives the `String` back, with the same bytes.
     pub fn into_string(self) -> String
         ensures { string_bytes result ≡ self }
     {

@@ -1,5 +1,5 @@
 -- What of a text has gone out.
-use Rattle.std.proofs.Common.{◌≡◌, ◌∙◌, ℕ, ◌+◌, ◌-◌, ◌<◌, ◌≤◌, List, [], ◌∷◌, ◌++◌, IfSome, IsOk, None, Option, Result, Some, Ok, Err, append-nil, append_assoc, codes, drop, length, length-append, length-drop, refl, take, subst, sym, ap, arith}
+use Rattle.std.proofs.Common.{◌≡◌, ◌∙◌, ℕ, ◌+◌, ◌-◌, ◌<◌, ◌≤◌, List, [], ◌∷◌, ◌++◌, IfSome, IsErr, IsOk, None, Option, Result, Some, Ok, Err, append-nil, append_assoc, codes, drop, length, length-append, length-drop, refl, take, subst, sym, ap, arith}
 use Rattle.std.specs.List.{concat}
 use Rattle.std.specs.Io.KnownBytes.{Appends, Keeps}
 use Rattle.std.proofs.KnownBytes.{Appends-kept, Appends-trans}
@@ -7,8 +7,12 @@ use Rattle.std.proofs.lemmas.List.{take-append-drop, take_all}
 use Rattle.std.proofs.lemmas.List.Folds.{concat-append}
 use lib.Seq.{take-add}
 use Rattle.rd_desk.specs.declared.said.Reply.{Reply}
+use Rattle.rd_desk.specs.Texts.{UNAVAILABLE}
+use Rattle.rd_http.specs.Readings.{text_of}
 use Rattle.rd_http.specs.ReplyText.{head_text, reply_bytes}
 use Rattle.rd_http.specs.Sent.{Sends, SendsPart}
+use Rattle.rd_http.specs.declared.visit.Answer.{Answer}
+use Rattle.rd_http.specs.declared.visit.Answer.TheVariants as answer
 
 -- one more write of what is left
 pub sent_more : (old mid new : Option (List ℕ)) (text : List ℕ) (at n : ℕ) → at ≤ length text → Appends old mid (take at text)
@@ -66,3 +70,22 @@ then_flushed old mid new (Ok done) text some put kept told = subst (λ bytes. Ap
 then_flushed None mid new (Err fault) text some put kept told = ([], text, refl, some, tt)
 then_flushed (Some before) None new (Err fault) text some put kept told = absurd put
 then_flushed (Some before) (Some after) new (Err fault) text some put kept told = absurd cc
+
+-- no answer is empty
+pub some_text : (what : Answer) → 0 < length (text_of what)
+some_text (answer.Made reply) = some_reply _ reply
+some_text (answer.Fault why) = some_reply _ _
+some_text answer.Unavailable = some_reply _ UNAVAILABLE
+
+-- What the wire held back before a text could not be sent: so the wire does not tell its bytes, and nothing of the text
+-- went out.
+pub nothing_sent : {E : Type 0} (old new : Option (List ℕ)) (flushed : Result (Unit {0}) E) (text : List ℕ) → 0 < length text → new ≡ old
+    → IfSome old (λ _. IsOk flushed) → IsErr flushed → SendsPart old new text
+nothing_sent old new (Ok done) text some kept told failed = absurd cc
+nothing_sent None new (Err fault) text some kept told failed = ([], text, refl, some, tt)
+nothing_sent (Some before) new (Err fault) text some kept told failed = absurd cc
+
+-- a front part of a text that was not sent
+pub part_sent : {E : Type 0} (old new : Option (List ℕ)) (result : Result (Unit {0}) E) (text : List ℕ) → IsErr result → SendsPart old new text → Sends old new result text
+part_sent old new (Ok done) text failed part = absurd cc
+part_sent old new (Err fault) text failed part = part

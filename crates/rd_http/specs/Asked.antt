@@ -1,4 +1,4 @@
--- What the bytes of a visit ask for: a request of the desk, or why they are none.
+-- What the bytes of a visit ask for: a request of the desk, or why they are no request.
 use Rattle.std.specs.Prelude.{◌≡◌, ◌⊎◌, ◌<◌, ℕ, ℤ, List, Option, Some, None, option_map, IsSomeAnd}
 use Rattle.httparse.specs.Grammar.{RequestHead}
 use Rattle.sha2.specs.Sha256.{sha256}
@@ -23,8 +23,8 @@ use Rattle.rd_http.specs.declared.route.Verb.TheVariants.{Put, Delete}
 
 -- ---- a request
 
--- what a path asks with a method and a body: DELETE takes a rule or a key away, and PUT puts one, or a deed, as
--- the body tells it in JSON; the body of an image is its bytes
+-- what a path asks with a method and a body: DELETE removes a rule or a key, and PUT puts one, or
+-- a deed, as the body describes it in JSON; the body of an image is its bytes
 abbrev pub Asks : Route → Verb → List ℕ → What → Type 0
 Asks Images verb body asked = asked ≡ what.Images
 Asks (Listing acc) verb body asked = asked ≡ what.Listing acc
@@ -40,15 +40,15 @@ Asks (Badge digest) Put body asked = (audience : Audience) × (asked ≡ what.Pu
 Asks Catalogue verb body asked = asked ≡ what.Catalogue
 Asks route verb body asked = ⊥
 
--- what is asked, its values within their limits; where the body tells nothing such, a command that cannot be
--- read. The parts of a path are always within theirs
+-- what is asked, its values within their limits; if the body says nothing such, a command that
+-- cannot be read. The parts of a path are always within theirs
 abbrev pub IsWhat : Route → Verb → List ℕ → What → Type 0
 IsWhat route verb body asked =
     (Asks route verb body asked × IsRequest asked)
     ⊎ ((asked ≡ what.Unread) × ((other : What) → Asks route verb body other → ¬ IsRequest other))
 
--- The bytes that came ask this: a head is at their front, the body that it tells of came whole, the target is
--- one that the desk has, with this method, and the badge is the SHA-256 of the desk key.
+-- The bytes that came ask this: a head is at their front, its body came whole, the desk has the
+-- target, with this method, and the badge is the SHA-256 of the desk key.
 pub record IsRequestOf (stream : List ℕ) (request : Request) : Type 0 where
   pub head : RequestHead
   pub rest : List ℕ
@@ -95,7 +95,7 @@ abbrev pub IsAsked : List ℕ → Asked → Type 0
 IsAsked stream (request asked) = IsRequestOf stream asked
 IsAsked stream (fault reason) = IsFaultOf stream reason
 
--- a head is at the front of the bytes, and tells of its body and of the key
+-- a head is at the front of the bytes, and gives the length of its body and the key
 abbrev pub HasFramedHead : List ℕ → Type 0
 HasFramedHead stream =
     (head : RequestHead) × (rest : List ℕ) × (size : ℕ) × (key : Option (List ℕ))

@@ -1,5 +1,5 @@
--- Why the bytes of a visit are no request: the number that orders the reasons, the name that a reply tells, and
--- its status.
+-- Why the bytes of a visit are no request: the number that orders the reasons, the name that the
+-- reply gives, and its status.
 use Rattle.std.specs.Prelude.{ℕ, List, [], ◌++◌, codes}
 use Rattle.serde_json.specs.Data.{no_members}
 use Rattle.serde_json.specs.Written.{compact_text}
@@ -8,7 +8,8 @@ use Rattle.rd_http.specs.Routes.{allow_text}
 use Rattle.rd_http.specs.declared.fault.RequestFault.{RequestFault}
 use Rattle.rd_http.specs.declared.fault.RequestFault.TheVariants.{BadHead, Framing, NoRoute, Method}
 
--- of the reasons that hold the one with the lowest number is given; from 5 on they are those of the desk
+-- if several reasons hold, the reply gives the one with the lowest number; from 5 on they are
+-- those of the desk
 abbrev pub number_of : RequestFault → ℕ
 number_of BadHead = 1
 number_of Framing = 2
@@ -21,7 +22,7 @@ name_of Framing = codes "framing"
 name_of NoRoute = codes "no-route"
 name_of (Method methods) = codes "method"
 
--- the status of HTTP
+-- the HTTP status
 abbrev pub status_of : RequestFault → ℕ
 status_of BadHead = 400
 status_of Framing = 400

@@ -5,8 +5,8 @@ use Rattle.httparse.specs.Spans.{IsRequestAt}
 use Rattle.httparse.specs.declared.spans.HeaderSpan.{HeaderSpan}
 use Rattle.httparse.specs.declared.spans.RequestSpans.{RequestSpans}
 
--- The bytes begin with this head, which is no longer than 8,192 bytes and has at most 64 fields; the rest comes
--- behind it.
+-- The bytes begin with this head, which is no longer than 8,192 bytes and has at most 64 fields;
+-- the rest comes after it.
 pub record BeginsWith (stream : List ℕ) (head : RequestHead) (rest : List ℕ) : Type 0 where
   pub reads : ReadsRequest stream head rest
   pub short : length (print_request head) ≤ 8192
@@ -23,7 +23,7 @@ pub record HasHead (stream buf : List ℕ) (spans : List HeaderSpan) (found : Re
   pub begins : BeginsWith stream head rest
   pub is_at : IsRequestAt buf spans found head
 
--- what is found of a head: where it is, or that there is none
+-- the result of reading a head: where it is, or that there is none
 abbrev pub GivesHead : List ℕ → List ℕ → List HeaderSpan → Option RequestSpans → Type 0
 GivesHead stream buf spans None = HasNoHead stream
 GivesHead stream buf spans (Some found) = HasHead stream buf spans found

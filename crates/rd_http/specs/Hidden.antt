@@ -1,4 +1,4 @@
--- What the bytes that go to a visitor do not rest on.
+-- What the bytes that go to a visitor do not depend on.
 use Rattle.std.specs.Prelude.{ℕ, ℤ, List}
 use Rattle.rd_policy.specs.declared.audience.Audience.{Audience}
 use Rattle.rd_store.specs.State.{Desk}
@@ -12,12 +12,13 @@ use Rattle.rd_http.specs.Visits.{IsReplied}
 abbrev pub IsQuestionOf : List ℕ → Desk → Audience → Type 0
 IsQuestionOf stream desk audience = (asked : Request) → IsAsked stream (request asked) → (¬ IsForStaff asked.what) × IsCallerOf desk asked audience
 
--- in each desk that looks alike to the visitor, the bytes that came are replied to with the same text
+-- in each desk that looks alike to the visitor, the bytes that came have the same text as their
+-- reply
 abbrev pub HidesFromVisitor : List ℕ → Desk → ℤ → List ℕ → Type 0
 HidesFromVisitor stream desk day text = (audience : Audience) (other : Desk) → IsQuestionOf stream desk audience
     → LooksAlike desk audience day other → IsReplied stream other other day text
 
--- what is replied to a visitor is replied in each desk that looks alike to him
+-- a visitor gets the same reply in each desk that looks alike to them
 abbrev pub HiddenBytesReachNoVisitor : Type 0
 HiddenBytesReachNoVisitor = (stream : List ℕ) (old new : Desk) (day : ℤ) (text : List ℕ)
     → IsReplied stream old new day text → HidesFromVisitor stream old day text

@@ -4,9 +4,9 @@ use Rattle.serde_json.specs.Data.{Data, object, Members, no_members, member}
 use Rattle.serde_json.specs.Find.{as_object, as_str, get}
 use Rattle.serde_json.specs.Read.{read}
 
--- The body is the text of this value, in UTF-8. Where an object has a key more than once, the last of its values
--- counts. A text is that of no value where arrays and objects stand more than 127 deep in one another, or a number
--- is beyond the range of a float of 64 bits.
+-- The body is the text of this value, in UTF-8. If an object has a key more than once, the last of
+-- its values counts. A text is that of no value if arrays and objects are nested more than 127
+-- deep, or a number is beyond the range of a float of 64 bits.
 pub record IsJson (body : List ℕ) (value : Data) : Type 0 where
   pub utf8 : IsUtf8 body
   pub reads : read body ≡ Some value

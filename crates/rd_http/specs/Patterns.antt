@@ -1,4 +1,4 @@
--- The patterns of the paths that are served, and the pattern and the parts of a path.
+-- The patterns of the paths that desk serves, and the pattern and the parts of a path.
 use Rattle.std.specs.Prelude.{◌≡◌, ◌&&◌, ℕ, List, [], ◌∷◌, Bool, true, false, not, Option, option_map, is_some, Result, Ok, Err, codes, map, get_or, IsUtf8}
 use Rattle.matchit.specs.Order.{placed}
 use Rattle.matchit.specs.Params.{walk}

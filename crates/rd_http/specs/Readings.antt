@@ -1,4 +1,4 @@
--- What the functions of a visit hand to one another.
+-- What the functions of a visit pass to one another.
 use Rattle.std.specs.Prelude.{◌≡◌, ℕ, List, Option, Some, None, option_map, IsSomeAnd, MatchOption, ⊤}
 use Rattle.sha2.specs.Sha256.{sha256}
 use Rattle.rd_desk.specs.Requests.{IsRequest}

@@ -5,7 +5,7 @@ use Rattle.rd_desk.specs.declared.said.Form.{Form}
 use Rattle.rd_desk.specs.declared.said.Form.TheVariants.{Json, Csv, Octets}
 use Rattle.rd_desk.specs.declared.said.Reply.{Reply}
 
--- what a body is, as a head tells it
+-- the media type of a body, as a head names it
 abbrev pub type_of : Form → List ℕ
 type_of Json = codes "application/json"
 type_of Csv = codes "text/csv"
@@ -28,7 +28,8 @@ phrase_of status =
 abbrev pub challenge_of : ℕ → List ℕ
 challenge_of status = if status == 401 then codes "WWW-Authenticate: Desk-Key\r\n" else []
 
--- the lines before a body of this length, the line that only this reply has among them, and the empty line
+-- the lines before a body of this length, including the line that only this reply has, and the
+-- empty line
 unfoldable pub head_text : ℕ → Form → ℕ → List ℕ → List ℕ
 head_text status form len extra =
     codes "HTTP/1.1 " ++ decimal status ++ codes " " ++ phrase_of status

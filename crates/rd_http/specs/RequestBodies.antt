@@ -1,5 +1,5 @@
--- What the bodies of commands tell. Each is the text of one object, with the keys that are named here and no
--- others. The limits of what is told are judged later, with the whole request.
+-- What the bodies of commands say. Each is the text of one object, with the keys named here and no
+-- others. The limits of their values are checked later, with the whole request.
 use Rattle.std.specs.Prelude.{◌≡◌, ◌≢◌, ◌↔◌, ◌⊎◌, ℕ, ℤ, true, List, [], ◌∷◌, Option, Some, None, AllPairs, Contains, codes, map}
 use Rattle.serde_json.specs.Data.{Data, array, boolean, null, number, string, unsigned}
 use Rattle.serde_json.specs.Find.{get}
@@ -19,7 +19,7 @@ use Rattle.rd_http.specs.Objects.{HasOnlyKeys, IsJson, one_member, text_at}
 
 -- ---- deeds
 
--- The value tells who gave the disks and the day on which the deed was signed, as in
+-- The value says who gave the disks and on which day they signed the deed, as in
 -- {"donor":"A. Curator","signed":"2019-05-04"}.
 pub record TellsDeed (value : Data) (donor : List ℕ) (signed : ℤ) : Type 0 where
   pub date : List ℕ
@@ -28,7 +28,7 @@ pub record TellsDeed (value : Data) (donor : List ℕ) (signed : ℤ) : Type 0 w
   pub signed_text : text_at (codes "signed") value ≡ Some date
   pub day : IsDateOf signed date
 
--- The body is the text of a value that tells the deed.
+-- The body is the text of a value that describes the deed.
 pub record IsDeedBody (body donor : List ℕ) (signed : ℤ) : Type 0 where
   pub value : Data
   pub json : IsJson body value
@@ -47,13 +47,13 @@ audience_word Public = codes "public"
 audience_word Room = codes "room"
 audience_word Staff = codes "staff"
 
--- The value tells whose a desk key is, the reading room's or the staff's: {"audience":"room"} or
--- {"audience":"staff"}.
+-- The value says whether a desk key is for the reading room or for the staff: {"audience":"room"}
+-- or {"audience":"staff"}.
 pub record TellsKey (value : Data) (audience : Audience) : Type 0 where
   pub has_keys : audience ≢ Public
   pub written : value ≡ one_member (codes "audience") (string (audience_word audience))
 
--- The body is the text of a value that tells the audience.
+-- The body is the text of a value that names the audience.
 pub record IsKeyBody (body : List ℕ) (audience : Audience) : Type 0 where
   pub value : Data
   pub json : IsJson body value
@@ -83,7 +83,7 @@ pub record HasAudiencesAt (key : List ℕ) (value : Data) (set : Audiences) : Ty
 
 -- ---- on which days
 
--- without a day, nothing or null stands at the key; with one, its date does
+-- without a day, there is nothing or null at the key; with one, there is its date
 abbrev pub HasDayAt : List ℕ → Data → Option ℤ → Type 0
 HasDayAt key value None = (get key value ≡ None) ⊎ (get key value ≡ Some null)
 HasDayAt key value (Some day) = (date : List ℕ) × (text_at key value ≡ Some date) × IsDateOf day date
@@ -97,8 +97,8 @@ select_key (Prefix text) = codes "prefix"
 select_key (User user) = codes "user"
 select_key (Kind text) = codes "type"
 
--- what stands at the key of a selector. A number is whole, of at most 64 bits, and written without a sign, a
--- fraction or an exponent: 1.0, 1e0 and -0 are none
+-- what stands at the key of a selector. A number is whole, of at most 64 bits, and written without
+-- a sign, a fraction or an exponent: 1.0, 1e0 and -0 do not count
 abbrev pub select_value : Select → Data
 select_value AllFiles = boolean true
 select_value (Slot slot) = number (unsigned slot)
@@ -115,7 +115,7 @@ select_data select = one_member (select_key select) (select_value select)
 abbrev pub RULE_KEYS : List (List ℕ)
 RULE_KEYS = codes "audiences" ∷ codes "effect" ∷ codes "from" ∷ codes "select" ∷ codes "until" ∷ []
 
--- The value tells what a rule says, as in
+-- The value says what a rule says, as in
 -- {"audiences":["public"],"effect":"deny","select":{"all":true},"until":"2030-01-01"}.
 pub record TellsRule (value : Data) (rule : Rule) : Type 0 where
   pub keys : HasOnlyKeys RULE_KEYS value
@@ -131,14 +131,14 @@ pub record IsAt (band : Band) (scope rank : ℕ) (rule : Rule) : Type 0 where
   pub of_scope : rule.scope ≡ scope
   pub of_rank : rule.rank ≡ rank
 
--- The body is the text of a value that tells the rule of this place.
+-- The body is the text of a value that describes the rule of this place.
 pub record IsRuleBody (band : Band) (scope rank : ℕ) (body : List ℕ) (rule : Rule) : Type 0 where
   pub value : Data
   pub json : IsJson body value
   pub tells : TellsRule value rule
   pub at : IsAt band scope rank rule
 
--- no rule that it tells is within the limits of its values
+-- it describes no rule whose values are within their limits
 abbrev pub TellsNoRule : Data → Type 0
 TellsNoRule value = (rule : Rule) → TellsRule value rule → ¬ IsRule rule
 

@@ -1,4 +1,4 @@
--- What a target names, and the methods by which it may be asked for.
+-- What a target names, and the methods that it takes.
 use Rattle.std.specs.Prelude.{◌==◌, ◌≤◌, ℕ, List, [], ◌∷◌, Option, Some, None, if◌then◌else◌, codes, find, bytes_eq}
 use Rattle.std.specs.Char.{is_ascii}
 use Rattle.std.specs.List.{before_first, list_all}
@@ -68,7 +68,7 @@ route_with pattern.Catalogue first second third fourth = Some Catalogue
 abbrev pub route_of_match : Pattern × List (List ℕ) → Option Route
 route_of_match (pattern, parts) = route_with pattern (part_at parts 0) (part_at parts 1) (part_at parts 2) (part_at parts 3)
 
--- what a path names: a byte above 127 stands in no pattern, and in no part that is well written, so a path with one
+-- what a path names: no pattern and no well-written part has a byte above 127, so a path with one
 -- names nothing
 abbrev pub route_of_path : List ℕ → Option Route
 route_of_path path = if list_all is_ascii path then matched path >>= route_of_match else None
@@ -96,7 +96,7 @@ IsWithin Catalogue = Unit {0}
 
 -- ---- methods
 
--- the methods by which a route may be asked for
+-- the methods that a route takes
 abbrev pub methods_of : Route → Methods
 methods_of Images = methods.Get
 methods_of (Listing acc) = methods.Get
@@ -109,14 +109,14 @@ methods_of (Rule band scope rank) = methods.PutOrDelete
 methods_of (Badge digest) = methods.PutOrDelete
 methods_of Catalogue = methods.Get
 
--- the methods, as a reply tells them
+-- the methods, as a reply names them
 abbrev pub allow_text : Methods → List ℕ
 allow_text methods.Get = codes "GET"
 allow_text methods.Post = codes "POST"
 allow_text methods.Put = codes "PUT"
 allow_text methods.PutOrDelete = codes "PUT, DELETE"
 
--- which they are
+-- the methods, one by one
 abbrev pub verbs_of : Methods → List Verb
 verbs_of methods.Get = Get ∷ []
 verbs_of methods.Post = Post ∷ []

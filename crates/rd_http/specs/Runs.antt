@@ -26,13 +26,13 @@ counted (Err fault.Clock) served =
 abbrev pub IsCut : List ℕ → List ℕ → Type 0
 IsCut out text = (rest : List ℕ) × (text ≡ out ++ rest) × (0 < length rest)
 
--- the visits were the next that were to come, with their moments and bytes, where a door tells those
+-- the visits were the next that were to come, with their moments and bytes, if a door shows those
 abbrev pub AreNext : Option (List Coming) → Option (List Coming) → List Visit → Type 0
 AreNext None left visits = ⊤
 AreNext (Some coming) None visits = ⊥
 AreNext (Some coming) (Some left) visits = coming ≡ map coming_of visits ++ left
 
--- no visit is to come any more, where a door tells those
+-- no more visits are to come, if a door shows those
 abbrev pub NoneLeft : Option (List Coming) → Type 0
 NoneLeft None = ⊤
 NoneLeft (Some left) = left ≡ []
@@ -49,8 +49,8 @@ abbrev pub IsLast : Ended → List Visit → Type 0
 IsLast Clock last = (visit : Visit) × (last ≡ visit ∷ []) × IsTimeless visit
 IsLast other last = last ≡ []
 
--- `Answers stream old new day text` is what is said of a visit's text: on a day, to the bytes that came, where the
--- state goes from the old one to the new one
+-- `Answers stream old new day text` says that this text answers the bytes that came, on a day, and
+-- that the state goes from the old one to the new one
 module _ {State : Type 0} (Answers : List ℕ → State → State → ℤ → List ℕ → Type 0) (zone : Zone) where
   -- what went out, by whether a read and whether a write failed: the whole text; a part of it; or, after a failed
   -- read, nothing, and nothing was changed
@@ -69,8 +69,9 @@ module _ {State : Type 0} (Answers : List ℕ → State → State → ℤ → Li
   Runs [] old new = new ≡ old
   Runs (visit ∷ visits) old new = (mid : State) × IsVisit visit old mid × Runs visits mid new
 
-  -- What a door tells after a run: the visits that count, in turn, and the one that ended it, if one did. They were
-  -- the next that were to come. So many count, and of so many a read, and a write, failed.
+  -- What a door shows after a run: the visits that count, in turn, and the one that ended it, if
+  -- one did. They were the next that were to come. So many count, and at so many a read, or a
+  -- write, failed.
   pub record HasRun (told : Told) (later : Option Told) (coming left : Option (List Coming)) (served : Served) (old new : State) : Type 0 where
     pub visits : List Visit
     pub last : List Visit

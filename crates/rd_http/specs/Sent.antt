@@ -1,4 +1,4 @@
--- What the writing of a text leaves.
+-- What writing a text leaves.
 use Rattle.std.specs.Prelude.{◌≡◌, ◌<◌, ℕ, List, ◌++◌, length, Option, Result, Ok, Err}
 use Rattle.std.specs.Io.KnownBytes.{Appends}
 
@@ -7,7 +7,7 @@ abbrev pub SendsPart : Option (List ℕ) → Option (List ℕ) → List ℕ → 
 SendsPart old new text =
     (part : List ℕ) × (rest : List ℕ) × (text ≡ part ++ rest) × (0 < length rest) × Appends old new part
 
--- all of the text went out; where a write failed, a front part and not all of it
+-- all of the text went out; or, if a write failed, a front part and not all of it
 abbrev pub Sends : {E : Type 0} → Option (List ℕ) → Option (List ℕ) → Result (Unit {0}) E → List ℕ → Type 0
 Sends old new (Ok done) text = Appends old new text
 Sends old new (Err fault) text = SendsPart old new text

@@ -4,7 +4,7 @@ use Rattle.std.specs.Io.KnownBytes.{Consumes, IsAtEnd, Keeps}
 use Rattle.rd_http.specs.declared.body.ReadBody.{ReadBody}
 use Rattle.rd_http.specs.declared.body.ReadBody.TheVariants.{NoMemory, Short, Whole}
 
--- A wire that tells its bytes to come has given some of them, at most this many.
+-- A wire that shows its bytes to come has given some of them, at most this many.
 pub record TakesUpTo (limit : ℕ) (old new : Option (List ℕ)) : Type 0 where
   pub bytes : List ℕ
   pub few : length bytes ≤ limit
@@ -16,14 +16,15 @@ pub record GrowsByTaken (old new : Option (List ℕ)) (before after : List ℕ) 
   pub taken : Consumes old new bytes
   pub grown : after ≡ before ++ bytes
 
--- A body of this size: the bytes that had come already, and as many more from the wire as were wanting.
+-- A body of this size: the bytes that had already come, and the missing ones from the wire.
 pub record IsBodyTaken (old new : Option (List ℕ)) (front : List ℕ) (size : ℕ) (body : List ℕ) : Type 0 where
   pub bytes : List ℕ
   pub taken : Consumes old new bytes
   pub wanting : length bytes ≡ size - length front
   pub is : body ≡ take size (front ++ bytes)
 
--- The wire has given all its bytes, and with those that had come already they are too few for a body of this size.
+-- The wire has given all its bytes, and with those that had already come they are too few for a
+-- body of this size.
 pub record EndsEarly (old new : Option (List ℕ)) (front : List ℕ) (size : ℕ) : Type 0 where
   pub bytes : List ℕ
   pub taken : Consumes old new bytes

@@ -1,4 +1,4 @@
--- What a door tells of its visits.
+-- What a door shows of its visits.
 use Rattle.std.specs.Prelude.{◌≡◌, ℕ, ℤ, List, [], ◌∷◌, ◌++◌, Bool, Option, None, Some, ⊤}
 
 -- A visit that is over: its moment, all bytes that came, read or not, those that went out, and whether a read
@@ -15,21 +15,23 @@ pub record Told : Type 0 where
   pub visits : List Visit
   pub under_way : Option ℤ
 
--- a visit of this moment is admitted, while none is under way; or none is admitted, and what is told stays
+-- a visit of this moment is admitted, while none is under way; or none is admitted, and what the
+-- door shows stays
 abbrev pub Admits : Option Told → Option Told → Option ℤ → Type 0
 Admits None new moment = ⊤
 Admits (Some old) new None = new ≡ Some old
 Admits (Some old) new (Some moment) =
     (old.under_way ≡ None) × (new ≡ Some (record { visits = old.visits; under_way = Some moment }))
 
--- a connection that a door has admitted tells its bytes where the door tells its visits, and nothing went out
+-- a connection that a door has admitted shows its bytes if the door shows its visits, and nothing
+-- went out
 abbrev pub TellsToo : Option Told → Option (List ℕ) → Option (List ℕ) → Type 0
 TellsToo None came out = ⊤
 TellsToo (Some told) None out = ⊥
 TellsToo (Some told) (Some came) None = ⊥
 TellsToo (Some told) (Some came) (Some out) = out ≡ []
 
--- what is told once the visit under way is over; where none is, it stays
+-- what the door shows once the visit under way is over; if none is, it stays
 abbrev pub told_after : Told → Option ℤ → List ℕ → List ℕ → Bool → Bool → Told
 told_after told None came out take_failed put_failed = told
 told_after told (Some moment) came out take_failed put_failed = record {
@@ -37,7 +39,7 @@ told_after told (Some moment) came out take_failed put_failed = record {
   under_way = None;
 }
 
--- a door that tells its visits tells the one that has ended over this connection too
+-- a door that shows its visits also shows the one that has ended over this connection
 abbrev pub Leaves : Option Told → Option Told → Option (List ℕ) → Option (List ℕ) → Bool → Bool → Type 0
 Leaves None new came out take_failed put_failed = ⊤
 Leaves (Some old) new None out take_failed put_failed = ⊤
@@ -51,7 +53,8 @@ Leaves (Some old) new (Some came) (Some out) take_failed put_failed =
 abbrev pub Coming : Type 0
 Coming = ℤ × List ℕ
 
--- where a door tells the visits to come, the one that it has admitted was the next of them, with its bytes
+-- if a door shows the visits to come, the one that it has admitted was the next of them, with its
+-- bytes
 abbrev pub TakesNext : Option (List Coming) → Option (List Coming) → ℤ → Option (List ℕ) → Type 0
 TakesNext None new moment came = ⊤
 TakesNext (Some old) (Some new) moment (Some came) = old ≡ (moment, came) ∷ new
@@ -61,7 +64,7 @@ TakesNext (Some old) new moment came = ⊥
 abbrev pub coming_of : Visit → Coming
 coming_of visit = (visit.moment, visit.came)
 
--- none is to come, as far as a door tells it, unless one is under way
+-- none is to come, as far as a door shows it, unless one is under way
 abbrev pub NoneToCome : Option Told → Option (List Coming) → Type 0
 NoneToCome told None = ⊤
 NoneToCome None (Some coming) = coming ≡ []

@@ -1,4 +1,4 @@
--- One visit: what is done about the bytes that came, and which bytes go.
+-- One visit: what the desk does about the bytes that came, and which bytes go.
 use Rattle.std.specs.Prelude.{◌≡◌, ◌⊎◌, ℕ, ℤ, List, Option, Some, None, Result, Ok, Err, ⊤}
 use Rattle.std.specs.Io.KnownBytes.{Appends, Consumes}
 use Rattle.sqlite.specs.Store.{Ghosts}
@@ -24,22 +24,23 @@ use Rattle.rd_http.specs.declared.visit.WireFault.TheVariants.{Read, Write, Cloc
 abbrev pub answer_bytes : Reply → List ℕ
 answer_bytes reply = reply_bytes (challenge_of reply.status) reply
 
--- the bytes that tell why there is no request
+-- the bytes that say why there is no request
 abbrev pub fault_bytes : RequestFault → List ℕ
 fault_bytes reason = reply_bytes (allow_line reason) (record { status = status_of reason; form = Json; body = fault_body reason })
 
 -- ---- what is done
 
--- The desk is unavailable: nothing has changed, and this is told. The bytes begin with a head that tells of its
--- body; where there is none, or the head alone is at fault, that is told instead.
+-- The desk is unavailable: nothing has changed, and the text says so. The bytes begin with a head
+-- that gives the length of its body; if there is none, or the head alone is at fault, the text
+-- says that instead.
 pub record IsWanting {State : Type 0} (stream : List ℕ) (old new : State) (text : List ℕ) : Type 0 where
   pub framed : HasFramedHead stream
   pub same : new ≡ old
   pub told : text ≡ answer_bytes UNAVAILABLE
 
 module _ {S : Type 0} (g : Ghosts S) (stream : List ℕ) (old new : Held S) (day : ℤ) (text : List ℕ) where
-  -- what is done about what the bytes ask: the desk serves the request; or there is none, and the store is not
-  -- touched
+  -- what the desk does about what the bytes ask: it serves the request; or there is none, and it
+  -- does not touch the store
   abbrev pub Handles : Asked → Type 0
   Handles (request asked) = (reply : Reply) × Serves g old new day asked reply × (text ≡ answer_bytes reply)
   Handles (fault reason) = (new ≡ old) × (text ≡ fault_bytes reason)
@@ -54,8 +55,8 @@ module _ (stream : List ℕ) (old new : Desk) (day : ℤ) (text : List ℕ) wher
   Replies (request asked) = (reply : Reply) × IsReply old day asked reply new × (text ≡ answer_bytes reply)
   Replies (fault reason) = (new ≡ old) × (text ≡ fault_bytes reason)
 
-  -- the bytes that came are replied to with this text; or it tells that the desk is unavailable, nothing has
-  -- changed, and the bytes begin with a head that tells of its body
+  -- this text is the reply to the bytes that came; or it says that the desk is unavailable,
+  -- nothing has changed, and the bytes begin with a head that gives the length of its body
   abbrev pub IsReplied : Type 0
   IsReplied = ((asked : Asked) × IsAsked stream asked × Replies asked) ⊎ IsWanting stream old new text
 

@@ -1,4 +1,4 @@
-//! From the bytes that come to what they ask.
+//! Reads the bytes that come, and finds what they ask.
 
 ghost use Rattle.std.specs.Prelude.{◌≡◌, ◌⊎◌, ◌↔◌, ℕ, List, Option, Some, true, false, IfOk, IfSome, IsErr, MatchOption, option_map};
 ghost use Rattle.sha2.specs.Sha256.{sha256};
@@ -27,13 +27,13 @@ use std::alloc::Global;
 pub(crate) enum Reading {
     /// A request, whose values are within their limits.
     Request(Request),
-    /// Bytes that are none.
+    /// Bytes that are no request.
     Fault(RequestFault),
-    /// Memory was wanting, after a head that tells of its body.
+    /// Memory ran out after a head whose fields give the length of its body.
     NoMemory,
 }
 
-/// The deed that a body tells; `None` where it tells none.
+/// The command to put the deed that a body describes; `None` if it describes none.
 fn deed_told(alloc: Global, num: u32, body: &[u8]) -> Result<Option<What>, NoMemory>
     ensures { IfOk result (IsTold (Route.Deed num) Verb.Put body.now) }
 {
@@ -43,7 +43,8 @@ fn deed_told(alloc: Global, num: u32, body: &[u8]) -> Result<Option<What>, NoMem
     }
 }
 
-/// The rule that a body tells; `None` where it tells none within the limits of its values.
+/// The command to put the rule that a body describes; `None` if it describes none within the
+/// limits of its values.
 fn rule_told(
     alloc: Global,
     band: Band,
@@ -59,7 +60,7 @@ fn rule_told(
     }
 }
 
-/// The audience to which a body gives a desk key; `None` where it tells none.
+/// The command to give a desk key to the audience that a body names; `None` if it names none.
 fn key_told(alloc: Global, digest: [u8; 32], body: &[u8]) -> Result<Option<What>, NoMemory>
     ensures { IfOk result (IsTold (Route.Badge digest) Verb.Put body.now) }
 {
@@ -69,7 +70,8 @@ fn key_told(alloc: Global, digest: [u8; 32], body: &[u8]) -> Result<Option<What>
     }
 }
 
-/// What a path asks with a method and a body; `None` where the body tells nothing that is within its limits.
+/// What a path asks with a method and a body; `None` if the body says nothing that is within its
+/// limits.
 fn told(alloc: Global, route: Route, verb: Verb, body: Vec<u8>) -> Result<Option<What>, NoMemory>
     ensures { IfOk result (IsTold route verb body.items) }
 {
@@ -114,8 +116,8 @@ fn told(alloc: Global, route: Route, verb: Verb, body: Vec<u8>) -> Result<Option
     }
 }
 
-/// The request of a caller; where nothing was told, or nothing within its limits, a command that cannot be
-/// read.
+/// The request of a caller; if the body said nothing, or nothing within its limits, a command that
+/// cannot be read.
 fn request(badge: Option<[u8; 32]>, told: Option<What>) -> Request
     ensures badge { result.badge ≡ badge }
     ensures fits { IsRequest result.what }
@@ -145,7 +147,7 @@ fn badge(key: Option<&[u8]>) -> Option<[u8; 32]>
     }
 }
 
-/// What a request asks that came whole.
+/// What a request that came whole asks.
 fn read_whole(
     alloc: Global,
     method: &[u8],
@@ -167,8 +169,8 @@ fn read_whole(
     Ok(Reading::Request(request(badge(key), told)))
 }
 
-/// What comes over a connection behind a head, whose parts the spans tell in the bytes that came already. It
-/// fails where a read fails.
+/// Reads what comes over a connection after a head. The spans say where the parts of the head are
+/// in the bytes that have come. It fails when a read fails.
 fn read_rest<W: Wire>(
     alloc: Global,
     wire: &mut W,
@@ -207,7 +209,7 @@ fn read_rest<W: Wire>(
     }
 }
 
-/// What comes over a connection. It fails where a read fails.
+/// Reads what comes over a connection. It fails when a read fails.
 pub(crate) fn read_request<W: Wire>(alloc: Global, wire: &mut W) -> Result<Reading, Broken>
     requires ready { W.take_failed wire.old ≡ false }
     ensures reading { IfOk result (λ reading. IfSome (W.incoming wire.old) (λ stream. IsReading stream reading)) }

@@ -1,6 +1,6 @@
-//! What the bodies of commands tell. Each is a text of JSON (RFC 8259) in UTF-8: one object, with the keys that
-//! its command names and no others. Where a key comes more than once, the last of its values counts. A text in
-//! which arrays and objects stand more than 127 deep in one another tells nothing.
+//! What the bodies of commands say. Each is a text of JSON (RFC 8259) in UTF-8: one object, with
+//! the keys that its command names and no others. If a key comes more than once, the last of its
+//! values counts. A text with arrays and objects nested more than 127 deep says nothing.
 
 mod audiences;
 mod dates;

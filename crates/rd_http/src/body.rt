@@ -19,10 +19,10 @@ pub(crate) enum ReadBody {
     NoMemory,
 }
 
-/// A body of a size, in bytes, with the bytes that have come already at its front and zeros behind them. It
-/// takes memory once, and none for a body of no bytes.
+/// A body of `size` bytes, with the bytes that have already come at its front and zeros after
+/// them. It takes memory once, and none for a body of no bytes.
 ///
-/// It fails with `AllocError` where there is no memory for the body.
+/// It fails with `AllocError` when there is no memory for the body.
 fn begun(alloc: Global, front: &[u8], size: usize) -> Result<Vec<u8>, AllocError>
     ensures items { IfOk result (λ body. body.items ≡ take size front.now ++ replicate (size - length front.now) 0) }
     ensures free { size ≡ 0 → IsOk result }
@@ -33,10 +33,11 @@ fn begun(alloc: Global, front: &[u8], size: usize) -> Result<Vec<u8>, AllocError
     Ok(body)
 }
 
-/// Reads on into a buffer of which the first `start` bytes are filled, until it is full or nothing more comes,
-/// and says how many bytes of it are filled then. No read is made where it is full already.
+/// Reads into a buffer after its first `start` bytes, which are filled, until it is full or
+/// nothing more comes, and gives how many of its bytes are filled then. It does not read if the
+/// buffer is full already.
 ///
-/// It fails with `Broken` where a read fails.
+/// It fails with `Broken` when a read fails.
 fn fill<W: Wire>(wire: &mut W, buf: &mut [u8], start: usize) -> Result<usize, Broken>
     requires ready { W.take_failed wire.old ≡ false }
     requires within { start ≤ length buf.old }
@@ -62,10 +63,10 @@ fn fill<W: Wire>(wire: &mut W, buf: &mut [u8], start: usize) -> Result<usize, Br
     Ok(filled)
 }
 
-/// Reads a body of a size, in bytes, of which the bytes in front have come already. No more is read than is
-/// wanting, and nothing where nothing is. The memory is taken before the first read.
+/// Reads a body of `size` bytes, whose front has already come. It reads only the missing bytes,
+/// and does not read if none are missing. It takes the memory before the first read.
 ///
-/// It fails with `Broken` where a read fails.
+/// It fails with `Broken` when a read fails.
 pub(crate) fn read_body<W: Wire>(
     wire: &mut W,
     alloc: Global,

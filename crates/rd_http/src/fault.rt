@@ -5,21 +5,22 @@ ghost use Rattle.rd_http.specs.Routes.{allow_text};
 
 use crate::route::Methods;
 
-/// Why the bytes of a visit are no request. Of several reasons the one that stands first here is given.
+/// Why the bytes of a visit are no request. If several reasons hold, the reply gives the first in
+/// this order.
 #[derive(Clone, Copy)]
 pub(crate) enum RequestFault {
     /// The first 8,192 bytes hold no head with at most 64 fields.
     BadHead,
-    /// The head names a transfer coding, or does not tell the length of its body, or tells one above 262,144;
-    /// the body is shorter; or more than one desk key is shown.
+    /// The head names a transfer coding, does not give the length of its body, or gives one above
+    /// 262,144; the body is shorter; or there is more than one desk key.
     Framing,
-    /// The target is none that the desk has.
+    /// The desk has no such target.
     NoRoute,
-    /// The target has other methods.
+    /// The target has other methods, namely these.
     Method(Methods),
 }
 
-/// The line of a reply's head that tells methods.
+/// The line of a reply's head that names methods.
 fn allow(methods: Methods) -> &'static str
     ensures line { result.now ≡ codes "Allow: " ++ allow_text methods ++ codes "\r\n" }
     ensures short { length result.now ≤ 40 }
@@ -58,7 +59,7 @@ impl RequestFault {
         }
     }
 
-    /// The line of the reply's head that only this fault has; empty where it has none.
+    /// The line of the reply's head that only this fault has; empty if it has none.
     pub(crate) fn line(self) -> &'static str
         ensures line { result.now ≡ allow_line self }
         ensures short { length result.now ≤ 40 }

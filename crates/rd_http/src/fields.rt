@@ -17,8 +17,8 @@ pub(crate) enum Values<'b> {
     Many,
 }
 
-/// The values of the fields with a name, which is compared without regard to ASCII case; where the fields are
-/// in the buffer, the spans say. It takes no memory.
+/// The values of the fields with a name; small and capital letters of ASCII count as the same. The
+/// spans say where the fields are in the buffer. It takes no memory.
 pub(crate) fn values_of<'b>(buf: &'b [u8], spans: &[HeaderSpan], name: &[u8]) -> Values<'b>
     requires within { All (IsHeaderWithin (length buf.now)) spans.now }
     ensures values { AreValues result (values_named name.now (map (header_bytes buf.now) spans.now)) }

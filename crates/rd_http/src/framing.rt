@@ -1,4 +1,4 @@
-//! The framing of a request, told by the fields of its head.
+//! The framing of a request: what the fields of its head say of its body and of its caller's key.
 
 ghost use Rattle.std.specs.Prelude.{◌≡◌, ◌≤◌, All, SomeIff, codes, length, map};
 ghost use Rattle.std.specs.Str.Parse.{IsNumeral, digits_value};
@@ -13,17 +13,17 @@ use std::str::from_utf8;
 /// The length of the longest body that is read, in bytes.
 const LONGEST_BODY: u64 = 262_144;
 
-/// What the fields of a head tell of a request.
+/// What the fields of a head say of a request.
 #[derive(Clone, Copy, Debug)]
 pub(crate) struct Framing<'b> {
     /// The length of its body, in bytes: at most 262,144.
     pub length: usize,
-    /// The key of its caller. It may be empty; `None` where no key is shown.
+    /// The desk key of its caller, which may be empty; `None` if they show none.
     pub key: Option<&'b [u8]>,
 }
 
-/// The number that a text of decimal digits writes, up to 262,144; leading zeros are allowed. `None` where it
-/// writes more, or where the text is anything else.
+/// The number that a text of decimal digits writes, up to 262,144; leading zeros are allowed.
+/// `None` if it writes more, or if the text is anything else.
 fn number(text: &str) -> Option<usize>
     ensures { SomeIff result (IsNumeral 10 text.now × (digits_value 10 text.now ≤ 262144)) (digits_value 10 text.now) }
 {
@@ -36,7 +36,7 @@ fn number(text: &str) -> Option<usize>
     }
 }
 
-/// The length that a value of Content-Length tells; `None` where it tells none.
+/// The length that a value of Content-Length gives; `None` if it gives none.
 fn length_in(value: &[u8]) -> Option<usize>
     ensures { result ≡ number_told value.now }
 {
@@ -46,7 +46,7 @@ fn length_in(value: &[u8]) -> Option<usize>
     }
 }
 
-/// The length of the body; `None` where the fields tell none.
+/// The length of the body; `None` if the fields give none.
 fn body_length(buf: &[u8], spans: &[HeaderSpan]) -> Option<usize>
     requires { All (IsHeaderWithin (length buf.now)) spans.now }
     ensures { result ≡ length_told (values_named (codes "Content-Length") (map (header_bytes buf.now) spans.now)) }
@@ -58,9 +58,9 @@ fn body_length(buf: &[u8], spans: &[HeaderSpan]) -> Option<usize>
     }
 }
 
-/// What the fields tell of a request, where the spans say that they are in the buffer. `None` where there is a
-/// field Transfer-Encoding, where Content-Length tells no length, or where there are two fields Desk-Key. It
-/// takes no memory.
+/// What the fields say of a request. The spans say where the fields are in the buffer. `None` if
+/// there is a field Transfer-Encoding, if Content-Length gives no length, or if there are two
+/// fields Desk-Key or more. It takes no memory.
 pub(crate) fn framing_of<'b>(buf: &'b [u8], spans: &[HeaderSpan]) -> Option<Framing<'b>>
     requires within { All (IsHeaderWithin (length buf.now)) spans.now }
     ensures framing { GivesFraming (map (header_bytes buf.now) spans.now) result }

@@ -11,11 +11,12 @@ use crate::wire::{Broken, Wire};
 use httparse::Status;
 use httparse::spans::{HeaderSpan, RequestSpans, parse_request};
 
-/// Reads the head of a request into a buffer, and says where its parts are there and how many bytes of the
-/// buffer are filled: the head and what came with it. `None` where the bytes begin with no head that has at
-/// most 64 fields and 8,192 bytes. It takes no memory, and makes no read once the head is whole.
+/// Reads the head of a request into a buffer, and gives where its parts are there and how many
+/// bytes of the buffer are filled: the head and what came with it. `None` if the bytes do not
+/// begin with a head of at most 64 fields and 8,192 bytes. It takes no memory, and stops reading
+/// once the head is whole.
 ///
-/// It fails with `Broken` where a read fails.
+/// It fails with `Broken` when a read fails.
 pub(crate) fn read_head<W: Wire>(
     wire: &mut W,
     buf: &mut [u8],

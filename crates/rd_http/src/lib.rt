@@ -1,4 +1,4 @@
-//! The reading room over HTTP: from the bytes that come to the bytes that go.
+//! The reading room over HTTP: it reads the bytes that come, and writes the bytes that go.
 #![tactic(auto)]
 
 mod asked;

@@ -1,4 +1,4 @@
-//! Visits in memory: what comes is given beforehand, and what went out is shown.
+//! Visits in memory: a caller gives beforehand what comes, and sees afterwards what went out.
 
 ghost use Rattle.std.specs.Prelude.{◌≡◌, ◌<◌, ◌≤◌, Some, [], false, length, take, drop, IfOk};
 
@@ -8,7 +8,7 @@ use std::alloc::Global;
 use std::marker::Model;
 use std::vec::IntoIter;
 
-/// Copies as many bytes as both slices hold to the front of the second, and says how many they are.
+/// Copies as many bytes as both slices hold to the front of the second, and gives their number.
 pub(crate) fn copy_front(from: &[u8], into: &mut [u8]) -> usize
     ensures from { result ≤ length from.now }
     ensures into { result ≤ length into.new }
@@ -20,7 +20,8 @@ pub(crate) fn copy_front(from: &[u8], into: &mut [u8]) -> usize
     count
 }
 
-/// A connection in memory. No read of it fails, and a write only where memory for its bytes is refused.
+/// A connection in memory. Its reads never fail, and a write fails only when there is no memory
+/// for its bytes.
 #[derive(Drop)]
 pub struct MemoryWire {
     came: Items<u8>,
@@ -120,7 +121,7 @@ impl MemoryVisit {
         false
     }
 
-    /// Whether a write failed, since memory for it was refused.
+    /// Whether a write failed, because there was no memory for it.
     pub fn put_failed(&self) -> bool
         ensures { result ≡ self.now.put_failed }
     {
@@ -128,8 +129,8 @@ impl MemoryVisit {
     }
 }
 
-/// A door through which visits come whose moments and bytes are given. Contracts see it as what it tells: its
-/// visits so far, those to come, and whether it has shut.
+/// A door through which visits with given moments and bytes come. Contracts see it as its visits
+/// so far, those to come, and whether it has shut.
 #[derive(Drop)]
 pub struct MemoryDoor {
     alloc: Global,
@@ -153,7 +154,7 @@ impl Model for MemoryDoor {
       has_shut = door.has_shut;
     } };
 
-    // The visits that are over have room for the one under way and for those to come.
+    // The list of visits that are over has room for the one under way and for those to come.
     ghost invariant = { λ door.
         vec_len door.over + length (option_to_list door.under_way) + into_iter_len door.to_come ≤ vec_capacity door.over };
 }
@@ -161,10 +162,11 @@ impl Model for MemoryDoor {
 impl MemoryDoor {
     ghost use Rattle.rd_http.specs.MemoryDoors.{roster_of};
 
-    /// The door of these visits, in order: the moment of each, in seconds since 1970-01-01T00:00:00 UTC, and
-    /// the bytes that come. No later call takes memory, but for the bytes that go out.
+    /// The door of these visits, in order: the moment of each, in seconds since
+    /// 1970-01-01T00:00:00 UTC, and the bytes that come. Later calls take memory only for the
+    /// bytes that go out.
     ///
-    /// It fails with `NoMemory` where memory is refused.
+    /// It fails with `NoMemory` when memory runs out.
     pub fn new(alloc: Global, visits: Vec<(i64, Items<u8>)>) -> Result<MemoryDoor, NoMemory>
         ensures { IfOk result (λ door. door ≡ roster_of visits.items) }
     {

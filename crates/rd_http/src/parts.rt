@@ -15,7 +15,7 @@ fn all_digits(bytes: &[u8]) -> bool
     bytes.iter().all(|byte| byte.is_ascii_digit())
 }
 
-/// Whether a text is one decimal digit or more, at most so many, of which the first is not 0.
+/// Whether a text has from one to `most` decimal digits, the first of them not 0.
 fn has_digits(text: &str, most: usize) -> bool
     ensures { result ≡ is_number most text.now }
 {
@@ -52,7 +52,7 @@ pub(crate) fn slot(text: &str) -> Option<u16>
     if text == "0" { Some(0) } else { rank(text) }
 }
 
-/// The kind that has the text for its word.
+/// The kind whose word the text is; `None` if there is none.
 pub(crate) fn kind(text: &str) -> Option<Kind>
     ensures { result ≡ kind_of text.now }
 {

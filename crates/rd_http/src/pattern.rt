@@ -1,4 +1,4 @@
-//! The patterns of the paths that are served, in one table, and the router that takes them in.
+//! The patterns of the paths that desk serves, in one table, and the router built from them.
 
 ghost use Rattle.std.specs.Prelude.{◌≡◌, true, [], map, drop, IsAscii, IfOk, OnOk};
 ghost use Rattle.matchit.specs.Params.{walk};
@@ -9,7 +9,7 @@ use matchit::{InsertError, Params, ParamsIter, Router};
 use rd_geometry::NoMemory;
 use std::alloc::Global;
 
-/// A pattern of paths: what it names, once its parts are read.
+/// A pattern of paths: what a path names, once its parts are read.
 #[derive(Clone, Copy)]
 pub(crate) enum Pattern {
     /// The images.
@@ -36,7 +36,7 @@ pub(crate) enum Pattern {
     Catalogue,
 }
 
-/// Each pattern with its text, in which the names of its parts stand in braces.
+/// Each pattern with its text, which has the names of its parts in braces.
 const TABLE: [(&str, Pattern); 11] = [
     ("/images", Pattern::Images),
     ("/images/{acc}", Pattern::Listing),
@@ -54,7 +54,8 @@ const TABLE: [(&str, Pattern); 11] = [
     ("/catalogue", Pattern::Catalogue),
 ];
 
-/// The parts of a path, in their order; empty where its pattern has fewer than four.
+/// The parts of a path, in their order; the last ones are empty if its pattern has fewer than
+/// four.
 #[derive(Clone, Copy)]
 pub(crate) struct Parts<'p> {
     pub(crate) first: &'p str,
@@ -63,8 +64,8 @@ pub(crate) struct Parts<'p> {
     pub(crate) fourth: &'p str,
 }
 
-/// Takes in a pattern that reads well and conflicts with none that the router has. It fails only where memory
-/// is refused.
+/// Adds a pattern that is well written and conflicts with none that the router has. It fails only
+/// when memory runs out.
 fn take_in(router: &mut Router<Pattern>, text: &str, pattern: Pattern) -> Result<(), NoMemory>
     requires { goes_in (parse_route text.now) router.old ≡ true }
     ensures { OnOk result (router.new ≡ with_pattern (parse_route text.now) pattern router.old) }
@@ -76,7 +77,8 @@ fn take_in(router: &mut Router<Pattern>, text: &str, pattern: Pattern) -> Result
     }
 }
 
-/// A router of patterns, each of which goes in beside those before it. It fails only where memory is refused.
+/// A router of patterns, each of which fits beside those before it. It fails only when memory runs
+/// out.
 fn router_of(alloc: Global, table: &[(&str, Pattern)]) -> Result<Router<Pattern>, NoMemory>
     requires { all_go_in (map (λ row. (row.0.now, row.1)) table.now) [] ≡ true }
     ensures { IfOk result (λ router. router ≡ with_patterns (map (λ row. (row.0.now, row.1)) table.now) []) }
@@ -88,7 +90,7 @@ fn router_of(alloc: Global, table: &[(&str, Pattern)]) -> Result<Router<Pattern>
     Ok(router)
 }
 
-/// The router of the table. It fails only where memory is refused.
+/// The router of the table. It fails only when memory runs out.
 #[tactic(auto, unfolding(crate::specs::Patterns::pattern_rows))]
 pub(crate) fn router(alloc: Global) -> Result<Router<Pattern>, NoMemory>
     ensures { IfOk result (λ router. router ≡ pattern_rows) }
@@ -96,7 +98,7 @@ pub(crate) fn router(alloc: Global) -> Result<Router<Pattern>, NoMemory>
     router_of(alloc, &TABLE)
 }
 
-/// The next part, or an empty text where there is none.
+/// The next part, or an empty text if there is none.
 fn next_part<'p>(parts: &mut ParamsIter<'_, '_, 'p>) -> &'p str
     requires { AreTexts parts.old }
     ensures part { result.now ≡ part_at (map (λ part. part.1) parts.old) 0 }

@@ -71,7 +71,7 @@ fn phrase(status: u16) -> &'static str
     }
 }
 
-/// What a body is, as a head tells it.
+/// The media type of a body, as a head names it.
 fn type_name(form: Form) -> &'static str
     ensures name { result.now ≡ type_of form }
     ensures short { length result.now ≤ 24 }
@@ -94,8 +94,8 @@ pub(crate) fn challenge(status: u16) -> &'static str
     }
 }
 
-/// The lines before a body of this length, with a line that only this reply has, or none: of at most 40
-/// bytes, the CR LF at its end among them.
+/// The lines before a body of this length. `extra` is a line that only this reply has, of at most
+/// 40 bytes with the CR LF at its end, or empty.
 pub(crate) fn head_of(status: u16, form: Form, len: usize, extra: &str) -> Head
     requires { length extra.now ≤ 40 }
     ensures { result ≡ head_text status form len extra.now }

@@ -1,4 +1,4 @@
-//! What the target of a request names, and the methods by which it may be asked for.
+//! What the target of a request names, and the methods that it takes.
 
 ghost use Rattle.std.specs.Prelude.{◌≡◌, true, IfOk, IfSome};
 ghost use Rattle.std.specs.Char.{is_ascii};
@@ -24,7 +24,7 @@ pub(crate) enum Route {
     Survey(u32),
     /// The check of the image of an accession, 1 to 999,999.
     Check(u32),
-    /// An image that is to be taken in.
+    /// An image to take in.
     Accession {
         /// The number of its accession, 1 to 999,999.
         acc: u32,
@@ -32,7 +32,7 @@ pub(crate) enum Route {
         kind: Kind,
         /// The number of its deed, 1 to 999,999.
         deed: u32,
-        /// What the SHA-256 of its bytes has to be.
+        /// The SHA-256 that its bytes must have.
         digest: [u8; 32],
     },
     /// A deed, 1 to 999,999.
@@ -52,7 +52,7 @@ pub(crate) enum Route {
     Catalogue,
 }
 
-/// A method of HTTP by which something may be asked for.
+/// A method of HTTP that some route takes.
 #[derive(Clone, Copy)]
 pub(crate) enum Verb {
     /// `GET`.
@@ -65,7 +65,7 @@ pub(crate) enum Verb {
     Delete,
 }
 
-/// The methods by which a route may be asked for.
+/// The methods that a route takes.
 #[derive(Clone, Copy)]
 pub(crate) enum Methods {
     /// `GET` alone.
@@ -97,7 +97,7 @@ impl Verb {
 impl Route {
     ghost use Rattle.rd_http.specs.Routes.{IsWithin, methods_of, route_of, route_of_path, route_with, rule_of};
 
-    /// A rule of a band, by its scope and its rank; `None` where one of them is not well written.
+    /// A rule of a band, by its scope and its rank; `None` if one of them is not well written.
     fn rule(band: Band, first: &str, second: &str) -> Option<Route>
         ensures { result ≡ rule_of band first.now second.now }
     {
@@ -108,7 +108,7 @@ impl Route {
         })
     }
 
-    /// What a pattern and its parts name; `None` where a part is not well written.
+    /// What a pattern and its parts name; `None` if a part is not well written.
     fn with_parts(pattern: Pattern, parts: &Parts<'_>) -> Option<Route>
         ensures { result ≡ route_with pattern parts.now.first.now parts.now.second.now parts.now.third.now parts.now.fourth.now }
     {
@@ -132,7 +132,7 @@ impl Route {
         }
     }
 
-    /// What a path of ASCII names, `None` where it names nothing. It fails only where memory is refused.
+    /// What a path of ASCII names; `None` if it names nothing. It fails only when memory runs out.
     fn of_path(alloc: Global, path: &str) -> Result<Option<Route>, NoMemory>
         requires { list_all is_ascii path.now ≡ true }
         ensures { IfOk result (λ found. found ≡ route_of_path path.now) }
@@ -144,8 +144,8 @@ impl Route {
         }
     }
 
-    /// What the target of a request names, `None` where it names nothing. What follows a question mark is not
-    /// read, and nothing is decoded. It fails only where memory is refused.
+    /// What the target of a request names; `None` if it names nothing. It does not read what
+    /// follows a question mark, and decodes nothing. It fails only when memory runs out.
     pub(crate) fn of_target(alloc: Global, target: &[u8]) -> Result<Option<Route>, NoMemory>
         ensures route { IfOk result (λ found. found ≡ route_of target.now) }
         ensures within { IfOk result (λ found. IfSome found IsWithin) }
@@ -156,7 +156,7 @@ impl Route {
         }
     }
 
-    /// The methods by which it may be asked for.
+    /// The methods that the route takes.
     pub(crate) fn methods(&self) -> Methods
         ensures { result ≡ methods_of self.now }
     {
@@ -176,7 +176,7 @@ impl Route {
 impl Methods {
     ghost use Rattle.rd_http.specs.Routes.{verb_of, verbs_of};
 
-    /// Which they are.
+    /// The methods, one by one.
     fn verbs(self) -> &'static [Verb]
         ensures { result.now ≡ verbs_of self }
     {
@@ -188,7 +188,7 @@ impl Methods {
         }
     }
 
-    /// Which of the methods has this name, byte for byte; `None` where none of them has it.
+    /// Which of the methods has this name, byte for byte; `None` if none of them has it.
     pub(crate) fn verb(self, name: &[u8]) -> Option<Verb>
         ensures { result ≡ verb_of self name.now }
     {

@@ -16,7 +16,7 @@ use std::alloc::Global;
 /// Why a run of visits ended.
 #[derive(Clone, Copy, Debug, PartialEq, Eq)]
 pub enum Ended {
-    /// So many visits were served as were asked for.
+    /// It served as many visits as the caller asked for.
     Count,
     /// The moment of the next visit has no day.
     Clock,
@@ -27,11 +27,11 @@ pub enum Ended {
 /// How a run of visits went.
 #[derive(Clone, Copy, Debug, PartialEq, Eq)]
 pub struct Served {
-    /// How many visits were served, those with a fault among them.
+    /// How many visits it served, including those with a fault.
     pub visits: u32,
-    /// Of how many a read failed.
+    /// At how many of them a read failed.
     pub read_faults: u32,
-    /// Of how many a write failed.
+    /// At how many of them a write failed.
     pub write_faults: u32,
     /// Why it ended.
     pub ended: Ended,
@@ -40,7 +40,7 @@ pub struct Served {
 impl Served {
     ghost use Rattle.rd_http.specs.Runs.{counted};
 
-    /// No visit yet.
+    /// A run that has served no visit yet.
     const NONE: Served = Served {
         visits: 0,
         read_faults: 0,
@@ -48,7 +48,7 @@ impl Served {
         ended: Ended::Count,
     };
 
-    /// With a visit that ended so.
+    /// The run after one more visit, which ended so.
     fn with(self, ending: Result<(), WireFault>) -> Served
         requires room { self.visits < 4_294_967_295 }
         requires faults { self.read_faults + self.write_faults ≤ self.visits }
@@ -77,9 +77,10 @@ impl Served {
     }
 }
 
-/// Serves visits one after the other, as many as `count`, each at the moment at which its door admits it. A
-/// failed read or write ends its visit alone. A moment that has no day ends the run, and its visit does not
-/// count; a door that shuts ends it too. Each visit that was admitted leaves by the door.
+/// Serves up to `count` visits one after the other, each at the moment at which the door admits
+/// it. A failed read or write ends only its own visit. A moment that has no day ends the run, and
+/// its visit does not count; a door that shuts ends the run too. Each admitted visit leaves by the
+/// door.
 pub fn serve_many<S: Alter, D: Door>(
     alloc: Global,
     door: &mut D,

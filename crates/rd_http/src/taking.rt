@@ -6,10 +6,10 @@ ghost use Rattle.rd_http.specs.Taken.{GrowsByTaken};
 
 use crate::wire::{Broken, Wire};
 
-/// Reads into the part of a buffer that is not filled yet, up to as many bytes as it has room for, and says how
-/// many came. None is the end.
+/// Reads into the part of a buffer that is not filled yet, at most as many bytes as there is room
+/// for, and gives how many came. 0 means the end.
 ///
-/// It fails with `Broken` where the read fails.
+/// It fails with `Broken` when the read fails.
 pub(crate) fn take_more<W: Wire>(
     wire: &mut W,
     buf: &mut [u8],

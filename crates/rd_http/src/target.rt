@@ -5,14 +5,14 @@ ghost use Rattle.std.specs.Char.{is_ascii};
 ghost use Rattle.std.specs.List.{list_all};
 ghost use Rattle.rd_http.specs.Routes.{path_of};
 
-/// Where the first question mark of a target stands.
+/// The place of the first question mark in a target; `None` if it has none.
 fn query_start(target: &[u8]) -> Option<usize>
     ensures { result ≡ position (λ byte. byte == 63) target.now }
 {
     target.iter().position(|byte| *byte == b'?')
 }
 
-/// What stands in a target before the first question mark, or all of it.
+/// What comes before the first question mark of a target, or all of it.
 fn before_query(target: &[u8]) -> &[u8]
     ensures { result.now ≡ path_of target.now }
 {
@@ -22,14 +22,14 @@ fn before_query(target: &[u8]) -> &[u8]
     }
 }
 
-/// Whether each byte is of ASCII.
+/// Whether each byte is ASCII.
 fn all_ascii(bytes: &[u8]) -> bool
     ensures { result ≡ list_all is_ascii bytes.now }
 {
     bytes.iter().all(|byte| byte.is_ascii())
 }
 
-/// The path of a target; `None` where it has a byte that is not of ASCII.
+/// The path of a target; `None` if it has a byte that is not ASCII.
 #[tactic(auto, using(crate::proofs::RouteLemmas::text_from_test))]
 pub(crate) fn ascii_path(target: &[u8]) -> Option<&str>
     ensures path { IfSome result (λ path. path.now ≡ path_of target.now) }

@@ -10,10 +10,10 @@ use std::time::Duration;
 
 /// A clock.
 pub trait Clock {
-    /// The seconds since 1970-01-01T00:00:00 UTC; `None` where the clock fails.
+    /// The seconds since 1970-01-01T00:00:00 UTC; `None` if the clock fails.
     fn now(&mut self) -> Option<i64>;
 
-    /// The milliseconds since a moment that stays the same; `None` where the clock fails.
+    /// The milliseconds since a fixed moment; `None` if the clock fails.
     fn milliseconds(&mut self) -> Option<u64>;
 }
 
@@ -23,11 +23,12 @@ const LINGER_MILLISECONDS: u64 = 200;
 /// How many bytes are read at most while a connection lingers.
 const LINGER_BYTES: usize = 4_194_304;
 
-/// A connection over TCP, and whether a read and whether a write of it has failed. A call that was interrupted
-/// has failed.
+/// A connection over TCP, and whether a read and whether a write of it has failed. An interrupted
+/// call counts as failed.
 ///
-/// It holds back up to 16,384 bytes that were put, so that a file's many short slices take few calls of the system.
-/// They are sent as soon as there is no room for more, and the last of them by `flush`.
+/// It holds back up to 16,384 bytes that were put, so that a file's many short slices take few
+/// system calls. It sends them as soon as there is no room for more; `flush` sends the last of
+/// them.
 #[derive(Drop)]
 pub struct TcpWire {
     stream: TcpStream,
@@ -38,7 +39,7 @@ pub struct TcpWire {
     ghost within: { len ≤ 16384 },
 }
 
-/// Sends bytes over a stream. It fails with `Broken` where a write fails or takes no byte.
+/// Sends bytes over a stream. It fails with `Broken` when a write fails or takes no byte.
 fn send(mut stream: &TcpStream, bytes: &[u8]) -> Result<(), Broken> {
     let mut sent = 0;
     while sent < bytes.len() {
@@ -51,7 +52,7 @@ fn send(mut stream: &TcpStream, bytes: &[u8]) -> Result<(), Broken> {
 }
 
 impl TcpWire {
-    /// A connection over a stream, over which nothing has failed yet.
+    /// A connection over a stream on which nothing has failed yet.
     fn new(stream: TcpStream) -> TcpWire
         ensures take { result.take_failed ≡ false }
         ensures put { result.put_failed ≡ false }
@@ -110,8 +111,8 @@ impl Wire for TcpWire {
     }
 }
 
-/// A door through which the visitors of a listener come, each at the moment that a clock tells. It shuts where
-/// the listener or the clock fails.
+/// A door through which the visitors of a listener come, each at the moment that a clock shows. It
+/// shuts when the listener or the clock fails.
 #[derive(Drop)]
 pub struct TcpDoor<C> {
     listener: TcpListener,
@@ -132,15 +133,16 @@ impl<C: Clock> TcpDoor<C> {
     }
 }
 
-/// The next visitor of a listener, and the moment that a clock tells then; `None` where one of them fails.
+/// The next visitor of a listener, and the moment that a clock shows then; `None` if one of them
+/// fails.
 fn next_visitor<C: Clock>(listener: &TcpListener, clock: &mut C) -> Option<(i64, TcpStream)> {
     let (stream, _) = listener.accept().ok()?;
     let moment = clock.now()?;
     Some((moment, stream))
 }
 
-/// What is left of the time that a connection lingers, which began at this millisecond; `None` where it is over,
-/// or where the clock fails or has gone back.
+/// What is left of the time that a connection lingers, which began at this millisecond; `None` if
+/// it is over, or if the clock fails or has gone back.
 fn time_left<C: Clock>(clock: &mut C, began: u64) -> Option<Duration> {
     let passed = clock.milliseconds()?.checked_sub(began)?;
     match LINGER_MILLISECONDS.checked_sub(passed)? {
@@ -149,8 +151,8 @@ fn time_left<C: Clock>(clock: &mut C, began: u64) -> Option<Duration> {
     }
 }
 
-/// Reads what a peer still sends into a buffer, and says how many bytes it was; `None` where the peer has ended,
-/// nothing has come in this time, or the connection fails.
+/// Reads what a peer still sends into a buffer, and gives how many bytes came; `None` if the peer
+/// has ended, nothing has come in this time, or the connection fails.
 fn read_within(stream: &mut TcpStream, buffer: &mut [u8], time: Duration) -> Option<usize> {
     stream.set_read_timeout(Some(time)).ok()?;
     match stream.read(buffer) {

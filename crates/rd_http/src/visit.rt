@@ -1,4 +1,4 @@
-//! One visit: a request is read, served and answered.
+//! One visit: it reads a request, has the desk answer it, and writes the reply.
 
 ghost use Rattle.std.specs.Prelude.{◌≡◌, ◌≢◌, ◌↔◌, ◌≤◌, ℕ, List, Option, Err, true, false, IfSome, IfOk, IsErr, length};
 ghost use Rattle.rd_policy.specs.Days.{HasDay};
@@ -25,7 +25,8 @@ use std::alloc::Global;
 pub enum WireFault {
     /// A read failed. Nothing was written, and nothing has changed.
     Read,
-    /// A write failed or took no byte. A front part of the reply went out, and a command that was done stands.
+    /// A write failed or took no byte. A front part of the reply went out, and what a command did
+    /// stands.
     Write,
     /// The moment has no day. Nothing was read or written, and nothing has changed.
     Clock,
@@ -38,11 +39,11 @@ pub(crate) enum Answer {
     Made(Reply),
     /// Why there is no request.
     Fault(RequestFault),
-    /// That memory is wanting.
+    /// The desk is unavailable, because memory ran out.
     Unavailable,
 }
 
-/// What is answered to what was read.
+/// The answer to what was read.
 fn answer_to<S: Alter>(alloc: Global, seconds: i64, desk: &mut Desk<S>, reading: Reading) -> Answer
     requires moment { HasDay seconds }
     requires fits { Fits reading }
@@ -58,7 +59,7 @@ fn answer_to<S: Alter>(alloc: Global, seconds: i64, desk: &mut Desk<S>, reading:
     }
 }
 
-/// Puts an answer, of which the wire may hold a part back.
+/// Puts an answer. The wire may hold a part of it back.
 fn put_answer<W: Wire>(wire: &mut W, answer: Answer) -> Result<(), Broken>
     requires ready { W.put_failed wire.old ≡ false }
     ensures sends { Sends (W.outgoing wire.old) (W.outgoing wire.new) result (text_of answer) }
@@ -75,6 +76,7 @@ fn put_answer<W: Wire>(wire: &mut W, answer: Answer) -> Result<(), Broken>
 }
 
 /// Sends an answer, so that the wire holds nothing of it back.
+#[tactic(auto, using(crate::proofs::Sending::nothing_sent, crate::proofs::Sending::part_sent, crate::proofs::Sending::some_text))]
 fn send<W: Wire>(wire: &mut W, answer: Answer) -> Result<(), Broken>
     requires ready { W.put_failed wire.old ≡ false }
     ensures sends { Sends (W.outgoing wire.old) (W.outgoing wire.new) result (text_of answer) }
@@ -90,14 +92,15 @@ fn send<W: Wire>(wire: &mut W, answer: Answer) -> Result<(), Broken>
     }
 }
 
-/// Serves one visit at a moment, in seconds since 1970-01-01T00:00:00 UTC: reads one request, and no byte
-/// beyond what a head and a body may have (270,336), has the desk answer it, and writes the reply. Where the
-/// bytes are no request, the reply says why; where memory is wanting or the store fails, that the desk is
-/// unavailable. What goes to someone who asks a question rests on no byte that is hidden from them (`hidden`).
+/// Serves one visit at a moment, in seconds since 1970-01-01T00:00:00 UTC: reads one request, and
+/// no byte beyond what a head and a body may have (270,336), has the desk answer it, and writes
+/// the reply. If the bytes are no request, the reply says why; if memory runs out or the store
+/// fails, it says that the desk is unavailable. The reply to a question depends on no byte that is
+/// hidden from its caller (`hidden`).
 ///
-/// It fails with `Clock` exactly where the moment has no day; with `Read` exactly where a read failed, and
-/// with `Write` exactly where a write failed or took no byte, the last sending of what the wire held back among them.
-/// After a fault no read or write is made.
+/// It fails with `Clock` exactly when the moment has no day, with `Read` exactly when a read
+/// fails, and with `Write` exactly when a write fails or takes no byte, including the last one,
+/// which sends what the wire held back. After a fault it does not read or write.
 pub fn serve_one<S: Alter, W: Wire>(
     alloc: Global,
     wire: &mut W,

@@ -10,16 +10,16 @@ ghost use Rattle.rd_http.specs.Told.{Admits, Coming, Leaves, NoneToCome, TakesNe
 #[derive(Clone, Copy, Debug, PartialEq, Eq)]
 pub struct Broken;
 
-/// A connection: what a visit reads and writes. A wire may tell its bytes to contracts; that of a socket
-/// does not.
+/// A connection: what a visit reads and writes. A wire may show its bytes to contracts; that of a
+/// socket does not.
 pub trait Wire {
-    /// All bytes that came, read or not, where the wire tells them.
+    /// All bytes that came, read or not, if the wire shows them.
     ghost came: { Self → Option (List ℕ) };
 
-    /// The bytes to come, where the wire tells them.
+    /// The bytes to come, if the wire shows them.
     ghost incoming: { Self → Option (List ℕ) };
 
-    /// The bytes written, where the wire tells them.
+    /// The bytes written, if the wire shows them.
     ghost outgoing: { Self → Option (List ℕ) };
 
     /// Whether a read has failed.
@@ -28,13 +28,13 @@ pub trait Wire {
     /// Whether a write has failed.
     ghost put_failed: { Self → Bool };
 
-    /// How many bytes were put and are not sent yet.
+    /// How many bytes were put but not sent yet.
     ghost unsent: { Self → ℕ };
 
-    /// Reads bytes into the front of a slice, and says how many they are, at most its length. No byte
-    /// into a slice that is not empty is the end.
+    /// Reads bytes into the front of a slice, and gives how many, at most its length. 0 for a
+    /// slice that is not empty means the end.
     ///
-    /// It fails with `Broken` where the connection fails; no read is made after that.
+    /// It fails with `Broken` when the connection fails; the caller makes no read after that.
     fn take(&mut self, into: &mut [u8]) -> Result<usize, Broken>
         requires { take_failed self.old ≡ false }
         ensures bound { ReadsAtMost result into.new }
@@ -44,10 +44,11 @@ pub trait Wire {
         ensures kept { outgoing self.new ≡ outgoing self.old }
         ensures put_kept { put_failed self.new ≡ put_failed self.old };
 
-    /// Writes bytes from the front of a slice, and says how many they are: at most its length, and at least
-    /// one where it is not empty.
+    /// Writes bytes from the front of a slice, and gives how many: at most its length, and at
+    /// least one if it is not empty.
     ///
-    /// It fails with `Broken` where the connection fails or takes no byte; no write is made after that.
+    /// It fails with `Broken` when the connection fails or takes no byte; the caller makes no
+    /// write after that.
     fn put(&mut self, bytes: &[u8]) -> Result<usize, Broken>
         requires { put_failed self.old ≡ false }
         ensures bound { WritesAtMost result bytes.now }
@@ -58,10 +59,11 @@ pub trait Wire {
         ensures kept { incoming self.new ≡ incoming self.old }
         ensures take_kept { take_failed self.new ≡ take_failed self.old };
 
-    /// Sends what was put and is held back. A wire that tells its bytes sends them as they are put, so that this
-    /// does not fail there.
+    /// Sends what was put and is held back. A wire that shows its bytes sends them as they are
+    /// put, so that this does not fail there.
     ///
-    /// It fails with `Broken` where the connection fails or takes no byte; no write is made after that.
+    /// It fails with `Broken` when the connection fails or takes no byte; the caller makes no
+    /// write after that.
     fn flush(&mut self) -> Result<(), Broken>
         requires { put_failed self.old ≡ false }
         ensures sent { IfOk result (λ _. unsent self.new ≡ 0) }
@@ -73,30 +75,30 @@ pub trait Wire {
         ensures take_kept { take_failed self.new ≡ take_failed self.old };
 }
 
-/// No visit comes any more.
+/// No more visits come.
 #[derive(Clone, Copy, Debug, PartialEq, Eq)]
 pub struct Shut;
 
-/// Where visits come from, one after the other. A door may tell to contracts the visits so far, and those to
-/// come.
+/// Where visits come from, one after the other. A door may show contracts the visits so far, and
+/// those to come.
 pub trait Door {
     /// The connection of a visit.
     type Conn: Wire;
 
-    /// The visits that are over and the one under way, where the door tells them.
+    /// The visits that are over and the one under way, if the door shows them.
     ghost told: { Self → Option Told };
 
-    /// The visits to come, in order, where the door tells them.
+    /// The visits to come, in order, if the door shows them.
     ghost coming: { Self → Option (List Coming) } = { λ _. None };
 
     /// Whether the door has shut.
     ghost has_shut: { Self → Bool };
 
-    /// Admits the next visit: its moment, in seconds since 1970-01-01T00:00:00 UTC, and its connection, on
-    /// which nothing has failed yet. It may wait for a visitor. A door that tells its visits admits none
-    /// while another is under way.
+    /// Admits the next visit: its moment, in seconds since 1970-01-01T00:00:00 UTC, and its
+    /// connection, on which nothing has failed yet. It may wait for a visitor. A door that shows
+    /// its visits admits none while another is under way.
     ///
-    /// It fails with `Shut` where no visit comes any more, and then for good.
+    /// It fails with `Shut` when no more visits come, and always from then on.
     fn admit(&mut self) -> Result<(i64, Self::Conn), Shut>
         ensures told { Admits (told self.old) (told self.new) (option_map (λ visit. visit.0) (result_ok result)) }
         ensures whole { IfOk result (λ visit. Self.Conn.incoming visit.1 ≡ Self.Conn.came visit.1) }
@@ -110,8 +112,8 @@ pub trait Door {
         ensures stays { has_shut self.old ≡ true → IsErr result }
         ensures last { has_shut self.old ≡ false → IsErr result → NoneToCome (told self.old) (coming self.old) };
 
-    /// Ends the visit under way, which was made over this connection. All that was put is sent, unless a read or a
-    /// write has failed.
+    /// Ends the visit under way, which used this connection. Everything that was put has been
+    /// sent, unless a read or a write failed.
     fn leave(&mut self, conn: Self::Conn)
         requires { Self.Conn.take_failed conn ≡ false → Self.Conn.put_failed conn ≡ false → Self.Conn.unsent conn ≡ 0 }
         ensures told { Leaves (told self.old) (told self.new) (Self.Conn.came conn) (Self.Conn.outgoing conn)

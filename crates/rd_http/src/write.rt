@@ -10,7 +10,7 @@ use rd_desk::{Body, Form, Reply};
 
 /// Writes bytes.
 ///
-/// It fails with `Broken` where a write failed: then a front part went out, and not all of them.
+/// It fails with `Broken` when a write fails: then a front part went out, and not all of them.
 pub(crate) fn put_all<W: Wire>(wire: &mut W, bytes: &[u8]) -> Result<(), Broken>
     requires { W.put_failed wire.old ≡ false }
     ensures sends { Sends (W.outgoing wire.old) (W.outgoing wire.new) result bytes.now }
@@ -29,7 +29,7 @@ pub(crate) fn put_all<W: Wire>(wire: &mut W, bytes: &[u8]) -> Result<(), Broken>
 
 /// Writes a body, piece by piece.
 ///
-/// It fails with `Broken` where a write failed: then a front part went out, and not all of it.
+/// It fails with `Broken` when a write fails: then a front part went out, and not all of it.
 pub(crate) fn put_pieces<W: Wire>(wire: &mut W, body: &Body) -> Result<(), Broken>
     requires { W.put_failed wire.old ≡ false }
     ensures sends { Sends (W.outgoing wire.old) (W.outgoing wire.new) result body.now }
@@ -44,9 +44,10 @@ pub(crate) fn put_pieces<W: Wire>(wire: &mut W, body: &Body) -> Result<(), Broke
     Ok(())
 }
 
-/// Writes a reply of the desk, with a line that only this one has in its head, or none: of at most 40 bytes.
+/// Writes a reply of the desk. `extra` is a line of at most 40 bytes that only this reply has in
+/// its head, or empty.
 ///
-/// It fails with `Broken` where a write failed: then a front part went out, and not all of it.
+/// It fails with `Broken` when a write fails: then a front part went out, and not all of it.
 pub(crate) fn put_reply<W: Wire>(wire: &mut W, extra: &str, reply: &Reply) -> Result<(), Broken>
     requires ready { W.put_failed wire.old ≡ false }
     requires room { length extra.now ≤ 40 }
@@ -63,9 +64,10 @@ pub(crate) fn put_reply<W: Wire>(wire: &mut W, extra: &str, reply: &Reply) -> Re
     }
 }
 
-/// Writes a reply whose body is a text of JSON, as `put_reply` does one of the desk. It takes no memory.
+/// Writes a reply whose body is a text of JSON, as `put_reply` writes one of the desk. It takes no
+/// memory.
 ///
-/// It fails with `Broken` where a write failed: then a front part went out, and not all of it.
+/// It fails with `Broken` when a write fails: then a front part went out, and not all of it.
 pub(crate) fn put_fixed<W: Wire>(
     wire: &mut W,
     status: u16,

@@ -11,14 +11,14 @@ use std::process::ExitCode;
 use std::time::{Instant, SystemTime, UNIX_EPOCH};
 use std::{env, fs};
 
-/// How many bytes a sheet has at most: 64 MiB.
+/// The most bytes that a sheet may have: 64 MiB.
 const SHEET_LIMIT: u64 = 67_108_864;
 
 /// The clock of the machine.
 #[derive(Drop)]
 pub(crate) struct HostClock<'a> {
     rt: &'a HostRuntime,
-    /// When it was made.
+    /// When the clock was made.
     start: Instant,
 }
 
@@ -39,7 +39,8 @@ pub(crate) struct Host<'a> {
     pub(crate) door: Option<TcpDoor<HostClock<'a>>>,
 }
 
-/// The seconds since 1970-01-01T00:00:00 UTC; `None` where the clock fails or is set before.
+/// The seconds since 1970-01-01T00:00:00 UTC; `None` if the clock fails or shows a time before
+/// that.
 fn seconds_now(rt: &HostRuntime) -> Option<i64> {
     let now = SystemTime::now(rt).ok()?;
     i64::try_from(now.duration_since(UNIX_EPOCH).ok()?.as_secs()).ok()
@@ -77,7 +78,7 @@ impl<'a> Machine for Host<'a> {
         Ok(Connection::open(self.rt, path)?)
     }
 
-    /// What was committed stands already: a fault of closing loses nothing.
+    /// What was committed stands already, so a fault of closing loses nothing.
     fn release(&mut self, conn: &mut Option<Connection<FileStore<File>>>) {
         if let Some(conn) = conn.take() {
             let _ = conn.close();
@@ -100,8 +101,8 @@ impl<'a> Machine for Host<'a> {
 
 /// The words after the program's name.
 ///
-/// It fails with `Usage` where a word is not text, with `NoMemory`, and with `Device` where the
-/// system does not give them.
+/// It fails with `Usage` when a word is not text, with `NoMemory`, and with `Device` when the
+/// system does not give the words.
 fn words_of(rt: &HostRuntime) -> Result<Vec<String>, Refusal> {
     match env::args(rt) {
         Ok(words) => Ok(words.skip(1).collect(rt.alloc())?),
@@ -113,14 +114,14 @@ fn words_of(rt: &HostRuntime) -> Result<Vec<String>, Refusal> {
     }
 }
 
-/// The words as slices. It fails where a growth of memory was refused.
+/// The words as slices. It fails when memory runs out.
 fn slices_of(alloc: Global, words: &[String]) -> Result<Vec<&str>, AllocError> {
     words.iter().map(|word| word.as_str()).collect(alloc)
 }
 
 /// Runs the program on the process's words, input and outputs, and gives its exit status.
 ///
-/// It fails where the words are not to be had, and with `NoMemory`.
+/// It fails as `words_of` does, and with `NoMemory`.
 fn run_here(rt: &HostRuntime) -> Result<u8, Refusal> {
     let words = words_of(rt)?;
     let words = slices_of(rt.alloc(), words.as_slice())?;
@@ -137,7 +138,7 @@ fn run_here(rt: &HostRuntime) -> Result<u8, Refusal> {
     ))
 }
 
-/// Runs the program in the process, tells why where it cannot run, and gives its exit status.
+/// Runs the program in the process, writes why if it cannot run, and gives its exit status.
 pub(crate) fn start(rt: &HostRuntime) -> ExitCode {
     exit_code(run_here(rt), &mut rt.stderr())
 }

@@ -1,6 +1,6 @@
 //! What the program says and writes.
 
-/// A value that is like another but for some of its fields.
+/// A value like another, except for some of its fields.
 macro_rules! like {
     ($type:ident, $other:expr, $($field:ident: $value:expr),+) => {
         $type { $($field: $value,)+ ..$other }
@@ -42,7 +42,7 @@ fn hello_bytes(alloc: Global) -> Result<Vec<u8>, NoMemory> {
     Ok(bytes)
 }
 
-/// The run was refused in these words, and wrote nothing.
+/// Whether the run ended with this refusal, and wrote nothing.
 fn is_refused(ran: &Ran, status: u8, line: &str) -> bool {
     ran.status == status && ran.output.is_empty() && ran.errors.as_slice() == line.as_bytes()
 }
@@ -107,7 +107,7 @@ fn passes_over_interruptions(rt: HostRuntime) {
     assert!(rt; output.taken.as_slice() == wanted.as_slice());
 }
 
-/// Runs `cat` with an output that has room for so many bytes, and then takes none.
+/// Runs `cat` with an output that takes so many bytes, and then no more.
 fn run_narrow(alloc: Global, room: usize) -> Result<(u8, Narrow, Vec<u8>), NoMemory> {
     let image = hello(alloc)?;
     let words = ["cat", "cpm8", "-", "0"];
@@ -130,7 +130,7 @@ fn run_narrow(alloc: Global, room: usize) -> Result<(u8, Narrow, Vec<u8>), NoMem
     Ok((status, output, errors))
 }
 
-/// `cat` to such an output writes as many bytes as it has room for, and tells of the device.
+/// `cat` to such an output writes as many bytes as it takes, and reports the device.
 fn assert_front_parts<R: Abort + AllocGlobal>(rt: &R) -> Result<(), NoMemory> {
     let wanted = hello_bytes(rt.alloc())?;
     for room in [0, 1, 100, 127] {

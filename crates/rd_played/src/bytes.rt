@@ -1,4 +1,4 @@
-//! Bytes that are built line by line.
+//! Builds bytes line by line.
 
 use crate::escapes::{add_bytes, bytes_of};
 use anyhow::{Context, Result, bail};
@@ -49,7 +49,7 @@ fn write_over(alloc: Global, bytes: &mut Vec<u8>, text: &str) -> Result<()> {
     write_at(bytes.as_mut_slice(), place, unit.as_slice())
 }
 
-/// Writes a text over places that are apart by a step: the first place, the step, the count and the text.
+/// Writes a text over places at equal steps: the first place, the step, the count and the text.
 fn write_over_each(alloc: Global, bytes: &mut Vec<u8>, text: &str) -> Result<()> {
     let (first, text) = number_and_text(text)?;
     let (step, text) = number_and_text(text)?;
@@ -85,7 +85,7 @@ pub fn build(alloc: Global, bytes: &mut Vec<u8>, word: &str, text: &str) -> Resu
     }
 }
 
-/// Adds bytes that have to go out, by a line: its word, `out` or `out-fill`, and the text after it.
+/// Adds bytes that must go out, by a line: its word, `out` or `out-fill`, and the text after it.
 pub fn add_out(alloc: Global, bytes: &mut Vec<u8>, word: &str, text: &str) -> Result<()> {
     match word {
         "out" => add_bytes(bytes, text),

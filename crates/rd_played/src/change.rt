@@ -1,4 +1,4 @@
-//! Changes of the tables of a desk by SQL, and questions of them.
+//! Changes of the tables of a desk by SQL, and SQL questions about them.
 
 use crate::image::build_with;
 use crate::tables::answer_of;
@@ -8,7 +8,7 @@ use sqlite::types::ValueRef;
 use sqlite::{Connection, Error, MemStore};
 use std::alloc::{AllocError, Global};
 
-/// What has to come of a statement.
+/// What a statement must do.
 #[derive(Clone, Copy, PartialEq, Eq)]
 pub enum Effect {
     /// It changes rows.
@@ -20,7 +20,7 @@ pub enum Effect {
 }
 
 impl Effect {
-    /// The word of the line that wants it.
+    /// The word for it in a line of a trial.
     fn word(self) -> &'static str {
         match self {
             Effect::Rows => "sql",
@@ -29,7 +29,7 @@ impl Effect {
         }
     }
 
-    /// That which the word of a line wants.
+    /// The effect for the word of a line.
     pub fn of(word: &str) -> Effect {
         match word {
             "sql-idle" => Effect::Idle,
@@ -39,7 +39,7 @@ impl Effect {
     }
 }
 
-/// A statement, its place, what has to come of it, and the bytes that stand for `?1` in it.
+/// A statement, its place, what it must do, and the bytes that stand for `?1` in it.
 #[derive(Drop)]
 pub struct Change<'a> {
     pub place: &'a str,
@@ -49,6 +49,7 @@ pub struct Change<'a> {
 }
 
 impl<'a> Change<'a> {
+    /// The change by a statement at a place of a trial, without bytes for `?1`.
     pub fn new(place: &'a str, wanted: Effect, statement: &'a str) -> Change<'a> {
         Change {
             place,
@@ -58,7 +59,7 @@ impl<'a> Change<'a> {
         }
     }
 
-    /// Reads a line on the bytes that are given: its first word, and the text after it.
+    /// Reads a line about the bytes for `?1`: its first word, and the text after it.
     pub fn read(&mut self, rt: &HostRuntime, word: &str, text: &str) -> Result<()> {
         let mut bytes = match self.value.take() {
             Some(bytes) => bytes,
@@ -69,8 +70,8 @@ impl<'a> Change<'a> {
         Ok(())
     }
 
-    /// Changes tables. A statement that has to be refused is a case; another that does otherwise than it has to ends
-    /// the trial.
+    /// Changes tables. A statement that SQL must refuse is a case; if any other statement does not
+    /// do what it must, the trial ends.
     pub fn play(
         &self,
         rt: &HostRuntime,
@@ -88,7 +89,7 @@ impl<'a> Change<'a> {
         Ok(())
     }
 
-    /// Runs it, and gives what came of it.
+    /// Runs the statement, and gives what it did.
     fn run(&self, conn: &mut Connection<MemStore>) -> Effect {
         let changed = match &self.value {
             None => execute(conn, self.statement),
@@ -110,7 +111,7 @@ fn execute_with(conn: &mut Connection<MemStore>, sql: &str, value: &[u8]) -> Res
     conn.execute(sql, &[ValueRef::Blob(value)])
 }
 
-/// A question of SQL, its place, and the rows that have to come, each ended by a line feed.
+/// A question in SQL, its place, and the rows that it must give, each ended by a line feed.
 #[derive(Drop)]
 pub struct Question<'a> {
     pub place: &'a str,
@@ -119,6 +120,7 @@ pub struct Question<'a> {
 }
 
 impl<'a> Question<'a> {
+    /// The question that a statement at a place of a trial asks, without rows yet.
     pub fn new(alloc: Global, place: &'a str, statement: &'a str) -> Question<'a> {
         Question {
             place,

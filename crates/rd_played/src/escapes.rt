@@ -3,7 +3,7 @@
 use anyhow::{Context, Result, bail};
 use std::alloc::{AllocError, Global};
 
-/// How far an escape is read.
+/// How far the reading of an escape has come.
 #[derive(Clone, Copy)]
 enum Place {
     Plain,
@@ -61,7 +61,7 @@ pub fn bytes_of(alloc: Global, text: &str) -> Result<Vec<u8>> {
     Ok(bytes)
 }
 
-/// A text that stands for these bytes. A blank at its end is told as `\x20`.
+/// A text that stands for these bytes. It writes a blank at the end as `\x20`.
 pub fn escaped(alloc: Global, bytes: &[u8]) -> Result<String, AllocError> {
     let mut text = String::new(alloc);
     let (bytes, end) = match bytes {

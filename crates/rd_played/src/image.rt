@@ -1,4 +1,4 @@
-//! Sample images, which files of text build.
+//! Sample images, built from files of text.
 
 use crate::bytes::build;
 use crate::script::parts_of;
@@ -6,10 +6,10 @@ use anyhow::{Context, Result, bail};
 use sha2::{Digest, Sha256};
 use std::fs;
 
-/// How many images, each of which begins with the one before, stand behind an image at most.
+/// How many images at most stand behind an image, each beginning with the next.
 const MOST_BASES: usize = 8;
 
-/// The image that a text begins with, where its first line tells one, and its other lines.
+/// The image that a text begins with, if its first line names one, and its other lines.
 fn base_of(text: &str) -> (Option<&str>, &str) {
     match text.strip_prefix("image ") {
         None => (None, text),

@@ -1,5 +1,8 @@
-//! What programs that play trials have in common: the lines of a text and those that are repeated, bytes and sample
-//! images that lines build, requests and replies, what tables hold, and how many cases hold.
+//! What programs that play trials have in common: lines and repeated lines, the bytes and sample
+//! images that lines build, requests and replies, the contents of tables, and the count of cases.
+//!
+//! A call fails when memory runs out, when it cannot read a file or write the output, and when a
+//! line is not as `docs/TRIALS.md` says.
 #![tactic(auto)]
 
 mod bytes;

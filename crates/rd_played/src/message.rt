@@ -4,8 +4,8 @@ use crate::image::{digest_of, image_of};
 use anyhow::{Context, Result, bail};
 use std::alloc::{AllocError, Global};
 
-/// A request or a reply: its first line, the fields that a trial tells, and its body. Without a first line the
-/// body is all its bytes.
+/// A request or a reply: its first line, the fields that a trial gives, and its body. Without a
+/// first line the body is all its bytes.
 #[derive(Drop)]
 pub struct Message<'a> {
     pub first: Option<&'a str>,
@@ -23,6 +23,7 @@ fn whole(head: String, body: &[u8]) -> Result<Vec<u8>, AllocError> {
 }
 
 impl<'a> Message<'a> {
+    /// A message without a first line, fields and body.
     pub fn new(alloc: Global) -> Message<'a> {
         Message {
             first: None,
@@ -32,7 +33,7 @@ impl<'a> Message<'a> {
         }
     }
 
-    /// Whether nothing is told of it.
+    /// Whether a trial gives nothing of it.
     pub fn is_empty(&self) -> bool {
         self.first.is_none() && self.body.is_empty()
     }
@@ -42,7 +43,7 @@ impl<'a> Message<'a> {
         write!(self.fields, "{name}{value}\r\n")
     }
 
-    /// Reads a line on a request: its method and path, the desk key, or a part of the body.
+    /// Reads a line about a request: its method and path, the desk key, or a part of the body.
     pub fn read_request(&mut self, word: &str, text: &'a str) -> Result<(), AllocError> {
         match word {
             "ask" => self.first = Some(text),
@@ -52,7 +53,8 @@ impl<'a> Message<'a> {
         Ok(())
     }
 
-    /// Reads a line on the head of a reply: its status and its phrase, and of JSON the body too.
+    /// Reads a line about the head of a reply: its status and its phrase and, for JSON, the body
+    /// too.
     pub fn read_head(&mut self, word: &str, text: &'a str) -> Result<(), AllocError> {
         match word {
             "field" => return self.add_field("", text),
@@ -71,8 +73,8 @@ impl<'a> Message<'a> {
         Ok(())
     }
 
-    /// The digits for what stands between braces: `sha256` for the SHA-256 of the body, `sha256` and a file for
-    /// that of an image, `badge` and a desk key for that of the key.
+    /// The digits for the text between braces: `sha256` for the SHA-256 of the body, `sha256` and
+    /// a file for that of an image, `badge` and a desk key for that of the key.
     fn digits(&self, rt: &HostRuntime, text: &str) -> Result<String> {
         match text.split_once(' ') {
             None if text == "sha256" => digest_of(rt, self.body.as_slice()),
@@ -82,7 +84,7 @@ impl<'a> Message<'a> {
         }
     }
 
-    /// The first line, with digits in the place of what stands between braces.
+    /// The first line, with digits in place of the text between braces.
     fn line(&self, rt: &HostRuntime, first: &str) -> Result<String> {
         let Some((before, rest)) = first.split_once('{') else {
             return Ok(String::from_str(rt.alloc(), first)?);

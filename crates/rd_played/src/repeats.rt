@@ -1,11 +1,11 @@
-//! Lines of a trial that are repeated.
+//! Repeated lines of a trial.
 
 use crate::script::{Line, parts_of};
 use anyhow::{Context, Result, bail};
 use std::alloc::{AllocError, Global};
 
-/// Lines that are repeated, with each of these values in the place of a name, and with the number after it in the
-/// place of the name and `+1`.
+/// Repeated lines, with each of these values in place of a name, and with the next number in place
+/// of the name and `+1`.
 #[derive(Drop)]
 struct Block<'a> {
     /// Where it begins.
@@ -15,7 +15,7 @@ struct Block<'a> {
     lines: Vec<&'a Line>,
 }
 
-/// The numbers from one up to another, or those of them that are apart by a step.
+/// The numbers from one up to another, all of them or by a step.
 fn numbers_of(alloc: Global, text: &str) -> Result<Vec<String>> {
     let (first, rest) = text.split_once(' ').context("no two numbers")?;
     let (last, step) = rest.split_once(' ').unwrap_or((rest, "1"));
@@ -34,7 +34,7 @@ fn numbers_of(alloc: Global, text: &str) -> Result<Vec<String>> {
     Ok(numbers)
 }
 
-/// Words, which blanks part.
+/// The words of a text, separated by blanks.
 fn words_of(alloc: Global, text: &str) -> Result<Vec<String>> {
     let mut words = Vec::new(alloc);
     for word in text.split(' ') {
@@ -58,7 +58,7 @@ impl<'a> Block<'a> {
         })
     }
 
-    /// A line of it with one value.
+    /// A line of the block with one value.
     fn line_with(&self, alloc: Global, line: &Line, value: &str) -> Result<Line, AllocError> {
         let name = self.name;
         let mark = format!(in alloc; "{{{name}}}")?;
@@ -77,7 +77,7 @@ impl<'a> Block<'a> {
         })
     }
 
-    /// Adds its lines with one value.
+    /// Adds the lines of the block with one value.
     fn add_with(&self, alloc: Global, all: &mut Vec<Line>, value: &str) -> Result<(), AllocError> {
         for line in &self.lines {
             all.push(self.line_with(alloc, *line, value)?)?;
@@ -85,7 +85,7 @@ impl<'a> Block<'a> {
         Ok(())
     }
 
-    /// Adds its lines with each value.
+    /// Adds the lines of the block with each value.
     fn add_to(&self, alloc: Global, all: &mut Vec<Line>) -> Result<(), AllocError> {
         for value in &self.values {
             self.add_with(alloc, all, value.as_str())?;
@@ -94,7 +94,7 @@ impl<'a> Block<'a> {
     }
 }
 
-/// Takes one more line, and gives the block that it stands in or begins.
+/// Takes one more line, and gives the block that the line is in or begins.
 fn taken<'a>(
     alloc: Global,
     all: &mut Vec<Line>,
@@ -121,7 +121,7 @@ fn taken<'a>(
     }
 }
 
-/// The lines with each block between `for` or `each` and `end` as often as it is repeated.
+/// The lines, with each block between `for` or `each` and `end` repeated as often as it says.
 pub(crate) fn repeated(alloc: Global, lines: &[Line]) -> Result<Vec<Line>> {
     let mut all = Vec::new(alloc);
     let mut block = None;

@@ -5,7 +5,7 @@ use anyhow::{Context, Result};
 use std::alloc::{AllocError, Global};
 use std::fs;
 
-/// A line: where it stands, as a file and a number, and its text.
+/// A line: its place, as a file and a number, and its text.
 #[derive(Drop)]
 pub struct Line {
     pub place: String,
@@ -33,7 +33,7 @@ fn new_line(alloc: Global, file: &str, number: usize, text: &str) -> Result<Line
     })
 }
 
-/// The lines of a file, but for those that are empty or notes.
+/// The lines of a file, without empty ones and notes.
 fn lines_of(rt: &HostRuntime, file: &str) -> Result<Vec<Line>> {
     let text = fs::read_to_string(rt, file).context(format_args!("{file}"))?;
     let mut lines = Vec::new(rt.alloc());
@@ -55,8 +55,8 @@ fn add_copies(lines: &mut Vec<Line>, more: &[Line]) -> Result<(), AllocError> {
     Ok(())
 }
 
-/// The lines of a trial with those of the files that it plays in their places: after a line `play` once, and
-/// after a line `given` there and after each line `anew`.
+/// The lines of a trial, with the lines of the files that it plays in their places: once after a
+/// line `play`; after a line `given`, there and after each line `anew`.
 fn with_played(rt: &HostRuntime, lines: Vec<Line>) -> Result<Vec<Line>> {
     let mut all = Vec::new(rt.alloc());
     let mut given = Vec::new(rt.alloc());
@@ -82,7 +82,7 @@ fn with_played(rt: &HostRuntime, lines: Vec<Line>) -> Result<Vec<Line>> {
     Ok(all)
 }
 
-/// The lines of a trial as they are played.
+/// The lines of a trial in the order of play.
 pub fn script_of(rt: &HostRuntime, file: &str) -> Result<Vec<Line>> {
     let lines = with_played(rt, lines_of(rt, file)?)?;
     repeated(rt.alloc(), &lines)

@@ -24,10 +24,10 @@ fn rows_of(conn: &mut Connection<MemStore>, sql: &str) -> Result<Vec<Row>, Error
     conn.query_all(sql, &[])
 }
 
-/// Bytes that are longer than this are told by their SHA-256.
+/// Bytes longer than this appear as their SHA-256.
 const LONGEST: usize = 1_000;
 
-/// Adds bytes as SQL writes them; where they are many, their number and their SHA-256.
+/// Adds bytes as SQL writes them or, if there are many, their number and their SHA-256.
 fn add_blob(alloc: Global, text: &mut String, bytes: &[u8]) -> Result<()> {
     if bytes.len() > LONGEST {
         let digits = hex::encode(alloc, Sha256::digest(bytes))?;
@@ -63,7 +63,7 @@ fn add_row(alloc: Global, text: &mut String, row: &Row) -> Result<()> {
     Ok(text.push('\n')?)
 }
 
-/// The rows that a question of SQL tells, each ended by a line feed.
+/// The rows that a question in SQL gives, each ended by a line feed.
 pub(crate) fn answer_of(
     alloc: Global,
     conn: &mut Connection<MemStore>,
@@ -76,7 +76,7 @@ pub(crate) fn answer_of(
     Ok(text)
 }
 
-/// The rows of all tables of a desk, where they stand.
+/// The rows of all tables of a desk, as text. A missing table gives `no table`.
 pub fn contents_of(alloc: Global, conn: &mut Connection<MemStore>) -> Result<String> {
     let mut text = String::new(alloc);
     for sql in TABLES {
@@ -89,14 +89,15 @@ pub fn contents_of(alloc: Global, conn: &mut Connection<MemStore>) -> Result<Str
     Ok(text)
 }
 
-/// What tables held that are to be compared.
+/// What tables held, kept to compare it later.
 #[derive(Default, Drop)]
 pub struct KeptTables {
     contents: Option<String>,
 }
 
 impl KeptTables {
-    /// Keeps what tables hold, or compares it with what is kept, by the text of a line `tables`.
+    /// Keeps what tables hold, or compares it with what it has kept, by the text of a line
+    /// `tables`.
     pub fn play(
         &mut self,
         rt: &HostRuntime,

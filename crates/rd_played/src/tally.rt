@@ -1,4 +1,4 @@
-//! How many cases hold, and what is told of one that does not.
+//! Counts how many cases hold, and reports each one that does not.
 
 use crate::escapes::escaped;
 use anyhow::Result;
@@ -26,8 +26,8 @@ impl Tally {
         self.lost = self.lost.saturating_add(other.lost);
     }
 
-    /// Counts a case that holds where what came is what was wanted. Of another it tells its place, its name and
-    /// both texts.
+    /// Counts a case, which holds if what came is what was expected. If not, it reports the case's
+    /// place, its name and both texts.
     pub fn judge(
         &mut self,
         rt: &HostRuntime,
@@ -45,7 +45,7 @@ impl Tally {
         Ok(())
     }
 
-    /// Counts a case that holds where what came is another thing than this.
+    /// Counts a case, which holds if what came is not this.
     pub fn judge_other(
         &mut self,
         rt: &HostRuntime,
@@ -62,7 +62,7 @@ impl Tally {
         Ok(())
     }
 
-    /// Tells how many cases hold, and how many do not; where any does not, the status is 1.
+    /// Writes how many cases hold, and how many do not. The status is 1 if any does not.
     pub fn tell(&self, rt: &HostRuntime) -> Result<ExitCode> {
         let (held, lost) = (self.held, self.lost);
         println!(rt; "{held} cases hold")?;

@@ -1,4 +1,4 @@
--- Who may ask, and sets of them.
+-- Who may make a request, and sets of them.
 use Rattle.std.specs.Prelude.{IsTrue}
 use Rattle.rd_policy.specs.declared.audience.Audience.{Audience}
 use Rattle.rd_policy.specs.declared.audience.Audience.TheVariants.{Public, Room, Staff}

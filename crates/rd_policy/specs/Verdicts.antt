@@ -1,4 +1,4 @@
--- The verdict on a file, over the set of the rules that speak of it. A set of rules is a test of a rule.
+-- The verdict on a file, from the set of the rules about it. A set of rules is a test of a rule.
 use Rattle.std.specs.Prelude.{◌≡◌, ℕ, ℤ, ◌<◌, ◌⊎◌, ◌++◌, List, AllPairs, Contains, codes}
 use Rattle.std.specs.Fmt.{decimal}
 use Rattle.rd_volume.specs.declared.found.Found.{Found}
@@ -39,21 +39,21 @@ abbrev pub label_of : Band → ℕ → ℕ → Label
 label_of Takedown accession rank = TakedownLabel accession rank
 label_of Deed deed rank = DeedLabel deed rank
 
--- what a rule says where it decides
+-- what a rule says when it decides
 abbrev pub verdict_of : Rule → Verdict
 verdict_of rule = record { effect = rule.effect; label = label_of rule.band rule.scope rule.rank }
 
--- what holds where no rule matches
+-- what holds if no rule matches
 abbrev pub DEFAULT : Verdict
 DEFAULT = record { effect = Deny; label = Default }
 
--- the verdict: what the rule that decides says, and to deny where no rule matches
+-- the verdict: what the deciding rule says, or to deny if no rule matches
 abbrev pub IsVerdict : (Rule → Type 0) → Audience → ℤ → Found → Verdict → Type 0
 IsVerdict rules audience day file verdict =
     ((rule : Rule) × Decides rules audience day file rule × (verdict ≡ verdict_of rule))
     ⊎ (NoneMatches rules audience day file × (verdict ≡ DEFAULT))
 
--- of the rules of a list in order, two that decide are one
+-- in a list of rules in order, two rules that decide are the same
 abbrev pub OneRuleDecides : Type 0
 OneRuleDecides = (rules : List Rule) (audience : Audience) (day : ℤ) (file : Found) (one other : Rule)
     → AreInOrder rules

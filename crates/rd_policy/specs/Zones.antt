@@ -15,11 +15,11 @@ IsZoneRule text = IsSome (read_whole text)
 abbrev pub IsZoneOf : List ℕ → Zone → Type 0
 IsZoneOf text zone = IsPosixZone text (plain_zone zone.clock)
 
--- how many seconds clocks may be ahead of UTC, or behind it where they are negative: less than 26 hours
+-- how many seconds clocks may be ahead of UTC, or behind it if negative: less than 26 hours
 abbrev pub IsOffset : ℤ → Type 0
 IsOffset seconds = (neg_ℤ (pos 93_599) ≤ℤ seconds) × (seconds ≤ℤ pos 93_599)
 
--- how many seconds clocks of the zone are ahead of UTC at an instant, or behind it where they are negative
+-- how many seconds clocks of the zone are ahead of UTC at an instant, or behind it if negative
 abbrev pub offset_at : Zone → ℤ → ℤ
 offset_at zone instant = offset_of (plain_zone zone.clock) instant
 

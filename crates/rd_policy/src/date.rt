@@ -12,9 +12,9 @@ use std::fmt;
 /// Why a text gives no day.
 #[derive(Clone, Copy, Debug, PartialEq, Eq, Hash)]
 pub enum DateFault {
-    /// The text is no date from 0001-01-01 to 9999-12-31 of the form `2030-01-01`.
+    /// The text is not a date of the form `2030-01-01`, from 0001-01-01 to 9999-12-31.
     BadDate,
-    /// A growth of memory was refused.
+    /// Memory ran out.
     NoMemory,
 }
 
@@ -35,8 +35,8 @@ impl Error for DateFault {}
 
 /// The date of a day, as `2030-01-01`.
 ///
-/// The day is one from −719,162 (0001-01-01) to 2,932,896 (9999-12-31). It fails only where memory is
-/// refused.
+/// The day is from −719,162 (0001-01-01) to 2,932,896 (9999-12-31), counted from 1970-01-01. It
+/// fails only when memory runs out.
 pub fn date_text(alloc: Global, day: i32) -> Result<String, NoMemory>
     requires { IsDay day }
     ensures { IfOk result (λ text. IsDateOf day (string_bytes text)) }
@@ -50,10 +50,10 @@ pub fn date_text(alloc: Global, day: i32) -> Result<String, NoMemory>
     }
 }
 
-/// The day of a date, which is written as `2030-01-01`.
+/// The day of a date written as `2030-01-01`, counted from 1970-01-01.
 ///
-/// It fails with `BadDate` where the text is no date of that form from 0001-01-01 to 9999-12-31, and
-/// with `NoMemory` where memory is refused.
+/// It fails with `BadDate` when the text is not a date of that form, from 0001-01-01 to
+/// 9999-12-31, and with `NoMemory` when memory runs out.
 pub fn date_read(alloc: Global, text: &str) -> Result<i32, DateFault>
     ensures day { IfOk result (λ day. IsDateOf day text.now) }
     ensures bad { IfErr result (λ fault. fault ≡ DateFault.BadDate → IsNoDate text.now) }

@@ -24,7 +24,7 @@ const LAST_MOMENT: i64 = 253_402_127_999;
 pub enum DayFault {
     /// The moment is before 0001-01-03T00:00:00 UTC or after 9999-12-29T23:59:59 UTC.
     OutOfRange,
-    /// A growth of memory was refused. A day is told without one, so that no call answers this.
+    /// Memory ran out. Finding a day takes no memory, so no call gives this.
     NoMemory,
 }
 
@@ -43,7 +43,8 @@ impl fmt::Display for DayFault {
 
 impl Error for DayFault {}
 
-/// Whether a day is one from 0001-01-01 (−719,162) to 9999-12-31 (2,932,896), counted from 1970-01-01.
+/// Whether a day, counted from 1970-01-01, is from 0001-01-01 (−719,162) to 9999-12-31
+/// (2,932,896).
 pub fn is_day(day: i32) -> bool
     ensures { IsTrue result ↔ IsDay day }
 {
@@ -72,9 +73,10 @@ fn day_in(seconds: i64, zone: &Zone) -> i32
 
 /// The day of a moment in a zone, counted from 1970-01-01, which is day 0.
 ///
-/// The moment is in seconds since 1970-01-01T00:00:00 UTC. It fails with `OutOfRange` exactly where the moment
-/// is before 0001-01-03T00:00:00 UTC (−62,135,424,000) or after 9999-12-29T23:59:59 UTC (253,402,127,999), and
-/// takes no memory. A day that is told is one from 0001-01-01 (−719,162) to 9999-12-31 (2,932,896).
+/// The moment is in seconds since 1970-01-01T00:00:00 UTC. It fails with `OutOfRange` exactly when
+/// the moment is before 0001-01-03T00:00:00 UTC (−62,135,424,000) or after 9999-12-29T23:59:59 UTC
+/// (253,402,127,999), and takes no memory. The day is from 0001-01-01 (−719,162) to 9999-12-31
+/// (2,932,896).
 pub fn day_of(seconds: i64, zone: &Zone) -> Result<i32, DayFault>
     ensures taken { IsOk result ↔ HasDay seconds }
     ensures day { IfOk result (λ day. day ≡ day_number seconds zone.now) }

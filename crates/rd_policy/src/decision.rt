@@ -7,8 +7,8 @@ use crate::rule::{Band, Effect, Rule};
 use crate::verdict::{Label, Verdict};
 use rd_volume::Found;
 
-/// Whether a rule may come next before another: a takedown before a rule of a deed, and within a band
-/// the lower rank before the higher, of the same scope.
+/// Whether one rule may stand directly before another: a takedown before a rule of a deed; within
+/// a band, of the same scope, the lower rank before the higher.
 fn comes_first(first: &Rule, second: &Rule) -> bool
     ensures { IsTrue result ↔ ComesFirst first.now second.now }
 {
@@ -21,8 +21,8 @@ fn comes_first(first: &Rule, second: &Rule) -> bool
     }
 }
 
-/// Whether rules are in the order in which they are asked: takedowns before the rules of a deed, each
-/// band of one scope and with strictly rising ranks. No rules are in order.
+/// Whether rules are in the order in which `decide` tries them: takedowns before the rules of a
+/// deed, each band of one scope and with strictly rising ranks. An empty list is in order.
 pub fn in_order(rules: &[Rule]) -> bool
     ensures { IsTrue result ↔ AreInOrder rules.now }
 {
@@ -36,8 +36,9 @@ pub fn in_order(rules: &[Rule]) -> bool
 
 /// The verdict of rules on a file, for an audience and a day.
 ///
-/// The rules are the takedowns of the file's accession and the rules of its deed, in order. The one
-/// that decides is the matching one before which none matches; where none does, the file is denied.
+/// The rules are the takedowns of the file's accession and the rules of its deed, in order. The
+/// first rule that matches decides; if none matches, the file is denied. The day is counted from
+/// 1970-01-01.
 pub fn decide(rules: &[Rule], audience: Audience, day: i32, file: &Found) -> Verdict
     requires { AreInOrder rules.now }
     ensures { IsVerdict (Contains rules.now) audience day file.now result }
@@ -53,7 +54,7 @@ pub fn decide(rules: &[Rule], audience: Audience, day: i32, file: &Found) -> Ver
     }
 }
 
-/// Law: of rules in order, at most one decides, and they give one verdict.
+/// Law: among rules in order at most one decides, and they give one verdict.
 pub fn one_decides()
     ensures rule { OneRuleDecides }
     ensures verdict { OneVerdict }

@@ -15,7 +15,7 @@ pub enum Effect {
     Deny,
     /// It is listed, and not served.
     List,
-    /// It is listed, and served where it is sound.
+    /// It is listed, and served if it is sound.
     Read,
 }
 
@@ -41,15 +41,15 @@ pub struct Rule {
     pub audiences: Audiences,
     /// The first day on which it holds, counted from 1970-01-01.
     pub from: Option<i32>,
-    /// The day from which on it holds no longer.
+    /// The first day on which it no longer holds, counted from 1970-01-01.
     pub until: Option<i32>,
-    /// Which files it speaks of.
+    /// Which files it is about.
     pub select: Select,
-    /// What it does with them; that of a takedown is not to read.
+    /// What it does with them; the effect of a takedown is never `Read`.
     pub effect: Effect,
 }
 
-/// Whether a day is at or after the first, where there is a first.
+/// Whether a day is at or after the first day, if there is one.
 fn has_begun(from: Option<i32>, day: i32) -> bool
     ensures { IsTrue result ↔ IfSome from (λ first. first ≤ℤ day) }
 {
@@ -59,7 +59,7 @@ fn has_begun(from: Option<i32>, day: i32) -> bool
     }
 }
 
-/// Whether a day is before the end, where there is an end.
+/// Whether a day is before the end, if there is one.
 fn is_not_over(until: Option<i32>, day: i32) -> bool
     ensures { IsTrue result ↔ IfSome until (λ end. day <ℤ end) }
 {
@@ -69,7 +69,7 @@ fn is_not_over(until: Option<i32>, day: i32) -> bool
     }
 }
 
-/// Whether there is no day, or one that has a date.
+/// Whether there is no day, or the day has a date.
 fn is_no_day_or_fits(day: Option<i32>) -> bool
     ensures { IsTrue result ↔ IfSome day IsDay }
 {
@@ -107,7 +107,7 @@ impl Rule {
             && self.select.selects(file)
     }
 
-    /// What the rule says where it decides.
+    /// What the rule says when it decides.
     pub(crate) fn verdict(&self) -> Verdict
         ensures { result ≡ verdict_of self.now }
     {

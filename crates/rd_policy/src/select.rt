@@ -4,7 +4,7 @@ use crate::limits::is_plain_text;
 use rd_geometry::Text;
 use rd_volume::Found;
 
-/// Which files a rule speaks of.
+/// Which files a rule is about.
 #[derive(Debug, Drop)]
 pub enum Select {
     /// Each file.
@@ -23,7 +23,7 @@ impl Select {
     ghost use Rattle.rd_policy.specs.Matches.{Selects};
     ghost use Rattle.rd_policy.specs.Rules.{IsSelect};
 
-    /// Whether a file is one of those.
+    /// Whether the selector picks a file.
     pub(crate) fn selects(&self, file: &Found) -> bool
         ensures { IsTrue result ↔ Selects self.now file.now }
     {

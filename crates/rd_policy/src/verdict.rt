@@ -28,10 +28,10 @@ impl fmt::Display for Label {
     }
 }
 
-/// What the rules say of a file, and by which of them.
+/// What the rules say of a file, and which rule says it.
 #[derive(Clone, Copy, Debug, PartialEq, Eq, Hash)]
 pub struct Verdict {
-    /// What is done with the file.
+    /// What the desk does with the file.
     pub effect: Effect,
     /// The rule that decided.
     pub label: Label,

@@ -9,9 +9,9 @@ use std::fmt;
 /// Why a text gives no zone.
 #[derive(Clone, Copy, Debug, PartialEq, Eq, Hash)]
 pub enum ZoneFault {
-    /// The text is no rule.
+    /// The text is not a rule for clocks.
     BadZone,
-    /// A growth of memory was refused. A rule is read without one, so that no call answers this.
+    /// Memory ran out. Reading a rule takes no memory, so no call gives this.
     NoMemory,
 }
 
@@ -41,7 +41,7 @@ impl Zone {
     /// Its hours count west of UTC, so that `CET-1` is an hour ahead. A name has 3 to 15 bytes, and after a name for
     /// summer time come the two days on which the clocks change.
     ///
-    /// It fails with `BadZone` exactly where the text is no such rule, and takes no memory.
+    /// It fails with `BadZone` exactly when the text is not such a rule, and takes no memory.
     pub fn read(text: &str) -> Result<Zone, ZoneFault>
         ensures taken { IsOk result ↔ IsZoneRule text.now }
         ensures zone { IfOk result (λ zone. IsZoneOf text.now zone) }
@@ -53,7 +53,8 @@ impl Zone {
         }
     }
 
-    /// How many seconds clocks are ahead of UTC at an instant, or behind it where they are negative.
+    /// How many seconds the zone's clocks are ahead of UTC at an instant; negative if they are
+    /// behind.
     pub(crate) fn offset(&self, instant: Timestamp) -> i32
         ensures value { result ≡ offset_at self.now instant.nanosecond }
         ensures bound { IsOffset result }

@@ -8,15 +8,17 @@ use Rattle.rd_program.specs.declared.done.Done.TheVariants.{InPart, Whole}
 use Rattle.rd_program.specs.declared.refusal.Refusal.{Refusal}
 use Rattle.rd_program.specs.declared.refusal.Refusal.TheVariants.{Device, NoAccession, StaffOnly, UnknownKey}
 
--- why a desk gives no answer: it refuses the request, the device failed, memory was refused, or the store failed
+-- why a desk gives no answer: it refuses the request, the device failed, memory ran out, or the
+-- store failed
 abbrev pub IsReplyRefusal : Refusal → Type 0
 IsReplyRefusal refusal = (refusal ≡ UnknownKey) ⊎ ((refusal ≡ StaffOnly) ⊎ ((refusal ≡ NoAccession) ⊎ IsRowRefusal refusal))
 
--- why a desk is not asked
+-- why the program does not ask a desk
 abbrev pub IsAskRefusal : Refusal → Type 0
 IsAskRefusal refusal = IsOpenRefusal refusal ⊎ (IsClockRefusal refusal ⊎ IsReplyRefusal refusal)
 
--- Why nothing is told, and what was written then: nothing, unless the device failed while it was told.
+-- Why there is no answer, and what was written then: nothing, unless the device failed while the
+-- answer was written.
 abbrev pub RefusesOnce : Option (List ℕ) → Option (List ℕ) → Refusal → Type 0
 RefusesOnce old new refusal = (IsAskRefusal refusal × Keeps old new) ⊎ (refusal ≡ Device)
 

@@ -1,4 +1,4 @@
--- What is read of the words of a command.
+-- What the program reads in the words of a command.
 use Rattle.std.specs.Prelude.{◌≡◌, ◌+◌, ◌⊎◌, ⊤, ℕ, ℤ, List, None, Ok, Option, Some, codes, option_map}
 use Rattle.std.specs.Int.{w64}
 use Rattle.std.specs.Str.Parse.{ParsesSigned, ParsesUnsigned}
@@ -28,122 +28,127 @@ use Rattle.rd_program.specs.CommandLine.{HasFault}
 use Rattle.rd_program.specs.Words.{IsSlotText}
 use Rattle.rd_program.specs.Zones.{HasClocks, HasZoneRule, IsRuleTold}
 
--- the file at the slot of the image of the kind is asked for
+-- it asks for the file at the slot of the image of the kind
 pub record AsksFile (ask : FileAsk) (kind : Kind) (image : List ℕ) (slot : ℕ) : Type 0 where
   pub kind_is : ask.kind ≡ kind
   pub image_is : ask.image.now ≡ image
   pub slot_is : ask.slot ≡ slot
 
--- the files of the image of the kind are asked for
+-- it asks for the files of the image of the kind
 pub record AsksFiles (ask : ImageAsk) (kind : Kind) (image : List ℕ) : Type 0 where
   pub kind_is : ask.kind ≡ kind
   pub image_is : ask.image.now ≡ image
 
--- a desk in the file of the store is asked for, with this key without the blanks and tabs at both ends
+-- it asks for a desk in the file of the store, with this key without the blanks and tabs at both
+-- ends
 pub record AsksNew (ask : InitAsk) (store key : List ℕ) : Type 0 where
   pub store_is : ask.store.now ≡ store
   pub key_is : ask.key.now ≡ trim_ows key
 
--- so many visits are asked for, at the port, of the desk in the file of the store, whose clocks are those of the rule
+-- it asks for so many visits, at the port, of the desk in the file of the store, with clocks by
+-- the rule
 pub record AsksVisits (ask : ServeAsk) (store : List ℕ) (port count : ℕ) (rule : List ℕ) : Type 0 where
   pub store_is : ask.store.now ≡ store
   pub port_is : ask.port ≡ port
   pub count_is : ask.count ≡ count
   pub zone_is : IsZoneOf rule ask.zone
 
--- a moment is told, in seconds since 1970-01-01T00:00:00 UTC, or none, for clocks that are those of the rule
+-- it names a moment, in seconds since 1970-01-01T00:00:00 UTC, or none, and clocks by the rule
 pub record AsksWhen (ask : WhenAsk) (moment : Option ℤ) (rule : List ℕ) : Type 0 where
   pub moment_is : ask.seconds ≡ moment
   pub zone_is : IsZoneOf rule ask.zone
 
--- The images of the sheet are to be taken in by the desk in the file of the store, for a caller with this key without the
--- blanks and tabs at both ends, at that moment by these clocks.
+-- It asks the desk in the file of the store to take in the images of the sheet, for a caller with
+-- this key without the blanks and tabs at both ends, at that moment by these clocks.
 pub record AsksImages (ask : ImportAsk) (store key sheet : List ℕ) (moment : Option ℤ) (rule : List ℕ) : Type 0 where
   pub store_is : ask.store.now ≡ store
   pub key_is : ask.key.now ≡ trim_ows key
   pub sheet_is : ask.sheet.now ≡ sheet
   pub when_is : AsksWhen ask.when moment rule
 
--- The desk in the file of the store is asked this once, by a caller with this key without the blanks and tabs at both ends,
--- or without one, at that moment by these clocks.
+-- It asks the desk in the file of the store this question, for a caller with this key without the
+-- blanks and tabs at both ends, or without one, at that moment by these clocks.
 pub record AsksOnce (ask : OnceAsk) (store : List ℕ) (key : Option (List ℕ)) (question : Question) (moment : Option ℤ) (rule : List ℕ) : Type 0 where
   pub store_is : ask.store.now ≡ store
   pub key_is : option_map (λ key. key.now) ask.key ≡ option_map trim_ows key
   pub question_is : ask.question ≡ question
   pub when_is : AsksWhen ask.when moment rule
 
--- what is asked for is the file at the slot of the image of the kind
+-- the command asks for the file at the slot of the image of the kind
 abbrev pub IsFileAsk : Kind → List ℕ → ℕ → Ask → Type 0
 IsFileAsk kind image slot (File ask) = AsksFile ask kind image slot
 IsFileAsk kind image slot _ = ⊥
 
--- what is asked for is the files of the image of the kind
+-- the command asks for the files of the image of the kind
 abbrev pub IsFilesAsk : Kind → List ℕ → Ask → Type 0
 IsFilesAsk kind image (Files ask) = AsksFiles ask kind image
 IsFilesAsk kind image _ = ⊥
 
--- what is asked for is a desk in the file of the store, with the key
+-- the command asks for a desk in the file of the store, with the key
 abbrev pub IsInitAsk : List ℕ → List ℕ → Ask → Type 0
 IsInitAsk store key (Init ask) = AsksNew ask store key
 IsInitAsk store key _ = ⊥
 
--- what is asked for is so many visits at the port, of the desk in the file of the store, by its clocks
+-- the command asks for so many visits at the port, of the desk in the file of the store, by its
+-- clocks
 abbrev pub IsServeAsk : List ℕ → ℕ → ℕ → List ℕ → Ask → Type 0
 IsServeAsk store port count rule (Serve ask) = AsksVisits ask store port count rule
 IsServeAsk store port count rule _ = ⊥
 
--- what is asked for is that the images of the sheet are taken in by the desk in the file of the store, for the key
+-- the command asks the desk in the file of the store to take in the images of the sheet, for the
+-- key
 abbrev pub IsImportAsk : List ℕ → List ℕ → List ℕ → Option ℤ → List ℕ → Ask → Type 0
 IsImportAsk store key sheet moment rule (Import ask) = AsksImages ask store key sheet moment rule
 IsImportAsk store key sheet moment rule _ = ⊥
 
--- what is asked for is an answer of the desk in the file of the store
+-- the command asks for an answer of the desk in the file of the store
 abbrev pub IsOnceAsk : List ℕ → Option (List ℕ) → Question → Option ℤ → List ℕ → Ask → Type 0
 IsOnceAsk store key question moment rule (Once ask) = AsksOnce ask store key question moment rule
 IsOnceAsk store key question moment rule _ = ⊥
 
--- a desk is asked once
+-- one question to a desk
 abbrev pub AsksADesk : Ask → Type 0
 AsksADesk (Once ask) = ⊤
 AsksADesk _ = ⊥
 
--- it is asked what a check of this accession finds
+-- the question what a check of this accession finds
 abbrev pub IsCheckOf : ℕ → Question → Type 0
 IsCheckOf acc (question.Check accession) = accession ≡ acc
 IsCheckOf acc question.Catalogue = ⊥
 
--- a desk is asked what a check of this accession finds
+-- the question to a desk what a check of this accession finds
 abbrev pub AsksCheckOf : ℕ → Ask → Type 0
 AsksCheckOf acc (Once ask) = IsCheckOf acc ask.question
 AsksCheckOf acc _ = ⊥
 
--- it is asked for a check
+-- the question asks for a check
 abbrev pub IsCheck : Question → Type 0
 IsCheck (question.Check accession) = ⊤
 IsCheck question.Catalogue = ⊥
 
--- an accession that is asked for is a number of one
+-- the number of an accession in a question is within its limits
 abbrev pub IsAskable : Question → Type 0
 IsAskable (question.Check accession) = IsScope accession
 IsAskable question.Catalogue = ⊤
 
--- where not all is well the output tells it: what became of a row, or that an image is changed
+-- if not all is well, the output says so: what became of a row, or that an image is changed
 abbrev pub TellsOnOutput : Ask → Type 0
 TellsOnOutput (Import ask) = ⊤
 TellsOnOutput (Once ask) = IsCheck ask.question
 TellsOnOutput _ = ⊥
 
--- what is asked for is done in rows, of each of which a line tells what became of it
+-- the command goes row by row, and a line for each row says what became of it
 abbrev pub TellsInRows : Ask → Type 0
 TellsInRows (Import ask) = ⊤
 TellsInRows _ = ⊥
 
--- where an accession is asked for, it is a number from 1 to 999,999
+-- if the command names an accession, its number is from 1 to 999,999
 abbrev pub IsWithinLimits : Ask → Type 0
 IsWithinLimits (Once ask) = IsAskable ask.question
 IsWithinLimits _ = ⊤
 
--- how many bytes of the input are read at most: one more than the image that is asked for has, and else none
+-- how many bytes of the input the command reads at most: one more than the image has, or none if
+-- it reads no image
 abbrev pub most_read : Ask → ℕ
 most_read (File ask) = size_of ask.kind + 1
 most_read (Files ask) = size_of ask.kind + 1
@@ -152,19 +157,19 @@ most_read (Serve ask) = 0
 most_read (Import ask) = 0
 most_read (Once ask) = 0
 
--- what is told of the words is help
+-- the text to write is help
 abbrev pub IsHelp : Unread → Type 0
 IsHelp (Told error) = kind_of error ≡ DisplayHelp
 IsHelp Usage = ⊥
 IsHelp NoMemory = ⊥
 
--- what is told of the words is the version
+-- the text to write is the version
 abbrev pub IsVersion : Unread → Type 0
 IsVersion (Told error) = kind_of error ≡ DisplayVersion
 IsVersion Usage = ⊥
 IsVersion NoMemory = ⊥
 
--- what is told of the words is a fault that `clap` finds in them
+-- the text to write is a fault that `clap` finds in the words
 abbrev pub IsFaultOf : List Text → Unread → Type 0
 IsFaultOf words (Told error) = HasFault words (kind_of error)
 IsFaultOf words Usage = Unit {0}
@@ -225,7 +230,8 @@ pub record EntersServe (entered : Option (Text × List Row)) (store : List ℕ) 
   pub into : entered ≡ Some (codes "serve", rows)
   pub found : AreServeRows rows store port count rule
 
--- what the option for a moment tells: nothing where it is absent, and else the number that its text writes
+-- what the option for a moment gives: nothing if it is absent, and otherwise the number that its
+-- text writes
 abbrev pub IsMomentTold : Option (List ℕ) → Option ℤ → Type 0
 IsMomentTold (Some text) moment = (seconds : ℤ) × ParsesSigned {E = ParseIntError} w64 10 text (Ok seconds) × (moment ≡ Some seconds)
 IsMomentTold None moment = moment ≡ None
@@ -249,7 +255,7 @@ pub record EntersImport (entered : Option (Text × List Row)) (store key sheet :
 abbrev pub EntersAs : Text → Option (Text × List Row) → Type 0
 EntersAs name entered = (rows : List Row) × (entered ≡ Some (name, rows))
 
--- where the parse went into a command that has clocks, it found a rule for them
+-- if the parse went into a command that has clocks, it found a rule for them
 abbrev pub EntersByRule : Option (Text × List Row) → Type 0
 EntersByRule entered = (name : List ℕ) (rows : List Row) → entered ≡ Some (name, rows) → HasClocks name → HasZoneRule rows
 
@@ -285,6 +291,6 @@ pub record EntersCheck (entered : Option (Text × List Row)) (store key : List �
   pub into : entered ≡ Some (codes "check", rows)
   pub found : AreCheckRows rows store key acc moment rule
 
--- the parse went into a command that tells on the output where not all is well
+-- the parse went into a command whose output says if not all is well
 abbrev pub EntersTelling : Option (Text × List Row) → Type 0
 EntersTelling entered = EntersAs (codes "import") entered ⊎ EntersAs (codes "check") entered

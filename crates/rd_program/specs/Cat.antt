@@ -14,8 +14,8 @@ use Rattle.rd_program.specs.declared.refusal.Refusal.{Refusal}
 use Rattle.rd_program.specs.declared.refusal.Refusal.TheVariants.{Device, NoMemory}
 use Rattle.rd_program.specs.declared.refusal.Refusal.TheVariants.{WrongSize, NoFile, ListedOnly, Faulty}
 
--- The bytes are an image of the kind, the slot is that of a file, the file is of the class that is served
--- and has no fault, and out is exactly the file's bytes.
+-- The bytes are an image of the kind, the slot is that of a file, desk serves its class, it has no
+-- fault, and `out` is exactly the file's bytes.
 pub record IsCat (kind : Kind) (slot : ℕ) (image out : List ℕ) : Type 0 where
   pub size : length image ≡ size_of kind
   pub file : IsSlotOfFile kind image slot
@@ -46,15 +46,15 @@ pub record HasNoFile (kind : Kind) (slot : ℕ) (image : List ℕ) : Type 0 wher
   pub size : length image ≡ size_of kind
   pub absent : ¬ IsSlotOfFile kind image slot
 
--- The bytes are an image of the kind, the slot is that of a file, and the file is not of the class that
--- is served.
+-- The bytes are an image of the kind, the slot is that of a file, and desk does not serve its
+-- class.
 pub record IsListedOnly (kind : Kind) (slot : ℕ) (image : List ℕ) : Type 0 where
   pub size : length image ≡ size_of kind
   pub file : IsSlotOfFile kind image slot
   pub not_served : ¬ IsOfServedClass kind image slot
 
--- The bytes are an image of the kind, the slot is that of a file, and the file is of the class that is
--- served and has a fault.
+-- The bytes are an image of the kind, the slot is that of a file, and desk serves its class, but
+-- it has a fault.
 pub record HasFaultyFile (kind : Kind) (slot : ℕ) (image : List ℕ) : Type 0 where
   pub size : length image ≡ size_of kind
   pub file : IsSlotOfFile kind image slot
@@ -66,21 +66,21 @@ abbrev pub AreFaultsOf : Kind → List ℕ → ℕ → ℕ → Type 0
 AreFaultsOf Cpm8 image slot faults = cpm_fault.AreFaults (slot_of image) slot faults
 AreFaultsOf D64 image slot faults = OfDirectory image (λ blocks. cbm_fault.AreFaults image blocks slot faults)
 
--- The slot is that of a faulty file of an image of the kind, and the faults that are told, of a file of
--- an image of a kind, are those of this file.
+-- The slot is that of a faulty file of an image of the kind, and the faults that the refusal names
+-- are those of this file.
 pub record IsFaultyBy (kind : Kind) (slot : ℕ) (image : List ℕ) (of_kind : Kind) (faults : ℕ) : Type 0 where
   pub file : HasFaultyFile kind slot image
   pub same_kind : of_kind ≡ kind
   pub are_faults : AreFaultsOf kind image slot faults
 
--- The bytes are no image of the kind, no file of it has the slot, or that file is not of the class that
--- is served or has a fault.
+-- The bytes are no image of the kind, no file of it has the slot, or desk does not serve that
+-- file's class, or it has a fault.
 abbrev pub HasNoSoundFile : Kind → ℕ → List ℕ → Type 0
 HasNoSoundFile kind slot image =
     (length image ≢ size_of kind) ⊎ (HasNoFile kind slot image
     ⊎ (IsListedOnly kind slot image ⊎ HasFaultyFile kind slot image))
 
--- Why `cat` is refused, and what was written then.
+-- Why `cat` fails, and what was written then.
 abbrev pub Refuses : Refusal → Kind → ℕ → List ℕ → Option (List ℕ) → Option (List ℕ) → Type 0
 Refuses Device kind slot image old new = IsCut kind slot image old new
 Refuses NoMemory kind slot image old new = Keeps old new

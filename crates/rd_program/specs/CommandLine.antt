@@ -1,4 +1,4 @@
--- The command line as it is described to `clap`.
+-- The command line as the program describes it to `clap`.
 use Rattle.std.specs.Prelude.{◌≡◌, ◌⊎◌, List, [], ◌∷◌, Some, codes, map, pos, true}
 use Rattle.std.specs.Borrow.{Bor}
 use Rattle.clap.specs.Simple.{on_top}
@@ -12,11 +12,11 @@ use Rattle.clap.specs.declared.builder.value_parser.ValueParser.TheVariants.{Nam
 abbrev pub NameList : Type 0
 NameList = Bor (List (Bor Text))
 
--- an operand that has to be there
+-- a required operand
 abbrev pub required : Text → Rule
 required id = record (new_rule id) { required = true }
 
--- an operand that has to be there and passes a parser
+-- a required operand that passes a parser
 abbrev pub required_by : Text → ValueParser → Rule
 required_by id parser = record (required id) { parser = Some parser }
 
@@ -41,7 +41,7 @@ cat_app kinds =
 abbrev pub list_app : NameList → App
 list_app kinds = with_rule (with_rule (new_app (codes "list")) (kind_rule kinds)) image_rule
 
--- an option that has to be there, whose value has a name in the help
+-- a required option, whose value has a name in the help
 abbrev pub required_option : Text → Rule
 required_option id = record (required id) { long = Some id; value_names = 1 }
 
@@ -112,7 +112,7 @@ check_app =
     with_rule (with_rule (with_rule (with_rule (with_rule (new_app (codes "check")) store_rule) key_rule) accession_rule)
     moment_rule) zone_rule
 
--- the words come without the program's name, one of them is a command's, and there is a version to tell
+-- the words come without the program's name, one of them is a command's, and there is a version
 abbrev pub wants_command : Shape → Shape
 wants_command s = record s {
   no_binary_name = true;
@@ -170,7 +170,7 @@ pub record IsTakenAs (name : Text) (words : List Text) : Type 0 where
   pub rows : List Row
   pub into : subcommand_of app words ≡ Some (name, rows)
 
--- they are a command that tells on the output where not all is well
+-- they are a command whose output says if not all is well
 abbrev pub IsTakenTelling : List Text → Type 0
 IsTakenTelling words = IsTakenAs (codes "import") words ⊎ IsTakenAs (codes "check") words
 

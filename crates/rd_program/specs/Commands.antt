@@ -22,9 +22,9 @@ pub record AsksServe (words : List Text) (store : List ℕ) (port count : ℕ) (
   pub enters : Enters words (codes "serve") rows
   pub found : AreServeRows rows store port count rule
 
--- The words ask that the images of a sheet be taken in by the desk in the file of a store, for a caller with this key, at a
--- moment that is told, or that of the clock, by the clocks of the rule: they are those of `import`, as
--- `clap` takes them.
+-- The words ask the desk in the file of a store to take in the images of a sheet, for a caller
+-- with this key, at a moment that they name, or that of the clock, by the clocks of the rule: they
+-- are those of `import`, as `clap` takes them.
 pub record AsksImport (words : List Text) (store key sheet : List ℕ) (moment : Option ℤ) (rule : List ℕ) : Type 0 where
   pub rows : List Row
   pub enters : Enters words (codes "import") rows
@@ -35,9 +35,9 @@ abbrev pub IsImport : List Text → Type 0
 IsImport words = (store : List ℕ) × (key : List ℕ) × (sheet : List ℕ) × (moment : Option ℤ) × (rule : List ℕ)
     × AsksImport words store key sheet moment rule
 
--- The words ask for the catalogue of the desk in the file of a store, for a caller with this key or without one, at a moment
--- that is told, or that of the clock, by the clocks of the rule: they are those of `export`, as `clap`
--- takes them.
+-- The words ask for the catalogue of the desk in the file of a store, for a caller with this key
+-- or without one, at a moment that they name, or that of the clock, by the clocks of the rule:
+-- they are those of `export`, as `clap` takes them.
 pub record AsksExport (words : List Text) (store : List ℕ) (key : Option (List ℕ)) (moment : Option ℤ) (rule : List ℕ) : Type 0 where
   pub rows : List Row
   pub enters : Enters words (codes "export") rows
@@ -47,8 +47,8 @@ pub record AsksExport (words : List Text) (store : List ℕ) (key : Option (List
 abbrev pub IsExport : List Text → Type 0
 IsExport words = (store : List ℕ) × (key : Option (List ℕ)) × (moment : Option ℤ) × (rule : List ℕ) × AsksExport words store key moment rule
 
--- The words ask that the image of an accession be checked by the desk in the file of a store, for a caller with this key, at
--- such a moment by such clocks: they are those of `check`, as `clap` takes them.
+-- The words ask the desk in the file of a store to check the image of an accession, for a caller
+-- with this key, at such a moment by such clocks: they are those of `check`, as `clap` takes them.
 pub record AsksCheck (words : List Text) (store key : List ℕ) (acc : ℕ) (moment : Option ℤ) (rule : List ℕ) : Type 0 where
   pub rows : List Row
   pub enters : Enters words (codes "check") rows
@@ -58,8 +58,8 @@ pub record AsksCheck (words : List Text) (store key : List ℕ) (acc : ℕ) (mom
 abbrev pub IsCheckOf : List Text → ℕ → Type 0
 IsCheckOf words acc = (store : List ℕ) × (key : List ℕ) × (moment : Option ℤ) × (rule : List ℕ) × AsksCheck words store key acc moment rule
 
--- the words ask for a desk, for visits, for images to be taken in, for the catalogue or for a check, of which no input is
--- read
+-- the words ask for a desk, for visits, to take in images, for the catalogue or for a check; none
+-- of these reads the input
 abbrev pub AsksOfStore : List Text → Type 0
 AsksOfStore words = ((store : List ℕ) × (key : List ℕ) × AsksInit words store key)
     ⊎ (((store : List ℕ) × (port : ℕ) × (count : ℕ) × (rule : List ℕ) × AsksServe words store port count rule)
@@ -70,11 +70,11 @@ abbrev pub IsCommand : List Text → Type 0
 IsCommand words = ((kind : Kind) × (image : List ℕ) × (slot : ℕ) × AsksCat words kind image slot)
     ⊎ (((kind : Kind) × (image : List ℕ) × AsksList words kind image) ⊎ AsksOfStore words)
 
--- where `clap` takes the words as a command that has clocks, they tell a rule for these
+-- if `clap` takes the words as a command that has clocks, they give a rule for these
 abbrev pub TellsARule : List Text → Type 0
 TellsARule words = (name : List ℕ) (rows : List Row) → Enters words name rows → HasClocks name → HasZoneRule rows
 
--- what is asked for is what the words ask for
+-- the program asks for what the words ask for
 pub record IsAskOf (words : List Text) (ask : Ask) : Type 0 where
   pub file : (kind : Kind) (image : List ℕ) (slot : ℕ) → AsksCat words kind image slot → IsFileAsk kind image slot ask
   pub files : (kind : Kind) (image : List ℕ) → AsksList words kind image → IsFilesAsk kind image ask

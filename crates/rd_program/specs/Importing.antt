@@ -11,47 +11,47 @@ use Rattle.rd_program.specs.declared.done.Done.TheVariants.{InPart, Whole}
 use Rattle.rd_program.specs.declared.refusal.Refusal.{Refusal}
 use Rattle.rd_program.specs.declared.refusal.Refusal.TheVariants.{BadSheet, Device, NoMemory, Store}
 
--- the line that tells what is said of an accession
+-- the line that says this of an accession
 abbrev pub said_line : ℕ → List ℕ → List ℕ
 said_line acc said = decimal acc ++ (codes " " ++ (said ++ line_feed))
 
--- the line that tells that a row of this number, from 1, is none
+-- the line that says that the row with this number, from 1, is bad
 abbrev pub bad_row_line : ℕ → List ℕ
 bad_row_line number = codes "row " ++ (decimal number ++ (codes " bad-row" ++ line_feed))
 
--- a line that tells that an image was taken in
+-- a line that says that an image was taken in
 abbrev pub IsDoneLine : List ℕ → Type 0
 IsDoneLine line = (acc : ℕ) × (line ≡ said_line acc (codes "done"))
 
--- a line that tells what became of a row
+-- a line that says what became of a row
 abbrev pub IsRowLine : List ℕ → Type 0
 IsRowLine line = ((acc : ℕ) × (said : List ℕ) × (line ≡ said_line acc said)) ⊎ ((number : ℕ) × (line ≡ bad_row_line number))
 
--- A writer has gained lines of which this holds.
+-- A writer has gained lines for which this holds.
 pub record GainsLines (P : List ℕ → Type 0) (old new : Option (List ℕ)) : Type 0 where
   pub lines : List (List ℕ)
   pub each : All P lines
   pub gained : Appends old new (concat lines)
 
--- A writer has gained a front part of lines that tell what became of rows.
+-- A writer has gained a front part of lines that say what became of rows.
 pub record GainsFront (old new : Option (List ℕ)) : Type 0 where
   pub lines : List (List ℕ)
   pub each : All IsRowLine lines
   pub gained : AppendsPart old new (concat lines)
 
--- A writer has gained one line of which this holds.
+-- A writer has gained one line for which this holds.
 pub record GainsLine (P : List ℕ → Type 0) (old new : Option (List ℕ)) : Type 0 where
   pub line : List ℕ
   pub is : P line
   pub gained : Appends old new line
 
--- A writer has gained a front part of one line that tells what became of a row.
+-- A writer has gained a front part of one line that says what became of a row.
 pub record GainsFrontOfLine (old new : Option (List ℕ)) : Type 0 where
   pub line : List ℕ
   pub is : IsRowLine line
   pub gained : AppendsPart old new line
 
--- the lines of rows: where all was done, each line tells of an image that was taken in
+-- the lines of rows: if all was done, each line says that an image was taken in
 abbrev pub TellsRows : Option (List ℕ) → Option (List ℕ) → Done → Type 0
 TellsRows old new Whole = GainsLines IsDoneLine old new
 TellsRows old new InPart = GainsLines IsRowLine old new
@@ -61,7 +61,7 @@ abbrev pub TellsRow : Option (List ℕ) → Option (List ℕ) → Done → Type 
 TellsRow old new Whole = GainsLine IsDoneLine old new
 TellsRow old new InPart = GainsLine IsRowLine old new
 
--- the device failed, memory was refused, or the store failed
+-- the device failed, memory ran out, or the store failed
 abbrev pub IsRowRefusal : Refusal → Type 0
 IsRowRefusal refusal = (refusal ≡ Device) ⊎ ((refusal ≡ NoMemory) ⊎ (refusal ≡ Store))
 
@@ -78,6 +78,6 @@ RefusesRows old new refusal = ((refusal ≡ BadSheet) × GainsLines IsRowLine ol
 abbrev pub IsImportRefusal : Refusal → Type 0
 IsImportRefusal refusal = IsOpenRefusal refusal ⊎ (IsClockRefusal refusal ⊎ (refusal ≡ Device))
 
--- Why `import` is refused, and what was written then: nothing where the sheet was not begun.
+-- Why `import` fails, and what was written then: nothing if the sheet was not begun.
 abbrev pub RefusesImport : Option (List ℕ) → Option (List ℕ) → Refusal → Type 0
 RefusesImport old new refusal = RefusesRows old new refusal ⊎ (IsImportRefusal refusal × Keeps old new)

@@ -13,24 +13,25 @@ use Rattle.rd_program.specs.Refusals.{refusal_to_create}
 use Rattle.rd_program.specs.declared.refusal.Refusal.{Refusal}
 use Rattle.rd_program.specs.declared.refusal.Refusal.TheVariants.{Device, Exists, NoMemory, Store}
 
--- the line that tells that a desk was made
+-- the line that says that a desk was made
 abbrev pub done_line : List ℕ
 done_line = codes "done" ++ line_feed
 
--- Over a connection no desk was made, by this refusal: `exists` exactly where a table `desk` stands, and then nothing was
--- done, and else `store`.
+-- No desk was made over a connection, for this reason: `exists` exactly if a table `desk` stands,
+-- and then nothing was done, and otherwise `store`.
 pub record NotMade {S : Type 0} (g : Ghosts S) (old new : Held S) (staff : List ℕ) (refusal : Refusal) : Type 0 where
   pub fault : CreateFault
   pub told : refusal ≡ refusal_to_create fault
   pub not_created : IsNotCreated g old new staff fault
 
--- the desk was made, with this one staff key, where both are told
+-- the desk was made, with this one staff key, if the machine shows both connections
 abbrev pub MakesDesk : {S : Type 0} → Ghosts S → Option (Held S) → Option (Held S) → List ℕ → Type 0
 MakesDesk g old new staff = IfBoth old new (λ before after. IsCreated g before after staff)
 
--- What stands where `init` is refused, by what was told before of the connection that was left, by the one that stood and by
--- the one that is left: the new desk where the device failed, and where a desk stood already what stood; where the store
--- failed the database is as it was, or there was no connection; and where memory was refused there was none.
+-- What stands after `init` fails, by the connection that was left before, the one that stood and
+-- the one that is left: the new desk if the device failed, and what stood if a desk stood already;
+-- if the store failed, the database is as it was, or there was no connection; and if memory ran
+-- out, there was none.
 abbrev pub LeavesInit : {S : Type 0} → Ghosts S → Option (Held S) → Option (Held S) → Option (Held S) → List ℕ → Refusal → Type 0
 LeavesInit g was old new staff Device = MakesDesk g old new staff
 LeavesInit g was old new staff Exists = IfBoth old new (λ before after. IsNotCreated g before after staff create.Exists)
@@ -42,7 +43,7 @@ LeavesInit g was old new staff refusal = ⊤
 abbrev pub IsInitRefusal : Refusal → Type 0
 IsInitRefusal refusal = (refusal ≡ Exists) ⊎ ((refusal ≡ Store) ⊎ (refusal ≡ NoMemory))
 
--- Why `init` is refused, and what was written then.
+-- Why `init` fails, and what was written then.
 abbrev pub RefusesInit : Refusal → Option (List ℕ) → Option (List ℕ) → Type 0
 RefusesInit Device old new = AppendsPart old new done_line
 RefusesInit refusal old new = Keeps old new × IsInitRefusal refusal

@@ -1,6 +1,7 @@
--- What a command leaves of the store: what is said of the connection that stood for it and of the one that was taken back,
--- where the machine tells both. Where no connection was to be had none was taken back, and more is not said of such a run:
--- what stands in the file then the machine alone knows.
+-- What a command leaves of the store, stated over the connection that stood for it and the one
+-- that the machine took back, if the machine shows both. If there was no connection, the machine
+-- took none back, and nothing more is stated of such a run: only the machine knows what is in the
+-- file then.
 use Rattle.std.specs.Prelude.{◌≡◌, ◌⊎◌, ⊤, ◌++◌, ℕ, ℤ, List, [], ◌∷◌, IfSome, Option, Some, option_map}
 use Rattle.std.specs.Io.KnownBytes.{Appends}
 use Rattle.sha2.specs.Sha256.{sha256}
@@ -29,15 +30,17 @@ use Rattle.rd_program.specs.declared.words.Question.TheVariants as question
 
 -- ---- two connections
 
--- what holds of the connection that stood for the store and of the one that was left, where both are told
+-- what holds of the connection that stood for the store and of the one that was left, if the
+-- machine shows both
 abbrev pub IfBoth : {S : Type 0} → Option (Held S) → Option (Held S) → (Held S → Held S → Type 0) → Type 0
 IfBoth old new P = IfSome old (λ before. IfSome new (P before))
 
--- no connection was taken back: the one that is told, if any is, was told before
+-- the machine took no connection back: the one that it shows, if any, it showed before
 abbrev pub LeavesNone : {S : Type 0} → Option (Held S) → Option (Held S) → Type 0
 LeavesNone was new = IfSome new (λ after. was ≡ Some after)
 
--- this holds of the connection that stood and of the one that was left, where both are told; or none was taken back
+-- this holds of the connection that stood and of the one that was left, if the machine shows both;
+-- or it took none back
 abbrev pub Leaves : {S : Type 0} → Option (Held S) → Option (Held S) → Option (Held S) → (Held S → Held S → Type 0) → Type 0
 Leaves was old new P = IfBoth old new (λ before after. (was ≡ Some after) ⊎ P before after)
 
@@ -53,21 +56,22 @@ pub record LeavesDesk {S : Type 0} (g : Ghosts S) (Reached : Desk → Desk → T
 
 -- ---- where no desk was opened
 
--- a command tells by these names that no desk was opened only where the opening of the connection that stood does
+-- a command uses these names, which say that no desk was opened, only if opening the connection
+-- that stood gives them
 abbrev pub NamesOpening : {S : Type 0} → Ghosts S → Option (Held S) → Option (Held S) → Refusal → Type 0
 NamesOpening g old new NotADesk = IfBoth old new (λ before after. IsNotOpened g before after open_fault.NotADesk)
 NamesOpening g old new Version = IfBoth old new (λ before after. IsNotOpened g before after open_fault.Version)
 NamesOpening g old new Inconsistent = IfBoth old new (λ before after. IsNotOpened g before after open_fault.Inconsistent)
 NamesOpening g old new refusal = ⊤
 
--- and where the store failed before a desk was opened, it was its opening, or there was no connection; where memory was
--- refused there was none
+-- and if the store failed before a desk was opened, its opening failed, or there was no
+-- connection; if memory ran out, there was none
 abbrev pub LeavesUnopened : {S : Type 0} → Ghosts S → Option (Held S) → Option (Held S) → Option (Held S) → Refusal → Type 0
 LeavesUnopened g was old new Store = Leaves was old new (λ before after. IsNotOpened g before after open_fault.Sql)
 LeavesUnopened g was old new NoMemory = LeavesNone was new
 LeavesUnopened g was old new refusal = NamesOpening g old new refusal
 
--- what a desk that was opened is refused by
+-- the refusals that come after a desk was opened
 abbrev pub IsOfOpenDesk : Refusal → Type 0
 IsOfOpenDesk NotADesk = ⊥
 IsOfOpenDesk Version = ⊥
@@ -76,12 +80,12 @@ IsOfOpenDesk refusal = ⊤
 
 -- ---- visits
 
--- the line that tells at which port visits come was written, and it may be more
+-- the line that says at which port visits come was written, and perhaps more
 abbrev pub HasListened : ℕ → Option (List ℕ) → Option (List ℕ) → Type 0
 HasListened port old new = (more : List ℕ) × Appends old new (listening_line port ++ more)
 
--- What stands where `serve` is refused: no desk was opened; or the database is as it was, unless the line that tells of
--- visits was written, and visits may have come: what these did is said by the run of visits.
+-- What stands after `serve` fails: no desk was opened; or the database is as it was, unless the
+-- line about visits was written, and visits may have come: the run of visits says what these did.
 abbrev pub LeavesServe : {S : Type 0} → Ghosts S → Option (Held S) → Option (Held S) → Option (Held S) → ℕ
     → Option (List ℕ) → Option (List ℕ) → Refusal → Type 0
 LeavesServe g was old new port out written Clock = HasListened port out written
@@ -91,7 +95,8 @@ LeavesServe g was old new port out written refusal = LeavesUnopened g was old ne
 
 -- ---- what a desk is asked
 
--- The day by the clocks of a zone: that of the moment which is told, or, where none is, of the one that the clock shows.
+-- The day by the clocks of a zone: that of the named moment or, if none is named, of the one that
+-- the clock shows.
 pub record IsDayAt (moment : Option ℤ) (zone : Zone) (day : ℤ) : Type 0 where
   pub seconds : ℤ
   pub told : IfSome moment (λ asked. seconds ≡ asked)
@@ -119,13 +124,13 @@ StepsOf badge Days (question.Check acc) old new = Checks badge acc Days old new
 
 -- ---- images that are taken in
 
--- it is asked that an image be taken in
+-- a request to take in an image
 abbrev pub IsPutImage : What → Type 0
 IsPutImage (request.PutImage acc kind deed digest bytes) = ⊤
 IsPutImage other = ⊥
 
--- this is asked in turn, for a caller with this badge on a day: each time that an image be taken in, and the desk is after
--- each that of its step
+-- these requests come in turn, from a caller with this badge on a day: each is to take in an
+-- image, and after each the desk is that of its step
 abbrev pub TakesInTurn : List ℕ → ℤ → List What → Desk → Desk → Type 0
 TakesInTurn badge day [] old new = new ≡ old
 TakesInTurn badge day (asked ∷ more) old new =
@@ -146,7 +151,7 @@ TakesFields badge day fields old new = (new ≡ old) ⊎ ((row : SheetRow) × Sa
 
 -- ---- by what is asked for
 
--- what `serve`, `import`, `export` and `check` leave, whatever they end with
+-- what `serve`, `import`, `export` and `check` leave, however they end
 abbrev pub LeavesBy : {S : Type 0} → Ghosts S → Option (Held S) → (List ℕ → Option (Held S)) → Option (Held S) → Ask → Type 0
 LeavesBy g was stands new (Serve ask) = Leaves was (stands ask.store.now) new (Lasts g)
 LeavesBy g was stands new (Import ask) =
@@ -155,7 +160,7 @@ LeavesBy g was stands new (Once ask) =
     Leaves was (stands ask.store.now) new (LeavesDesk g (StepsOf (option_map sha256 (option_map (λ key. key.now) ask.key)) (IsDayAt ask.when.seconds ask.when.zone) ask.question))
 LeavesBy g was stands new ask = ⊤
 
--- and what stands where they are refused
+-- and what stands after they fail
 abbrev pub LeavesRefused : {S : Type 0} → Ghosts S → Option (Held S) → (List ℕ → Option (Held S)) → Option (Held S)
     → Option (List ℕ) → Option (List ℕ) → Ask → Refusal → Type 0
 LeavesRefused g was stands new out written (Serve ask) refusal = LeavesServe g was (stands ask.store.now) new ask.port out written refusal

@@ -19,7 +19,7 @@ use Rattle.rd_program.specs.declared.refusal.Refusal.TheVariants.{Device, NoMemo
 abbrev pub tab : List ℕ
 tab = 9 ∷ []
 
--- a number in decimal digits, and no text where there is no number
+-- a number in decimal digits, or an empty text if there is no number
 abbrev pub number_text : Option ℕ → List ℕ
 number_text (Some n) = decimal n
 number_text None = []
@@ -71,7 +71,7 @@ pub record ListsPart (kind : Kind) (image : List ℕ) (old new : Option (List �
 abbrev pub IsListCut : Kind → List ℕ → Option (List ℕ) → Option (List ℕ) → Type 0
 IsListCut kind image old new = Keeps old new ⊎ ListsPart kind image old new
 
--- Why `list` is refused, and what was written then.
+-- Why `list` fails, and what was written then.
 abbrev pub RefusesList : Refusal → Kind → List ℕ → Option (List ℕ) → Option (List ℕ) → Type 0
 RefusesList Device kind image old new = IsListCut kind image old new
 RefusesList NoMemory kind image old new = Keeps old new

@@ -1,4 +1,4 @@
--- What is printed of refusals.
+-- What the program prints of refusals.
 use Rattle.std.specs.Prelude.{ℕ, List, [], ◌∷◌, ◌++◌, codes, flat_map}
 use Rattle.std.specs.List.{join_by}
 use Rattle.rd_geometry.specs.declared.kind.Kind.{Kind}
@@ -28,6 +28,6 @@ abbrev pub words_after : Refusal → List (List ℕ)
 words_after (Faulty kind faults) = words_of kind faults
 words_after refusal = []
 
--- the line that tells a refusal: its name and the words that follow it, each after a blank
+-- the line of a refusal: its name and the words that follow it, each after a blank
 abbrev pub refusal_line : Refusal → List ℕ
 refusal_line refusal = codes "desk:" ++ (blanked (name_of refusal ∷ words_after refusal) ++ line_feed)

@@ -11,7 +11,7 @@ use Rattle.rd_program.specs.declared.refusal.Refusal.TheVariants.{Usage, Device,
 use Rattle.rd_program.specs.declared.refusal.Refusal.TheVariants.{WrongSize, NoFile, ListedOnly, Faulty}
 use Rattle.rd_program.specs.declared.refusal.Refusal.TheVariants.{BadSheet, Clock, Exists, Inconsistent, NoAccession, NotADesk, StaffOnly, Store, UnknownKey, Version}
 
--- the name that is printed, with the rule where it is by one
+-- the name that the program prints, with the label of the rule if a rule is the reason
 abbrev pub name_of : Refusal → List ℕ
 name_of Usage = codes "usage"
 name_of Device = codes "device"
@@ -31,8 +31,8 @@ name_of UnknownKey = codes "unknown-key K0"
 name_of StaffOnly = codes "staff-only S0"
 name_of NoAccession = codes "no-accession"
 
--- the exit status: 1 where the image, its file, a sheet or a request is refused or a desk stands already, 2 where the
--- words are refused, and else 3
+-- the exit status: 1 if the program refuses the image, its file, a sheet or a request or a desk
+-- stands already, 2 if it refuses the words, and otherwise 3
 abbrev pub status_of : Refusal → ℕ
 status_of Usage = 2
 status_of Device = 3
@@ -52,13 +52,13 @@ status_of UnknownKey = 1
 status_of StaffOnly = 1
 status_of NoAccession = 1
 
--- the device failed, or memory was refused
+-- the device failed, or memory ran out
 abbrev pub IsOfDevice : Refusal → Type 0
 IsOfDevice Device = ⊤
 IsOfDevice NoMemory = ⊤
 IsOfDevice refusal = ⊥
 
--- what the program ends with where the machine fails: memory was refused, or else this
+-- what the program ends with when the machine fails: memory ran out, or otherwise this
 abbrev pub refusal_for : Refusal → MachineFault → Refusal
 refusal_for failed fault.Failed = failed
 refusal_for failed fault.NoMemory = NoMemory

@@ -10,11 +10,11 @@ use Rattle.rd_program.specs.Refusals.{IsOfDevice}
 use Rattle.rd_program.specs.declared.refusal.Refusal.{Refusal}
 use Rattle.rd_program.specs.declared.refusal.Refusal.TheVariants.{Clock, Device, Inconsistent, NoMemory, NotADesk, Store, Version}
 
--- the line that tells at which port of the machine itself visits come
+-- the line that says at which port of the machine itself visits come
 abbrev pub listening_line : ℕ → List ℕ
 listening_line port = codes "listening 127.0.0.1:" ++ (decimal port ++ line_feed)
 
--- the line that tells how many visits were served
+-- the line that says how many visits were served
 abbrev pub served_line : ℕ → List ℕ
 served_line count = codes "served " ++ (decimal count ++ line_feed)
 
@@ -30,16 +30,16 @@ IsOpenRefusal refusal = (refusal ≡ NotADesk) ⊎ ((refusal ≡ Version) ⊎ ((
 abbrev pub IsClockRefusal : Refusal → Type 0
 IsClockRefusal refusal = (refusal ≡ Clock) ⊎ (refusal ≡ NoMemory)
 
--- Why `serve` is refused, and what was written then: nothing where the desk was not opened, the first line where a moment
--- had no day, and a front part of both lines where the device failed or memory was refused.
+-- Why `serve` fails, and what was written then: nothing if the desk was not opened, the first line
+-- if a moment had no day, and a front part of both lines if the device failed or memory ran out.
 abbrev pub RefusesServe : Refusal → ℕ → ℕ → Option (List ℕ) → Option (List ℕ) → Type 0
 RefusesServe Clock port count old new = Appends old new (listening_line port)
 RefusesServe Device port count old new = AppendsPart old new (serve_text port count)
 RefusesServe NoMemory port count old new = AppendsPart old new (serve_text port count)
 RefusesServe refusal port count old new = Keeps old new × IsOpenRefusal refusal
 
--- Why a run of visits that ended so is no success, and what was written then: after the visits that were asked for the
--- device failed or memory was refused, a moment had no day, or the door shut.
+-- Why a run of visits that ended so is no success, and what was written then: after all visits the
+-- device failed or memory ran out, a moment had no day, or the door shut.
 abbrev pub RefusesToEnd : Ended → ℕ → Option (List ℕ) → Option (List ℕ) → Refusal → Type 0
 RefusesToEnd ended.Count visits old new refusal = IsOfDevice refusal × AppendsPart old new (served_line visits)
 RefusesToEnd ended.Clock visits old new refusal = (refusal ≡ Clock) × Keeps old new

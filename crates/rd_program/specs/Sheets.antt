@@ -1,4 +1,4 @@
--- A sheet: a table as CSV, with a row for each image that is to be taken in.
+-- A sheet: a table as CSV, with a row for each image to take in.
 use Rattle.std.specs.Prelude.{◌≡◌, ◌⊎◌, ℕ, List, [], ◌∷◌, Option, Some, None, codes, if◌then◌else◌, option_and_then}
 use Rattle.std.specs.Str.{is_utf8}
 use Rattle.csv.specs.Records.{field_at}
@@ -13,11 +13,11 @@ use Rattle.rd_program.specs.declared.sheet.SheetRow.{SheetRow}
 abbrev pub header : List (List ℕ)
 header = codes "accession" ∷ codes "kind" ∷ codes "deed" ∷ codes "sha256" ∷ codes "file" ∷ []
 
--- a text, where it is one in UTF-8
+-- a text, if it is UTF-8
 abbrev pub text_of : List ℕ → Option (List ℕ)
 text_of field = if is_utf8 field then Some field else None
 
--- the text of the field at a place, where there is one and it is text
+-- the text of the field at a place, if there is one and it is UTF-8
 abbrev pub text_at : ℕ → List (List ℕ) → Option (List ℕ)
 text_at place fields = option_and_then text_of (field_at fields place)
 
@@ -42,8 +42,8 @@ path_of (byte ∷ bytes) = Some (byte ∷ bytes)
 abbrev pub path_at : ℕ → List (List ℕ) → Option (List ℕ)
 path_at place fields = option_and_then path_of (text_at place fields)
 
--- The fields say what is read: the numbers of the accession and the deed, the kind and the digest in the grammar of paths of
--- HTTP, and the path of the image's file.
+-- The fields say what the row has: the numbers of the accession and the deed, the kind and the
+-- digest, written as in paths of HTTP, and the path of the image's file.
 pub record Says (fields : List (List ℕ)) (row : SheetRow) : Type 0 where
   pub acc : scope_at 0 fields ≡ Some row.acc
   pub kind : kind_at 1 fields ≡ Some row.kind
@@ -51,7 +51,7 @@ pub record Says (fields : List (List ℕ)) (row : SheetRow) : Type 0 where
   pub digest : digest_at 3 fields ≡ Some row.digest
   pub file : path_at 4 fields ≡ Some row.file.now
 
--- a field is missing, is no text, or breaks its grammar
+-- a field is missing, is not UTF-8, or is badly written
 abbrev pub IsBad : List (List ℕ) → Type 0
 IsBad fields =
     (scope_at 0 fields ≡ None) ⊎ ((kind_at 1 fields ≡ None) ⊎ ((scope_at 2 fields ≡ None)
@@ -61,6 +61,6 @@ IsBad fields =
 abbrev pub IsWithin : SheetRow → Type 0
 IsWithin row = IsScope row.acc × IsScope row.deed
 
--- why a row is not read: it has another length, the device failed, or memory was refused
+-- why a row is not read: it has another length, the device failed, or memory ran out
 abbrev pub IsReadRefusal : Refusal → Type 0
 IsReadRefusal refusal = (refusal ≡ BadSheet) ⊎ ((refusal ≡ Device) ⊎ (refusal ≡ NoMemory))

@@ -1,4 +1,4 @@
--- What is told of a refusal.
+-- What the program writes of a refusal.
 use Rattle.std.specs.Prelude.{◌≡◌, ℕ, Err, List, Ok, Option, Result}
 use Rattle.rd_program.specs.Output.{AppendsPart}
 use Rattle.rd_program.specs.Printed.{refusal_line}
@@ -7,8 +7,8 @@ use Rattle.rd_program.specs.declared.done.Done.{Done}
 use Rattle.rd_program.specs.declared.done.Done.TheVariants.{InPart, Whole}
 use Rattle.rd_program.specs.declared.refusal.Refusal.{Refusal}
 
--- A refusal with the status, of which this holds, is told: the writer has gained a front part of its line
--- and nothing else.
+-- The program names a refusal with the status, for which this holds: the writer has gained a front
+-- part of its line and nothing else.
 pub record Tells (P : Refusal → Type 0) (status : ℕ) (old new : Option (List ℕ)) : Type 0 where
   pub refusal : Refusal
   pub why : P refusal
@@ -20,7 +20,7 @@ abbrev pub both : Done → Done → Done
 both Whole other = other
 both InPart other = InPart
 
--- what was done whole, where it was not refused
+-- `Whole` if nothing was refused, and otherwise the refusal
 abbrev pub whole : {T : Type 0} → Result T Refusal → Result Done Refusal
 whole (Ok value) = Ok Whole
 whole (Err refusal) = Err refusal

@@ -1,4 +1,4 @@
--- What is told of the program's version.
+-- What the program writes of its version.
 use Rattle.std.specs.Prelude.{◌≡◌, ℕ, List, Option, ◌++◌, codes}
 use Rattle.std.specs.Io.KnownBytes.{Keeps}
 use Rattle.rd_program.specs.Output.{AppendsPart}
@@ -6,12 +6,12 @@ use Rattle.rd_program.specs.Printed.{line_feed}
 use Rattle.rd_program.specs.declared.refusal.Refusal.{Refusal}
 use Rattle.rd_program.specs.declared.refusal.Refusal.TheVariants.{Device, NoMemory}
 
--- the line that tells the version
+-- the line that names the version
 abbrev pub version_line : List ℕ
 version_line = codes "desk 0.1.0" ++ line_feed
 
--- Why the version is not told, and what was written then: a front part of its line where the device failed, and nothing
--- where memory was refused.
+-- Why the version is not written, and what was written then: a front part of its line if the
+-- device failed, and nothing if memory ran out.
 abbrev pub RefusesVersion : Option (List ℕ) → Option (List ℕ) → Refusal → Type 0
 RefusesVersion old new Device = AppendsPart old new version_line
 RefusesVersion old new refusal = Keeps old new × (refusal ≡ NoMemory)

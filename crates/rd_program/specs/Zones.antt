@@ -1,14 +1,14 @@
--- The zone of a desk's clocks, as the words of a command tell it.
+-- The zone of a desk's clocks, as the words of a command give it.
 use Rattle.std.specs.Prelude.{◌≡◌, ◌⊎◌, ℕ, List, None, Option, Some, codes}
 use Rattle.clap.specs.Words.{Row, first_of}
 use Rattle.rd_policy.specs.Zones.{IsZoneRule}
 
--- the rule that a text gives; where no text is given the clocks are those of UTC
+-- the rule that a text gives; without a text the clocks are those of UTC
 abbrev pub rule_text : Option (List ℕ) → List ℕ
 rule_text (Some text) = text
 rule_text None = codes "UTC0"
 
--- the text, or its absence, tells this rule
+-- the text, or its absence, gives this rule
 abbrev pub IsRuleTold : Option (List ℕ) → List ℕ → Type 0
 IsRuleTold told rule = (rule ≡ rule_text told) × IsZoneRule rule
 

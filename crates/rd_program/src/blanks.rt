@@ -29,7 +29,7 @@ fn without_end(mut bytes: &[u8]) -> &[u8]
     bytes
 }
 
-/// Bytes without the blanks and tabs at both ends, as the value of a field of HTTP is taken.
+/// Bytes without the blanks and tabs at both ends, as in the value of an HTTP field.
 pub(crate) fn trimmed(bytes: &[u8]) -> &[u8]
     ensures { result.now ≡ trim_ows bytes.now }
 {

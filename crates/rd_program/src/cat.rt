@@ -14,10 +14,10 @@ use rd_volume::{Image, Kind, find, pieces};
 use std::alloc::Global;
 use std::io::{Read, Write};
 
-/// Writes the bytes of the file at a slot of the image that the bytes are, and flushes the output.
+/// Writes the bytes of the file at a slot of the image with these bytes, and flushes the output.
 ///
 /// It fails with `WrongSize`, `NoFile`, `ListedOnly` and `Faulty`, in this order, with `NoMemory`,
-/// and with `Device` where a write or the flush failed.
+/// and with `Device` when a write or the flush fails.
 fn cat_image<W: Write>(
     alloc: Global,
     kind: Kind,
@@ -43,10 +43,10 @@ fn cat_image<W: Write>(
     write_pieces(output, pieces(&image, &file))
 }
 
-/// Writes the bytes of the file that is asked for. Standard input is read no further than one byte
-/// past the size of an image.
+/// Writes the bytes of the file that the command names. It reads standard input no further than
+/// one byte past the size of an image.
 ///
-/// It fails as `cat_image` does, and with `Device` or `NoMemory` where the image cannot be read.
+/// It fails as `cat_image` does, and with `Device` or `NoMemory` when it cannot read the image.
 pub(crate) fn cat<R: Read, W: Write, M: Machine>(
     alloc: Global,
     ask: FileAsk,

@@ -250,7 +250,7 @@ fn check_command<'a>(alloc: Global) -> Result<Command<'a>, AllocError>
         .arg(zone_option(alloc))
 }
 
-/// The program, without its commands.
+/// The program's command line, without its commands.
 fn bare_desk<'a>(alloc: Global) -> Result<Command<'a>, AllocError>
     ensures { IfOk result (λ desk. app_of desk ≡ bare_app) }
 {
@@ -265,7 +265,7 @@ fn bare_desk<'a>(alloc: Global) -> Result<Command<'a>, AllocError>
     Ok(desk.subcommand_required(true).arg_required_else_help(true))
 }
 
-/// The command line of the program, for words that come without the program's name.
+/// The command line of the program, for words without the program's name.
 pub(crate) fn desk_command<'a>(alloc: Global) -> Result<Command<'a>, AllocError>
     ensures { IfOk result (λ desk. IsDeskApp (app_of desk)) }
 {

@@ -36,7 +36,7 @@ use crate::words::{Ask, read_words};
 use std::alloc::Global;
 use std::io::{Read, Write};
 
-/// Does what is asked for.
+/// Does what a command asks for.
 ///
 /// It fails as `cat`, `list`, `init`, `serve`, `import` and `ask_once` do.
 fn perform<R: Read, W: Write, M: Machine>(
@@ -96,13 +96,14 @@ fn perform<R: Read, W: Write, M: Machine>(
     }
 }
 
-/// Runs the program on its words, which come without its name, and gives its exit status: 0 where
-/// it did what was asked for, 1 where the image, its file, a sheet, a row of it or a request is refused, a desk
-/// stands already or a check finds an image changed, 2 where the words are no command, and 3 where the device,
-/// the clock, memory or the store failed.
+/// Runs the program on its words, without its name, and gives its exit status: 0 if it did what
+/// the words ask for; 1 if it refuses the image, its file, a sheet, a row of it or a request, if a
+/// desk stands already, or if a check finds an image changed; 2 if the words are no command; and 3
+/// if the device, the clock, memory or the store failed.
 ///
-/// The image `-` is read from the input, any other by the machine. What is asked for is written to
-/// the output; a refusal is told in one line on `errors`, and a mistake in the words by a text.
+/// It reads the image `-` from the input, and any other through the machine. It writes what the
+/// words ask for to the output. It writes a refusal as one line to `errors`, and a mistake in the
+/// words as a text.
 pub fn run<R: Read, W: Write, E: Write, M: Machine>(
     alloc: Global,
     words: &[&str],
@@ -112,20 +113,21 @@ pub fn run<R: Read, W: Write, E: Write, M: Machine>(
     machine: &mut M,
 ) -> u8
     ensures status { result ≤ 3 }
-    // At 0 and 1 the words are a command; at 0 they may ask for help too, or for the version, of which exactly the
-    // line is written.
+    // At 0 and 1 the words are a command. At 0 they may also ask for help, or for the version, and
+    // then exactly its line is written.
     ensures command { result ≡ 0 → IsTaken (map (λ word. word.now) words.entry.now)
         ⊎ (AsksForHelp (map (λ word. word.now) words.entry.now)
         ⊎ (AsksForVersion (map (λ word. word.now) words.entry.now)
         × Appends (W.contents output.old) (W.contents output.new) version_line)) }
     ensures refused_command { result ≡ 1 → IsTaken (map (λ word. word.now) words.entry.now) }
-    // At 0 and 1, where they are a command that has clocks, the text of --zone is a rule, or there is none. Where it is
-    // no rule they are a mistake, or memory is wanting.
+    // At 0 and 1, if they are a command that has clocks, the text of --zone is a rule, or there is
+    // none. If it is no rule, the words are a mistake, or memory ran out.
     ensures zone { result ≤ 1 → TellsARule (map (λ word. word.now) words.entry.now) }
     ensures no_rule { ¬ TellsARule (map (λ word. word.now) words.entry.now)
         → (result ≡ 2) ⊎ Tells (λ refusal. refusal ≡ Refusal.NoMemory) result (E.contents errors.old) (E.contents errors.new) }
-    // At 0 nothing is told; at 1 and 3 no more than the line of a refusal with this status, and nothing at 1 where
-    // an `import` told each row that was refused, or a `check` that an image is changed, on the output.
+    // At 0 `errors` gets nothing. At 1 and 3 it gets at most the line of a refusal with this
+    // status, and nothing at 1 if the output says which rows an `import` refused, or that a
+    // `check` found an image changed.
     ensures silent { result ≡ 0 → Keeps (E.contents errors.old) (E.contents errors.new) }
     ensures told { result ≡ 3
         → Tells (λ _. ⊤) result (E.contents errors.old) (E.contents errors.new) }
@@ -133,7 +135,8 @@ pub fn run<R: Read, W: Write, E: Write, M: Machine>(
         → Tells (λ _. ⊤) result (E.contents errors.old) (E.contents errors.new)
         ⊎ (Keeps (E.contents errors.old) (E.contents errors.new)
         × IsTakenTelling (map (λ word. word.now) words.entry.now)) }
-    // No more is read than one byte past an image: of the largest kind, and of the kind asked for.
+    // It reads no more than one byte past an image: of the largest kind, and of the kind that the
+    // words name.
     ensures limit { ReadsUpTo (size_of kinds.Cpm8 + 1) (R.remaining input.old) (R.remaining input.new) }
     ensures limit_of_store { AsksOfStore (map (λ word. word.now) words.entry.now)
         → ReadsUpTo 0 (R.remaining input.old) (R.remaining input.new) }
@@ -145,22 +148,23 @@ pub fn run<R: Read, W: Write, E: Write, M: Machine>(
         → IfSome (R.remaining input.old) (λ image.
         Serves kind slot image (W.contents output.old) (W.contents output.new)) }
 
-    // At 1 nothing is written but by an `import` and a `check`, and a `cat` of standard input has no sound file to write.
+    // At 1 only an `import` or a `check` has written anything, and a `cat` of standard input has
+    // no sound file to write.
     ensures refused { result ≡ 1 → Keeps (W.contents output.old) (W.contents output.new)
         ⊎ IsTakenTelling (map (λ word. word.now) words.entry.now) }
     ensures no_sound_file { result ≡ 1 → (kind : Kind) (slot : ℕ)
         → AsksCat (map (λ word. word.now) words.entry.now) kind (codes "-") slot
         → IfSome (R.remaining input.old) (HasNoSoundFile kind slot) }
 
-    // Not at 0, the refusal of a `cat` of standard input is told by the first name that is due.
+    // Not at 0, a `cat` of standard input names its refusal: the first one that holds.
     ensures told_why { result ≢ 0 → (kind : Kind) (slot : ℕ)
         → AsksCat (map (λ word. word.now) words.entry.now) kind (codes "-") slot
         → IfSome (R.remaining input.old) (λ image. Tells (λ refusal.
         Refuses refusal kind slot image (W.contents output.old) (W.contents output.new))
         result (E.contents errors.old) (E.contents errors.new)) }
 
-    // A `list` of standard input: at 0 it has written exactly the list of its image, and not at 0 its
-    // refusal is told.
+    // A `list` of standard input: at 0 it has written exactly the list of its image, and not at 0
+    // it names its refusal.
     ensures listed { result ≡ 0 → (kind : Kind)
         → AsksList (map (λ word. word.now) words.entry.now) kind (codes "-")
         → IfSome (R.remaining input.old) (λ image.
@@ -171,8 +175,8 @@ pub fn run<R: Read, W: Write, E: Write, M: Machine>(
         RefusesList refusal kind image (W.contents output.old) (W.contents output.new))
         result (E.contents errors.old) (E.contents errors.new)) }
 
-    // An `init`: at 0 it has made the desk and said so, and at 1 a desk stood already and was left alone. Not at
-    // 0 its refusal is told; where the store failed the database is as it was.
+    // An `init`: at 0 it has made the desk and said so, and at 1 a desk stood already and is
+    // unchanged. Not at 0 it names its refusal; if the store failed, the database is as it was.
     ensures made { result ≡ 0 → (store key : List ℕ) → AsksInit (map (λ word. word.now) words.entry.now) store key
         → MakesDesk M.Disk.Store (M.stands machine.old store) (M.left machine.new) (sha256 (trim_ows key))
         × Appends (W.contents output.old) (W.contents output.new) done_line }
@@ -181,8 +185,9 @@ pub fn run<R: Read, W: Write, E: Write, M: Machine>(
         × LeavesInit M.Disk.Store (M.left machine.old) (M.stands machine.old store) (M.left machine.new) (sha256 (trim_ows key)) refusal)
         result (E.contents errors.old) (E.contents errors.new) }
 
-    // A `serve`: at 0 it has served as many visits as were asked for, and said so. Not at 0 its refusal is told,
-    // which is never 1, and what stands is what stood, or is left by visits.
+    // A `serve`: at 0 it has served as many visits as the words ask for, and said so. Not at 0 it
+    // names its refusal, whose status is never 1, and what stands is what stood, or what visits
+    // left.
     ensures served { result ≡ 0 → (store : List ℕ) (port count : ℕ) (rule : List ℕ)
         → AsksServe (map (λ word. word.now) words.entry.now) store port count rule
         → Appends (W.contents output.old) (W.contents output.new) (serve_text port count) }
@@ -196,9 +201,9 @@ pub fn run<R: Read, W: Write, E: Write, M: Machine>(
         → AsksServe (map (λ word. word.now) words.entry.now) store port count rule
         → Leaves (M.left machine.old) (M.stands machine.old store) (M.left machine.new) (Lasts M.Disk.Store) }
 
-    // An `import`: at 0 it has written only lines that tell that an image was taken in. Not at 0 it has written only
-    // lines of rows, and its refusal is told after them or, at 1, nothing. Whatever it ends with, of the desk that stood
-    // images were taken in and nothing else was done.
+    // An `import`: at 0 it has written only lines that say that an image was taken in. Not at 0 it
+    // has written only lines of rows, and after them it names its refusal or, at 1, nothing.
+    // However it ends, the desk that stood may have taken in images, and nothing else has changed.
     ensures imported { result ≡ 0 → IsImport (map (λ word. word.now) words.entry.now)
         → GainsLines IsDoneLine (W.contents output.old) (W.contents output.new) }
     ensures import_told { result ≢ 0 → (store key sheet : List ℕ) (moment : Option ℤ) (rule : List ℕ)
@@ -213,9 +218,9 @@ pub fn run<R: Read, W: Write, E: Write, M: Machine>(
         → Leaves (M.left machine.old) (M.stands machine.old store) (M.left machine.new)
         (LeavesDesk M.Disk.Store (TakesIn (sha256 (trim_ows key)) (IsDayBy moment rule))) }
 
-    // A `check`: at 0 it has told that the image is sound. Not at 0 it has told that the image is changed, or its
-    // refusal is told. Not at 0 the refusal of an `export` is told. Whatever they end with, an `export` leaves the desk as it
-    // was, and of a check no more stands than its record.
+    // A `check`: at 0 it has said that the image is sound. Not at 0 it has said that the image is
+    // changed, or names its refusal. Not at 0 an `export` names its refusal. However they end, an
+    // `export` leaves the desk as it was, and a check adds no more than its record.
     ensures sound { result ≡ 0 → (acc : ℕ) → IsCheckOf (map (λ word. word.now) words.entry.now) acc
         → TellsCheck acc (W.contents output.old) (W.contents output.new) Done.Whole }
     ensures check_told { result ≢ 0 → (store key : List ℕ) (acc : ℕ) (moment : Option ℤ) (rule : List ℕ)
@@ -238,14 +243,15 @@ pub fn run<R: Read, W: Write, E: Write, M: Machine>(
         → AsksExport (map (λ word. word.now) words.entry.now) store key moment rule
         → Leaves (M.left machine.old) (M.stands machine.old store) (M.left machine.new) (LeavesDesk M.Disk.Store IsSame) }
 
-    // The version, where the first word asks for it: at 0 exactly its line is written, and else why not is told.
+    // The version, if the first word asks for it: at 0 exactly its line is written, and otherwise
+    // `errors` says why not.
     ensures version { result ≡ 0 → AsksVersion (map (λ word. word.now) words.entry.now)
         → Appends (W.contents output.old) (W.contents output.new) version_line }
     ensures version_told { result ≢ 0 → AsksVersion (map (λ word. word.now) words.entry.now)
         → Tells (RefusesVersion (W.contents output.old) (W.contents output.new))
         result (E.contents errors.old) (E.contents errors.new) }
 
-    // At 2 nothing is written, and the words are none of the forms of a command.
+    // At 2 the output gets nothing, and the words are no form of a command.
     ensures usage { result ≡ 2 → ¬ IsCommand (map (λ word. word.now) words.entry.now) }
     ensures usage_keeps { result ≡ 2 → Keeps (W.contents output.old) (W.contents output.new) }
 

@@ -4,12 +4,12 @@ ghost use Rattle.rd_program.specs.declared.done.Done.TheVariants as done;
 
 use crate::refusal::Refusal;
 
-/// How far a command did what it was asked for.
+/// How far a command did what its words ask for.
 #[derive(Clone, Copy, Debug, PartialEq, Eq)]
 pub(crate) enum Done {
     /// Whole.
     Whole,
-    /// Not whole: what was refused, or is changed, is told on the output.
+    /// In part: the output says what was refused, or what is changed.
     InPart,
 }
 
@@ -37,7 +37,7 @@ impl Done {
     }
 }
 
-/// What was done whole, where it was not refused.
+/// `Whole` if nothing was refused, and otherwise the refusal.
 pub(crate) fn whole(ended: Result<(), Refusal>) -> Result<Done, Refusal>
     ensures { result ≡ spec.whole ended }
 {

@@ -1,4 +1,4 @@
-//! Images that are taken in, row by row of a sheet.
+//! Takes in images, row by row of a sheet.
 
 ghost use Rattle.std.specs.Prelude.{◌≡◌, IfErr, IfOk, OnErr, OnOk};
 ghost use Rattle.std.specs.Io.KnownBytes.{Appends};
@@ -37,7 +37,7 @@ struct Giver {
     seconds: i64,
 }
 
-/// Asks a desk to take in the image of a row, and gives the reply.
+/// Asks a desk to take in the image of a row, and gives its reply.
 fn put_image<S: Alter + Drop>(
     alloc: Global,
     row: SheetRow,
@@ -62,9 +62,9 @@ fn put_image<S: Alter + Drop>(
     desk.answer(alloc, giver.seconds, &Request { badge, what })
 }
 
-/// Tells on a line what is said of an accession, and flushes the output.
+/// Writes a line that says this of an accession, and flushes the output.
 ///
-/// It fails with `NoMemory`, and with `Device` where a write or the flush failed.
+/// It fails with `NoMemory`, and with `Device` when a write or the flush fails.
 fn tell_said<W: Write>(alloc: Global, acc: u32, said: &str, output: &mut W) -> Result<(), Refusal>
     ensures done { OnOk result (Appends (W.contents output.old) (W.contents output.new) (said_line acc said.now)) }
     ensures cut { OnErr result (AppendsPart (W.contents output.old) (W.contents output.new) (said_line acc said.now)) }
@@ -75,9 +75,9 @@ fn tell_said<W: Write>(alloc: Global, acc: u32, said: &str, output: &mut W) -> R
     write_whole(output, line.as_bytes())
 }
 
-/// Tells on a line that a row is none, and flushes the output. Rows are counted from 1.
+/// Writes a line that says that a row is bad, and flushes the output. Rows are counted from 1.
 ///
-/// It fails with `NoMemory`, and with `Device` where a write or the flush failed.
+/// It fails with `NoMemory`, and with `Device` when a write or the flush fails.
 fn tell_bad_row<W: Write>(alloc: Global, number: u64, output: &mut W) -> Result<(), Refusal>
     ensures done { OnOk result (Appends (W.contents output.old) (W.contents output.new) (bad_row_line number)) }
     ensures cut { OnErr result (AppendsPart (W.contents output.old) (W.contents output.new) (bad_row_line number)) }
@@ -88,10 +88,10 @@ fn tell_bad_row<W: Write>(alloc: Global, number: u64, output: &mut W) -> Result<
     write_whole(output, line.as_bytes())
 }
 
-/// Tells on a line by which name a reply refuses an accession.
+/// Writes a line with the name by which a reply refuses an accession.
 ///
-/// It fails with `Store` where the reply tells no name, with `NoMemory`, and with `Device` where a write or the
-/// flush failed.
+/// It fails with `Store` when the reply has no such name, with `NoMemory`, and with `Device` when
+/// a write or the flush fails.
 fn tell_refused<W: Write>(
     alloc: Global,
     acc: u32,
@@ -109,10 +109,10 @@ fn tell_refused<W: Write>(
     Ok(Done::InPart)
 }
 
-/// Tells on a line what a reply says of an accession.
+/// Writes a line with what a reply says of an accession.
 ///
-/// It fails with `Store` where the reply is that the desk is unavailable, with `NoMemory`, and with `Device` where
-/// a write or the flush failed.
+/// It fails with `Store` when the reply says that the desk is unavailable, with `NoMemory`, and
+/// with `Device` when a write or the flush fails.
 fn tell_reply<W: Write>(
     alloc: Global,
     acc: u32,
@@ -132,10 +132,10 @@ fn tell_reply<W: Write>(
     }
 }
 
-/// Takes in the image of a row, and tells on a line what became of it.
+/// Takes in the image of a row, and writes a line that says what became of it.
 ///
-/// It fails with `Device` where the image's file cannot be read, with `Store` where the desk is unavailable, with
-/// `NoMemory`, and with `Device` where a write or the flush failed.
+/// It fails with `Device` when it cannot read the image's file, with `Store` when the desk is
+/// unavailable, with `NoMemory`, and with `Device` when a write or the flush fails.
 fn import_row<W: Write, M: Machine>(
     alloc: Global,
     row: SheetRow,
@@ -160,8 +160,8 @@ fn import_row<W: Write, M: Machine>(
     tell_reply(alloc, row.acc, &reply, output)
 }
 
-/// Takes in the image of the row that fields are, and tells on a line what became of it, or that they are no row.
-/// Rows are counted from 1.
+/// Takes in the image of the row with these fields, and writes a line that says what became of it,
+/// or that the row is bad. Rows are counted from 1.
 ///
 /// It fails as `import_row` does.
 fn import_fields<W: Write, M: Machine>(
@@ -189,10 +189,11 @@ fn import_fields<W: Write, M: Machine>(
     }
 }
 
-/// Takes in the images of a sheet, row by row, and tells on a line what became of each.
+/// Takes in the images of a sheet, row by row, and writes a line for each that says what became of
+/// it.
 ///
-/// It fails with `BadSheet` where the header is another, and at a row of another length; the rows before it were
-/// taken. It fails as `import_row` does too.
+/// It fails with `BadSheet` when the header is another, and at a row of another length; the rows
+/// before that one are done. It also fails as `import_row` does.
 fn import_rows<W: Write, M: Machine>(
     alloc: Global,
     sheet: &[u8],
@@ -225,10 +226,10 @@ fn import_rows<W: Write, M: Machine>(
     Ok(done)
 }
 
-/// Takes in the images of the sheet that is asked for, at the moment that is asked for.
+/// Takes in the images of the sheet that the command names, at the moment that it names.
 ///
-/// It fails with `Clock` where the clock fails or the moment has no day, with `Device` where the sheet cannot be
-/// read, with `NoMemory`, and as `import_rows` does.
+/// It fails with `Clock` when the clock fails or the moment has no day, with `Device` when it
+/// cannot read the sheet, with `NoMemory`, and as `import_rows` does.
 fn import_sheet<W: Write, M: Machine>(
     alloc: Global,
     ask: ImportAsk,
@@ -252,11 +253,11 @@ fn import_sheet<W: Write, M: Machine>(
     import_rows(alloc, sheet.as_slice(), giver, desk, output, machine)
 }
 
-/// Takes in the images of the sheet that is asked for by the desk in the file of a store, row by row, and tells on
-/// a line what became of each. Each line is flushed.
+/// Takes the images of a sheet into the desk in the file of a store, row by row, and writes a line
+/// for each that says what became of it. It flushes each line.
 ///
-/// It fails with `NotADesk`, `Version`, `Inconsistent` and `Store` where the desk cannot be opened, then as
-/// `import_sheet` does. What was taken in before stays.
+/// It fails with `NotADesk`, `Version`, `Inconsistent` and `Store` when it cannot open the desk,
+/// then as `import_sheet` does. The images taken in before stay.
 pub(crate) fn import<W: Write, M: Machine>(
     alloc: Global,
     ask: ImportAsk,

@@ -46,10 +46,11 @@ fn make_desk<M: Machine>(ask: InitAsk, machine: &mut M) -> Result<(), Refusal>
     made
 }
 
-/// Makes a desk in the file of a store, with one staff key, tells that it is done, and flushes the output.
+/// Makes a desk in the file of a store, with one staff key, says that it is done, and flushes the
+/// output.
 ///
-/// It fails with `Exists` where a desk stands already, with `Store`, with `NoMemory`, and with `Device` where
-/// a write or the flush failed.
+/// It fails with `Exists` when a desk stands already, with `Store`, with `NoMemory`, and with
+/// `Device` when a write or the flush fails.
 pub(crate) fn init<W: Write, M: Machine>(
     ask: InitAsk,
     output: &mut W,

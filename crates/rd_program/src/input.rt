@@ -11,9 +11,9 @@ use std::io::{ErrorKind, Read};
 /// How many bytes are read at a time.
 const PART: usize = 4_096;
 
-/// Reads once, and again where the read was interrupted.
+/// Reads once, and again if the read was interrupted.
 ///
-/// It fails with `Device` where a read failed.
+/// It fails with `Device` when a read fails.
 fn read_some<R: Read>(input: &mut R, part: &mut [u8]) -> Result<usize, Refusal>
     ensures bound { ReadsAtMost result part.new }
     ensures bytes { ReadConsumes (R.remaining input.old) (R.remaining input.new) result part.new }
@@ -32,9 +32,9 @@ fn read_some<R: Read>(input: &mut R, part: &mut [u8]) -> Result<usize, Refusal>
     Err(Refusal::Device)
 }
 
-/// Reads some bytes to the end of others, at most as many as the part holds.
+/// Reads once, at most as many bytes as `part` holds, and adds what it read to the end of `bytes`.
 ///
-/// It fails with `Device` where a read failed, and with `NoMemory`.
+/// It fails with `Device` when a read fails, and with `NoMemory`.
 fn read_part<R: Read>(input: &mut R, part: &mut [u8], bytes: &mut Vec<u8>) -> Result<usize, Refusal>
     ensures grows { IfOk result (λ count.
         bytes.new.items ≡ bytes.old.items ++ take count part.new) }
@@ -51,10 +51,10 @@ fn read_part<R: Read>(input: &mut R, part: &mut [u8], bytes: &mut Vec<u8>) -> Re
     Ok(count)
 }
 
-/// The bytes at the front of an input, as many as the limit says, or all where it has fewer. No
-/// byte after them is read.
+/// The first `limit` bytes of an input, or all of them if it has fewer. It reads no byte after
+/// them.
 ///
-/// It fails with `Device` where a read failed, and with `NoMemory`.
+/// It fails with `Device` when a read fails, and with `NoMemory`.
 pub fn read_front<R: Read>(alloc: Global, limit: usize, input: &mut R) -> Result<Vec<u8>, Refusal>
     ensures front { IfOk result (λ bytes. IfSome (R.remaining input.old) (λ all.
         bytes.items ≡ take limit all)) }

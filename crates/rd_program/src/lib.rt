@@ -1,4 +1,5 @@
-//! The program `desk`, but for the process that it runs in: its words, its commands, and what they write and tell.
+//! The program `desk`, without the process that it runs in: its words, its commands, and what they
+//! write.
 #![tactic(auto)]
 
 mod blanks;

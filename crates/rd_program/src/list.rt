@@ -16,7 +16,7 @@ use rd_volume::{End, Found, Image, Kind, directory_end, survey};
 use std::alloc::{AllocError, Global};
 use std::io::{Read, Write};
 
-/// The word that tells how a directory ends.
+/// The word for how a directory ends.
 fn end_word(end: End) -> &'static str
     ensures { result.now ≡ spec.end_word end }
 {
@@ -27,8 +27,8 @@ fn end_word(end: End) -> &'static str
     }
 }
 
-/// A line for each file of an image of a kind, and one that counts them and tells how the directory
-/// ends. It fails where a growth of memory was refused.
+/// A line for each file of an image of a kind, and one with their number and with how the
+/// directory ends. It fails when memory runs out.
 fn list_text(alloc: Global, kind: Kind, files: &[Found], end: End) -> Result<String, AllocError>
     ensures { IfOk result (λ text. string_bytes text ≡ spec.list_text kind files.now end) }
 {
@@ -42,9 +42,9 @@ fn list_text(alloc: Global, kind: Kind, files: &[Found], end: End) -> Result<Str
     Ok(text)
 }
 
-/// Writes the list of the files of the image of a kind that the bytes are, and flushes the output.
+/// Writes the list of the files of the image of a kind with these bytes, and flushes the output.
 ///
-/// It fails with `WrongSize`, with `NoMemory`, and with `Device` where a write or the flush failed.
+/// It fails with `WrongSize`, with `NoMemory`, and with `Device` when a write or the flush fails.
 fn list_image<W: Write>(
     alloc: Global,
     kind: Kind,
@@ -63,12 +63,12 @@ fn list_image<W: Write>(
     write_whole(output, text.as_bytes())
 }
 
-/// Writes the list of the files of the image that is asked for. Standard input is read no further
-/// than one byte past the size of an image.
+/// Writes the list of the files of the image that the command names. It reads standard input no
+/// further than one byte past the size of an image.
 ///
-/// It fails with `Device` or `NoMemory` where the image cannot be read, with `WrongSize`, with
-/// `NoMemory`, and with `Device` where a write failed. Nothing is written before a refusal of the
-/// image or of memory.
+/// It fails with `Device` or `NoMemory` when it cannot read the image, with `WrongSize`, with
+/// `NoMemory`, and with `Device` when a write fails. It writes nothing before it refuses the image
+/// or memory runs out.
 pub(crate) fn list<R: Read, W: Write, M: Machine>(
     alloc: Global,
     ask: ImageAsk,

@@ -15,17 +15,18 @@ use sqlite::{Alter, Connection, Error, ErrorCode};
 use std::alloc::Global;
 use std::io::{self, ErrorKind};
 
-/// Why the machine does not give what it is asked for.
+/// Why the machine does not give what the program asks it for.
 #[derive(Clone, Copy, Debug, PartialEq, Eq)]
 pub enum MachineFault {
     /// It could not be opened or read.
     Failed,
-    /// A growth of memory was refused.
+    /// Memory ran out.
     NoMemory,
 }
 
 impl MachineFault {
-    /// What the program ends with: `NoMemory` where memory was refused, and else what is given.
+    /// The refusal that the program ends with: `NoMemory` if memory ran out, and otherwise
+    /// `failed`.
     pub(crate) fn or(self, failed: Refusal) -> Refusal
         ensures { result ≡ refusal_for failed self }
     {
@@ -80,42 +81,42 @@ pub trait Machine {
     /// Where visits come from.
     type Door: Door;
 
-    /// The connection that stands for a store at a path, where the machine tells it.
+    /// The connection that stands for a store at a path, if the machine shows it.
     ghost stands: { Self → List ℕ → Option (Held Self.Disk) };
 
-    /// The connection that was taken back last, where the machine tells it.
+    /// The connection that it took back last, if the machine shows it.
     ghost left: { Self → Option (Held Self.Disk) };
 
-    /// The bytes of the file at a path. Of a file that is larger than any image, those at the front
-    /// are enough: one byte more than the largest image has.
+    /// The bytes of the file at a path. For a file that is larger than any image, the front is
+    /// enough: one byte more than the largest image has.
     fn read_file(&mut self, alloc: Global, path: &str) -> Result<Vec<u8>, MachineFault>;
 
     /// All bytes of the sheet at a path, at most 67,108,864 (64 MiB).
     ///
-    /// It fails at a sheet of more, of which it reads at most one byte more than that.
+    /// It fails when the sheet has more, and reads at most one byte more than that.
     fn read_sheet(&mut self, alloc: Global, path: &str) -> Result<Vec<u8>, MachineFault>;
 
-    /// A connection to the database in the file at a path, outside a transaction. A file that is not there is
-    /// made.
+    /// A connection to the database in the file at a path, outside a transaction. It makes the
+    /// file if there is none.
     ///
-    /// It fails where the file cannot be opened, or holds no sound database.
+    /// It fails when it cannot open the file, or the file holds no sound database.
     fn connect(&mut self, path: &str) -> Result<Connection<Self::Disk>, MachineFault>
         ensures outside { IfOk result (λ conn. conn.in_transaction ≡ false) }
         ensures stands { IfOk result (λ conn. IfSome (stands self.old path.now) (λ held. conn ≡ held)) }
         ensures none { IfErr result (λ _. LeavesNone (left self.old) (left self.new)) };
 
-    /// Takes a connection back, when a command has ended.
+    /// Takes a connection back at the end of a command.
     fn release(&mut self, conn: &mut Option<Connection<Self::Disk>>)
         ensures left { IfSome (left self.new) (λ held. conn.old ≡ Some held) };
 
     /// The seconds since 1970-01-01T00:00:00 UTC.
     ///
-    /// It fails where the clock does.
+    /// It fails when the clock fails.
     fn now(&mut self) -> Result<i64, MachineFault>;
 
     /// Lends the door through which visits come at a port of the machine itself, 1 to 65,535. The machine keeps
     /// it.
     ///
-    /// It fails where the port is not to be had.
+    /// It fails when it cannot open the port.
     fn listen(&mut self, port: u16) -> Result<&mut Self::Door, MachineFault>;
 }

@@ -1,4 +1,4 @@
-//! What a desk is asked once: the catalogue, or what a check of an image finds.
+//! Asks a desk one question: for the catalogue, or what a check of an image finds.
 
 ghost use Rattle.std.specs.Prelude.{◌≡◌, IfErr, IfOk, option_map, ℕ};
 ghost use Rattle.std.specs.String.{string_bytes};
@@ -32,16 +32,16 @@ const SOUND: &[u8] = b"{\"outcome\":\"sound\"}";
 /// The body of the reply to a check that found an image changed.
 const CHANGED: &[u8] = b"{\"outcome\":\"changed\"}";
 
-/// Who asks, and when.
+/// Who asks the desk, and when.
 #[derive(Clone, Copy)]
 struct Asker {
-    /// The SHA-256 of the desk key, where one is shown.
+    /// The SHA-256 of the desk key; `None` if there is none.
     badge: Option<[u8; 32]>,
     /// The moment, in seconds since 1970-01-01T00:00:00 UTC, which has a day.
     seconds: i64,
 }
 
-/// The SHA-256 of a desk key, where one is shown.
+/// The SHA-256 of a desk key; `None` if there is none.
 fn badge_of(key: Option<&[u8]>) -> Option<[u8; 32]>
     ensures { result ≡ option_map sha256 (option_map (λ key. key.now) key.entry) }
 {
@@ -51,7 +51,7 @@ fn badge_of(key: Option<&[u8]>) -> Option<[u8; 32]>
     }
 }
 
-/// Asks a desk, and gives the reply.
+/// Asks a desk, and gives its reply.
 fn reply_to<S: Alter + Drop>(alloc: Global, what: What, asker: Asker, desk: &mut Desk<S>) -> Reply
     requires day { HasDay asker.seconds }
     requires fits { IsRequest what }
@@ -62,7 +62,7 @@ fn reply_to<S: Alter + Drop>(alloc: Global, what: What, asker: Asker, desk: &mut
     desk.answer(alloc, asker.seconds, &Request { badge, what })
 }
 
-/// The refusal that a reply tells by its name: `Store` where it tells none that a question can have.
+/// The refusal that a reply names; `Store` if it names none that a question can have.
 fn refusal_told(alloc: Global, reply: &Reply) -> Refusal
     ensures told { IsReplyRefusal result }
     ensures opened { IsOfOpenDesk result }
@@ -79,7 +79,7 @@ fn refusal_told(alloc: Global, reply: &Reply) -> Refusal
     }
 }
 
-/// The line that tells what is said of an accession.
+/// The line that says this of an accession.
 fn said_text(alloc: Global, acc: u32, said: &str) -> Result<String, Refusal>
     ensures line { IfOk result (λ line. string_bytes line ≡ said_line acc said.now) }
     ensures refused { IfErr result (λ refusal. refusal ≡ Refusal.NoMemory) }
@@ -91,7 +91,7 @@ fn said_text(alloc: Global, acc: u32, said: &str) -> Result<String, Refusal>
 
 /// Writes the body of a reply, and flushes the output.
 ///
-/// It fails with `NoMemory`, and with `Device` where a write or the flush failed.
+/// It fails with `NoMemory`, and with `Device` when a write or the flush fails.
 fn write_body<W: Write>(alloc: Global, reply: &Reply, output: &mut W) -> Result<(), Refusal>
     ensures refused { IfErr result (RefusesOnce (W.contents output.old) (W.contents output.new)) }
     ensures opened { IfErr result IsOfOpenDesk }
@@ -100,9 +100,10 @@ fn write_body<W: Write>(alloc: Global, reply: &Reply, output: &mut W) -> Result<
     write_whole(output, bytes.as_slice())
 }
 
-/// Writes the catalogue as the caller sees it.
+/// Writes the catalogue that the caller may see.
 ///
-/// It fails as the reply refuses, with `Store` where the desk is unavailable, and as `write_body` does.
+/// It fails with the refusal of the reply, with `Store` when the desk is unavailable, and as
+/// `write_body` does.
 fn export<S: Alter + Drop, W: Write>(
     alloc: Global,
     asker: Asker,
@@ -123,11 +124,11 @@ fn export<S: Alter + Drop, W: Write>(
     Ok(Done::Whole)
 }
 
-/// Tells on a line what a check of the image of an accession finds. The lines are made first, so that no memory is
-/// wanted once the check stands.
+/// Writes a line that says what a check of the image of an accession finds. It makes the lines
+/// first, so that it needs no memory once the check is recorded.
 ///
-/// It fails as the reply refuses, with `Store` where the desk is unavailable, with `NoMemory`, and with `Device`
-/// where a write or the flush failed.
+/// It fails with the refusal of the reply, with `Store` when the desk is unavailable, with
+/// `NoMemory`, and with `Device` when a write or the flush fails.
 fn check<S: Alter + Drop, W: Write>(
     alloc: Global,
     acc: u32,
@@ -157,9 +158,10 @@ fn check<S: Alter + Drop, W: Write>(
     Err(refusal_told(alloc, &reply))
 }
 
-/// Tells what an open desk is asked, at the moment that is asked for.
+/// Asks an open desk one question, at the moment that the command names, and writes the answer.
 ///
-/// It fails with `Clock` where the clock fails or the moment has no day, and then as `export` and `check` do.
+/// It fails with `Clock` when the clock fails or the moment has no day, and then as `export` and
+/// `check` do.
 fn tell_asked<S: Alter + Drop, W: Write, M: Machine>(
     alloc: Global,
     ask: &OnceAsk,
@@ -185,10 +187,11 @@ fn tell_asked<S: Alter + Drop, W: Write, M: Machine>(
     }
 }
 
-/// Tells what the desk in the file of a store is asked, by `export` or `check`.
+/// Asks the desk in the file of a store the question of `export` or `check`, and writes the
+/// answer.
 ///
-/// It fails with `NotADesk`, `Version`, `Inconsistent` and `Store` where the desk cannot be opened, then as
-/// `tell_asked` does. A check that was recorded stands.
+/// It fails with `NotADesk`, `Version`, `Inconsistent` and `Store` when it cannot open the desk,
+/// then as `tell_asked` does. A recorded check stands.
 pub(crate) fn ask_once<W: Write, M: Machine>(
     alloc: Global,
     ask: OnceAsk,

@@ -1,4 +1,4 @@
-//! The desk in the file of a store, and the moment at which it is asked.
+//! Opens the desk in the file of a store, and finds the moment at which to ask it.
 
 ghost use Rattle.std.specs.Prelude.{◌≡◌, Err, IfErr, IfOk, IfSome, Ok};
 ghost use Rattle.rd_program.specs.Leaves.{IsOfOpenDesk, LeavesUnopened};
@@ -54,10 +54,10 @@ fn clock_seconds<M: Machine>(machine: &mut M) -> Result<i64, Refusal>
     }
 }
 
-/// The moment at which a desk is asked, in seconds since 1970-01-01T00:00:00 UTC: the one that is told, or that of
-/// the machine's clock. It has a day.
+/// The moment at which to ask a desk, in seconds since 1970-01-01T00:00:00 UTC: the one that the
+/// words name, or that of the machine's clock. It has a day.
 ///
-/// It fails with `Clock` where the clock fails or the moment has no day, and with `NoMemory`.
+/// It fails with `Clock` when the clock fails or the moment has no day, and with `NoMemory`.
 pub(crate) fn moment<S: Alter, M: Machine>(
     told: Option<i64>,
     desk: &Desk<S>,

@@ -9,9 +9,9 @@ use crate::refusal::Refusal;
 use rd_volume::Pieces;
 use std::io::{ErrorKind, Write};
 
-/// Writes once, and again where the write was interrupted.
+/// Writes once, and again if the write was interrupted.
 ///
-/// It fails with `Device` where a write failed or took no byte.
+/// It fails with `Device` when a write fails or takes no byte.
 fn write_some<W: Write>(output: &mut W, bytes: &[u8]) -> Result<usize, Refusal>
     ensures bound { WritesAtMost result bytes.now }
     ensures some { IfOk result (λ count. 0 < count) }
@@ -34,7 +34,7 @@ fn write_some<W: Write>(output: &mut W, bytes: &[u8]) -> Result<usize, Refusal>
 
 /// Writes bytes.
 ///
-/// It fails with `Device` where a write failed or took no byte: then a front part was written.
+/// It fails with `Device` when a write fails or takes no byte: then a front part was written.
 #[inline(always)]
 pub(crate) fn write_bytes<W: Write>(output: &mut W, bytes: &[u8]) -> Result<(), Refusal>
     ensures done { OnOk result (Appends (W.contents output.old) (W.contents output.new) bytes.now) }
@@ -51,7 +51,7 @@ pub(crate) fn write_bytes<W: Write>(output: &mut W, bytes: &[u8]) -> Result<(), 
 
 /// Writes the pieces of a file, one after another.
 ///
-/// It fails with `Device` where a write failed or took no byte: then a front part was written.
+/// It fails with `Device` when a write fails or takes no byte: then a front part was written.
 fn write_each<W: Write>(output: &mut W, pieces: Pieces<'_>) -> Result<(), Refusal>
     ensures done { OnOk result (Appends (W.contents output.old) (W.contents output.new)
         (concat (pieces_left pieces.entry))) }
@@ -65,7 +65,7 @@ fn write_each<W: Write>(output: &mut W, pieces: Pieces<'_>) -> Result<(), Refusa
     Ok(())
 }
 
-/// Flushes an output. It fails with `Device`.
+/// Flushes an output. It fails with `Device` when the flush fails.
 pub(crate) fn flush<W: Write>(output: &mut W) -> Result<(), Refusal>
     ensures bytes { Keeps (W.contents output.old) (W.contents output.new) }
     ensures device { IfErr result (λ refusal. refusal ≡ Refusal.Device) }
@@ -78,7 +78,7 @@ pub(crate) fn flush<W: Write>(output: &mut W) -> Result<(), Refusal>
 
 /// Writes bytes and flushes the output.
 ///
-/// It fails with `Device` where a write failed or took no byte, or the flush failed: then a front
+/// It fails with `Device` when a write fails or takes no byte, or the flush fails: then a front
 /// part was written.
 pub(crate) fn write_whole<W: Write>(output: &mut W, bytes: &[u8]) -> Result<(), Refusal>
     ensures done { OnOk result (Appends (W.contents output.old) (W.contents output.new) bytes.now) }
@@ -92,7 +92,7 @@ pub(crate) fn write_whole<W: Write>(output: &mut W, bytes: &[u8]) -> Result<(), 
 
 /// Writes the pieces of a file, one after another, and flushes the output.
 ///
-/// It fails with `Device` where a write failed or took no byte, or the flush failed: then a front
+/// It fails with `Device` when a write fails or takes no byte, or the flush fails: then a front
 /// part was written.
 pub(crate) fn write_pieces<W: Write>(output: &mut W, pieces: Pieces<'_>) -> Result<(), Refusal>
     ensures done { OnOk result (Appends (W.contents output.old) (W.contents output.new)

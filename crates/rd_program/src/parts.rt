@@ -1,4 +1,5 @@
-//! What parts of a text stand for: the numbers of accessions and deeds, and digests, as paths of HTTP write them.
+//! What parts of a text stand for: the numbers of accessions and deeds, and digests, written as in
+//! paths of HTTP.
 
 ghost use Rattle.std.specs.Prelude.{◌≡◌, IfSome};
 ghost use Rattle.std.specs.Char.{is_ascii_digit};
@@ -15,7 +16,7 @@ fn all_digits(bytes: &[u8]) -> bool
     bytes.iter().all(|byte| byte.is_ascii_digit())
 }
 
-/// Whether a text is one decimal digit or more, at most so many, of which the first is not 0.
+/// Whether a text has from one to `most` decimal digits, the first of them not 0.
 fn has_digits(text: &str, most: usize) -> bool
     ensures { result ≡ is_number most text.now }
 {

@@ -27,7 +27,7 @@ impl fmt::Display for Joined {
     }
 }
 
-/// A number, and nothing where there is none.
+/// A number, or nothing if there is none.
 #[derive(Clone, Copy, Debug)]
 struct Number(Option<u32>);
 
@@ -42,9 +42,9 @@ impl fmt::Display for Number {
     }
 }
 
-/// The line of a file of an image of a kind in a list: slot, user, type, size, faults and name, with
-/// a tab between each, and a line feed. The user is left out where there is none, and the size where
-/// the file is not sound.
+/// The line of a file of an image of a kind in a list: slot, user, type, size, faults and name,
+/// with a tab between each, and a line feed. It leaves out the user if there is none, and the size
+/// if the file is not sound.
 #[derive(Clone, Copy, Debug)]
 pub(crate) struct Line<'a>(pub(crate) Kind, pub(crate) &'a Found);
 

@@ -6,20 +6,20 @@ use rd_store::{CreateFault, OpenFault};
 use rd_volume::{Kind, NoMemory, WrongSize};
 use std::alloc::AllocError;
 
-/// Why a command ends without what was asked for.
+/// Why a command ends without doing what its words ask for.
 #[derive(Clone, Copy, Debug, PartialEq, Eq)]
 pub enum Refusal {
     /// The words are no command.
     Usage,
     /// A read or a write failed, or a file could not be opened.
     Device,
-    /// A growth of memory was refused.
+    /// Memory ran out.
     NoMemory,
-    /// The image has not as many bytes as one of its kind.
+    /// The image does not have as many bytes as one of its kind.
     WrongSize,
     /// No file of the image has the slot.
     NoFile,
-    /// The file is listed, and its bytes are not served: it is not of the class that is.
+    /// The file is listed, but desk does not serve files of its class.
     ListedOnly,
     /// The file, of an image of a kind, has these faults, by bit.
     Faulty(Kind, u8),
@@ -37,16 +37,16 @@ pub enum Refusal {
     Clock,
     /// A sheet has another header, or a row of another length.
     BadSheet,
-    /// The caller's desk key is none that the desk knows.
+    /// The desk does not know the caller's desk key.
     UnknownKey,
-    /// It is for the staff, and the caller is not of the staff.
+    /// Only the staff may do this, and the caller is not staff.
     StaffOnly,
     /// No image stands at the accession.
     NoAccession,
 }
 
 impl Refusal {
-    /// The name that is printed, with the rule where it is by one.
+    /// The name that the program prints, with the label of the rule if a rule is the reason.
     pub fn name(self) -> &'static str
         ensures { result.now ≡ name_of self }
     {

@@ -11,7 +11,7 @@ use rd_desk::Body;
 use serde_json::Value;
 use std::alloc::{AllocError, Global};
 
-/// The bytes of a body. It fails where a growth of memory was refused.
+/// The bytes of a body. It fails when memory runs out.
 pub(crate) fn bytes_of(alloc: Global, body: &Body) -> Result<Vec<u8>, AllocError>
     ensures { IfOk result (λ bytes. bytes.items ≡ body.now) }
 {
@@ -36,9 +36,9 @@ pub(crate) fn is_text(body: &Body, text: &[u8]) -> bool
     rest.is_empty()
 }
 
-/// What a body says.
+/// The JSON value of a body.
 ///
-/// It fails with `NoMemory`, and with `Store` where it says nothing in JSON.
+/// It fails with `NoMemory`, and with `Store` when the body is not JSON.
 pub(crate) fn value_of(alloc: Global, body: &Body) -> Result<Value, Refusal>
     ensures value { IfOk result (λ value. IsJson body.now (view value)) }
     ensures refused { IfErr result IsRowRefusal }
@@ -51,7 +51,7 @@ pub(crate) fn value_of(alloc: Global, body: &Body) -> Result<Value, Refusal>
     }
 }
 
-/// The name of the refusal that a value tells, `None` where it tells none.
+/// The name of the refusal in a value; `None` if it has none.
 pub(crate) fn error_name(value: &Value) -> Option<&str>
     ensures { option_map (λ name. name.now) result ≡ text_at (codes "error") (view value.now) }
 {

@@ -16,9 +16,9 @@ use rd_http::{Ended, Served, serve_many};
 use std::alloc::Global;
 use std::io::Write;
 
-/// Tells at which port visits come, and flushes the output.
+/// Writes at which port visits come, and flushes the output.
 ///
-/// It fails with `NoMemory`, and with `Device` where a write or the flush failed.
+/// It fails with `NoMemory`, and with `Device` when a write or the flush fails.
 fn tell_listening<W: Write>(alloc: Global, port: u16, output: &mut W) -> Result<(), Refusal>
     ensures done { OnOk result (Appends (W.contents output.old) (W.contents output.new) (listening_line port)) }
     ensures cut { OnErr result (AppendsPart (W.contents output.old) (W.contents output.new) (listening_line port)) }
@@ -29,9 +29,9 @@ fn tell_listening<W: Write>(alloc: Global, port: u16, output: &mut W) -> Result<
     write_whole(output, line.as_bytes())
 }
 
-/// Tells how many visits were served, and flushes the output.
+/// Writes how many visits it served, and flushes the output.
 ///
-/// It fails with `NoMemory`, and with `Device` where a write or the flush failed.
+/// It fails with `NoMemory`, and with `Device` when a write or the flush fails.
 fn tell_served<W: Write>(alloc: Global, count: u32, output: &mut W) -> Result<(), Refusal>
     ensures done { OnOk result (Appends (W.contents output.old) (W.contents output.new) (served_line count)) }
     ensures cut { OnErr result (AppendsPart (W.contents output.old) (W.contents output.new) (served_line count)) }
@@ -42,9 +42,9 @@ fn tell_served<W: Write>(alloc: Global, count: u32, output: &mut W) -> Result<()
     write_whole(output, line.as_bytes())
 }
 
-/// Serves visits at the port that is asked for.
+/// Serves visits at the port that the command names.
 ///
-/// It fails with `Device` where the port is not to be had or a write failed, and with `NoMemory`.
+/// It fails with `Device` when it cannot open the port or a write fails, and with `NoMemory`.
 fn serve_visits<W: Write, M: Machine>(
     alloc: Global,
     ask: ServeAsk,
@@ -67,10 +67,10 @@ fn serve_visits<W: Write, M: Machine>(
     Ok(serve_many(alloc, door, desk, ask.count))
 }
 
-/// Tells how a run of visits ended.
+/// Writes how many visits a run served, or fails as the run ended.
 ///
-/// It fails with `Clock` where a moment had no day, with `Device` where the door shut or a write failed, and
-/// with `NoMemory`.
+/// It fails with `Clock` when a moment has no day, with `Device` when the door shuts or a write
+/// fails, and with `NoMemory`.
 fn tell_ended<W: Write>(alloc: Global, served: Served, output: &mut W) -> Result<(), Refusal>
     ensures done { OnOk result (Appends (W.contents output.old) (W.contents output.new) (served_line served.visits)) }
     ensures count { OnOk result (served.ended ≡ Ended.Count) }
@@ -83,12 +83,12 @@ fn tell_ended<W: Write>(alloc: Global, served: Served, output: &mut W) -> Result
     }
 }
 
-/// Serves visits of the desk in the file of a store, tells at which port they come and, at the end, how many
-/// there were. Each line is flushed.
+/// Serves visits of the desk in the file of a store. It writes at which port they come and, at the
+/// end, how many there were, and flushes each line.
 ///
-/// It fails with `NotADesk`, `Version`, `Inconsistent` and `Store` where the desk cannot be opened, then with
-/// `Device` where the port is not to be had, a write failed or the door shut, with `Clock` where a moment had
-/// no day, and with `NoMemory`.
+/// It fails with `NotADesk`, `Version`, `Inconsistent` and `Store` when it cannot open the desk,
+/// then with `Device` when it cannot open the port, a write fails or the door shuts, with `Clock`
+/// when a moment has no day, and with `NoMemory`.
 pub(crate) fn serve<W: Write, M: Machine>(
     alloc: Global,
     ask: ServeAsk,

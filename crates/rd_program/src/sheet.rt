@@ -1,5 +1,5 @@
-//! The rows of a sheet: a table as CSV with the columns `accession`, `kind`, `deed`, `sha256` and `file`, and in
-//! each row an image that is to be taken in.
+//! The rows of a sheet: a table as CSV with the columns `accession`, `kind`, `deed`, `sha256` and
+//! `file`, and in each row an image to take in.
 
 ghost use Rattle.std.specs.Prelude.{◌≡◌, ◌↔◌, IfErr, IfNone, IfSome, IsTrue, Some, option_map};
 ghost use Rattle.csv.specs.Records.{field_at, fields_of};
@@ -22,13 +22,13 @@ pub(crate) struct SheetRow<'a> {
     pub(crate) kind: Kind,
     /// The number of its deed, 1 to 999,999.
     pub(crate) deed: u32,
-    /// What the SHA-256 of its bytes has to be.
+    /// The SHA-256 that its bytes must have.
     pub(crate) digest: [u8; 32],
     /// The path of its file, which is not empty.
     pub(crate) file: &'a str,
 }
 
-/// The text of the field at a place, `None` where there is none or it is not UTF-8.
+/// The text of the field at a place; `None` if there is none or it is not UTF-8.
 fn text_at(fields: &ByteRecord, place: usize) -> Option<&str>
     ensures { option_map (λ text. text.now) result ≡ spec.text_at place (fields_of fields.now) }
 {
@@ -65,8 +65,9 @@ fn path_at(fields: &ByteRecord, place: usize) -> Option<&str>
     if path.is_empty() { None } else { Some(path) }
 }
 
-/// What a row says of an image, `None` where a field is missing, is not UTF-8, or breaks its grammar: the numbers,
-/// the kind and the digest are written as in paths of HTTP, and the path is not empty.
+/// What a row says of an image; `None` if a field is missing, is not UTF-8, or is badly written:
+/// the numbers, the kind and the digest are written as in paths of HTTP, and the path is not
+/// empty.
 pub(crate) fn row_of(fields: &ByteRecord) -> Option<SheetRow<'_>>
     ensures says { IfSome result (Says (fields_of fields.now)) }
     ensures bad { IfNone result (IsBad (fields_of fields.now)) }
@@ -113,10 +114,11 @@ pub(crate) fn is_header(fields: &ByteRecord) -> bool
     is_named(fields, 4, "file")
 }
 
-/// Reads the next row of a sheet. Where there is one it has as many fields as the first that was read.
+/// Reads the next row of a sheet, and gives whether there is one. If there is, it has as many
+/// fields as the first row read.
 ///
-/// It fails with `BadSheet` where a row has another number of fields, with `NoMemory`, and with `Device` where the
-/// reader does, as one over a slice never does.
+/// It fails with `BadSheet` when a row has another number of fields, with `NoMemory`, and with
+/// `Device` when the reader fails, which one over a slice never does.
 pub(crate) fn next_row(reader: &mut Reader<&[u8]>, fields: &mut ByteRecord) -> Result<bool, Refusal>
     ensures { IfErr result IsReadRefusal }
 {

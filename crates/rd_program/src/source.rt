@@ -10,10 +10,11 @@ use rd_volume::Kind;
 use std::alloc::Global;
 use std::io::Read;
 
-/// The bytes of an image that is asked for: of the input where the path is a hyphen, which is read no
-/// further than one byte past the size of an image, and else of the machine's file.
+/// The bytes of the image at a path: those of the input if the path is a hyphen, and otherwise
+/// those of the machine's file. It reads the input no further than one byte past the size of an
+/// image.
 ///
-/// It fails with `Device` where the image cannot be read, and with `NoMemory`.
+/// It fails with `Device` when it cannot read the image, and with `NoMemory`.
 pub(crate) fn read_image<R: Read, M: Machine>(
     alloc: Global,
     kind: Kind,

@@ -1,4 +1,4 @@
-//! What is told on the standard error: the line of a refusal, or what is wrong with the words.
+//! What goes to standard error: the line of a refusal, or what is wrong with the words.
 
 ghost use Rattle.std.specs.Prelude.{◌≡◌, ◌≢◌, ◌≤◌, ◌⊎◌, ◌++◌, ⊤, IfErr, IfOk, OnErr, OnOk, codes};
 ghost use Rattle.std.specs.Io.KnownBytes.{Appends, Keeps};
@@ -26,13 +26,13 @@ use rd_volume::{FaultWords, fault_words};
 use std::io::Write;
 use std::process::ExitCode;
 
-/// What is told of a text that is no rule.
+/// What it says of a text that is no rule for clocks.
 const ZONE_MISTAKE: &[u8] =
     b"error: --zone takes a rule as POSIX writes it, as in UTC0 or CET-1CEST,M3.5.0,M10.5.0/3\n\nFor more information, try '--help'.\n";
 
 /// Writes a word after a blank.
 ///
-/// It fails with `Device` where a write failed: then a front part was written.
+/// It fails with `Device` when a write fails: then a front part was written.
 fn write_word<E: Write>(errors: &mut E, word: &str) -> Result<(), Refusal>
     ensures done { OnOk result (Appends (E.contents errors.old) (E.contents errors.new)
         (codes " " ++ word.now)) }
@@ -45,7 +45,7 @@ fn write_word<E: Write>(errors: &mut E, word: &str) -> Result<(), Refusal>
 
 /// Writes words, each after a blank.
 ///
-/// It fails with `Device` where a write failed: then a front part was written.
+/// It fails with `Device` when a write fails: then a front part was written.
 fn write_words<E: Write>(errors: &mut E, words: FaultWords) -> Result<(), Refusal>
     ensures done { OnOk result (Appends (E.contents errors.old) (E.contents errors.new)
         (blanked (words_left words))) }
@@ -60,7 +60,7 @@ fn write_words<E: Write>(errors: &mut E, words: FaultWords) -> Result<(), Refusa
 
 /// Writes the words that follow the name of a refusal, each after a blank: those of the faults of a file.
 ///
-/// It fails with `Device` where a write failed: then a front part was written.
+/// It fails with `Device` when a write fails: then a front part was written.
 fn write_words_after<E: Write>(errors: &mut E, refused: Refusal) -> Result<(), Refusal>
     ensures done { OnOk result (Appends (E.contents errors.old) (E.contents errors.new)
         (blanked (words_after refused))) }
@@ -73,9 +73,9 @@ fn write_words_after<E: Write>(errors: &mut E, refused: Refusal) -> Result<(), R
     }
 }
 
-/// Writes the line that tells a refusal.
+/// Writes the line that names a refusal.
 ///
-/// It fails with `Device` where a write failed: then a front part was written.
+/// It fails with `Device` when a write fails: then a front part was written.
 fn write_line<E: Write>(errors: &mut E, refused: Refusal) -> Result<(), Refusal>
     ensures done { OnOk result (Appends (E.contents errors.old) (E.contents errors.new)
         (refusal_line refused)) }
@@ -88,7 +88,8 @@ fn write_line<E: Write>(errors: &mut E, refused: Refusal) -> Result<(), Refusal>
     write_bytes(errors, b"\n")
 }
 
-/// Tells a refusal in one line, and gives its status. A write that fails ends the line and is not told.
+/// Writes a refusal as one line, and gives its status. A write that fails ends the line, and
+/// nothing reports it.
 pub(crate) fn tell_refusal<E: Write>(refused: Refusal, errors: &mut E) -> u8
     ensures status { result ≡ status_of refused }
     ensures told { AppendsPart (E.contents errors.old) (E.contents errors.new) (refusal_line refused) }
@@ -97,8 +98,8 @@ pub(crate) fn tell_refusal<E: Write>(refused: Refusal, errors: &mut E) -> u8
     refused.status()
 }
 
-/// The exit status of the process: the status of `run` where it ran, and else that of the refusal, which
-/// is told.
+/// The exit status of the process: that of `run` if it ran, and otherwise that of the refusal,
+/// which it writes to `errors`.
 pub fn exit_code<E: Write>(ran: Result<u8, Refusal>, errors: &mut E) -> ExitCode
     ensures ran { IfOk ran (λ status. exit_status result ≡ status) }
     ensures silent { OnOk ran (Keeps (E.contents errors.old) (E.contents errors.new)) }
@@ -113,9 +114,9 @@ pub fn exit_code<E: Write>(ran: Result<u8, Refusal>, errors: &mut E) -> ExitCode
     ExitCode::from(status)
 }
 
-/// Writes the help that was asked for.
+/// Writes the help that the words ask for.
 ///
-/// It fails with `Device` where a write failed.
+/// It fails with `Device` when a write fails.
 fn tell_help<W: Write>(help: &Error, output: &mut W) -> Result<(), Refusal>
     ensures { IfErr result (λ refused. refused ≡ Refusal.Device) }
 {
@@ -125,8 +126,8 @@ fn tell_help<W: Write>(help: &Error, output: &mut W) -> Result<(), Refusal>
     flush(output)
 }
 
-/// Tells why words ask for nothing that can be done, and gives the status: 0 where help or the version was asked for
-/// and written, 2 where the words are no command, else 3.
+/// Writes help, the version, or what is wrong with the words, and gives the status: 0 if the words
+/// ask for help or the version and it is written, 2 if the words are no command, otherwise 3.
 pub(crate) fn tell_unread<W: Write, E: Write>(unread: Unread, output: &mut W, errors: &mut E) -> u8
     ensures status { result ≤ 3 }
     ensures not_refused { result ≢ 1 }

@@ -12,12 +12,12 @@ use std::io::Write;
 /// The number of the version.
 pub(crate) const VERSION: &str = "0.1.0";
 
-/// The line that tells it.
+/// The line that names the version.
 const VERSION_LINE: &[u8] = b"desk 0.1.0\n";
 
 /// Writes the line of the version, and flushes the output.
 ///
-/// It fails with `Device` where a write or the flush failed: then a front part was written.
+/// It fails with `Device` when a write or the flush fails: then a front part was written.
 pub(crate) fn tell_version<W: Write>(output: &mut W) -> Result<(), Refusal>
     ensures done { OnOk result (Appends (W.contents output.old) (W.contents output.new) version_line) }
     ensures cut { OnErr result

@@ -26,7 +26,7 @@ use rd_policy::{Zone, is_scope};
 use rd_volume::Kind;
 use std::alloc::{AllocError, Global};
 
-/// The file that a command asks for.
+/// The file whose bytes `cat` writes.
 #[derive(Clone, Copy, Debug)]
 pub(crate) struct FileAsk<'a> {
     /// The kind of the image.
@@ -37,7 +37,7 @@ pub(crate) struct FileAsk<'a> {
     pub(crate) slot: u16,
 }
 
-/// The image whose files a command asks for.
+/// The image whose files `list` lists.
 #[derive(Clone, Copy, Debug)]
 pub(crate) struct ImageAsk<'a> {
     /// The kind of the image.
@@ -71,7 +71,8 @@ pub(crate) struct ServeAsk<'a> {
 /// When a command is done, and by which clocks.
 #[derive(Clone, Copy, Debug)]
 pub(crate) struct WhenAsk {
-    /// The seconds since 1970-01-01T00:00:00 UTC, where the words tell them, and else those of the clock.
+    /// The seconds since 1970-01-01T00:00:00 UTC, if the words name them; otherwise those of the
+    /// clock count.
     pub(crate) seconds: Option<i64>,
     /// The zone of the desk's clocks.
     pub(crate) zone: Zone,
@@ -86,11 +87,11 @@ pub(crate) struct ImportAsk<'a> {
     pub(crate) key: &'a [u8],
     /// The path of the sheet that names the images.
     pub(crate) sheet: &'a str,
-    /// When they are taken in.
+    /// When it takes them in.
     pub(crate) when: WhenAsk,
 }
 
-/// What is asked of a desk once.
+/// The one question that a command asks a desk.
 #[derive(Clone, Copy, Debug)]
 pub(crate) enum Question {
     /// The catalogue.
@@ -99,16 +100,16 @@ pub(crate) enum Question {
     Check(u32),
 }
 
-/// What is asked of the desk in the file of a store, and by whom.
+/// One question to the desk in the file of a store, and who asks it.
 #[derive(Clone, Copy, Debug)]
 pub(crate) struct OnceAsk<'a> {
     /// The path of the store.
     pub(crate) store: &'a str,
-    /// The desk key of the caller, without blanks and tabs at both ends, where one is given.
+    /// The desk key of the caller, without blanks and tabs at both ends, if the words give one.
     pub(crate) key: Option<&'a [u8]>,
-    /// What is asked.
+    /// The question.
     pub(crate) question: Question,
-    /// When it is asked.
+    /// When the desk is asked.
     pub(crate) when: WhenAsk,
 }
 
@@ -123,20 +124,21 @@ pub(crate) enum Ask<'a> {
     Init(InitAsk<'a>),
     /// Visits.
     Serve(ServeAsk<'a>),
-    /// Images that are taken in.
+    /// Images to take in.
     Import(ImportAsk<'a>),
-    /// What a desk is asked once, by `export` or `check`.
+    /// One question to a desk, by `export` or `check`.
     Once(OnceAsk<'a>),
 }
 
-/// Why words ask for nothing that can be done.
+/// Why the words do not run a command.
 #[derive(Debug, Drop)]
 pub(crate) enum Unread {
-    /// The text to tell: help or the version that was asked for, or what is wrong with the words.
+    /// The text to write: help or the version, if the words ask for it, or what is wrong with the
+    /// words.
     Told(Error),
-    /// The words are no command, though `clap` takes them: of what it takes, only the text of `--zone` may not read.
+    /// The words are no command, although `clap` accepts them: the text of `--zone` is no rule.
     Usage,
-    /// A growth of memory was refused.
+    /// Memory ran out.
     NoMemory,
 }
 
@@ -161,7 +163,7 @@ impl From<Error> for Unread {
     }
 }
 
-/// The kind that the operand for a kind names, `None` where there is none.
+/// The kind that the operand for a kind names, `None` if there is none.
 fn kind_asked(found: &ArgMatches) -> Option<Kind>
     ensures { (kind : Kind)
         → first_of (codes "KIND") (rows_of (found_of found.now)) ≡ Some (word_of kind)
@@ -170,7 +172,7 @@ fn kind_asked(found: &ArgMatches) -> Option<Kind>
     Kind::from_word(found.get_str("KIND")?)
 }
 
-/// The number that the operand for a slot reads as, `None` where there is none.
+/// The number that the operand for a slot reads as, `None` if there is none.
 fn slot_asked(found: &ArgMatches) -> Option<u16>
     ensures { (text : List ℕ) (slot : ℕ)
         → one_of (codes "SLOT") (rows_of (found_of found.now)) ≡ Some text
@@ -179,7 +181,7 @@ fn slot_asked(found: &ArgMatches) -> Option<u16>
     found.get_one::<u16>("SLOT")
 }
 
-/// What the operands of `cat` ask for, `None` where one is missing or does not read.
+/// What the operands of `cat` ask for; `None` if one is missing or badly written.
 fn file_asked<'a>(found: &ArgMatches<'a>) -> Option<FileAsk<'a>>
     ensures { (kind : Kind) (image : List ℕ) (slot : ℕ)
         → AreCatRows (rows_of (found_of found.now)) kind image slot
@@ -192,7 +194,7 @@ fn file_asked<'a>(found: &ArgMatches<'a>) -> Option<FileAsk<'a>>
     })
 }
 
-/// What the operands of `list` ask for, `None` where one is missing or does not read.
+/// What the operands of `list` ask for; `None` if one is missing or badly written.
 fn files_asked<'a>(found: &ArgMatches<'a>) -> Option<ImageAsk<'a>>
     ensures { (kind : Kind) (image : List ℕ)
         → AreListRows (rows_of (found_of found.now)) kind image
@@ -204,7 +206,8 @@ fn files_asked<'a>(found: &ArgMatches<'a>) -> Option<ImageAsk<'a>>
     })
 }
 
-/// The desk key that its option gives, without blanks and tabs at both ends, `None` where there is none.
+/// The desk key that its option gives, without blanks and tabs at both ends, `None` if there is
+/// none.
 fn key_asked<'a>(found: &ArgMatches<'a>) -> Option<&'a [u8]>
     ensures { (key : List ℕ)
         → first_of (codes "key") (rows_of (found_of found.now)) ≡ Some key
@@ -213,7 +216,7 @@ fn key_asked<'a>(found: &ArgMatches<'a>) -> Option<&'a [u8]>
     Some(trimmed(found.get_str("key")?.as_bytes()))
 }
 
-/// What the options of `init` ask for, `None` where one is missing.
+/// What the options of `init` ask for, `None` if one is missing.
 fn init_asked<'a>(found: &ArgMatches<'a>) -> Option<InitAsk<'a>>
     ensures { (store : List ℕ) (key : List ℕ)
         → AreInitRows (rows_of (found_of found.now)) store key
@@ -225,7 +228,7 @@ fn init_asked<'a>(found: &ArgMatches<'a>) -> Option<InitAsk<'a>>
     })
 }
 
-/// The port that its option reads as, `None` where there is none.
+/// The port that its option reads as, `None` if there is none.
 fn port_asked(found: &ArgMatches) -> Option<u16>
     ensures { (text : List ℕ) (port : ℕ)
         → one_of (codes "port") (rows_of (found_of found.now)) ≡ Some text
@@ -234,7 +237,7 @@ fn port_asked(found: &ArgMatches) -> Option<u16>
     found.get_one::<u16>("port")
 }
 
-/// The number of visits that its option reads as, `None` where there is none.
+/// The number of visits that its option reads as, `None` if there is none.
 fn count_asked(found: &ArgMatches) -> Option<u32>
     ensures { (text : List ℕ) (count : ℕ)
         → one_of (codes "count") (rows_of (found_of found.now)) ≡ Some text
@@ -243,7 +246,8 @@ fn count_asked(found: &ArgMatches) -> Option<u32>
     found.get_one::<u32>("count")
 }
 
-/// The zone whose rule its option gives, that of UTC where it is absent, and `None` where the text is no rule.
+/// The zone whose rule its option gives, that of UTC if it is absent, and `None` if the text is no
+/// rule.
 fn zone_asked(found: &ArgMatches) -> Option<Zone>
     ensures asked { (rule : List ℕ)
         → IsRuleTold (first_of (codes "zone") (rows_of (found_of found.now))) rule
@@ -254,7 +258,7 @@ fn zone_asked(found: &ArgMatches) -> Option<Zone>
     Zone::read(rule).ok()
 }
 
-/// What the options of `serve` ask for, `None` where one is missing or does not read.
+/// What the options of `serve` ask for; `None` if one is missing or badly written.
 fn serve_asked<'a>(found: &ArgMatches<'a>) -> Option<ServeAsk<'a>>
     ensures asked { (store : List ℕ) (port count : ℕ) (rule : List ℕ)
         → AreServeRows (rows_of (found_of found.now)) store port count rule
@@ -269,7 +273,7 @@ fn serve_asked<'a>(found: &ArgMatches<'a>) -> Option<ServeAsk<'a>>
     })
 }
 
-/// The moment that its option tells, `None` where it is absent.
+/// The moment that its option gives; `None` if it is absent.
 fn moment_asked(found: &ArgMatches) -> Option<i64>
     ensures { (moment : Option ℤ)
         → IsMomentTold (one_of (codes "at") (rows_of (found_of found.now))) moment → result ≡ moment }
@@ -277,7 +281,7 @@ fn moment_asked(found: &ArgMatches) -> Option<i64>
     found.get_one::<i64>("at")
 }
 
-/// When a command is to be done, `None` where the text of `--zone` is no rule.
+/// When to do a command, and by which clocks; `None` if the text of `--zone` is no rule.
 fn when_asked(found: &ArgMatches) -> Option<WhenAsk>
     ensures asked { (moment : Option ℤ) (rule : List ℕ)
         → IsMomentTold (one_of (codes "at") (rows_of (found_of found.now))) moment
@@ -291,7 +295,7 @@ fn when_asked(found: &ArgMatches) -> Option<WhenAsk>
     })
 }
 
-/// What the options of `import` ask for, `None` where one is missing or does not read.
+/// What the options of `import` ask for; `None` if one is missing or badly written.
 fn import_asked<'a>(found: &ArgMatches<'a>) -> Option<ImportAsk<'a>>
     ensures asked { (store key sheet : List ℕ) (moment : Option ℤ) (rule : List ℕ)
         → AreImportRows (rows_of (found_of found.now)) store key sheet moment rule
@@ -306,7 +310,8 @@ fn import_asked<'a>(found: &ArgMatches<'a>) -> Option<ImportAsk<'a>>
     })
 }
 
-/// The desk key that its option gives, without blanks and tabs at both ends, `None` where it is absent.
+/// The desk key that its option gives, without blanks and tabs at both ends, `None` if it is
+/// absent.
 fn key_given<'a>(found: &ArgMatches<'a>) -> Option<&'a [u8]>
     ensures { option_map (λ trimmed. trimmed.now) result
         ≡ option_map trim_ows (first_of (codes "key") (rows_of (found_of found.now))) }
@@ -317,7 +322,7 @@ fn key_given<'a>(found: &ArgMatches<'a>) -> Option<&'a [u8]>
     }
 }
 
-/// The accession that its option tells, `None` where it is none.
+/// The accession that its option gives; `None` if it gives none.
 fn accession_asked(found: &ArgMatches) -> Option<u32>
     ensures number { (text : List ℕ) (acc : ℕ)
         → one_of (codes "acc") (rows_of (found_of found.now)) ≡ Some text
@@ -328,7 +333,7 @@ fn accession_asked(found: &ArgMatches) -> Option<u32>
     if is_scope(acc) { Some(acc) } else { None }
 }
 
-/// What the options of `export` ask for, `None` where one is missing or does not read.
+/// What the options of `export` ask for; `None` if one is missing or badly written.
 fn export_asked<'a>(found: &ArgMatches<'a>) -> Option<OnceAsk<'a>>
     ensures asked { (store : List ℕ) (key : Option (List ℕ)) (moment : Option ℤ) (rule : List ℕ)
         → AreExportRows (rows_of (found_of found.now)) store key moment rule
@@ -344,7 +349,7 @@ fn export_asked<'a>(found: &ArgMatches<'a>) -> Option<OnceAsk<'a>>
     })
 }
 
-/// What the options of `check` ask for, `None` where one is missing or does not read.
+/// What the options of `check` ask for; `None` if one is missing or badly written.
 fn check_asked<'a>(found: &ArgMatches<'a>) -> Option<OnceAsk<'a>>
     ensures asked { (store key : List ℕ) (acc : ℕ) (moment : Option ℤ) (rule : List ℕ)
         → AreCheckRows (rows_of (found_of found.now)) store key acc moment rule
@@ -360,7 +365,7 @@ fn check_asked<'a>(found: &ArgMatches<'a>) -> Option<OnceAsk<'a>>
     })
 }
 
-/// What a parse of the words found that a command asks for, `None` where it found no command.
+/// What a command asks for, from a parse of the words; `None` if the parse found no command.
 fn ask_found<'a>(matches: &ArgMatches<'a>) -> Option<Ask<'a>>
     ensures file { (kind : Kind) (image : List ℕ) (slot : ℕ)
         → EntersCat (subcommand_rows_of matches.now) kind image slot
@@ -400,10 +405,11 @@ fn ask_found<'a>(matches: &ArgMatches<'a>) -> Option<Ask<'a>>
     }
 }
 
-/// Reads the words of a command, which come without the program's name.
+/// Reads the words of a command, without the program's name.
 ///
-/// It fails with `Told` where they ask for help or the version or are no command, with `Usage` where the parse gives no
-/// command or not all its operands, or the text of `--zone` is no rule, and with `NoMemory`.
+/// It fails with `Told` when they ask for help or the version or are no command, with `Usage` when
+/// the parse gives no command or not all its operands, or the text of `--zone` is no rule, and
+/// with `NoMemory`.
 pub(crate) fn read_words<'a>(alloc: Global, words: &'a [&'a str]) -> Result<Ask<'a>, Unread>
     ensures read { IfOk result (IsAskOf (map (λ word. word.now) words.entry.now)) }
     ensures told_on_output { IfOk result (λ ask. TellsOnOutput ask → IsTakenTelling (map (λ word. word.now) words.entry.now)) }

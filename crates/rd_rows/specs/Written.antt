@@ -5,6 +5,6 @@ use Rattle.std.specs.Prelude.{ℕ, List, ◌+◌, ◌-◌, ◌++◌, drop, lengt
 abbrev pub written : List ℕ → ℕ → List ℕ → List ℕ
 written image place bytes = take place image ++ (bytes ++ drop (place + length bytes) image)
 
--- the first n bytes, with a pad in the place of each that is missing
+-- the first n bytes, with a pad in place of each missing one
 abbrev pub padded : ℕ → ℕ → List ℕ → List ℕ
 padded n pad bytes = take n bytes ++ replicate (n - length bytes) pad

@@ -6,7 +6,7 @@ ghost use Rattle.rd_rows.specs.Written.{padded, written};
 use rd_geometry::NoMemory;
 use std::alloc::Global;
 
-/// Writes bytes over those of an image from a place on. Where not all fit, none is written.
+/// Writes bytes over those of an image, from a place on. If not all fit, it writes none.
 pub fn put(image: &mut [u8], place: usize, bytes: &[u8])
     ensures value { place + length bytes.now ≤ length image.old
         → image.new ≡ written image.old place bytes.now }
@@ -18,7 +18,7 @@ pub fn put(image: &mut [u8], place: usize, bytes: &[u8])
     }
 }
 
-/// As many bytes as an array has, from the front of others, with a pad for each that is missing.
+/// An array of the first `N` bytes, with a pad for each missing one.
 pub fn padded<const N: usize>(bytes: &[u8], pad: u8) -> [u8; N]
     ensures { result ≡ padded N pad bytes.now }
 {
@@ -27,15 +27,15 @@ pub fn padded<const N: usize>(bytes: &[u8], pad: u8) -> [u8; N]
     array
 }
 
-/// As many bytes as an array has, which tell a part of an image from every other: its number, and then
-/// what is left of the number when it is divided by 251.
+/// An array of bytes that distinguish a part of an image from every other: its number, and then
+/// the remainder of the number divided by 251.
 pub(crate) fn numbered<const N: usize>(number: u16) -> [u8; N] {
     let mut array = [(number % 251) as u8; N];
     put(&mut array, 0, &[(number / 256) as u8, (number % 256) as u8]);
     array
 }
 
-/// So many bytes, which are all 0.
+/// So many bytes, all 0.
 pub(crate) fn zeroed(alloc: Global, count: usize) -> Result<Vec<u8>, NoMemory>
     ensures { IfOk result (λ bytes. vec_len bytes ≡ count) }
 {

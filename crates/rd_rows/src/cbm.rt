@@ -1,4 +1,5 @@
-//! Images of 1541 disks, written without the code that reads them.
+//! Images of 1541 disks, written without the code that reads them. A call fails only when memory
+//! runs out.
 
 ghost use Rattle.std.specs.Prelude.{◌≡◌, ◌<◌, ◌≤◌, ◌+◌, length, vec_len, IfOk};
 ghost use Rattle.rd_geometry.specs.Blocks.{place_of_block};
@@ -12,7 +13,7 @@ use std::alloc::Global;
 /// The number of bytes of an image: 683 blocks of 256.
 const SIZE: usize = 683 * 256;
 
-/// The block 18/0, which tells the disk's name and its free blocks.
+/// The block 18/0, which has the disk's name and its free blocks.
 const FREE_MAP: u16 = 17 * 21;
 
 /// The block 18/1, the first of the directory.
@@ -28,7 +29,7 @@ pub struct NewCbmEntry<'a> {
     pub type_byte: u8,
     /// The track and the sector of the first block.
     pub first: (u8, u8),
-    /// The name, of which sixteen bytes are taken; it is padded with A0 hex.
+    /// The name: its first sixteen bytes count, padded with A0 hex.
     pub name: &'a [u8],
     /// The track and the sector of the first side sector.
     pub side: (u8, u8),
@@ -48,8 +49,8 @@ pub const PROGRAM: NewCbmEntry<'static> = NewCbmEntry {
     size: 0,
 };
 
-/// Writes bytes from the first byte of a block on. Blocks are counted from 0 in the order of tracks
-/// and sectors. Where the image is too short for the bytes, none is written.
+/// Writes bytes from the first byte of a block on. Blocks are counted from 0 in the order of
+/// tracks and sectors. If the image is too short for the bytes, it writes none.
 pub fn put_block(image: &mut [u8], block: u16, bytes: &[u8])
     ensures value { place_of_block block + length bytes.now ≤ length image.old
         → image.new ≡ written image.old (place_of_block block) bytes.now }
@@ -60,8 +61,8 @@ pub fn put_block(image: &mut [u8], block: u16, bytes: &[u8])
     put(image, 256 * block as usize, bytes);
 }
 
-/// Writes an entry at a slot, 0 to 7, of a block of the directory. Bytes 0 and 1 and bytes 24 to 29 of
-/// the slot stay. Where the image is too short for the slot, nothing is written.
+/// Writes an entry at a slot, 0 to 7, of a block of the directory. Bytes 0 and 1 and bytes 24 to
+/// 29 of the slot stay. If the image is too short for the slot, it writes nothing.
 pub fn put_cbm_entry(image: &mut [u8], block: u16, slot: u8, entry: &NewCbmEntry<'_>)
     requires { slot < 8 }
     ensures value { place_of_entry block slot + 32 ≤ length image.old
@@ -154,7 +155,7 @@ pub fn one_program(alloc: Global) -> Result<Vec<u8>, NoMemory>
     Ok(image)
 }
 
-/// A disk with one program `LOOP` of three blocks, of which the third links to the second.
+/// A disk with one program `LOOP` of three blocks; the third links to the second.
 pub fn looped(alloc: Global) -> Result<Vec<u8>, NoMemory>
     ensures { IfOk result (λ image. vec_len image ≡ 174848) }
 {
@@ -276,7 +277,8 @@ fn block_at(place: u16) -> u16
     if place < FREE_MAP { place } else { place + 2 }
 }
 
-/// Writes after the link of each block that files can have the bytes that tell it from the others.
+/// Writes into each block that files can have, after its link, the bytes that distinguish it from
+/// the others.
 fn number_blocks(image: &mut [u8])
     ensures { length image.new ≡ length image.old }
 {
@@ -286,7 +288,7 @@ fn number_blocks(image: &mut [u8])
     }
 }
 
-/// Writes one after the other the bytes of the blocks that files can have.
+/// Writes the bytes of the blocks that files can have, one block after the other.
 fn join_blocks(bytes: &mut [u8])
     ensures { length bytes.new ≡ length bytes.old }
 {
@@ -309,7 +311,7 @@ pub fn full_file(alloc: Global) -> Result<Vec<u8>, NoMemory>
 }
 
 /// A disk with one program `LONG`, which has all 681 blocks that files can have, in order, and
-/// bytes that tell each block from the others.
+/// bytes that distinguish each block from the others.
 pub fn full(alloc: Global) -> Result<Vec<u8>, NoMemory>
     ensures { IfOk result (λ image. vec_len image ≡ 174848) }
 {

@@ -1,4 +1,4 @@
-//! CP/M images, written without the code that reads them.
+//! CP/M images, written without the code that reads them. A call fails only when memory runs out.
 
 ghost use Rattle.std.specs.Prelude.{◌≡◌, ◌<◌, ◌≤◌, ◌+◌, length, vec_len, IfOk};
 ghost use Rattle.rd_geometry.specs.Places.{place_of_cpm_unit};
@@ -21,9 +21,9 @@ const DIRECTORY_SECTORS: [u8; 16] = [0, 6, 12, 18, 24, 4, 10, 16, 22, 2, 8, 14, 
 pub struct NewEntry<'a> {
     /// The byte of the user number.
     pub user: u8,
-    /// The name, of which eight bytes are taken; it is padded with blanks.
+    /// The name: its first eight bytes count, padded with blanks.
     pub name: &'a [u8],
-    /// The type, of which three bytes are taken; it is padded with blanks.
+    /// The type: its first three bytes count, padded with blanks.
     pub extension: &'a [u8],
     /// The byte EX.
     pub ex: u8,
@@ -31,7 +31,7 @@ pub struct NewEntry<'a> {
     pub s2: u8,
     /// The byte RC.
     pub rc: u8,
-    /// The block numbers, of which sixteen are taken; they are padded with 0.
+    /// The block numbers: the first sixteen count, padded with 0.
     pub pointers: &'a [u8],
 }
 
@@ -68,8 +68,8 @@ fn entry_bytes(entry: &NewEntry<'_>) -> [u8; 32]
     bytes
 }
 
-/// Writes an entry at a slot of the directory, 0 to 63. Where the image is too short for it,
-/// nothing is written.
+/// Writes an entry at a slot of the directory, 0 to 63. If the image is too short for it, it
+/// writes nothing.
 pub fn put_entry(image: &mut [u8], slot: u8, entry: &NewEntry<'_>)
     requires { slot < 64 }
     ensures value { place_of_slot slot + 32 ≤ length image.old
@@ -94,7 +94,7 @@ pub fn blank(alloc: Global) -> Result<Vec<u8>, NoMemory>
     filled(alloc, 0xe5)
 }
 
-/// A blank disk with these entries from slot 0 on, of which 64 are taken.
+/// A blank disk with the first 64 of these entries, from slot 0 on.
 pub fn with_entries(alloc: Global, entries: &[NewEntry<'_>]) -> Result<Vec<u8>, NoMemory>
     ensures { IfOk result (λ image. vec_len image ≡ 256256) }
 {
@@ -139,7 +139,7 @@ fn place_of_sector(n: u16) -> usize
     128 * (26 * (2 + n as usize / 26) + ((6 * place) % 26 + place / 13))
 }
 
-/// Writes into each record of the blocks 2 to 242 the bytes that tell it from the others.
+/// Writes into each record of the blocks 2 to 242 the bytes that distinguish it from the others.
 fn number_records(image: &mut [u8])
     ensures { length image.new ≡ length image.old }
 {
@@ -209,7 +209,7 @@ pub fn two_extents(alloc: Global) -> Result<Vec<u8>, NoMemory>
     Ok(disk)
 }
 
-/// Writes one after the other the bytes of the records of the blocks from 2 on.
+/// Writes the bytes of the records of the blocks from 2 on, one after the other.
 fn join_records(bytes: &mut [u8])
     ensures { length bytes.new ≡ length bytes.old }
 {

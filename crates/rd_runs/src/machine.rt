@@ -28,7 +28,7 @@ impl<'a> File<'a> {
         }
     }
 
-    /// Reads a line on its bytes: its first word, and the text after it.
+    /// Reads a line about the bytes of the file: its first word, and the text after it.
     pub(crate) fn read(&mut self, rt: &HostRuntime, word: &str, text: &str) -> Result<()> {
         build_with(rt, &mut self.bytes, word, text)
     }
@@ -48,14 +48,14 @@ pub(crate) struct Museum<'a> {
     pub(crate) store: Option<Connection<MemStore>>,
     files: Vec<File<'a>>,
     pub(crate) lacks: Vec<Lack<'a>>,
-    /// What the clock shows, where it shows anything.
+    /// What the clock shows; `None` if it shows nothing.
     pub(crate) clock: Option<i64>,
     pub(crate) door: MemoryDoor,
-    /// The port that was asked for last.
+    /// The last port that the program asked for.
     pub(crate) port: Option<u16>,
 }
 
-/// The front of a file, which is one byte longer than the largest image at most.
+/// The front of a file: at most one byte more than the largest image has.
 fn front_of(bytes: &[u8]) -> &[u8] {
     let count = bytes.len().min(Kind::Cpm8.size() + 1);
     &bytes[..count]
@@ -78,12 +78,12 @@ impl<'a> Museum<'a> {
         })
     }
 
-    /// Takes a file in. Of several at a path the last one stands.
+    /// Takes in a file. If there are several at a path, the last one counts.
     pub(crate) fn keep(&mut self, file: File<'a>) -> Result<()> {
         Ok(self.files.push(file)?)
     }
 
-    /// It fails where something is not given.
+    /// It fails when the machine does not give something.
     fn given(&self, what: &str) -> Result<(), MachineFault> {
         match self.lacks.iter().find(|lack| lack.what == what) {
             Some(lack) => Err(lack.fault),
@@ -125,7 +125,8 @@ impl Machine for Museum<'_> {
         copied(alloc, self.bytes_at(path)?)
     }
 
-    /// It fails at a path of no store too, and where the store was not given back, or inside a transaction.
+    /// It also fails at a path without a store, and if the store has not come back, or is inside a
+    /// transaction.
     fn connect(&mut self, path: &str) -> Result<Connection<MemStore>, MachineFault> {
         self.given("store")?;
         if path != STORE {

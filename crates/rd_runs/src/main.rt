@@ -1,4 +1,5 @@
-//! Plays trials of the program: texts that tell its runs on a machine in memory, and what each has to leave.
+//! Plays trials of the program: texts that describe its runs on a machine in memory, and what each
+//! must leave.
 #![tactic(auto)]
 
 mod machine;
@@ -23,7 +24,7 @@ fn play_all(rt: &HostRuntime) -> Result<Tally> {
     Ok(tally)
 }
 
-/// Tells how many cases hold; where any does not, the status is 1.
+/// Writes how many cases hold. The status is 1 if any does not.
 fn main(rt: HostRuntime) -> Result<ExitCode> {
     play_all(&rt)?.tell(&rt)
 }

@@ -7,7 +7,7 @@ use std::io::{ErrorKind, Write};
 /// How many bytes a write takes at most.
 const MOST_TAKEN: usize = 7;
 
-/// An output, what it has taken, and how much more it takes: so many bytes, and so many flushes.
+/// An output: what it has taken, and how many more bytes and flushes it takes.
 #[derive(Drop)]
 pub(crate) struct Output {
     pub(crate) taken: Vec<u8>,

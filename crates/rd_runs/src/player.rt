@@ -9,7 +9,7 @@ use rd_played::{
 };
 use std::mem;
 
-/// What is told by more than one line.
+/// A part of a trial that takes more than one line.
 #[derive(Drop)]
 enum Item<'a> {
     Nothing,
@@ -19,7 +19,7 @@ enum Item<'a> {
     Question(Question<'a>),
 }
 
-/// A trial that is played.
+/// A trial in play.
 #[derive(Drop)]
 struct Player<'a> {
     tally: Tally,
@@ -30,7 +30,7 @@ struct Player<'a> {
     contents: KeptTables,
 }
 
-/// Whether a line with this word ends what is told before.
+/// Whether a line with this word ends what the lines before it began.
 fn is_first(word: &str) -> bool {
     matches!(
         word,
@@ -70,7 +70,7 @@ impl<'a> Player<'a> {
         played.context(format_args!("{place}: {word}"))
     }
 
-    /// Reads a line on what is begun, or the moment.
+    /// Reads a line about what has begun, or the moment.
     fn read(
         &mut self,
         rt: &HostRuntime,
@@ -94,7 +94,7 @@ impl<'a> Player<'a> {
         }
     }
 
-    /// Begins what a line tells, or does it.
+    /// Begins what a line says, or does it.
     fn begin(
         &mut self,
         rt: &HostRuntime,
@@ -116,7 +116,7 @@ impl<'a> Player<'a> {
         Ok(())
     }
 
-    /// Does what is told up to here.
+    /// Does what the lines up to here say.
     fn finish(&mut self, rt: &HostRuntime) -> Result<()> {
         match mem::replace(&mut self.item, Item::Nothing) {
             Item::Nothing => Ok(()),
@@ -137,7 +137,7 @@ impl<'a> Player<'a> {
         }
     }
 
-    /// Asks for rows of the tables of the store.
+    /// Asks the tables of the store for rows.
     fn ask(&mut self, rt: &HostRuntime, question: &Question<'a>) -> Result<()> {
         match &mut self.museum.store {
             Some(conn) => question.play(rt, conn, &mut self.tally),
@@ -145,7 +145,7 @@ impl<'a> Player<'a> {
         }
     }
 
-    /// Keeps what the tables of the store hold, or compares it with what is kept.
+    /// Keeps what the tables of the store hold, or compares it with what it has kept.
     fn compare(&mut self, rt: &HostRuntime, place: &'a str, word: &'a str) -> Result<()> {
         let contents = match &mut self.museum.store {
             Some(conn) => contents_of(rt.alloc(), conn)?,

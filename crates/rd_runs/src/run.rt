@@ -1,4 +1,4 @@
-//! Runs as a trial tells them.
+//! Runs as a trial describes them.
 
 use crate::machine::{Lack, Museum};
 use crate::output::Output;
@@ -11,8 +11,8 @@ use rd_played::{Tally, build_with, bytes_of};
 use rd_program::{MachineFault, run};
 use std::alloc::{AllocError, Global};
 
-/// A run: its name and its place, the words, the standard input, how much the output takes, what the machine does
-/// not give, the visits, and what it has to leave.
+/// A run: its name and its place, the words, the standard input, how much the output takes, what
+/// the machine does not give, the visits, and what the run must leave.
 #[derive(Drop)]
 pub(crate) struct Run<'a> {
     pub(crate) place: &'a str,
@@ -29,7 +29,7 @@ pub(crate) struct Run<'a> {
     wanted: Wanted<'a>,
 }
 
-/// A word of a command, of which `''` is the empty one.
+/// A word of a command; `''` is the empty word.
 fn word_of(alloc: Global, text: &str) -> Result<String> {
     match text {
         "" => bail!("a blank too many: the empty word is ''"),
@@ -41,7 +41,7 @@ fn word_of(alloc: Global, text: &str) -> Result<String> {
     }
 }
 
-/// The words of a command, which blanks part.
+/// The words of a command, separated by blanks.
 fn words_of(alloc: Global, text: &str) -> Result<Vec<String>> {
     let mut words = Vec::new(alloc);
     if !text.is_empty() {
@@ -86,7 +86,7 @@ fn door_of(rt: &HostRuntime, visitors: &[Visitor<'_>]) -> Result<MemoryDoor> {
 }
 
 impl<'a> Run<'a> {
-    /// A run of words that has to leave this, with nothing else about it told.
+    /// A run of words that must leave this, with nothing else set.
     fn of(
         alloc: Global,
         (place, name): (&'a str, &'a str),
@@ -125,12 +125,13 @@ impl<'a> Run<'a> {
         Ok(Run::of(alloc, (place, words), clock, given, Wanted::mistake(alloc)))
     }
 
-    /// Begins one more visit at its door.
+    /// Begins one more visit of the run.
     pub(crate) fn add_visitor(&mut self, visitor: Visitor<'a>) -> Result<()> {
         Ok(self.visitors.push(visitor)?)
     }
 
-    /// Reads a line: its first word, and the text after it. After the first visit it is one on the last visit.
+    /// Reads a line: its first word, and the text after it. After a visit has begun, the line is
+    /// about the last visit.
     pub(crate) fn read(&mut self, rt: &HostRuntime, word: &str, text: &'a str) -> Result<()> {
         if let Some(visitor) = self.visitors.last_mut() {
             return visitor.read(rt, word, text);
@@ -157,7 +158,7 @@ impl<'a> Run<'a> {
         Ok(self.lacks.push(Lack { what, fault })?)
     }
 
-    /// Makes the machine ready for it.
+    /// Makes the machine ready for the run.
     fn prepare(&self, rt: &HostRuntime, museum: &mut Museum<'a>) -> Result<()> {
         museum.lacks = self.lacks.clone()?;
         museum.clock = self.clock;
@@ -189,7 +190,7 @@ impl<'a> Run<'a> {
         })
     }
 
-    /// Compares what came of each visit with what had to.
+    /// Compares the outcome of each visit with the expected one.
     fn judge_visits(&self, rt: &HostRuntime, museum: &Museum<'a>, tally: &mut Tally) -> Result<()> {
         let mut number = 0usize;
         for visitor in &self.visitors {
@@ -204,7 +205,7 @@ impl<'a> Run<'a> {
         Ok(())
     }
 
-    /// Plays it on a machine. It is a case, and so is each of its visits.
+    /// Plays the run on a machine. The run is a case, and so is each of its visits.
     pub(crate) fn play(
         &self,
         rt: &HostRuntime,

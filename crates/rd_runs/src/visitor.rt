@@ -6,18 +6,18 @@ use rd_http::MemoryDoor;
 use rd_played::{Message, add_out, build_with};
 use std::alloc::{AllocError, Global};
 
-/// What has to come of a visit.
+/// How a visit must end.
 #[derive(Clone, Copy, PartialEq, Eq)]
 enum Ending {
-    /// A reply, which lines tell.
+    /// With a reply, which lines describe.
     Reply,
-    /// It is admitted, and no byte goes out.
+    /// The door admits it, and no byte goes out.
     Nothing,
-    /// It is not admitted.
+    /// The door does not admit it.
     Waits,
 }
 
-/// A visit: its name, its place and its moment, what comes, and what has to come of it.
+/// A visit: its name, its place and its moment, what comes, and how it must end.
 #[derive(Drop)]
 pub(crate) struct Visitor<'a> {
     pub(crate) place: &'a str,
@@ -63,13 +63,13 @@ impl<'a> Visitor<'a> {
         }
     }
 
-    /// Its moment and the bytes that come.
+    /// The moment of the visit and the bytes that come.
     pub(crate) fn coming(&self, rt: &HostRuntime) -> Result<(i64, Items<u8>)> {
         let seconds = self.seconds.context("no moment")?;
         Ok((seconds, Items::of(self.came.request(rt)?)))
     }
 
-    /// What has to come of it.
+    /// What the visit must give.
     pub(crate) fn wanted(&self, alloc: Global) -> Result<Vec<u8>> {
         if self.ending == Ending::Reply && self.reply.is_empty() {
             bail!("no reply is told");
@@ -87,7 +87,8 @@ impl<'a> Visitor<'a> {
     }
 }
 
-/// What is told of a visit at which these bytes went out; of one that was not admitted `None` did.
+/// The report of a visit at which these bytes went out; `out` is `None` for a visit that the door
+/// did not admit.
 fn outcome_of(alloc: Global, out: Option<&[u8]>) -> Result<Vec<u8>, AllocError> {
     let Some(out) = out else {
         return Vec::from_slice(alloc, b"[waits]");
@@ -97,7 +98,7 @@ fn outcome_of(alloc: Global, out: Option<&[u8]>) -> Result<Vec<u8>, AllocError> 
     Ok(told)
 }
 
-/// What came of the visit of this number at a door. Visits are counted from 0.
+/// The outcome of the visit with this number at a door. Visits are counted from 0.
 pub(crate) fn outcome_at(
     alloc: Global,
     door: &MemoryDoor,

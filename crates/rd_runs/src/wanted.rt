@@ -1,4 +1,4 @@
-//! What a run has to leave.
+//! What a run must leave.
 
 use anyhow::Result;
 use rd_played::{Tally, add_bytes, add_out};
@@ -10,26 +10,27 @@ pub(crate) struct Ran {
     pub(crate) status: u8,
     pub(crate) output: Vec<u8>,
     pub(crate) errors: Vec<u8>,
-    /// The port that the machine was asked for.
+    /// The port that the program asked the machine for.
     pub(crate) port: Option<u16>,
     /// Whether the machine has its store back.
     pub(crate) is_released: bool,
 }
 
-/// What a run has to leave: its status, what it writes and tells, and the port that it asks for.
+/// What a run must leave: its status, what it writes to its output and its errors, and the port
+/// that it asks for.
 #[derive(Drop)]
 pub(crate) struct Wanted<'a> {
     status: u8,
     output: Vec<u8>,
     errors: Vec<u8>,
     port: Option<u16>,
-    /// Texts that have to stand in the output. Where there are any, the rest of it is not compared.
+    /// Texts that the output must have. If there are any, the rest of the output is not compared.
     parts: Vec<&'a str>,
-    /// Whether something has to be told, whatever it is.
+    /// Whether the run must write something to its errors, whatever it is.
     is_mistake: bool,
 }
 
-/// What is told of a run that leaves this.
+/// The report of a run that leaves this.
 fn outcome_of(
     alloc: Global,
     status: u8,
@@ -63,7 +64,7 @@ impl<'a> Wanted<'a> {
         }
     }
 
-    /// What words leave that are no command.
+    /// What a run of words that are no command must leave.
     pub(crate) fn mistake(alloc: Global) -> Wanted<'a> {
         let mut wanted = Wanted::new(alloc);
         wanted.status = 2;
@@ -83,7 +84,7 @@ impl<'a> Wanted<'a> {
         Ok(())
     }
 
-    /// What has to be told of the run.
+    /// The expected report of the run.
     fn outcome(&self, alloc: Global) -> Result<Vec<u8>, AllocError> {
         let errors = if self.is_mistake {
             b"a mistake".as_slice()
@@ -99,7 +100,7 @@ impl<'a> Wanted<'a> {
         )
     }
 
-    /// What is told of the run, as far as it is compared.
+    /// The report of the run, as far as it is compared.
     fn outcome_of(&self, alloc: Global, ran: &Ran) -> Result<Vec<u8>, AllocError> {
         let output = if self.parts.is_empty() {
             ran.output.as_slice()
@@ -118,7 +119,7 @@ impl<'a> Wanted<'a> {
         Ok(told)
     }
 
-    /// Compares it with what a run left. Each text that has to stand in the output is a case more.
+    /// Compares it with what a run left. Each text that the output must have is a further case.
     pub(crate) fn judge(
         &self,
         rt: &HostRuntime,

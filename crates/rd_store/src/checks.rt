@@ -11,7 +11,7 @@ use crate::rows::Outcome;
 use crate::{codes, images};
 use sqlite::{Alter, Connection, Error, Transaction, params};
 
-/// Takes what a check of an accession on a day found away, inside a transaction.
+/// Removes the finding of a check of an accession on a day, inside a transaction.
 fn delete_check<S: Alter>(tx: &mut Transaction<'_, S>, acc: u32, day: i32) -> Result<usize, Error>
     ensures same_reference { tx.new.conn.ghost_name ≡ tx.old.conn.ghost_name }
     ensures moves { (before : _) → Moves S.Store tx.old.conn.now tx.new.conn.now
@@ -23,7 +23,7 @@ fn delete_check<S: Alter>(tx: &mut Transaction<'_, S>, acc: u32, day: i32) -> Re
     )
 }
 
-/// Puts what a check of an accession found on a day that has none, inside a transaction.
+/// Puts the finding of a check of an accession on a day that has none, inside a transaction.
 fn insert_check<S: Alter>(
     tx: &mut Transaction<'_, S>,
     acc: u32,
@@ -41,7 +41,8 @@ fn insert_check<S: Alter>(
     )
 }
 
-/// Puts what a check of an accession that stands found on a day, in place of what one found on it.
+/// Puts the finding of a check of an accession that stands, in place of the finding of that day,
+/// if there is one.
 fn write_check<S: Alter>(
     conn: &mut Connection<S>,
     acc: u32,
@@ -61,8 +62,8 @@ fn write_check<S: Alter>(
     tx.commit()
 }
 
-/// Puts what a check of an accession found on a day, in place of what one found on it, where the accession
-/// stands.
+/// Puts the finding of a check of an accession, in place of the finding of that day, if there is
+/// one. It fails with `Missing` if the accession does not stand, and with `Sql`.
 pub(crate) fn put_check<S: Alter>(
     conn: &mut Connection<S>,
     acc: u32,

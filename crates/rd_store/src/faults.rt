@@ -1,11 +1,11 @@
 use sqlite::{Alter, Connection};
 
-/// Why a call of the store is refused. All is then as it was, where the connection is still open. Where a
-/// fault of the disk has shut a connection that was open, and the disk has returned what was written, opening
-/// again finds the desk before or after the call.
+/// Why a call of the store fails. If the connection is still open, all is then as it was. If a
+/// fault of the disk has shut a connection that was open, and the disk has returned what was
+/// written, opening again finds the desk before or after the call.
 #[derive(Clone, Copy, Debug, PartialEq, Eq, Hash)]
 pub enum StoreFault {
-    /// The database failed, or memory was wanting.
+    /// The database failed, or memory ran out.
     Sql,
     /// What the call refers to is not there.
     Missing,
@@ -16,31 +16,32 @@ pub enum StoreFault {
 /// Why no desk is made.
 #[derive(Clone, Copy, Debug, PartialEq, Eq, Hash)]
 pub enum CreateFault {
-    /// A table `desk` stands, also one whose columns SQL does not tell, for something on it that is not
-    /// understood, as a trigger.
+    /// There is a table `desk`, perhaps one whose columns SQL does not show, because it does not
+    /// understand something on it, such as a trigger.
     Exists,
-    /// Other tables or views stand, the database failed, or memory was wanting.
+    /// There are other tables or views, the database failed, or memory ran out.
     Sql,
 }
 
 /// Why a database is not opened as a desk.
 #[derive(Clone, Copy, Debug, PartialEq, Eq, Hash)]
 pub enum OpenFault {
-    /// No table `desk` with the columns of one stands, nor one whose columns SQL does not tell, which is `Sql`.
+    /// There is no table `desk` with the columns of one. A table `desk` whose columns SQL does not
+    /// show gives `Sql` instead.
     NotADesk,
     /// The table `desk` does not have its one row, or the row says another version.
     Version,
     /// The rows are not those of a desk: a value is out of its range, what it refers to is not there, no staff
     /// key is there, or the index of the files is not that of the images.
     Inconsistent,
-    /// Tables are declared otherwise, the database failed, or memory was wanting.
+    /// Tables are declared in another way, the database failed, or memory ran out.
     Sql,
 }
 
-/// Why a connection is no store, and the connection.
+/// Why a connection does not become a store, and the connection.
 pub struct Refused<F, S: Alter> {
     /// Why.
     pub fault: F,
-    /// The connection. Where it is open, its database is as it was.
+    /// The connection. If it is open, its database is as it was.
     pub conn: Connection<S>,
 }

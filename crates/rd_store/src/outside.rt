@@ -3,8 +3,8 @@ ghost use Rattle.std.specs.Prelude.{◌≡◌, false, IfErr, OnOk};
 use crate::faults::StoreFault;
 use sqlite::{Alter, Connection};
 
-/// Makes sure that a connection is outside a transaction. One that is open is; of one that a fault of the
-/// disk has shut it is not known.
+/// Makes sure that a connection is outside a transaction. An open one is; for one that a fault of
+/// the disk has shut it is unknown.
 ///
 /// It fails with `Sql`.
 pub(crate) fn outside<S: Alter>(conn: &Connection<S>) -> Result<(), StoreFault>

@@ -7,8 +7,8 @@ pub fn rules_are_in_order()
     ensures both { RulesOfBothAreInOrder }
 {}
 
-/// Law: a rule is among the rules for an accession exactly where the image of the accession stands, the rule
-/// stands, and it is a takedown of that accession or a rule of the image's deed.
+/// Law: a rule is among the rules for an accession exactly if the image of the accession stands,
+/// the rule stands, and it is a takedown of that accession or a rule of the image's deed.
 pub fn rules_are_those()
     ensures { RulesAreThose }
 {}

@@ -83,11 +83,12 @@ impl<S: Alter> Store<S> {
 
     /// Opens the desk that a database holds. The connection is outside a transaction.
     ///
-    /// It fails with `NotADesk` where no table `desk` with the columns of one stands; then with `Version`
-    /// where that table comes first and does not have its one row, or the row says another version; then
-    /// with `Inconsistent` where the rows are not those of a desk; and with `Sql`, also where another table
-    /// stands, where one is declared otherwise, and where the columns of a table `desk` are not told, since
-    /// SQL keeps it as it is for something on it that is not understood, as a trigger.
+    /// It fails with `NotADesk` where no table `desk` with the columns of one stands; then with
+    /// `Version` where that table comes first and does not have its one row, or the row says
+    /// another version; then with `Inconsistent` where the rows are not those of a desk; and with
+    /// `Sql`, also where another table stands, where one is declared otherwise, and where SQL does
+    /// not show the columns of a table `desk`, because it does not understand something on it,
+    /// such as a trigger.
     pub fn open(alloc: Global, mut conn: Connection<S>) -> Result<Store<S>, Refused<OpenFault, S>>
         requires outside { conn.in_transaction ≡ false }
         ensures opened { IfOk result (λ store. IsOpened S.Store conn store) }
@@ -109,8 +110,9 @@ impl<S: Alter> Store<S> {
         conn
     }
 
-    /// Does nothing, and tells what holds between two calls: while the connection is open, its tables are
-    /// those of a desk, the desk is a lawful one, and a crash leaves that desk and nothing else.
+    /// Does nothing. Its contract says what holds between two calls: while the connection is open,
+    /// its tables are those of a desk, the desk is a lawful one, and a crash leaves that desk and
+    /// nothing else.
     pub fn rests(&self)
         ensures { Rests S.Store self.now }
     {
@@ -137,8 +139,8 @@ impl<S: Alter> Store<S> {
         images::image(alloc, &mut self.conn, acc)
     }
 
-    /// The kind of the image and the deed of an accession, 1 to 999,999; `None` where it is not there. Its bytes
-    /// are not asked for.
+    /// The kind of the image and the deed of an accession, 1 to 999,999; `None` if it is not
+    /// there. It does not read the bytes of the image.
     ///
     /// It fails with `Sql`.
     pub fn accession(&mut self, acc: u32) -> Result<Option<Accession>, StoreFault>
@@ -148,8 +150,8 @@ impl<S: Alter> Store<S> {
         images::accession(&mut self.conn, acc)
     }
 
-    /// The files of the image of an accession, 1 to 999,999, by slot, as `survey` tells them; none where there
-    /// is no such accession. They come from the index, and no image is read.
+    /// The files of the image of an accession, 1 to 999,999, by slot, as `survey` gives them; none
+    /// if there is no such accession. They come from the index; it reads no image.
     ///
     /// It fails with `Sql`.
     pub fn found(&mut self, alloc: Global, acc: u32) -> Result<Vec<Found>, StoreFault>
@@ -159,8 +161,9 @@ impl<S: Alter> Store<S> {
         files::found(alloc, &mut self.conn, acc)
     }
 
-    /// The file at a slot, 0 to 5,463, of the image of an accession, 1 to 999,999, as `survey` tells it; `None`
-    /// where there is no such file or accession. It comes from the index, and no image is read.
+    /// The file at a slot, 0 to 5,463, of the image of an accession, 1 to 999,999, as `survey`
+    /// gives it; `None` if there is no such file or accession. It comes from the index; it reads
+    /// no image.
     ///
     /// It fails with `Sql`.
     pub fn found_at(
@@ -184,8 +187,8 @@ impl<S: Alter> Store<S> {
         images::accessions(alloc, &mut self.conn)
     }
 
-    /// The register: all accessions, ascending, each with the kind of its image and its deed. The bytes of the
-    /// images are not asked for.
+    /// The register: all accessions, ascending, each with the kind of its image and its deed. It
+    /// does not read the bytes of the images.
     ///
     /// It fails with `Sql`.
     pub fn register(&mut self, alloc: Global) -> Result<Vec<(u32, Accession)>, StoreFault>
@@ -223,10 +226,10 @@ impl<S: Alter> Store<S> {
         }
     }
 
-    /// Puts an image of its kind's length where none stands, at an accession, 1 to 999,999, under the deed
-    /// with a number, with the SHA-256 that was given for it. The same kind, deed and digest again are done,
-    /// and change nothing, whatever the bytes. What `survey` tells of its files goes into the index in the same
-    /// transaction.
+    /// Puts an image of its kind's length where none stands, at an accession, 1 to 999,999, under
+    /// the deed with a number, with the SHA-256 that was given for it. Putting the same kind, deed
+    /// and digest again succeeds and changes nothing, whatever the bytes. What `survey` gives of
+    /// its files goes into the index in the same transaction.
     ///
     /// It fails with `Missing` where there is no such deed, with `Conflict` where another kind, deed or
     /// digest stands at the accession, and with `Sql`.
@@ -299,8 +302,8 @@ impl<S: Alter> Store<S> {
         keys::drop_key(&mut self.conn, digest)
     }
 
-    /// Puts what a check of an accession, 1 to 999,999, found on a day of the years 1 to 9999 (`is_day`),
-    /// counted from 1970-01-01, in place of what one found on that day.
+    /// Puts the finding of a check of an accession, 1 to 999,999, on a day of the years 1 to 9999
+    /// (`is_day`), counted from 1970-01-01, in place of the finding of that day, if there is one.
     ///
     /// It fails with `Missing` where there is no such accession, and with `Sql`.
     pub fn put_check(&mut self, acc: u32, day: i32, outcome: Outcome) -> Result<(), StoreFault>
@@ -324,9 +327,9 @@ impl<S: Alter> Store<S> {
         rules::rules_for(alloc, &mut self.conn, acc)
     }
 
-    /// The rules that decide on the files of an accession whose deed is known, both numbers 1 to 999,999:
-    /// its takedowns by rank, and then the rules of the deed by rank. Whether the accession is there, and of
-    /// that deed, is not looked up.
+    /// The rules that decide on the files of an accession whose deed is known, both numbers 1 to
+    /// 999,999: its takedowns by rank, and then the rules of the deed by rank. It does not look up
+    /// whether the accession is there, and of that deed.
     ///
     /// It fails with `Sql`.
     pub fn rules_under(
@@ -343,8 +346,8 @@ impl<S: Alter> Store<S> {
     }
 }
 
-/// In memory no disk can fail: each connection is open at all times, and what a call says of one that is
-/// open and clean it says of this one.
+/// In memory no disk can fail: each connection is open at all times, and what a call promises for
+/// one that is open and clean it promises for this one.
 pub fn memory_stays_open()
     ensures open { (conn : Held MemStore) → IsOpen over_memory conn }
     ensures clean { (conn : Held MemStore) → IsClean over_memory conn }

@@ -1,4 +1,5 @@
-//! Whether two schemas are equal. A no may be wrong, as at a view; a yes is proved.
+//! Whether two schemas are equal. `true` is proved; `false` may be wrong, for example for schemas
+//! with a view.
 
 ghost use Rattle.std.specs.Prelude.{◌≡◌, IsTrue};
 ghost use Rattle.rd_tables.specs.Schemas.{SharesFirstTable};
@@ -8,7 +9,7 @@ use sqlite_schema::schema::{Column, Index, Reference, Schema, Stamps, Table};
 use sqlite_value::keys::Order;
 use sqlite_value::value::{Bytes, Value};
 
-/// A test that says yes of equal values alone.
+/// A test that is `true` for equal values alone.
 trait Same {
     fn same(&self, other: &Self) -> bool
         ensures { IsTrue result → self.now ≡ other.now };
@@ -159,8 +160,7 @@ impl Same for Index {
     }
 }
 
-/// `true` only where the schemas are equal. `false` tells nothing: it is also answered where there is a
-/// view.
+/// `true` only if the schemas are equal. `false` says nothing: schemas with a view give it too.
 pub fn same_schema(schema: &Schema, other: &Schema) -> bool
     ensures { IsTrue result → schema.now ≡ other.now }
 {
@@ -170,7 +170,7 @@ pub fn same_schema(schema: &Schema, other: &Schema) -> bool
         && all_same(schema.indexes.as_slice(), other.indexes.as_slice())
 }
 
-/// `true` only where both have a first table, and it is the same. `false` tells nothing.
+/// `true` only if both have a first table, and it is the same. `false` says nothing.
 pub fn same_first_table(schema: &Schema, other: &Schema) -> bool
     ensures { IsTrue result → SharesFirstTable schema.now other.now }
 {

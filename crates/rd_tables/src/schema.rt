@@ -4,7 +4,8 @@ ghost use Rattle.rd_tables.specs.Schemas.{IsBlank, are_desk_columns, has_desk, h
 use sqlite_schema::names::same_name;
 use sqlite_schema::schema::{Column, Schema, View};
 
-/// Whether this is a table `desk` that is kept as it is, since something on it is not understood.
+/// Whether this is a table `desk` that SQL keeps unread, because it does not understand something
+/// on it.
 fn is_foreign_desk(view: &View) -> bool
     ensures { result ≡ is_foreign_desk view.now }
 {
@@ -18,15 +19,15 @@ fn is_foreign_desk(view: &View) -> bool
     }
 }
 
-/// Whether a table `desk` stands that is kept as it is, since something on it is not understood, as a
-/// trigger. Its columns are not told.
+/// Whether there is a table `desk` that SQL keeps unread, because it does not understand something
+/// on it, such as a trigger. The columns of such a table are unknown.
 pub fn has_foreign_desk(schema: &Schema) -> bool
     ensures { result ≡ has_foreign_desk schema.now }
 {
     schema.views.as_slice().iter().any(is_foreign_desk)
 }
 
-/// Whether a table `desk` stands, in small or capital letters.
+/// Whether there is a table `desk`, its name in small or capital letters.
 pub fn has_desk(schema: &Schema) -> bool
     ensures { result ≡ has_desk schema.now }
 {
@@ -50,7 +51,7 @@ fn are_desk_columns(columns: &[Column]) -> bool
     }
 }
 
-/// Whether a table `desk` with the columns `id` and `version` stands.
+/// Whether there is a table `desk` with the columns `id` and `version`.
 pub fn has_desk_columns(schema: &Schema) -> bool
     ensures { result ≡ has_desk_columns schema.now }
 {

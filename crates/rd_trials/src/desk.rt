@@ -1,4 +1,4 @@
-//! A desk in memory, and what goes out at a visit of it.
+//! A desk in memory, and what goes out at a visit.
 
 ghost use Rattle.std.specs.Prelude.{◌≡◌, false, IfOk};
 
@@ -15,7 +15,7 @@ use std::alloc::Global;
 /// A desk in memory.
 pub(crate) type Memory = Desk<MemStore>;
 
-/// The rule of the clocks of a desk, where a trial tells none: those of central Europe.
+/// The rule for the clocks of a desk if a trial names none: those of central Europe.
 pub(crate) const CENTRAL: &str = "CET-1CEST,M3.5.0,M10.5.0/3";
 
 /// The SHA-256 of `abc`, the key of the staff.
@@ -24,8 +24,8 @@ const STAFF_DIGEST: [u8; 32] = [
     0xb0, 0x03, 0x61, 0xa3, 0x96, 0x17, 0x7a, 0x9c, 0xb4, 0x10, 0xff, 0x61, 0xf2, 0x00, 0x15, 0xad,
 ];
 
-// The calls of the crates below have a function each, without a clause, so that a proof carries what one of
-// them says.
+// Each call of the crates below has a function without a clause, so that a proof carries what only
+// one of them says.
 
 pub(crate) fn new_connection(alloc: Global) -> Result<Connection<MemStore>, NoMemory>
     ensures { IfOk result (λ conn. conn.in_transaction ≡ false) }
@@ -63,7 +63,7 @@ fn serve_next(alloc: Global, door: &mut MemoryDoor, desk: &mut Memory) -> Served
     serve_many(alloc, door, desk, 1)
 }
 
-/// What went out at the one visit of a door.
+/// What went out at the only visit of a door.
 fn out_of(alloc: Global, door: &MemoryDoor) -> Result<Vec<u8>> {
     match door.visits() {
         [visit] => Ok(Vec::from_slice(alloc, visit.out())?),
@@ -88,7 +88,7 @@ fn ending_of(served: Served) -> Option<Result<(), WireFault>> {
     }
 }
 
-/// How a visit by a door in memory ends at which these bytes come, and what goes out at it.
+/// How a visit through a door in memory ends when these bytes come, and what goes out.
 pub(crate) fn visit_in_memory(
     alloc: Global,
     desk: &mut Memory,
@@ -101,7 +101,8 @@ pub(crate) fn visit_in_memory(
     Ok((ending, out_of(alloc, &door)?))
 }
 
-/// How a visit over a connection that behaves so ends at which these bytes come, and what goes out at it.
+/// How a visit over a connection with this behaviour ends when these bytes come, and what goes
+/// out.
 pub(crate) fn visit(
     alloc: Global,
     desk: &mut Memory,
@@ -139,7 +140,7 @@ impl Stage {
 pub(crate) enum Opening {
     Well,
     Fault(OpenFault),
-    /// They are not opened, since a transaction is open.
+    /// They do not open, because a transaction is open.
     Inside,
 }
 

@@ -1,4 +1,5 @@
-//! Plays trials: texts that tell visits of a desk in memory, changes of its tables, and what has to come of each.
+//! Plays trials: texts that describe visits of a desk in memory and changes of its tables, and
+//! what each must give.
 #![tactic(auto)]
 
 mod desk;
@@ -21,7 +22,7 @@ fn play_all(rt: &HostRuntime) -> Result<Tally> {
     Ok(tally)
 }
 
-/// Tells how many cases hold; where any does not, the status is 1.
+/// Writes how many cases hold. The status is 1 if any does not.
 fn main(rt: HostRuntime) -> Result<ExitCode> {
     play_all(&rt)?.tell(&rt)
 }

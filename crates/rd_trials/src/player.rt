@@ -15,7 +15,7 @@ use rd_store::OpenFault;
 use sqlite::{Connection, MemStore};
 use std::mem;
 
-/// What is told by more than one line.
+/// A part of a trial that takes more than one line.
 #[derive(Drop)]
 enum Item<'a> {
     Nothing,
@@ -24,14 +24,14 @@ enum Item<'a> {
     Question(Question<'a>),
 }
 
-/// The reply of the first visit that is alike a name.
+/// The reply of the first visit that is `alike` a name.
 #[derive(Drop)]
 struct Kept<'a> {
     name: &'a str,
     outcome: Vec<u8>,
 }
 
-/// A trial that is played.
+/// A trial in play.
 #[derive(Drop)]
 struct Player<'a> {
     tally: Tally,
@@ -41,7 +41,7 @@ struct Player<'a> {
     seconds: Option<i64>,
     item: Item<'a>,
     replies: Vec<Kept<'a>>,
-    /// What the tables hold that are to be compared.
+    /// What the tables held, kept to compare it later.
     contents: KeptTables,
 }
 
@@ -57,7 +57,7 @@ fn word_of(opening: Opening) -> &'static str {
     }
 }
 
-/// Whether a word tells how tables open.
+/// Whether a word says how tables open.
 fn is_opening(word: &str) -> bool {
     matches!(
         word,
@@ -72,7 +72,7 @@ fn zone_of(text: &str) -> Result<Zone> {
     }
 }
 
-/// Whether a line with this word ends what is told before.
+/// Whether a line with this word ends what the lines before it began.
 fn is_first(word: &str) -> bool {
     matches!(
         word,
@@ -117,7 +117,7 @@ impl<'a> Player<'a> {
         played.context(format_args!("{place}: {word}"))
     }
 
-    /// Reads a line on what is begun.
+    /// Reads a line about what has begun.
     fn read(&mut self, rt: &HostRuntime, word: &str, text: &'a str) -> Result<()> {
         match &mut self.item {
             Item::Visit(visit) => visit.read(rt, word, text),
@@ -127,7 +127,7 @@ impl<'a> Player<'a> {
         }
     }
 
-    /// Begins what a line tells, or does it.
+    /// Begins what a line says, or does it.
     fn begin(
         &mut self,
         rt: &HostRuntime,
@@ -149,7 +149,7 @@ impl<'a> Player<'a> {
         Ok(())
     }
 
-    /// Does what is told up to here.
+    /// Does what the lines up to here say.
     fn finish(&mut self, rt: &HostRuntime) -> Result<()> {
         match mem::replace(&mut self.item, Item::Nothing) {
             Item::Nothing => Ok(()),
@@ -209,7 +209,8 @@ impl<'a> Player<'a> {
         }
     }
 
-    /// Compares what came of a visit with the first that is alike this name, or keeps it as the first.
+    /// Compares the outcome of a visit with the first one that is `alike` this name, or keeps it
+    /// as the first.
     fn judge_alike(
         &mut self,
         rt: &HostRuntime,
@@ -226,7 +227,7 @@ impl<'a> Player<'a> {
         }
     }
 
-    /// The same where it has to be another.
+    /// The same, but the outcome must be another.
     fn judge_unlike(
         &mut self,
         rt: &HostRuntime,
@@ -251,7 +252,7 @@ impl<'a> Player<'a> {
         played
     }
 
-    /// Asks for rows of the tables.
+    /// Asks the tables for rows.
     fn ask(&mut self, rt: &HostRuntime, question: &Question<'a>) -> Result<()> {
         let mut conn = self.take_tables()?;
         let played = question.play(rt, &mut conn, &mut self.tally);
@@ -293,7 +294,7 @@ impl<'a> Player<'a> {
             .judge(rt, (place, "opens"), wanted.as_bytes(), came.as_bytes())
     }
 
-    /// Keeps what the tables hold, or compares it with what is kept.
+    /// Keeps what the tables hold, or compares it with what it has kept.
     fn compare(&mut self, rt: &HostRuntime, place: &'a str, word: &'a str) -> Result<()> {
         let contents = self.contents(rt)?;
         self.contents

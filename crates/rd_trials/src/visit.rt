@@ -1,4 +1,4 @@
-//! Visits as a trial tells them.
+//! Visits as a trial describes them.
 
 use crate::wire::{Plan, WHOLE};
 use anyhow::{Context, Result, bail};
@@ -6,15 +6,15 @@ use rd_http::WireFault;
 use rd_played::{Message, add_out, build_with};
 use std::alloc::{AllocError, Global};
 
-/// How a reply compares with that of the first visit of the file which is alike a name.
+/// How a reply must compare with that of the first visit in the file that is `alike` a name.
 #[derive(Clone, Copy)]
 pub(crate) enum Likeness<'a> {
     Alike(&'a str),
     Unlike(&'a str),
 }
 
-/// A visit: its name and place, what comes, what has to go out where that is told, over which connection, and how
-/// it ends.
+/// A visit: its name and place, what comes, what must go out (if the trial says so), over which
+/// connection, and how it ends.
 #[derive(Drop)]
 pub(crate) struct Visit<'a> {
     pub(crate) place: &'a str,
@@ -22,7 +22,7 @@ pub(crate) struct Visit<'a> {
     pub(crate) came: Message<'a>,
     reply: Message<'a>,
     pub(crate) likeness: Option<Likeness<'a>>,
-    /// How many bytes of the reply go out, where not all do.
+    /// How many bytes of the reply go out, if not all do.
     front: Option<usize>,
     pub(crate) plan: Plan,
     ending: Result<(), WireFault>,
@@ -48,7 +48,7 @@ fn fault_of(word: &str) -> Result<WireFault> {
     }
 }
 
-/// What is told of a visit that ends so, and at which these bytes go out.
+/// The report of a visit that ends so, with these bytes going out.
 pub(crate) fn outcome_of(
     alloc: Global,
     ending: Result<(), WireFault>,
@@ -83,7 +83,7 @@ impl<'a> Visit<'a> {
         }
     }
 
-    /// What has to come of it, where that is told.
+    /// What the visit must give; `None` if the trial does not say.
     pub(crate) fn told(&self, alloc: Global) -> Result<Option<Vec<u8>>, AllocError> {
         if self.reply.is_empty() && self.ending.is_ok() {
             return Ok(None);
@@ -106,7 +106,7 @@ impl<'a> Visit<'a> {
         }
     }
 
-    /// Reads a line on the body of the reply, or on the reply that it is compared with.
+    /// Reads a line about the body of the reply, or about the reply to compare it with.
     fn read_reply(&mut self, alloc: Global, word: &str, text: &'a str) -> Result<()> {
         match word {
             "alike" => self.likeness = Some(Likeness::Alike(text)),
@@ -116,7 +116,7 @@ impl<'a> Visit<'a> {
         Ok(())
     }
 
-    /// Reads a line on the connection.
+    /// Reads a line about the connection.
     fn read_plan(&mut self, word: &str, text: &str) -> Result<()> {
         match word {
             "reads" => {

@@ -1,4 +1,4 @@
-//! Connections in memory that cut reads and writes short, and at which they fail.
+//! Connections in memory that cut reads and writes short, and at which reads and writes fail.
 
 ghost use Rattle.std.specs.Prelude.{◌≡◌, None, false};
 
@@ -15,7 +15,7 @@ pub(crate) struct Plan {
     pub(crate) writes: usize,
 }
 
-/// A connection at which all goes well.
+/// A connection at which nothing fails.
 pub(crate) const WHOLE: Plan = Plan {
     most_given: usize::MAX,
     reads: usize::MAX,

@@ -1,4 +1,4 @@
--- A 1541 image that agrees with another on the needed bytes tells what the other does.
+-- A 1541 image that agrees with another on the needed bytes has the same files.
 use Rattle.std.proofs.Common.{◌≡◌, ◌∙◌, ◌+◌, ◌-◌, ◌*◌, ◌/◌, ◌%◌, ◌<◌, ◌≤◌, ℕ, List, Contains, Some, ap, ap₂, arith, length, refl, slice_index, sym}
 use Rattle.std.specs.List.{concat}
 use Rattle.rd_geometry.specs.Blocks.{CBM_BLOCK_LENGTH, cbm_block, index_of, place_of_block}
@@ -80,7 +80,7 @@ start_same image other served blocks has slot Data file =
 start_same image other served blocks has slot Side file =
     ap₂ index_of (file_byte image other served blocks has slot 21 file (omega arith) (omega arith)) (file_byte image other served blocks has slot 22 file (omega arith) (omega arith))
 
--- so the image has what tells the other's files
+-- so the image has what describes the other's files
 has_files : (image other served blocks : List ℕ) → HasNeeded image other served blocks → HasFilesOf image other blocks
 has_files image other served blocks has = record {
   type = λ slot inside. entry_byte image other blocks slot 2 (has.same (place_of_cbm_entry blocks slot + 2) (type_byte slot inside refl));
@@ -91,7 +91,8 @@ has_files image other served blocks has = record {
       has.same (place_of_block block + byte) (link_of_claimed block byte claimed low refl));
 }
 
--- Two images have a directory of the same blocks, and the first has what tells the files of the second.
+-- Two images have a directory of the same blocks, and the first has what describes the files of
+-- the second.
 record AreAlike (image other : List ℕ) : Type 0 where
   blocks : List ℕ
   of_image : AreDirectoryBlocks image blocks
@@ -155,7 +156,7 @@ chain_length image other chain used last byte is size =
     ap length (sym (cbm_joined other chain used last is)) ∙ pieces_length D64 other image chain last (omega arith) (sym size)
     ∙ ap length (cbm_joined image chain used last is)
 
--- a file that is told of the other is told
+-- a record that describes a file of the other describes one of this image
 found_alike : (image other blocks : List ℕ) → length image ≡ length other → HasFilesOf image other blocks → (found : Found)
     → IsCbmFile other found blocks → IsCbmFile image found blocks
 found_alike image other blocks size has found told =

@@ -1,4 +1,4 @@
--- A CP/M image that agrees with another on the needed bytes tells what the other does.
+-- A CP/M image that agrees with another on the needed bytes has the same files.
 use Rattle.std.proofs.Common.{◌≡◌, ◌≢◌, ◌∙◌, ◌+◌, ◌*◌, ◌/◌, ◌%◌, ◌<◌, ◌≤◌, ℕ, List, Contains, Some, ap, ap₂, arith, length, refl, slice_index, slice_range, sym}
 use Rattle.std.specs.List.{concat}
 use Rattle.std.proofs.lemmas.List.Elements.{Contains-get_or}
@@ -48,7 +48,7 @@ file_range image other served agrees slot a b low file looked_at =
     same_range (slot_of image slot) (slot_of other slot) a b (entry_length image other slot agrees.size)
     (λ i inside. file_byte image other served agrees slot (a + i) low file (looked_at i inside))
 
--- so the directory has what tells the other's files
+-- so the directory has what describes the other's files
 has_files : (image other served : List ℕ) → AgreesOnNeeded Cpm8 image other served → HasFilesOf (slot_of image) (slot_of other)
 has_files image other served agrees = record {
   first = λ slot low. entry_byte image other slot 0 (λ _. agrees.same (place_of_cpm_entry slot + 0) (first_byte slot low (omega arith)));
@@ -84,7 +84,7 @@ sectors_length image other sectors last is size =
     ap length (sym (cpm_joined other sectors last is)) ∙ pieces_length Cpm8 other image sectors last (omega arith) (sym size)
     ∙ ap length (cpm_joined image sectors last is)
 
--- a file that is told of the other is told
+-- a record that describes a file of the other describes one of this image
 found_alike : (image other : List ℕ) → length image ≡ length other → HasFilesOf (slot_of image) (slot_of other) → (found : Found)
     → IsCpmFile other found → IsCpmFile image found
 found_alike image other size has found told =

@@ -1,4 +1,4 @@
--- The files of a 1541 image as both kinds tell them.
+-- The files of a 1541 image, in the form that all kinds share.
 use Rattle.std.specs.Prelude.{◌≡◌, ◌≢◌, ◌+◌, ◌-◌, ◌*◌, ◌<◌, ◌↔◌, ℕ, List, [], ◌∷◌, ◌++◌, All, Bool, IsTrue, None, Some, false, length, slice_range, true}
 use Rattle.std.specs.List.{AllZip}
 use Rattle.rd_geometry.specs.Blocks.{CBM_BLOCKS, CBM_BLOCK_LENGTH, cbm_block}
@@ -34,9 +34,9 @@ pub record HasCbmContents (image blocks : List ℕ) (found : Found) : Type 0 whe
   pub size : found.size ≡ Some (length (bytes_of_chain image found.units used))
   pub last : found.last_len ≡ used - 1
 
--- The file is one of a 1541 image: its slot is a file's; its name and type are printed from the entry
--- there; it has no user; it is of the class that is served where its type is; its faults are told, and
--- its contents where it is sound.
+-- The record describes a file of a 1541 image: its slot is that of a file; its name and type are
+-- printed from the entry there; it has no user; it says whether desk serves its class; its faults
+-- are those of the file, and so are its contents if it is sound.
 pub record IsCbmFile (image : List ℕ) (found : Found) (blocks : List ℕ) : Type 0 where
   pub slot : IsFileSlot image blocks found.slot
   pub name : found.name ≡ printed D64 (name_of (entry_at image blocks found.slot))
@@ -47,7 +47,7 @@ pub record IsCbmFile (image : List ℕ) (found : Found) (blocks : List ℕ) : Ty
   pub sound : IsSound image blocks found.slot → HasCbmContents image blocks found
   pub faulty : ¬ IsSound image blocks found.slot → HasNoContents found
 
--- how many bytes a chain of blocks has, of which the last holds `last`
+-- how many bytes a chain of blocks has, if its last block holds `last`
 abbrev pub length_of_blocks : List ℕ → ℕ → ℕ
 length_of_blocks [] last = 0
 length_of_blocks (block ∷ blocks) last = 254 * length blocks + last
@@ -61,7 +61,7 @@ is_served Usr = true
 is_served Rel = false
 is_served Other = false
 
--- The file is told as rd_cbm tells it.
+-- The record says what rd_cbm says of the file.
 pub record TellsCbm (file : CbmFile) (found : Found) : Type 0 where
   pub slot : found.slot ≡ file.slot
   pub name : found.name ≡ printed D64 file.name
@@ -75,6 +75,6 @@ pub record TellsCbm (file : CbmFile) (found : Found) : Type 0 where
   pub byte : file.last < 256
   pub last : found.last_len ≡ file.last - 1
 
--- the files are told as rd_cbm tells them, in their order
+-- the records say what rd_cbm says of the files, in their order
 abbrev pub TellsCbmFiles : List CbmFile → List Found → Type 0
 TellsCbmFiles files founds = AllZip TellsCbm files founds

@@ -1,4 +1,4 @@
--- The files of a CP/M image as both kinds tell them.
+-- The files of a CP/M image, in the form that all kinds share.
 use Rattle.std.specs.Prelude.{◌≡◌, ◌≢◌, ◌*◌, ℕ, List, [], ◌∷◌, IsTrue, None, Some, length}
 use Rattle.std.specs.List.{AllZip}
 use Rattle.rd_geometry.specs.Places.{CPM_UNIT_LENGTH}
@@ -22,9 +22,10 @@ pub record HasCpmContents (image : List ℕ) (found : Found) : Type 0 where
   pub size : found.size ≡ Some (length (bytes_of_sectors image found.units))
   pub last : found.last_len ≡ last_sector_length found.units
 
--- The file is one of a CP/M image: its slot is a file's; its user is that of the entry at its slot, and
--- its name and type are printed from it, without high bits; each file is of the class that is served;
--- its faults are told, and its contents where it is sound.
+-- The record describes a file of a CP/M image: its slot is that of a file; its user is that of the
+-- entry at its slot, and its name and type are printed from that entry, without high bits; desk
+-- serves its class, as it does for each file; its faults are those of the file, and so are its
+-- contents if it is sound.
 pub record IsCpmFile (image : List ℕ) (found : Found) : Type 0 where
   pub slot : IsFileSlot (slot_of image) found.slot
   pub name : found.name ≡ cpm_name_of (plain (name_of (slot_of image found.slot)))
@@ -35,7 +36,7 @@ pub record IsCpmFile (image : List ℕ) (found : Found) : Type 0 where
   pub sound : IsSound (slot_of image) found.slot → HasCpmContents image found
   pub faulty : ¬ IsSound (slot_of image) found.slot → HasNoContents found
 
--- The file is told as rd_cpm tells it.
+-- The record says what rd_cpm says of the file.
 pub record TellsCpm (file : CpmFile) (found : Found) : Type 0 where
   pub slot : found.slot ≡ file.slot
   pub name : found.name ≡ cpm_name_of file.name
@@ -48,6 +49,6 @@ pub record TellsCpm (file : CpmFile) (found : Found) : Type 0 where
   pub none : file.faults ≢ 0 → found.size ≡ None
   pub last : found.last_len ≡ last_sector_length file.sectors
 
--- The files are told as rd_cpm tells them, in their order.
+-- The records say what rd_cpm says of the files, in their order.
 abbrev pub TellsCpmFiles : List CpmFile → List Found → Type 0
 TellsCpmFiles files founds = AllZip TellsCpm files founds

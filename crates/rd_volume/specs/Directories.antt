@@ -1,4 +1,4 @@
--- The directory of a 1541 image, whose blocks are handed to the definitions of rd_cbm.
+-- The directory of a 1541 image. The definitions of rd_cbm take its blocks.
 use Rattle.std.proofs.Common.{List, ℕ, subst}
 use Rattle.rd_cbm.proofs.OneChain.{one_chain}
 use Rattle.rd_cbm.specs.Files.{AreDirectoryBlocks}

@@ -1,6 +1,6 @@
--- The needed bytes of an image: those that tell its files, and those that the served ones of them hold.
--- Which files are served is a list of slots: of the files at these the sound ones are, and the others
--- are not. A byte is known by its place in the image, counted from 0.
+-- The needed bytes of an image: those that describe its files, and those that its served files
+-- hold. A list of slots says which files are served: the sound ones among the files at these
+-- slots. A byte has the number of its place in the image, counted from 0.
 use Rattle.std.specs.Prelude.{◌≡◌, ◌≢◌, ◌+◌, ◌*◌, ◌/◌, ◌%◌, ◌<◌, ◌≤◌, ◌↔◌, ℕ, List, Contains, length, slice_index}
 use Rattle.rd_geometry.specs.Blocks.{CBM_BLOCK_LENGTH, place_of_block}
 use Rattle.rd_geometry.specs.Places.{CPM_UNIT_LENGTH, place_of_cpm_unit}
@@ -94,10 +94,10 @@ pub record AgreesOnNeeded (kind : Kind) (image other served : List ℕ) : Type 0
   pub size : length image ≡ length other
   pub same : (place : ℕ) → IsNeeded kind other served place → slice_index image place ≡ slice_index other place
 
--- Two images of a kind tell the same. The same bytes of them are needed; the same slots are files'; a file
--- is told as it is in one where it is so in the other; a list is that of the files of one where it is that
--- of the other; the same slots are those of sound files; and the served files have the same bytes, in the
--- same pieces.
+-- Two images of a kind look the same. The same bytes of both are needed; the same slots are those
+-- of files; a record describes a file of one exactly if it describes a file of the other; a list
+-- has the files of one exactly if it has those of the other; the same slots are those of sound
+-- files; and the served files have the same bytes, in the same pieces.
 pub record TellTheSame (kind : Kind) (image other served : List ℕ) : Type 0 where
   pub needed : (place : ℕ) → IsNeeded kind image served place ↔ IsNeeded kind other served place
   pub file : (slot : ℕ) → IsSlotOfFile kind image slot ↔ IsSlotOfFile kind other slot

@@ -1,4 +1,4 @@
--- What an iterator over the pieces of a file has still to give.
+-- What an iterator over the pieces of a file still has to give.
 use Rattle.std.specs.Prelude.{ℕ, List}
 use Rattle.rd_volume.specs.Disks.{disk_bytes, disk_kind}
 use Rattle.rd_volume.specs.Volumes.{pieces_of}

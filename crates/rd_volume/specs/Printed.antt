@@ -12,7 +12,7 @@ abbrev pub pad_of : Kind → ℕ
 pad_of Cpm8 = 0x20
 pad_of D64 = 0xA0
 
--- the bytes of a name or a type without the pad at their end
+-- the bytes of a name or a type without the padding at their end
 abbrev pub without_pad : ℕ → List ℕ → List ℕ
 without_pad pad bytes = take (length bytes - suffix_len (λ byte. byte == pad) bytes) bytes
 

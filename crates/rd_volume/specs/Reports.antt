@@ -1,4 +1,4 @@
--- What a report counts of an image.
+-- What a report counts in an image.
 use Rattle.std.specs.Prelude.{◌≡◌, ℕ, List, [], slice_range}
 use Rattle.rd_geometry.specs.Blocks.{index_of}
 use Rattle.rd_geometry.specs.declared.kind.Kind.{Kind}
@@ -18,7 +18,7 @@ use Rattle.rd_volume.specs.Printed.{printed}
 use Rattle.rd_volume.specs.Volumes.{HasNoFault, IsOfServedClass, IsSlotOfFile}
 use Rattle.rd_volume.specs.declared.reports.Report.{Report}
 
--- Slot k is that of a sound file: one of the class that is served, with no fault.
+-- Slot k is that of a sound file: desk serves its class, and it has no fault.
 pub record IsSoundSlot (kind : Kind) (image : List ℕ) (k : ℕ) : Type 0 where
   pub file : IsSlotOfFile kind image k
   pub class : IsOfServedClass kind image k
@@ -29,13 +29,13 @@ pub record IsFaultySlot (kind : Kind) (image : List ℕ) (k : ℕ) : Type 0 wher
   pub file : IsSlotOfFile kind image k
   pub faulty : ¬ HasNoFault kind image k
 
--- The file of slot k of a 1541 image claims blocks, and not as many as its entry tells.
+-- The file of slot k of a 1541 image claims blocks, but not as many as its entry states.
 pub record HasOtherSize (image : List ℕ) (k : ℕ) (blocks : List ℕ) : Type 0 where
   pub file : IsFileSlot image blocks k
   pub claimant : ClaimsBy (type_of (entry_at image blocks k)) Data
   pub differs : ¬ IsCount (λ block. (way : Way) × Claims image blocks k way block) (size_field_of (entry_at image blocks k))
 
--- the file of slot k differs in size from what its entry tells; none of a CP/M disk does
+-- the file of slot k has another size than its entry states; no file of a CP/M disk does
 abbrev pub DiffersInSize : Kind → List ℕ → ℕ → Type 0
 DiffersInSize Cpm8 image k = ⊥
 DiffersInSize D64 image k = OfDirectory image (HasOtherSize image k)
@@ -55,8 +55,8 @@ abbrev pub label_of : Kind → List ℕ → List ℕ
 label_of Cpm8 image = []
 label_of D64 image = printed D64 (slice_range (map_of image) 144 160)
 
--- The report is that of the image: how many files it has, how many of them are sound and how many have
--- a fault, how many differ in size from what their entries tell, the block map's counts, the
+-- The report is that of the image: how many files it has, how many of them are sound and how many
+-- have a fault, how many have another size than their entries state, the block map's counts, the
 -- directory's end and the disk's name.
 pub record IsReport (kind : Kind) (image : List ℕ) (report : Report) : Type 0 where
   pub files : IsCount (IsSlotOfFile kind image) report.files

@@ -7,7 +7,7 @@ use Rattle.rd_volume.specs.Reports.{IsSoundSlot}
 use Rattle.rd_volume.specs.Volumes.{AreBytesOf, AreFounds, IsFound, IsSlotOfFile, pieces_of}
 use Rattle.rd_volume.specs.declared.found.Found.{Found}
 
--- One image tells all that another does.
+-- All that holds of the files of one image holds of those of the other.
 pub record TellsAllOf (kind : Kind) (image other served : List ℕ) : Type 0 where
   pub file : (slot : ℕ) → IsSlotOfFile kind other slot → IsSlotOfFile kind image slot
   pub found : (found : Found) → IsFound kind other found → IsFound kind image found

@@ -41,8 +41,8 @@ pub record AreCpmBytes (image : List ℕ) (k : ℕ) (bytes : List ℕ) : Type 0 
   pub are_sectors : AreSectors (slot_of image) k sectors
   pub joined : bytes ≡ bytes_of_sectors image sectors
 
--- The bytes are those of the sound file of slot k of a 1541 image, whose directory's blocks are handed
--- in: those of the chain of its data.
+-- The bytes are those of the sound file of slot k of a 1541 image whose directory has these
+-- blocks: those of the chain of its data.
 pub record AreCbmBytes (image : List ℕ) (k : ℕ) (bytes blocks : List ℕ) : Type 0 where
   pub chain : List ℕ
   pub used : ℕ
@@ -55,12 +55,12 @@ abbrev pub AreBytesOf : Kind → List ℕ → ℕ → List ℕ → Type 0
 AreBytesOf Cpm8 image k bytes = AreCpmBytes image k bytes
 AreBytesOf D64 image k bytes = OfDirectory image (AreCbmBytes image k bytes)
 
--- the file is told as it is in the image
+-- the record describes a file of the image
 abbrev pub IsFound : Kind → List ℕ → Found → Type 0
 IsFound Cpm8 image found = IsCpmFile image found
 IsFound D64 image found = OfDirectory image (IsCbmFile image found)
 
--- The files of an image, by ascending slot: each is told as it is, and none is missing.
+-- The files of an image, by ascending slot: each is described correctly, and none is missing.
 pub record AreFounds (kind : Kind) (image : List ℕ) (founds : List Found) : Type 0 where
   pub each : All (IsFound kind image) founds
   pub ascending : AllPairs (λ f g. f.slot < g.slot) founds

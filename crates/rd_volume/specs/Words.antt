@@ -18,6 +18,6 @@ set_bits count n = filter (λ bit. n / 2 ^ bit % 2 == 1) (range_with_len 0 count
 abbrev pub words_of : Kind → ℕ → List (List ℕ)
 words_of kind faults = map (λ bit. slice_index_or (fault_names kind) bit []) (set_bits (length (fault_names kind)) faults)
 
--- the words that an iterator has still to give
+-- the words that an iterator still has to give
 abbrev pub words_left : FaultWords → List (List ℕ)
 words_left words = words_of words.kind words.faults

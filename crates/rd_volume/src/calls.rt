@@ -31,8 +31,9 @@ fn survey_of<'a, V: Volume<'a>>(alloc: Global, disk: &V) -> Result<Items<Found>,
     disk.survey(alloc)
 }
 
-/// The files of an image, by ascending slot (CP/M 2.2 Interface Guide; 1541 User's Guide). Each fits the
-/// image, and a sound one is as long as its pieces are together. It fails only where memory is refused.
+/// The files of an image, by ascending slot (CP/M 2.2 Interface Guide; 1541 User's Guide). Each
+/// lies in the image (`Found::fits`), and a sound file is as long as its pieces together. It fails
+/// only when memory runs out.
 pub fn survey(alloc: Global, image: &Image<'_>) -> Result<Items<Found>, NoMemory>
     ensures files { IfOk result (AreFounds (kind_of image.now) (bytes_of image.now)) }
     ensures ascending { IfOk result (AllPairs (λ f g. f.slot < g.slot)) }
@@ -46,8 +47,8 @@ pub fn survey(alloc: Global, image: &Image<'_>) -> Result<Items<Found>, NoMemory
     }
 }
 
-/// The file at a slot of an image, told as `survey` tells it, `None` where no file has the slot. It fits
-/// the image. It fails only where memory is refused.
+/// The file at a slot of an image, as `survey` gives it; `None` if no file has the slot. It lies
+/// in the image. It fails only when memory runs out.
 pub fn find(alloc: Global, image: &Image<'_>, slot: u16) -> Result<Option<Found>, NoMemory>
     ensures file { IfOk result (IsFoundAt (kind_of image.now) (bytes_of image.now) slot) }
     ensures fits { IfOk result (λ answer. IfSome answer (Fits (kind_of image.now))) }
@@ -59,7 +60,7 @@ pub fn find(alloc: Global, image: &Image<'_>, slot: u16) -> Result<Option<Found>
 }
 
 /// How the walk along the blocks of an image's directory, from 18/1 on, ends (1541 User's Guide):
-/// `Last(0)` for a CP/M disk, which has no links. It fails only where memory is refused.
+/// `Last(0)` for a CP/M disk, which has no links. It fails only when memory runs out.
 pub fn directory_end(alloc: Global, image: &Image<'_>) -> Result<End, NoMemory>
     ensures { IfOk result (IsDirectoryEnd (kind_of image.now) (bytes_of image.now)) }
 {
@@ -69,8 +70,8 @@ pub fn directory_end(alloc: Global, image: &Image<'_>) -> Result<End, NoMemory>
     }
 }
 
-/// What an image has, counted (CP/M 2.2 Interface Guide; 1541 User's Guide). It fails only where memory
-/// is refused.
+/// The counts of what an image has on it (CP/M 2.2 Interface Guide; 1541 User's Guide). It fails
+/// only when memory runs out.
 pub fn report(alloc: Global, image: &Image<'_>) -> Result<Report, NoMemory>
     ensures { IfOk result (IsReport (kind_of image.now) (bytes_of image.now)) }
 {
@@ -94,8 +95,9 @@ pub fn pieces<'a>(image: &Image<'a>, found: &'a Found) -> Pieces<'a>
     Pieces::of(Disk::of(image), found.units.as_slice(), found.last_len)
 }
 
-/// The words of the faults whose bits are set, of a file of an image of a kind, in the order of the
-/// bits (this project's rules). A bit for which the kind has no word is left out. It takes no memory.
+/// The words of the faults whose bits are set, for a file of an image of this kind, in the order
+/// of the bits (this project's rules). It leaves out a bit for which the kind has no word. It
+/// takes no memory.
 pub fn fault_words(kind: Kind, faults: u8) -> FaultWords
     ensures { words_left result ≡ words_of kind faults }
 {

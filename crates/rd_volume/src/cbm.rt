@@ -1,4 +1,4 @@
-//! The files of a 1541 disk as both kinds tell them.
+//! The files of a 1541 disk, in the form that all kinds share.
 
 ghost use Rattle.std.specs.Prelude.{◌≡◌, ◌≢◌, ◌-◌, ◌<◌, ◌≤◌, ◌==◌, All, IfOk, IfSome, None, Some, count_by, length, not, true};
 ghost use Rattle.rd_cbm.specs.BlockMap.{map_of};
@@ -29,7 +29,7 @@ pub(crate) fn body<'a>(disk: &CbmDisk<'a>, n: u16) -> &'a [u8]
     &disk.unit(n)[2..]
 }
 
-/// Whether a class is one that is served.
+/// Whether desk serves files of a class.
 fn serves(class: Class) -> bool
     ensures { result ≡ is_served class }
 {
@@ -44,7 +44,7 @@ fn last_length(file: &CbmFile) -> u16
     u16::from(file.last.saturating_sub(1))
 }
 
-/// How many bytes a chain of blocks has, of which the last holds so many.
+/// How many bytes a chain of blocks has, if its last block holds `last_len` of them.
 fn chain_length(blocks: &[u16], last_len: u16) -> u32
     requires { length blocks.now ≤ 683 }
     ensures { result ≡ length_of_blocks blocks.now last_len }
@@ -55,7 +55,7 @@ fn chain_length(blocks: &[u16], last_len: u16) -> u32
     }
 }
 
-/// The size of a file in bytes, where it is of the class that is served and has no fault.
+/// The size of a file in bytes, if desk serves its class and it has no fault.
 fn size(file: &CbmFile) -> Option<u32>
     requires { length file.now.blocks ≤ 683 }
     ensures sound { is_served file.now.class ≡ true → file.now.faults ≡ 0
@@ -71,7 +71,7 @@ fn size(file: &CbmFile) -> Option<u32>
     Some(chain_length(file.blocks.as_slice(), last_length(file)))
 }
 
-/// A file of a 1541 disk as both kinds tell it.
+/// A file of a 1541 disk, in the form that all kinds share.
 fn tell(alloc: Global, file: CbmFile) -> Result<Found, NoMemory>
     requires { length file.blocks ≤ 683 }
     ensures { IfOk result (TellsCbm file) }
@@ -93,7 +93,7 @@ fn tell(alloc: Global, file: CbmFile) -> Result<Found, NoMemory>
     })
 }
 
-/// The files of a 1541 disk as both kinds tell them, in their order.
+/// The files of a 1541 disk, in their order and in the form that all kinds share.
 pub(crate) fn tell_files(alloc: Global, files: Vec<CbmFile>) -> Result<Vec<Found>, NoMemory>
     requires { All (λ file. length file.blocks ≤ 683) files.items }
     ensures { IfOk result (λ founds. TellsCbmFiles files.items founds.items) }
@@ -105,7 +105,8 @@ pub(crate) fn tell_files(alloc: Global, files: Vec<CbmFile>) -> Result<Vec<Found
     Ok(founds)
 }
 
-/// The file at a slot of a 1541 disk as both kinds tell it, `None` where no file has the slot.
+/// The file at a slot of a 1541 disk, in the form that all kinds share; `None` if no file has the
+/// slot.
 pub(crate) fn find(alloc: Global, disk: &CbmDisk, slot: u16) -> Result<Option<Found>, NoMemory>
     ensures file { IfOk result (IsFoundAt Kind.D64 (cbm_bytes disk.now) slot) }
     ensures fits { IfOk result (λ answer. IfSome answer (Fits Kind.D64)) }
@@ -123,21 +124,21 @@ pub(crate) fn directory_end(alloc: Global, disk: &CbmDisk) -> Result<End, NoMemo
     Ok(rd_cbm::chain(alloc, disk, (18, 1))?.end)
 }
 
-/// Whether files of a class claim blocks where they are closed.
+/// Whether files of a class claim blocks when they are closed.
 fn claims(class: Class) -> bool
     ensures { result ≡ is_claimant class }
 {
     matches!(class, Class::Seq | Class::Prg | Class::Usr | Class::Rel)
 }
 
-/// Whether a file claims blocks, and not as many as its entry tells.
+/// Whether a file claims blocks, but not as many as its entry states.
 fn differs(file: &CbmFile) -> bool
     ensures { result ≡ differs_in_size file.now }
 {
     file.closed && claims(file.class) && file.claimed != file.size_field
 }
 
-/// Whether a file is of the class that is served and has no fault.
+/// Whether desk serves the class of a file and it has no fault.
 fn sound(file: &CbmFile) -> bool
     ensures { result ≡ is_sound file.now }
 {
@@ -158,7 +159,7 @@ fn count_faulty(files: &[CbmFile]) -> usize
     files.iter().filter(|file| file.faults != 0).count()
 }
 
-/// How many files claim blocks, and not as many as their entry tells.
+/// How many files claim blocks, but not as many as their entry states.
 fn count_differing(files: &[CbmFile]) -> usize
     ensures { result ≡ count_by differs_in_size files.now }
 {

@@ -1,4 +1,4 @@
-//! The files of a CP/M disk as both kinds tell them.
+//! The files of a CP/M disk, in the form that all kinds share.
 
 ghost use Rattle.std.specs.Prelude.{◌≡◌, ◌≢◌, ◌*◌, ◌≤◌, ◌==◌, All, IfOk, IfSome, None, Some, count_by, length, not};
 ghost use Rattle.rd_geometry.specs.CpmDisks.{cpm_bytes};
@@ -15,7 +15,7 @@ use rd_cpm::CpmFile;
 use rd_geometry::{CpmDisk, Kind, NoMemory, Text};
 use std::alloc::Global;
 
-/// The counts of a block map, where there is none.
+/// The counts for a disk without a block map.
 const NO_MAP: MapReport = MapReport {
     wrong_counts: 0,
     claimed_free: 0,
@@ -25,7 +25,7 @@ const NO_MAP: MapReport = MapReport {
 /// How many bytes a sector has.
 const SECTOR: u16 = 128;
 
-/// The size of a file in bytes, where it has no fault: its sectors are its records.
+/// The size of a file in bytes, if it has no fault: its sectors are its records.
 fn size(file: &CpmFile) -> Option<u32>
     requires { length file.now.sectors ≤ 8192 }
     ensures sound { file.now.faults ≡ 0 → result ≡ Some (128 * length file.now.sectors) }
@@ -47,7 +47,7 @@ fn last_length(file: &CpmFile) -> u16
     }
 }
 
-/// A file of a CP/M disk as both kinds tell it.
+/// A file of a CP/M disk, in the form that all kinds share.
 fn tell(alloc: Global, file: CpmFile) -> Result<Found, NoMemory>
     requires { length file.sectors ≤ 8192 }
     ensures { IfOk result (TellsCpm file) }
@@ -69,7 +69,7 @@ fn tell(alloc: Global, file: CpmFile) -> Result<Found, NoMemory>
     })
 }
 
-/// The files of a CP/M disk as both kinds tell them, in their order.
+/// The files of a CP/M disk, in their order and in the form that all kinds share.
 pub(crate) fn tell_files(alloc: Global, files: Vec<CpmFile>) -> Result<Vec<Found>, NoMemory>
     requires { All (λ file. length file.sectors ≤ 8192) files.items }
     ensures { IfOk result (λ founds. TellsCpmFiles files.items founds.items) }
@@ -81,7 +81,8 @@ pub(crate) fn tell_files(alloc: Global, files: Vec<CpmFile>) -> Result<Vec<Found
     Ok(founds)
 }
 
-/// The file at a slot of a CP/M disk as both kinds tell it, `None` where no file has the slot.
+/// The file at a slot of a CP/M disk, in the form that all kinds share; `None` if no file has the
+/// slot.
 pub(crate) fn find(alloc: Global, disk: &CpmDisk, slot: u16) -> Result<Option<Found>, NoMemory>
     ensures file { IfOk result (IsFoundAt Kind.Cpm8 (cpm_bytes disk.now) slot) }
     ensures fits { IfOk result (λ answer. IfSome answer (Fits Kind.Cpm8)) }
@@ -106,7 +107,7 @@ fn count_faulty(files: &[CpmFile]) -> usize
     files.iter().filter(|file| file.faults != 0).count()
 }
 
-/// What a CP/M disk has, counted.
+/// The counts of what a CP/M disk has on it.
 pub(crate) fn report(alloc: Global, disk: &CpmDisk) -> Result<Report, NoMemory>
     ensures { IfOk result (IsReport Kind.Cpm8 (cpm_bytes disk.now)) }
 {

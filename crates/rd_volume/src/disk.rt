@@ -29,7 +29,7 @@ impl<'a> Disk<'a> {
         }
     }
 
-    /// The bytes of a unit in which a file's bytes stand, as a slice of the image.
+    /// The bytes of a unit that can hold bytes of a file, as a slice of the image.
     pub(crate) fn body(&self, n: u16) -> &'a [u8]
         requires { n < unit_count_of (disk_kind self.now) }
         ensures value { result.now ≡ body_of (disk_kind self.now) (disk_bytes self.now) n }

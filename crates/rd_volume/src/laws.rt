@@ -1,5 +1,5 @@
-//! Laws of what is told of an image, which no code calls. They hold of every list of bytes, whatever its
-//! length.
+//! Laws of what desk says about an image. No code calls them. They hold for every list of bytes,
+//! whatever its length.
 
 ghost use Rattle.std.specs.Prelude.{◌≡◌, ◌+◌, ◌≤◌, ◌↔◌, ℕ, List, All, length, map};
 ghost use Rattle.rd_geometry.specs.Kinds.{size_of};
@@ -11,7 +11,8 @@ ghost use Rattle.rd_volume.specs.Reports.{IsSoundSlot};
 ghost use Rattle.rd_volume.specs.Volumes.{AreBytesOf, AreFounds, IsFound, IsSlotOfFile, pieces_of};
 ghost use Rattle.rd_volume.specs.declared.found.Found.{Found};
 
-/// A law: a file that is told is at a file's slot, and it is sound exactly where the file there is.
+/// A law: a file that `survey` may give has the slot of a file, and it is sound exactly if the
+/// file there is.
 pub fn each_file_told_is_at_its_slot()
     ensures slot { (kind : Kind) (image : List ℕ) (found : Found) → IsFound kind image found
         → IsSlotOfFile kind image found.slot }
@@ -19,7 +20,7 @@ pub fn each_file_told_is_at_its_slot()
         → IsSoundFile found ↔ IsSoundSlot kind image found.slot }
 {}
 
-/// A law: a slot's file is told in one way, and no image has two surveys.
+/// A law: there is one way to describe the file at a slot, and no image has two surveys.
 pub fn each_image_has_one_survey()
     ensures file { (kind : Kind) (image : List ℕ) (one other : Found) → IsFound kind image one → IsFound kind image other
         → one.slot ≡ other.slot → one ≡ other }
@@ -33,10 +34,10 @@ pub fn each_sound_file_has_one_content()
         → AreBytesOf kind image slot one → AreBytesOf kind image slot other → one ≡ other }
 {}
 
-/// A law: the pieces of a file that fits its image are slices of the image, one for each unit of the file.
-/// On a CP/M disk a slice begins where its unit does, on a 1541 disk two bytes later, behind the link. It
-/// has all bytes that follow in the unit, the last one only as many as the last unit holds of the file. In
-/// an image of the right size no slice reaches past the end.
+/// A law: the pieces of a file that lies in its image are slices of the image, one for each unit
+/// of the file. On a CP/M disk a slice begins where its unit does, on a 1541 disk two bytes later,
+/// after the link. It has all bytes that follow in the unit; the last slice has only as many as
+/// the last unit holds of the file. In an image of the right size no slice reaches past the end.
 pub fn each_piece_is_a_slice_of_its_image()
     ensures slices { (kind : Kind) (image : List ℕ) (found : Found) → Fits kind found
         → pieces_of kind image found.units found.last_len
@@ -45,11 +46,12 @@ pub fn each_piece_is_a_slice_of_its_image()
         → All (λ part. part.start + part.count ≤ length image) (parts_of kind found.units found.last_len) }
 {}
 
-/// A law: the needed bytes of an image decide what is told of it. Whichever files are served: where an image
-/// of the same kind and length has these bytes too, the same bytes of both are needed, both have the same
-/// files, told alike in every field, the same of them are sound, and the served ones have the same bytes.
-/// So no other byte of an image shows in what is told of its files, or in the bytes of the served ones. What
-/// `report` tells rests on the whole image.
+/// A law: the needed bytes of an image decide what desk says about its files, whichever of them it
+/// serves. If another image of the same kind and length has these bytes too, then the same bytes
+/// of both are needed, both have the same files with the same fields, the same files are sound,
+/// and the served files have the same bytes. So no other byte of an image shows in what desk says
+/// about its files, or in the bytes of the served files. What `report` gives depends on the whole
+/// image.
 pub fn needed_bytes_decide_what_is_told()
     ensures { (kind : Kind) (image other served : List ℕ)
         → AgreesOnNeeded kind image other served → TellTheSame kind image other served }

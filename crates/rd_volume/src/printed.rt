@@ -18,7 +18,7 @@ fn pad(kind: Kind) -> u8
     }
 }
 
-/// The bytes of a name or a type without the pad at their end.
+/// The bytes of a name or a type without the padding at their end.
 fn trimmed(kind: Kind, bytes: &[u8]) -> &[u8]
     ensures { result.now ≡ without_pad (pad_of kind) bytes.now }
 {
@@ -77,14 +77,15 @@ fn push_bytes(text: &mut String, kind: Kind, bytes: &[u8]) -> Result<(), NoMemor
     Ok(())
 }
 
-/// The name of a CP/M file without its pad, from the eight bytes of its name and the three of its type.
+/// The name of a CP/M file without its padding, from the eight bytes of its name and the three of
+/// its type.
 fn name_part(name: &[u8; 11]) -> &[u8]
     ensures { result.now ≡ without_pad (pad_of Kind.Cpm8) (take 8 name.now) }
 {
     trimmed(Kind::Cpm8, &name[..8])
 }
 
-/// The type of a CP/M file without its pad, from the same bytes.
+/// The type of a CP/M file without its padding, from the same bytes.
 fn type_part(name: &[u8; 11]) -> &[u8]
     ensures { result.now ≡ without_pad (pad_of Kind.Cpm8) (drop 8 name.now) }
 {

@@ -1,8 +1,9 @@
 use rd_cbm::{End, MapReport};
 use rd_geometry::Text;
 
-/// What an image has, counted (1541 User's Guide, for the block map and the directory's end). For a CP/M
-/// disk `size_differs` and the counts of `map` are 0, `directory` is `Last(0)` and `label` is empty.
+/// The counts of what an image has on it (1541 User's Guide, for the block map and the directory's
+/// end). For a CP/M disk `size_differs` and the counts of `map` are 0, `directory` is `Last(0)`
+/// and `label` is empty.
 #[derive(Debug, Drop)]
 pub struct Report {
     /// How many files there are.
@@ -11,7 +12,7 @@ pub struct Report {
     pub served: u16,
     /// How many of them have a fault.
     pub faulty: u16,
-    /// How many of those that claim blocks claim other than as many as their entry tells.
+    /// How many files claim blocks, but not as many as their entry states.
     pub size_differs: u16,
     /// How the block map differs from the blocks in use.
     pub map: MapReport,

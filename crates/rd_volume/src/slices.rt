@@ -18,7 +18,7 @@ impl<'a> Pieces<'a> {
     ghost use Rattle.rd_volume.specs.PiecesLeft.{pieces_left};
     ghost use Rattle.rd_volume.specs.Volumes.{pieces_of};
 
-    /// The pieces of a file with these units, of whose bytes the last unit holds `last_len`.
+    /// The pieces of a file with these units; the last unit holds `last_len` of its bytes.
     pub(crate) fn of(disk: Disk<'a>, units: &'a [u16], last_len: u16) -> Pieces<'a>
         requires inside { All (λ unit. unit < unit_count_of (disk_kind disk)) units.now }
         requires last { last_len ≤ room_of (disk_kind disk) }

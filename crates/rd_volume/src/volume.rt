@@ -18,11 +18,11 @@ pub trait Volume<'a>: Geometry<'a> {
     /// The kind of the disk.
     ghost volume_kind: { Self → Kind };
 
-    /// The files of the disk, by ascending slot. It fails only where memory is refused.
+    /// The files of the disk, by ascending slot. It fails only when memory runs out.
     fn survey(&self, alloc: Global) -> Result<Items<Found>, NoMemory>
         ensures { IfOk result (AreFounds (volume_kind self.now) (Self.image_bytes self.now)) };
 
-    /// What the disk has, counted. It fails only where memory is refused.
+    /// The counts of what the disk has on it. It fails only when memory runs out.
     fn report(&self, alloc: Global) -> Result<Report, NoMemory>
         ensures { IfOk result (IsReport (volume_kind self.now) (Self.image_bytes self.now)) };
 
@@ -44,13 +44,14 @@ pub trait Volume<'a>: Geometry<'a> {
     ghost fitting: { (disk : Self) (found : Found)
         → IsFound (volume_kind disk) (Self.image_bytes disk) found → Fits (volume_kind disk) found };
 
-    /// A sound file is as long as its pieces are together.
+    /// A sound file is as long as its pieces together.
     ghost total: { (disk : Self) (found : Found)
         → IsFound (volume_kind disk) (Self.image_bytes disk) found → IsSoundFile found
         → found.size ≡ Some (length (contents_of (volume_kind disk) (Self.image_bytes disk) found)) };
 
-    /// An image that agrees with that of the disk on the needed bytes tells the same, whatever its other
-    /// bytes are, and whichever files are served.
+    /// An image that agrees with the disk's image on the needed bytes has the same files, and the
+    /// same bytes in those that desk serves, whatever its other bytes are, and whichever files
+    /// these are.
     ghost hidden: { (disk : Self) (image served : List ℕ)
         → AgreesOnNeeded (volume_kind disk) image (Self.image_bytes disk) served
         → TellTheSame (volume_kind disk) image (Self.image_bytes disk) served };

@@ -29,14 +29,14 @@ pub struct FaultWords {
 impl FaultWords {
     ghost use Rattle.rd_volume.specs.Words.{fault_names, words_left, words_of};
 
-    /// The words of the faults whose bits are set, of a file of an image of a kind.
+    /// The words of the faults whose bits are set, for a file of an image of this kind.
     pub(crate) fn of(kind: Kind, faults: u8) -> FaultWords
         ensures { words_left result ≡ words_of kind faults }
     {
         FaultWords { kind, faults }
     }
 
-    /// The word of the fault with a bit, `None` where the kind has no such fault.
+    /// The word of the fault with a bit, `None` if the kind has no such fault.
     fn word_at(kind: Kind, bit: u32) -> Option<&'static str>
         ensures found { IfSome result (λ word. slice_get (fault_names kind) bit ≡ Some word.now) }
         ensures none { IfNone result (slice_get (fault_names kind) bit ≡ None) }

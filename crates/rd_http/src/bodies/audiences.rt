@@ -1,4 +1,4 @@
-//! Audiences, which are written by their words.
+//! Audiences, written as their words.
 
 ghost use Rattle.std.specs.Prelude.{◌≡◌, ◌≢◌, ◌↔◌, ◌⊎◌, IfNone, IfSome, map};
 ghost use Rattle.serde_json.specs.Data.{string};
@@ -18,7 +18,7 @@ const NOBODY: Audiences = Audiences {
     staff: false,
 };
 
-/// The audience whose word a value is; none where it is no such word.
+/// The audience whose word a value is; `None` if it is no such word.
 pub(crate) fn audience_of(value: &Value) -> Option<Audience>
     ensures told { IfSome result (λ audience. view value.now ≡ string (audience_word audience)) }
     ensures none { IfNone result
@@ -32,7 +32,7 @@ pub(crate) fn audience_of(value: &Value) -> Option<Audience>
     }
 }
 
-/// A set and an audience.
+/// A set with one more audience.
 fn with(set: Audiences, audience: Audience) -> Audiences
     ensures { (other : Audience) → IsAmong result other ↔ (IsAmong set other ⊎ (audience ≡ other)) }
 {
@@ -46,8 +46,8 @@ fn with(set: Audiences, audience: Audience) -> Audiences
     }
 }
 
-/// The set of the audiences whose words the values are; none where there is no value, one is no such word, or
-/// one comes twice.
+/// The set of the audiences whose words the values are; `None` if there is no value, one is no
+/// such word, or one comes twice.
 fn audiences_in(values: &[Value]) -> Option<Audiences>
     ensures told { IfSome result (NameAudiences (map view values.now)) }
     ensures none { IfNone result ((set : Audiences) → ¬ NameAudiences (map view values.now) set) }
@@ -63,7 +63,7 @@ fn audiences_in(values: &[Value]) -> Option<Audiences>
     if set.is_empty() { None } else { Some(set) }
 }
 
-/// The set of audiences that an array at a key of an object names; none where nothing there names any.
+/// The set of audiences that an array at a key of an object names; `None` if it names none.
 pub(crate) fn audiences_at(value: &Value, key: &str) -> Option<Audiences>
     ensures told { IfSome result (HasAudiencesAt key.now (view value.now)) }
     ensures none { IfNone result ((set : Audiences) → ¬ HasAudiencesAt key.now (view value.now) set) }

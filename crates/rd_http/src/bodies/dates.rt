@@ -1,4 +1,4 @@
-//! Days, which are written as dates.
+//! Days, written as dates.
 
 ghost use Rattle.std.specs.Prelude.{IfNone, IfOk, IfSome, MatchOption, Option, ℤ};
 ghost use Rattle.serde_json.specs.View.{view};
@@ -10,8 +10,8 @@ use rd_policy::{DateFault, date_read};
 use serde_json::Value;
 use std::alloc::Global;
 
-/// The day of a date, counted from 1970-01-01; none where the text is no date. It fails only where memory is
-/// refused.
+/// The day of a date, counted from 1970-01-01; `None` if the text is no date. It fails only when
+/// memory runs out.
 pub(crate) fn day_of(alloc: Global, date: &str) -> Result<Option<i32>, NoMemory>
     ensures { IfOk result (λ read. MatchOption read (IsNoDate date.now) (λ day. IsDateOf day date.now)) }
 {
@@ -22,8 +22,9 @@ pub(crate) fn day_of(alloc: Global, date: &str) -> Result<Option<i32>, NoMemory>
     }
 }
 
-/// The day at a key of an object where a day may stand: `Some(None)` where nothing or null stands there, and
-/// `None` where something else than a date does. It fails only where memory is refused.
+/// The day at a key of an object, where a day may be absent: `Some(None)` if there is nothing or
+/// null at the key, and `None` if there is something other than a date. It fails only when memory
+/// runs out.
 pub(crate) fn day_at(
     alloc: Global,
     value: &Value,

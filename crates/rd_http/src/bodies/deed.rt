@@ -8,8 +8,8 @@ use rd_geometry::{NoMemory, Text};
 use serde_json::Value;
 use std::alloc::Global;
 
-/// Who gave the disks, and the day on which the deed was signed; none where the value tells no deed. It fails
-/// only where memory is refused.
+/// Who gave the disks, and the day on which they signed the deed; `None` if the value describes no
+/// deed. It fails only when memory runs out.
 fn deed_of(alloc: Global, value: &Value) -> Result<Option<(Text, i32)>, NoMemory>
     ensures told { IfOk result (λ read. IfSome read (λ deed. TellsDeed (view value.now) deed.0 deed.1)) }
     ensures none { IfOk result (λ read. IfNone read (TellsNoDeed (view value.now))) }
@@ -29,9 +29,9 @@ fn deed_of(alloc: Global, value: &Value) -> Result<Option<(Text, i32)>, NoMemory
     Ok(Some((Text::of(String::from_str(alloc, donor)?), signed)))
 }
 
-/// What the body of a command to put a deed tells: who gave the disks, with any bytes, and the day on which
-/// the deed was signed, of the years 1 to 9999, counted from 1970-01-01. None where it tells no deed. It fails
-/// only where memory is refused.
+/// What the body of a command to put a deed says: who gave the disks, with any bytes, and the day
+/// on which they signed the deed, of the years 1 to 9999, counted from 1970-01-01. `None` if it
+/// describes no deed. It fails only when memory runs out.
 pub(crate) fn deed_body(alloc: Global, body: &[u8]) -> Result<Option<(Text, i32)>, NoMemory>
     ensures told { IfOk result (λ read. IfSome read (λ deed. IsDeedBody body.now deed.0 deed.1)) }
     ensures none { IfOk result (λ read. IfNone read (IsNoDeedBody body.now)) }

@@ -9,8 +9,8 @@ use rd_geometry::NoMemory;
 use serde_json::{Map, Value};
 use std::alloc::Global;
 
-/// The value of which a body is the text; none where it is the text of no value. It fails only where memory
-/// is refused.
+/// The value whose text a body is; `None` if it is the text of no value. It fails only when memory
+/// runs out.
 pub(crate) fn value_of(alloc: Global, body: &[u8]) -> Result<Option<Value>, NoMemory>
     ensures { IfOk result (λ read. MatchOption read (IsNoJson body.now) (λ value. IsJson body.now (view value))) }
 {
@@ -21,14 +21,14 @@ pub(crate) fn value_of(alloc: Global, body: &[u8]) -> Result<Option<Value>, NoMe
     }
 }
 
-/// Whether a key is one of some.
+/// Whether a key is one of these.
 fn is_among(key: &str, keys: &[&str]) -> bool
     ensures { IsTrue result ↔ Contains (map (λ other. other.now) keys.now) key.now }
 {
     keys.contains(&key)
 }
 
-/// Whether each key of the members is one of some.
+/// Whether each key of the members is one of these.
 fn are_among(members: &Map<String, Value>, keys: &[&str]) -> bool
     ensures { IsTrue result
         ↔ AreKeysAmong (map (λ key. key.now) keys.now) (members_view members.now.entries) }
@@ -41,7 +41,7 @@ fn are_among(members: &Map<String, Value>, keys: &[&str]) -> bool
     true
 }
 
-/// Whether a value is an object that has no key but some.
+/// Whether a value is an object with no other keys than these.
 pub(crate) fn has_only(value: &Value, keys: &[&str]) -> bool
     ensures { IsTrue result ↔ HasOnlyKeys (map (λ key. key.now) keys.now) (view value.now) }
 {
@@ -51,14 +51,15 @@ pub(crate) fn has_only(value: &Value, keys: &[&str]) -> bool
     }
 }
 
-/// The text that stands at a key of an object; none where no text does.
+/// The text at a key of an object; `None` if there is no text.
 pub(crate) fn text_at<'v>(value: &'v Value, key: &str) -> Option<&'v str>
     ensures { option_map (λ text. text.now) result ≡ text_at key.now (view value.now) }
 {
     value.get(key).and_then(Value::as_str)
 }
 
-/// The key and the value of an object's only member; none where the value is no object of one member.
+/// The key and the value of an object's only member; `None` if the value is no object of one
+/// member.
 pub(crate) fn only_member(value: &Value) -> Option<(&str, &Value)>
     ensures told { IfSome result (λ found. view value.now ≡ one_member found.0.now (view found.1.now)) }
     ensures none { IfNone result ((key : List ℕ) (member : Data) → view value.now ≢ one_member key member) }

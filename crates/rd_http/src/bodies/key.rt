@@ -9,7 +9,7 @@ use rd_policy::Audience;
 use serde_json::Value;
 use std::alloc::Global;
 
-/// The audience that a value gives a desk key; none where it gives none.
+/// The audience that a value gives a desk key; `None` if it gives none.
 fn key_of(value: &Value) -> Option<Audience>
     ensures told { IfSome result (TellsKey (view value.now)) }
     ensures none { IfNone result (TellsNoKey (view value.now)) }
@@ -25,8 +25,8 @@ fn key_of(value: &Value) -> Option<Audience>
     }
 }
 
-/// What the body of a command to put a desk key tells: whose the key is, the reading room's or the staff's.
-/// None where it tells neither. It fails only where memory is refused.
+/// What the body of a command to put a desk key says: whether the key is for the reading room or
+/// for the staff. `None` if it says neither. It fails only when memory runs out.
 pub(crate) fn key_body(alloc: Global, body: &[u8]) -> Result<Option<Audience>, NoMemory>
     ensures told { IfOk result (λ read. IfSome read (IsKeyBody body.now)) }
     ensures none { IfOk result (λ read. IfNone read (IsNoKeyBody body.now)) }

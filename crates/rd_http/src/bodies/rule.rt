@@ -14,7 +14,7 @@ use rd_policy::{Band, Effect, Rule};
 use serde_json::Value;
 use std::alloc::Global;
 
-/// The effect whose word stands at a key of an object; none where no such word does.
+/// The effect whose word is at a key of an object; `None` if there is no such word.
 fn effect_at(value: &Value, key: &str) -> Option<Effect>
     ensures told { IfSome result (λ effect. text_at key.now (view value.now) ≡ Some (effect_word effect)) }
     ensures none { IfNone result
@@ -28,8 +28,8 @@ fn effect_at(value: &Value, key: &str) -> Option<Effect>
     }
 }
 
-/// The rule that a value tells, of a band, scope and rank; none where it tells none, or none within its limits.
-/// It fails only where memory is refused.
+/// The rule that a value describes, of a band, scope and rank; `None` if it describes none, or
+/// none within its limits. It fails only when memory runs out.
 fn rule_of(
     alloc: Global,
     band: Band,
@@ -71,9 +71,10 @@ fn rule_of(
     }))
 }
 
-/// The rule that the body of a command to put a rule tells, of a band, scope and rank. None where it tells none;
-/// it may also be none where the slot is above 65,535 or the user above 255, and so beyond the limits of a rule. No
-/// other limit is judged. It fails only where memory is refused.
+/// The rule that the body of a command to put a rule describes, of a band, scope and rank. `None`
+/// if it describes none; it may also be `None` if the slot is above 65,535 or the user above 255,
+/// and so beyond the limits of a rule. It checks no other limit. It fails only when memory runs
+/// out.
 pub(crate) fn rule_body(
     alloc: Global,
     band: Band,

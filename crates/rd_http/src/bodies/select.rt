@@ -15,7 +15,7 @@ use rd_policy::Select;
 use serde_json::Value;
 use std::alloc::Global;
 
-/// The number of a slot that a value is; none where it is no whole number, or not one of 16 bits.
+/// The number of a slot that a value is; `None` if it is no whole number of 16 bits.
 fn slot_of(value: &Value) -> Option<u16>
     ensures told { IfSome result (λ slot. view value.now ≡ number (unsigned slot)) }
     ensures none { IfNone result
@@ -27,7 +27,7 @@ fn slot_of(value: &Value) -> Option<u16>
     }
 }
 
-/// The number of a user that a value is; none where it is no whole number, or not one of 8 bits.
+/// The number of a user that a value is; `None` if it is no whole number of 8 bits.
 fn user_of(value: &Value) -> Option<u8>
     ensures told { IfSome result (λ user. view value.now ≡ number (unsigned user)) }
     ensures none { IfNone result
@@ -39,7 +39,7 @@ fn user_of(value: &Value) -> Option<u8>
     }
 }
 
-/// The text that a value is; none where it is no text. It fails only where memory is refused.
+/// The text that a value is; `None` if it is no text. It fails only when memory runs out.
 fn text_of(alloc: Global, value: &Value) -> Result<Option<Text>, NoMemory>
     ensures { IfOk result (λ read. read ≡ as_str (view value.now)) }
 {
@@ -49,8 +49,8 @@ fn text_of(alloc: Global, value: &Value) -> Result<Option<Text>, NoMemory>
     }
 }
 
-/// The selector that is written by this key and value; none where there is none, or none within its limits. It
-/// fails only where memory is refused.
+/// The selector that this key and value write; `None` if they write none, or none within its
+/// limits. It fails only when memory runs out.
 fn select_of(alloc: Global, key: &str, value: &Value) -> Result<Option<Select>, NoMemory>
     ensures told { IfOk result
         (λ read. IfSome read (λ select. one_member key.now (view value.now) ≡ select_data select)) }
@@ -70,8 +70,8 @@ fn select_of(alloc: Global, key: &str, value: &Value) -> Result<Option<Select>, 
     }
 }
 
-/// The selector that stands at a key of an object; none where there is none, or none within its limits. It fails
-/// only where memory is refused.
+/// The selector at a key of an object; `None` if there is none, or none within its limits. It
+/// fails only when memory runs out.
 pub(crate) fn select_at(alloc: Global, value: &Value, key: &str) -> Result<Option<Select>, NoMemory>
     ensures told { IfOk result
         (λ read. IfSome read (λ select. get key.now (view value.now) ≡ Some (select_data select))) }

@@ -10,7 +10,7 @@ use std::alloc::{Alloc, Global};
 use std::test::Fail;
 use std::{env, fs};
 
-/// A run whose output does not take the first write, and would take all others.
+/// A run whose output refuses the first write, and would take all others.
 struct Stumble {
     label: &'static str,
     words: &'static [&'static str],
@@ -60,7 +60,7 @@ const STUMBLES: [Stumble; 8] = [
     },
 ];
 
-/// What a run on an image left behind whose output stumbles.
+/// What a run on an image leaves if its output stumbles.
 fn run_stumbling(alloc: Global, case: &Stumble, mut image: &[u8]) -> Ran {
     let mut output = Stumbling {
         first: Some(case.first),
@@ -111,7 +111,7 @@ fn the_machine_reads_no_folder_and_no_more_than_an_image(rt: HostRuntime) {
     }
 }
 
-/// The path of a new file in the folder for what tests make, which is empty.
+/// The path of a new, empty file in the folder of the tests.
 fn fresh_path(rt: &HostRuntime) -> Result<String, Fail> {
     let folder = match env::var(rt, "TMPDIR") {
         Ok(folder) => folder,

@@ -1,5 +1,5 @@
-//! Stores whose disk fails from some call on, so that the desk is unavailable: what `import`, `export` and `check`
-//! write and tell, for every seventh call at which it may begin.
+//! Stores whose disk fails from some call on, so that the desk is unavailable: what `import`,
+//! `export` and `check` write, for every seventh call at which the disk may begin to fail.
 
 use super::Ran;
 use super::fakes::{Museum, Sheet};
@@ -16,7 +16,7 @@ use std::test::Fail;
 /// A database on a disk in memory that fails after so many calls.
 type Failing = FileStore<Fuse<Memory>>;
 
-/// A new database, of which two pages are kept in memory; `None` where it cannot be opened.
+/// A new database that keeps two pages in memory; `None` if it cannot be opened.
 fn connection(alloc: Global, calls: u64) -> Option<Connection<Failing>> {
     let log = Fuse::new(Memory::new(alloc), calls);
     let db = Fuse::new(Memory::new(alloc), calls);
@@ -30,8 +30,8 @@ fn connection(alloc: Global, calls: u64) -> Option<Connection<Failing>> {
     Connection::open_files(alloc, Files { log, db }, options).ok()
 }
 
-/// A run: its name, what is done to the store before it, the words and the sheet; its status and its output, and what
-/// may be written of that where the desk is unavailable.
+/// A run: its name, what changes the store before it, the words and the sheet; its status and its
+/// output, and the part of that output that it may write if the desk is unavailable.
 #[derive(Clone, Copy)]
 struct Trial {
     label: &'static str,
@@ -53,7 +53,7 @@ const INIT: Trial = Trial {
     fronts: &[""],
 };
 
-/// An `import` of accession 12 under a deed that is given before it, and of a row that is none.
+/// An `import` of accession 12 under a deed put before it, and of a bad row.
 const FIRST: Trial = like!(Trial, INIT,
     label: "import",
     sql: "INSERT INTO deed VALUES (7, 'A. Curator', 18020); INSERT INTO rule VALUES (1, 7, 20, 1, NULL, NULL, 0, 0, '', 2)",
@@ -91,7 +91,7 @@ const TRIALS: [Trial; 5] = [INIT, FIRST, SECOND, EXPORT, CHECK];
 /// What the clock of the museum shows.
 const MOMENT: i64 = 1_893_452_400;
 
-/// Does to the store of a museum what is done before a run, and says whether it was done.
+/// Changes the store of a museum before a run, and gives whether that succeeded.
 fn is_changed(museum: &mut Museum<Failing>, trial: &Trial) -> bool {
     match &mut museum.conn {
         Some(conn) => conn.execute_batch(trial.sql).is_ok(),
@@ -114,7 +114,7 @@ fn ran(alloc: Global, museum: &mut Museum<Failing>, trial: &Trial) -> Ran {
     }
 }
 
-/// The run left this status, and wrote and told these texts.
+/// Whether the run ended with this status, and wrote these texts to its output and its errors.
 fn is_left(ran: &Ran, status: u8, output: &str, errors: &str) -> bool {
     ran.status == status
         && ran.output.as_slice() == output.as_bytes()
@@ -124,7 +124,7 @@ fn is_left(ran: &Ran, status: u8, output: &str, errors: &str) -> bool {
 /// How the runs ended.
 #[derive(Clone, Copy, PartialEq, Eq)]
 enum Ended {
-    /// All as ever.
+    /// All as usual.
     Whole,
     /// Before a desk was open.
     Unopened,
@@ -132,7 +132,8 @@ enum Ended {
     Unavailable(usize),
 }
 
-/// The runs on a museum whose disk fails after so many calls end as ever, up to one that tells of the store.
+/// The runs on a museum whose disk fails after so many calls end as usual, up to one that reports
+/// the store.
 fn assert_trials(rt: &impl Abort, alloc: Global, calls: u64) -> Result<Ended, Fail> {
     let Some(conn) = connection(alloc, calls) else {
         return Ok(Ended::Unopened);

@@ -147,7 +147,7 @@ pub(crate) const SHEET: &str = "images.csv";
 pub(crate) enum Sheet {
     /// Texts, one after the other.
     Texts(&'static [&'static str]),
-    /// It is not given.
+    /// The machine does not give it.
     Fails(MachineFault),
 }
 
@@ -167,8 +167,8 @@ fn image_at(alloc: Global, path: &str) -> Result<Vec<u8>, MachineFault> {
     one_program(alloc).map_err(|_| MachineFault::NoMemory)
 }
 
-/// A machine with one store, which stays between runs, with the file of one image, and with visits to come. The store
-/// is in memory where no type says otherwise.
+/// A machine with one store, which stays between runs, with the file of one image, and with visits
+/// to come. The store is in memory unless a type says otherwise.
 #[derive(Drop)]
 pub(crate) struct Museum<S: Alter + Drop = MemStore> {
     /// The store; `None` while a command has it.
@@ -176,7 +176,7 @@ pub(crate) struct Museum<S: Alter + Drop = MemStore> {
     pub(crate) door: MemoryDoor,
     /// What the clock shows.
     pub(crate) moment: Result<i64, MachineFault>,
-    /// Whether it was read.
+    /// Whether the program has read the clock.
     pub(crate) is_clock_read: bool,
     pub(crate) sheet: Sheet,
 }
@@ -204,7 +204,8 @@ impl<S: Alter + Drop> Machine for Museum<S> {
         }
     }
 
-    /// It fails at a path of no store too, and where the store was not given back, or inside a transaction.
+    /// It also fails at a path without a store, and if the store has not come back, or is inside a
+    /// transaction.
     fn connect(&mut self, path: &str) -> Result<Connection<S>, MachineFault> {
         if path != STORE {
             return Err(MachineFault::Failed);

@@ -1,4 +1,4 @@
-//! A museum: a machine with one store, and what is asked of it between runs.
+//! A museum: a machine with one store, and questions to the store between runs.
 
 use super::fakes::{Museum, Sheet};
 use rd_http::MemoryDoor;
@@ -32,8 +32,8 @@ fn put_bytes(conn: &mut Connection<MemStore>, bytes: &[u8]) -> Result<usize, Err
     conn.execute("UPDATE image SET bytes = ?1 WHERE acc = 12", params![bytes])
 }
 
-/// Writes over the image that the store of a museum has as accession 12, which is the disk with the program
-/// `HELLO`, from a byte on. Says whether it was done.
+/// Writes over the image that the store of a museum has as accession 12, which is the disk with
+/// the program `HELLO`, from a byte on. Gives whether that succeeded.
 pub(super) fn write_over(alloc: Global, museum: &mut Museum, place: usize, bytes: &[u8]) -> bool {
     let Ok(mut image) = one_program(alloc) else {
         return false;
@@ -56,8 +56,8 @@ fn first_text(row: &Row) -> Result<String, Error> {
     row.get(0)
 }
 
-/// What the store of a museum has recorded of checks: of each the accession, the day and the outcome. `None` where
-/// it cannot be read.
+/// The checks that the store of a museum has recorded: the accession, the day and the outcome of
+/// each. `None` if it cannot be read.
 pub(super) fn recorded(alloc: Global, museum: &mut Museum) -> Option<String> {
     let rows = rows_of(museum.conn.as_mut()?).ok()?;
     let mut told = String::new(alloc);

@@ -1,0 +1,110 @@
+#!/usr/bin/env python3
+"""scripts/refusals-agree.py: compares the refusals in three places, and fails where one place lacks one.
+
+The places are the sources of the crates, the table of refusals in docs/FORMATS.md, and the words of both pages in
+web/shared.js. Of each name it also compares status and body, or the line that the program writes. You need Python 3
+with its standard library alone."""
+
+import pathlib
+import re
+import sys
+
+ROOT = pathlib.Path(__file__).resolve().parent.parent
+PROGRAM = "crates/rd_program/src/refusal.rt"
+DESK = "crates/rd_desk/src/refusal.rt"
+VISIT = "crates/rd_http/src/fault.rt"
+# Replies and lines that stand in the code by themselves.
+UNAVAILABLE = "crates/rd_desk/src/json.rt", r'fixed_reply\((\d+), "\{\\"error\\":\\"(unavailable)\\"\}"\)'
+BAD_ROW = "crates/rd_program/src/import.rt", r'"row \{number\} (bad-row)\\n"'
+FORMATS = "docs/FORMATS.md"
+PAGES = "web/shared.js"
+# The table's first cell of a connection that is lost, and the status by which the pages know it.
+LOST = "no reply", "0"
+
+
+def text(path):
+    return (ROOT / path).read_text()
+
+
+def arms(code, function):
+    """The arms of a function's match: the cases before each arrow, and what stands behind it."""
+    body = re.search(rf"fn {function}\(.*?\n    }}\n", code, re.S).group()
+    found = re.findall(r"((?:\|?\s*\w+::\w+(?:\([^)]*\))?\s*)+)=> ([^,]+),", body)
+    return [(re.findall(r"\w+::(\w+)", cases), value) for cases, value in found]
+
+
+def by_name(path, named, pattern):
+    """The statuses of a source's refusals, by their names. A function gives each name, in a pattern."""
+    code = text(path)
+    statuses = {case: value for cases, value in arms(code, "status") for case in cases}
+    names = {case: re.search(pattern, value).group(1) for cases, value in arms(code, named) for case in cases}
+    return {name: statuses.get(case) for case, name in names.items()}
+
+
+def in_sources():
+    """All refusals of the code by their names: the statuses over HTTP, and those with which the program ends."""
+    status, name = re.search(UNAVAILABLE[1], text(UNAVAILABLE[0])).groups()
+    replied = by_name(VISIT, "body", r'\\"error\\":\\"([a-z-]+)\\"')
+    replied |= by_name(DESK, "name", r'"([a-z-]+)"') | {name: status}
+    ends = by_name(PROGRAM, "name", r'"([a-z-]+)(?: [A-Z]0)?"')
+    return replied, ends | {re.search(BAD_ROW[1], text(BAD_ROW[0])).group(1): "1"}
+
+
+def in_table():
+    """The rows of the table of refusals, by their names: status and body."""
+    part = text(FORMATS).partition("\n## Refusals\n")[2].partition("\n### ")[0]
+    rows = [line.strip("|").split(" | ") for line in part.splitlines() if line.startswith("| ")][1:]
+    return {row[0].strip(" `"): (row[1], row[2]) for row in rows}
+
+
+def on_pages(name):
+    """The keys of a table of words in web/shared.js."""
+    block = re.search(rf"^const {name} = {{\n(.*?)^}};", text(PAGES), re.S | re.M).group(1)
+    return re.findall(r'^  "?([a-z0-9-]+)"?:', block, re.M)
+
+
+def lacking(label, wanted, place, there):
+    return [f"{label} {name}: {place} lacks it" for name in wanted if name not in there]
+
+
+def wrong_row(name, row, status, end):
+    """Whether a row says another status or another body than the code."""
+    wanted = [*([status] if status else []), *([f"exit {end}"] if end else [])]
+    line = {"bad-row": "row 3 bad-row"}.get(name, f"desk: {name}")
+    shown = f'{{"error":"{name}"' if status else line
+    return row[0] != ", ".join(wanted) or shown not in row[1]
+
+
+def faults():
+    """What does not agree, a line for each."""
+    replied, ends = in_sources()
+    table = in_table()
+    numbers = [LOST[1] if name == LOST[0] else name for name in table if name == LOST[0] or name.isdigit()]
+    names = [name for name in table if name != LOST[0] and not name.isdigit()]
+    told = on_pages("STATUSES")
+    rows = [name for name in names if name in {**replied, **ends}]
+    return [
+        *lacking("refusal", {**replied, **ends}, FORMATS, names),
+        *lacking("refusal", names, "the code", {**replied, **ends}),
+        *lacking("refusal", replied, PAGES, on_pages("REFUSALS")),
+        *lacking("refusal", on_pages("REFUSALS"), "the code", replied),
+        *lacking("status", numbers, PAGES, told),
+        *lacking("status", [key for key in told if key.isdigit()], FORMATS, [*numbers, *replied.values()]),
+        *[
+            f"refusal {name}: {FORMATS} has another status or body than the code"
+            for name in rows
+            if wrong_row(name, table[name], replied.get(name), ends.get(name))
+        ],
+    ]
+
+
+def main():
+    found = faults()
+    for fault in found:
+        print(fault)
+    replied, ends = in_sources()
+    print(f"{len(replied)} refusals over HTTP and {len(ends)} of the program: {len(found)} do not agree")
+    sys.exit(1 if found else 0)
+
+
+main()
