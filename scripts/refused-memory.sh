@@ -6,10 +6,12 @@
 set -u
 cd "$(dirname "$0")/.." || exit 1
 work=$(mktemp -d) || exit 1
-trap 'rm -rf "$work"' EXIT
+# The store, which is written thousands of times: in memory if the system has a folder there, and else beside the rest.
+room=$(mktemp -d -p /dev/shm 2>/dev/null) || room=$work
+trap 'rm -rf "$work" "$room"' EXIT
 gcc -O2 -shared -fPIC -o "$work/refuse.so" scripts/refuse.c -ldl || exit 1
 cp crates/rd_main/out/rd_main "$work/desk" && cp crates/rd_main/stdin "$work/image" || exit 1
-store=$work/store port=$((20000 + RANDOM % 10000))
+store=$room/store port=$((20000 + RANDOM % 10000))
 when=(--at 1893452400 --zone "CET-1CEST,M3.5.0,M10.5.0/3")
 passed=0 failed=0 at=0
 
@@ -81,25 +83,24 @@ cats() {
     fi
 }
 
-# begins FILE: the store is a copy of this file, or is not there where the file is not
-begins() {
-    rm -f "$store" "$store"-*
-    [ ! -e "$1" ] || cp "$1" "$store"
-}
-
-# dump FILE: all that a store holds, as statements
-dump() {
-    sqlite3 -batch -bail "$1" .dump 2>&1
-}
-
-# holds FILE: the store, with its log, holds what this file holds; sqlite3 reads copies, since it may change what it reads
-holds() {
+# copy FILE TO: makes TO the store FILE, a file and its log; or none, if FILE is not there
+copy() {
     local end
-    rm -f "$work/copy" "$work/copy"-*
+    rm -f "$2" "$2"-*
     for end in "" -wal; do
-        [ ! -e "$store$end" ] || cp "$store$end" "$work/copy$end"
+        [ ! -e "$1$end" ] || cp "$1$end" "$2$end"
     done
-    cmp -s <(dump "$work/copy") "$1.sql"
+}
+
+# dump FILE: all that a copy of a store holds, as statements; sqlite3 may change what it reads
+dump() {
+    copy "$1" "$room/copy"
+    sqlite3 -batch -bail "$room/copy" .dump 2>&1
+}
+
+# holds FILE: the store holds what this one holds
+holds() {
+    cmp -s <(dump "$store") "$1.sql"
 }
 
 # over BEFORE AFTER TEXT COMMAND..: over a copy of the store BEFORE the command writes the text and makes of it the store
@@ -108,7 +109,7 @@ holds() {
 over() {
     local before=$1 after=$2 text=$3
     shift 3
-    begins "$before"
+    copy "$before" "$store"
     run refused "$@"
     if ! ended "$text"; then
         was_refused && { wrote "" || wrote "${first:-}"; } && holds "$before" || { odd; return; }
@@ -120,7 +121,7 @@ over() {
 
 # imports: the same of an import, but a row that it took in stays, whether it said so or not
 imports() {
-    begins "$work/ruled"
+    copy "$work/ruled" "$store"
     run refused "${import[@]}"
     if ! ended "12 done"; then
         was_refused && { wrote "" || wrote "12 done"; } || { odd; return; }
@@ -135,9 +136,9 @@ imports() {
 makes() {
     local name=$1 before=$2 text=$3
     shift 3
-    begins "$before"
+    copy "$before" "$store"
     run "$@"
-    ended "$text" && [ ! -s "$store-wal" ] && cp "$store" "$work/$name" && dump "$work/$name" >"$work/$name.sql"
+    ended "$text" && copy "$store" "$work/$name" && dump "$work/$name" >"$work/$name.sql"
 }
 
 for crate in rd_policy_tests rd_rows_tests rd_store_tests rd_desk_tests rd_http_tests rd_main; do
@@ -158,7 +159,7 @@ table='accession,deed,kind,slot,user,name,type,size,faults,rule,effect
 12,7,cpm8,0,0,HELLO.TXT,TXT,128,,R7.20,read'
 rows="INSERT INTO deed VALUES (7, 'A. Curator', 18020); INSERT INTO rule VALUES (1, 7, 20, 7, NULL, NULL, 0, 0, '', 2)"
 printf 'accession,kind,deed,sha256,file\n12,cpm8,7,%s,%s\n' "$(sha256sum <"$work/image" | cut -c 1-64)" "$work/image" >"$work/sheet"
-dump "$work/copy" >"$work/none.sql"
+dump "$work/none" >"$work/none.sql"
 makes made "$work/none" "done" "${init[@]}" &&
     makes ruled "$work/made" "" sqlite3 -batch -bail "$store" "$rows" &&
     makes filled "$work/ruled" "12 done" "${import[@]}" &&
