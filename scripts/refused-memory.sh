@@ -6,10 +6,12 @@
 set -u
 cd "$(dirname "$0")/.." || exit 1
 work=$(mktemp -d) || exit 1
-trap 'rm -rf "$work"' EXIT
+# The store, which is written thousands of times: in memory if the system has a folder there, and else beside the rest.
+room=$(mktemp -d -p /dev/shm 2>/dev/null) || room=$work
+trap 'rm -rf "$work" "$room"' EXIT
 gcc -O2 -shared -fPIC -o "$work/refuse.so" scripts/refuse.c -ldl || exit 1
 cp crates/rd_main/out/rd_main "$work/desk" && cp crates/rd_main/stdin "$work/image" || exit 1
-store=$work/store port=$((20000 + RANDOM % 10000))
+store=$room/now/museum.sqlite port=$((20000 + RANDOM % 10000))
 when=(--at 1893452400 --zone "CET-1CEST,M3.5.0,M10.5.0/3")
 passed=0 failed=0 at=0
 
@@ -56,50 +58,51 @@ odd() {
     return 1
 }
 
-# wrote TEXT: what was run wrote this text, or nothing where it is empty
+# has FILE TEXT: the file has this text as its lines, or is empty if the text is
+has() {
+    local read
+    IFS= read -r -d '' read <"$1"
+    [ "$read" = "${2:+$2$'\n'}" ]
+}
+
+# wrote TEXT: what was run wrote this text, or nothing if it is empty
 wrote() {
-    { [ -z "$1" ] || printf '%s\n' "$1"; } | cmp -s - "$work/stdout"
+    has "$work/stdout" "$1"
 }
 
 # ended TEXT: it ended well, wrote this text and told nothing
 ended() {
-    [ "$status" -eq 0 ] && wrote "$1" && [ ! -s "$work/stderr" ]
+    [ "$status" -eq 0 ] && wrote "$1" && has "$work/stderr" ""
 }
 
-# was_refused: it told that memory was refused, as the program tells it or as its store does, which cannot tell why
+# was_refused: it says that memory was refused, or that its store failed, which cannot tell why
 was_refused() {
-    [ "$status" -eq 3 ] && [[ $(cat "$work/stderr") =~ ^'desk: '(no-memory|store)$ ]]
+    [ "$status" -eq 3 ] && { has "$work/stderr" "desk: no-memory" || has "$work/stderr" "desk: store"; }
 }
 
 # cats IMAGE: the program writes the file, or says that memory was refused and writes nothing
 cats() {
     run refused "$work/desk" cat cpm8 "$1" 0 <"$work/image"
     if [ "$status" -eq 0 ]; then
-        cmp -s "$work/stdout" crates/rd_main/stdout && [ ! -s "$work/stderr" ] || odd
+        cmp -s "$work/stdout" crates/rd_main/stdout && has "$work/stderr" "" || odd
     else
-        [ "$status" -eq 3 ] && wrote "" && [ "$(cat "$work/stderr")" = "desk: no-memory" ] || odd
+        [ "$status" -eq 3 ] && wrote "" && has "$work/stderr" "desk: no-memory" || odd
     fi
 }
 
-# begins FILE: the store is a copy of this file, or is not there where the file is not
-begins() {
-    rm -f "$store" "$store"-*
-    [ ! -e "$1" ] || cp "$1" "$store"
+# copy FROM TO: makes TO the folder FROM, with the file of a store and its log if they are there
+copy() {
+    rm -rf "$2" && cp -r "$1" "$2"
 }
 
-# dump FILE: all that a store holds, as statements
+# dump FOLDER: all that a copy of the store there holds, as statements; sqlite3 may change what it reads
 dump() {
-    sqlite3 -batch -bail "$1" .dump 2>&1
+    copy "$1" "$room/copy" && sqlite3 -batch -bail "$room/copy/museum.sqlite" .dump 2>&1
 }
 
-# holds FILE: the store, with its log, holds what this file holds; sqlite3 reads copies, since it may change what it reads
+# holds FOLDER: the store holds what the one there holds
 holds() {
-    local end
-    rm -f "$work/copy" "$work/copy"-*
-    for end in "" -wal; do
-        [ ! -e "$store$end" ] || cp "$store$end" "$work/copy$end"
-    done
-    cmp -s <(dump "$work/copy") "$1.sql"
+    cmp -s <(dump "$room/now") "$1.sql"
 }
 
 # over BEFORE AFTER TEXT COMMAND..: over a copy of the store BEFORE the command writes the text and makes of it the store
@@ -108,7 +111,7 @@ holds() {
 over() {
     local before=$1 after=$2 text=$3
     shift 3
-    begins "$before"
+    copy "$before" "$room/now"
     run refused "$@"
     if ! ended "$text"; then
         was_refused && { wrote "" || wrote "${first:-}"; } && holds "$before" || { odd; return; }
@@ -120,7 +123,7 @@ over() {
 
 # imports: the same of an import, but a row that it took in stays, whether it said so or not
 imports() {
-    begins "$work/ruled"
+    copy "$work/ruled" "$room/now"
     run refused "${import[@]}"
     if ! ended "12 done"; then
         was_refused && { wrote "" || wrote "12 done"; } || { odd; return; }
@@ -135,9 +138,9 @@ imports() {
 makes() {
     local name=$1 before=$2 text=$3
     shift 3
-    begins "$before"
+    copy "$before" "$room/now"
     run "$@"
-    ended "$text" && [ ! -s "$store-wal" ] && cp "$store" "$work/$name" && dump "$work/$name" >"$work/$name.sql"
+    ended "$text" && copy "$room/now" "$work/$name" && dump "$work/$name" >"$work/$name.sql"
 }
 
 for crate in rd_policy_tests rd_rows_tests rd_store_tests rd_desk_tests rd_http_tests rd_main; do
@@ -158,7 +161,7 @@ table='accession,deed,kind,slot,user,name,type,size,faults,rule,effect
 12,7,cpm8,0,0,HELLO.TXT,TXT,128,,R7.20,read'
 rows="INSERT INTO deed VALUES (7, 'A. Curator', 18020); INSERT INTO rule VALUES (1, 7, 20, 7, NULL, NULL, 0, 0, '', 2)"
 printf 'accession,kind,deed,sha256,file\n12,cpm8,7,%s,%s\n' "$(sha256sum <"$work/image" | cut -c 1-64)" "$work/image" >"$work/sheet"
-dump "$work/copy" >"$work/none.sql"
+mkdir "$work/none" && dump "$work/none" >"$work/none.sql"
 makes made "$work/none" "done" "${init[@]}" &&
     makes ruled "$work/made" "" sqlite3 -batch -bail "$store" "$rows" &&
     makes filled "$work/ruled" "12 done" "${import[@]}" &&
