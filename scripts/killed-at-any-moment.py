@@ -1,0 +1,385 @@
+#!/usr/bin/env python3
+"""scripts/killed-at-any-moment.py [--seed N] [--kills N] [PROGRAM]: kills a desk 200 times while it works, and looks
+whether anything is lost that it called done.
+
+A museum takes in a sheet of 40 disks by `desk import`, and in between commands of all kinds by `desk serve`: deeds,
+rules, takedowns, keys, images, drops and checks. `kill -9` ends each run, of `serve` and of `import` in turn, at a
+random moment: mostly while a command is at work, sometimes while the store is opened. The next run goes on with that
+store, until all 40 disks are in and a new museum begins.
+
+After each kill the shell `sqlite3` has to find `PRAGMA integrity_check` ok in a copy of the store, and SQLite has to
+read there what a model in plain Python says: all of each command whose reply `{"done":true}` was read, and of each row
+whose line `<accession> done` was read. The command that was cut off is there whole or not at all, as an image with all
+its files in the index. Then `desk export` opens the store itself, and has to write the catalogue of the model.
+
+This shows what a kill leaves on the file system of this machine, and not what a loss of power leaves: after a kill the
+system still has all that the desk wrote.
+
+At the end the script says how many kills fell before the first command of a run, within one, and after the last. If
+fewer than half fell within one, it fails. The seed decides which commands come and when a run is killed; how far the
+run is by then depends on the machine. You need Python 3 with its standard library alone, its SQLite of 3.37 or later,
+the shell `sqlite3`, and Linux. PROGRAM is crates/rd_main/out/rd_main of this repository where none is named."""
+
+import argparse
+import collections
+import contextlib
+import datetime
+import os
+import random
+import shutil
+import signal
+import sqlite3
+import statistics
+import subprocess
+import sys
+import tempfile
+import threading
+import time
+
+import tools
+
+from client_cases import LIMIT, PROGRAM, STAFF, digest, put, put_image
+from clients import Serving, by_socket, noon_zone
+from desk_by_hand import SIZES
+from made_commands import NAMES, Chance, Museum
+from made_disks import MAKERS, KnownDisks
+from reading_room import Seen
+
+DEEDS, ROWS, OTHERS = range(1, 4), range(101, 141), range(16)
+# How often a run is killed while it opens the store, and at which of its commands it is killed at the latest.
+EARLY, LATEST = 0.1, 8
+# Of how many of the last things of a sort the median says how long one takes, and how long one takes at first.
+RECENT, FIRST = 15, 0.05
+# Longer bytes are compared by their SHA-256.
+SHORT = 64
+BEFORE, WITHIN, AFTER = "before the first command", "within a command", "after the last"
+THERE, NOT_THERE, NOTHING, INSIDE = "is there", "is not there", "would change nothing", "the log ends inside a change"
+
+# A run that was killed: when, and the command that was cut off, if any.
+Killed = collections.namedtuple("Killed", "when cut", defaults=(None,))
+
+
+class Moments:
+    """Chooses how long after the begin of something a kill comes, by how long such things take."""
+
+    def __init__(self, chance):
+        self.chance = chance
+        self.taken = collections.defaultdict(list)
+
+    def note(self, name, seconds):
+        self.taken[name].append(seconds)
+
+    def any(self, name):
+        return self.chance.uniform(0, 1.1 * statistics.median(self.taken[name][-RECENT:] or [FIRST]))
+
+
+class Kill:
+    """Kills a process some seconds after it is asked to."""
+
+    def __init__(self, process):
+        self.process = process
+        self.timer = None
+
+    def __enter__(self):
+        return self
+
+    def __exit__(self, *_):
+        if self.timer:
+            self.timer.cancel()
+            self.timer.join()
+
+    def after(self, seconds):
+        self.timer = threading.Timer(seconds, self.process.kill)
+        self.timer.start()
+
+
+def ran(*words):
+    """How a program ends: its status, and what it writes to its standard output and errors."""
+    ended = subprocess.run(words, stdin=subprocess.DEVNULL, capture_output=True, timeout=LIMIT)
+    return ended.returncode, ended.stdout, ended.stderr
+
+
+# Stores
+
+
+def remove(store):
+    """Removes a store and what lies beside it, where they are."""
+    for suffix in ("", "-wal", "-shm"):
+        with contextlib.suppress(FileNotFoundError):
+            os.remove(store + suffix)
+
+
+def copied(store, copy):
+    """The path of a copy of a store, made in the place of an older one."""
+    remove(copy)
+    shutil.copyfile(store, copy)
+    if os.path.exists(store + "-wal"):
+        shutil.copyfile(store + "-wal", copy + "-wal")
+    return copy
+
+
+def rows_of(store):
+    """The rows of each table, in the order of their keys; or how SQLite fails to read them."""
+    try:
+        with contextlib.closing(sqlite3.connect(store)) as connection:
+            names = connection.execute("SELECT name FROM sqlite_schema WHERE type = 'table'").fetchall()
+            return {name: sorted(connection.execute(f"SELECT * FROM {name}")) for (name,) in names}
+    except sqlite3.Error as fault:
+        return {"fault": [(repr(fault),)]}
+
+
+def brief(tables):
+    """All rows, each behind the name of its table."""
+    return {(table, *map(brief_cell, row)) for table, rows in tables.items() for row in rows}
+
+
+def brief_cell(cell):
+    return digest(cell) if isinstance(cell, bytes) and len(cell) > SHORT else cell
+
+
+def ends_inside(log):
+    """Whether a log ends with pages of a change that was not committed: the last has no size of the database, or the
+    first byte of the log's salt does not stand in the first."""
+    data = tools.bytes_of(log) if os.path.exists(log) else b""
+    step, salt, is_shut, is_inside = 24 + int.from_bytes(data[8:12], "big"), data[16:24], False, False
+    for place in range(32, len(data), step):
+        if data[place + 9 : place + 16] != salt[1:]:
+            break
+        is_shut = is_shut or data[place + 8] != salt[0]
+        is_inside = is_shut or not any(data[place + 4 : place + 8])
+    return is_inside
+
+
+def shown(rows):
+    """How many rows there are, and the front of one."""
+    return f"{len(rows)}, as {repr(min(rows, key=repr))[:200]}" if rows else "none"
+
+
+# Runs that are killed
+
+
+def deed_of(acc):
+    return DEEDS[acc % len(DEEDS)]
+
+
+class Stage:
+    """The program, a museum and its store, and what was seen so far."""
+
+    def __init__(self, program, folder, seed):
+        self.program, self.folder = program, folder
+        self.store, self.copy, self.sheet = map(self.path, ("museum.sqlite", "copy.sqlite", "sheet.csv"))
+        self.chance = random.Random(seed)
+        rows, others = self.made(ROWS), self.made(OTHERS)
+        self.rows = dict(zip(ROWS, rows))
+        self.disks, self.commands = KnownDisks(rows + others), Chance(self.chance, others)
+        self.moments, self.seen, self.zone = Moments(self.chance), Seen(), noon_zone()
+        self.kills, self.fates, self.done = collections.Counter(), collections.Counter(), collections.Counter()
+        self.museum, self.museums, self.is_right = None, 0, False
+        self.write_sheet()
+
+    def same(self, what, wanted, came):
+        self.seen.same(f"{'import' if self.is_import() else 'serve'} {self.kills.total() + 1}, {what}", wanted, came)
+
+    def is_import(self):
+        """Whether the next run to be killed is one of `import`."""
+        return self.kills.total() % 2 == 1
+
+    def path(self, name):
+        return os.path.join(self.folder, name)
+
+    def made(self, numbers):
+        """Disks of all kinds in turn."""
+        kinds = list(SIZES)
+        return [MAKERS[kinds[number % len(kinds)]](self.chance) for number in numbers]
+
+    def write_sheet(self):
+        lines = ["accession,kind,deed,sha256,file"]
+        for acc, disk in self.rows.items():
+            path = self.path(f"{acc}.img")
+            tools.write(path, disk.bytes)
+            lines.append(f"{acc},{disk.kind},{deed_of(acc)},{digest(disk.bytes)},{path}")
+        tools.write(self.sheet, "\n".join(lines).encode())
+
+    def begin(self):
+        """A new museum, with some deeds in its store."""
+        remove(self.store)
+        self.same("init", (0, b"done\n", b""), ran(self.program, "init", "--store", self.store, "--key", STAFF))
+        today = datetime.datetime.now(datetime.timezone.utc).date().isoformat()
+        self.museum = Museum(self.disks, today, {"desk": rows_of(copied(self.store, self.copy))["desk"]})
+        self.museums += 1
+        with self.serving() as serving:
+            serving.listens()
+            for num in DEEDS:
+                deed = self.museum.command(put(f"/deeds/{num}", {"donor": "D", "signed": "2019-05-04"}))
+                self.same(f"deed {num}", True, self.visit(serving, deed))
+
+    def serving(self):
+        return Serving(self.program, self.store, 1000000, ("--zone", self.zone))
+
+    def take(self, command):
+        """A command is done."""
+        self.done[command.name] += 1
+        command.change()
+
+    def kill_once(self):
+        """Kills a run, and looks at the store. Where that was wrong, or all rows are in, a new museum begins first."""
+        if not self.is_right or ROWS[-1] in self.museum.images:
+            self.begin()
+        killed = self.in_import() if self.is_import() else self.in_serve()
+        self.is_right = self.look(killed.cut)
+        self.kills.update([killed.when] if killed.when else [])
+
+    def any_last(self):
+        """At which command a run is killed, or 0 where that is while it opens the store."""
+        return 0 if self.chance.random() < EARLY else self.chance.randint(1, LATEST)
+
+    # Runs of `serve`
+
+    def in_serve(self):
+        last, begun = self.any_last(), time.monotonic()
+        with self.serving() as serving, Kill(serving.process) as kill:
+            if not last:
+                kill.after(self.moments.any("serve"))
+            if serving.line():
+                self.moments.note("serve", time.monotonic() - begun)
+            killed = self.send(serving, kill, last)
+            self.same("serve ends by the kill", (-signal.SIGKILL, "", ""), serving.end())
+        return killed
+
+    def send(self, serving, kill, last):
+        """Sends commands until one has no whole reply."""
+        heard = 0
+        while True:
+            command = self.commands.any(self.museum)
+            if heard + 1 == last:
+                kill.after(self.moments.any(command.name))
+            is_heard = self.visit(serving, command)
+            if is_heard is None:
+                return Killed(AFTER if heard else BEFORE)
+            if not is_heard:
+                return Killed(WITHIN, command)
+            heard += 1
+
+    def visit(self, serving, command):
+        """Whether the whole reply to a command came; None where nobody listened."""
+        begun = time.monotonic()
+        try:
+            came, _ = by_socket(serving.port, [command.data], None)
+        except ConnectionError:
+            return None
+        if came != command.reply:
+            self.same(f"a front part of the reply to {command.name}", command.reply[: len(came)], came)
+            return False
+        self.moments.note(command.name, time.monotonic() - begun)
+        self.take(command)
+        return True
+
+    # Runs of `import`
+
+    def in_import(self):
+        """When it is None, the run ended before it was killed."""
+        lines, status, errors = self.imported()
+        for acc, line in zip(ROWS, lines):
+            self.same("a line of import", f"{acc} done\n".encode(), line)
+            self.take(self.row(acc))
+        if len(lines) < len(ROWS):
+            self.same("import ends by the kill", (-signal.SIGKILL, b""), (status, errors))
+            return Killed(WITHIN if lines else BEFORE, self.row(ROWS[len(lines)]))
+        self.same("import ends", (True, b""), (status in (0, -signal.SIGKILL), errors))
+        return Killed(AFTER if status else None)
+
+    def row(self, acc):
+        """A row of the sheet, as a command."""
+        disk = self.rows[acc]
+        return self.museum.command(put_image(acc, disk.kind, deed_of(acc), disk.bytes))
+
+    def imported(self):
+        """The whole lines that a run writes, its status and its errors."""
+        words = ["--store", self.store, "--key", STAFF, "--sheet", self.sheet, "--zone", self.zone]
+        streams = {"stdin": subprocess.DEVNULL, "stdout": subprocess.PIPE, "stderr": subprocess.PIPE}
+        with subprocess.Popen([self.program, "import", *words], **streams) as process, Kill(process) as kill:
+            lines = self.hear(process, kill)
+            errors = process.stderr.read()
+        return [line for line in lines if line.endswith(b"\n")], process.returncode, errors
+
+    def hear(self, process, kill):
+        """The lines that a run writes. It is killed while it opens the store, or at one of the next rows."""
+        last, standing = self.any_last(), sum(acc in self.museum.images for acc in ROWS)
+        last = min(standing + last - 1, len(ROWS) - 1) if last else 0
+        lines, begun = [], time.monotonic()
+        if not last:
+            kill.after(self.moments.any("import"))
+        for line in process.stdout:
+            lines.append(line)
+            if len(lines) == last:
+                kill.after(self.moments.any("row"))
+            if len(lines) == 1 or len(lines) > standing:
+                self.moments.note("row" if len(lines) > 1 else "import", time.monotonic() - begun)
+            begun = time.monotonic()
+        return lines
+
+    # What is there
+
+    def look(self, cut):
+        """Whether the store holds what it has to, with the command that was cut off or without it."""
+        failed = self.seen.failed
+        copied(self.store, self.copy)
+        self.fates[INSIDE] += ends_inside(self.copy + "-wal")
+        self.same("the file", (0, b"ok\n", b""), ran("sqlite3", "-batch", self.copy, "PRAGMA integrity_check"))
+        came = brief(rows_of(self.copy))
+        due = self.due(cut, came) if cut else brief(self.museum.rows())
+        self.same("rows that lack", "none", shown(due - came))
+        self.same("rows too many", "none", shown(came - due))
+        words = ["--store", self.store, "--key", STAFF, "--zone", self.zone]
+        self.same("export", (0, self.museum.catalogue(), b""), ran(self.program, "export", *words))
+        return failed == self.seen.failed
+
+    def due(self, cut, came):
+        """The rows that are due: those without the command that was cut off if they came, else those with it."""
+        before, held = brief(self.museum.rows()), self.museum.held()
+        cut.change()
+        after = brief(self.museum.rows())
+        self.fates[NOTHING if before == after else NOT_THERE if came == before else THERE] += 1
+        if came == before:
+            self.museum.hold(held)
+        return before if came == before else after
+
+    def told(self, seed):
+        """Prints what was seen, and gives the status with which the script ends."""
+        count = self.kills.total()
+        kills = ", ".join(f"{self.kills[when]} {when}" for when in (BEFORE, WITHIN, AFTER))
+        print(f"seed {seed}: {count} kills in {self.museums} museums: {kills}")
+        fates = ", ".join(f"{self.fates[fate]} {fate}" for fate in (THERE, NOT_THERE, NOTHING))
+        print(f"the command that was cut off: {fates}; {INSIDE}: {self.fates[INSIDE]}")
+        print("done:", ", ".join(f"{name} {count}" for name, count in sorted(self.done.items())))
+        self.seen.same("half of the kills fall within a command", True, 2 * self.kills[WITHIN] >= count)
+        self.seen.same("commands that were never done", set(), NAMES - set(self.done))
+        return self.seen.told()
+
+
+def arguments():
+    parser = argparse.ArgumentParser()
+    parser.add_argument("--seed", type=int, default=time.time_ns() % 10**6)
+    parser.add_argument("--kills", type=int, default=200)
+    parser.add_argument("program", nargs="?", default=PROGRAM)
+    return parser.parse_args()
+
+
+def main():
+    words = arguments()
+    program = os.path.abspath(words.program)
+    missing = tools.missing([program, "sqlite3"])
+    if missing:
+        sys.exit(f"missing: {' '.join(missing)}")
+    signal.signal(signal.SIGTERM, lambda *_: sys.exit(1))
+    print(f"seed {words.seed}", flush=True)
+    with tempfile.TemporaryDirectory() as folder:
+        stage = Stage(program, folder, words.seed)
+        while stage.kills.total() < words.kills:
+            stage.kill_once()
+        stage.look(None)
+    sys.exit(stage.told(words.seed))
+
+
+if __name__ == "__main__":
+    main()
