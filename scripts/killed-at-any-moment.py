@@ -53,7 +53,7 @@ RECENT, FIRST = 15, 0.05
 # Longer bytes are compared by their SHA-256.
 SHORT = 64
 BEFORE, WITHIN, AFTER = "before the first command", "within a command", "after the last"
-THERE, NOT_THERE, NOTHING, INSIDE = "is there", "is not there", "would change nothing", "the log ends inside a change"
+THERE, NOT_THERE, NOTHING, INSIDE = "is there", "is not there", "would change nothing", "begun in the log"
 
 # A run that was killed: when, and the command that was cut off, if any.
 Killed = collections.namedtuple("Killed", "when cut", defaults=(None,))
@@ -93,39 +93,66 @@ class Kill:
         self.timer.start()
 
 
-def ran(*words):
+# Stores
+
+
+class Store:
+    """The program and the file of its store, of which SQLite reads a copy."""
+
+    def __init__(self, program, folder, zone):
+        self.program = program
+        self.path, self.copy = (os.path.join(folder, name) for name in ("museum.sqlite", "copy.sqlite"))
+        self.zone = ["--zone", zone]
+
+    def words(self, command):
+        return [self.program, command, "--store", self.path, "--key", STAFF]
+
+    def init(self):
+        remove(self.path)
+        return ran(self.words("init"))
+
+    def export(self):
+        return ran([*self.words("export"), *self.zone])
+
+    def serving(self):
+        return Serving(self.program, self.path, 1000000, self.zone)
+
+    def importing(self, sheet):
+        streams = {"stdin": subprocess.DEVNULL, "stdout": subprocess.PIPE, "stderr": subprocess.PIPE}
+        return subprocess.Popen([*self.words("import"), "--sheet", sheet, *self.zone], **streams)
+
+    def copy_it(self):
+        """Copies the file with its log, in the place of an older copy."""
+        remove(self.copy)
+        shutil.copyfile(self.path, self.copy)
+        if os.path.exists(f"{self.path}-wal"):
+            shutil.copyfile(f"{self.path}-wal", f"{self.copy}-wal")
+
+    def integrity(self):
+        """What the shell finds in the copy."""
+        return ran(["sqlite3", "-batch", self.copy, "PRAGMA integrity_check"])
+
+    def rows(self):
+        """The rows of each table of the copy, in the order of their keys; or how SQLite fails to read them."""
+        try:
+            with contextlib.closing(sqlite3.connect(self.copy)) as connection:
+                names = connection.execute("SELECT name FROM sqlite_schema WHERE type = 'table'").fetchall()
+                return {name: sorted(connection.execute(f"SELECT * FROM {name}")) for (name,) in names}
+        except sqlite3.Error as fault:
+            return {"fault": [(repr(fault),)]}
+
+
+def ran(words):
     """How a program ends: its status, and what it writes to its standard output and errors."""
     ended = subprocess.run(words, stdin=subprocess.DEVNULL, capture_output=True, timeout=LIMIT)
     return ended.returncode, ended.stdout, ended.stderr
 
 
-# Stores
-
-
-def remove(store):
+def remove(path):
     """Removes a store and what lies beside it, where they are."""
     for suffix in ("", "-wal", "-shm"):
         with contextlib.suppress(FileNotFoundError):
-            os.remove(store + suffix)
-
-
-def copied(store, copy):
-    """The path of a copy of a store, made in the place of an older one."""
-    remove(copy)
-    shutil.copyfile(store, copy)
-    if os.path.exists(store + "-wal"):
-        shutil.copyfile(store + "-wal", copy + "-wal")
-    return copy
-
-
-def rows_of(store):
-    """The rows of each table, in the order of their keys; or how SQLite fails to read them."""
-    try:
-        with contextlib.closing(sqlite3.connect(store)) as connection:
-            names = connection.execute("SELECT name FROM sqlite_schema WHERE type = 'table'").fetchall()
-            return {name: sorted(connection.execute(f"SELECT * FROM {name}")) for (name,) in names}
-    except sqlite3.Error as fault:
-        return {"fault": [(repr(fault),)]}
+            os.remove(path + suffix)
 
 
 def brief(tables):
@@ -158,63 +185,63 @@ def shown(rows):
 # Runs that are killed
 
 
-def deed_of(acc):
-    return DEEDS[acc % len(DEEDS)]
+class Sheet:
+    """The disks that are imported, as files and a sheet, and as commands of a museum."""
+
+    def __init__(self, folder, disks):
+        self.path = os.path.join(folder, "sheet.csv")
+        self.disks = dict(zip(ROWS, disks))
+        lines = ["accession,kind,deed,sha256,file"]
+        for acc, disk in self.disks.items():
+            path = os.path.join(folder, f"{acc}.img")
+            tools.write(path, disk.bytes)
+            lines.append(f"{acc},{disk.kind},{self.deed(acc)},{digest(disk.bytes)},{path}")
+        tools.write(self.path, "\n".join(lines).encode())
+
+    def deed(self, acc):
+        return DEEDS[acc % len(DEEDS)]
+
+    def command(self, museum, acc):
+        disk = self.disks[acc]
+        return museum.command(put_image(acc, disk.kind, self.deed(acc), disk.bytes))
+
+    def standing(self, museum):
+        """How many of its rows are in."""
+        return sum(acc in museum.images for acc in self.disks)
 
 
 class Stage:
-    """The program, a museum and its store, and what was seen so far."""
+    """A museum and its store, and what was seen so far."""
 
     def __init__(self, program, folder, seed):
-        self.program, self.folder = program, folder
-        self.store, self.copy, self.sheet = map(self.path, ("museum.sqlite", "copy.sqlite", "sheet.csv"))
-        self.chance = random.Random(seed)
+        self.seed, self.chance = seed, random.Random(seed)
         rows, others = self.made(ROWS), self.made(OTHERS)
-        self.rows = dict(zip(ROWS, rows))
+        self.day = datetime.datetime.now(datetime.timezone.utc).date().isoformat()
+        self.sheet, self.store = Sheet(folder, rows), Store(program, folder, noon_zone())
         self.disks, self.commands = KnownDisks(rows + others), Chance(self.chance, others)
-        self.moments, self.seen, self.zone = Moments(self.chance), Seen(), noon_zone()
+        self.moments, self.seen = Moments(self.chance), Seen()
         self.kills, self.fates, self.done = collections.Counter(), collections.Counter(), collections.Counter()
         self.museum, self.museums, self.is_right = None, 0, False
-        self.write_sheet()
-
-    def same(self, what, wanted, came):
-        self.seen.same(f"{'import' if self.is_import() else 'serve'} {self.kills.total() + 1}, {what}", wanted, came)
-
-    def is_import(self):
-        """Whether the next run to be killed is one of `import`."""
-        return self.kills.total() % 2 == 1
-
-    def path(self, name):
-        return os.path.join(self.folder, name)
 
     def made(self, numbers):
         """Disks of all kinds in turn."""
         kinds = list(SIZES)
         return [MAKERS[kinds[number % len(kinds)]](self.chance) for number in numbers]
 
-    def write_sheet(self):
-        lines = ["accession,kind,deed,sha256,file"]
-        for acc, disk in self.rows.items():
-            path = self.path(f"{acc}.img")
-            tools.write(path, disk.bytes)
-            lines.append(f"{acc},{disk.kind},{deed_of(acc)},{digest(disk.bytes)},{path}")
-        tools.write(self.sheet, "\n".join(lines).encode())
+    def same(self, what, wanted, came):
+        self.seen.same(f"run {self.kills.total() + 1}: {what}", wanted, came)
 
     def begin(self):
         """A new museum, with some deeds in its store."""
-        remove(self.store)
-        self.same("init", (0, b"done\n", b""), ran(self.program, "init", "--store", self.store, "--key", STAFF))
-        today = datetime.datetime.now(datetime.timezone.utc).date().isoformat()
-        self.museum = Museum(self.disks, today, {"desk": rows_of(copied(self.store, self.copy))["desk"]})
         self.museums += 1
-        with self.serving() as serving:
+        self.same("init", (0, b"done\n", b""), self.store.init())
+        self.store.copy_it()
+        self.museum = Museum(self.disks, self.day, {"desk": self.store.rows()["desk"]})
+        with self.store.serving() as serving:
             serving.listens()
             for num in DEEDS:
                 deed = self.museum.command(put(f"/deeds/{num}", {"donor": "D", "signed": "2019-05-04"}))
                 self.same(f"deed {num}", True, self.visit(serving, deed))
-
-    def serving(self):
-        return Serving(self.program, self.store, 1000000, ("--zone", self.zone))
 
     def take(self, command):
         """A command is done."""
@@ -223,9 +250,11 @@ class Stage:
 
     def kill_once(self):
         """Kills a run, and looks at the store. Where that was wrong, or all rows are in, a new museum begins first."""
-        if not self.is_right or ROWS[-1] in self.museum.images:
+        number = self.kills.total()
+        self.chance.seed(f"{self.seed} {number}")
+        if not self.is_right or self.sheet.standing(self.museum) == len(ROWS):
             self.begin()
-        killed = self.in_import() if self.is_import() else self.in_serve()
+        killed = self.in_import() if number % 2 else self.in_serve()
         self.is_right = self.look(killed.cut)
         self.kills.update([killed.when] if killed.when else [])
 
@@ -237,7 +266,7 @@ class Stage:
 
     def in_serve(self):
         last, begun = self.any_last(), time.monotonic()
-        with self.serving() as serving, Kill(serving.process) as kill:
+        with self.store.serving() as serving, Kill(serving.process) as kill:
             if not last:
                 kill.after(self.moments.any("serve"))
             if serving.line():
@@ -277,34 +306,27 @@ class Stage:
     # Runs of `import`
 
     def in_import(self):
-        """When it is None, the run ended before it was killed."""
+        """Of a run that ends before it is killed, the moment is None."""
         lines, status, errors = self.imported()
         for acc, line in zip(ROWS, lines):
             self.same("a line of import", f"{acc} done\n".encode(), line)
-            self.take(self.row(acc))
+            self.take(self.sheet.command(self.museum, acc))
         if len(lines) < len(ROWS):
             self.same("import ends by the kill", (-signal.SIGKILL, b""), (status, errors))
-            return Killed(WITHIN if lines else BEFORE, self.row(ROWS[len(lines)]))
+            return Killed(WITHIN if lines else BEFORE, self.sheet.command(self.museum, ROWS[len(lines)]))
         self.same("import ends", (True, b""), (status in (0, -signal.SIGKILL), errors))
         return Killed(AFTER if status else None)
 
-    def row(self, acc):
-        """A row of the sheet, as a command."""
-        disk = self.rows[acc]
-        return self.museum.command(put_image(acc, disk.kind, deed_of(acc), disk.bytes))
-
     def imported(self):
         """The whole lines that a run writes, its status and its errors."""
-        words = ["--store", self.store, "--key", STAFF, "--sheet", self.sheet, "--zone", self.zone]
-        streams = {"stdin": subprocess.DEVNULL, "stdout": subprocess.PIPE, "stderr": subprocess.PIPE}
-        with subprocess.Popen([self.program, "import", *words], **streams) as process, Kill(process) as kill:
+        with self.store.importing(self.sheet.path) as process, Kill(process) as kill:
             lines = self.hear(process, kill)
             errors = process.stderr.read()
         return [line for line in lines if line.endswith(b"\n")], process.returncode, errors
 
     def hear(self, process, kill):
         """The lines that a run writes. It is killed while it opens the store, or at one of the next rows."""
-        last, standing = self.any_last(), sum(acc in self.museum.images for acc in ROWS)
+        last, standing = self.any_last(), self.sheet.standing(self.museum)
         last = min(standing + last - 1, len(ROWS) - 1) if last else 0
         lines, begun = [], time.monotonic()
         if not last:
@@ -320,18 +342,17 @@ class Stage:
 
     # What is there
 
-    def look(self, cut):
+    def look(self, cut=None):
         """Whether the store holds what it has to, with the command that was cut off or without it."""
         failed = self.seen.failed
-        copied(self.store, self.copy)
-        self.fates[INSIDE] += ends_inside(self.copy + "-wal")
-        self.same("the file", (0, b"ok\n", b""), ran("sqlite3", "-batch", self.copy, "PRAGMA integrity_check"))
-        came = brief(rows_of(self.copy))
+        self.store.copy_it()
+        self.fates[INSIDE] += ends_inside(f"{self.store.copy}-wal")
+        self.same("the file", (0, b"ok\n", b""), self.store.integrity())
+        came = brief(self.store.rows())
         due = self.due(cut, came) if cut else brief(self.museum.rows())
         self.same("rows that lack", "none", shown(due - came))
         self.same("rows too many", "none", shown(came - due))
-        words = ["--store", self.store, "--key", STAFF, "--zone", self.zone]
-        self.same("export", (0, self.museum.catalogue(), b""), ran(self.program, "export", *words))
+        self.same("export", (0, self.museum.catalogue(), b""), self.store.export())
         return failed == self.seen.failed
 
     def due(self, cut, came):
@@ -340,17 +361,18 @@ class Stage:
         cut.change()
         after = brief(self.museum.rows())
         self.fates[NOTHING if before == after else NOT_THERE if came == before else THERE] += 1
-        if came == before:
-            self.museum.hold(held)
-        return before if came == before else after
+        if came != before:
+            return after
+        self.museum.hold(held)
+        return before
 
-    def told(self, seed):
+    def told(self):
         """Prints what was seen, and gives the status with which the script ends."""
         count = self.kills.total()
         kills = ", ".join(f"{self.kills[when]} {when}" for when in (BEFORE, WITHIN, AFTER))
-        print(f"seed {seed}: {count} kills in {self.museums} museums: {kills}")
-        fates = ", ".join(f"{self.fates[fate]} {fate}" for fate in (THERE, NOT_THERE, NOTHING))
-        print(f"the command that was cut off: {fates}; {INSIDE}: {self.fates[INSIDE]}")
+        fates = ", ".join(f"{self.fates[fate]} {fate}" for fate in (THERE, NOT_THERE, NOTHING, INSIDE))
+        print(f"{count} kills in {self.museums} museums: {kills}")
+        print(f"the command that was cut off: {fates}")
         print("done:", ", ".join(f"{name} {count}" for name, count in sorted(self.done.items())))
         self.seen.same("half of the kills fall within a command", True, 2 * self.kills[WITHIN] >= count)
         self.seen.same("commands that were never done", set(), NAMES - set(self.done))
@@ -377,8 +399,8 @@ def main():
         stage = Stage(program, folder, words.seed)
         while stage.kills.total() < words.kills:
             stage.kill_once()
-        stage.look(None)
-    sys.exit(stage.told(words.seed))
+        stage.look()
+    sys.exit(stage.told())
 
 
 if __name__ == "__main__":
