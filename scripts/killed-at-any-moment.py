@@ -24,6 +24,7 @@ import argparse
 import collections
 import contextlib
 import datetime
+import functools
 import os
 import random
 import shutil
@@ -53,7 +54,7 @@ RECENT, FIRST = 15, 0.05
 # Longer bytes are compared by their SHA-256.
 SHORT = 64
 BEFORE, WITHIN, AFTER = "before the first command", "within a command", "after the last"
-THERE, NOT_THERE, NOTHING, INSIDE = "is there", "is not there", "would change nothing", "begun in the log"
+THERE, NOT_THERE, NOTHING, INSIDE = "are there", "are not there", "would change nothing", "inside a change"
 
 # A run that was killed: when, and the command that was cut off, if any.
 Killed = collections.namedtuple("Killed", "when cut", defaults=(None,))
@@ -160,6 +161,7 @@ def brief(tables):
     return {(table, *map(brief_cell, row)) for table, rows in tables.items() for row in rows}
 
 
+@functools.lru_cache(maxsize=None)
 def brief_cell(cell):
     return digest(cell) if isinstance(cell, bytes) and len(cell) > SHORT else cell
 
@@ -370,9 +372,9 @@ class Stage:
         """Prints what was seen, and gives the status with which the script ends."""
         count = self.kills.total()
         kills = ", ".join(f"{self.kills[when]} {when}" for when in (BEFORE, WITHIN, AFTER))
-        fates = ", ".join(f"{self.fates[fate]} {fate}" for fate in (THERE, NOT_THERE, NOTHING, INSIDE))
+        fates = ", ".join(f"{self.fates[fate]} {fate}" for fate in (THERE, NOT_THERE, NOTHING))
         print(f"{count} kills in {self.museums} museums: {kills}")
-        print(f"the command that was cut off: {fates}")
+        print(f"of the commands that were cut off, {fates}; {self.fates[INSIDE]} logs end {INSIDE}")
         print("done:", ", ".join(f"{name} {count}" for name, count in sorted(self.done.items())))
         self.seen.same("half of the kills fall within a command", True, 2 * self.kills[WITHIN] >= count)
         self.seen.same("commands that were never done", set(), NAMES - set(self.done))
