@@ -298,8 +298,10 @@ class Stage:
             came, _ = by_socket(serving.port, [command.data], None)
         except ConnectionError:
             return None
+        if not command.reply.startswith(came):
+            self.same(f"the reply to {command.name}", command.reply, came)
+            serving.process.kill()
         if came != command.reply:
-            self.same(f"a front part of the reply to {command.name}", command.reply[: len(came)], came)
             return False
         self.moments.note(command.name, time.monotonic() - begun)
         self.take(command)
@@ -362,7 +364,8 @@ class Stage:
         before, held = brief(self.museum.rows()), self.museum.held()
         cut.change()
         after = brief(self.museum.rows())
-        self.fates[NOTHING if before == after else NOT_THERE if came == before else THERE] += 1
+        fate = NOTHING if before == after else NOT_THERE if came == before else THERE
+        self.fates[fate] += came in (before, after)
         if came != before:
             return after
         self.museum.hold(held)
