@@ -15,9 +15,10 @@ its files in the index. Then `desk export` opens the store itself, and has to wr
 This shows what a kill leaves on the file system of this machine, and not what a loss of power leaves: after a kill the
 system still has all that the desk wrote.
 
-At the end the script says how many kills fell before the first command of a run, within one, and after the last. If
-fewer than half fell within one, it fails. The seed decides which commands come and when a run is killed; how far the
-run is by then depends on the machine. You need Python 3 with its standard library alone, its SQLite of 3.37 or later,
+At the end the script says how many kills fell before the first command of a run, within one, and after the last; how
+many left pages in the log that no commit follows; and how many of the commands that were cut off are there. If fewer
+than half of the kills fell within a command, it fails. The seed decides which commands come and when a run is killed;
+how far the run is by then depends on the machine. You need Python 3 with its standard library alone, its SQLite of 3.37 or later,
 the shell `sqlite3`, and Linux. PROGRAM is crates/rd_main/out/rd_main of this repository where none is named."""
 
 import argparse
@@ -54,7 +55,8 @@ RECENT, FIRST = 15, 0.05
 # Longer bytes are compared by their SHA-256.
 SHORT = 64
 BEFORE, WITHIN, AFTER = "before the first command", "within a command", "after the last"
-THERE, NOT_THERE, NOTHING, INSIDE = "are there", "are not there", "would change nothing", "inside a change"
+INSIDE = "between the first page of a change and its commit"
+THERE, NOT_THERE, NOTHING = "are there", "are not there", "would change nothing"
 
 # A run that was killed: when, and the command that was cut off, if any.
 Killed = collections.namedtuple("Killed", "when cut", defaults=(None,))
@@ -126,8 +128,12 @@ class Store:
         """Copies the file with its log, in the place of an older copy."""
         remove(self.copy)
         shutil.copyfile(self.path, self.copy)
-        if os.path.exists(f"{self.path}-wal"):
-            shutil.copyfile(f"{self.path}-wal", f"{self.copy}-wal")
+        tools.write(f"{self.copy}-wal", self.log())
+
+    def log(self):
+        """The bytes of the log; none where there is no log."""
+        path = f"{self.path}-wal"
+        return tools.bytes_of(path) if os.path.exists(path) else b""
 
     def integrity(self):
         """What the shell finds in the copy."""
@@ -166,22 +172,26 @@ def brief_cell(cell):
     return digest(cell) if isinstance(cell, bytes) and len(cell) > SHORT else cell
 
 
-def ends_inside(log):
-    """Whether a log ends with pages of a change that was not committed: the last has no size of the database, or the
-    first byte of the log's salt does not stand in the first."""
-    data = tools.bytes_of(log) if os.path.exists(log) else b""
-    step, salt, is_shut, is_inside = 24 + int.from_bytes(data[8:12], "big"), data[16:24], False, False
-    for place in range(32, len(data), step):
-        if data[place + 9 : place + 16] != salt[1:]:
+def begun(log):
+    """The pages that a log has of a change that was not committed: none of them has the size of the database, or the
+    first byte of the log's salt does not stand in the first of them."""
+    step, salt, pages, is_shut = 24 + int.from_bytes(log[8:12], "big"), log[16:24], [], False
+    for place in range(32, len(log), step):
+        if log[place + 9 : place + 16] != salt[1:]:
             break
-        is_shut = is_shut or data[place + 8] != salt[0]
-        is_inside = is_shut or not any(data[place + 4 : place + 8])
-    return is_inside
+        is_shut = is_shut or log[place + 8] != salt[0]
+        is_committed = not is_shut and any(log[place + 4 : place + 8])
+        pages = [] if is_committed else [*pages, log[place + 24 : place + step]]
+    return pages
 
 
 def shown(rows):
     """How many rows there are, and the front of one."""
     return f"{len(rows)}, as {repr(min(rows, key=repr))[:200]}" if rows else "none"
+
+
+def listed(counts):
+    return ", ".join(f"{name} {count}" for name, count in sorted(counts.items()))
 
 
 # Runs that are killed
@@ -222,7 +232,7 @@ class Stage:
         self.sheet, self.store = Sheet(folder, rows), Store(program, folder, noon_zone())
         self.disks, self.commands = KnownDisks(rows + others), Chance(self.chance, others)
         self.moments, self.seen = Moments(self.chance), Seen()
-        self.kills, self.fates, self.done = collections.Counter(), collections.Counter(), collections.Counter()
+        self.kills, self.fates, self.done, self.cut = (collections.Counter() for _ in range(4))
         self.museum, self.museums, self.is_right = None, 0, False
 
     def made(self, numbers):
@@ -256,7 +266,9 @@ class Stage:
         self.chance.seed(f"{self.seed} {number}")
         if not self.is_right or self.sheet.standing(self.museum) == len(ROWS):
             self.begin()
+        before = set(begun(self.store.log()))
         killed = self.in_import() if number % 2 else self.in_serve()
+        self.fates[INSIDE] += not before.issuperset(begun(self.store.log()))
         self.is_right = self.look(killed.cut)
         self.kills.update([killed.when] if killed.when else [])
 
@@ -350,7 +362,6 @@ class Stage:
         """Whether the store holds what it has to, with the command that was cut off or without it."""
         failed = self.seen.failed
         self.store.copy_it()
-        self.fates[INSIDE] += ends_inside(f"{self.store.copy}-wal")
         self.same("the file", (0, b"ok\n", b""), self.store.integrity())
         came = brief(self.store.rows())
         due = self.due(cut, came) if cut else brief(self.museum.rows())
@@ -366,6 +377,7 @@ class Stage:
         after = brief(self.museum.rows())
         fate = NOTHING if before == after else NOT_THERE if came == before else THERE
         self.fates[fate] += came in (before, after)
+        self.cut[cut.name] += 1
         if came != before:
             return after
         self.museum.hold(held)
@@ -377,8 +389,10 @@ class Stage:
         kills = ", ".join(f"{self.kills[when]} {when}" for when in (BEFORE, WITHIN, AFTER))
         fates = ", ".join(f"{self.fates[fate]} {fate}" for fate in (THERE, NOT_THERE, NOTHING))
         print(f"{count} kills in {self.museums} museums: {kills}")
-        print(f"of the commands that were cut off, {fates}; {self.fates[INSIDE]} logs end {INSIDE}")
-        print("done:", ", ".join(f"{name} {count}" for name, count in sorted(self.done.items())))
+        print(f"{self.fates[INSIDE]} kills fell {INSIDE}")
+        print(f"of the commands that were cut off, {fates}")
+        print("cut off:", listed(self.cut))
+        print("done:", listed(self.done))
         self.seen.same("half of the kills fall within a command", True, 2 * self.kills[WITHIN] >= count)
         self.seen.same("commands that were never done", set(), NAMES - set(self.done))
         return self.seen.told()
