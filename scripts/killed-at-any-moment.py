@@ -16,10 +16,12 @@ This shows what a kill leaves on the file system of this machine, and not what a
 system still has all that the desk wrote.
 
 At the end the script says how many kills fell before the first command of a run, within one, and after the last; how
-many left pages in the log that no commit follows; and how many of the commands that were cut off are there. If fewer
-than half of the kills fell within a command, it fails. The seed decides which commands come and when a run is killed;
-how far the run is by then depends on the machine. You need Python 3 with its standard library alone, its SQLite of 3.37 or later,
-the shell `sqlite3`, and Linux. PROGRAM is crates/rd_main/out/rd_main of this repository where none is named."""
+many left pages in the log that no commit follows; and how many of the commands that were cut off are there. It fails if
+fewer than half of the kills fell within a command, or if a sort of command was never done. The seed, which it prints,
+decides which commands come and when a run is killed; how far the run is by then depends on the machine.
+
+You need Python 3 with its standard library alone, its SQLite of 3.37 or later, the shell `sqlite3`, and Linux. It takes
+one to four minutes. PROGRAM is crates/rd_main/out/rd_main of this repository where none is named."""
 
 import argparse
 import collections
