@@ -12,8 +12,8 @@ Commands after `$` run in one shell, in a copy of what they need of this reposit
 docs/COMMANDS.md have a /tmp of their own. Commands after `#` need the rights of root. Where it has them, they run in
 another shell, in a mount namespace whose /etc, /usr and /var are throw-away layers over the machine's.
 
-Some commands are named and not run: those that prove, build or measure, that want a network, and, from the first on
-that wants a systemd which runs, those of root. scripts/under-systemd.py runs these last ones."""
+The script names some commands and does not run them: those that prove, build or measure, those that need a network, and
+all of root's from the first one on that needs a running systemd. scripts/under-systemd.py runs these."""
 
 import collections
 import contextlib
@@ -45,8 +45,8 @@ for folder in etc usr var; do
 done
 set +e
 """
-# What a shell of each prompt is given before the page's own commands, with mounts of its own where it is given some;
-# what blocks without a command begin with; and the programs and packages that are wanted.
+# For each page: the first words for the shell of each prompt (a shell with such words has mounts of its own), how
+# blocks without a command begin, and the programs and packages that the page needs.
 Page = collections.namedtuple("Page", "prepares plain needed packages")
 PAGES = {
     operating_page.PAGE: Page(

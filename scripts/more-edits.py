@@ -19,8 +19,8 @@ the prover tells nothing.
 
 You need Python 3.11, Linux, and the command rt of the kit on the path. Each crate has to be proved by `rt check` in
 this clone before, since a round begins with what that kept. A round takes a check's fixed part, 5 to 60 seconds of
-processor, and some seconds for each edit; docs/ARCHITECTURE.md tells the time of the whole. Nothing in the clone is
-changed, and the copies are removed, also where the command is stopped.
+processor, and some seconds for each edit. Nothing in the clone is changed, and the copies are removed, also where the
+command is stopped.
 
 --libraries FOLDER: the crates below are taken from FOLDER/NAME.rlib, built of the same files, and `rt check` is not
 asked for. --kept FOLDER: a round of a crate begins with what FOLDER/NAME keeps of a check; where it keeps nothing, the

@@ -1,9 +1,9 @@
 #!/usr/bin/env python3
-"""scripts/refusals-agree.py: compares the refusals in three places, and fails where one place lacks one.
+"""scripts/refusals-agree.py: compares the refusals of the code with the table in docs/FORMATS.md, and those over HTTP
+with the words of both pages in web/shared.js; of the statuses of nginx only these two. It fails where they differ.
 
-The places are the sources of the crates, the table of refusals in docs/FORMATS.md, and the words of both pages in
-web/shared.js. Of each name it also compares status and body, or the line that the program writes. You need Python 3
-with its standard library alone."""
+It compares name, status and the beginning of the body or line, and the order of those over HTTP in the table; not the
+lists by request and by command. You need Python 3 with its standard library alone."""
 
 import pathlib
 import re
@@ -89,12 +89,17 @@ def faults():
         *lacking("refusal", replied, PAGES, on_pages("REFUSALS")),
         *lacking("refusal", on_pages("REFUSALS"), "the code", replied),
         *lacking("status", numbers, PAGES, told),
-        *lacking("status", [key for key in told if key.isdigit()], FORMATS, [*numbers, *replied.values()]),
+        *lacking("status", [key for key in told if key.isdigit()], FORMATS, [*numbers, replied["unavailable"]]),
         *[
             f"refusal {name}: {FORMATS} has another status or body than the code"
             for name in rows
             if wrong_row(name, table[name], replied.get(name), ends.get(name))
         ],
+        *(
+            []
+            if [name for name in names if name in replied] == list(replied)
+            else [f"{FORMATS} has the refusals in another order than the code"]
+        ),
     ]
 
 

@@ -1,6 +1,6 @@
 #!/usr/bin/env bash
-# Runs each test of refused memory, and commands of the program itself, once for each growth of memory that it
-# asks for, with that growth refused, until a run asks for no more. You need gcc with the C library's headers, the shell
+# Runs each test of refused memory, and commands of the program itself, once for each growth of memory that the test or
+# command asks for, with that growth refused, until a run asks for no more. You need gcc with the C library's headers, the shell
 # sqlite3, and the crates' built tests and program: `rt test` in crates/rd_policy_tests, crates/rd_rows_tests,
 # crates/rd_store_tests, crates/rd_desk_tests, crates/rd_http_tests and crates/rd_main, and `rt run` in crates/rd_main.
 set -u
@@ -56,17 +56,6 @@ odd() {
     return 1
 }
 
-# cats IMAGE: the program either writes the file, or tells that memory was refused and wrote a front of it at most
-cats() {
-    run refused "$work/desk" cat cpm8 "$1" 0 <"$work/image"
-    if [ "$status" -eq 0 ]; then
-        cmp -s "$work/stdout" crates/rd_main/stdout && [ ! -s "$work/stderr" ] || odd
-    else
-        [ "$status" -eq 3 ] && [ "$(cat "$work/stderr")" = "desk: no-memory" ] &&
-            cmp -s -n "$(stat -c %s "$work/stdout")" "$work/stdout" crates/rd_main/stdout || odd
-    fi
-}
-
 # wrote TEXT: what was run wrote this text, or nothing where it is empty
 wrote() {
     { [ -z "$1" ] || printf '%s\n' "$1"; } | cmp -s - "$work/stdout"
@@ -82,6 +71,16 @@ was_refused() {
     [ "$status" -eq 3 ] && [[ $(cat "$work/stderr") =~ ^'desk: '(no-memory|store)$ ]]
 }
 
+# cats IMAGE: the program writes the file, or says that memory was refused and writes nothing
+cats() {
+    run refused "$work/desk" cat cpm8 "$1" 0 <"$work/image"
+    if [ "$status" -eq 0 ]; then
+        cmp -s "$work/stdout" crates/rd_main/stdout && [ ! -s "$work/stderr" ] || odd
+    else
+        [ "$status" -eq 3 ] && wrote "" && [ "$(cat "$work/stderr")" = "desk: no-memory" ] || odd
+    fi
+}
+
 # begins FILE: the store is a copy of this file, or is not there where the file is not
 begins() {
     rm -f "$store" "$store"-*
@@ -93,14 +92,19 @@ dump() {
     sqlite3 -batch -bail "$1" .dump 2>&1
 }
 
-# holds FILE: the store holds what this file holds
+# holds FILE: the store, with its log, holds what this file holds; sqlite3 reads copies, since it may change what it reads
 holds() {
-    cmp -s <(dump "$store") "$1.sql"
+    local end
+    rm -f "$work/copy" "$work/copy"-*
+    for end in "" -wal; do
+        [ ! -e "$store$end" ] || cp "$store$end" "$work/copy$end"
+    done
+    cmp -s <(dump "$work/copy") "$1.sql"
 }
 
 # over BEFORE AFTER TEXT COMMAND..: over a copy of the store BEFORE the command writes the text and makes of it the store
-# AFTER. Or it tells that memory was refused, wrote nothing, or $first where that is given, and left the store; run
-# again it then does so.
+# AFTER. Or it says that memory was refused, has written nothing (or $first, if that is given) and has not changed the
+# store; a second run then does all this.
 over() {
     local before=$1 after=$2 text=$3
     shift 3
@@ -114,7 +118,7 @@ over() {
     holds "$after" || odd
 }
 
-# imports: the same of an import, but that a row which was taken stays, whether it was told or not
+# imports: the same of an import, but a row that it took in stays, whether it said so or not
 imports() {
     begins "$work/ruled"
     run refused "${import[@]}"
@@ -127,13 +131,13 @@ imports() {
     holds "$work/filled" || odd
 }
 
-# makes NAME BEFORE TEXT COMMAND..: the store NAME, which the command makes of the store BEFORE, and its dump
+# makes NAME BEFORE TEXT COMMAND..: makes the store NAME by the command, from a copy of the store BEFORE, and dumps it
 makes() {
     local name=$1 before=$2 text=$3
     shift 3
     begins "$before"
     run "$@"
-    ended "$text" && cp "$store" "$work/$name" && dump "$work/$name" >"$work/$name.sql"
+    ended "$text" && [ ! -s "$store-wal" ] && cp "$store" "$work/$name" && dump "$work/$name" >"$work/$name.sql"
 }
 
 for crate in rd_policy_tests rd_rows_tests rd_store_tests rd_desk_tests rd_http_tests rd_main; do
@@ -154,7 +158,7 @@ table='accession,deed,kind,slot,user,name,type,size,faults,rule,effect
 12,7,cpm8,0,0,HELLO.TXT,TXT,128,,R7.20,read'
 rows="INSERT INTO deed VALUES (7, 'A. Curator', 18020); INSERT INTO rule VALUES (1, 7, 20, 7, NULL, NULL, 0, 0, '', 2)"
 printf 'accession,kind,deed,sha256,file\n12,cpm8,7,%s,%s\n' "$(sha256sum <"$work/image" | cut -c 1-64)" "$work/image" >"$work/sheet"
-dump "$work/none" >"$work/none.sql"
+dump "$work/copy" >"$work/none.sql"
 makes made "$work/none" "done" "${init[@]}" &&
     makes ruled "$work/made" "" sqlite3 -batch -bail "$store" "$rows" &&
     makes filled "$work/ruled" "12 done" "${import[@]}" &&

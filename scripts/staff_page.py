@@ -348,7 +348,7 @@ def see_fields(seen, page, room):
     seen.same("fields: a takedown lets nobody read", ["", "list", "deny"], page.browser.script(effects))
 
 
-CONFLICT = "Another image or deed stands at this accession, or no key of the staff would be left. "
+CONFLICT = "Another image, kind or deed stands at this accession, or no key of the staff would be left. "
 CONFLICT += "Give the disk another accession; put another key of the staff first."
 
 

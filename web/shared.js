@@ -2,7 +2,7 @@
 // pages show everything as text: they never take what the desk or a disk says as markup, a script or an address.
 "use strict";
 
-// What each refusal of the desk means, and what to do. docs/FORMATS.md has all of them.
+// What each refusal of the desk means, and what to do. docs/FORMATS.md also has those of the program.
 const REFUSALS = {
   "bad-head": ["The desk cannot read the request.", "Load this page again. Your key may be too long."],
   framing: ["The desk cannot read the request.", "Load this page again, and try again."],
@@ -26,7 +26,7 @@ const REFUSALS = {
   ],
   "digest-differs": ["The desk got other bytes than you sent.", "Send them again."],
   conflict: [
-    "Another image or deed stands at this accession, or no key of the staff would be left.",
+    "Another image, kind or deed stands at this accession, or no key of the staff would be left.",
     "Give the disk another accession; put another key of the staff first.",
   ],
   unavailable: [

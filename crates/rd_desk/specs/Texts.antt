@@ -117,7 +117,7 @@ counts_data map =
     (member (codes "unclaimed_used") (natural map.unclaimed_used)
     (member (codes "wrong_counts") (natural map.wrong_counts) no_members)))
 
--- how the block map differs from the blocks in use; a CP/M disk has none
+-- what is wrong with the block map, in counts; a CP/M disk has none
 abbrev pub map_data : Kind → MapReport → Data
 map_data Cpm8 map = null
 map_data D64 map = counts_data map

@@ -83,8 +83,7 @@ fn counts_value(alloc: Global, map: &MapReport) -> Result<Value, AllocError>
     })
 }
 
-/// How the block map of an image differs from the blocks in use; null for a kind that has no block
-/// map.
+/// What is wrong with the block map of an image, in counts; null for a kind that has no block map.
 fn map_value(alloc: Global, kind: Kind, map: &MapReport) -> Result<Value, AllocError>
     ensures { IfOk result (λ value. view value ≡ map_data kind map.now) }
 {

@@ -20,8 +20,8 @@ pub fn same_again()
     ensures { SameAgain }
 {}
 
-/// Law: a question has the same reply in each desk that looks alike to its caller: one with the
-/// same keys and rules, and at the same accessions with images of the same kinds and deeds that
+/// Law: a question has the same reply in each desk that looks alike to its caller: one that
+/// has the same keys and rules, and, at the same accessions, images of the same kinds and deeds that
 /// agree on the bytes needed to describe their files and to serve those that the caller may read.
 /// So no other byte of an image reaches the caller in the reply to a question.
 pub fn hidden_bytes_are_not_told()

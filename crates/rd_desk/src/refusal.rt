@@ -19,7 +19,8 @@ pub enum Refusal {
     NoFile,
     /// There is no such deed.
     NoDeed,
-    /// The rule that decides does not let the caller read the file.
+    /// The rules do not let the caller read the file: the rule that decides, or `D0` if none
+    /// matches.
     Denied(Label),
     /// The desk does not serve files of this class.
     ListedOnly,

@@ -24,7 +24,7 @@ impl fmt::Display for WrongSize {
 
 impl Error for WrongSize {}
 
-/// An image: a kind, and the bytes that it borrows, exactly as many as the kind has.
+/// An image: a kind, and bytes that it borrows, exactly as many as an image of the kind has.
 #[derive(Debug, Drop)]
 pub struct Image<'a> {
     kind: Kind,

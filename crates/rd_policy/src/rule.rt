@@ -45,7 +45,7 @@ pub struct Rule {
     pub until: Option<i32>,
     /// Which files it is about.
     pub select: Select,
-    /// What it does with them; the effect of a takedown is never `Read`.
+    /// What it does with them; that of a takedown must not be `Read`.
     pub effect: Effect,
 }
 

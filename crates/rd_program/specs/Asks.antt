@@ -147,8 +147,8 @@ abbrev pub IsWithinLimits : Ask → Type 0
 IsWithinLimits (Once ask) = IsAskable ask.question
 IsWithinLimits _ = ⊤
 
--- how many bytes of the input the command reads at most: one more than the image has, or none if
--- it reads no image
+-- how many bytes of the input the command reads at most: one more than an image of the kind has,
+-- or none if it reads no image
 abbrev pub most_read : Ask → ℕ
 most_read (File ask) = size_of ask.kind + 1
 most_read (Files ask) = size_of ask.kind + 1

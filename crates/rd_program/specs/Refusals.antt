@@ -31,8 +31,8 @@ name_of UnknownKey = codes "unknown-key K0"
 name_of StaffOnly = codes "staff-only S0"
 name_of NoAccession = codes "no-accession"
 
--- the exit status: 1 if the program refuses the image, its file, a sheet or a request or a desk
--- stands already, 2 if it refuses the words, and otherwise 3
+-- the exit status: 1 if the program refuses the image, its file, a sheet or a request, or if a
+-- desk stands already, 2 if it refuses the words, and otherwise 3
 abbrev pub status_of : Refusal → ℕ
 status_of Usage = 2
 status_of Device = 3

@@ -63,7 +63,8 @@ fn write_check<S: Alter>(
 }
 
 /// Puts the finding of a check of an accession, in place of the finding of that day, if there is
-/// one. It fails with `Missing` if the accession does not stand, and with `Sql`.
+/// one. It fails with `Missing` if the accession does not stand, and with `Sql` if the database
+/// fails or memory runs out.
 pub(crate) fn put_check<S: Alter>(
     conn: &mut Connection<S>,
     acc: u32,

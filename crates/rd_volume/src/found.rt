@@ -40,8 +40,8 @@ impl Found {
         self.served_class && self.faults == 0
     }
 
-    /// Whether the file lies in an image: each of its units is a unit of the image's disk, and its
-    /// last unit holds no more of the file than a unit can.
+    /// Whether the file lies in an image: each of its units is a unit of the image's disk, and
+    /// `last_len` is at most the number of bytes that a unit can hold of a file.
     pub fn fits(&self, image: &Image<'_>) -> bool
         ensures { IsTrue result ↔ Fits (kind_of image.now) self.now }
     {

@@ -50,8 +50,7 @@ pub trait Volume<'a>: Geometry<'a> {
         → found.size ≡ Some (length (contents_of (volume_kind disk) (Self.image_bytes disk) found)) };
 
     /// An image that agrees with the disk's image on the needed bytes has the same files, and the
-    /// same bytes in those that desk serves, whatever its other bytes are, and whichever files
-    /// these are.
+    /// same bytes in the served ones, whichever files are served and whatever its other bytes are.
     ghost hidden: { (disk : Self) (image served : List ℕ)
         → AgreesOnNeeded (volume_kind disk) image (Self.image_bytes disk) served
         → TellTheSame (volume_kind disk) image (Self.image_bytes disk) served };

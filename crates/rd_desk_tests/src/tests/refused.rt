@@ -111,8 +111,8 @@ fn assert_tables(
     opened(rt, alloc, conn)
 }
 
-/// The first visit of a plan gets the reply that is wanted, or that of a desk that is unavailable and
-/// changes nothing. Then the same visit again gets the reply that is wanted, and changes what it has to.
+/// The first visit of a plan gets the expected reply, or that of a desk that is unavailable and changes nothing.
+/// Then the same visit, made once more, gets the expected reply, and changes what it has to.
 fn assert_first(
     rt: &impl Abort,
     alloc: Global,
@@ -129,7 +129,8 @@ fn assert_first(
     assert_told(rt, alloc, &reply, UNAVAILABLE)?;
     let kept = made(rt, alloc, plan.given)?;
     let mut desk = assert_tables(rt, alloc, desk, kept)?;
-    assert_reply(rt, alloc, &mut desk, plan.visit)?;
+    let reply = answer(rt, alloc, &mut desk, seconds, &request);
+    assert_told(rt, alloc, &reply, wanted)?;
     let mut kept = made(rt, alloc, plan.given)?;
     assert_reply(rt, alloc, &mut kept, plan.visit)?;
     assert_tables(rt, alloc, desk, kept)

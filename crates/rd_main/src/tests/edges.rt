@@ -10,7 +10,7 @@ use std::alloc::{Alloc, Global};
 use std::test::Fail;
 use std::{env, fs};
 
-/// A run whose output refuses the first write, and would take all others.
+/// A run whose output does not take the first write, and would take all others.
 struct Stumble {
     label: &'static str,
     words: &'static [&'static str],
@@ -111,7 +111,7 @@ fn the_machine_reads_no_folder_and_no_more_than_an_image(rt: HostRuntime) {
     }
 }
 
-/// The path of a new, empty file in the folder of the tests.
+/// The path of a new, empty file in the folder for files that tests make.
 fn fresh_path(rt: &HostRuntime) -> Result<String, Fail> {
     let folder = match env::var(rt, "TMPDIR") {
         Ok(folder) => folder,
