@@ -174,7 +174,7 @@ def brief_cell(cell):
     return digest(cell) if isinstance(cell, bytes) and len(cell) > SHORT else cell
 
 
-def begun(log):
+def unfinished(log):
     """The pages that a log has of a change that was not committed: none of them has the size of the database, or the
     first byte of the log's salt does not stand in the first of them."""
     step, salt, pages, is_shut = 24 + int.from_bytes(log[8:12], "big"), log[16:24], [], False
@@ -268,9 +268,9 @@ class Stage:
         self.chance.seed(f"{self.seed} {number}")
         if not self.is_right or self.sheet.standing(self.museum) == len(ROWS):
             self.begin()
-        before = set(begun(self.store.log()))
+        before = set(unfinished(self.store.log()))
         killed = self.in_import() if number % 2 else self.in_serve()
-        self.fates[INSIDE] += not before.issuperset(begun(self.store.log()))
+        self.fates[INSIDE] += not before.issuperset(unfinished(self.store.log()))
         self.is_right = self.look(killed.cut)
         self.kills.update([killed.when] if killed.when else [])
 
