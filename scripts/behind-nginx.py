@@ -90,7 +90,8 @@ def see_question(seen, room, label, asked, wanted, address):
     if HANDED_ON.match(asked.path):
         see_reply(seen, label, wanted, came)
     else:
-        seen.same(f"{label}: nginx has no such file", 200 if asked.path == "/" else 404, came[0])
+        page = asked.path.partition("?")[0] == "/"
+        seen.same(f"{label}: nginx has the page at the root, and no other such file", 200 if page else 404, came[0])
 
 
 def see_command(seen, room, label, asked, wanted, address):

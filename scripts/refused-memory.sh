@@ -1,15 +1,17 @@
 #!/usr/bin/env bash
-# Runs each test of refused memory, and commands of the program itself, once for each growth of memory that it
-# asks for, with that growth refused, until a run asks for no more. You need gcc with the C library's headers, the shell
+# Runs each test of refused memory, and commands of the program itself, once for each growth of memory that the test or
+# command asks for, with that growth refused, until a run asks for no more. You need gcc with the C library's headers, the shell
 # sqlite3, and the crates' built tests and program: `rt test` in crates/rd_policy_tests, crates/rd_rows_tests,
 # crates/rd_store_tests, crates/rd_desk_tests, crates/rd_http_tests and crates/rd_main, and `rt run` in crates/rd_main.
 set -u
 cd "$(dirname "$0")/.." || exit 1
 work=$(mktemp -d) || exit 1
-trap 'rm -rf "$work"' EXIT
+# The store, which is written thousands of times: in memory if the system has a folder there, and else beside the rest.
+room=$(mktemp -d -p /dev/shm 2>/dev/null) || room=$work
+trap 'rm -rf "$work" "$room"' EXIT
 gcc -O2 -shared -fPIC -o "$work/refuse.so" scripts/refuse.c -ldl || exit 1
 cp crates/rd_main/out/rd_main "$work/desk" && cp crates/rd_main/stdin "$work/image" || exit 1
-store=$work/store port=$((20000 + RANDOM % 10000))
+store=$room/now/museum.sqlite port=$((20000 + RANDOM % 10000))
 when=(--at 1893452400 --zone "CET-1CEST,M3.5.0,M10.5.0/3")
 passed=0 failed=0 at=0
 
@@ -56,55 +58,60 @@ odd() {
     return 1
 }
 
-# cats IMAGE: the program either writes the file, or tells that memory was refused and wrote a front of it at most
-cats() {
-    run refused "$work/desk" cat cpm8 "$1" 0 <"$work/image"
-    if [ "$status" -eq 0 ]; then
-        cmp -s "$work/stdout" crates/rd_main/stdout && [ ! -s "$work/stderr" ] || odd
-    else
-        [ "$status" -eq 3 ] && [ "$(cat "$work/stderr")" = "desk: no-memory" ] &&
-            cmp -s -n "$(stat -c %s "$work/stdout")" "$work/stdout" crates/rd_main/stdout || odd
-    fi
+# has FILE TEXT: the file has this text as its lines, or is empty if the text is
+has() {
+    local read
+    IFS= read -r -d '' read <"$1"
+    [ "$read" = "${2:+$2$'\n'}" ]
 }
 
-# wrote TEXT: what was run wrote this text, or nothing where it is empty
+# wrote TEXT: what was run wrote this text, or nothing if it is empty
 wrote() {
-    { [ -z "$1" ] || printf '%s\n' "$1"; } | cmp -s - "$work/stdout"
+    has "$work/stdout" "$1"
 }
 
 # ended TEXT: it ended well, wrote this text and told nothing
 ended() {
-    [ "$status" -eq 0 ] && wrote "$1" && [ ! -s "$work/stderr" ]
+    [ "$status" -eq 0 ] && wrote "$1" && has "$work/stderr" ""
 }
 
-# was_refused: it told that memory was refused, as the program tells it or as its store does, which cannot tell why
+# was_refused: it says that memory was refused, or that its store failed, which cannot tell why
 was_refused() {
-    [ "$status" -eq 3 ] && [[ $(cat "$work/stderr") =~ ^'desk: '(no-memory|store)$ ]]
+    [ "$status" -eq 3 ] && { has "$work/stderr" "desk: no-memory" || has "$work/stderr" "desk: store"; }
 }
 
-# begins FILE: the store is a copy of this file, or is not there where the file is not
-begins() {
-    rm -f "$store" "$store"-*
-    [ ! -e "$1" ] || cp "$1" "$store"
+# cats IMAGE: the program writes the file, or says that memory was refused and writes nothing
+cats() {
+    run refused "$work/desk" cat cpm8 "$1" 0 <"$work/image"
+    if [ "$status" -eq 0 ]; then
+        cmp -s "$work/stdout" crates/rd_main/stdout && has "$work/stderr" "" || odd
+    else
+        [ "$status" -eq 3 ] && wrote "" && has "$work/stderr" "desk: no-memory" || odd
+    fi
 }
 
-# dump FILE: all that a store holds, as statements
+# copy FROM TO: makes TO the folder FROM, with the file of a store and its log if they are there
+copy() {
+    rm -rf "$2" && cp -r "$1" "$2"
+}
+
+# dump FOLDER: all that a copy of the store there holds, as statements; sqlite3 may change what it reads
 dump() {
-    sqlite3 -batch -bail "$1" .dump 2>&1
+    copy "$1" "$room/copy" && sqlite3 -batch -bail "$room/copy/museum.sqlite" .dump 2>&1
 }
 
-# holds FILE: the store holds what this file holds
+# holds FOLDER: the store holds what the one there holds
 holds() {
-    cmp -s <(dump "$store") "$1.sql"
+    cmp -s <(dump "$room/now") "$1.sql"
 }
 
 # over BEFORE AFTER TEXT COMMAND..: over a copy of the store BEFORE the command writes the text and makes of it the store
-# AFTER. Or it tells that memory was refused, wrote nothing, or $first where that is given, and left the store; run
-# again it then does so.
+# AFTER. Or it says that memory was refused, has written nothing (or $first, if that is given) and has not changed the
+# store; a second run then does all this.
 over() {
     local before=$1 after=$2 text=$3
     shift 3
-    begins "$before"
+    copy "$before" "$room/now"
     run refused "$@"
     if ! ended "$text"; then
         was_refused && { wrote "" || wrote "${first:-}"; } && holds "$before" || { odd; return; }
@@ -114,9 +121,9 @@ over() {
     holds "$after" || odd
 }
 
-# imports: the same of an import, but that a row which was taken stays, whether it was told or not
+# imports: the same of an import, but a row that it took in stays, whether it said so or not
 imports() {
-    begins "$work/ruled"
+    copy "$work/ruled" "$room/now"
     run refused "${import[@]}"
     if ! ended "12 done"; then
         was_refused && { wrote "" || wrote "12 done"; } || { odd; return; }
@@ -127,13 +134,13 @@ imports() {
     holds "$work/filled" || odd
 }
 
-# makes NAME BEFORE TEXT COMMAND..: the store NAME, which the command makes of the store BEFORE, and its dump
+# makes NAME BEFORE TEXT COMMAND..: makes the store NAME by the command, from a copy of the store BEFORE, and dumps it
 makes() {
     local name=$1 before=$2 text=$3
     shift 3
-    begins "$before"
+    copy "$before" "$room/now"
     run "$@"
-    ended "$text" && cp "$store" "$work/$name" && dump "$work/$name" >"$work/$name.sql"
+    ended "$text" && copy "$room/now" "$work/$name" && dump "$work/$name" >"$work/$name.sql"
 }
 
 for crate in rd_policy_tests rd_rows_tests rd_store_tests rd_desk_tests rd_http_tests rd_main; do
@@ -154,7 +161,7 @@ table='accession,deed,kind,slot,user,name,type,size,faults,rule,effect
 12,7,cpm8,0,0,HELLO.TXT,TXT,128,,R7.20,read'
 rows="INSERT INTO deed VALUES (7, 'A. Curator', 18020); INSERT INTO rule VALUES (1, 7, 20, 7, NULL, NULL, 0, 0, '', 2)"
 printf 'accession,kind,deed,sha256,file\n12,cpm8,7,%s,%s\n' "$(sha256sum <"$work/image" | cut -c 1-64)" "$work/image" >"$work/sheet"
-dump "$work/none" >"$work/none.sql"
+mkdir "$work/none" && dump "$work/none" >"$work/none.sql"
 makes made "$work/none" "done" "${init[@]}" &&
     makes ruled "$work/made" "" sqlite3 -batch -bail "$store" "$rows" &&
     makes filled "$work/ruled" "12 done" "${import[@]}" &&

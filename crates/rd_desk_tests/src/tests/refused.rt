@@ -111,8 +111,33 @@ fn assert_tables(
     opened(rt, alloc, conn)
 }
 
-/// The first visit of a plan gets the reply that is wanted, or that of a desk that is unavailable and
-/// changes nothing. Then the same visit again gets the reply that is wanted, and changes what it has to.
+/// A visit gets the expected reply at once.
+fn assert_at_once(
+    rt: &impl Abort,
+    alloc: Global,
+    desk: &mut Memory,
+    (key, seconds, ask, wanted): Visit,
+) -> Result<(), Fail> {
+    let request = request_of(alloc, key, ask)?;
+    let reply = answer(rt, alloc, desk, seconds, &request);
+    assert_told(rt, alloc, &reply, wanted)
+}
+
+/// The visit of a plan, made once more, gets the expected reply at once, and changes what it has to.
+fn assert_once_more(
+    rt: &impl Abort,
+    alloc: Global,
+    mut desk: Memory,
+    plan: &Plan,
+) -> Result<Memory, Fail> {
+    assert_at_once(rt, alloc, &mut desk, plan.visit)?;
+    let mut kept = made(rt, alloc, plan.given)?;
+    assert_at_once(rt, alloc, &mut kept, plan.visit)?;
+    assert_tables(rt, alloc, desk, kept)
+}
+
+/// The first visit of a plan gets the expected reply, or that of a desk that is unavailable and changes nothing.
+/// Then the same visit, made once more, gets the expected reply, and changes what it has to.
 fn assert_first(
     rt: &impl Abort,
     alloc: Global,
@@ -128,11 +153,8 @@ fn assert_first(
     }
     assert_told(rt, alloc, &reply, UNAVAILABLE)?;
     let kept = made(rt, alloc, plan.given)?;
-    let mut desk = assert_tables(rt, alloc, desk, kept)?;
-    assert_reply(rt, alloc, &mut desk, plan.visit)?;
-    let mut kept = made(rt, alloc, plan.given)?;
-    assert_reply(rt, alloc, &mut kept, plan.visit)?;
-    assert_tables(rt, alloc, desk, kept)
+    let desk = assert_tables(rt, alloc, desk, kept)?;
+    assert_once_more(rt, alloc, desk, plan)
 }
 
 fn assert_plan(rt: &impl Abort, alloc: Global, plan: &Plan) -> Result<(), Fail> {

@@ -89,22 +89,40 @@ fn visit(
     Ok((result, out_again(alloc, &door)?))
 }
 
-/// A visit gets what has to go out, at the second time where memory is refused at the first.
+/// A visit gets its usual reply.
+fn assert_reply(
+    rt: &impl Abort,
+    alloc: Global,
+    desk: &mut Memory,
+    (label, seconds, came, wanted): Visit,
+) -> Result<(), Fail> {
+    let (result, out) = visit(alloc, desk, seconds, came)?;
+    assert!(rt; result.is_ok(), "{label}");
+    assert_eq!(rt; out, text_of(alloc, wanted)?, "{label}");
+    Ok(())
+}
+
+/// A visit gets its usual reply. If memory is refused at it, only a front of that goes out, or the desk is
+/// unavailable; the visit made again then gets its usual reply.
 fn assert_visit(
     rt: &impl Abort,
     alloc: Global,
     desk: &mut Memory,
     (label, seconds, came, wanted): Visit,
 ) -> Result<(), Fail> {
-    let wanted = text_again(alloc, wanted)?;
+    let text = text_again(alloc, wanted)?;
     let (result, out) = visit(alloc, desk, seconds, came)?;
-    if result.is_ok() && out == wanted {
+    if result.is_err() {
+        assert!(rt;
+            out != text && text.as_str().starts_with(out.as_str()),
+            "{label}"
+        );
+    } else if out == text {
         return Ok(());
+    } else {
+        assert_eq!(rt; out, text_again(alloc, UNAVAILABLE)?, "{label}");
     }
-    let (result, out) = visit(alloc, desk, seconds, came)?;
-    assert!(rt; result.is_ok(), "{label}");
-    assert_eq!(rt; out, wanted, "{label}");
-    Ok(())
+    assert_reply(rt, alloc, desk, (label, seconds, came, wanted))
 }
 
 /// A desk at which these visits were made.
@@ -200,28 +218,33 @@ fn assert_done(
     Ok(())
 }
 
+/// A visit after that of a plan gets its usual reply, at once if memory was refused at that of the plan.
+fn assert_next(
+    rt: &impl Abort,
+    alloc: Global,
+    desk: &mut Memory,
+    left: Left,
+    visit: Visit,
+) -> Result<(), Fail> {
+    match left {
+        Left::Replied => assert_visit(rt, alloc, desk, visit),
+        Left::Cut | Left::Unavailable => assert_reply(rt, alloc, desk, visit),
+    }
+}
+
 fn assert_plan(rt: &impl Abort, alloc: Global, plan: &Plan) -> Result<(), Fail> {
     let mut desk = made(rt, alloc, plan.given)?;
     let left = assert_first(rt, alloc, &mut desk, plan)?;
     let mut desk = assert_left(rt, alloc, desk, plan, left)?;
-    let shown = if left == Left::Unavailable {
-        plan.before
-    } else {
-        plan.after
+    let shown = match left {
+        Left::Unavailable => plan.before,
+        Left::Replied | Left::Cut => plan.after,
     };
-    assert_visit(
-        rt,
-        alloc,
-        &mut desk,
-        ("question", AFTER, plan.question, shown),
-    )?;
-    assert_visit(rt, alloc, &mut desk, plan.visit)?;
-    assert_visit(
-        rt,
-        alloc,
-        &mut desk,
-        ("question again", AFTER, plan.question, plan.after),
-    )?;
+    let question = ("question", AFTER, plan.question, shown);
+    let again = ("question again", AFTER, plan.question, plan.after);
+    assert_next(rt, alloc, &mut desk, left, question)?;
+    assert_next(rt, alloc, &mut desk, left, plan.visit)?;
+    assert_next(rt, alloc, &mut desk, left, again)?;
     assert_done(rt, alloc, desk, plan, left)
 }
 
@@ -365,6 +388,15 @@ const BODY: Plan =
 #[test]
 fn a_bad_body_when_memory_is_refused(rt: HostRuntime) -> Result<(), Fail> {
     assert_plan(&rt, rt.alloc(), &BODY)
+}
+
+/// The body ends one byte before its length.
+const SHORT: Plan =
+    like!(Plan, BODY, visit: ("short", AFTER, Came::Text("PUT /deeds/9 HTTP/1.1\r\nDesk-Key: abc\r\nContent-Length: 5\r\n\r\nhell"), FRAMING));
+
+#[test]
+fn a_short_body_when_memory_is_refused(rt: HostRuntime) -> Result<(), Fail> {
+    assert_plan(&rt, rt.alloc(), &SHORT)
 }
 
 const PATH: Plan = like!(Plan, BODY, visit: ("path", AFTER, get!("/images/012"), NO_ROUTE));
@@ -531,6 +563,15 @@ fn a_key_dropped_when_memory_is_refused(rt: HostRuntime) -> Result<(), Fail> {
     assert_plan(&rt, rt.alloc(), &NO_KEY)
 }
 
+/// The reading room asks for what is for the staff.
+const ROOM: Plan =
+    like!(Plan, NO_KEY, visit: ("room", AFTER, Came::Asked("GET /images/12/survey", Some("hello"), ""), STAFF_ONLY), after: STAFF_ONLY);
+
+#[test]
+fn a_question_of_the_staff_when_memory_is_refused(rt: HostRuntime) -> Result<(), Fail> {
+    assert_plan(&rt, rt.alloc(), &ROOM)
+}
+
 const LAST_KEY: Plan =
     like!(Plan, DEED, visit: ("last key", AFTER, Came::Asked("DELETE /badges/ba7816bf8f01cfea414140de5dae2223b00361a396177a9cb410ff61f20015ad", STAFF, ""), CONFLICT), after: NO_DEED);
 
@@ -617,12 +658,24 @@ fn assert_both(
     Ok(is_first && is_second)
 }
 
+/// A run at a door whose visits are over ends as the door has shut, and serves none.
+fn assert_shut(rt: &impl Abort, alloc: Global, door: &mut MemoryDoor, desk: &mut Memory) {
+    let wanted = Served {
+        visits: 0,
+        read_faults: 0,
+        write_faults: 0,
+        ended: Ended::Shut,
+    };
+    assert_eq!(rt; run(alloc, door, desk, 3), wanted);
+}
+
 #[test]
 fn a_run_when_memory_is_refused(rt: HostRuntime) -> Result<(), Fail> {
     let alloc = rt.alloc();
     let mut desk = made(&rt, alloc, GIVEN)?;
     let mut door = two_again(alloc)?;
     let served = run(alloc, &mut door, &mut desk, 2);
+    assert_shut(&rt, alloc, &mut door, &mut desk);
     if !assert_both(&rt, alloc, &door, served)? {
         let kept = made(&rt, alloc, GIVEN)?;
         let mut desk = assert_tables(&rt, alloc, desk, kept)?;

@@ -91,33 +91,50 @@ fn run_on_image(
     run(alloc, words, &mut input, &mut room, &mut told, &mut Bare)
 }
 
-/// A run on an image: its words, its status, and the line that it tells.
+/// A run on an image: its words, its status, and the line that it tells; a mistake in the words has a text of its own.
 type Telling = (Disk, &'static [&'static str], u8, &'static str);
 
-/// Runs words on an image, again where memory was refused, to an output that is all zeros. A run that was refused
-/// has to leave it as it was, and the last run has to end with the status and to tell the line.
+/// Runs words on an image, again if memory was refused, and gives the status and what it tells, with zeros after it. A
+/// run that was refused has to leave the output, which is all zeros, as it was.
+fn run_again(
+    rt: &impl Abort,
+    alloc: Global,
+    image: &[u8],
+    words: &[&str],
+    output: &mut [u8],
+) -> (u8, [u8; 256]) {
+    let mut errors = [0; 256];
+    let status = run_on_image(alloc, image, words, output, &mut errors);
+    if status != 3 {
+        return (status, errors);
+    }
+    assert!(rt; says(&errors, "desk: no-memory\n"));
+    assert!(rt; output.iter().all(|byte| *byte == 0));
+    let mut errors = [0; 256];
+    let status = run_on_image(alloc, image, words, output, &mut errors);
+    (status, errors)
+}
+
+/// A run ends with the status and tells the line, once there is memory. A mistake in the words has a whole text, which
+/// a second run tells too.
 fn assert_run(
     rt: &impl Abort,
     alloc: Global,
-    (disk, words, status, line): Telling,
+    (disk, words, wanted, line): Telling,
     output: &mut [u8],
 ) -> Result<(), Fail> {
     let image = match image_of(alloc, disk) {
         Ok(image) => image,
         Err(NoMemory) => image_of(alloc, disk)?,
     };
-    let mut errors = [0; 256];
-    let first = run_on_image(alloc, image.as_slice(), words, output, &mut errors);
-    if first == 3 {
-        assert!(rt; says(&errors, "desk: no-memory\n"));
-        assert!(rt; output.iter().all(|byte| *byte == 0));
-        let mut errors = [0; 256];
-        let second = run_on_image(alloc, image.as_slice(), words, output, &mut errors);
-        assert_eq!(rt; second, status, "{line}");
-        assert!(rt; status == 2 || says(&errors, line), "{line}");
+    let (status, errors) = run_again(rt, alloc, image.as_slice(), words, output);
+    assert_eq!(rt; status, wanted, "{line}");
+    if wanted == 2 {
+        let (_, again) = run_again(rt, alloc, image.as_slice(), words, output);
+        assert!(rt; errors.starts_with(b"error: ".as_slice()), "{line}");
+        assert!(rt; errors.as_slice() == again.as_slice(), "{line}");
     } else {
-        assert_eq!(rt; first, status, "{line}");
-        assert!(rt; status == 2 || says(&errors, line), "{line}");
+        assert!(rt; says(&errors, line), "{line}");
     }
     Ok(())
 }
@@ -261,7 +278,7 @@ fn list_when_memory_is_refused(rt: HostRuntime) -> Result<(), Fail> {
     Ok(())
 }
 
-/// Runs that are refused with nothing written, and what they tell; a mistake in the words has a text of its own.
+/// Runs that are refused with nothing written, and what they tell.
 const REFUSALS: &[Telling] = table![
     (Disk::Faulty, &["cat", "cpm8", "-", "0"], 1, "desk: faulty hole\n");
     (Disk::Faulty, &["cat", "cpm8", "-", "9"], 1, "desk: no-file\n");
@@ -292,8 +309,11 @@ fn version_when_memory_is_refused(rt: HostRuntime) -> Result<(), Fail> {
 #[test]
 fn help_when_memory_is_refused(rt: HostRuntime) -> Result<(), Fail> {
     let mut output = [0; 4_096];
+    let mut again = [0; 4_096];
     let telling = (Disk::Hello, ["--help"].as_slice(), 0, "");
     assert_run(&rt, rt.alloc(), telling, &mut output)?;
+    assert_run(&rt, rt.alloc(), telling, &mut again)?;
+    assert!(rt; output.as_slice() == again.as_slice());
     let text = std::str::from_utf8(output.as_slice())?;
     assert!(rt; text.contains("desk cat cpm8 disk.img 0"));
     Ok(())
@@ -405,20 +425,30 @@ fn made_again(museum: &mut Museum) -> Option<i64> {
     made_in(museum).or_else(|| made_in(museum))
 }
 
-/// `init` leaves this, at the second time where memory is refused at the first, which leaves no table that did not
-/// stand.
+/// How many tables and indexes the store of a museum has, and the rows of all tables, in words; none if it has no table.
+fn kept_of(alloc: Global, museum: &mut Museum) -> Result<(i64, String), Fail> {
+    let count = made_again(museum).ok_or("nothing can be counted")?;
+    if count == 0 {
+        return Ok((0, String::new(alloc)));
+    }
+    let told = tables_again(alloc, museum).ok_or("nothing can be read")?;
+    Ok((count, told))
+}
+
+/// `init` leaves this. If memory is refused, it has made no table and changed no row, and a second run leaves this.
 fn assert_init(
     rt: &impl Abort,
     museum: &mut Museum,
     alloc: Global,
     wanted: (u8, &str, &str),
 ) -> Result<(), Fail> {
-    let before = made_again(museum).ok_or("nothing can be counted")?;
+    let (before, rows_before) = kept_of(alloc, museum)?;
     let words = ["init", "--store", "museum.sqlite", "--key", "abc"];
     let (status, output, errors) = wanted;
     let first = run_once(alloc, words.as_slice(), museum);
     if is_refused(&first, "") {
-        assert_eq!(rt; made_in(museum), Some(before));
+        let (left, rows_left) = kept_of(alloc, museum)?;
+        assert!(rt; left == before && rows_left == rows_before);
         let second = run_once(alloc, words.as_slice(), museum);
         assert!(rt; is_left(&second, status, output, errors));
     } else {

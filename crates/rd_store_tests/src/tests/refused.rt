@@ -5,7 +5,7 @@ use super::steps::{
     COMMODORE, CONFLICT, Call, DONE, Digest, MISSING, Named, Picture, Question, Step, WITH_MARKS,
     answer, tells_so,
 };
-use super::told::{HELLO, HELLO_TXT};
+use super::told::{HELLO, HELLO_TXT, LOOP};
 use super::{
     CPM, Desk, LOOPED, MARKED, PROGRAM, STAFF, into_connection, migrate_desk, new_connection,
     number, open_desk, run,
@@ -18,9 +18,11 @@ use std::alloc::Global;
 use std::process::Abort;
 use std::test::Fail;
 
-/// Asks for all rows of all tables; of an image for the number of its bytes.
-const TABLES: &[&str] = &[
-    "SELECT id, version FROM desk",
+/// Asks for all rows of the table `desk`.
+const DESK: &str = "SELECT id, version FROM desk";
+
+/// Asks for all rows of all other tables; of an image for the number of its bytes.
+const OTHERS: &[&str] = &[
     "SELECT num, donor, signed FROM deed ORDER BY num",
     "SELECT acc, kind, deed, digest, length(bytes) FROM image ORDER BY acc",
     "SELECT * FROM rule ORDER BY band, scope, rank",
@@ -37,13 +39,25 @@ fn rows(conn: &mut Connection<MemStore>, sql: &str) -> Result<Vec<Row>, Error> {
     conn.query_all(sql, &[])
 }
 
+/// The rows that a question gives, in words.
+fn words_of(alloc: Global, conn: &mut Connection<MemStore>, sql: &str) -> Result<String, Fail> {
+    let rows = rows(conn, sql)?;
+    Ok(format!(in alloc; "{rows:?}\n")?)
+}
+
+/// The rows of all tables but `desk`, in words.
+fn others_of(alloc: Global, conn: &mut Connection<MemStore>) -> Result<String, Fail> {
+    let mut told = String::new(alloc);
+    for sql in OTHERS {
+        told.push_str(words_of(alloc, conn, *sql)?.as_str())?;
+    }
+    Ok(told)
+}
+
 /// The rows of all tables, in words.
 fn tables_of(alloc: Global, conn: &mut Connection<MemStore>) -> Result<String, Fail> {
-    let mut told = String::new(alloc);
-    for sql in TABLES {
-        let rows = rows(conn, *sql)?;
-        told.push_str(format!(in alloc; "{rows:?}\n")?.as_str())?;
-    }
+    let mut told = words_of(alloc, conn, DESK)?;
+    told.push_str(others_of(alloc, conn)?.as_str())?;
     Ok(told)
 }
 
@@ -157,8 +171,8 @@ fn assert_kept(
     }
 }
 
-/// The next step, before which so many were taken, answers what it has to, at the second time where memory was
-/// refused at the first. That changes nothing, and the second time what the step changes.
+/// The next step, number `n`, answers as it must. If memory is refused at it, the tables are still those of the steps
+/// before it. Taken again, it answers as it must and changes what it has to.
 fn assert_next(
     rt: &impl Abort,
     alloc: Global,
@@ -183,8 +197,8 @@ fn assert_next(
     assert_kept(rt, alloc, desk, steps, n.saturating_add(1))
 }
 
-/// All steps, from a new desk on, answer what they have to, each of which memory was refused at the second time.
-/// They are counted from 0.
+/// From a new desk on, each step answers as it must. A step at which memory is refused is taken once more. Steps are
+/// counted from 0.
 fn assert_steps_again(rt: &impl Abort, alloc: Global, steps: &[Step<'_>]) -> Result<Desk, Fail> {
     let mut desk = new_desk_again(rt, alloc)?;
     for (n, step) in steps.iter().enumerate() {
@@ -284,6 +298,8 @@ const FILES: &[Step<'static>] = &[
     Step::Tells(Question::Files(13, &[])),
     Step::Tells(Question::Files(15, &[HELLO_TXT])),
     Step::Tells(Question::FileAt(15, 0, Some(HELLO_TXT))),
+    Step::Does(Call::PutImage(14, LOOPED), DONE),
+    Step::Tells(Question::Files(14, &[LOOP])),
 ];
 
 #[test]
@@ -454,44 +470,83 @@ fn run_again(conn: &mut Connection<MemStore>, sql: &str) -> Result<usize, Error>
         Err(_) => run(conn, sql),
     }
 }
+/// Puts a deed, and images of two disks.
+const FEW: &[Step<'static>] = &[
+    PUT_DEED,
+    PUT_IMAGE,
+    Step::Does(Call::PutImage(14, LOOPED), DONE),
+];
 
 /// What is done to the database of a desk, and why none is opened then.
 const UNSOUND: &[(&str, OpenFault)] = &[
     ("UPDATE desk SET version = 9", OpenFault::Version),
     ("DELETE FROM found", OpenFault::Inconsistent),
+    (
+        "UPDATE found SET faults = 0 WHERE acc = 14",
+        OpenFault::Inconsistent,
+    ),
+    (
+        "INSERT INTO found VALUES (12, 1, 'HELLO', 'PRG', NULL, 1, 258, 0, x'0150015A', 4)",
+        OpenFault::Inconsistent,
+    ),
+    (
+        "UPDATE image SET bytes = x'00' WHERE acc = 12",
+        OpenFault::Inconsistent,
+    ),
     ("UPDATE badge SET audience = 1", OpenFault::Inconsistent),
     ("DROP TABLE desk", OpenFault::NotADesk),
 ];
 
-/// Why a database is not opened, told again where memory was refused.
-fn fault_again(
+/// The database of a desk to which something was done.
+fn unsound(rt: &impl Abort, alloc: Global, sql: &str) -> Result<Connection<MemStore>, Fail> {
+    let mut conn = into_connection(made(rt, alloc, FEW, FEW.len())?);
+    if run(&mut conn, sql).is_err() {
+        run(&mut conn, sql)?;
+    }
+    Ok(conn)
+}
+
+/// Why a database is not opened, and the connection.
+fn fault_of(
     rt: &impl Abort,
     alloc: Global,
     conn: Connection<MemStore>,
-) -> Result<OpenFault, Fail> {
-    let Err((fault, conn)) = open_desk(rt, alloc, conn) else {
-        return Err(Fail::new("a desk"));
-    };
-    if fault != OpenFault::Sql {
-        return Ok(fault);
-    }
+) -> Result<(OpenFault, Connection<MemStore>), Fail> {
     match open_desk(rt, alloc, conn) {
         Ok(_) => Err(Fail::new("a desk")),
-        Err((fault, _)) => Ok(fault),
+        Err(refused) => Ok(refused),
     }
 }
 
-fn assert_faults(rt: &impl Abort, alloc: Global, cases: &[(&str, OpenFault)]) -> Result<(), Fail> {
-    for (sql, wanted) in cases {
-        let mut conn = into_connection(made(rt, alloc, FEW, FEW.len())?);
-        run_again(&mut conn, *sql)?;
-        assert_eq!(rt; fault_again(rt, alloc, conn)?, *wanted, "{sql}");
+/// The database of a desk to which something was done is not opened, for this reason. If memory is refused, the
+/// tables but `desk` are left as they were, and the second time it is for this reason.
+fn assert_fault(
+    rt: &impl Abort,
+    alloc: Global,
+    (sql, wanted): (&str, OpenFault),
+) -> Result<(), Fail> {
+    let (first, mut conn) = fault_of(rt, alloc, unsound(rt, alloc, sql)?)?;
+    if first == wanted {
+        return Ok(());
     }
+    assert_eq!(rt; first, OpenFault::Sql, "{sql}");
+    let mut kept = unsound(rt, alloc, sql)?;
+    assert_eq!(rt;
+        others_of(alloc, &mut conn)?,
+        others_of(alloc, &mut kept)?,
+        "{sql}"
+    );
+    let (second, _) = fault_of(rt, alloc, conn)?;
+    assert_eq!(rt; second, wanted, "{sql}");
     Ok(())
 }
 
-/// Puts a deed and an image.
-const FEW: &[Step<'static>] = &[PUT_DEED, PUT_IMAGE];
+fn assert_faults(rt: &impl Abort, alloc: Global, cases: &[(&str, OpenFault)]) -> Result<(), Fail> {
+    for case in cases {
+        assert_fault(rt, alloc, *case)?;
+    }
+    Ok(())
+}
 
 #[test]
 fn no_desk_when_memory_is_refused(rt: HostRuntime) -> Result<(), Fail> {
@@ -537,6 +592,14 @@ const ONE_IMAGE: &[Step<'static>] = &[
     Step::Tells(Question::Image(12, Some(PROGRAM))),
     Step::Tells(Question::Files(12, &[HELLO])),
 ];
+
+/// An empty database is no desk. The call takes no memory, so there is nothing to refuse.
+#[test]
+fn an_empty_database_is_no_desk(rt: HostRuntime) -> Result<(), Fail> {
+    let (fault, _) = fault_of(&rt, rt.alloc(), new_connection(rt.alloc())?)?;
+    assert_eq!(rt; fault, OpenFault::NotADesk);
+    Ok(())
+}
 
 /// Why no desk is made over the database of a desk, told again where memory was refused, which left the tables as
 /// the steps made them.
