@@ -1,6 +1,7 @@
 use Rattle.std.proofs.Common.{◌≡◌, inl, inr, length, refl, sym, ap, subst, true≢false, true, false, arith}
 use Rattle.sqlite.specs.Tree.{Trees}
 use Rattle.sqlite.specs.Schema.{Schema}
+use Rattle.sqlite_schema.specs.Names.{same_name}
 use Rattle.rd_tables.specs.Schemas.{desk_schema, first_schema}
 use Rattle.rd_store.specs.declared.faults.OpenFault.{OpenFault}
 use Rattle.rd_store.specs.declared.faults.OpenFault.TheVariants.{NotADesk, Version as OtherVersion, Inconsistent, Sql}
@@ -21,6 +22,7 @@ consistent desk left h = record {
 }
 
 opened : (desk : Desk) (left : Trees) → IsLeft desk left → (fault : OpenFault) → Refuses fault (record { schema = desk_schema; trees = left }) → fault ≡ Sql
+unfolding same_name
 opened desk left h NotADesk refused = let e : true ≡ false = refused in absurd (true≢false e)
 opened desk left h OtherVersion refused = absurd (refused.2 h.of.rows.version)
 opened desk left h Inconsistent refused = absurd (refused.2 (consistent desk left h))
@@ -30,6 +32,7 @@ apart : ¬ (desk_schema ≡ first_schema)
 apart e = let n : 8 ≡ 7 = ap (λ (s : Schema). length s.tables) e in absurd (omega (arith, n))
 
 migrated : (desk : Desk) (left : Trees) → IsLeft desk left → (fault : OpenFault) → RefusesEach fault (record { schema = desk_schema; trees = left }) → fault ≡ Sql
+unfolding same_name
 migrated desk left h NotADesk refused = let e : true ≡ false = refused in absurd (true≢false e)
 migrated desk left h OtherVersion refused = absurd (refused.3 h.of.rows.version)
 migrated desk left h Inconsistent (inl first) = absurd (apart first.0)
