@@ -10,7 +10,8 @@ pub enum Kind {
     Cpm8,
     /// A Commodore 1541 disk of 35 tracks: its 683 blocks of 256 bytes, without error bytes.
     D64,
-    /// The same, followed by 683 error bytes, one for each block (public D64 documentation).
+    /// A Commodore 1541 disk of 35 tracks: its 683 blocks, then 683 error bytes, one for each block,
+    /// in the order of the blocks (public D64 documentation).
     D64e,
 }
 

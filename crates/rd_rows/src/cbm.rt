@@ -1,7 +1,7 @@
 //! Images of 1541 disks, written without the code that reads them. A call fails only when memory
 //! runs out.
 
-ghost use Rattle.std.specs.Prelude.{◌≡◌, ◌<◌, ◌≤◌, ◌+◌, ◌++◌, ◌∷◌, [], length, replicate, vec_len, IfOk, OnOk};
+ghost use Rattle.std.specs.Prelude.{◌≡◌, ◌<◌, ◌≤◌, ◌+◌, ◌++◌, ◌∷◌, [], length, replicate, vec_len, IfOk, OnErr, OnOk};
 ghost use Rattle.rd_geometry.specs.Blocks.{place_of_block, place_of_mark};
 ghost use Rattle.rd_rows.specs.CbmEntries.{place_of_entry, with_entry};
 ghost use Rattle.rd_rows.specs.Written.{written};
@@ -92,9 +92,11 @@ pub fn put_cbm_entry(image: &mut [u8], block: u16, slot: u8, entry: &NewCbmEntry
     );
 }
 
-/// Adds the error bytes of a disk that read without an error to its image: for each block a 1.
+/// Adds the error bytes of a disk that was read without an error to its image: for each block a 1. If memory is
+/// refused, the image is as it was.
 pub fn add_marks(image: &mut Vec<u8>) -> Result<(), NoMemory>
-    ensures { OnOk result (image.new.items ≡ image.old.items ++ replicate 683 1) }
+    ensures added { OnOk result (image.new.items ≡ image.old.items ++ replicate 683 1) }
+    ensures refused { OnErr result (image.new.items ≡ image.old.items) }
 {
     image.extend_from_slice(&[1; 683])?;
     Ok(())
