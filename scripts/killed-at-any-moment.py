@@ -9,8 +9,9 @@ store, until all 40 disks are in and a new museum begins.
 
 After each kill the shell `sqlite3` has to find `PRAGMA integrity_check` ok in a copy of the store, and SQLite has to
 read there what a model in plain Python says: all of each command whose reply `{"done":true}` was read, and of each row
-whose line `<accession> done` was read. The command that was cut off is there whole or not at all, as an image with all
-its files in the index. Then `desk export` opens the store itself, and has to write the catalogue of the model.
+whose line `<accession> done` was read. The command that was cut off is there whole or not at all, as an image with its
+error bytes and all its files in the index. Then `desk export` opens the store itself, and has to write the catalogue of
+the model.
 
 This shows what a kill leaves on the file system of this machine, and not what a loss of power leaves: after a kill the
 system still has all that the desk wrote.

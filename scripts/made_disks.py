@@ -74,7 +74,16 @@ def known(slot, user, kind, size, name, units, last):
     return fields, (slot, name, kind, user, 1, size, 0, places, last)
 
 
-MAKERS = {"cpm8": cpm_disk, "d64": cbm_disk}
+def marked_disk(chance):
+    """A 1541 disk with error bytes, which are 0 or 1 for the blocks of files and anything for all others."""
+    plain = cbm_disk(chance)
+    places = b"".join(row[7] for row in plain.rows)
+    used = {int.from_bytes(places[at : at + 2], "big") for at in range(0, len(places), 2)}
+    marks = bytes(chance.randint(0, 1 if block in used else 255) for block in range(len(ALL_BLOCKS)))
+    return plain._replace(kind="d64e", bytes=plain.bytes + marks)
+
+
+MAKERS = {"cpm8": cpm_disk, "d64": cbm_disk, "d64e": marked_disk}
 
 
 class KnownDisks:

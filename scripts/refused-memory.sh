@@ -107,31 +107,34 @@ holds() {
 
 # over BEFORE AFTER TEXT COMMAND..: over a copy of the store BEFORE the command writes the text and makes of it the store
 # AFTER. Or it says that memory was refused, has written nothing (or $first, if that is given) and has not changed the
-# store; a second run then does all this.
+# store (or has made it $between, if that is given); a second run then does all this.
 over() {
     local before=$1 after=$2 text=$3
     shift 3
     copy "$before" "$room/now"
     run refused "$@"
     if ! ended "$text"; then
-        was_refused && { wrote "" || wrote "${first:-}"; } && holds "$before" || { odd; return; }
+        was_refused && { wrote "" || wrote "${first:-}"; } || { odd; return; }
+        holds "$before" || holds "${between:-$before}" || { odd; return; }
         run "$@"
         ended "$text" || { odd; return; }
     fi
     holds "$after" || odd
 }
 
-# imports: the same of an import, but a row that it took in stays, whether it said so or not
+# imports BEFORE AFTER TEXT COMMAND..: the same of an import, but a row that it took in stays, whether it said so or not
 imports() {
-    copy "$work/ruled" "$room/now"
-    run refused "${import[@]}"
-    if ! ended "12 done"; then
-        was_refused && { wrote "" || wrote "12 done"; } || { odd; return; }
-        holds "$work/filled" || { wrote "" && holds "$work/ruled"; } || { odd; return; }
-        run "${import[@]}"
-        ended "12 done" || { odd; return; }
+    local before=$1 after=$2 text=$3
+    shift 3
+    copy "$before" "$room/now"
+    run refused "$@"
+    if ! ended "$text"; then
+        was_refused && { wrote "" || wrote "$text"; } || { odd; return; }
+        holds "$after" || { wrote "" && holds "$before"; } || { odd; return; }
+        run "$@"
+        ended "$text" || { odd; return; }
     fi
-    holds "$work/filled" || odd
+    holds "$after" || odd
 }
 
 # makes NAME BEFORE TEXT COMMAND..: makes the store NAME by the command, from a copy of the store BEFORE, and dumps it
@@ -141,6 +144,11 @@ makes() {
     copy "$before" "$room/now"
     run "$@"
     ended "$text" && copy "$room/now" "$work/$name" && dump "$work/$name" >"$work/$name.sql"
+}
+
+# sheet ACCESSION KIND IMAGE: prints a sheet of one image
+sheet() {
+    printf 'accession,kind,deed,sha256,file\n%s,%s,7,%s,%s\n' "$1" "$2" "$(sha256sum <"$3" | cut -c 1-64)" "$3"
 }
 
 for crate in rd_policy_tests rd_rows_tests rd_store_tests rd_desk_tests rd_http_tests rd_main; do
@@ -153,25 +161,31 @@ for crate in rd_policy_tests rd_rows_tests rd_store_tests rd_desk_tests rd_http_
 done
 
 init=("$work/desk" init --store "$store" --key abc)
-import=("$work/desk" import --store "$store" --key abc --sheet "$work/sheet" "${when[@]}")
+import=("$work/desk" import --store "$store" --key abc "${when[@]}" --sheet)
 export=("$work/desk" export --store "$store" "${when[@]}")
 check=("$work/desk" check --store "$store" --key abc --acc 12 "${when[@]}")
 serve=("$work/desk" serve --store "$store" --port "$port" --count 0)
 table='accession,deed,kind,slot,user,name,type,size,faults,rule,effect
 12,7,cpm8,0,0,HELLO.TXT,TXT,128,,R7.20,read'
 rows="INSERT INTO deed VALUES (7, 'A. Curator', 18020); INSERT INTO rule VALUES (1, 7, 20, 7, NULL, NULL, 0, 0, '', 2)"
-printf 'accession,kind,deed,sha256,file\n12,cpm8,7,%s,%s\n' "$(sha256sum <"$work/image" | cut -c 1-64)" "$work/image" >"$work/sheet"
+back="DROP TABLE marks; UPDATE desk SET version = 1"
+sheet 12 cpm8 "$work/image" >"$work/plain.csv"
+sheet 13 d64e images/damaged.d64 >"$work/marked.csv"
 mkdir "$work/none" && dump "$work/none" >"$work/none.sql"
 makes made "$work/none" "done" "${init[@]}" &&
     makes ruled "$work/made" "" sqlite3 -batch -bail "$store" "$rows" &&
-    makes filled "$work/ruled" "12 done" "${import[@]}" &&
-    makes checked "$work/filled" "12 sound" "${check[@]}" || fails "no stores to run on: $(cat "$work/stderr")"
+    makes filled "$work/ruled" "12 done" "${import[@]}" "$work/plain.csv" &&
+    makes marked "$work/ruled" "13 done" "${import[@]}" "$work/marked.csv" &&
+    makes checked "$work/filled" "12 sound" "${check[@]}" &&
+    makes first "$work/filled" "" sqlite3 -batch -bail "$store" "$back" || fails "no stores to run on: $(cat "$work/stderr")"
 
 sweep "desk cat of a file" cats "$work/image"
 sweep "desk cat of standard input" cats -
 sweep "desk init" over "$work/none" "$work/made" "done" "${init[@]}"
-sweep "desk import" imports
+sweep "desk import" imports "$work/ruled" "$work/filled" "12 done" "${import[@]}" "$work/plain.csv"
+sweep "desk import of a disk with error bytes" imports "$work/ruled" "$work/marked" "13 done" "${import[@]}" "$work/marked.csv"
 sweep "desk export" over "$work/filled" "$work/filled" "$table" "${export[@]}"
+between=$work/filled sweep "desk export of a store of version 1" over "$work/first" "$work/filled" "$table" "${export[@]}"
 sweep "desk check" over "$work/filled" "$work/checked" "12 sound" "${check[@]}"
 first="listening 127.0.0.1:$port" sweep "desk serve" over "$work/filled" "$work/filled" "listening 127.0.0.1:$port
 served 0" "${serve[@]}"
