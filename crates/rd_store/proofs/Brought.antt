@@ -28,7 +28,7 @@ use Rattle.rd_store.specs.Spelled.{SpellDesk, HasVersion, HaveOwnRowids, desk_of
 use Rattle.rd_store.specs.Created.{IsAt, IsUntouched, Turns}
 use Rattle.rd_store.specs.Held.{Holds, HoldsDesk, IsClean, IsDeskAt, IsLeft, IsOf, IsOpen, Stays}
 use Rattle.rd_store.specs.Opened.{IsHeld, IsSettledAt}
-use Rattle.rd_store.specs.Migrated.{IsFirst, IsHalfway, IsHeldFirst, IsMigrated, IsNotMigrated, LeavesOldOrMigrated, first_desk}
+use Rattle.rd_store.specs.Migrated.{IsFirst, IsFirstConsistent, IsHalfway, IsHeldFirst, IsMigrated, IsNotMigrated, IsSecondConsistent, LeavesOldOrMigrated, first_desk}
 use Rattle.rd_store.proofs.Creating.{one_made}
 use Rattle.rd_store.proofs.Laws.{Laws, lasts_still, lasts_then, leaves_only, left_is}
 use Rattle.rd_store.proofs.Single.{rests_on}
@@ -112,6 +112,13 @@ module _ (desk : Desk) where
 
 -- ---- the whole
 
+-- a lawful desk is spelled by consistent rows
+consistent_first : (db : Database) → IsHeldFirst db → IsFirstConsistent db
+consistent_first db it = (it.of.schema, record { spelled = it.of.rows; lawful = it.lawful; index = it.of.index })
+
+consistent_second : (db : Database) → IsHeld db → IsSecondConsistent db
+consistent_second db it = (it.of.schema, record { spelled = it.of.rows; lawful = it.lawful; index = it.of.index })
+
 -- what a query leaves, as a call that leaves the database as it was
 module _ {S : Type 0} (g : Ghosts S) (a b : Held S) (settled : IsSettledAt (state g a)) (stays : Stays g a b) where
   pub untouched_by : IsOpen g b → IsUntouched g a b
@@ -130,7 +137,8 @@ module _ {S : Type 0} (g : Ghosts S) (a b : Held S) (settled : IsSettledAt (stat
     lasts = stays.lasts;
     named = named;
     plain = plain;
-    is = λ o. let it = held o in inr ((it.of.schema, record { spelled = it.of.rows; lawful = it.lawful; index = it.of.index }), ap (λ (db : Database). desk_of db.trees) (sym (stays.now o)));
+    is = λ o. inr (consistent_second (state g a).now (held o), ap (λ (db : Database). desk_of db.trees) (sym (stays.now o)));
+    tables = λ o. consistent_second (state g b).now (rests_by o (held o)).holds;
     untouched = λ o second. untouched_by o;
     ends_open = ends_open;
     crash = λ was clean left may. inl (stays.quiet was clean left may);
@@ -160,7 +168,7 @@ module _ {S : Type 0} (g : Ghosts S) (a b : Held S) (settled : IsSettledAt (stat
         elim (turns.crash o clean left may) [
           | inl before ↦ inl (stays.quiet was early left before)
           | inr made ↦ inr (
-            (held o).of.schema,
+            consistent_first (state g a).now (held o),
             subst (λ (db : Database). IsLeft (first_desk db.trees) left) (stays.now o) (left_is (first_desk (state g b).now.trees) made.0 left (record { of = made.1; lawful = lawful o }) made.2),
           )
         ]
@@ -178,8 +186,8 @@ module _ {S : Type 0} (g : Ghosts S) (a b : Held S) (settled : IsSettledAt (stat
         plain = plain;
         is = λ o.
             let was = turns.lasts.was_open o in
-            let it = held was in
-            inl ((it.of.schema, record { spelled = it.of.rows; lawful = it.lawful; index = it.of.index }), ap (λ (db : Database). first_desk db.trees) (sym (stays.now was)) ∙ sym (turns.ok o).holds.is);
+            inl (consistent_first (state g a).now (held was), ap (λ (db : Database). first_desk db.trees) (sym (stays.now was)) ∙ sym (turns.ok o).holds.is);
+        tables = λ o. consistent_second (state g c).now (brought o).holds;
         untouched = λ o second. let wrong : first_schema ≡ desk_schema = sym (held (turns.lasts.was_open o)).of.schema ∙ second in absurd (apart wrong);
         ends_open = turns.ends_open;
         crash = crashed (Ok value) turns;
@@ -202,6 +210,7 @@ module _ {S : Type 0} (g : Ghosts S) (a b : Held S) (settled : IsSettledAt (stat
           let now = at.holds ∙ stays.now was in
           record { was_open = stays.lasts.was_open was; now = now; committed = at.settled ∙ now ∙ sym (settled.settled (stays.lasts.was_open was)); autocommit = at.autocommit ∙ sym settled.autocommit };
       ends_open = λ not_desk not_sql clean. absurd (not_sql refl);
+      quiet = λ not_sql was clean left may. absurd (not_sql refl);
       crash = crashed (Err e) turns;
     })
 

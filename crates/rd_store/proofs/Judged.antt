@@ -77,17 +77,22 @@ module _ {S : Type 0} (g : Ghosts S) (a b : Held S) {T U : Type 0} (Good : T →
   told_err fault (Ok value) is worse tests = absurd is
   told_err fault (Err other) is worse tests = subst (λ e. TestsDatabase {T = U} g a b (Err e) More Worse) (sym is) (record { stays = tests.stays; holds = λ o. tt; refused = λ o. worse (tests.refused o); ends_open = λ clean. tt; refuses = tests.refuses })
 
--- a refusal of tables of version 2
-pub each_of : (fault : OpenFault) (db : Database) → fault ≢ NotADesk → fault ≢ OtherVersion → Refuses fault db → RefusesEach fault db
-each_of NotADesk db not_desk known refused = absurd (not_desk refl)
-each_of OtherVersion db not_desk known refused = absurd (known refl)
-each_of Inconsistent db not_desk known refused = inr refused
-each_of Sql db not_desk known refused = refused
+-- a refusal of tables that say version 2
+pub each_of : (fault : OpenFault) (db : Database) → HasVersion 2 (db.trees 0) → Refuses fault db → RefusesEach fault db
+each_of NotADesk db version refused = refused
+each_of OtherVersion db version refused = absurd (refused.2 version)
+each_of Inconsistent db version refused = inr refused
+each_of Sql db version refused = refused
 
-pub each_database : {S T : Type 0} (g : Ghosts S) (a b : Held S) (r : Result T OpenFault) → IfErr r (λ fault. (fault ≢ NotADesk) × (fault ≢ OtherVersion)) → TestsDatabase g a b r (λ _. IsHeld) Refuses
-    → TestsDatabase g a b r (λ _. IsHeld) RefusesEach
-each_database g a b (Ok value) known tests = record { stays = tests.stays; holds = tests.holds; refused = λ o. tt; ends_open = tests.ends_open; refuses = tt }
-each_database g a b (Err fault) known tests = record { stays = tests.stays; holds = λ o. tt; refused = λ o. each_of fault (state g a).now known.0 known.1 (tests.refused o); ends_open = λ clean. tt; refuses = tests.refuses }
+pub each_database : {S T : Type 0} (g : Ghosts S) (a b : Held S) (r : Result T OpenFault) → (IsOpen g a → HasVersion 2 ((state g a).now.trees 0)) → TestsDatabase g a b r (λ _. IsHeld) Refuses → TestsDatabase g a b r (λ _. IsHeld) RefusesEach
+each_database g a b (Ok value) version tests = record { stays = tests.stays; holds = tests.holds; refused = λ o. tt; ends_open = tests.ends_open; refuses = tt }
+each_database g a b (Err fault) version tests = record {
+  stays = tests.stays;
+  holds = λ o. tt;
+  refused = λ o. each_of fault (state g a).now (version (tests.stays.lasts.was_open o)) (tests.refused o);
+  ends_open = λ clean. tt;
+  refuses = tests.refuses;
+}
 
 -- a refusal that is passed on
 pub err_told : {T : Type 0} (q : Result T OpenFault) (fault : OpenFault) → IsErrAnd q (λ other. other ≡ fault) → (P : OpenFault → Type 0) → P fault → IfErr q P
@@ -132,10 +137,6 @@ hold_ok (Err e) O P Q holds from = tt
 pub ok_any : {T X : Type 0} (r : Result T X) (P : Type 0) → P → IfOk r (λ _. P)
 ok_any (Ok value) P holds = holds
 ok_any (Err e) P holds = tt
-
-pub not_desk : {T : Type 0} (r : Result T OpenFault) → IfErr r (λ fault. (fault ≢ NotADesk) × (fault ≢ OtherVersion)) → IfErr r (λ fault. fault ≢ NotADesk)
-not_desk (Ok value) known = tt
-not_desk (Err fault) known = known.0
 
 -- what is told of the version
 pub other_version : (rows : List Row) → HasVersion 1 rows → ¬ HasVersion 2 rows

@@ -55,8 +55,8 @@ module _ (trees : Trees) (deeds : List ℕ) (are : AreKeys (map_of deed_sheet (t
   pub given : LawfulDeeds trees → LawfulImages deeds trees → LawfulGiven trees
   given lawful images = (lawful, lawful_as image_sheet (IsImageOf deeds) (λ e. IsImage e.0 e.1 × IsSome (get (map_of deed_sheet (trees 1)) e.1.deed)) (trees 2) (λ e both. (both.0, (are e.1.deed).0 both.1)) images)
 
-  pub images_of : LawfulGiven trees → LawfulImages deeds trees
-  images_of all = lawful_as image_sheet (λ e. IsImage e.0 e.1 × IsSome (get (map_of deed_sheet (trees 1)) e.1.deed)) (IsImageOf deeds) (trees 2) (λ e both. (both.0, (are e.1.deed).1 both.1)) all.1
+  pub images_in : LawfulGiven trees → LawfulImages deeds trees
+  images_in all = lawful_as image_sheet (λ e. IsImage e.0 e.1 × IsSome (get (map_of deed_sheet (trees 1)) e.1.deed)) (IsImageOf deeds) (trees 2) (λ e both. (both.0, (are e.1.deed).1 both.1)) all.1
 
 module _ (trees : Trees) (deeds accessions : List ℕ) (are : AreNumbers trees deeds accessions) where
   stands_among : (band : Band) (scope : ℕ) → StandsIn trees band scope → StandsAmong accessions deeds band scope

@@ -15,7 +15,7 @@ use Rattle.rd_store.specs.Lawful.{IsLawful}
 use Rattle.rd_store.specs.Index.{IsIndexOf}
 use Rattle.rd_store.specs.Spelled.{SpellDesk, HasVersion, HaveOwnRowids, desk_of, index_of, unmarked}
 use Rattle.rd_store.specs.Created.{IsUntouched}
-use Rattle.rd_store.specs.Held.{IsOpen, IsClean, IsLeft, Lasts, LeavesOnly, desk as desk_at}
+use Rattle.rd_store.specs.Held.{IsOpen, IsClean, IsLeft, Lasts, LeavesOld, LeavesOnly, desk as desk_at}
 use Rattle.rd_store.specs.Opened.{HasDeskFirst, IsConsistent, IsConsistentAs, IsHeld}
 
 -- the desk that the tables of version 1 spell
@@ -42,21 +42,22 @@ RefusesEach Inconsistent db =
     ((db.schema ≡ first_schema) × HasVersion 1 (db.trees 0) × ¬ IsConsistentAs 1 (unmarked db.trees)) ⊎ ((db.schema ≡ desk_schema) × HasVersion 2 (db.trees 0) × ¬ IsConsistent db.trees)
 RefusesEach Sql db = may_be_desk db.schema ≡ true
 
--- where the tables were those of version 1, their desk in those of version 2
+-- where the tables were those of version 1, and their rows consistent, their desk in those of version 2
 abbrev pub IsMigration : Database → Trees → Type 0
-IsMigration db left = (db.schema ≡ first_schema) × IsLeft (first_desk db.trees) left
+IsMigration db left = IsFirstConsistent db × IsLeft (first_desk db.trees) left
 
 -- a crash leaves what it left before, or that
 abbrev pub LeavesOldOrMigrated : {S : Type 0} → Ghosts S → Held S → Held S → Type 0
 LeavesOldOrMigrated g old new = IsOpen g old → IsClean g new → (left : Trees) → g.recovers new.store left → g.recovers old.store left ⊎ IsMigration (state g old).now left
 
--- A desk was opened, after its tables were brought to version 2: it is the one that stood. Tables of version 2 are
--- as they were.
+-- A desk was opened, after its tables were brought to version 2: it is the one that stood. Where the connection is
+-- open, the tables are those of version 2, and their rows consistent. Tables of version 2 are as they were.
 pub record IsMigrated {S : Type 0} (g : Ghosts S) (old new : Held S) : Type 0 where
   pub lasts : Lasts g old new
   pub named : has_desk_columns old.schema ≡ true
   pub plain : has_foreign_desk old.schema ≡ false
   pub is : IsOpen g new → SpellsDesk (state g old).now (desk_at g new)
+  pub tables : IsOpen g new → IsSecondConsistent (state g new).now
   pub untouched : IsOpen g new → (state g old).now.schema ≡ desk_schema → IsUntouched g old new
   pub ends_open : IsClean g new → IsOpen g new
   pub crash : LeavesOldOrMigrated g old new
@@ -65,7 +66,7 @@ pub record IsMigrated {S : Type 0} (g : Ghosts S) (old new : Held S) : Type 0 wh
 -- No desk was opened: NotADesk exactly where no table `desk` with its columns stands, nor one whose columns
 -- are not told, and then nothing was done; where there is one whose columns are not told it is Sql. After Version
 -- and Inconsistent the connection is open, where the disk has returned what was written. Where it is open, its
--- database is as it was.
+-- database is as it was. After each refusal but Sql a crash leaves what it left before.
 pub record IsNotMigrated {S : Type 0} (g : Ghosts S) (old new : Held S) (fault : OpenFault) : Type 0 where
   pub lasts : Lasts g old new
   pub no_desk : MatchBool (may_be_desk old.schema) (fault ≢ NotADesk) (fault ≡ NotADesk)
@@ -74,6 +75,7 @@ pub record IsNotMigrated {S : Type 0} (g : Ghosts S) (old new : Held S) (fault :
   pub same : fault ≡ NotADesk → new ≡ old
   pub untouched : IsOpen g new → IsUntouched g old new
   pub ends_open : fault ≢ NotADesk → fault ≢ Sql → IsClean g new → IsOpen g new
+  pub quiet : fault ≢ Sql → LeavesOld g old new
   pub crash : LeavesOldOrMigrated g old new
 
 -- ---- inside

@@ -61,7 +61,7 @@ registered e = (e.0, accession_of e.1)
 abbrev pub registered_shown : ℕ × ImageRow → Row
 registered_shown e = Int (pos e.0) ∷ given_shown e.1
 
--- the accession that a row shows, where these have error bytes
+-- the accession that a row shows; `marked` are the accessions with error bytes, ascending
 abbrev pub registered_in : List ℕ → Row → ℕ × Accession
 registered_in marked row = (
   natural (column row 0),

@@ -29,10 +29,12 @@ pub enum OpenFault {
     /// There is no table `desk` with the columns of one. A table `desk` whose columns SQL does not
     /// show gives `Sql` instead.
     NotADesk,
-    /// The table `desk` does not have its one row, or the row says another version.
+    /// The table `desk` does not have its one row, or the row says another version than 2; for
+    /// `migrate`, another than 1 and 2.
     Version,
     /// The rows are not those of a desk: a value is out of its range, what it refers to is not there, no staff
-    /// key is there, error bytes stand where no D64 does, or the index of the files is not that of the images.
+    /// key is there, error bytes are not 683 or stand where no D64 does, or the index of the files is not that of
+    /// the images.
     Inconsistent,
     /// Tables are declared in another way, the database failed, or memory ran out.
     Sql,

@@ -108,8 +108,8 @@ fn whole_image<S: Alter>(
     }
 }
 
-/// Whether the rows of the index for an accession, which has error bytes if `is_marked`, are those of the files of
-/// its image, which is walked anew.
+/// Whether the rows of the index for an accession are those of the files of its image, which is walked anew. The
+/// image has error bytes if `is_marked`.
 fn check_files<S: Alter>(
     alloc: Global,
     conn: &mut Connection<S>,
@@ -136,8 +136,8 @@ fn check_files<S: Alter>(
     }
 }
 
-/// Whether an accession is one of these, which ascend.
-fn is_marked(acc: u32, marked: &[u32]) -> bool
+/// Whether an accession is one of those with error bytes, which ascend.
+fn has_error_bytes(acc: u32, marked: &[u32]) -> bool
     requires { IsNonDecreasing marked.now }
     ensures { result ≡ is_among marked.now acc }
 {
@@ -161,7 +161,7 @@ fn check_each<S: Alter>(
     ensures tests { TestsPart S.Store conn.old conn.new result (HaveFiles marked.now accessions.now) (LawfulFiles marked.now accessions.now) }
 {
     for acc in accessions {
-        check_files(alloc, conn, *acc, is_marked(*acc, marked))?;
+        check_files(alloc, conn, *acc, has_error_bytes(*acc, marked))?;
     }
     Ok(())
 }

@@ -52,7 +52,7 @@ fn first_sample(alloc: Global) -> Result<Connection<MemStore>, OpenFault>
     }
 }
 
-/// The version that a database says whose first table is that of the sample.
+/// The version that the row of `desk` says, in a database whose first table is that of the sample.
 fn known_version<S: Alter>(
     conn: &mut Connection<S>,
     sample: &Connection<MemStore>,
@@ -81,7 +81,7 @@ fn judge_second<S: Alter>(
     requires desk { IsOpen S.Store conn.old → has_desk_columns (state S.Store conn.old).now.schema ≡ true }
     requires version { IsOpen S.Store conn.old → HasVersion 2 ((state S.Store conn.old).now.trees 0) }
     ensures tests { TestsDesk S.Store conn.old conn.new result }
-    ensures known { IfErr result (λ fault. (fault ≢ OpenFault.NotADesk) × (fault ≢ OpenFault.Version)) }
+    ensures no_desk { IfErr result (λ fault. fault ≢ OpenFault.NotADesk) }
 {
     if !same_schema(conn.schema(), sample.schema()) {
         return Err(OpenFault::Sql);
@@ -96,10 +96,10 @@ fn judge_first<S: Alter>(alloc: Global, conn: &mut Connection<S>) -> Result<(), 
     requires desk { IsOpen S.Store conn.old → has_desk_columns (state S.Store conn.old).now.schema ≡ true }
     requires version { IsOpen S.Store conn.old → HasVersion 1 ((state S.Store conn.old).now.trees 0) }
     ensures tests { TestsDatabase S.Store conn.old conn.new result (λ done. IsHeldFirst) RefusesEach }
-    ensures known { IfErr result (λ fault. (fault ≢ OpenFault.NotADesk) × (fault ≢ OpenFault.Version)) }
+    ensures no_desk { IfErr result (λ fault. fault ≢ OpenFault.NotADesk) }
 {
-    let sample = first_sample(alloc)?;
-    if !same_schema(conn.schema(), sample.schema()) {
+    let first = first_sample(alloc)?;
+    if !same_schema(conn.schema(), first.schema()) {
         return Err(OpenFault::Sql);
     }
     check_first_rows(alloc, conn)
@@ -118,7 +118,7 @@ fn judge_as<S: Alter>(
     requires desk { IsOpen S.Store conn.old → has_desk_columns (state S.Store conn.old).now.schema ≡ true }
     requires said { IsOpen S.Store conn.old → IsSaid (Some version) ((state S.Store conn.old).now.trees 0) }
     ensures tests { TestsDatabase S.Store conn.old conn.new result (λ done. IsHeldIn version) RefusesEach }
-    ensures known { IfErr result (λ fault. (fault ≢ OpenFault.NotADesk) × (fault ≢ OpenFault.Version)) }
+    ensures no_desk { IfErr result (λ fault. fault ≢ OpenFault.NotADesk) }
 {
     match version {
         Version::First => judge_first(alloc, conn),

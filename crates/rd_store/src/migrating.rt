@@ -23,7 +23,7 @@ fn make_marks<S: Alter>(tx: &mut Transaction<'_, S>) -> Result<usize, Error>
     tx.execute(create_text(7), &[])
 }
 
-/// Says version 2.
+/// Writes version 2 into the row of `desk`, whose table of error bytes stands.
 fn set_version<S: Alter>(tx: &mut Transaction<'_, S>) -> Result<usize, Error>
     ensures same_reference { tx.new.conn.ghost_name ≡ tx.old.conn.ghost_name }
     ensures moves { (desk : _) → Moves S.Store tx.old.conn.now tx.new.conn.now (IsHalfway desk) (IsOf desk) result }
@@ -31,8 +31,8 @@ fn set_version<S: Alter>(tx: &mut Transaction<'_, S>) -> Result<usize, Error>
     tx.execute("UPDATE desk SET version = 2", &[])
 }
 
-/// Brings the tables of version 1 to version 2.
-fn bring<S: Alter>(tx: &mut Transaction<'_, S>) -> Result<usize, Error>
+/// Makes tables of version 1 those of version 2, inside a transaction.
+fn write_second_tables<S: Alter>(tx: &mut Transaction<'_, S>) -> Result<usize, Error>
     ensures same_reference { tx.new.conn.ghost_name ≡ tx.old.conn.ghost_name }
     ensures moves { (desk : _) → Moves S.Store tx.old.conn.now tx.new.conn.now (IsFirst desk) (IsOf desk) result }
 {
@@ -40,18 +40,18 @@ fn bring<S: Alter>(tx: &mut Transaction<'_, S>) -> Result<usize, Error>
     set_version(tx)
 }
 
-/// Brings the tables of version 1 to version 2, in one transaction.
+/// Makes tables of version 1 those of version 2, in one transaction.
 fn write_version<S: Alter>(conn: &mut Connection<S>) -> Result<(), Error>
     requires mode { conn.old.in_transaction ≡ false }
     requires start { IsOpen S.Store conn.old → IsAt (IsFirst (first_desk (state S.Store conn.old).now.trees)) (state S.Store conn.old) }
     ensures turns { Turns S.Store conn.old conn.new (IsOf (first_desk (state S.Store conn.old).now.trees)) result }
 {
     let mut tx = conn.transaction();
-    bring(&mut tx)?;
+    write_second_tables(&mut tx)?;
     tx.commit()
 }
 
-/// Brings the tables of version 1 to version 2, where no transaction has begun.
+/// Makes tables of version 1 those of version 2, where no transaction has begun.
 fn bring_up<S: Alter>(conn: &mut Connection<S>) -> Result<(), OpenFault>
     requires start { IsOpen S.Store conn.old → IsAt (IsFirst (first_desk (state S.Store conn.old).now.trees)) (state S.Store conn.old) }
     ensures turns { Turns S.Store conn.old conn.new (IsOf (first_desk (state S.Store conn.old).now.trees)) result }

@@ -31,7 +31,8 @@ pub(crate) enum Listing {
     Marks,
 }
 
-/// The text that asks for all rows of a table, each with its rowid first.
+/// The text that asks for all rows of a table, each with its rowid first. The number of a deed or of an image and
+/// the accession of error bytes are rowids, since each is an INTEGER PRIMARY KEY.
 fn listing_text(table: Listing) -> &'static str
     ensures { result.now ≡ listing_text table }
 {
@@ -234,7 +235,7 @@ fn check_common<S: Alter>(alloc: Global, conn: &mut Connection<S>) -> Result<Vec
     Ok(accessions)
 }
 
-/// The accessions with error bytes, if the rows of those are of these accessions.
+/// The accessions with error bytes, if each row of error bytes has 683 of them and is of one of these accessions.
 fn check_marks<S: Alter>(
     alloc: Global,
     conn: &mut Connection<S>,

@@ -27,8 +27,8 @@ use sqlite::{Alter, Connection};
 use std::alloc::Global;
 use std::marker::Model;
 
-/// The tables of a desk over a connection: deeds, images with an index of their files, rules, desk keys and
-/// checks.
+/// The tables of a desk over a connection: deeds, images, some with error bytes, an index of their files, rules,
+/// desk keys and checks.
 #[derive(Drop)]
 pub struct Store<S: Alter> {
     conn: Connection<S>,
@@ -86,10 +86,10 @@ impl<S: Alter> Store<S> {
     ///
     /// It fails with `NotADesk` where no table `desk` with the columns of one stands; then with
     /// `Version` where that table comes first and does not have its one row, or the row says
-    /// another version than 2; then with `Inconsistent` where the rows are not those of a desk; and
-    /// with `Sql`, also where another table stands, where one is declared otherwise, and where SQL
-    /// does not show the columns of a table `desk`, because it does not understand something on
-    /// it, such as a trigger.
+    /// another version than 2 (`migrate` opens a desk of version 1 too); then with `Inconsistent`
+    /// where the rows are not those of a desk; and with `Sql`, also where another table stands,
+    /// where one is declared otherwise, and where SQL does not show the columns of a table `desk`,
+    /// because it does not understand something on it, such as a trigger.
     pub fn open(alloc: Global, mut conn: Connection<S>) -> Result<Store<S>, Refused<OpenFault, S>>
         requires outside { conn.in_transaction ≡ false }
         ensures opened { IfOk result (λ store. IsOpened S.Store conn store) }
@@ -102,13 +102,15 @@ impl<S: Alter> Store<S> {
         }
     }
 
-    /// Opens the desk that a database holds, after bringing tables of version 1 to version 2: in one transaction it
-    /// makes the table of error bytes, without rows, and sets the version. The desk is the same. Tables of version
-    /// 2 it leaves as they are. The connection is outside a transaction.
+    /// Opens the desk that a database holds, after bringing tables of version 1 to version 2. It tests the rows as
+    /// `open` does, and walks each image once. Then in one transaction it makes the table of error bytes, without
+    /// rows, and sets the version. The desk is the same, and a crash leaves it too, in tables of version 1 or in
+    /// those of version 2. There is no way back to version 1. Tables of version 2 it leaves as they are. The
+    /// connection is outside a transaction.
     ///
     /// It fails as `open` does: with `Version` where the row says neither 1 nor 2, with `Inconsistent` where the
-    /// rows are not those of a desk of their version, and with `Sql` also where another table than those of their
-    /// version stands. The database is then as it was.
+    /// rows are not those of a desk of their version, and with `Sql` also where the tables are not those of the
+    /// version that the row says. The database is then as it was.
     pub fn migrate(
         alloc: Global,
         mut conn: Connection<S>,

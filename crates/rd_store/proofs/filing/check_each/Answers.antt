@@ -29,8 +29,8 @@ check_files-requires-clause-tables g c = stays_common g.S.Store c.args.conn.now 
 
 pub check_files-requires-clause-marks : goal.check_files-requires-clause-marks
 check_files-requires-clause-marks g c =
-    stays_marks g.S.Store c.args.conn.now c.loop-acc.conn c.loop-acc.invariant.0 c.is_marked.result
-    (subst (λ b. HoldsMarksIf b (state g.S.Store c.args.conn.now)) (sym c.is_marked.ensures) (c.requires.marks (slice_index c.args.accessions.now c.loop-acc.acc-index)))
+    stays_marks g.S.Store c.args.conn.now c.loop-acc.conn c.loop-acc.invariant.0 c.has_error_bytes.result
+    (subst (λ b. HoldsMarksIf b (state g.S.Store c.args.conn.now)) (sym c.has_error_bytes.ensures) (c.requires.marks (slice_index c.args.accessions.now c.loop-acc.acc-index)))
 
 pub returns-in_err-check_files : goal.returns-in_err-check_files
 returns-in_err-check_files g c = record {
@@ -49,9 +49,9 @@ returns-in_err-check_files g c = record {
         let middle = (state g.S.Store c.loop-acc.conn).now.trees in
         let fault = c.in_err-check_files.field-0.0 in
         let part = λ (lawful : LawfulFiles marked accessions trees).
-        subst (λ (db : Database). IsFiledAt c.is_marked.result one db.trees) (sym same) (subst (λ b. IsFiledAt b one trees) (sym c.is_marked.ensures) (filed_at marked accessions trees one (has_at accessions c.loop-acc.acc-index c.loop-acc-test.true) lawful)) in
+        subst (λ (db : Database). IsFiledAt c.has_error_bytes.result one db.trees) (sym same) (subst (λ b. IsFiledAt b one trees) (sym c.has_error_bytes.ensures) (filed_at marked accessions trees one (has_at accessions c.loop-acc.acc-index c.loop-acc-test.true) lawful)) in
         part_err (HaveFiles marked accessions trees) (LawfulFiles marked accessions trees) c.from_residual.result fault c.from_residual.ensures.1
-        (denied_part (IsFiledAt c.is_marked.result one middle) (LawfulFiles marked accessions trees) fault part (c.in_err-check_files.ensures.tests.judges is_open));
+        (denied_part (IsFiledAt c.has_error_bytes.result one middle) (LawfulFiles marked accessions trees) fault part (c.in_err-check_files.ensures.tests.judges is_open));
   };
 }
 
@@ -70,7 +70,7 @@ loop-acc-preserved g c = (
         | inl before ↦ c.loop-acc.invariant.2 was acc before
         | inr is ↦
             let middle = (state g.S.Store c.loop-acc.conn).now in
-            let files = subst (λ b. HasFiles b one middle.trees) c.is_marked.ensures (c.in_ok-check_files.ensures.tests.judges is_open) in
+            let files = subst (λ b. HasFiles b one middle.trees) c.has_error_bytes.ensures (c.in_ok-check_files.ensures.tests.judges is_open) in
             subst (λ n. HasFiles (is_among marked n) n (state g.S.Store c.args.conn.now).now.trees) (sym is) (subst (λ (db : Database). HasFiles (is_among marked one) one db.trees) (c.loop-acc.invariant.0.now was) files)
       ],
 )

@@ -1,16 +1,18 @@
-use Rattle.std.proofs.Common.{◌≡◌, ◌∙◌, refl, sym, ap, subst, Option, Some, None, Ok, Err, is_ok, option_map}
+use Rattle.std.proofs.Common.{◌≡◌, ◌≢◌, ◌∙◌, rules, refl, sym, ap, subst, Option, Some, None, IsSome, Ok, Err, is_ok, option_map, ℕ}
 use Rattle.std.specs.FinMap.{get}
 use Rattle.sqlite.specs.Effect.{Database}
 use Rattle.rd_store.specs.declared.faults.StoreFault.TheVariants.{Sql, Missing, Conflict}
 use Rattle.rd_store.specs.declared.images.Heading.{Heading}
+use Rattle.rd_store.specs.declared.rows.DeedRow.{DeedRow}
 use Rattle.rd_store.specs.declared.rows.ImageRow.{ImageRow}
 use Rattle.rd_store.specs.Held.{Stays, IsOpen, desk}
 use Rattle.rd_store.specs.Shown.{heading_of}
 use Rattle.rd_store.specs.Spelled.{desk_of}
-use Rattle.rd_store.specs.State.{Desk, put_or_kept, with_image}
+use Rattle.rd_store.specs.State.{Desk, HasOtherImage, put_or_kept, with_image}
 use Rattle.rd_store.proofs.Laws.{Laws, stays_then, stays_changes}
 use Rattle.rd_store.proofs.Changing.{refused, then_told}
 use Rattle.rd_store.proofs.images.put_image.Goals as goal
+use Rattle.rd_store.proofs.images.put_image.Goals.{else-eq-via-then-eq+then-heading-deed+else-eq-2, else-eq-via-then-eq+else-heading-deed, else-eq-via-else-eq}
 
 -- an image that stands is kept
 kept_image : (d : Desk) (acc : _) (image : ImageRow) (found : Option ImageRow) (heading : Heading) → Some heading ≡ option_map heading_of found → d ≡ put_or_kept found acc image d
@@ -98,3 +100,34 @@ returns-in_err-files-in-None-clause-changes g c =
     let new = c.heading_at.new.conn in
     let stays : Stays g.S.Store old new = stays_then g.S.Store old c.deed.new.conn new c.deed.ensures.asks.stays c.in_ok-deed.ensures.asks.ends_open c.heading_at.ensures.asks.stays in
     refused g.S.Store old new stays laws c.requires.holds (with_image c.args.acc image (desk g.S.Store old)) c.from_residual-in_err-files-in-None.result c.from_residual-in_err-files-in-None.ensures.0
+
+-- another image stands
+other_image : (d : Desk) (acc : ℕ) (image : ImageRow) (heading : Heading) → Some heading ≡ option_map heading_of (get d.images acc) → ¬ ((heading.kind ≡ image.kind) × (heading.deed ≡ image.deed) × (heading.digest ≡ image.digest)) → HasOtherImage d acc image
+other_image d acc image heading is other = from (get d.images acc) refl is
+  where
+    from : (found : Option ImageRow) → get d.images acc ≡ found → Some heading ≡ option_map heading_of found → HasOtherImage d acc image
+    from None at was = absurd cc
+    from (Some standing) at was =
+        let same : heading ≡ heading_of standing = cc in
+        (standing, at, subst (λ (h : Heading). ¬ ((h.kind ≡ image.kind) × (h.deed ≡ image.deed) × (h.digest ≡ image.digest))) same other)
+
+pub returns-in-Some-clause-judges : goal.returns-in-Some-clause-judges
+returns-in-Some-clause-judges g c =
+    let image : ImageRow = record { kind = c.args.kind; deed = c.args.deed; digest = c.args.digest.now; bytes = c.args.bytes.now } in
+    let acc = c.args.acc in
+    let old = c.args.conn.now in
+    let mid = c.deed.new.conn in
+    let new = c.heading_at.new.conn in
+    let heading = c.in-Some.heading in
+    let same : IsOpen g.S.Store mid → desk g.S.Store mid ≡ desk g.S.Store old = λ o. ap (λ (db : Database). desk_of db.trees) (c.deed.ensures.asks.stays.now o) in
+    let found : IsOpen g.S.Store new → Some heading ≡ option_map heading_of (get (desk g.S.Store old).images acc) =
+    λ o. subst (λ (d : Desk). Some heading ≡ option_map heading_of (get d.images acc)) (same (c.heading_at.ensures.asks.stays.lasts.was_open o)) (sym c.in-Some.is ∙ c.in_ok-heading.ensures.asks.answer o) in
+    let other : ¬ ((heading.kind ≡ image.kind) × (heading.deed ≡ image.deed) × (heading.digest ≡ image.digest)) =
+    λ all. elim c.else-eq.branch [
+      | else-eq-via-then-eq+then-heading-deed+else-eq-2 w ↦ let apart : heading.digest ≢ image.digest = search rules in apart all.2
+      | else-eq-via-then-eq+else-heading-deed w ↦ w.if-heading-deed.false all.1
+      | else-eq-via-else-eq w ↦ let apart : heading.kind ≢ image.kind = search rules in apart all.0
+    ] in
+    let some : IsSome c.in_ok-deed.field-0 = search rules in
+    let there : IsOpen g.S.Store new → IsSome (get (desk g.S.Store old).deeds c.args.deed) = λ o. subst (λ (row : Option DeedRow). IsSome row) (c.in_ok-deed.ensures.asks.answer (c.heading_at.ensures.asks.stays.lasts.was_open o)) some in
+    record { told = λ o. (there o, other_image (desk g.S.Store old) acc image heading (found o) other); ends_open = c.in_ok-heading.ensures.asks.ends_open }

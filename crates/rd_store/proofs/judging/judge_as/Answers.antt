@@ -18,4 +18,4 @@ returns-in-First-clause-tests g c = subst (λ (v : Version). TestsDatabase g.S.S
 pub returns-in-Second-clause-tests : goal.returns-in-Second-clause-tests
 returns-in-Second-clause-tests g c =
     subst (λ (v : Version). TestsDatabase g.S.Store c.args.conn.now c.judge_second.new.conn c.judge_second.result (λ _. IsHeldIn v) RefusesEach) (sym c.in-Second.is)
-    (each_database g.S.Store c.args.conn.now c.judge_second.new.conn c.judge_second.result c.judge_second.ensures.known c.judge_second.ensures.tests)
+    (each_database g.S.Store c.args.conn.now c.judge_second.new.conn c.judge_second.result (λ is_open. subst (λ (v : Version). IsSaid (Some v) ((state g.S.Store c.args.conn.now).now.trees 0)) c.in-Second.is (c.requires.said is_open)) c.judge_second.ensures.tests)

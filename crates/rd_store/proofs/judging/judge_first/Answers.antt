@@ -8,11 +8,11 @@ use Rattle.rd_store.proofs.judging.judge_first.Goals as goal
 pub check_first_rows-requires-clause-tables : goal.check_first_rows-requires-clause-tables
 check_first_rows-requires-clause-tables g c is_open =
     let rests = c.requires.rests is_open in
-    let schema : (state g.S.Store c.args.conn.now).now.schema ≡ first_schema = sym c.schema.ensures.value ∙ c.if-not-same_schema.ensures refl ∙ c.schema-2.ensures.value ∙ c.in_ok-sample.ensures.schema in
+    let schema : (state g.S.Store c.args.conn.now).now.schema ≡ first_schema = sym c.schema.ensures.value ∙ c.if-not-same_schema.ensures refl ∙ c.schema-2.ensures.value ∙ c.in_ok-first.ensures.schema in
     record { more = _; rests = record { schema = schema; settled = rests.settled; autocommit = rests.autocommit } }
 
-pub returns-in_err-sample-clause-tests : goal.returns-in_err-sample-clause-tests
-returns-in_err-sample-clause-tests g c = record {
+pub returns-in_err-first-clause-tests : goal.returns-in_err-first-clause-tests
+returns-in_err-first-clause-tests g c = record {
   stays = stays_here g.S.Store c.args.conn.now (λ is_open. (c.requires.rests is_open).autocommit);
   holds = search rules;
   refused = search rules;
@@ -31,5 +31,5 @@ returns-then-not-same_schema-clause-tests g c = record {
 
 pub returns-clause-tests : goal.returns-clause-tests
 returns-clause-tests g c =
-    let schema : (state g.S.Store c.args.conn.now).now.schema ≡ first_schema = sym c.schema.ensures.value ∙ c.if-not-same_schema.ensures refl ∙ c.schema-2.ensures.value ∙ c.in_ok-sample.ensures.schema in
+    let schema : (state g.S.Store c.args.conn.now).now.schema ≡ first_schema = sym c.schema.ensures.value ∙ c.if-not-same_schema.ensures refl ∙ c.schema-2.ensures.value ∙ c.in_ok-first.ensures.schema in
     judged_first g.S.Store c.args.conn.now c.check_first_rows.new.conn c.requires.desk c.requires.sound c.check_first_rows.result schema c.requires.version c.check_first_rows.ensures.tests c.check_first_rows.ensures.rowids

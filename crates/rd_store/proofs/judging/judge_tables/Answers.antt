@@ -4,7 +4,7 @@ use Rattle.sqlite.specs.Held.{state}
 use Rattle.rd_tables.specs.Schemas.{has_desk_columns}
 use Rattle.rd_store.specs.Opened.{IsHeld, IsSaid, Refuses}
 use Rattle.rd_store.specs.Spelled.{HasVersion}
-use Rattle.rd_store.proofs.Judged.{not_desk, other_version, still, still_resting, then_database}
+use Rattle.rd_store.proofs.Judged.{other_version, still, still_resting, then_database}
 use Rattle.rd_store.proofs.judging.judge_tables.Goals as goal
 
 pub returns-in_default-clause-tests : goal.returns-in_default-clause-tests
@@ -39,9 +39,6 @@ judge_second-requires-clause-version g c is_open =
     let stays = c.known_version.ensures.asks.stays in
     subst (λ (db : Database). HasVersion 2 (db.trees 0)) (sym (stays.now is_open)) (subst (λ said. IsSaid said ((state g.S.Store c.args.conn.now).now.trees 0)) (c.in-Some.is ∙ ap Some c.in-Second.is) (c.in_ok-said.ensures.asks.answer is_open))
 
-pub returns-in-Second-clause-tests : goal.returns-in-Second-clause-tests
-returns-in-Second-clause-tests g c =
+pub returns-clause-tests : goal.returns-clause-tests
+returns-clause-tests g c =
     then_database g.S.Store c.args.conn.now c.known_version.new.conn c.judge_second.new.conn c.known_version.ensures.asks.stays c.in_ok-said.ensures.asks.ends_open c.judge_second.result (λ _. IsHeld) Refuses c.judge_second.ensures.tests
-
-pub returns-in-Second-clause-no_desk : goal.returns-in-Second-clause-no_desk
-returns-in-Second-clause-no_desk g c = not_desk c.judge_second.result c.judge_second.ensures.known

@@ -22,6 +22,7 @@ returns-in_err-version-clause-refused g c =
       same = c.in_err-version.ensures.names.same;
       untouched = untouched_by g.S.Store old new c.requires.settled tests.stays;
       ends_open = tests.refuses;
+      quiet = λ not_sql. tests.stays.quiet;
       crash = λ was clean left may. inl (tests.stays.quiet was clean left may);
     })
 

@@ -3,7 +3,7 @@ use Rattle.sqlite.specs.Effect.{Database}
 use Rattle.sqlite.specs.Held.{state}
 use Rattle.rd_store.specs.Opened.{LawfulGiven, LawfulImages}
 use Rattle.rd_store.proofs.Laws.{stays_common, stays_then}
-use Rattle.rd_store.proofs.Sequels.{denied_part, judged_err, given, images_of}
+use Rattle.rd_store.proofs.Sequels.{denied_part, judged_err, given, images_in}
 use Rattle.rd_store.proofs.opening.check_given.Goals as goal
 
 pub returns-in_err-accessions-clause-tests : goal.returns-in_err-accessions-clause-tests
@@ -19,7 +19,7 @@ returns-in_err-accessions-clause-tests g c = record {
       let middle = (state g.S.Store c.check_deeds.new.conn).now.trees in
       let deeds = c.in_ok-deeds.deeds.items in
       let numbers = c.in_ok-deeds.ensures.numbers was in
-      let part = λ (all : LawfulGiven trees). subst (λ (db : Database). LawfulImages c.deref.result.now db.trees) (sym same) (subst (λ l. LawfulImages l trees) (sym c.deref.ensures.value) (images_of trees deeds numbers all)) in
+      let part = λ (all : LawfulGiven trees). subst (λ (db : Database). LawfulImages c.deref.result.now db.trees) (sym same) (subst (λ l. LawfulImages l trees) (sym c.deref.ensures.value) (images_in trees deeds numbers all)) in
       judged_err (LawfulGiven trees) c.from_residual-in_err-accessions.result c.in_err-accessions.field-0.0 c.from_residual-in_err-accessions.ensures.1
       (denied_part (LawfulImages c.deref.result.now middle) (LawfulGiven trees) c.in_err-accessions.field-0.0 part (c.in_err-accessions.ensures.tests.judges is_open));
 }

@@ -3,7 +3,7 @@ use Rattle.sqlite.specs.declared.error.Error.{Error}
 use Rattle.rd_store.specs.Held.{IsOf, Moves}
 use Rattle.rd_store.specs.Migrated.{IsFirst, IsHalfway}
 use Rattle.rd_store.proofs.Inside.{and_then, stopped}
-use Rattle.rd_store.proofs.migrating.bring.Goals as goal
+use Rattle.rd_store.proofs.migrating.write_second_tables.Goals as goal
 
 pub returns-in_err-make_marks-clause-moves : goal.returns-in_err-make_marks-clause-moves
 returns-in_err-make_marks-clause-moves g c desk =
