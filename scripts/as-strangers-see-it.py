@@ -136,7 +136,7 @@ def new_cbm(random_, path, local):
 
 def new_images(folder):
     """A hundred images with awkward paths: by accession the kind, the deed and the path."""
-    random_ = random.Random(1)
+    random_, chance = random.Random(1), random.Random(2)
     local = os.path.join(folder, "local")
     told = {}
     for acc in range(1, 101):
@@ -145,7 +145,7 @@ def new_images(folder):
         path = os.path.join(folder, f"{name}.{kind}")
         (new_cpm if kind == "cpm8" else new_cbm)(random_, path, local)
         if kind == "d64e":
-            write(path, bytes_of(path) + cbm_image.marks_by_chance(random.Random(acc)))
+            write(path, bytes_of(path) + cbm_image.marks_by_chance(chance, (10, 40)))
         told[acc] = kind, 31 + acc // 2 % 3, path
     return told
 

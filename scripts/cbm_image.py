@@ -21,10 +21,10 @@ def mark_place(track, sector):
     return SIZE + place(track, sector) // 256
 
 
-def marks_by_chance(random_):
-    """The error bytes of a disk, of which up to 40 tell of an error."""
+def marks_by_chance(random_, counts=(0, 1, 10, 40)):
+    """The error bytes of a disk, of which one of these counts tell of an error."""
     marks = bytearray(random_.choice([0, 1]) for _ in range(BLOCKS))
-    for block in random_.sample(range(BLOCKS), random_.choice([0, 1, 10, 40])):
+    for block in random_.sample(range(BLOCKS), random_.choice(counts)):
         marks[block] = random_.randint(2, 255)
     return bytes(marks)
 

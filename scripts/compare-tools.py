@@ -11,6 +11,7 @@ CP/M: users and names are those that cpmls lists. The bytes of each file are tho
 name them (cpm_image.py), and those of cpmcp. 1541: names and types are those that cc1541 lists, in its order, and the
 bytes those of cbmconvert, which has to find no fault. In all of them desk has to tell no fault, and as many bytes as
 it writes; but of a file with a block whose error byte is neither 0 nor 1 it has to tell that it reads with an error.
+At least one file has to be such.
 docs/DECISIONS.md explains the four differences that are allowed: byte S1, blocks on track 76, the short
 images of mkfs.cpm, and DEL files. Run as root, it installs Debian's packages where one is missing."""
 
@@ -54,10 +55,10 @@ def listed(desk, kind, image):
 
 
 class Differences:
-    """Counts what was compared, and keeps what differs."""
+    """Counts what was compared, and the files that read with an error, and keeps what differs."""
 
     def __init__(self):
-        self.comparisons = 0
+        self.comparisons = self.unread = 0
         self.found = []
 
     def expect(self, same, what):
@@ -224,6 +225,7 @@ def compare_d64_file(desk, image, row, number, target, differences):
     slot, _, kind, size, faults, name = row
     what = f"{name} on 1541 image {number}"
     unread = is_unread(image, int(slot), kind)
+    differences.unread += unread
     differences.expect(faults == ("read-error" if unread else ""), f"{what}: {faults}")
     if kind not in ("PRG", "SEQ", "USR") or unread:
         differences.expect(not size, f"{what}: a size of a file that is not given out")
@@ -277,6 +279,9 @@ def main():
             for number in range(IMAGES):
                 compare[kind](desk, number, cwd, differences)
             print(f"{kind}: {IMAGES} images", flush=True)
+    if "d64e" in kinds:
+        print(f"{differences.unread} files read with an error")
+        differences.expect(differences.unread > 0, "no file reads with an error")
     print(f"{differences.comparisons} comparisons, {len(differences.found)} unexplained differences")
     sys.exit(1 if differences.found else 0)
 

@@ -2,14 +2,14 @@
 """scripts/migrate-with-sqlite3.py [PROGRAM]: has desk migrate a store of version 1, and reads it with the shell sqlite3
 before and after.
 
-The store is made by sqlite3 from the statements of crates/rd_trials/data/first-version.trial. Each command that opens a
-store migrates a copy of it: then the version is 2, the table for error bytes stands and is empty, all other rows are as
-they were, and the tables are declared as those of a desk that `init` makes. A second run changes nothing. Copies that are
-no consistent desk of version 1 are refused and stay as they are. Then an image with error bytes is taken in.
+The store is made by sqlite3 from the statements of crates/rd_trials/data/first-version.trial; crates/rd_runs/data must
+have the same file. Each command that opens a store migrates a copy of it: then the version is 2, the table for error
+bytes stands and is empty, all other rows are as they were, and the tables are declared as those of a desk that `init`
+makes. A second run changes nothing. Copies that are no consistent desk of version 1 are refused and stay as they are.
+Then an image with error bytes is taken in.
 
 PROGRAM is ./desk of this repository where none is named. Run as root, it installs Debian's sqlite3 where it is missing."""
 
-import os
 import pathlib
 import shutil
 import subprocess
@@ -18,17 +18,23 @@ import tempfile
 
 import reading_room
 import tools
-from client_cases import PROGRAM_DISK, ROOT, STAFF, bytes_of, digest, get, told
+import trials
+from client_cases import STAFF, bytes_of, digest, get, told
 from clients import Serving, by_client
 
-STATEMENTS = os.path.join(ROOT, "crates", "rd_trials", "data", "first-version.trial")
+STATEMENTS = "first-version.trial"
 ZONE = ["--zone", "CET-1CEST,M3.5.0,M10.5.0/3"]
 AT = ["--at", "1893452400"]
 KEPT = ("deed", "image", "rule", "badge", "found")
+# The checks are looked at on their own: one of them is made here.
+CHECKS = "SELECT acc, day, outcome FROM checked ORDER BY acc, day"
+CHECKED = "12|18262|0\n"
 DECLARED = "SELECT name, sql FROM sqlite_master ORDER BY name"
 STATE = "SELECT version, (SELECT count(*) FROM sqlite_master WHERE name = 'marks') FROM desk"
 COLUMNS = "accession,deed,kind,slot,user,name,type,size,faults,rule,effect\n"
-CATALOGUE = f"{COLUMNS}12,7,d64,0,,HELLO,PRG,258,,R7.20,read\n"
+HELLO = "12,7,d64,0,,HELLO,PRG,258,,R7.20,read\n"
+LOOP = "14,7,d64,0,,LOOP,PRG,,loop,R7.20,read\n"
+RECORD = "15,8,cpm8,0,0,HELLO.TXT,TXT,128,,R8.5,list\n"
 
 
 def shell(store, asked):
@@ -39,12 +45,16 @@ def shell(store, asked):
     return ran.stdout.decode()
 
 
-def statements(disk):
-    """The statements that make the store, with the file of a disk in the place of ?1."""
-    for line in pathlib.Path(STATEMENTS).read_text(encoding="utf-8").splitlines():
-        word, _, statement = line.partition(" ")
+def statements(folder):
+    """The statements that make the store, with the file of an image in the place of ?1."""
+    lines = trials.lines_of(STATEMENTS)
+    for (word, text), (after, name) in zip(lines, [*lines[1:], ("", "")]):
+        if after == "image":
+            path = folder / name
+            tools.write(path, trials.image(name))
+            text = text.replace("?1", f"readfile('{path}')")
         if word in ("sql", "sql-idle"):
-            yield statement.replace("?1", f"readfile('{disk}')") + ";"
+            yield f"{text};"
 
 
 def rows(store):
@@ -58,9 +68,7 @@ class Stage:
     def __init__(self, program, folder, seen):
         self.program, self.folder, self.seen = program, pathlib.Path(folder), seen
         self.first = self.path("first.sqlite")
-        disk = self.path("hello.d64")
-        tools.write(disk, PROGRAM_DISK)
-        shell(self.first, "\n".join(statements(disk)))
+        shell(self.first, "\n".join(statements(self.folder)))
 
     def path(self, name):
         return str(self.folder / name)
@@ -77,11 +85,11 @@ class Stage:
         return ran.returncode, ran.stdout.decode(), ran.stderr.decode()
 
     def is_migrated(self, label, store, checks=""):
-        """The store is of version 2, and all that it had before is there; a check may have recorded itself."""
+        """The store is of version 2, and all that it had before is there; a check may have been recorded since."""
         self.seen.same(f"{label}: version 2 and a table for error bytes", "2|1\n", shell(store, STATE))
         self.seen.same(f"{label}: no error bytes", "0\n", shell(store, "SELECT count(*) FROM marks"))
         self.seen.same(f"{label}: the rows", rows(self.first), rows(store))
-        self.seen.same(f"{label}: the checks", checks, shell(store, "SELECT acc, day, outcome FROM checked"))
+        self.seen.same(f"{label}: the checks", CHECKED + checks, shell(store, CHECKS))
         self.seen.same(f"{label}: sqlite3 finds no fault", "ok\n", shell(store, "PRAGMA integrity_check"))
 
 
@@ -90,12 +98,13 @@ def see_commands(stage):
     sheet = stage.path("none.csv")
     tools.write(sheet, b"accession,kind,deed,sha256,file\n")
     cases = [
-        ("export", [*AT, *ZONE], CATALOGUE, ""),
+        ("export", [*AT, *ZONE], COLUMNS + HELLO + RECORD, ""),
+        ("export", ["--key", "hello", *AT, *ZONE], COLUMNS + HELLO + LOOP + RECORD, ""),
         ("check", ["--key", "abc", "--acc", "12", *AT, *ZONE], "12 sound\n", "12|21915|0\n"),
         ("import", ["--key", "abc", "--sheet", sheet, *AT, *ZONE], "", ""),
     ]
-    for command, words, output, checks in cases:
-        store = stage.copy(command)
+    for n, (command, words, output, checks) in enumerate(cases):
+        store = stage.copy(f"{command}-{n}")
         for label in (command, f"{command}, again"):
             came = stage.run(command, "--store", store, *words)
             stage.seen.same(label, (0, output, ""), came)
@@ -107,7 +116,7 @@ def see_served(stage):
     with Serving(stage.program, store, 1) as serving:
         serving.listens()
         reply = by_client(serving.port, get("/images", STAFF))
-    wanted = told(images=[{"accession": 12, "deed": 7, "files": 1, "kind": "d64"}])
+    wanted = told(images=[{"accession": acc, "deed": 7, "files": 1, "kind": "d64"} for acc in (12, 14)])
     stage.seen.same("serve: a visit", wanted, reply)
     stage.is_migrated("serve", store)
 
@@ -158,7 +167,7 @@ def see_marks(stage):
     stage.seen.same("its disk", f"1|{image[:-683].hex()}\n", shell(store, asked))
     lines = "13,7,d64e,0,,LOGBOOK,SEQ,,read-error,R7.20,read\n13,7,d64e,1,,INDEX,SEQ,252,,R7.20,read\n"
     came = stage.run("export", "--store", store, *AT, *ZONE)
-    stage.seen.same("the catalogue with it", (0, CATALOGUE + lines, ""), came)
+    stage.seen.same("the catalogue with it", (0, COLUMNS + HELLO + lines + RECORD, ""), came)
     words = ["check", "--store", store, "--key", "abc", "--acc", "13", *AT]
     stage.seen.same("a check of it", (0, "13 sound\n", ""), stage.run(*words))
     shell(store, "UPDATE marks SET bytes = CAST(substr(bytes, 1, 682) || x'00' AS BLOB)")
@@ -169,6 +178,8 @@ def main():
     program = reading_room.program(sys.argv[1:])
     tools.install(["sqlite3"], ["sqlite3"])
     seen = reading_room.Seen()
+    one, other = (bytes_of("crates", crate, "data", STATEMENTS) for crate in ("rd_trials", "rd_runs"))
+    seen.same("the same statements in rd_trials and rd_runs", one, other)
     with tempfile.TemporaryDirectory() as folder:
         stage = Stage(program, folder, seen)
         for see in (see_commands, see_served, see_declared, see_refused, see_marks):

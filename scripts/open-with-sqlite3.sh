@@ -80,7 +80,7 @@ image_digest() {
 }
 
 has_rows() {
-    shows '1|1' 'SELECT id, version FROM desk' &&
+    shows '1|2' 'SELECT id, version FROM desk' &&
         shows '7|A. Curator|18020
 8|B. Donor|18321' 'SELECT num, donor, signed FROM deed ORDER BY num' &&
         shows '12|1|7|174848' 'SELECT acc, kind, deed, length(bytes) FROM image' &&
@@ -95,6 +95,7 @@ $(printf abc | sha256sum | cut -c 1-64 | tr a-f A-F)|2" \
         shows '12|0|HELLO|PRG|NULL|1|258|0|0150015A|4' \
             'SELECT acc, slot, name, ty, quote(user_no), served, size, faults, hex(units), last_len FROM found' &&
         shows 0 'SELECT count(*) FROM checked' &&
+        shows 0 'SELECT count(*) FROM marks' &&
         shows ok 'PRAGMA integrity_check'
 }
 

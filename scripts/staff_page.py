@@ -122,11 +122,11 @@ class StaffPage:
 # The disks of this page: their accessions, files and bytes.
 DISKS = [
     (31, "hello.d64", PROGRAM_DISK), (32, "welcome <b>.img", bytes_of("images", "welcome.img")),
-    (33, "museum.d64", bytes_of("images", "museum.d64")),
+    (33, "museum.d64", bytes_of("images", "museum.d64")), (34, "damaged.d64", bytes_of("images", "damaged.d64")),
 ]
 # What the readers see of them: before, with the rules, and with a takedown of the guide, which is at slot 2 of disk 33.
-OPEN = {31: ["HELLO"], 32: ["WELCOME.TXT"], 33: ["TOUR", "-" * 16, "GUIDE"]}
-NONE = {31: [], 32: [], 33: []}
+OPEN = {31: ["HELLO"], 32: ["WELCOME.TXT"], 33: ["TOUR", "-" * 16, "GUIDE"], 34: ["LOGBOOK", "INDEX"]}
+NONE = {31: [], 32: [], 33: [], 34: []}
 BOTH = {**OPEN, 32: ["WELCOME.TXT", "SKEW.TXT"]}
 WITHOUT = ["TOUR", "-" * 16]
 
@@ -185,23 +185,26 @@ NO_KIND += "Commodore 1541 with error bytes has 175,531 bytes."
 
 
 def see_disks(seen, page, room):
-    """Three disks, and a file that is none."""
+    """Four disks, one of them with error bytes, and a file that is none."""
     files = {**{name: data for _, name, data in DISKS}, "short.d64": bytes(100)}
     for name, data in files.items():
         (room.folder / name).write_bytes(data)
     told, rows = page.choose(*(room.folder / name for name in files))
-    seen.same("disks: chosen", ["4 files chosen."], told)
-    kinds = {174848: ("174,848", "Commodore 1541"), 256256: ("256,256", "CP/M, 8 inches")}
+    seen.same("disks: chosen", ["5 files chosen."], told)
+    kinds = {
+        174848: ("174,848", "Commodore 1541"), 175531: ("175,531", "Commodore 1541 with error bytes"),
+        256256: ("256,256", "CP/M, 8 inches"),
+    }
     wanted = [[name, *kinds[len(data)], digest(data), "", "", ""] for _, name, data in DISKS]
     seen.same("disks: the table", [*wanted, ["short.d64", "100", "", "", "", "", NO_KIND]], rows)
     page.number(31, 31)
     page.browser.click("#images [name=count]")
     told, rows = page.press("images")
-    seen.same("disks: put", ["3 disks put, 0 refused."], told)
+    seen.same("disks: put", ["4 disks put, 0 refused."], told)
     wanted = [*([str(number), "31", "done"] for number, _, _ in DISKS), ["", "", NO_KIND]]
     seen.same("disks: results", wanted, [row[4:] for row in rows])
     progress = "const at = document.querySelector('progress'); return [at.value, at.max];"
-    seen.same("disks: the bar", [3, 3], page.browser.script(progress))
+    seen.same("disks: the bar", [4, 4], page.browser.script(progress))
     seen.same("disks: nothing is left", ["0 disks put, 0 refused."], page.press("images")[0])
     see_outside(seen, page, "the disks", OPEN, BOTH)
 
@@ -274,6 +277,13 @@ def see_other_key(seen, page, number):
     page.give(STAFF)
 
 
+# What a survey tells of a disk whose map and sizes are right.
+EXACT = [
+    "0 blocks in use are marked free, 0 others are not; 0 tracks have a wrong count",
+    "0 files with another size than the directory says",
+]
+
+
 def see_looks(seen, page, room):
     page.fill("looks", accession="33")
     told, _ = page.press("looks")
@@ -282,13 +292,23 @@ def see_looks(seen, page, room):
         "3 files: 2 can be given out, 0 damaged", "it ends well",
     ]
     seen.same("survey", wanted, told[:4])
-    words = "0 blocks in use are marked free, 0 others are not; 0 tracks have a wrong count"
-    seen.same("survey: the map", [words, "0 files with another size than the directory says"], told[4:])
+    seen.same("survey: the map", EXACT, told[4:])
+    see_marked(seen, page)
     page.fill("looks", accession="32")
     wanted = ["32, CP/M, 8 inches", "2 files: 2 can be given out, 0 damaged"]
     seen.same("survey: of CP/M", (wanted, 4), (page.press("looks")[0][0:4:2], len(page.of("looks")[0])))
     sound = "Sound: the disk still has the SHA-256 that came with it."
     seen.same("check", [f"Disk 32. {sound}"], page.press("looks", "[name=check]")[0])
+
+
+def see_marked(seen, page):
+    """The survey of the disk with error bytes, of which a block of the first file reads with an error."""
+    page.fill("looks", accession="34")
+    told, _ = page.press("looks")
+    wanted = ["34, Commodore 1541 with error bytes, called \u201cSCRATCHED\u201d"]
+    wanted += ["2 files: 1 can be given out, 1 damaged", "it ends well"]
+    seen.same("survey: with error bytes", wanted, [told[0], *told[2:4]])
+    seen.same("survey: its map", EXACT, told[4:])
 
 
 # Ways to select files, what is typed for each, and how the store has it.
@@ -423,7 +443,7 @@ def see_sent_otherwise(seen, page, room):
         page.browser.script(f"window.fetch = async (path, options) => {reply};")
         seen.same(f"refused: {reply}", wanted, page.press("images")[1][0][6])
     page.browser.script("window.fetch = window.asked;")
-    page.number(34, 31)
+    page.number(37, 31)
     seen.same("refused: and then done", "done", page.press("images")[1][0][6])
 
 

@@ -86,7 +86,7 @@ const LENT: &[Lent] = table![
     ("a block that reads with an error", Kind::D64e, 175_531, true, 16, 0, 254, None);
     ("a block of which no byte is used", Kind::D64, 174_848, true, 0, 0, 0, Some(0));
     ("a byte less than an image", Kind::D64, 174_847, true, 0, 0, 254, None);
-    ("an image of the other kind", Kind::D64, 256_256, true, 0, 0, 254, None);
+    ("an image of another kind", Kind::D64, 256_256, true, 0, 0, 254, None);
     ("a class that is listed only", Kind::D64, 174_848, false, 0, 0, 254, None);
     ("a fault", Kind::D64, 174_848, true, 4, 0, 254, None);
     ("a block past the last", Kind::D64, 174_848, true, 0, 683, 254, None);

@@ -67,6 +67,9 @@ macro_rules! holding {
 
 pub(super) const FILES: &[Case] = table![
     ("a sound file is its chain", ONE_PROGRAM, Wanted::CbmFiles(&[HELLO_TOLD]));
+    ("a block of a file reads with an error", like!(Sample, ONE_PROGRAM, marks: Some(&[(346, 5)])), Wanted::CbmFiles(&[
+        like!(Told, HELLO_TOLD, faults: 16, blocks: &[], last: 0)
+    ]));
     ("a file may have 681 blocks", FULL, Wanted::CbmFiles(&[
         like!(Told, FILE, name: b"LONG", blocks: &[(0, 357), (359, 324)], last: 255, size_field: 681, claimed: 681)
     ]));

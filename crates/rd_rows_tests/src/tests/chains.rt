@@ -1,7 +1,7 @@
 //! Where the blocks of a 1541 disk lead, and the chains of them.
 
 use super::cases::{Case, Wanted, assert_cases};
-use super::sample::{FORMATTED, FULL, LOOPED, ONE_PROGRAM, Runs, Sample, units_of};
+use super::sample::{FORMATTED, FULL, LOOPED, MARKED, ONE_PROGRAM, Runs, Sample, units_of};
 use rd_cbm::{End, Link, chain, link};
 use rd_geometry::{CbmDisk, Image, NoMemory};
 use std::alloc::Global;
@@ -37,6 +37,8 @@ fn blocks_lead_where_their_links_tell(rt: HostRuntime) {
 pub(super) const ENDING: &[Case] = table![
     ("a chain ends at track 0", ONE_PROGRAM, Wanted::Chain((17, 0), &[(336, 1), (346, 1)], End::Last(5)));
     ("a last block without bytes", like!(Sample, ONE_PROGRAM, blocks: &[(346, &[0, 1])]), Wanted::Chain((17, 0), &[(336, 1), (346, 1)], End::Last(1)));
+    ("a chain of a disk with error bytes", like!(Sample, MARKED, marks: Some(&[(336, 5), (346, 5)])), Wanted::Chain((17, 0), &[(336, 1), (346, 1)], End::Last(5)));
+    ("a chain into the last block before the error bytes", like!(Sample, MARKED, blocks: &[(336, &[35, 16]), (682, &[0, 255])]), Wanted::Chain((17, 0), &[(336, 1), (682, 1)], End::Last(255)));
     ("a loop that does not come back to the start", LOOPED, Wanted::Chain((17, 0), &[(336, 3)], End::Loop));
     ("a loop of one block", like!(Sample, LOOPED, blocks: &[(336, &[17, 0])]), Wanted::Chain((17, 0), &[(336, 1)], End::Loop));
     ("a chain from 36/0", FORMATTED, Wanted::Chain((36, 0), &[], End::Off));

@@ -17,6 +17,7 @@ const COUNTED: Sample =
 pub(super) const MAPS: &[Case] = table![
     ("an empty disk has an exact map", FORMATTED, Wanted::Map((0, 0, 0)));
     ("one program", ONE_PROGRAM, Wanted::Map((0, 2, 0)));
+    ("one program with error bytes", like!(Sample, MARKED, marks: Some(&[(336, 5), (357, 5), (682, 5)])), Wanted::Map((0, 2, 0)));
     ("files of other types", MIXED, Wanted::Map((0, 2, 0)));
     ("a full disk", FULL, Wanted::Map((0, 681, 0)));
     ("counts are compared track by track", COUNTED, Wanted::Map((1, 0, 1)));

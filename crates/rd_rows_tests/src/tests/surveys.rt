@@ -141,6 +141,11 @@ pub(super) const OF_CBM: &[Case] = table![
     ("a last block may have no bytes", like!(Sample, ONE_PROGRAM, blocks: &[(346, &[0, 1])]), Wanted::Survey(&[
         like!(Told, HELLO_TOLD, size: Some(254), last_len: 0, contents: Contents::Joined(&[&[b'A'; 254]]))
     ]));
+    ("a block of a file reads with an error, of another none", like!(Sample, CROSSED, marks: Some(&[(336, 5)])), Wanted::Survey(&[
+        like!(Told, A, faults: 24),
+        B,
+        C
+    ]));
     ("names of 1541 files are printed", like!(Sample, FORMATTED, entries: &[(358, 0, like!(NewCbmEntry, PROGRAM, name: b"HI\xa0\""))]), Wanted::Survey(&[
         like!(Told, CBM_FILE, name: b"HI%A0\"", size: Some(0), units: &[(336, 1)], contents: Contents::Joined(&[]))
     ]));
@@ -193,6 +198,10 @@ macro_rules! marked {
 
 const MARKS: &[Case] = table![
     ("error bytes of 1 tell of no error", MARKED, Wanted::Survey(&[HELLO_TOLD]));
+    ("a last block without bytes", like!(Sample, MARKED, blocks: &[(346, &[0, 1])]), Wanted::Survey(&[
+        like!(Told, HELLO_TOLD, size: Some(254), last_len: 0, contents: Contents::Joined(&[&[b'A'; 254]]))
+    ]));
+    ("a last block without bytes reads with an error", like!(Sample, marked!(ONE_PROGRAM, (346, 5)), blocks: &[(346, &[0, 1])]), Wanted::Survey(&[HELLO_UNREAD]));
     ("a block of a file reads with an error", marked!(ONE_PROGRAM, (346, 5)), Wanted::Survey(&[HELLO_UNREAD]));
     ("the first block of a file reads with an error", marked!(ONE_PROGRAM, (336, 2)), Wanted::Survey(&[HELLO_UNREAD]));
     ("the greatest error byte", marked!(ONE_PROGRAM, (346, 255)), Wanted::Survey(&[HELLO_UNREAD]));

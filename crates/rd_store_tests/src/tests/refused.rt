@@ -21,19 +21,27 @@ use std::test::Fail;
 /// Asks for all rows of the table `desk`.
 const DESK: &str = "SELECT id, version FROM desk";
 
-/// Asks for all rows of all other tables; of an image for the number of its bytes.
-const OTHERS: &[&str] = &[
+/// Asks for all rows of the other tables of version 1; of an image for the number of its bytes.
+const FIRST: &[&str] = &[
     "SELECT num, donor, signed FROM deed ORDER BY num",
     "SELECT acc, kind, deed, digest, length(bytes) FROM image ORDER BY acc",
     "SELECT * FROM rule ORDER BY band, scope, rank",
     "SELECT digest, audience FROM badge ORDER BY digest",
     "SELECT acc, day, outcome FROM checked ORDER BY acc, day",
     "SELECT * FROM found ORDER BY acc, slot",
-    "SELECT acc, bytes FROM marks ORDER BY acc",
 ];
+
+/// Asks for all rows of the table that version 1 does not have.
+const MARKS: &str = "SELECT acc, bytes FROM marks ORDER BY acc";
 
 /// Asks how many tables and indexes stand.
 const MADE: &str = "SELECT count(*) FROM sqlite_master";
+
+/// Asks for their names.
+const NAMES: &str = "SELECT name FROM sqlite_master ORDER BY name";
+
+/// Asks how many tables `desk` stand.
+const DESKS: &str = "SELECT count(*) FROM sqlite_master WHERE name = 'desk'";
 
 fn rows(conn: &mut Connection<MemStore>, sql: &str) -> Result<Vec<Row>, Error> {
     conn.query_all(sql, &[])
@@ -45,12 +53,19 @@ fn words_of(alloc: Global, conn: &mut Connection<MemStore>, sql: &str) -> Result
     Ok(format!(in alloc; "{rows:?}\n")?)
 }
 
-/// The rows of all tables but `desk`, in words.
-fn others_of(alloc: Global, conn: &mut Connection<MemStore>) -> Result<String, Fail> {
+/// The rows of the tables of version 1 but `desk`, in words.
+fn first_of(alloc: Global, conn: &mut Connection<MemStore>) -> Result<String, Fail> {
     let mut told = String::new(alloc);
-    for sql in OTHERS {
+    for sql in FIRST {
         told.push_str(words_of(alloc, conn, *sql)?.as_str())?;
     }
+    Ok(told)
+}
+
+/// The rows of all tables but `desk`, in words.
+fn others_of(alloc: Global, conn: &mut Connection<MemStore>) -> Result<String, Fail> {
+    let mut told = first_of(alloc, conn)?;
+    told.push_str(words_of(alloc, conn, MARKS)?.as_str())?;
     Ok(told)
 }
 
@@ -58,6 +73,17 @@ fn others_of(alloc: Global, conn: &mut Connection<MemStore>) -> Result<String, F
 fn tables_of(alloc: Global, conn: &mut Connection<MemStore>) -> Result<String, Fail> {
     let mut told = words_of(alloc, conn, DESK)?;
     told.push_str(others_of(alloc, conn)?.as_str())?;
+    Ok(told)
+}
+
+/// The names of the tables and indexes of a database of version 1, and the rows of all its tables, in words. The
+/// table `desk` may be gone.
+fn first_tables_of(alloc: Global, conn: &mut Connection<MemStore>) -> Result<String, Fail> {
+    let mut told = words_of(alloc, conn, NAMES)?;
+    if number(conn, DESKS)? == 1 {
+        told.push_str(words_of(alloc, conn, DESK)?.as_str())?;
+    }
+    told.push_str(first_of(alloc, conn)?.as_str())?;
     Ok(told)
 }
 
@@ -286,7 +312,7 @@ const CONTROL_PROGRAM: Accession = Accession {
     deed: 7,
 };
 
-/// Puts images of both kinds, and asks for their files.
+/// Puts a CP/M disk and two 1541 disks, and asks for their files.
 const FILES: &[Step<'static>] = &[
     PUT_DEED,
     PUT_IMAGE,
@@ -464,12 +490,14 @@ fn opening_when_memory_is_refused(rt: HostRuntime) -> Result<(), Fail> {
     Ok(())
 }
 
+/// Runs a statement, again where memory was refused, and tells how many rows it changed.
 fn run_again(conn: &mut Connection<MemStore>, sql: &str) -> Result<usize, Error> {
     match run(conn, sql) {
         Ok(count) => Ok(count),
         Err(_) => run(conn, sql),
     }
 }
+
 /// Puts a deed, and images of two disks.
 const FEW: &[Step<'static>] = &[
     PUT_DEED,
@@ -500,9 +528,7 @@ const UNSOUND: &[(&str, OpenFault)] = &[
 /// The database of a desk to which something was done.
 fn unsound(rt: &impl Abort, alloc: Global, sql: &str) -> Result<Connection<MemStore>, Fail> {
     let mut conn = into_connection(made(rt, alloc, FEW, FEW.len())?);
-    if run(&mut conn, sql).is_err() {
-        run(&mut conn, sql)?;
-    }
+    run_again(&mut conn, sql)?;
     Ok(conn)
 }
 
@@ -553,18 +579,25 @@ fn no_desk_when_memory_is_refused(rt: HostRuntime) -> Result<(), Fail> {
     assert_faults(&rt, rt.alloc(), UNSOUND)
 }
 
-/// Asks for the version that the tables say.
-const VERSION: &str = "SELECT version FROM desk";
+/// The database of a desk of version 1.
+fn first_version(rt: &impl Abort, alloc: Global) -> Result<Connection<MemStore>, Fail> {
+    let mut conn = unsound(rt, alloc, "DROP TABLE marks")?;
+    run_again(&mut conn, "UPDATE desk SET version = 1")?;
+    Ok(conn)
+}
 
-/// The desk that a database of version 1 holds, migrated again where memory was refused, which left version 1 and
-/// its tables.
+/// The desk that a database of version 1 holds, migrated again where memory was refused, which left its tables as
+/// they were.
 fn migrate_again(rt: &impl Abort, alloc: Global, conn: Connection<MemStore>) -> Result<Desk, Fail> {
     match migrate_desk(rt, alloc, conn) {
         Ok(desk) => Ok(desk),
         Err((fault, mut conn)) => {
             assert_eq!(rt; fault, OpenFault::Sql);
-            assert_eq!(rt; number(&mut conn, VERSION)?, 1);
-            assert_eq!(rt; number(&mut conn, MADE)?, 11);
+            let mut kept = first_version(rt, alloc)?;
+            assert_eq!(rt;
+                first_tables_of(alloc, &mut conn)?,
+                first_tables_of(alloc, &mut kept)?
+            );
             match migrate_desk(rt, alloc, conn) {
                 Ok(desk) => Ok(desk),
                 Err((fault, _)) => Err(Fail::from(fault)),
@@ -573,25 +606,83 @@ fn migrate_again(rt: &impl Abort, alloc: Global, conn: Connection<MemStore>) -> 
     }
 }
 
+/// Asks for the bytes of an image that `FEW` puts, and for the files of both.
+const TWO_IMAGES: &[Step<'static>] = &[
+    Step::Tells(Question::Image(12, Some(PROGRAM))),
+    Step::Tells(Question::Files(12, &[HELLO])),
+    Step::Tells(Question::Files(14, &[LOOP])),
+];
+
 #[test]
 fn migrating_when_memory_is_refused(rt: HostRuntime) -> Result<(), Fail> {
     let alloc = rt.alloc();
-    let mut conn = into_connection(made(&rt, alloc, FEW, FEW.len())?);
-    run_again(&mut conn, "DROP TABLE marks")?;
-    run_again(&mut conn, "UPDATE desk SET version = 1")?;
-    let desk = migrate_again(&rt, alloc, conn)?;
+    let desk = migrate_again(&rt, alloc, first_version(&rt, alloc)?)?;
     let mut desk = assert_kept(&rt, alloc, desk, FEW, FEW.len())?;
-    for (n, step) in ONE_IMAGE.iter().enumerate() {
+    for (n, step) in TWO_IMAGES.iter().enumerate() {
         assert_step_again(&rt, alloc, &mut desk, n, step)?;
     }
     Ok(())
 }
 
-/// Asks for what a few steps put.
-const ONE_IMAGE: &[Step<'static>] = &[
-    Step::Tells(Question::Image(12, Some(PROGRAM))),
-    Step::Tells(Question::Files(12, &[HELLO])),
+/// What is done to the database of a desk of version 1, and why it is not migrated then.
+const UNMIGRATED: &[(&str, OpenFault)] = &[
+    ("UPDATE desk SET version = 3", OpenFault::Version),
+    (
+        "UPDATE found SET faults = 0 WHERE acc = 14",
+        OpenFault::Inconsistent,
+    ),
+    ("DROP TABLE desk", OpenFault::NotADesk),
 ];
+
+/// The database of a desk of version 1 to which something was done.
+fn unmigrated(rt: &impl Abort, alloc: Global, sql: &str) -> Result<Connection<MemStore>, Fail> {
+    let mut conn = first_version(rt, alloc)?;
+    run_again(&mut conn, sql)?;
+    Ok(conn)
+}
+
+/// Why a database is not migrated, and the connection.
+fn migration_fault_of(
+    rt: &impl Abort,
+    alloc: Global,
+    conn: Connection<MemStore>,
+) -> Result<(OpenFault, Connection<MemStore>), Fail> {
+    match migrate_desk(rt, alloc, conn) {
+        Ok(_) => Err(Fail::new("a desk")),
+        Err(refused) => Ok(refused),
+    }
+}
+
+/// The database of a desk of version 1 to which something was done is not migrated, for this reason. If memory is
+/// refused, its tables are left as they were, and the second time it is for this reason.
+fn assert_unmigrated(
+    rt: &impl Abort,
+    alloc: Global,
+    (sql, wanted): (&str, OpenFault),
+) -> Result<(), Fail> {
+    let (first, mut conn) = migration_fault_of(rt, alloc, unmigrated(rt, alloc, sql)?)?;
+    if first == wanted {
+        return Ok(());
+    }
+    assert_eq!(rt; first, OpenFault::Sql, "{sql}");
+    let mut kept = unmigrated(rt, alloc, sql)?;
+    assert_eq!(rt;
+        first_tables_of(alloc, &mut conn)?,
+        first_tables_of(alloc, &mut kept)?,
+        "{sql}"
+    );
+    let (second, _) = migration_fault_of(rt, alloc, conn)?;
+    assert_eq!(rt; second, wanted, "{sql}");
+    Ok(())
+}
+
+#[test]
+fn no_migration_when_memory_is_refused(rt: HostRuntime) -> Result<(), Fail> {
+    for case in UNMIGRATED {
+        assert_unmigrated(&rt, rt.alloc(), *case)?;
+    }
+    Ok(())
+}
 
 /// An empty database is no desk. The call takes no memory, so there is nothing to refuse.
 #[test]
