@@ -78,7 +78,7 @@ pub(crate) fn put_check<S: Alter>(
     ensures judges { Judges S.Store conn.new result (IsSome (get (desk S.Store conn.old).images acc)) ⊥ }
     ensures fault { IfErr result (λ fault. fault ≢ StoreFault.Conflict) }
 {
-    if images::heading_at(conn, acc)?.is_none() {
+    if images::deed_of(conn, acc)?.is_none() {
         return Err(StoreFault::Missing);
     }
     outside(conn)?;

@@ -1,22 +1,26 @@
 //! What opening says of a desk that a crash left.
 
 ghost use Rattle.std.specs.Prelude.{◌≡◌};
+ghost use Rattle.sqlite.specs.Effect.{Database};
 ghost use Rattle.sqlite.specs.Tree.{Trees};
 ghost use Rattle.rd_tables.specs.Schemas.{desk_schema};
 ghost use Rattle.rd_store.specs.declared.faults.OpenFault.{OpenFault as Fault};
 ghost use Rattle.rd_store.specs.Held.{IsLeft};
-ghost use Rattle.rd_store.specs.Migrated.{RefusesEach};
+ghost use Rattle.rd_store.specs.Migrated.{IsFirstConsistent, IsSecondConsistent, RefusesEach};
 ghost use Rattle.rd_store.specs.Opened.{IsConsistent, Refuses};
 ghost use Rattle.rd_store.specs.State.{Desk};
 
 use crate::faults::OpenFault;
 
 /// Does nothing, and tells that what a crash leaves of a desk is consistent: `open` and `migrate` refuse a database
-/// of these rows by `Sql` alone.
+/// of these rows by `Sql` alone. So does `migrate` each database of consistent tables of version 1 or of version 2,
+/// one of which a crash of it leaves.
 pub fn left_desks_open()
     ensures consistent { (desk : Desk) (left : Trees) → IsLeft desk left → IsConsistent left }
     ensures opened { (desk : Desk) (left : Trees) → IsLeft desk left → (fault : Fault)
         → Refuses fault (record { schema = desk_schema; trees = left }) → fault ≡ OpenFault.Sql }
     ensures migrated { (desk : Desk) (left : Trees) → IsLeft desk left → (fault : Fault)
         → RefusesEach fault (record { schema = desk_schema; trees = left }) → fault ≡ OpenFault.Sql }
+    ensures first { (db : Database) → IsFirstConsistent db → (fault : Fault) → RefusesEach fault db → fault ≡ OpenFault.Sql }
+    ensures second { (db : Database) → IsSecondConsistent db → (fault : Fault) → RefusesEach fault db → fault ≡ OpenFault.Sql }
 {}

@@ -41,7 +41,7 @@ fn make_table<S: Alter>(tx: &mut Transaction<'_, S>, at: usize) -> Result<usize,
     tx.execute(create_text(at), &[])
 }
 
-/// Makes the first so many of the tables.
+/// Makes the first `count` tables.
 fn make_tables<S: Alter>(tx: &mut Transaction<'_, S>, count: usize) -> Result<(), Error>
     requires { count ≤ 8 }
     ensures same_reference { tx.new.conn.ghost_name ≡ tx.old.conn.ghost_name }

@@ -228,6 +228,22 @@ pub(crate) fn accession<S: Alter>(
     Ok(Some(Accession { kind, ..given }))
 }
 
+/// The number of the deed of an accession, `None` where it is not there. It does not ask for error bytes.
+pub(crate) fn deed_of<S: Alter>(
+    conn: &mut Connection<S>,
+    acc: u32,
+) -> Result<Option<u32>, StoreFault>
+    requires holds { HoldsDesk (state S.Store conn.old) }
+    ensures asks { Asks S.Store conn.old conn.new result StoreFault.Sql (λ found.
+        found ≡ option_map (λ (image : ImageRow). image.deed) (get (desk S.Store conn.old).images acc)) }
+    ensures kept { HoldsDesk (state S.Store conn.new) }
+{
+    match given_row(conn, acc)? {
+        Some(given) => Ok(Some(given.deed)),
+        None => Ok(None),
+    }
+}
+
 /// The rows for all accessions.
 fn accession_rows<S: Alter>(conn: &mut Connection<S>) -> Result<Vec<Row>, StoreFault>
     requires holds { HoldsDesk (state S.Store conn.old) }
@@ -278,7 +294,7 @@ fn register_rows<S: Alter>(conn: &mut Connection<S>) -> Result<Vec<Row>, StoreFa
     read_all(conn, "SELECT acc, kind, deed FROM image ORDER BY acc", &[])
 }
 
-/// The accession that a row shows, with its number, where these have error bytes; they ascend.
+/// The accession that a row shows, with its number. `marked` are the accessions with error bytes, ascending.
 fn read_registered(row: &Row, marked: &[u32]) -> Result<(u32, Accession), StoreFault>
     requires { IsNonDecreasing marked.now }
     ensures registered { IfOk result (λ read. read ≡ registered_in marked.now row.now) }
@@ -290,7 +306,7 @@ fn read_registered(row: &Row, marked: &[u32]) -> Result<(u32, Accession), StoreF
     Ok((number, Accession { kind, deed }))
 }
 
-/// The accessions that rows show, each with its number, where these have error bytes; they ascend.
+/// The accessions that rows show, each with its number. `marked` are the accessions with error bytes, ascending.
 fn read_register(
     alloc: Global,
     rows: &[Row],

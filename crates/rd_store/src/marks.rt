@@ -133,14 +133,14 @@ fn has_marks<S: Alter>(conn: &mut Connection<S>, acc: u32) -> Result<bool, Store
     Ok(!rows.is_empty())
 }
 
-/// The kind of an image whose row says this one, with error bytes or without them.
+/// The kind of an image whose row has `kind`, with error bytes or without them.
 pub(crate) fn kind_with(marked: bool, kind: Kind) -> Kind
     ensures { result ≡ kind_marked marked kind }
 {
     if marked { Kind::D64e } else { kind }
 }
 
-/// The kind of the image of an accession whose row says this one. Whether it has error bytes is asked where
+/// The kind of the image of an accession whose row has `kind`. Whether it has error bytes is asked where
 /// that is a D64.
 pub(crate) fn kind_at<S: Alter>(
     conn: &mut Connection<S>,

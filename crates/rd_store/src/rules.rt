@@ -196,7 +196,7 @@ fn stands<S: Alter>(conn: &mut Connection<S>, band: Band, scope: u32) -> Result<
     ensures kept { HoldsDesk (state S.Store conn.new) }
 {
     match band {
-        Band::Takedown => Ok(images::heading_at(conn, scope)?.is_some()),
+        Band::Takedown => Ok(images::deed_of(conn, scope)?.is_some()),
         Band::Deed => Ok(deeds::deed(conn, scope)?.is_some()),
     }
 }
@@ -276,8 +276,8 @@ pub(crate) fn rules_for<S: Alter>(
         rules.items ≡ rules_for_accession (desk S.Store conn.old) acc) }
     ensures kept { HoldsDesk (state S.Store conn.new) }
 {
-    match images::heading_at(conn, acc)? {
-        Some(heading) => rules_of_both(alloc, conn, acc, heading.deed),
+    match images::deed_of(conn, acc)? {
+        Some(deed) => rules_of_both(alloc, conn, acc, deed),
         None => Ok(Vec::new(alloc)),
     }
 }

@@ -27,8 +27,8 @@ use sqlite::{Alter, Connection};
 use std::alloc::Global;
 use std::marker::Model;
 
-/// The tables of a desk over a connection: deeds, images with an index of their files, rules, desk keys and
-/// checks.
+/// The tables of a desk over a connection: deeds, images, some with error bytes, an index of their files, rules,
+/// desk keys and checks.
 #[derive(Drop)]
 pub struct Store<S: Alter> {
     conn: Connection<S>,

@@ -1,14 +1,15 @@
-use Rattle.std.proofs.Common.{◌≡◌, inl, inr, length, refl, sym, ap, subst, true≢false, true, false, arith}
+use Rattle.std.proofs.Common.{◌≡◌, ◌∙◌, inl, inr, length, refl, sym, ap, subst, true≢false, true, false, arith}
+use Rattle.sqlite.specs.Effect.{Database}
 use Rattle.sqlite.specs.Tree.{Trees}
 use Rattle.sqlite.specs.Schema.{Schema}
 use Rattle.sqlite_schema.specs.Names.{same_name}
-use Rattle.rd_tables.specs.Schemas.{desk_schema, first_schema}
+use Rattle.rd_tables.specs.Schemas.{desk_schema, first_schema, may_be_desk}
 use Rattle.rd_store.specs.declared.faults.OpenFault.{OpenFault}
 use Rattle.rd_store.specs.declared.faults.OpenFault.TheVariants.{NotADesk, Version as OtherVersion, Inconsistent, Sql}
 use Rattle.rd_store.specs.Held.{IsLeft}
 use Rattle.rd_store.specs.Index.{IsIndexOf}
 use Rattle.rd_store.specs.Lawful.{IsLawful}
-use Rattle.rd_store.specs.Migrated.{RefusesEach}
+use Rattle.rd_store.specs.Migrated.{IsFirstConsistent, IsSecondConsistent, RefusesEach}
 use Rattle.rd_store.specs.Opened.{IsConsistent, Refuses}
 use Rattle.rd_store.specs.Spelled.{index_of}
 use Rattle.rd_store.specs.State.{Desk}
@@ -31,13 +32,24 @@ opened desk left h Sql refused = refl
 apart : ¬ (desk_schema ≡ first_schema)
 apart e = let n : 8 ≡ 7 = ap (λ (s : Schema). length s.tables) e in absurd (omega (arith, n))
 
-migrated : (desk : Desk) (left : Trees) → IsLeft desk left → (fault : OpenFault) → RefusesEach fault (record { schema = desk_schema; trees = left }) → fault ≡ Sql
+first : (db : Database) → IsFirstConsistent db → (fault : OpenFault) → RefusesEach fault db → fault ≡ Sql
 unfolding same_name
-migrated desk left h NotADesk refused = let e : true ≡ false = refused in absurd (true≢false e)
-migrated desk left h OtherVersion refused = absurd (refused.3 h.of.rows.version)
-migrated desk left h Inconsistent (inl first) = absurd (apart first.0)
-migrated desk left h Inconsistent (inr second) = absurd (second.2 (consistent desk left h))
-migrated desk left h Sql refused = refl
+first db is NotADesk refused = let e : true ≡ false = subst (λ (s : Schema). may_be_desk s ≡ false) is.0 refused in absurd (true≢false e)
+first db is OtherVersion refused = absurd (refused.2 is.1.spelled.version)
+first db is Inconsistent (inl one) = absurd (one.2 is.1)
+first db is Inconsistent (inr two) = absurd (apart (sym two.0 ∙ is.0))
+first db is Sql refused = refl
+
+second : (db : Database) → IsSecondConsistent db → (fault : OpenFault) → RefusesEach fault db → fault ≡ Sql
+unfolding same_name
+second db is NotADesk refused = let e : true ≡ false = subst (λ (s : Schema). may_be_desk s ≡ false) is.0 refused in absurd (true≢false e)
+second db is OtherVersion refused = absurd (refused.3 is.1.spelled.version)
+second db is Inconsistent (inl one) = absurd (apart (sym is.0 ∙ one.0))
+second db is Inconsistent (inr two) = absurd (two.2 is.1)
+second db is Sql refused = refl
+
+migrated : (desk : Desk) (left : Trees) → IsLeft desk left → (fault : OpenFault) → RefusesEach fault (record { schema = desk_schema; trees = left }) → fault ≡ Sql
+migrated desk left h = second (record { schema = desk_schema; trees = left }) (refl, consistent desk left h)
 
 pub returns-clause-consistent : goal.returns-clause-consistent
 returns-clause-consistent c = consistent
@@ -47,3 +59,9 @@ returns-clause-opened c = opened
 
 pub returns-clause-migrated : goal.returns-clause-migrated
 returns-clause-migrated c = migrated
+
+pub returns-clause-first : goal.returns-clause-first
+returns-clause-first c = first
+
+pub returns-clause-second : goal.returns-clause-second
+returns-clause-second c = second
