@@ -4,43 +4,43 @@ use Rattle.rd_desk.specs.Calls.{Carries}
 use Rattle.rd_desk.specs.declared.request.What.TheVariants.{PutDeed}
 use Rattle.rd_desk.proofs.commands.command.Goals as goal
 
-pub returns-in-Survey : goal.returns-in-Survey
-returns-in-Survey g c =
+pub returns-in-Survey-clause-carries : goal.returns-in-Survey-clause-carries
+returns-in-Survey-clause-carries g c =
     subst (λ what. Carries g.S.Store c.args.store.now c.survey.new.store c.args.caller.now.day (record { badge = c.args.request.now.badge; what = what }) c.survey.result)
-    (sym c.in-Survey.is) (c.survey.ensures c.args.caller.now.day)
+    (sym c.in-Survey.is) (c.survey.ensures.carries c.args.caller.now.day)
 
-pub returns-in-PutImage : goal.returns-in-PutImage
-returns-in-PutImage g c =
+pub returns-in-PutImage-clause-carries : goal.returns-in-PutImage-clause-carries
+returns-in-PutImage-clause-carries g c =
     subst (λ what. Carries g.S.Store c.args.store.now c.put_image.new.store c.args.caller.now.day (record { badge = c.args.request.now.badge; what = what }) c.put_image.result)
-    (sym c.in-PutImage.is) (c.put_image.ensures c.args.caller.now.day)
+    (sym c.in-PutImage.is) (c.put_image.ensures.carries c.args.caller.now.day)
 
-pub returns-in-PutDeed : goal.returns-in-PutDeed
-returns-in-PutDeed g c =
+pub returns-in-PutDeed-clause-carries : goal.returns-in-PutDeed-clause-carries
+returns-in-PutDeed-clause-carries g c =
     let fits : FitsSigned w32 c.in-PutDeed.signed = search rules in
     subst (λ what. Carries g.S.Store c.args.store.now c.put_deed.new.store c.args.caller.now.day (record { badge = c.args.request.now.badge; what = what }) c.put_deed.result)
-    (ap (PutDeed c.in-PutDeed.num c.in-PutDeed.donor) (to_z-of_z w32 c.in-PutDeed.signed fits) ∙ sym c.in-PutDeed.is) (c.put_deed.ensures c.args.caller.now.day)
+    (ap (PutDeed c.in-PutDeed.num c.in-PutDeed.donor) (to_z-of_z w32 c.in-PutDeed.signed fits) ∙ sym c.in-PutDeed.is) (c.put_deed.ensures.carries c.args.caller.now.day)
 
-pub returns-in-PutRule : goal.returns-in-PutRule
-returns-in-PutRule g c =
+pub returns-in-PutRule-clause-carries : goal.returns-in-PutRule-clause-carries
+returns-in-PutRule-clause-carries g c =
     subst (λ what. Carries g.S.Store c.args.store.now c.put_rule.new.store c.args.caller.now.day (record { badge = c.args.request.now.badge; what = what }) c.put_rule.result)
-    (sym c.in-PutRule.is) (c.put_rule.ensures c.args.caller.now.day)
+    (sym c.in-PutRule.is) (c.put_rule.ensures.carries c.args.caller.now.day)
 
-pub returns-in-DropRule : goal.returns-in-DropRule
-returns-in-DropRule g c =
+pub returns-in-DropRule-clause-carries : goal.returns-in-DropRule-clause-carries
+returns-in-DropRule-clause-carries g c =
     subst (λ what. Carries g.S.Store c.args.store.now c.drop_rule.new.store c.args.caller.now.day (record { badge = c.args.request.now.badge; what = what }) c.drop_rule.result)
-    (sym c.in-DropRule.is) (c.drop_rule.ensures c.args.caller.now.day)
+    (sym c.in-DropRule.is) (c.drop_rule.ensures.carries c.args.caller.now.day)
 
-pub returns-in-PutKey : goal.returns-in-PutKey
-returns-in-PutKey g c =
+pub returns-in-PutKey-clause-carries : goal.returns-in-PutKey-clause-carries
+returns-in-PutKey-clause-carries g c =
     subst (λ what. Carries g.S.Store c.args.store.now c.put_key.new.store c.args.caller.now.day (record { badge = c.args.request.now.badge; what = what }) c.put_key.result)
-    (sym c.in-PutKey.is) (c.put_key.ensures c.args.caller.now.day)
+    (sym c.in-PutKey.is) (c.put_key.ensures.carries c.args.caller.now.day)
 
-pub returns-in-DropKey : goal.returns-in-DropKey
-returns-in-DropKey g c =
+pub returns-in-DropKey-clause-carries : goal.returns-in-DropKey-clause-carries
+returns-in-DropKey-clause-carries g c =
     subst (λ what. Carries g.S.Store c.args.store.now c.drop_key.new.store c.args.caller.now.day (record { badge = c.args.request.now.badge; what = what }) c.drop_key.result)
-    (sym c.in-DropKey.is) (c.drop_key.ensures c.args.caller.now.day)
+    (sym c.in-DropKey.is) (c.drop_key.ensures.carries c.args.caller.now.day)
 
-pub returns-in-Unread : goal.returns-in-Unread
-returns-in-Unread g c =
+pub returns-in-Unread-clause-carries : goal.returns-in-Unread-clause-carries
+returns-in-Unread-clause-carries g c =
     subst (λ what. Carries g.S.Store c.args.store.now c.unread.new.store c.args.caller.now.day (record { badge = c.args.request.now.badge; what = what }) c.unread.result)
-    (sym c.in-Unread.is) (c.unread.ensures c.args.caller.now.day)
+    (sym c.in-Unread.is) (c.unread.ensures.carries c.args.caller.now.day)

@@ -4,4 +4,4 @@ use Rattle.rd_desk.proofs.desk.respond.Goals as goal
 
 pub returns-clause-responds : goal.returns-clause-responds
 returns-clause-responds g c =
-    carries_respond g.S.Store c.args.caller.now.day c.args.request.now c.command.result c.args.store.now c.command.new.store (search rules) (search rules) c.rests.ensures c.command.ensures
+    carries_respond g.S.Store c.args.caller.now.day c.args.request.now c.command.result c.args.store.now c.command.new.store (search rules) (search rules) c.rests.ensures c.command.ensures.carries
