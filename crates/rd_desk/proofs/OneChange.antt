@@ -1,5 +1,6 @@
 -- Calls that read, and one that changes the desk after them.
-use Rattle.std.proofs.Common.{◌≡◌, ◌≢◌, ◌⊎◌, ◌↔◌, inl, inr, arith, Result, Ok, Err, IsOk, refl, sym, ap, ◌∙◌, ⊤}
+use Rattle.std.proofs.Common.{◌≡◌, ◌≢◌, ◌⊎◌, ◌↔◌, inl, inr, arith, false, true, Result, Ok, Err, IsErr, IsOk, refl, sym, ap, ◌∙◌}
+use Rattle.std.specs.Prelude.{⊤}
 use Rattle.sqlite.specs.Store.{Ghosts}
 use Rattle.sqlite.specs.Held.{Held}
 use Rattle.rd_store.specs.Held.{IsClean, IsOpen, Rests}
@@ -36,6 +37,12 @@ module _ {S : Type 0} (g : Ghosts S) (what : What) (Returned : Result ⊤ StoreF
   pub reads_first : (a b c : Held S) → Keeps g a b → (IsClean g b → IsOpen g b) → MakesOneChange g b c what Returned → MakesOneChange g a c what Returned
   reads_first a b c keeps opens makes = record { middle = makes.middle; reads = keeps_then g a b makes.middle keeps opens makes.reads; last = makes.last }
 
+-- a call that failed, and no answer after it
+pub failed_is_said : {X : Type 0} (told : Result ⊤ StoreFault) (fault : StoreFault) (result : Result Said X) → told ≡ Err fault → IsErr result → IsSaidOf told result
+failed_is_said (Ok done) fault result is none = cc
+failed_is_said (Err why) fault (Ok answer) is none = let e : false ≡ true = none in cc
+failed_is_said (Err why) fault (Err other) is none = tt
+
 refused_status : (refusal : Refusal) → status_of refusal ≢ 200
 refused_status UnknownKey is = omega (arith, is)
 refused_status other is = omega (arith, is)
@@ -52,7 +59,8 @@ ok_status (Ok (said.Refused refusal)) reply (Err fault) (inr none) of =
     (λ ok. cc, λ status. let e : 503 ≡ 200 = sym (ap (λ (r : Reply). r.status) none.0) ∙ status in absurd (omega (arith, e)))
 ok_status (Err none) reply (Err fault) is of =
     (λ ok. cc, λ status. let e : 503 ≡ 200 = sym (ap (λ (r : Reply). r.status) is) ∙ status in absurd (omega (arith, e)))
-ok_status result reply told is of = absurd of
+ok_status result reply (Ok done) is of = absurd of
+ok_status result reply (Err fault) is of = absurd of
 
 -- what was said, as it is written
 pub one_change_written : {S X : Type 0} (g : Ghosts S) (old new : Held S) (what : What) (result : Result Said X) (reply : Reply) → IsWritten result reply
