@@ -9,3 +9,6 @@ returns-clause-responds g c =
 
 pub returns-then-not-is_for_staff-clause-one_change : goal.returns-then-not-is_for_staff-clause-one_change
 returns-then-not-is_for_staff-clause-one_change g c = reads_alone g.S.Store _ _ c.args.store.now c.query.new.store c.query.ensures.keeps
+
+pub returns-then-ne-clause-one_change : goal.returns-then-ne-clause-one_change
+returns-then-ne-clause-one_change g c = no_call g.S.Store _ _ c.args.store.now c.rests.ensures
