@@ -12,6 +12,7 @@ pub mod OneAnswer
 pub mod Stepping
 pub mod Telling
 pub mod Responding
+pub mod OneChange
 pub mod Hiding
 pub mod Serving
 pub mod Checking

@@ -5,7 +5,7 @@ use Rattle.sqlite.specs.Held.{Held}
 use Rattle.rd_policy.specs.declared.audience.Audience.{Audience}
 use Rattle.rd_store.specs.Held.{IsOpen, LeavesOpen, Rests, desk}
 use Rattle.rd_store.specs.State.{Desk}
-use Rattle.rd_desk.specs.Calls.{IsOfChange, IsResponse, IsWritten, Responds}
+use Rattle.rd_desk.specs.Calls.{IsOfChange, IsResponse, IsSaidOf, IsWritten, MakesOneChange, Responds}
 use Rattle.rd_desk.specs.Judged.{JudgedFile, audience_of}
 use Rattle.rd_desk.specs.Replies.{Answers, IsAnswered, IsReply, Tells, carried_out}
 use Rattle.rd_desk.specs.Requests.{IsForStaff}
@@ -20,6 +20,7 @@ use Rattle.rd_desk.specs.declared.said.Said.{Said}
 use Rattle.rd_desk.specs.declared.said.Said.TheVariants as said
 use Rattle.rd_desk.proofs.Again.{same_again}
 use Rattle.rd_desk.proofs.Hiding.{hides}
+use Rattle.rd_desk.proofs.OneChange.{one_change_written}
 
 pub is_for_staff : (what : What) → IsForStaff what ⊎ (IsForStaff what → ⊥)
 is_for_staff Images = inr (λ h. h)
@@ -76,9 +77,10 @@ module _ {S : Type 0} (g : Ghosts S) (old new : Held S) (day : ℤ) (request : R
       go (inr none) = absurd (told none.0)
 
   pub serves : {X : Type 0} (result : Result Said X) → Responds g old new day request result → Rests g new → IsWritten result reply
+      → MakesOneChange g old new request.what (λ told. IsSaidOf told result)
       → LeavesOpen g new result ⊎ ((request.badge ≡ None) × IsForStaff request.what × (result ≡ Ok (said.Refused StaffOnly)) × (new ≡ old))
       → Serves g old new day request reply
-  serves result responds rests written ending = record {
+  serves result responds rests written makes ending = record {
     lasts = responds.lasts;
     answers = λ o. replied (desk g old) day request result reply (desk g new) written (responds.judged o);
     ends_open = λ clean told. elim ending [
@@ -91,4 +93,5 @@ module _ {S : Type 0} (g : Ghosts S) (old new : Held S) (day : ℤ) (request : R
     again = λ o told command key.
         answered_again (desk g old) day request reply (desk g new) (replied (desk g old) day request result reply (desk g new) written (responds.judged o)) told command key;
     hides = λ o. hides (desk g old) day request reply (desk g new) (replied (desk g old) day request result reply (desk g new) written (responds.judged o));
+    one_change = one_change_written g old new request.what result reply written makes;
   }

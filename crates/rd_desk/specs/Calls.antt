@@ -1,5 +1,5 @@
 -- What the functions that make up an answer say of the store.
-use Rattle.std.specs.Prelude.{◌≡◌, ◌⊎◌, ℕ, ℤ, List, All, Option, Some, None, Result, Ok, Err, IfOk, MatchOption, map, option_map}
+use Rattle.std.specs.Prelude.{◌≡◌, ◌⊎◌, ℕ, ℤ, List, All, Option, Some, None, Result, Ok, Err, IfOk, MatchOption, map, option_map, ⊤}
 use Rattle.std.specs.FinMap.{get}
 use Rattle.sqlite.specs.Store.{Ghosts}
 use Rattle.sqlite.specs.Tree.{Trees}
@@ -7,17 +7,20 @@ use Rattle.sqlite.specs.Held.{Held}
 use Rattle.rd_policy.specs.declared.audience.Audience.TheVariants.{Staff}
 use Rattle.rd_policy.specs.declared.rule.Band.{Band}
 use Rattle.rd_policy.specs.declared.rule.Band.TheVariants.{Takedown, Deed}
-use Rattle.rd_store.specs.Held.{IsClean, IsLeft, IsOpen, Lasts, LeavesOnly, LeavesOpen, desk}
+use Rattle.rd_store.specs.Held.{Changes, IsClean, IsLeft, IsOpen, Lasts, LeavesOnly, LeavesOpen, desk}
 use Rattle.rd_store.specs.State.{Desk, rules_for}
 use Rattle.rd_store.specs.Shown.{accession_of}
+use Rattle.rd_store.specs.declared.faults.StoreFault.{StoreFault}
 use Rattle.rd_store.specs.declared.rows.Accession.{Accession}
 use Rattle.rd_store.specs.declared.rows.ImageRow.{ImageRow}
 use Rattle.rd_desk.specs.Judged.{Holds, IsAccepted, IsRefused}
 use Rattle.rd_desk.specs.Replies.{IsAnswered, IsStep, IsSurvey, Tells, carried_out}
+use Rattle.rd_desk.specs.Requests.{MayChange}
 use Rattle.rd_desk.specs.declared.asking.Holding.{Holding}
 use Rattle.rd_desk.specs.declared.refusal.Refusal.{Refusal}
 use Rattle.rd_desk.specs.declared.refusal.Refusal.TheVariants.{NoAccession, NoDeed, DigestDiffers}
 use Rattle.rd_desk.specs.declared.request.Request.{Request}
+use Rattle.rd_desk.specs.declared.request.What.{What}
 use Rattle.rd_desk.specs.Texts.{UNAVAILABLE, reply_of}
 use Rattle.rd_desk.specs.declared.said.Reply.{Reply}
 use Rattle.rd_desk.specs.declared.said.Said.{Said}
@@ -109,3 +112,26 @@ IsOfChange other = ⊥
 abbrev pub IsWritten : {X : Type 0} → Result Said X → Reply → Type 0
 IsWritten (Ok answer) reply = (reply ≡ reply_of answer) ⊎ ((reply ≡ UNAVAILABLE) × ¬ IsOfChange answer)
 IsWritten (Err fault) reply = reply ≡ UNAVAILABLE
+
+-- the answer after a call that changes the desk: that it is done, or what a check found, exactly
+-- after Ok
+abbrev pub IsSaidOf : {X : Type 0} → Result ⊤ StoreFault → Result Said X → Type 0
+IsSaidOf (Ok done) (Ok Done) = Unit {0}
+IsSaidOf (Ok done) (Ok (Checked outcome)) = Unit {0}
+IsSaidOf (Err fault) (Ok (Refused refusal)) = Unit {0}
+IsSaidOf (Err fault) (Err none) = Unit {0}
+IsSaidOf told answer = ⊥
+
+-- One call that changes the desk, and what it returned.
+pub record IsOneChange {S : Type 0} (g : Ghosts S) (old new : Held S) (Returned : Result ⊤ StoreFault → Type 0) : Type 0 where
+  pub after : Desk
+  pub result : Result ⊤ StoreFault
+  pub changes : Changes g old new after result
+  pub returned : Returned result
+
+-- Calls that read, and after them nothing, or one call that changes the desk and no call after it.
+-- Only a request that may change the desk makes such a call.
+pub record MakesOneChange {S : Type 0} (g : Ghosts S) (old new : Held S) (what : What) (Returned : Result ⊤ StoreFault → Type 0) : Type 0 where
+  pub middle : Held S
+  pub reads : Keeps g old middle
+  pub last : (new ≡ middle) ⊎ (MayChange what × IsOneChange g middle new Returned)

@@ -45,3 +45,8 @@ abbrev pub IsForStaff : What → Type 0
 IsForStaff (Survey acc) = Unit {0}
 IsForStaff (Check acc) = Unit {0}
 IsForStaff other = IsPutOrDrop other
+
+-- to put, to drop and to check; a survey only reads, as the four questions do
+abbrev pub MayChange : What → Type 0
+MayChange (Survey acc) = ⊥
+MayChange other = IsForStaff other

@@ -10,7 +10,7 @@ ghost use Rattle.rd_policy.specs.Days.{IsDay};
 ghost use Rattle.rd_policy.specs.Rules.{IsRule, IsScope};
 ghost use Rattle.rd_store.specs.Held.{IsOpen, desk};
 ghost use Rattle.rd_store.specs.Lawful.{IsDeed};
-ghost use Rattle.rd_desk.specs.Calls.{Carries, missing_of};
+ghost use Rattle.rd_desk.specs.Calls.{Carries, IsOneChange, IsSaidOf, MakesOneChange, missing_of};
 ghost use Rattle.rd_desk.specs.Judged.{audience_of};
 ghost use Rattle.rd_desk.specs.Requests.{IsForStaff, IsRequest};
 
@@ -47,7 +47,8 @@ fn put_deed<S: Alter>(
 ) -> Result<Said, Unavailable>
     requires known { IsOpen S.Store store.old → audience_of (desk S.Store store.old) badge.now ≡ Some Audience.Staff }
     requires deed { IsDeed num (record { donor = donor.now; signed = signed }) }
-    ensures { (day : ℤ) → Carries S.Store store.old store.new day (record { badge = badge.now; what = What.PutDeed num donor.now signed }) result }
+    ensures carries { (day : ℤ) → Carries S.Store store.old store.new day (record { badge = badge.now; what = What.PutDeed num donor.now signed }) result }
+    ensures change { IsOneChange S.Store store.old store.new (λ told. IsSaidOf told result) }
 {
     store.put_deed(num, donor.as_str(), signed)?;
     Ok(Said::Done)
@@ -61,7 +62,8 @@ fn put_rule<S: Alter>(
 ) -> Result<Said, Unavailable>
     requires known { IsOpen S.Store store.old → audience_of (desk S.Store store.old) badge.now ≡ Some Audience.Staff }
     requires rule { IsRule rule.now }
-    ensures { (day : ℤ) → Carries S.Store store.old store.new day (record { badge = badge.now; what = What.PutRule rule.now }) result }
+    ensures carries { (day : ℤ) → Carries S.Store store.old store.new day (record { badge = badge.now; what = What.PutRule rule.now }) result }
+    ensures change { IsOneChange S.Store store.old store.new (λ told. IsSaidOf told result) }
 {
     match store.put_rule(rule) {
         Ok(()) => Ok(Said::Done),
@@ -79,7 +81,8 @@ fn drop_rule<S: Alter>(
     rank: u16,
 ) -> Result<Said, Unavailable>
     requires known { IsOpen S.Store store.old → audience_of (desk S.Store store.old) badge.now ≡ Some Audience.Staff }
-    ensures { (day : ℤ) → Carries S.Store store.old store.new day (record { badge = badge.now; what = What.DropRule band scope rank }) result }
+    ensures carries { (day : ℤ) → Carries S.Store store.old store.new day (record { badge = badge.now; what = What.DropRule band scope rank }) result }
+    ensures change { IsOneChange S.Store store.old store.new (λ told. IsSaidOf told result) }
 {
     match store.drop_rule(band, scope, rank) {
         Ok(()) => Ok(Said::Done),
@@ -97,7 +100,8 @@ fn put_key<S: Alter>(
 ) -> Result<Said, Unavailable>
     requires known { IsOpen S.Store store.old → audience_of (desk S.Store store.old) badge.now ≡ Some Audience.Staff }
     requires key { audience ≢ Audience.Public }
-    ensures { (day : ℤ) → Carries S.Store store.old store.new day (record { badge = badge.now; what = What.PutKey digest.now audience }) result }
+    ensures carries { (day : ℤ) → Carries S.Store store.old store.new day (record { badge = badge.now; what = What.PutKey digest.now audience }) result }
+    ensures change { IsOneChange S.Store store.old store.new (λ told. IsSaidOf told result) }
 {
     match store.put_key(digest, audience) {
         Ok(()) => Ok(Said::Done),
@@ -113,7 +117,8 @@ fn drop_key<S: Alter>(
     digest: &[u8; 32],
 ) -> Result<Said, Unavailable>
     requires known { IsOpen S.Store store.old → audience_of (desk S.Store store.old) badge.now ≡ Some Audience.Staff }
-    ensures { (day : ℤ) → Carries S.Store store.old store.new day (record { badge = badge.now; what = What.DropKey digest.now }) result }
+    ensures carries { (day : ℤ) → Carries S.Store store.old store.new day (record { badge = badge.now; what = What.DropKey digest.now }) result }
+    ensures change { IsOneChange S.Store store.old store.new (λ told. IsSaidOf told result) }
 {
     match store.drop_key(digest) {
         Ok(()) => Ok(Said::Done),
@@ -138,7 +143,8 @@ fn commit_image<S: Alter>(
     requires scope { IsScope acc }
     requires sized { length bytes.now ≡ size_of kind }
     requires same { sha256 bytes.now ≡ digest.now }
-    ensures { (day : ℤ) → Carries S.Store store.old store.new day (record { badge = badge.now; what = What.PutImage acc kind deed digest.now bytes.now }) result }
+    ensures carries { (day : ℤ) → Carries S.Store store.old store.new day (record { badge = badge.now; what = What.PutImage acc kind deed digest.now bytes.now }) result }
+    ensures change { IsOneChange S.Store store.old store.new (λ told. IsSaidOf told result) }
 {
     match store.put_image(alloc, acc, kind, deed, digest, bytes.as_slice()) {
         Ok(()) => Ok(Said::Done),
@@ -160,7 +166,8 @@ fn put_image<S: Alter>(
 ) -> Result<Said, Unavailable>
     requires known { IsOpen S.Store store.old → audience_of (desk S.Store store.old) badge.now ≡ Some Audience.Staff }
     requires scope { IsScope acc }
-    ensures { (day : ℤ) → Carries S.Store store.old store.new day (record { badge = badge.now; what = What.PutImage acc kind deed digest.now bytes.now }) result }
+    ensures carries { (day : ℤ) → Carries S.Store store.old store.new day (record { badge = badge.now; what = What.PutImage acc kind deed digest.now bytes.now }) result }
+    ensures one_change { MakesOneChange S.Store store.old store.new (What.PutImage acc kind deed digest.now bytes.now) (λ told. IsSaidOf told result) }
 {
     if !has_deed(store, deed)? {
         return Ok(Said::Refused(Refusal::NoDeed));
@@ -177,7 +184,8 @@ fn put_image<S: Alter>(
 /// Refuses a command whose body cannot be read.
 fn unread<S: Alter>(store: &mut Store<S>, badge: &Option<[u8; 32]>) -> Result<Said, Unavailable>
     requires known { IsOpen S.Store store.old → audience_of (desk S.Store store.old) badge.now ≡ Some Audience.Staff }
-    ensures { (day : ℤ) → Carries S.Store store.old store.new day (record { badge = badge.now; what = What.Unread }) result }
+    ensures carries { (day : ℤ) → Carries S.Store store.old store.new day (record { badge = badge.now; what = What.Unread }) result }
+    ensures same { store.new ≡ store.old }
 {
     let _ = badge;
     store.rests();
@@ -194,7 +202,8 @@ fn check<S: Alter>(
 ) -> Result<Said, Unavailable>
     requires known { IsOpen S.Store store.old → audience_of (desk S.Store store.old) badge.now ≡ Some Audience.Staff }
     requires day { IsDay caller.now.day }
-    ensures { Carries S.Store store.old store.new caller.now.day (record { badge = badge.now; what = What.Check acc }) result }
+    ensures carries { Carries S.Store store.old store.new caller.now.day (record { badge = badge.now; what = What.Check acc }) result }
+    ensures one_change { MakesOneChange S.Store store.old store.new (What.Check acc) (λ told. IsSaidOf told result) }
 {
     let _ = badge;
     let Some(image) = image(store, alloc, acc)? else {
@@ -216,8 +225,10 @@ pub(crate) fn command<S: Alter>(
     requires day { IsDay caller.now.day }
     requires fits { IsRequest request.now.what }
     requires staff { IsForStaff request.now.what }
-    ensures { Carries S.Store store.old store.new caller.now.day request.now result }
+    ensures carries { Carries S.Store store.old store.new caller.now.day request.now result }
+    ensures one_change { MakesOneChange S.Store store.old store.new request.now.what (λ told. IsSaidOf told result) }
 {
+    store.rests();
     let badge = &request.badge;
     match &request.what {
         What::Survey(acc) => survey(store, alloc, badge, *acc),

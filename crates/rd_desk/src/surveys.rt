@@ -4,7 +4,7 @@ ghost use Rattle.std.specs.Prelude.{◌≡◌, IfOk, Some, ℤ};
 ghost use Rattle.rd_policy.specs.Dates.{IsDateOf};
 ghost use Rattle.rd_volume.specs.Reports.{IsReport};
 ghost use Rattle.rd_store.specs.Held.{IsOpen, desk};
-ghost use Rattle.rd_desk.specs.Calls.{Carries, IsSurveyAt, Looks};
+ghost use Rattle.rd_desk.specs.Calls.{Carries, IsSurveyAt, Keeps, Looks};
 ghost use Rattle.rd_desk.specs.Judged.{audience_of};
 ghost use Rattle.rd_desk.specs.Replies.{IsSurveyOf};
 
@@ -86,7 +86,8 @@ pub(crate) fn survey<S: Alter>(
     acc: u32,
 ) -> Result<Said, Unavailable>
     requires known { IsOpen S.Store store.old → audience_of (desk S.Store store.old) badge.now ≡ Some Audience.Staff }
-    ensures { (day : ℤ) → Carries S.Store store.old store.new day (record { badge = badge.now; what = What.Survey acc }) result }
+    ensures carries { (day : ℤ) → Carries S.Store store.old store.new day (record { badge = badge.now; what = What.Survey acc }) result }
+    ensures keeps { Keeps S.Store store.old store.new }
 {
     let _ = badge;
     match survey_at(store, alloc, acc)? {

@@ -1,46 +1,85 @@
 use Rattle.std.proofs.Common.{◌∙◌, FitsSigned, ap, rules, subst, sym, w32}
 use Rattle.std.proofs.lemmas.Int.{to_z-of_z}
-use Rattle.rd_desk.specs.Calls.{Carries}
+use Rattle.rd_desk.specs.Calls.{Carries, IsSaidOf, MakesOneChange}
+use Rattle.rd_desk.specs.Requests.{MayChange}
 use Rattle.rd_desk.specs.declared.request.What.TheVariants.{PutDeed}
+use Rattle.rd_desk.proofs.OneChange.{change_alone, no_call, reads_alone}
 use Rattle.rd_desk.proofs.commands.command.Goals as goal
 
-pub returns-in-Survey : goal.returns-in-Survey
-returns-in-Survey g c =
+pub returns-in-Survey-clause-carries : goal.returns-in-Survey-clause-carries
+returns-in-Survey-clause-carries g c =
     subst (λ what. Carries g.S.Store c.args.store.now c.survey.new.store c.args.caller.now.day (record { badge = c.args.request.now.badge; what = what }) c.survey.result)
-    (sym c.in-Survey.is) (c.survey.ensures c.args.caller.now.day)
+    (sym c.in-Survey.is) (c.survey.ensures.carries c.args.caller.now.day)
 
-pub returns-in-PutImage : goal.returns-in-PutImage
-returns-in-PutImage g c =
+pub returns-in-PutImage-clause-carries : goal.returns-in-PutImage-clause-carries
+returns-in-PutImage-clause-carries g c =
     subst (λ what. Carries g.S.Store c.args.store.now c.put_image.new.store c.args.caller.now.day (record { badge = c.args.request.now.badge; what = what }) c.put_image.result)
-    (sym c.in-PutImage.is) (c.put_image.ensures c.args.caller.now.day)
+    (sym c.in-PutImage.is) (c.put_image.ensures.carries c.args.caller.now.day)
 
-pub returns-in-PutDeed : goal.returns-in-PutDeed
-returns-in-PutDeed g c =
+pub returns-in-PutDeed-clause-carries : goal.returns-in-PutDeed-clause-carries
+returns-in-PutDeed-clause-carries g c =
     let fits : FitsSigned w32 c.in-PutDeed.signed = search rules in
     subst (λ what. Carries g.S.Store c.args.store.now c.put_deed.new.store c.args.caller.now.day (record { badge = c.args.request.now.badge; what = what }) c.put_deed.result)
-    (ap (PutDeed c.in-PutDeed.num c.in-PutDeed.donor) (to_z-of_z w32 c.in-PutDeed.signed fits) ∙ sym c.in-PutDeed.is) (c.put_deed.ensures c.args.caller.now.day)
+    (ap (PutDeed c.in-PutDeed.num c.in-PutDeed.donor) (to_z-of_z w32 c.in-PutDeed.signed fits) ∙ sym c.in-PutDeed.is) (c.put_deed.ensures.carries c.args.caller.now.day)
 
-pub returns-in-PutRule : goal.returns-in-PutRule
-returns-in-PutRule g c =
+pub returns-in-PutRule-clause-carries : goal.returns-in-PutRule-clause-carries
+returns-in-PutRule-clause-carries g c =
     subst (λ what. Carries g.S.Store c.args.store.now c.put_rule.new.store c.args.caller.now.day (record { badge = c.args.request.now.badge; what = what }) c.put_rule.result)
-    (sym c.in-PutRule.is) (c.put_rule.ensures c.args.caller.now.day)
+    (sym c.in-PutRule.is) (c.put_rule.ensures.carries c.args.caller.now.day)
 
-pub returns-in-DropRule : goal.returns-in-DropRule
-returns-in-DropRule g c =
+pub returns-in-DropRule-clause-carries : goal.returns-in-DropRule-clause-carries
+returns-in-DropRule-clause-carries g c =
     subst (λ what. Carries g.S.Store c.args.store.now c.drop_rule.new.store c.args.caller.now.day (record { badge = c.args.request.now.badge; what = what }) c.drop_rule.result)
-    (sym c.in-DropRule.is) (c.drop_rule.ensures c.args.caller.now.day)
+    (sym c.in-DropRule.is) (c.drop_rule.ensures.carries c.args.caller.now.day)
 
-pub returns-in-PutKey : goal.returns-in-PutKey
-returns-in-PutKey g c =
+pub returns-in-PutKey-clause-carries : goal.returns-in-PutKey-clause-carries
+returns-in-PutKey-clause-carries g c =
     subst (λ what. Carries g.S.Store c.args.store.now c.put_key.new.store c.args.caller.now.day (record { badge = c.args.request.now.badge; what = what }) c.put_key.result)
-    (sym c.in-PutKey.is) (c.put_key.ensures c.args.caller.now.day)
+    (sym c.in-PutKey.is) (c.put_key.ensures.carries c.args.caller.now.day)
 
-pub returns-in-DropKey : goal.returns-in-DropKey
-returns-in-DropKey g c =
+pub returns-in-DropKey-clause-carries : goal.returns-in-DropKey-clause-carries
+returns-in-DropKey-clause-carries g c =
     subst (λ what. Carries g.S.Store c.args.store.now c.drop_key.new.store c.args.caller.now.day (record { badge = c.args.request.now.badge; what = what }) c.drop_key.result)
-    (sym c.in-DropKey.is) (c.drop_key.ensures c.args.caller.now.day)
+    (sym c.in-DropKey.is) (c.drop_key.ensures.carries c.args.caller.now.day)
 
-pub returns-in-Unread : goal.returns-in-Unread
-returns-in-Unread g c =
+pub returns-in-Unread-clause-carries : goal.returns-in-Unread-clause-carries
+returns-in-Unread-clause-carries g c =
     subst (λ what. Carries g.S.Store c.args.store.now c.unread.new.store c.args.caller.now.day (record { badge = c.args.request.now.badge; what = what }) c.unread.result)
-    (sym c.in-Unread.is) (c.unread.ensures c.args.caller.now.day)
+    (sym c.in-Unread.is) (c.unread.ensures.carries c.args.caller.now.day)
+
+pub returns-in-Survey-clause-one_change : goal.returns-in-Survey-clause-one_change
+returns-in-Survey-clause-one_change g c =
+    reads_alone g.S.Store _ _ c.args.store.now c.survey.new.store c.survey.ensures.keeps
+
+pub returns-in-Check-clause-one_change : goal.returns-in-Check-clause-one_change
+returns-in-Check-clause-one_change g c =
+    subst (λ what. MakesOneChange g.S.Store c.args.store.now c.check.new.store what (λ told. IsSaidOf told c.check.result)) (sym c.in-Check.is) c.check.ensures.one_change
+
+pub returns-in-PutImage-clause-one_change : goal.returns-in-PutImage-clause-one_change
+returns-in-PutImage-clause-one_change g c =
+    subst (λ what. MakesOneChange g.S.Store c.args.store.now c.put_image.new.store what (λ told. IsSaidOf told c.put_image.result)) (sym c.in-PutImage.is) c.put_image.ensures.one_change
+
+pub returns-in-PutDeed-clause-one_change : goal.returns-in-PutDeed-clause-one_change
+returns-in-PutDeed-clause-one_change g c =
+    change_alone g.S.Store _ _ c.args.store.now c.put_deed.new.store c.rests.ensures (subst MayChange (sym c.in-PutDeed.is) tt) c.put_deed.ensures.change
+
+pub returns-in-PutRule-clause-one_change : goal.returns-in-PutRule-clause-one_change
+returns-in-PutRule-clause-one_change g c =
+    change_alone g.S.Store _ _ c.args.store.now c.put_rule.new.store c.rests.ensures (subst MayChange (sym c.in-PutRule.is) tt) c.put_rule.ensures.change
+
+pub returns-in-DropRule-clause-one_change : goal.returns-in-DropRule-clause-one_change
+returns-in-DropRule-clause-one_change g c =
+    change_alone g.S.Store _ _ c.args.store.now c.drop_rule.new.store c.rests.ensures (subst MayChange (sym c.in-DropRule.is) tt) c.drop_rule.ensures.change
+
+pub returns-in-PutKey-clause-one_change : goal.returns-in-PutKey-clause-one_change
+returns-in-PutKey-clause-one_change g c =
+    change_alone g.S.Store _ _ c.args.store.now c.put_key.new.store c.rests.ensures (subst MayChange (sym c.in-PutKey.is) tt) c.put_key.ensures.change
+
+pub returns-in-DropKey-clause-one_change : goal.returns-in-DropKey-clause-one_change
+returns-in-DropKey-clause-one_change g c =
+    change_alone g.S.Store _ _ c.args.store.now c.drop_key.new.store c.rests.ensures (subst MayChange (sym c.in-DropKey.is) tt) c.drop_key.ensures.change
+
+pub returns-in-Unread-clause-one_change : goal.returns-in-Unread-clause-one_change
+returns-in-Unread-clause-one_change g c =
+    subst (λ h. MakesOneChange g.S.Store c.args.store.now h c.args.request.now.what (λ told. IsSaidOf told c.unread.result)) (sym c.unread.ensures.same)
+    (no_call g.S.Store _ _ c.args.store.now c.rests.ensures)

@@ -1,0 +1,78 @@
+-- Calls that read, and one that changes the desk after them.
+use Rattle.std.proofs.Common.{◌≡◌, ◌≢◌, ◌⊎◌, ◌↔◌, inl, inr, arith, false, true, Result, Ok, Err, IsErr, IsOk, refl, sym, ap, ◌∙◌}
+use Rattle.std.specs.Prelude.{⊤}
+use Rattle.sqlite.specs.Store.{Ghosts}
+use Rattle.sqlite.specs.Held.{Held}
+use Rattle.rd_store.specs.Held.{IsClean, IsOpen, Rests}
+use Rattle.rd_store.specs.declared.faults.StoreFault.{StoreFault}
+use Rattle.rd_desk.specs.Calls.{IsOneChange, IsSaidOf, IsWritten, Keeps, MakesOneChange}
+use Rattle.rd_desk.specs.Refusals.{status_of}
+use Rattle.rd_desk.specs.Requests.{MayChange}
+use Rattle.rd_desk.specs.declared.refusal.Refusal.{Refusal}
+use Rattle.rd_desk.specs.declared.refusal.Refusal.TheVariants.{UnknownKey}
+use Rattle.rd_desk.specs.declared.request.What.{What}
+use Rattle.rd_desk.specs.declared.said.Reply.{Reply}
+use Rattle.rd_desk.specs.declared.said.Said.{Said}
+use Rattle.rd_desk.specs.declared.said.Said.TheVariants as said
+use Rattle.rd_desk.proofs.Responding.{keeps_still, keeps_then}
+
+module _ {S : Type 0} (g : Ghosts S) (what : What) (Returned : Result ⊤ StoreFault → Type 0) where
+  -- calls that read, and no other
+  pub reads_alone : (a b : Held S) → Keeps g a b → MakesOneChange g a b what Returned
+  reads_alone a b keeps = record { middle = b; reads = keeps; last = inl refl }
+
+  -- no call at all
+  pub no_call : (a : Held S) → Rests g a → MakesOneChange g a a what Returned
+  no_call a rests = reads_alone a a (keeps_still g a rests)
+
+  -- calls that read, and then one that changes the desk
+  pub change_last : (a b c : Held S) → Keeps g a b → MayChange what → IsOneChange g b c Returned → MakesOneChange g a c what Returned
+  change_last a b c keeps may change = record { middle = b; reads = keeps; last = inr (may, change) }
+
+  -- one that changes the desk
+  pub change_alone : (a b : Held S) → Rests g a → MayChange what → IsOneChange g a b Returned → MakesOneChange g a b what Returned
+  change_alone a b rests may change = change_last a a b (keeps_still g a rests) may change
+
+  -- more calls that read, before all others
+  pub reads_first : (a b c : Held S) → Keeps g a b → (IsClean g b → IsOpen g b) → MakesOneChange g b c what Returned → MakesOneChange g a c what Returned
+  reads_first a b c keeps opens makes = record { middle = makes.middle; reads = keeps_then g a b makes.middle keeps opens makes.reads; last = makes.last }
+
+-- a call that failed, and no answer after it
+pub failed_is_said : {X : Type 0} (told : Result ⊤ StoreFault) (fault : StoreFault) (result : Result Said X) → told ≡ Err fault → IsErr result → IsSaidOf told result
+failed_is_said (Ok done) fault result is none = cc
+failed_is_said (Err why) fault (Ok answer) is none = let e : false ≡ true = none in cc
+failed_is_said (Err why) fault (Err other) is none = tt
+
+refused_status : (refusal : Refusal) → status_of refusal ≢ 200
+refused_status UnknownKey is = omega (arith, is)
+refused_status other is = omega (arith, is)
+
+-- the status is 200 exactly if the answer is one after Ok
+ok_status : {X : Type 0} (result : Result Said X) (reply : Reply) (told : Result ⊤ StoreFault) → IsWritten result reply → IsSaidOf told result → IsOk told ↔ (reply.status ≡ 200)
+ok_status (Ok said.Done) reply (Ok done) (inl is) of = (λ ok. ap (λ (r : Reply). r.status) is, λ status. refl)
+ok_status (Ok said.Done) reply (Ok done) (inr none) of = absurd (none.1 tt)
+ok_status (Ok (said.Checked outcome)) reply (Ok done) (inl is) of = (λ ok. ap (λ (r : Reply). r.status) is, λ status. refl)
+ok_status (Ok (said.Checked outcome)) reply (Ok done) (inr none) of = absurd (none.1 tt)
+ok_status (Ok (said.Refused refusal)) reply (Err fault) (inl is) of =
+    (λ ok. cc, λ status. absurd (refused_status refusal (sym (ap (λ (r : Reply). r.status) is) ∙ status)))
+ok_status (Ok (said.Refused refusal)) reply (Err fault) (inr none) of =
+    (λ ok. cc, λ status. let e : 503 ≡ 200 = sym (ap (λ (r : Reply). r.status) none.0) ∙ status in absurd (omega (arith, e)))
+ok_status (Err none) reply (Err fault) is of =
+    (λ ok. cc, λ status. let e : 503 ≡ 200 = sym (ap (λ (r : Reply). r.status) is) ∙ status in absurd (omega (arith, e)))
+ok_status result reply (Ok done) is of = absurd of
+ok_status result reply (Err fault) is of = absurd of
+
+-- what was said, as it is written
+pub one_change_written : {S X : Type 0} (g : Ghosts S) (old new : Held S) (what : What) (result : Result Said X) (reply : Reply) → IsWritten result reply
+    → MakesOneChange g old new what (λ told. IsSaidOf told result) → MakesOneChange g old new what (λ told. IsOk told ↔ (reply.status ≡ 200))
+one_change_written g old new what result reply written makes = record {
+  middle = makes.middle;
+  reads = makes.reads;
+  last = elim makes.last [
+    | inl same ↦ inl same
+    | inr change ↦ inr (
+      change.0,
+      record { after = change.1.after; result = change.1.result; changes = change.1.changes; returned = ok_status result reply change.1.result written change.1.returned },
+    )
+  ];
+}

@@ -1,0 +1,6 @@
+use Rattle.rd_desk.proofs.OneChange.{failed_is_said}
+use Rattle.rd_desk.proofs.commands.put_deed.Goals as goal
+
+pub returns-in_err-put_deed-clause-change : goal.returns-in_err-put_deed-clause-change
+returns-in_err-put_deed-clause-change g c =
+    record { after = _; result = c.put_deed.result; changes = c.put_deed.ensures.changes; returned = failed_is_said c.put_deed.result c.in_err-put_deed.field-0.0 c.from_residual.result c.in_err-put_deed.was c.from_residual.ensures.0 }
