@@ -188,16 +188,16 @@ def fill(program, store, accessions):
 
 def copied(store, target):
     """A copy of a store that nobody serves, with all that its log holds in the file; False where it has no index of
-    files."""
+    files, or no table for error bytes."""
     for end in ("", "-wal"):
         if os.path.exists(store + end):
             with open(store + end, "rb") as here, open(target + end, "wb") as there:
                 there.write(here.read())
     connection = sqlite3.connect(target)
-    has_index = connection.execute("SELECT count(*) FROM sqlite_schema WHERE name = 'found'").fetchone()[0] == 1
+    tables = {name for (name,) in connection.execute("SELECT name FROM sqlite_schema WHERE type = 'table'")}
     connection.execute("PRAGMA wal_checkpoint(TRUNCATE)")
     connection.close()
-    return has_index
+    return {"found", "marks"} <= tables
 
 
 def named_programs(words):

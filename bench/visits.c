@@ -1,8 +1,9 @@
 /* What `desk serve` does at a visit that asks which accessions there are, for the files of one, or for the bytes of
  * a file, with the same tests and the same reply bytes, as a plain C program over SQLite's library: the bench measures
  * desk against it. It asks for one row of the tables after another, as desk does: the audience of the key, the
- * accession, its takedowns and the rules of its deed, the rows of the index, and the whole row of an image of which a
- * file is served. Statements are prepared once, the cache is SQLite's default, and the store stays locked as desk's is.
+ * accession and, where it is a 1541 disk, whether it has error bytes, its takedowns and the rules of its deed, the rows
+ * of the index, and the whole row of an image of which a file is served, with its error bytes. Statements are prepared
+ * once, the cache is SQLite's default, and the store stays locked as desk's is.
  *
  *     visits STORE PORT COUNT
  *
@@ -31,6 +32,8 @@ enum { DONE = 0, DEVICE = 3 };
 enum { PUBLIC = 1, ROOM = 2, STAFF = 4 };
 enum { DENY, LIST, READ };
 enum { ALL, SLOT, PREFIX, USER, TYPE };
+enum { CPM8, D64, D64E };
+enum { CPM8_SIZE = 256256, D64_SIZE = 174848, MARKS = 683 };
 
 static _Noreturn void fail(const char *why)
 {
@@ -85,7 +88,8 @@ static void put_string(const char *text, size_t count)
 /* ---- tables ---- */
 
 static sqlite3 *store;
-static sqlite3_stmt *badge, *accession, *accessions, *rules_of, *files_of, *file_at, *image_of;
+static sqlite3_stmt *badge, *accession, *accessions, *has_marks, *marked, *rules_of, *files_of, *file_at, *image_of,
+    *marks_of;
 
 static sqlite3_stmt *prepared(const char *sql)
 {
@@ -105,11 +109,14 @@ static void open_store(const char *path)
     badge = prepared("SELECT audience FROM badge WHERE digest = ?1");
     accession = prepared("SELECT acc, kind, deed FROM image WHERE acc = ?1");
     accessions = prepared("SELECT acc, kind, deed FROM image ORDER BY acc");
+    has_marks = prepared("SELECT 1 FROM marks WHERE acc = ?1");
+    marked = prepared("SELECT acc FROM marks ORDER BY acc");
     rules_of = prepared("SELECT rank, audiences, day_from, day_until, how, number, word, effect FROM rule"
                         " WHERE band = ?1 AND scope = ?2 ORDER BY rank");
     files_of = prepared(FILE_COLUMNS "ORDER BY slot");
     file_at = prepared(FILE_COLUMNS "AND slot = ?2");
     image_of = prepared("SELECT kind, deed, digest, bytes FROM image WHERE acc = ?1");
+    marks_of = prepared("SELECT bytes FROM marks WHERE acc = ?1");
 }
 
 /* Whether a statement has another row. */
@@ -137,6 +144,9 @@ struct rule {
 
 static struct { struct rule *all; int count, room; } rules;
 
+/* The accessions that have error bytes, ascending. */
+static struct { int *all; int count, room; } marked_ones;
+
 struct file {
     int slot, has_user, user, served, has_size, size, faults, last_len;
     const char *name, *type;
@@ -144,12 +154,23 @@ struct file {
     int name_len, type_len, units_len;
 };
 
+/* What a row shows of an accession, as if it had no error bytes. */
 static struct held held_in(sqlite3_stmt *row)
 {
     struct held held = {sqlite3_column_int(row, 0), sqlite3_column_int(row, 1), sqlite3_column_int(row, 2)};
-    if (held.kind < 0 || held.kind > 1)
+    if (held.kind < CPM8 || held.kind > D64)
         fail("a kind that is none");
     return held;
+}
+
+/* Whether an accession has error bytes. */
+static int is_marked(int acc)
+{
+    int found;
+    sqlite3_bind_int(has_marks, 1, acc);
+    found = steps(has_marks);
+    sqlite3_reset(has_marks);
+    return found;
 }
 
 /* Whether an accession stands, and what is held of it. */
@@ -161,7 +182,45 @@ static int find_accession(int acc, struct held *held)
     if (stands)
         *held = held_in(accession);
     sqlite3_reset(accession);
+    if (stands && held->kind == D64 && is_marked(acc))
+        held->kind = D64E;
     return stands;
+}
+
+static void add_marked(int acc)
+{
+    if (marked_ones.count == marked_ones.room) {
+        marked_ones.room = 2 * marked_ones.room + 16;
+        marked_ones.all = realloc(marked_ones.all, marked_ones.room * sizeof *marked_ones.all);
+        if (!marked_ones.all)
+            fail("no-memory");
+    }
+    if (marked_ones.count && acc <= marked_ones.all[marked_ones.count - 1])
+        fail("error bytes out of order");
+    marked_ones.all[marked_ones.count++] = acc;
+}
+
+static void read_marked(void)
+{
+    marked_ones.count = 0;
+    while (steps(marked))
+        add_marked(sqlite3_column_int(marked, 0));
+    sqlite3_reset(marked);
+}
+
+static int compared(const void *one, const void *other)
+{
+    int a = *(const int *)one, b = *(const int *)other;
+    return (a > b) - (a < b);
+}
+
+/* What a row shows of an accession, with error bytes where it is among those that have them. */
+static struct held registered_in(sqlite3_stmt *row)
+{
+    struct held held = held_in(row);
+    if (marked_ones.count && bsearch(&held.acc, marked_ones.all, marked_ones.count, sizeof held.acc, compared))
+        held.kind = D64E;
+    return held;
 }
 
 static void read_rule(struct rule *rule, int takedown, int scope)
@@ -311,13 +370,13 @@ static void put_faults(int kind, int faults)
 {
     static const char *const words[2][8] = {
         {"bad-count", "duplicate", "gap", "short", "hole", "off-disk", "crossed"},
-        {"not-closed", "off-disk", "loop", "crossed"}};
+        {"not-closed", "off-disk", "loop", "crossed", "read-error"}};
     int count = 0;
     put_text("[");
     for (int bit = 0; bit < 8; bit++)
-        if (faults >> bit & 1 && words[kind][bit]) {
+        if (faults >> bit & 1 && words[kind != CPM8][bit]) {
             put_text(count++ ? ",\"" : "\"");
-            put_text(words[kind][bit]);
+            put_text(words[kind != CPM8][bit]);
             put_text("\"");
         }
     put_text("]");
@@ -350,7 +409,11 @@ static void put_file(int kind, const struct file *file, const struct rule *rule)
     put_text("}");
 }
 
-static const char *kind_word(int kind) { return kind ? "d64" : "cpm8"; }
+static const char *kind_word(int kind)
+{
+    static const char *const words[] = {"cpm8", "d64", "d64e"};
+    return words[kind];
+}
 
 static void put_accession(const struct held *held)
 {
@@ -375,13 +438,13 @@ static size_t place_of(int kind, unsigned unit)
 {
     static const uint8_t skew[26] = {0, 6, 12, 18, 24, 4, 10, 16, 22, 2, 8, 14, 20,
                                      1, 7, 13, 19, 25, 5, 11, 17, 23, 3, 9, 15, 21};
-    return kind ? 256 * (size_t)unit + 2 : 128 * (26 * (2 + (size_t)unit / 26) + skew[unit % 26]);
+    return kind != CPM8 ? 256 * (size_t)unit + 2 : 128 * (26 * (2 + (size_t)unit / 26) + skew[unit % 26]);
 }
 
 static void put_contents(int kind, const uint8_t *bytes, const struct file *file)
 {
-    unsigned units = kind ? 683 : 1950;
-    int full = kind ? 254 : 128;
+    unsigned units = kind != CPM8 ? 683 : 1950;
+    int full = kind != CPM8 ? 254 : 128;
     if (file->last_len < 0 || file->last_len > full)
         fail("a file that is not in its image");
     for (int i = 0; i < file->units_len; i++) {
@@ -392,9 +455,21 @@ static void put_contents(int kind, const uint8_t *bytes, const struct file *file
     }
 }
 
+/* Reads the error bytes of an image that has them. */
+static void read_marks(const struct held *held)
+{
+    sqlite3_bind_int(marks_of, 1, held->acc);
+    if (steps(marks_of) != (held->kind == D64E) ||
+        (held->kind == D64E && (!sqlite3_column_blob(marks_of, 0) || sqlite3_column_bytes(marks_of, 0) != MARKS)))
+        fail("error bytes that are none");
+    sqlite3_reset(marks_of);
+}
+
 static struct reply contents(const struct held *held, const struct file *file)
 {
-    int size = held->kind ? 174848 : 256256;
+    int size = held->kind != CPM8 ? D64_SIZE : CPM8_SIZE;
+    if (held->kind != CPM8)
+        read_marks(held);
     sqlite3_bind_int(image_of, 1, held->acc);
     if (!steps(image_of) || sqlite3_column_bytes(image_of, 3) != size || sqlite3_column_bytes(image_of, 2) != 32)
         fail("an image that is none");
@@ -481,8 +556,9 @@ static struct reply answer_images(int audience, int day)
 {
     int told = 0;
     put_text("{\"images\":[");
+    read_marked();
     while (steps(accessions)) {
-        struct held held = held_in(accessions);
+        struct held held = registered_in(accessions);
         int files = count_listed(&held, audience, day);
         if (!files)
             continue;

@@ -3,8 +3,8 @@
 
 Each PROGRAM is a desk. In one run it measures them side by side, and beside a C program over SQLite's library that
 does the same work for a visit with the same tests, on a copy of the store of the first desk that keeps an index of
-files (visits.c). It wants gcc and the headers of SQLite (Debian's libsqlite3-dev); run as root, it installs them where
-they are missing.
+files and a table for error bytes (visits.c). It wants gcc and the headers of SQLite (Debian's libsqlite3-dev); run as
+root, it installs them where they are missing.
 
 Each desk makes and fills its own stores. Then servers that this script starts are visited over loopback, one visit
 after the other, by one visitor with a key of the reading room, and their processor time is read, of their own and of
@@ -85,14 +85,14 @@ class Bench:
         self.add_c_program(programs, shelves, folder)
 
     def add_c_program(self, programs, shelves, folder):
-        """Puts the C program beside the desks, where one of them keeps an index of files."""
+        """Puts the C program beside the desks, where the store of one of them has all tables that it reads."""
         for name in programs:
             copies = {shelf: os.path.join(folder, f"copy-{shelf}.sqlite") for shelf in shelves}
             if all(rooms.copied(self.stores[name, shelf], copy) for shelf, copy in copies.items()):
                 self.commands[C_NAME] = rooms.compiled_c(folder)
                 self.stores.update({(C_NAME, shelf): copy for shelf, copy in copies.items()})
                 return
-        print(f"no desk keeps an index of files: none is measured beside the {C_NAME}")
+        print(f"no desk keeps an index of files and error bytes: none is measured beside the {C_NAME}")
 
     def serve(self, name, shelf, count):
         return rooms.Server(self.commands[name], self.stores[name, shelf], count)
