@@ -1,12 +1,17 @@
 -- What is left of the store, by what each part of a command does to its connection.
 use Rattle.std.proofs.Common.{◌≡◌, ◌⊎◌, Option, Some, None, IfSome, inl, inr, refl, subst}
-use Rattle.sqlite.specs.Held.{Held}
+use Rattle.sqlite.specs.Effect.{Database}
+use Rattle.sqlite.specs.Held.{Held, state}
 use Rattle.sqlite.specs.Store.{Ghosts}
 use Rattle.rd_store.specs.Held.{desk}
-use Rattle.rd_store.specs.Migrated.{IsMigrated}
+use Rattle.rd_store.specs.Migrated.{IsMigrated, IsNotMigrated}
 use Rattle.rd_store.specs.State.{Desk}
+use Rattle.rd_store.specs.declared.faults.OpenFault.{OpenFault}
+use Rattle.rd_store.specs.declared.faults.OpenFault.TheVariants as open_fault
 use Rattle.rd_store.proofs.Laws.{lasts_then}
-use Rattle.rd_program.specs.Leaves.{Leaves, LeavesDesk, LeavesNone, LeavesStore}
+use Rattle.rd_program.specs.Leaves.{IfBoth, IsReached, Leaves, LeavesDesk, LeavesNone, LeavesStore, LeavesUnopened}
+use Rattle.rd_program.specs.Serving.{IsOpenRefusal}
+use Rattle.rd_program.specs.declared.refusal.Refusal.{Refusal}
 
 -- ---- two connections that are told
 
@@ -47,22 +52,55 @@ module _ {S : Type 0} (g : Ghosts S) where
       → LeavesStore g Reached before last
   from_opened Reached before opened last is leaves = record {
     lasts = lasts_then g before opened last is.lasts leaves.lasts;
-    reached = λ is_open. record {
+    reached = λ is_open. inr (record {
       stood = desk g opened;
       spelled = is.is (leaves.lasts.was_open is_open);
       reached = leaves.reached is_open;
-    };
+    });
   }
+
+  -- where none was opened the database is as it was
+  from_unopened : (Reached : Desk → Desk → Type 0) (fault : OpenFault) (before after : Held S) → IsNotMigrated g before after fault
+      → LeavesStore g Reached before after
+  from_unopened Reached fault before after is = record {
+    lasts = is.lasts;
+    reached = λ is_open. inl (is.untouched is_open);
+  }
+
+  both_unopened : (was old new : Option (Held S)) (Reached : Desk → Desk → Type 0) (fault : OpenFault)
+      → IfBoth old new (λ before after. IsNotMigrated g before after fault) → Leaves was old new (LeavesStore g Reached)
+  both_unopened was None new Reached fault is = tt
+  both_unopened was (Some before) None Reached fault is = tt
+  both_unopened was (Some before) (Some after) Reached fault is = inr (from_unopened Reached fault before after is)
+
+  pub unopened_left : (was old new : Option (Held S)) (Reached : Desk → Desk → Type 0) (refusal : Refusal) → IsOpenRefusal refusal
+      → LeavesUnopened g was old new refusal → Leaves was old new (LeavesStore g Reached)
+  unopened_left was old new Reached refusal (inl is) left =
+      both_unopened was old new Reached open_fault.NotADesk (subst (LeavesUnopened g was old new) is left)
+  unopened_left was old new Reached refusal (inr (inl is)) left =
+      both_unopened was old new Reached open_fault.Version (subst (LeavesUnopened g was old new) is left)
+  unopened_left was old new Reached refusal (inr (inr (inl is))) left =
+      both_unopened was old new Reached open_fault.Inconsistent (subst (LeavesUnopened g was old new) is left)
+  unopened_left was old new Reached refusal (inr (inr (inr (inl is)))) left =
+      leaves_weaker was old new (λ before after. IsNotMigrated g before after open_fault.Sql) (LeavesStore g Reached)
+      (from_unopened Reached open_fault.Sql) (subst (LeavesUnopened g was old new) is left)
+  unopened_left was old new Reached refusal (inr (inr (inr (inr is)))) left =
+      none_left was old new (LeavesStore g Reached) (subst (LeavesUnopened g was old new) is left)
+
+  weaker_reached : {Same : Type 0} (db : Database) (First Second : Desk → Desk → Type 0) (new : Desk) → ((d e : Desk) → First d e → Second d e)
+      → Same ⊎ IsReached db First new → Same ⊎ IsReached db Second new
+  weaker_reached db First Second new weaker (inl same) = inl same
+  weaker_reached db First Second new weaker (inr was) = inr (record {
+    stood = was.stood;
+    spelled = was.spelled;
+    reached = weaker was.stood new was.reached;
+  })
 
   pub store_weaker : (First Second : Desk → Desk → Type 0) (before after : Held S) → ((d e : Desk) → First d e → Second d e)
       → LeavesStore g First before after → LeavesStore g Second before after
   store_weaker First Second before after weaker leaves = record {
     lasts = leaves.lasts;
-    reached = λ is_open. let was = leaves.reached is_open in record {
-      stood = was.stood;
-      spelled = was.spelled;
-      reached = weaker was.stood (desk g after) was.reached;
-    };
+    reached = λ is_open. weaker_reached (state g before).now First Second (desk g after) weaker (leaves.reached is_open);
   }
 
   -- what holds of the one that stood and of the last is what is left

@@ -2,15 +2,65 @@
 use Rattle.std.proofs.Common.{◌≡◌, ◌++◌, ℕ, ℤ, List, [], ◌∷◌, Option, Some, inl, inr, refl, subst, sym}
 use Rattle.sqlite.specs.Held.{Held}
 use Rattle.sqlite.specs.Store.{Ghosts}
+use Rattle.rd_store.specs.Held.{desk}
 use Rattle.rd_store.specs.State.{Desk}
-use Rattle.rd_desk.specs.Replies.{IsStep}
+use Rattle.rd_desk.specs.Replies.{Answers, IsAnswered, IsStep}
+use Rattle.rd_desk.specs.Served.{Serves}
+use Rattle.rd_desk.specs.declared.request.Request.{Request}
 use Rattle.rd_desk.specs.declared.request.What.{What}
 use Rattle.rd_desk.specs.declared.request.What.TheVariants as request
+use Rattle.rd_desk.specs.declared.said.Reply.{Reply}
+use Rattle.rd_desk.specs.declared.said.Said.{Said}
+use Rattle.rd_desk.specs.declared.said.Said.TheVariants as said
 use Rattle.rd_program.specs.Leaves.{Checks, IsPutImage, LeavesDesk, StepsOf, TakesFields, TakesIn, TakesInTurn, TakesRow}
 use Rattle.rd_program.specs.declared.sheet.SheetRow.{SheetRow}
 use Rattle.rd_program.specs.declared.words.Question.{Question}
 use Rattle.rd_program.specs.declared.words.Question.TheVariants as question
 use Rattle.rd_program.proofs.Left.{desk_then}
+
+-- ---- after a reply
+
+answered_step : (old : Desk) (day : ℤ) (request : Request) (answer : Said) (new : Desk) → IsAnswered old day request answer new → IsStep old day request new
+answered_step old day request (said.Refused refusal) new is = inr ((refusal, is.0), is.1)
+answered_step old day request answer new is = inl (record { file = is.file; asked = is.asked; accepted = is.accepted }, is.after)
+
+reply_step : (old : Desk) (day : ℤ) (request : Request) (reply : Reply) (new : Desk) → Answers old day request reply new
+    → (new ≡ old) ⊎ IsStep old day request new
+reply_step old day request reply new (inl is) = inr (answered_step old day request is.answer new is.answered)
+reply_step old day request reply new (inr none) = inl none.after
+
+row_step : (badge : List ℕ) (day : ℤ) (row : SheetRow) (bytes : List ℕ) (old new : Desk)
+    → (new ≡ old) ⊎ IsStep old day (record { badge = Some badge; what = request.PutImage row.acc row.kind row.deed row.digest bytes }) new
+    → TakesRow badge day row old new
+row_step badge day row bytes old new (inl same) = inl same
+row_step badge day row bytes old new (inr step) = inr (bytes, step)
+
+check_step : (badge : Option (List ℕ)) (acc : ℕ) (day : ℤ) (old new : Desk)
+    → (new ≡ old) ⊎ IsStep old day (record { badge = badge; what = request.Check acc }) new → Checks badge acc (λ d. d ≡ day) old new
+check_step badge acc day old new (inl same) = inl same
+check_step badge acc day old new (inr step) = inr (day, refl, step)
+
+module _ {S : Type 0} (g : Ghosts S) (old new : Held S) (day : ℤ) (reply : Reply) where
+  pub row_taken : (badge : List ℕ) (row : SheetRow) (bytes : List ℕ)
+      → Serves g old new day (record { badge = Some badge; what = request.PutImage row.acc row.kind row.deed row.digest bytes }) reply
+      → LeavesDesk g (TakesRow badge day row) old new
+  row_taken badge row bytes serves =
+      let asked : Request = record { badge = Some badge; what = request.PutImage row.acc row.kind row.deed row.digest bytes } in
+      record {
+        lasts = serves.lasts;
+        reached = λ is_open. row_step badge day row bytes (desk g old) (desk g new)
+            (reply_step (desk g old) day asked reply (desk g new) (serves.answers is_open));
+      }
+
+  pub check_made : (badge : Option (List ℕ)) (acc : ℕ) → Serves g old new day (record { badge = badge; what = request.Check acc }) reply
+      → LeavesDesk g (Checks badge acc (λ d. d ≡ day)) old new
+  check_made badge acc serves =
+      let asked : Request = record { badge = badge; what = request.Check acc } in
+      record {
+        lasts = serves.lasts;
+        reached = λ is_open. check_step badge acc day (desk g old) (desk g new)
+            (reply_step (desk g old) day asked reply (desk g new) (serves.answers is_open));
+      }
 
 -- ---- on other days
 

@@ -11,6 +11,7 @@ use Rattle.sqlite.specs.Held.{Held, state}
 use Rattle.rd_policy.specs.Days.{HasDay}
 use Rattle.rd_policy.specs.Zones.{IsZoneOf, day_number}
 use Rattle.rd_policy.specs.declared.zone.Zone.{Zone}
+use Rattle.rd_store.specs.Created.{IsUntouched}
 use Rattle.rd_store.specs.Held.{IsOpen, Lasts, desk}
 use Rattle.rd_store.specs.Migrated.{IsMigrated, IsNotMigrated, SpellsDesk}
 use Rattle.rd_store.specs.State.{Desk}
@@ -55,10 +56,11 @@ pub record IsReached (db : Database) (Reached : Desk → Desk → Type 0) (new :
   pub spelled : SpellsDesk db stood
   pub reached : Reached stood new
 
--- A connection is open only where it was, and shows a desk that was reached so from the one that stood in its tables.
+-- A connection is open only where it was. Its database is as it was, or shows a desk that was reached so from the one
+-- that stood in its tables.
 pub record LeavesStore {S : Type 0} (g : Ghosts S) (Reached : Desk → Desk → Type 0) (before after : Held S) : Type 0 where
   pub lasts : Lasts g before after
-  pub reached : IsOpen g after → IsReached (state g before).now Reached (desk g after)
+  pub reached : IsOpen g after → IsUntouched g before after ⊎ IsReached (state g before).now Reached (desk g after)
 
 -- ---- where no desk was opened
 
