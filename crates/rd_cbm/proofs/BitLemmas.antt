@@ -1,5 +1,5 @@
 -- The bits of a number below 32 that is a sum of weights.
-use Rattle.std.proofs.Common.{◌≡◌, ◌≢◌, ◌∙◌, ◌⊎◌, inl, inr, ◌↔◌, ◌+◌, ◌*◌, ◌/◌, ◌%◌, ◌<◌, ◌≤◌, ℕ, Bool, true, false, IsTrue, List, cond, eqb, eq-eqb, eqb-true, bit_and, arith, refl, sym}
+use Rattle.std.proofs.Common.{◌≡◌, ◌≢◌, ◌∙◌, ◌⊎◌, inl, inr, ◌↔◌, ◌+◌, ◌*◌, ◌/◌, ◌%◌, ◌<◌, ◌≤◌, ℕ, Bool, true, false, IsBitSet, IsTrue, List, cond, eqb, eq-eqb, eqb-true, bit_and, arith, refl, sym}
 use Rattle.std.proofs.lemmas.Bool.{agree_below_at, cases_eq}
 use Rattle.std.specs.Int.Bits.{and_zero_l}
 use Rattle.rd_cbm.specs.declared.chains.Chain.{Chain}
@@ -43,24 +43,46 @@ told_bit n m b agree is test =
       λ fact. same.1 (λ none. (digit_test b).0 (test.1 fact) (sym is ∙ none)),
     )
 
--- What five tests tell of a file is told by the sum of the weights of those that answer true.
+-- The bits of a number tell of five facts, and it has no others.
+pub record TellFive (A B C D E : Type 0) (n : ℕ) : Type 0 where
+  pub bit_0 : IsBitSet n 0 ↔ A
+  pub bit_1 : IsBitSet n 1 ↔ B
+  pub bit_2 : IsBitSet n 2 ↔ C
+  pub bit_3 : IsBitSet n 3 ↔ D
+  pub bit_4 : IsBitSet n 4 ↔ E
+  pub no_other : n < 32
+
+-- What five tests tell is told by the sum of the weights of those that answer true.
+pub five : {A B C D E : Type 0} (a b c d e : Bool) (n : ℕ) → n ≡ digit a + 2 * digit b + 4 * digit c + 8 * digit d + 16 * digit e
+    → IsTrue a ↔ A → IsTrue b ↔ B → IsTrue c ↔ C → IsTrue d ↔ D → IsTrue e ↔ E → TellFive A B C D E n
+five a b c d e n is test_a test_b test_c test_d test_e =
+    let a1 : digit a ≤ 1 = digit-bound a in let b1 : digit b ≤ 1 = digit-bound b in
+    let c1 : digit c ≤ 1 = digit-bound c in let d1 : digit d ≤ 1 = digit-bound d in
+    let e1 : digit e ≤ 1 = digit-bound e in
+    let low : n < 32 = omega arith in
+    record {
+      bit_0 = told_bit n 1 a (agree_below_at (λ k. eqb (bit_and k 1) 0) (λ k. eqb (k / 1 % 2) 0) 32 n refl low) (omega arith) test_a;
+      bit_1 = told_bit n 2 b (agree_below_at (λ k. eqb (bit_and k 2) 0) (λ k. eqb (k / 2 % 2) 0) 32 n refl low) (omega arith) test_b;
+      bit_2 = told_bit n 4 c (agree_below_at (λ k. eqb (bit_and k 4) 0) (λ k. eqb (k / 4 % 2) 0) 32 n refl low) (omega arith) test_c;
+      bit_3 = told_bit n 8 d (agree_below_at (λ k. eqb (bit_and k 8) 0) (λ k. eqb (k / 8 % 2) 0) 32 n refl low) (omega arith) test_d;
+      bit_4 = told_bit n 16 e (agree_below_at (λ k. eqb (bit_and k 16) 0) (λ k. eqb (k / 16 % 2) 0) 32 n refl low) (omega arith) test_e;
+      no_other = low;
+    }
+
+-- and so of what the tests of a file tell
 pub told : (image : List ℕ) (shared : List Bool) (type : ℕ) (contents sides : Chain) (a b c d e : Bool) (n : ℕ)
     → n ≡ digit a + 2 * digit b + 4 * digit c + 8 * digit d + 16 * digit e → IsTrue a ↔ (¬ IsClosed type)
     → IsTrue b ↔ ((contents.end ≡ end.Off) ⊎ (sides.end ≡ end.Off)) → IsTrue c ↔ ((contents.end ≡ end.Loop) ⊎ (sides.end ≡ end.Loop))
     → IsTrue d ↔ (SomeShared shared contents.blocks ⊎ SomeShared shared sides.blocks)
     → IsTrue e ↔ (SomeError image contents.blocks ⊎ SomeError image sides.blocks) → AreTold image shared type contents sides n
 told image shared type contents sides a b c d e n is test_a test_b test_c test_d test_e =
-    let a1 : digit a ≤ 1 = digit-bound a in let b1 : digit b ≤ 1 = digit-bound b in
-    let c1 : digit c ≤ 1 = digit-bound c in let d1 : digit d ≤ 1 = digit-bound d in
-    let e1 : digit e ≤ 1 = digit-bound e in
-    let low : n < 32 = omega arith in
-    record {
-      not_closed = told_bit n 1 a (agree_below_at (λ k. eqb (bit_and k 1) 0) (λ k. eqb (k / 1 % 2) 0) 32 n refl low) (omega arith) test_a;
-      off_disk = told_bit n 2 b (agree_below_at (λ k. eqb (bit_and k 2) 0) (λ k. eqb (k / 2 % 2) 0) 32 n refl low) (omega arith) test_b;
-      loop = told_bit n 4 c (agree_below_at (λ k. eqb (bit_and k 4) 0) (λ k. eqb (k / 4 % 2) 0) 32 n refl low) (omega arith) test_c;
-      crossed = told_bit n 8 d (agree_below_at (λ k. eqb (bit_and k 8) 0) (λ k. eqb (k / 8 % 2) 0) 32 n refl low) (omega arith) test_d;
-      read_error = told_bit n 16 e (agree_below_at (λ k. eqb (bit_and k 16) 0) (λ k. eqb (k / 16 % 2) 0) 32 n refl low) (omega arith) test_e;
-      no_other = low;
+    let bits = five a b c d e n is test_a test_b test_c test_d test_e in record {
+      not_closed = bits.bit_0;
+      off_disk = bits.bit_1;
+      loop = bits.bit_2;
+      crossed = bits.bit_3;
+      read_error = bits.bit_4;
+      no_other = bits.no_other;
     }
 
 -- no bit of 0 is set

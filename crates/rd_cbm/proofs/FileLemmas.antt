@@ -12,12 +12,12 @@ use Rattle.rd_cbm.specs.Walks.{IsChain, Ends, GoesOff, Loops, EndsBy}
 use Rattle.rd_cbm.specs.Counts.{IsCount}
 use Rattle.rd_cbm.specs.Entries.{Way, Data, Side, entry_at, type_of, start_of, kind_of, ClaimsBy}
 use Rattle.rd_cbm.specs.Files.{Claims, IsSystem, HasOtherClaim}
-use Rattle.rd_cbm.specs.Faults.{IsOffDisk, IsLooped, IsCrossed, HasReadError, IsError, AreFaults, IsSound}
+use Rattle.rd_cbm.specs.Faults.{IsNotClosed, IsOffDisk, IsLooped, IsCrossed, HasReadError, IsError, AreFaults, IsSound}
 use Rattle.rd_cbm.specs.Marked.{IsClaimChain, AreUses, SomeError, SomeShared, AreTold, AreToldBlocks}
 use Rattle.rd_cbm.proofs.WalkLaws.{one_way}
 use Rattle.rd_cbm.proofs.ClaimLemmas.{own_chain}
 use Rattle.rd_cbm.proofs.CountLemmas.{count_as}
-use Rattle.rd_cbm.proofs.BitLemmas.{no_bit, no_bits}
+use Rattle.rd_cbm.proofs.BitLemmas.{TellFive, no_bit, no_bits}
 
 -- The two chains by which the file at a slot claims blocks were read.
 pub record AreRead (image blocks : List ℕ) (slot : ℕ) (contents sides : Chain) : Type 0 where
@@ -140,35 +140,44 @@ error_as image blocks slot contents sides are = (
 through : {P Q R : Type 0} → P ↔ Q → Q ↔ R → P ↔ R
 through a b = (λ p. b.0 (a.0 p), λ r. a.1 (b.1 r))
 
--- the faults that the tests tell are those of the file
-pub faults_as : (image blocks : List ℕ) (slot : ℕ) (contents sides : Chain) (used shared : List Bool) (faults : ℕ) → AreRead image blocks slot contents sides
-    → AreUses image blocks used shared → AreTold image shared (type_of (entry_at image blocks slot)) contents sides faults → AreFaults image blocks slot faults
-faults_as image blocks slot contents sides used shared faults are uses told =
-    let b = through told.off_disk (off_disk_as image blocks slot contents sides are) in
-    let c = through told.loop (loop_as image blocks slot contents sides are) in
-    let d = through told.crossed (crossed_as image blocks slot contents sides used shared are uses) in
-    let e = through told.read_error (error_as image blocks slot contents sides are) in
-    record {
-      not_closed = told.not_closed;
-      off_disk = b;
-      loop = c;
-      crossed = d;
-      read_error = e;
-      no_other = told.no_other;
-      none = (
-        λ zero. record {
-          closed = λ has. unset 1 zero (told.not_closed.1 has);
-          on_disk = λ has. unset 2 zero (b.1 has);
-          ends = λ has. unset 4 zero (c.1 has);
-          alone = λ has. unset 8 zero (d.1 has);
-          readable = λ has. unset 16 zero (e.1 has);
-        },
-        λ clean. no_bits faults told.no_other (λ set. clean.closed (told.not_closed.0 set)) (λ set. clean.on_disk (b.0 set)) (λ set. clean.ends (c.0 set)) (λ set. clean.alone (d.0 set)) (λ set. clean.readable (e.0 set)),
-      );
-    }
+-- a number whose bits tell of the five faults has the faults of the file
+pub faults_by_bits : (image blocks : List ℕ) (slot faults : ℕ)
+    → TellFive (IsNotClosed image blocks slot) (IsOffDisk image blocks slot) (IsLooped image blocks slot) (IsCrossed image blocks slot) (HasReadError image blocks slot) faults
+    → AreFaults image blocks slot faults
+faults_by_bits image blocks slot faults bits = record {
+  not_closed = bits.bit_0;
+  off_disk = bits.bit_1;
+  loop = bits.bit_2;
+  crossed = bits.bit_3;
+  read_error = bits.bit_4;
+  no_other = bits.no_other;
+  none = (
+    λ zero. record {
+      closed = λ has. unset 1 zero (bits.bit_0.1 has);
+      on_disk = λ has. unset 2 zero (bits.bit_1.1 has);
+      ends = λ has. unset 4 zero (bits.bit_2.1 has);
+      alone = λ has. unset 8 zero (bits.bit_3.1 has);
+      readable = λ has. unset 16 zero (bits.bit_4.1 has);
+    },
+    λ clean. no_bits faults bits.no_other (λ set. clean.closed (bits.bit_0.0 set)) (λ set. clean.on_disk (bits.bit_1.0 set)) (λ set. clean.ends (bits.bit_2.0 set))
+        (λ set. clean.alone (bits.bit_3.0 set)) (λ set. clean.readable (bits.bit_4.0 set)),
+  );
+}
   where
     unset : (m : ℕ) → faults ≡ 0 → (bit_and faults m ≢ 0) → ⊥
     unset m zero set = no_bit m (subst (λ n. bit_and n m ≢ 0) zero set)
+
+-- the faults that the tests tell are those of the file
+pub faults_as : (image blocks : List ℕ) (slot : ℕ) (contents sides : Chain) (used shared : List Bool) (faults : ℕ) → AreRead image blocks slot contents sides
+    → AreUses image blocks used shared → AreTold image shared (type_of (entry_at image blocks slot)) contents sides faults → AreFaults image blocks slot faults
+faults_as image blocks slot contents sides used shared faults are uses told = faults_by_bits image blocks slot faults (record {
+  bit_0 = told.not_closed;
+  bit_1 = through told.off_disk (off_disk_as image blocks slot contents sides are);
+  bit_2 = through told.loop (loop_as image blocks slot contents sides are);
+  bit_3 = through told.crossed (crossed_as image blocks slot contents sides used shared are uses);
+  bit_4 = through told.read_error (error_as image blocks slot contents sides are);
+  no_other = told.no_other;
+})
 
 -- The blocks and the last byte that are told of the file.
 pub record AreFileBlocks (image blocks : List ℕ) (slot : ℕ) (list : List ℕ) (last : ℕ) : Type 0 where
@@ -179,7 +188,7 @@ pub record AreFileBlocks (image blocks : List ℕ) (slot : ℕ) (list : List ℕ
   pub on_disk : All (λ b. b < CBM_BLOCKS) list
 
 -- a served file without a fault claims by its data
-served_claims : (image blocks : List ℕ) (slot : ℕ) → IsSound image blocks slot → ClaimsBy (type_of (entry_at image blocks slot)) Data
+pub served_claims : (image blocks : List ℕ) (slot : ℕ) → IsSound image blocks slot → ClaimsBy (type_of (entry_at image blocks slot)) Data
 served_claims image blocks slot sound =
     let high : kind_of (type_of (entry_at image blocks slot)) ≤ 3 = sound.served.1 in
     (λ zero. sound.no_fault.closed (λ closed. closed zero), sound.served.0, omega arith)

@@ -16,3 +16,4 @@ pub mod Tests
 pub mod FileLemmas
 pub mod ListingLemmas
 pub mod MapLemmas
+pub mod Deciding

@@ -12,8 +12,8 @@ use Rattle.rd_cpm.specs.Faults.{HasBadCount, HasDuplicate, HasGap, IsShort, HasH
 use Rattle.rd_cpm.specs.Contents.{AreSectors}
 use Rattle.rd_cpm.specs.Claimed.{IsClaimedBefore, IsSharedBefore, AreClaims}
 use Rattle.rd_cpm.specs.Gathered.{AreGathered, LacksPredecessor, EndsEarly, AreTwice, IsHole, SomePlace, IsOffDiskIn, IsSharedBlock, IsCrossedIn}
-use Rattle.rd_cpm.specs.Told.{AreTold, AreRecords, AreJudged}
-use Rattle.rd_cpm.proofs.BitLemmas.{no_bit, no_bits}
+use Rattle.rd_cpm.specs.Told.{AreInOrder, AreTold, AreRecords, AreJudged}
+use Rattle.rd_cpm.proofs.BitLemmas.{TellSeven, no_bit, no_bits}
 use Rattle.rd_cpm.proofs.ClaimLemmas.{numbered}
 use Rattle.rd_cpm.proofs.OwnerLemmas.{of_file}
 use Rattle.rd_cpm.proofs.GatherLemmas.{any_to_entry, entry_to_any, member_to_entry}
@@ -222,43 +222,59 @@ crossed_as d k entries claimed shared g claims = (to, from)
 through : {P Q R : Type 0} → (P ↔ Q) → (Q ↔ R) → P ↔ R
 through first second = (λ p. second.0 (first.0 p), λ r. first.1 (second.1 r))
 
--- the faults that the tests tell are those of the file
-pub faults_as : (d : Directory) (k : ℕ) (entries : List (List ℕ)) (claimed shared : List Bool) (faults : ℕ) → AreGathered d k entries → AreClaims d 1024 claimed shared
-    → AreTold shared entries faults → AreFaults d k faults
-faults_as d k entries claimed shared faults g claims told =
-    let a = through told.bad_count (bad_count_as d k entries g) in
-    let b = through told.duplicate (duplicate_as d k entries g) in
-    let c = through told.gap (gap_as d k entries g) in
-    let e = through told.short (short_as d k entries g) in
-    let f = through told.hole (hole_as d k entries g) in
-    let h = through told.off_disk (off_disk_as d k entries g) in
-    let i = through told.crossed (crossed_as d k entries claimed shared g claims) in
-    record {
-      bad_count = a;
-      duplicate = b;
-      gap = c;
-      short = e;
-      hole = f;
-      off_disk = h;
-      crossed = i;
-      no_other = told.no_other;
-      sound = (
-        λ zero. record {
-          no_bad_count = λ has. unset 1 zero (a.1 has);
-          no_duplicate = λ has. unset 2 zero (b.1 has);
-          no_gap = λ has. unset 4 zero (c.1 has);
-          not_short = λ has. unset 8 zero (e.1 has);
-          no_hole = λ has. unset 16 zero (f.1 has);
-          not_off_disk = λ has. unset 32 zero (h.1 has);
-          not_crossed = λ has. unset 64 zero (i.1 has);
-        },
-        λ sound. no_bits faults told.no_other (λ set. sound.no_bad_count (a.0 set)) (λ set. sound.no_duplicate (b.0 set)) (λ set. sound.no_gap (c.0 set))
-            (λ set. sound.not_short (e.0 set)) (λ set. sound.no_hole (f.0 set)) (λ set. sound.not_off_disk (h.0 set)) (λ set. sound.not_crossed (i.0 set)),
-      );
-    }
+-- a number whose bits tell of the seven faults has the faults of the file
+pub faults_by_bits : (d : Directory) (k faults : ℕ)
+    → TellSeven (HasBadCount d k) (HasDuplicate d k) (HasGap d k) (IsShort d k) (HasHole d k) (IsOffDisk d k) (IsCrossed d k) faults → AreFaults d k faults
+faults_by_bits d k faults bits = record {
+  bad_count = bits.bit_0;
+  duplicate = bits.bit_1;
+  gap = bits.bit_2;
+  short = bits.bit_3;
+  hole = bits.bit_4;
+  off_disk = bits.bit_5;
+  crossed = bits.bit_6;
+  no_other = bits.no_other;
+  sound = (
+    λ zero. record {
+      no_bad_count = λ has. unset 1 zero (bits.bit_0.1 has);
+      no_duplicate = λ has. unset 2 zero (bits.bit_1.1 has);
+      no_gap = λ has. unset 4 zero (bits.bit_2.1 has);
+      not_short = λ has. unset 8 zero (bits.bit_3.1 has);
+      no_hole = λ has. unset 16 zero (bits.bit_4.1 has);
+      not_off_disk = λ has. unset 32 zero (bits.bit_5.1 has);
+      not_crossed = λ has. unset 64 zero (bits.bit_6.1 has);
+    },
+    λ sound. no_bits faults bits.no_other (λ set. sound.no_bad_count (bits.bit_0.0 set)) (λ set. sound.no_duplicate (bits.bit_1.0 set)) (λ set. sound.no_gap (bits.bit_2.0 set))
+        (λ set. sound.not_short (bits.bit_3.0 set)) (λ set. sound.no_hole (bits.bit_4.0 set)) (λ set. sound.not_off_disk (bits.bit_5.0 set)) (λ set. sound.not_crossed (bits.bit_6.0 set)),
+  );
+}
   where
     unset : (m : ℕ) → faults ≡ 0 → (bit_and faults m ≢ 0) → ⊥
     unset m zero set = no_bit m (subst (λ n. bit_and n m ≢ 0) zero set)
+
+-- the faults that the tests tell are those of the file
+pub faults_as : (d : Directory) (k : ℕ) (entries : List (List ℕ)) (claimed shared : List Bool) (faults : ℕ) → AreGathered d k entries → AreClaims d 1024 claimed shared
+    → AreTold shared entries faults → AreFaults d k faults
+faults_as d k entries claimed shared faults g claims told = faults_by_bits d k faults (record {
+  bit_0 = through told.bad_count (bad_count_as d k entries g);
+  bit_1 = through told.duplicate (duplicate_as d k entries g);
+  bit_2 = through told.gap (gap_as d k entries g);
+  bit_3 = through told.short (short_as d k entries g);
+  bit_4 = through told.hole (hole_as d k entries g);
+  bit_5 = through told.off_disk (off_disk_as d k entries g);
+  bit_6 = through told.crossed (crossed_as d k entries claimed shared g claims);
+  no_other = told.no_other;
+})
+
+-- the entries of a sound file are in order
+pub sound_in_order : (d : Directory) (k : ℕ) (entries : List (List ℕ)) → AreGathered d k entries → IsSound d k → AreInOrder entries
+sound_in_order d k entries g sound = record {
+  counts = λ found. sound.no_bad_count ((bad_count_as d k entries g).0 found);
+  once = λ found. sound.no_duplicate ((duplicate_as d k entries g).0 found);
+  dense = λ found. sound.no_gap ((gap_as d k entries g).0 found);
+  full = λ found. sound.not_short ((short_as d k entries g).0 found);
+  on_disk = λ found. sound.not_off_disk ((off_disk_as d k entries g).0 found);
+}
 
 sum_by-map : (f : List ℕ → ℕ) (g : ℕ → List ℕ) (xs : List ℕ) → sum_by f (map g xs) ≡ sum_by (λ x. f (g x)) xs
 sum_by-map f g [] = refl

@@ -8,3 +8,4 @@ pub mod FaultLemmas
 pub mod ListingLemmas
 pub mod OneSectors
 pub mod AlikeDirectories
+pub mod Existence

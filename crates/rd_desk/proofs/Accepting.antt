@@ -1,5 +1,5 @@
 -- Which refusals a request of the staff can have.
-use Rattle.std.proofs.Common.{◌≡◌, ◌≢◌, ℕ, Option, Some, None, IsSome, IsSomeAnd, is_some, false, ap, refl}
+use Rattle.std.proofs.Common.{◌≡◌, ◌≢◌, ◌⊎◌, inl, inr, ℕ, Option, Some, None, IsSome, IsSomeAnd, is_some, false, ap, refl}
 use Rattle.std.specs.FinMap.{get}
 use Rattle.rd_policy.specs.declared.audience.Audience.TheVariants.{Staff}
 use Rattle.rd_policy.specs.declared.rule.Band.{Band}
@@ -11,7 +11,15 @@ use Rattle.rd_desk.specs.declared.refusal.Refusal.{Refusal}
 use Rattle.rd_desk.specs.declared.refusal.Refusal.TheVariants.{UnknownKey, StaffOnly, BadBody, NoAccession, NoFile, NoDeed, WrongSize, DigestDiffers, Conflict}
 use Rattle.rd_desk.specs.declared.request.Request.{Request}
 use Rattle.rd_desk.specs.declared.request.What.{What}
-use Rattle.rd_desk.specs.declared.request.What.TheVariants.{Bytes, Unread}
+use Rattle.rd_desk.specs.declared.request.What.TheVariants.{Images, Listing, Bytes, Catalogue, Unread}
+
+-- a request is for the staff, or it is a question
+pub is_for_staff : (what : What) → IsForStaff what ⊎ (IsForStaff what → ⊥)
+is_for_staff Images = inr (λ h. h)
+is_for_staff (Listing acc) = inr (λ h. h)
+is_for_staff (Bytes acc slot) = inr (λ h. h)
+is_for_staff Catalogue = inr (λ h. h)
+is_for_staff command = inl tt
 
 -- what is for the staff asks for no file
 pub no_file : (what : What) → IsForStaff what → file_of what ≡ None

@@ -13,7 +13,9 @@ pub mod Stepping
 pub mod Telling
 pub mod Responding
 pub mod OneChange
+pub mod Showing
 pub mod Hiding
+pub mod Replying
 pub mod Serving
 pub mod Checking
 pub mod OneReport

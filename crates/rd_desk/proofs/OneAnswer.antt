@@ -14,8 +14,7 @@ use Rattle.rd_policy.proofs.OrderLemmas.{one_verdict}
 use Rattle.rd_volume.specs.Founds.{IsSoundFile}
 use Rattle.rd_volume.specs.Reports.{IsSoundSlot}
 use Rattle.rd_volume.specs.Told.{told_sound}
-use Rattle.rd_volume.specs.Volumes.{AreBytesOf, IsFound}
-use Rattle.rd_volume.proofs.OneContents.{one_contents}
+use Rattle.rd_volume.specs.Volumes.{IsFound}
 use Rattle.rd_volume.proofs.OneFound.{one_found}
 use Rattle.rd_store.specs.State.{Desk, rules_for}
 use Rattle.rd_store.specs.declared.rows.ImageRow.{ImageRow}
@@ -24,8 +23,9 @@ use Rattle.rd_store.proofs.RulesFor.{for_in_order}
 use Rattle.rd_desk.specs.Checks.{outcome_of}
 use Rattle.rd_desk.specs.Judged.{Holds, IsAccepted, IsAsked, IsJudgedFile, IsRefused, IsRefusedOn, JudgedFile}
 use Rattle.rd_desk.specs.Laws.{OneReply}
+use Rattle.rd_desk.specs.Lent.{Lent}
 use Rattle.rd_desk.specs.Refusals.{number_of}
-use Rattle.rd_desk.specs.Replies.{AreFileBytes, AreImageLines, AreLines, AreListings, IsAnswered, IsDone, IsImageLine, IsLine, IsListing, Tells}
+use Rattle.rd_desk.specs.Replies.{AreImageLines, AreLines, AreListings, IsAnswered, IsDone, IsImageLine, IsLine, IsListing, LendsFile, Tells}
 use Rattle.rd_desk.specs.Texts.{reply_of}
 use Rattle.rd_desk.specs.declared.refusal.Refusal.{Refusal}
 use Rattle.rd_desk.specs.declared.refusal.Refusal.TheVariants.{UnknownKey, StaffOnly, BadBody, NoAccession, NoFile, NoDeed, Denied, ListedOnly, Faulty, WrongSize, DigestDiffers, Conflict}
@@ -173,13 +173,14 @@ module _ (desk : Desk) (day : ℤ) (badge : Option (List ℕ)) where
         subst (λ (row : ImageRow). IsSoundSlot row.kind row.bytes slot) same
         (subst (IsSoundSlot is.image.kind is.image.bytes) (sym (ap (λ (p : ℕ × ℕ). p.1) at)) sound)
 
-    one_bytes : (file : Option JudgedFile) (xs ys : List ℕ) → IsAsked desk day asking file → IsAccepted desk asking file
-        → IsSomeAnd file (λ judged. judged.verdict.effect ≡ Read) → AreFileBytes desk acc slot xs → AreFileBytes desk acc slot ys → xs ≡ ys
-    one_bytes None xs ys none accepted read first second = absurd read
-    one_bytes (Some judged) xs ys is accepted read first second =
+    one_lent : (one other : Lent) → LendsFile desk acc slot one → LendsFile desk acc slot other → one ≡ other
+    one_lent one other first second =
         let image : first.image ≡ second.image = cc (first.standing, second.standing) in
-        one_contents first.image.kind first.image.bytes slot xs ys (sound_slot judged first.image is accepted first.standing) first.are
-        (subst (λ (row : ImageRow). AreBytesOf row.kind row.bytes slot ys) (sym image) second.are)
+        let kind : one.kind ≡ other.kind = first.kind ∙ ap (λ (row : ImageRow). row.kind) image ∙ sym second.kind in
+        let bytes : one.image ≡ other.image = first.from_image ∙ ap (λ (row : ImageRow). row.bytes) image ∙ sym second.from_image in
+        let file : one.file ≡ other.file = one_found first.image.kind first.image.bytes one.file other.file first.told
+        (subst (λ (row : ImageRow). IsFound row.kind row.bytes other.file) (sym image) second.told) (first.at_slot ∙ sym second.at_slot) in
+        λ i. record { kind = kind i; image = bytes i; file = file i }
 
   -- ---- what is told
 
@@ -200,7 +201,7 @@ module _ (desk : Desk) (day : ℤ) (badge : Option (List ℕ)) where
     one_told (Bytes acc slot) asked accepted first second =
         let a = told_bytes desk audience day file acc slot one first in
         let b = told_bytes desk audience day file acc slot other second in
-        a.1 ∙ ap said.File (one_bytes acc slot file a.0 b.0 asked accepted a.2 a.3 b.3) ∙ sym b.1
+        a.1 ∙ ap said.File (one_lent acc slot a.0 b.0 a.3 b.3) ∙ sym b.1
     one_told Catalogue asked accepted first second =
         let a = told_catalogue desk audience day file one first in
         let b = told_catalogue desk audience day file other second in

@@ -4,15 +4,17 @@ use Rattle.std.specs.FinMap.{get}
 use Rattle.rd_policy.specs.Verdicts.{IsVerdict}
 use Rattle.rd_policy.specs.declared.audience.Audience.{Audience}
 use Rattle.rd_policy.specs.declared.verdict.Verdict.{Verdict}
-use Rattle.rd_volume.specs.Told.{told_slot}
+use Rattle.rd_volume.specs.Founds.{IsSoundFile}
+use Rattle.rd_volume.specs.Told.{told_bytes, told_slot}
 use Rattle.rd_geometry.specs.declared.kind.Kind.{Kind}
-use Rattle.rd_volume.specs.Volumes.{AreBytesOf, IsFound, IsSlotOfFile}
+use Rattle.rd_volume.specs.Volumes.{AreBytesOf, IsFound, IsSlotOfFile, contents_of}
 use Rattle.rd_volume.specs.declared.found.Found.{Found}
 use Rattle.rd_store.specs.State.{Desk, rules_for}
 use Rattle.rd_store.specs.declared.rows.ImageRow.{ImageRow}
 use Rattle.rd_desk.specs.Judged.{Conflicts, IsAccepted, IsJudgedFile, IsRefused, JudgedFile, PassesTo, accession_of, audience_of, deed_of, file_of, image_of}
+use Rattle.rd_desk.specs.Lent.{Lent}
 use Rattle.rd_desk.specs.Queries.{IsAtSlot, IsRead, IsWithheld, Standing}
-use Rattle.rd_desk.specs.Replies.{IsAnswered}
+use Rattle.rd_desk.specs.Replies.{IsAnswered, LendsFile}
 use Rattle.rd_desk.specs.declared.refusal.Refusal.{Refusal}
 use Rattle.rd_desk.specs.declared.refusal.Refusal.TheVariants.{UnknownKey, StaffOnly, BadBody, NoAccession, NoFile, NoDeed, Denied, ListedOnly, Faulty, WrongSize, DigestDiffers, Conflict}
 use Rattle.rd_desk.specs.Requests.{IsForStaff}
@@ -49,11 +51,11 @@ withheld_read standing kind audience day file WrongSize same told (verdict, deci
 withheld_read standing kind audience day file DigestDiffers same told (verdict, decided, why) = absurd why
 withheld_read standing kind audience day file Conflict same told (verdict, decided, why) = absurd why
 
--- and one that is not is told of by its bytes
-pub served_read : (standing : Standing) (kind : Kind) (audience : Audience) (day : ℤ) (file : Found) (bytes : List ℕ)
-    → IsFound standing.image.kind standing.image.bytes file → IsWithheld kind standing.rules audience day file None → AreBytesOf standing.image.kind standing.image.bytes file.slot bytes
-    → IsRead standing audience day file.slot (File bytes)
-served_read standing kind audience day file bytes told (verdict, decided, why) are = (file, verdict, at_slot standing audience day file verdict told decided, (why.0, why.1, are))
+-- and one that is not is told of by its contents
+pub served_read : (standing : Standing) (kind : Kind) (audience : Audience) (day : ℤ) (file : Found) (lent : Lent)
+    → IsFound standing.image.kind standing.image.bytes file → IsWithheld kind standing.rules audience day file None
+    → lent ≡ record { kind = standing.image.kind; image = standing.image.bytes; file = file } → IsRead standing audience day file.slot (File lent)
+served_read standing kind audience day file lent told (verdict, decided, why) is = (file, verdict, at_slot standing audience day file verdict told decided, (why.0, why.1, is))
 
 first_of : Option (ℕ × ℕ) → ℕ
 first_of None = 0
@@ -113,6 +115,20 @@ module _ (desk : Desk) (day : ℤ) (badge : Option (List ℕ)) (audience : Audie
     given : (refusal : Refusal) → IsRefused desk request (Some judged) refusal → IsAnswered desk day request (Refused refusal) desk
     given refusal refused = (record { file = Some judged; asked = is_judged; refused = refused }, refl)
 
+  -- the contents of a sound file are lent from its image
+  lends : (file : Found) (verdict : Verdict) → IsAtSlot holding audience day slot file verdict → IsSoundFile file
+      → LendsFile desk acc slot (record { kind = holding.image.kind; image = holding.image.bytes; file = file })
+  lends file verdict is sound = record {
+    image = holding.image;
+    standing = standing;
+    kind = refl;
+    from_image = refl;
+    at_slot = is.at_slot;
+    told = is.told;
+    are = subst (λ k. AreBytesOf holding.image.kind holding.image.bytes k (contents_of holding.image.kind holding.image.bytes file)) is.at_slot
+        (told_bytes holding.image.kind holding.image.bytes file is.told sound);
+  }
+
   same_image : (one other : ImageRow) → get desk.images acc ≡ Some one → get desk.images acc ≡ Some other → one ≡ other
   same_image one other a b = cc
 
@@ -150,7 +166,7 @@ module _ (desk : Desk) (day : ℤ) (badge : Option (List ℕ)) (audience : Audie
         holds = (faulty, sym kind_is, sym faults_are);
         lowest = to_13 desk request asked (to_12 desk request asked (before_verdict file verdict is) (λ label h. h.0 read)) (λ h. let e : file.served_class ≡ false = h in cc);
       })
-  read_answered (File bytes) (file, verdict, is, (read, sound, are)) =
+  read_answered (File contents) (file, verdict, is, (read, sound, from)) =
       let asked = Some (judged file verdict is) in
       record {
         file = asked;
@@ -162,7 +178,7 @@ module _ (desk : Desk) (day : ℤ) (badge : Option (List ℕ)) (audience : Audie
             (to_13 desk request asked (to_12 desk request asked (before_verdict file verdict is) (λ label h. h.0 read))
             (λ h. let e : file.served_class ≡ false = h in let s : file.served_class ≡ true = sound.class in cc))
             (λ kind faults h. h.0 sound.sound)) (λ none. none)) (λ none. none)) (λ none. none);
-        tells = (read, record { image = holding.image; standing = standing; are = are });
+        tells = (read, subst (LendsFile desk acc slot) (sym from) (lends file verdict is sound));
         after = refl;
       }
   read_answered (Refused UnknownKey) none = absurd none

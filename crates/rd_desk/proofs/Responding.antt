@@ -45,7 +45,7 @@ response old day request (Ok (said.Refused refusal)) new command staff is =
 response old day request (Ok answer) new command staff is = carried old day request answer new command staff is
 response old day request (Err fault) new command staff same = same
 
-is_unread : (what : What) → (what ≡ Unread) ⊎ (what ≡ Unread → ⊥)
+pub is_unread : (what : What) → (what ≡ Unread) ⊎ (what ≡ Unread → ⊥)
 is_unread Unread = inl refl
 is_unread other = inr (λ is. cc)
 

@@ -21,13 +21,7 @@ use Rattle.rd_desk.specs.declared.said.Said.TheVariants as said
 use Rattle.rd_desk.proofs.Again.{same_again}
 use Rattle.rd_desk.proofs.Hiding.{hides}
 use Rattle.rd_desk.proofs.OneChange.{one_change_written}
-
-pub is_for_staff : (what : What) → IsForStaff what ⊎ (IsForStaff what → ⊥)
-is_for_staff Images = inr (λ h. h)
-is_for_staff (Listing acc) = inr (λ h. h)
-is_for_staff (Bytes acc slot) = inr (λ h. h)
-is_for_staff Catalogue = inr (λ h. h)
-is_for_staff command = inl tt
+use Rattle.rd_desk.proofs.Showing.{tells_what_is_shown}
 
 -- what is said and is no command's end changes nothing
 changes_nothing : (old : Desk) (audience : Audience) (day : ℤ) (file : Option JudgedFile) (answer : Said) (what : What) → ¬ IsOfChange answer
@@ -77,7 +71,7 @@ module _ {S : Type 0} (g : Ghosts S) (old new : Held S) (day : ℤ) (request : R
       go (inr none) = absurd (told none.0)
 
   pub serves : {X : Type 0} (result : Result Said X) → Responds g old new day request result → Rests g new → IsWritten result reply
-      → MakesOneChange g old new request.what (λ told. IsSaidOf told result)
+      → MakesOneChange g old new day request.what (λ told. IsSaidOf told result)
       → LeavesOpen g new result ⊎ ((request.badge ≡ None) × IsForStaff request.what × (result ≡ Ok (said.Refused StaffOnly)) × (new ≡ old))
       → Serves g old new day request reply
   serves result responds rests written makes ending = record {
@@ -93,5 +87,6 @@ module _ {S : Type 0} (g : Ghosts S) (old new : Held S) (day : ℤ) (request : R
     again = λ o told command key.
         answered_again (desk g old) day request reply (desk g new) (replied (desk g old) day request result reply (desk g new) written (responds.judged o)) told command key;
     hides = λ o. hides (desk g old) day request reply (desk g new) (replied (desk g old) day request result reply (desk g new) written (responds.judged o));
-    one_change = one_change_written g old new request.what result reply written makes;
+    tells = λ o. tells_what_is_shown (desk g old) day request reply (desk g new) (replied (desk g old) day request result reply (desk g new) written (responds.judged o));
+    one_change = one_change_written g old new day request.what result reply written makes;
   }

@@ -1,14 +1,12 @@
 -- The pieces of a file as slices of its image, and those of them that are not empty.
-use Rattle.std.proofs.Common.{◌≡◌, ◌<◌, ℕ, List, [], ◌∷◌, ◌++◌, All, ap, arith, length, refl}
+use Rattle.std.proofs.Common.{◌≡◌, ◌<◌, ◌∙◌, ℕ, List, [], ◌∷◌, ◌++◌, All, ap, arith, length, refl}
 use Rattle.std.proofs.lemmas.List.Elements.{All-cons, All-nil}
 use Rattle.std.specs.List.{concat}
 use Rattle.rd_geometry.specs.Kinds.{size_of}
-use Rattle.rd_volume.specs.Disks.{disk_bytes, disk_kind}
 use Rattle.rd_volume.specs.AlikePieces.{pieces_are_parts}
-use Rattle.rd_volume.specs.PiecesLeft.{pieces_left}
-use Rattle.rd_volume.specs.declared.disk.Disk.{Disk}
-use Rattle.rd_volume.specs.declared.disk.Disk.TheVariants.{Cbm, Cpm}
-use Rattle.rd_volume.specs.declared.slices.Pieces.{Pieces}
+use Rattle.rd_volume.specs.Founds.{Fits}
+use Rattle.rd_volume.specs.Volumes.{pieces_of}
+use Rattle.rd_desk.specs.Lent.{Lent}
 use Rattle.rd_desk.specs.Slices.{AreSlicesOf, not_empty}
 
 -- pieces without the empty ones, joined, are the same bytes
@@ -24,17 +22,11 @@ not_empty_filled ([] ∷ pieces) = not_empty_filled pieces
 not_empty_filled ((byte ∷ bytes) ∷ pieces) =
     All-cons (λ piece. 0 < length piece) (byte ∷ bytes) (not_empty pieces) (omega arith) (not_empty_filled pieces)
 
--- a disk has as many bytes as its kind
-disk_sized : (disk : Disk) → length (disk_bytes disk) ≡ size_of (disk_kind disk)
-disk_sized (Cpm disk) = disk.sized
-disk_sized (Cbm disk) = disk.sized
-
--- the pieces of a file are slices of its image, one for each unit but for an empty one
-pub pieces_sliced : (pieces : Pieces)
-    → AreSlicesOf (disk_kind pieces.disk) (disk_bytes pieces.disk) pieces.units.now pieces.last_len (not_empty (pieces_left pieces))
-pieces_sliced pieces = record {
-  sized = disk_sized pieces.disk;
-  on_disk = pieces.inside;
-  held = pieces.last;
-  are = ap not_empty (pieces_are_parts (disk_kind pieces.disk) (disk_bytes pieces.disk) pieces.units.now pieces.last_len pieces.last);
+-- the pieces of a file that lies in an image of the kind are slices of it, one for each unit but for an empty one
+pub lent_sliced : (lent : Lent) (pieces : List (List ℕ)) → length lent.image ≡ size_of lent.kind → Fits lent.kind lent.file
+    → pieces ≡ pieces_of lent.kind lent.image lent.file.units lent.file.last_len → AreSlicesOf lent (not_empty pieces)
+lent_sliced lent pieces sized fits are = record {
+  sized = sized;
+  fits = fits;
+  are = ap not_empty (are ∙ pieces_are_parts lent.kind lent.image lent.file.units lent.file.last_len fits.last);
 }

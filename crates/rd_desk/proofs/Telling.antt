@@ -7,7 +7,8 @@ use Rattle.rd_store.specs.State.{Desk}
 use Rattle.rd_store.specs.declared.rows.Outcome.{Outcome}
 use Rattle.rd_desk.specs.Checks.{outcome_of}
 use Rattle.rd_desk.specs.Judged.{JudgedFile}
-use Rattle.rd_desk.specs.Replies.{AreFileBytes, AreImageLines, AreListings, IsListing, IsSurvey, Tells}
+use Rattle.rd_desk.specs.Lent.{Lent}
+use Rattle.rd_desk.specs.Replies.{AreImageLines, AreListings, IsListing, IsSurvey, LendsFile, Tells}
 use Rattle.rd_desk.specs.Requests.{IsPutOrDrop}
 use Rattle.rd_desk.specs.declared.request.What.{What}
 use Rattle.rd_desk.specs.declared.request.What.TheVariants.{Images, Listing, Bytes, Catalogue, Survey, Check}
@@ -25,7 +26,7 @@ module _ (desk : Desk) (audience : Audience) (day : ℤ) (file : Option JudgedFi
   told_done said.Done what command told = refl
   told_done (said.Images lines) Images command told = absurd command
   told_done (said.Listed listing) (Listing acc) command told = absurd command
-  told_done (said.File bytes) (Bytes acc slot) command told = absurd command
+  told_done (said.File contents) (Bytes acc slot) command told = absurd command
   told_done (said.Catalogue listings) Catalogue command told = absurd command
   told_done (said.Surveyed survey) (Survey acc) command told = absurd command
   told_done (said.Checked outcome) (Check acc) command told = absurd command
@@ -40,8 +41,8 @@ module _ (desk : Desk) (audience : Audience) (day : ℤ) (file : Option JudgedFi
   told_listing acc other told = absurd told
 
   pub told_bytes : (acc slot : ℕ) (answer : Said) → Told answer (Bytes acc slot)
-      → (bytes : List ℕ) × (answer ≡ said.File bytes) × IsSomeAnd file (λ judged. judged.verdict.effect ≡ Read) × AreFileBytes desk acc slot bytes
-  told_bytes acc slot (said.File bytes) told = (bytes, refl, told.0, told.1)
+      → (contents : Lent) × (answer ≡ said.File contents) × IsSomeAnd file (λ judged. judged.verdict.effect ≡ Read) × LendsFile desk acc slot contents
+  told_bytes acc slot (said.File contents) told = (contents, refl, told.0, told.1)
   told_bytes acc slot other told = absurd told
 
   pub told_catalogue : (answer : Said) → Told answer Catalogue → (listings : List Lines) × (answer ≡ said.Catalogue listings) × AreListings desk audience day listings

@@ -1,10 +1,10 @@
--- A body as the list of its bytes.
-use Rattle.std.specs.Prelude.{ℕ, List}
+-- What contracts see of a body, by what holds its bytes.
+use Rattle.rd_desk.specs.Lent.{BodyView, held, lent_out}
 use Rattle.rd_desk.specs.declared.body.Inner.{Inner}
 use Rattle.rd_desk.specs.declared.body.Inner.TheVariants.{Fixed, Written, Table, File}
 
-abbrev pub bytes_of : Inner → List ℕ
-bytes_of (Fixed text) = text.now
-bytes_of (Written text) = text
-bytes_of (Table bytes) = bytes
-bytes_of (File contents) = contents
+abbrev pub body_of : Inner → BodyView
+body_of (Fixed text) = held text.now
+body_of (Written text) = held text
+body_of (Table bytes) = held bytes
+body_of (File contents) = lent_out contents

@@ -1,8 +1,7 @@
 -- The pieces of a body that its iterator has not lent yet.
 use Rattle.std.specs.Prelude.{ℕ, List, [], ◌∷◌}
-use Rattle.rd_volume.specs.Disks.{disk_bytes, disk_kind}
 use Rattle.rd_volume.specs.PiecesLeft.{pieces_left as pieces_of_file}
-use Rattle.rd_desk.specs.Slices.{AreSlicesOf, not_empty}
+use Rattle.rd_desk.specs.Slices.{not_empty}
 use Rattle.rd_desk.specs.declared.body.BodyPieces.{BodyPieces}
 use Rattle.rd_desk.specs.declared.body.Left.{Left}
 use Rattle.rd_desk.specs.declared.body.Left.TheVariants.{Text, File}
@@ -20,13 +19,3 @@ left_of (File pieces) = not_empty (pieces_of_file pieces)
 -- the pieces that are left
 abbrev pub pieces_left : BodyPieces → List (List ℕ)
 pieces_left pieces = left_of pieces.left
-
--- what is left of a file are slices of an image
-abbrev pub AreSlicesLeft : Left → Type 0
-AreSlicesLeft (Text rest) = Unit {0}
-AreSlicesLeft (File pieces) =
-    AreSlicesOf (disk_kind pieces.disk) (disk_bytes pieces.disk) pieces.units.now pieces.last_len (left_of (File pieces))
-
--- the pieces that are left of a body are slices of an image, if it is that of a file
-abbrev pub AreSlices : BodyPieces → Type 0
-AreSlices pieces = AreSlicesLeft pieces.left

@@ -122,16 +122,15 @@ IsSaidOf (Err fault) (Ok (Refused refusal)) = Unit {0}
 IsSaidOf (Err fault) (Err none) = Unit {0}
 IsSaidOf told answer = ⊥
 
--- One call that changes the desk, and what it returned.
-pub record IsOneChange {S : Type 0} (g : Ghosts S) (old new : Held S) (Returned : Result ⊤ StoreFault → Type 0) : Type 0 where
-  pub after : Desk
+-- One call that carries out a request on a day, or changes nothing, and what it returned.
+pub record IsOneChange {S : Type 0} (g : Ghosts S) (old new : Held S) (day : ℤ) (what : What) (Returned : Result ⊤ StoreFault → Type 0) : Type 0 where
   pub result : Result ⊤ StoreFault
-  pub changes : Changes g old new after result
+  pub changes : Changes g old new (carried_out day what (desk g old)) result
   pub returned : Returned result
 
--- Calls that read, and after them nothing, or one call that changes the desk and no call after it.
--- Only a request that may change the desk makes such a call.
-pub record MakesOneChange {S : Type 0} (g : Ghosts S) (old new : Held S) (what : What) (Returned : Result ⊤ StoreFault → Type 0) : Type 0 where
+-- The store is as calls that read left it; or it is as one call left it that came after them and carried
+-- out the request on a day, or changed nothing. Only a request that may change the desk makes such a call.
+pub record MakesOneChange {S : Type 0} (g : Ghosts S) (old new : Held S) (day : ℤ) (what : What) (Returned : Result ⊤ StoreFault → Type 0) : Type 0 where
   pub middle : Held S
   pub reads : Keeps g old middle
-  pub last : (new ≡ middle) ⊎ (MayChange what × IsOneChange g middle new Returned)
+  pub last : (new ≡ middle) ⊎ (MayChange what × IsOneChange g middle new day what Returned)

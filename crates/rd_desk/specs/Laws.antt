@@ -1,6 +1,9 @@
 -- Laws of replies.
-use Rattle.std.specs.Prelude.{◌≡◌, ℤ}
+use Rattle.std.specs.Prelude.{◌≡◌, ◌<◌, ℕ, ℤ, All, Some}
+use Rattle.std.specs.FinMap.{get}
+use Rattle.rd_store.specs.Lawful.{IsLawful}
 use Rattle.rd_store.specs.State.{Desk}
+use Rattle.rd_store.specs.declared.rows.ImageRow.{ImageRow}
 use Rattle.rd_desk.specs.Judged.{audience_of}
 use Rattle.rd_desk.specs.Replies.{IsReply, IsStep}
 use Rattle.rd_desk.specs.Requests.{IsForStaff}
@@ -12,6 +15,15 @@ abbrev pub OneReply : Type 0
 OneReply = (desk : Desk) (day : ℤ) (request : Request) (one other : Reply) (after later : Desk)
     → IsReply desk day request one after → IsReply desk day request other later
     → (one ≡ other) × (after ≡ later)
+
+-- the images of a desk hold bytes, numbers below 256 (that the images of each desk in a store do is no
+-- clause)
+abbrev pub HoldsBytes : Desk → Type 0
+HoldsBytes desk = (acc : ℕ) (image : ImageRow) → get desk.images acc ≡ Some image → All (λ byte. byte < 256) image.bytes
+
+-- whatever a lawful desk holds, each request has a reply on each day
+abbrev pub EachReply : Type 0
+EachReply = (desk : Desk) (day : ℤ) (request : Request) → IsLawful desk → HoldsBytes desk → (reply : Reply) × (after : Desk) × IsReply desk day request reply after
 
 -- the desk after an answered request is the one that the step says
 abbrev pub AnswersStep : Type 0

@@ -12,6 +12,7 @@ pub mod Written
 pub mod Judged
 pub mod Replies
 pub mod Laws
+pub mod Shown
 pub mod Hidden
 pub mod Calls
 pub mod Queries

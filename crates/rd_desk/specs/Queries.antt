@@ -9,7 +9,7 @@ use Rattle.rd_policy.specs.declared.rule.Effect.TheVariants.{Deny, Read}
 use Rattle.rd_policy.specs.declared.rule.Rule.{Rule}
 use Rattle.rd_policy.specs.declared.verdict.Verdict.{Verdict}
 use Rattle.rd_volume.specs.Founds.{IsSoundFile}
-use Rattle.rd_volume.specs.Volumes.{AreBytesOf, IsFound, IsSlotOfFile}
+use Rattle.rd_volume.specs.Volumes.{IsFound, IsSlotOfFile}
 use Rattle.rd_volume.specs.declared.found.Found.{Found}
 use Rattle.rd_store.specs.State.{Desk, rules_for}
 use Rattle.rd_store.specs.declared.rows.ImageRow.{ImageRow}
@@ -63,9 +63,9 @@ IsRead holding audience day slot (Refused ListedOnly) =
 IsRead holding audience day slot (Refused (Faulty kind faults)) =
     OfFile holding audience day slot (λ file verdict. (verdict.effect ≡ Read) × (file.served_class ≡ true) × (file.faults ≢ 0)
     × (kind ≡ holding.image.kind) × (faults ≡ file.faults))
-IsRead holding audience day slot (File bytes) =
+IsRead holding audience day slot (File contents) =
     OfFile holding audience day slot (λ file verdict. (verdict.effect ≡ Read) × IsSoundFile file
-    × AreBytesOf holding.image.kind holding.image.bytes slot bytes)
+    × (contents ≡ record { kind = holding.image.kind; image = holding.image.bytes; file = file }))
 IsRead holding audience day slot other = ⊥
 
 -- ---- listings

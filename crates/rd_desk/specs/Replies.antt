@@ -13,6 +13,7 @@ use Rattle.rd_store.specs.declared.rows.DeedRow.{DeedRow}
 use Rattle.rd_store.specs.declared.rows.ImageRow.{ImageRow}
 use Rattle.rd_desk.specs.Checks.{outcome_of}
 use Rattle.rd_desk.specs.Judged.{IsAccepted, IsAcceptedOn, IsAsked, IsRefusedOn, JudgedFile, audience_of}
+use Rattle.rd_desk.specs.Lent.{Lent, bytes_lent}
 use Rattle.rd_desk.specs.Requests.{IsPutOrDrop}
 use Rattle.rd_desk.specs.Texts.{UNAVAILABLE, reply_of}
 use Rattle.rd_desk.specs.declared.refusal.Refusal.{Refusal}
@@ -71,11 +72,16 @@ pub record IsListing (desk : Desk) (audience : Audience) (day : ℤ) (acc : ℕ)
   pub kind : listing.kind ≡ image.kind
   pub listed : AreLines image (rules_for desk acc) audience day listing.files
 
--- The bytes of the file at a slot of an accession.
-pub record AreFileBytes (desk : Desk) (acc slot : ℕ) (bytes : List ℕ) : Type 0 where
+-- The contents of the file at a slot of an accession: lent from its image, by the record of the file as
+-- the image has it, and their bytes are those of the file.
+pub record LendsFile (desk : Desk) (acc slot : ℕ) (lent : Lent) : Type 0 where
   pub image : ImageRow
   pub standing : get desk.images acc ≡ Some image
-  pub are : AreBytesOf image.kind image.bytes slot bytes
+  pub kind : lent.kind ≡ image.kind
+  pub from_image : lent.image ≡ image.bytes
+  pub at_slot : lent.file.slot ≡ slot
+  pub told : IsFound image.kind image.bytes lent.file
+  pub are : AreBytesOf image.kind image.bytes slot (bytes_lent lent)
 
 -- All accessions, ascending, each as it is listed: each of these is one, and none is left out.
 pub record AreListings (desk : Desk) (audience : Audience) (day : ℤ) (listings : List Lines) : Type 0 where
@@ -105,8 +111,8 @@ abbrev pub Tells : Desk → Audience → ℤ → Option JudgedFile → Said → 
 Tells desk audience day file said.Done what = IsPutOrDrop what
 Tells desk audience day file (said.Images lines) Images = AreImageLines desk audience day lines
 Tells desk audience day file (said.Listed listing) (Listing acc) = IsListing desk audience day acc listing
-Tells desk audience day file (said.File bytes) (Bytes acc slot) =
-    IsSomeAnd file (λ judged. judged.verdict.effect ≡ Read) × AreFileBytes desk acc slot bytes
+Tells desk audience day file (said.File contents) (Bytes acc slot) =
+    IsSomeAnd file (λ judged. judged.verdict.effect ≡ Read) × LendsFile desk acc slot contents
 Tells desk audience day file (said.Catalogue listings) Catalogue = AreListings desk audience day listings
 Tells desk audience day file (said.Surveyed survey) (Survey acc) = IsSurvey desk acc survey
 Tells desk audience day file (said.Checked outcome) (Check acc) =

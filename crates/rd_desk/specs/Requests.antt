@@ -46,7 +46,9 @@ IsForStaff (Survey acc) = Unit {0}
 IsForStaff (Check acc) = Unit {0}
 IsForStaff other = IsPutOrDrop other
 
--- to put, to drop and to check; a survey only reads, as the four questions do
+-- to put, to drop and to check; a survey only reads, as the four questions do, and a body that cannot be
+-- read is refused
 abbrev pub MayChange : What → Type 0
 MayChange (Survey acc) = ⊥
+MayChange Unread = ⊥
 MayChange other = IsForStaff other

@@ -5,7 +5,7 @@ use Rattle.sqlite.specs.Held.{Held}
 use Rattle.rd_store.specs.Held.{IsClean, IsOpen, Lasts, LeavesOnly, desk}
 use Rattle.rd_store.specs.State.{IsStaff}
 use Rattle.rd_desk.specs.Calls.{LeavesStep, MakesOneChange}
-use Rattle.rd_desk.specs.Hidden.{HidesTheRest}
+use Rattle.rd_desk.specs.Hidden.{HidesTheRest, TellsWhatIsShown}
 use Rattle.rd_desk.specs.Judged.{audience_of}
 use Rattle.rd_desk.specs.Replies.{Answers, IsReply}
 use Rattle.rd_desk.specs.Requests.{IsForStaff}
@@ -28,10 +28,11 @@ pub record IsTurnedAway {S : Type 0} (old new : Held S) (request : Request) (rep
 -- staff request that left its caller's key as it was gets the same reply once more. If all that
 -- was written came back from the disk, the connection is open after any reply but that of
 -- unavailability, unless the caller was turned away without use of the store; and if it was open
--- before the call, a crash leaves the old desk or the one after the step. The reply to a question
--- depends on nothing that is hidden from its caller. Whatever becomes of the connection, the store
--- is as calls that read left it, or one call that changes the desk came after them, as the last;
--- that call succeeded exactly if the status is 200.
+-- before the call, a crash leaves the old desk or the one after the step. Unless the staff asks what
+-- only they may, the reply depends on no byte of an image that is hidden from the caller and on
+-- nothing that is not shown to them, or is 503. Whatever becomes of the connection, the store is as calls that
+-- read left it, or as one call after them left it that carried out the request or changed nothing;
+-- the status is 200 exactly if that call succeeded.
 pub record Serves {S : Type 0} (g : Ghosts S) (old new : Held S) (day : ℤ) (request : Request) (reply : Reply) : Type 0 where
   pub lasts : Lasts g old new
   pub answers : IsOpen g new → Answers (desk g old) day request reply (desk g new)
@@ -43,4 +44,5 @@ pub record Serves {S : Type 0} (g : Ghosts S) (old new : Held S) (day : ℤ) (re
       → audience_of (desk g new) request.badge ≡ audience_of (desk g old) request.badge
       → IsReply (desk g new) day request reply (desk g new)
   pub hides : IsOpen g new → HidesTheRest (desk g old) day request reply
-  pub one_change : MakesOneChange g old new request.what (λ result. IsOk result ↔ (reply.status ≡ 200))
+  pub tells : IsOpen g new → TellsWhatIsShown (desk g old) day request reply
+  pub one_change : MakesOneChange g old new day request.what (λ result. IsOk result ↔ (reply.status ≡ 200))

@@ -16,6 +16,7 @@ use Rattle.rd_store.specs.declared.rows.Outcome.{Outcome}
 use Rattle.rd_store.specs.declared.rows.Outcome.TheVariants as outcome
 use Rattle.rd_desk.specs.Catalogues.{catalogue_text}
 pub use Rattle.rd_desk.specs.Catalogues.{effect_word}
+use Rattle.rd_desk.specs.Lent.{held, lent_out}
 use Rattle.rd_desk.specs.Refusals.{name_of, status_of}
 use Rattle.rd_desk.specs.declared.refusal.Refusal.{Refusal}
 use Rattle.rd_desk.specs.declared.refusal.Refusal.TheVariants.{UnknownKey, StaffOnly, BadBody, NoAccession, NoFile, NoDeed, Denied, ListedOnly, Faulty, WrongSize, DigestDiffers, Conflict}
@@ -158,7 +159,7 @@ DONE = object (member (codes "done") (boolean true) no_members)
 -- ---- replies
 
 abbrev pub in_json : ℕ → Data → Reply
-in_json status said = record { status = status; form = Json; body = compact_text said }
+in_json status said = record { status = status; form = Json; body = held (compact_text said) }
 
 -- the reply that says the answer
 abbrev pub reply_of : Said → Reply
@@ -166,8 +167,8 @@ reply_of (Refused refusal) = in_json (status_of refusal) (error_data (name_of re
 reply_of Done = in_json 200 DONE
 reply_of (Images lines) = in_json 200 (images_data lines)
 reply_of (Listed listing) = in_json 200 (listing_data listing)
-reply_of (File bytes) = record { status = 200; form = Octets; body = bytes }
-reply_of (Catalogue listings) = record { status = 200; form = Csv; body = catalogue_text listings }
+reply_of (File contents) = record { status = 200; form = Octets; body = lent_out contents }
+reply_of (Catalogue listings) = record { status = 200; form = Csv; body = held (catalogue_text listings) }
 reply_of (Surveyed survey) = in_json 200 (surveyed_data survey)
 reply_of (Checked found) = in_json 200 (outcome_data found)
 

@@ -1,9 +1,10 @@
-ghost use Rattle.std.specs.Prelude.{◌≡◌, ◌<◌, All, length};
+ghost use Rattle.std.specs.Prelude.{◌≡◌, ◌<◌, All, IfSome, length};
 ghost use Rattle.std.specs.Iterator.{YieldsFirstBy};
 ghost use Rattle.std.specs.List.{concat};
 ghost use Rattle.rd_volume.specs.PiecesLeft.{pieces_left as pieces_of_file_left};
-ghost use Rattle.rd_desk.specs.BodyPieces.{AreSlices, in_one_piece, pieces_left};
-ghost use Rattle.rd_desk.specs.Slices.{not_empty};
+ghost use Rattle.rd_desk.specs.BodyPieces.{in_one_piece, pieces_left};
+ghost use Rattle.rd_desk.specs.Lent.{bytes_lent, held, lent_out};
+ghost use Rattle.rd_desk.specs.Slices.{AreSlicesOf, not_empty};
 
 use crate::contents::Contents;
 use rd_geometry::{Items, Text};
@@ -11,7 +12,8 @@ use rd_volume::Pieces;
 use std::marker::Model;
 use std::mem;
 
-/// The body of a reply, which contracts see as the list of its bytes.
+/// The body of a reply. Contracts see its bytes, and the image and the file of it that it lends them
+/// from; or nothing in place of these, where the bytes are its own.
 #[derive(Drop)]
 pub struct Body {
     inner: Inner,
@@ -31,19 +33,19 @@ enum Inner {
 }
 
 impl Model for Body {
-    ghost use Rattle.std.specs.Prelude.{ℕ, List};
+    ghost use Rattle.rd_desk.specs.Lent.{BodyView};
 
-    ghost Value = { List ℕ };
+    ghost Value = { BodyView };
 
-    ghost use Rattle.rd_desk.specs.Bodies.{bytes_of};
+    ghost use Rattle.rd_desk.specs.Bodies.{body_of};
 
-    ghost view = { λ body. bytes_of body.inner };
+    ghost view = { λ body. body_of body.inner };
 }
 
 impl Body {
     /// A text of the program itself. It takes no memory.
     pub(crate) fn fixed(text: &'static str) -> Body
-        ensures { result ≡ text.entry.now }
+        ensures { result ≡ held text.entry.now }
     {
         Body {
             inner: Inner::Fixed(text),
@@ -52,7 +54,7 @@ impl Body {
 
     /// A text written for the reply, as a body.
     pub(crate) fn text(text: Text) -> Body
-        ensures { result ≡ text }
+        ensures { result ≡ held text }
     {
         Body {
             inner: Inner::Written(text),
@@ -61,7 +63,7 @@ impl Body {
 
     /// A table written for the reply, as a body.
     pub(crate) fn table(bytes: Items<u8>) -> Body
-        ensures { result ≡ bytes }
+        ensures { result ≡ held bytes }
     {
         Body {
             inner: Inner::Table(bytes),
@@ -70,7 +72,7 @@ impl Body {
 
     /// The contents of a file.
     pub(crate) fn file(contents: Contents) -> Body
-        ensures { result ≡ contents }
+        ensures { result ≡ lent_out contents }
     {
         Body {
             inner: Inner::File(contents),
@@ -79,7 +81,7 @@ impl Body {
 
     /// How many bytes it has.
     pub fn len(&self) -> usize
-        ensures { result ≡ length self.now }
+        ensures { result ≡ length self.now.bytes }
     {
         match &self.inner {
             Inner::Fixed(text) => text.len(),
@@ -90,13 +92,13 @@ impl Body {
     }
 
     /// Its bytes in pieces, in order. No piece is empty, so an empty body has none. A text or a
-    /// table is one piece. Each piece of a file is a slice of its image, which the body keeps: it
+    /// table is one piece. Each piece of a file is a slice of the image that the body lends from: it
     /// lies in the unit of the disk that holds these bytes, and begins at the first byte of a CP/M
     /// sector, or at the third byte of a 1541 block, after the link.
     pub fn pieces(&self) -> BodyPieces<'_>
-        ensures whole { concat (pieces_left result) ≡ self.now }
+        ensures whole { concat (pieces_left result) ≡ self.now.bytes }
         ensures filled { All (λ piece. 0 < length piece) (pieces_left result) }
-        ensures slices { AreSlices result }
+        ensures slices { IfSome self.now.lent (λ lent. AreSlicesOf lent (pieces_left result)) }
     {
         match &self.inner {
             Inner::Fixed(text) => pieces_of_text(text.as_bytes()),
@@ -127,7 +129,6 @@ enum Left<'a> {
 fn pieces_of_text(text: &[u8]) -> BodyPieces<'_>
     ensures whole { concat (pieces_left result) ≡ text.now }
     ensures filled { All (λ piece. 0 < length piece) (pieces_left result) }
-    ensures slices { AreSlices result }
 {
     BodyPieces {
         left: Left::Text(text),
@@ -136,9 +137,9 @@ fn pieces_of_text(text: &[u8]) -> BodyPieces<'_>
 
 /// The pieces of a file.
 fn pieces_of_file(contents: &Contents) -> BodyPieces<'_>
-    ensures whole { concat (pieces_left result) ≡ contents.now }
+    ensures whole { concat (pieces_left result) ≡ bytes_lent contents.now }
     ensures filled { All (λ piece. 0 < length piece) (pieces_left result) }
-    ensures slices { AreSlices result }
+    ensures slices { AreSlicesOf contents.now (pieces_left result) }
 {
     BodyPieces {
         left: Left::File(contents.pieces()),

@@ -48,7 +48,7 @@ fn put_deed<S: Alter>(
     requires known { IsOpen S.Store store.old → audience_of (desk S.Store store.old) badge.now ≡ Some Audience.Staff }
     requires deed { IsDeed num (record { donor = donor.now; signed = signed }) }
     ensures carries { (day : ℤ) → Carries S.Store store.old store.new day (record { badge = badge.now; what = What.PutDeed num donor.now signed }) result }
-    ensures change { IsOneChange S.Store store.old store.new (λ told. IsSaidOf told result) }
+    ensures change { (day : ℤ) → IsOneChange S.Store store.old store.new day (What.PutDeed num donor.now signed) (λ told. IsSaidOf told result) }
 {
     store.put_deed(num, donor.as_str(), signed)?;
     Ok(Said::Done)
@@ -63,7 +63,7 @@ fn put_rule<S: Alter>(
     requires known { IsOpen S.Store store.old → audience_of (desk S.Store store.old) badge.now ≡ Some Audience.Staff }
     requires rule { IsRule rule.now }
     ensures carries { (day : ℤ) → Carries S.Store store.old store.new day (record { badge = badge.now; what = What.PutRule rule.now }) result }
-    ensures change { IsOneChange S.Store store.old store.new (λ told. IsSaidOf told result) }
+    ensures change { (day : ℤ) → IsOneChange S.Store store.old store.new day (What.PutRule rule.now) (λ told. IsSaidOf told result) }
 {
     match store.put_rule(rule) {
         Ok(()) => Ok(Said::Done),
@@ -82,7 +82,7 @@ fn drop_rule<S: Alter>(
 ) -> Result<Said, Unavailable>
     requires known { IsOpen S.Store store.old → audience_of (desk S.Store store.old) badge.now ≡ Some Audience.Staff }
     ensures carries { (day : ℤ) → Carries S.Store store.old store.new day (record { badge = badge.now; what = What.DropRule band scope rank }) result }
-    ensures change { IsOneChange S.Store store.old store.new (λ told. IsSaidOf told result) }
+    ensures change { (day : ℤ) → IsOneChange S.Store store.old store.new day (What.DropRule band scope rank) (λ told. IsSaidOf told result) }
 {
     match store.drop_rule(band, scope, rank) {
         Ok(()) => Ok(Said::Done),
@@ -101,7 +101,7 @@ fn put_key<S: Alter>(
     requires known { IsOpen S.Store store.old → audience_of (desk S.Store store.old) badge.now ≡ Some Audience.Staff }
     requires key { audience ≢ Audience.Public }
     ensures carries { (day : ℤ) → Carries S.Store store.old store.new day (record { badge = badge.now; what = What.PutKey digest.now audience }) result }
-    ensures change { IsOneChange S.Store store.old store.new (λ told. IsSaidOf told result) }
+    ensures change { (day : ℤ) → IsOneChange S.Store store.old store.new day (What.PutKey digest.now audience) (λ told. IsSaidOf told result) }
 {
     match store.put_key(digest, audience) {
         Ok(()) => Ok(Said::Done),
@@ -118,7 +118,7 @@ fn drop_key<S: Alter>(
 ) -> Result<Said, Unavailable>
     requires known { IsOpen S.Store store.old → audience_of (desk S.Store store.old) badge.now ≡ Some Audience.Staff }
     ensures carries { (day : ℤ) → Carries S.Store store.old store.new day (record { badge = badge.now; what = What.DropKey digest.now }) result }
-    ensures change { IsOneChange S.Store store.old store.new (λ told. IsSaidOf told result) }
+    ensures change { (day : ℤ) → IsOneChange S.Store store.old store.new day (What.DropKey digest.now) (λ told. IsSaidOf told result) }
 {
     match store.drop_key(digest) {
         Ok(()) => Ok(Said::Done),
@@ -144,7 +144,7 @@ fn commit_image<S: Alter>(
     requires sized { length bytes.now ≡ size_of kind }
     requires same { sha256 bytes.now ≡ digest.now }
     ensures carries { (day : ℤ) → Carries S.Store store.old store.new day (record { badge = badge.now; what = What.PutImage acc kind deed digest.now bytes.now }) result }
-    ensures change { IsOneChange S.Store store.old store.new (λ told. IsSaidOf told result) }
+    ensures change { (day : ℤ) → IsOneChange S.Store store.old store.new day (What.PutImage acc kind deed digest.now bytes.now) (λ told. IsSaidOf told result) }
 {
     match store.put_image(alloc, acc, kind, deed, digest, bytes.as_slice()) {
         Ok(()) => Ok(Said::Done),
@@ -167,7 +167,7 @@ fn put_image<S: Alter>(
     requires known { IsOpen S.Store store.old → audience_of (desk S.Store store.old) badge.now ≡ Some Audience.Staff }
     requires scope { IsScope acc }
     ensures carries { (day : ℤ) → Carries S.Store store.old store.new day (record { badge = badge.now; what = What.PutImage acc kind deed digest.now bytes.now }) result }
-    ensures one_change { MakesOneChange S.Store store.old store.new (What.PutImage acc kind deed digest.now bytes.now) (λ told. IsSaidOf told result) }
+    ensures one_change { (day : ℤ) → MakesOneChange S.Store store.old store.new day (What.PutImage acc kind deed digest.now bytes.now) (λ told. IsSaidOf told result) }
 {
     if !has_deed(store, deed)? {
         return Ok(Said::Refused(Refusal::NoDeed));
@@ -203,7 +203,7 @@ fn check<S: Alter>(
     requires known { IsOpen S.Store store.old → audience_of (desk S.Store store.old) badge.now ≡ Some Audience.Staff }
     requires day { IsDay caller.now.day }
     ensures carries { Carries S.Store store.old store.new caller.now.day (record { badge = badge.now; what = What.Check acc }) result }
-    ensures one_change { MakesOneChange S.Store store.old store.new (What.Check acc) (λ told. IsSaidOf told result) }
+    ensures one_change { MakesOneChange S.Store store.old store.new caller.now.day (What.Check acc) (λ told. IsSaidOf told result) }
 {
     let _ = badge;
     let Some(image) = image(store, alloc, acc)? else {
@@ -226,7 +226,7 @@ pub(crate) fn command<S: Alter>(
     requires fits { IsRequest request.now.what }
     requires staff { IsForStaff request.now.what }
     ensures carries { Carries S.Store store.old store.new caller.now.day request.now result }
-    ensures one_change { MakesOneChange S.Store store.old store.new request.now.what (λ told. IsSaidOf told result) }
+    ensures one_change { MakesOneChange S.Store store.old store.new caller.now.day request.now.what (λ told. IsSaidOf told result) }
 {
     store.rests();
     let badge = &request.badge;

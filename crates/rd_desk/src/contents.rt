@@ -2,15 +2,14 @@
 
 ghost use Rattle.std.specs.Prelude.{◌≡◌, ◌↔◌, IfSome, IsSome, length};
 ghost use Rattle.rd_volume.specs.Volumes.{contents_of};
-ghost use Rattle.rd_desk.specs.Lent.{CanBeLent};
+ghost use Rattle.rd_desk.specs.Lent.{CanBeLent, bytes_lent};
 
 use rd_geometry::{Image, Items, Kind};
 use rd_volume::{Found, Pieces, pieces};
 use std::marker::Model;
 
-/// The contents of a sound file, which contracts see as the list of their bytes. They keep the
-/// bytes of the image and the record of the file, and lend slices of the image: they copy no byte
-/// of the file.
+/// The contents of a sound file, which contracts see as the kind and the bytes of its image and the
+/// record of the file. They keep these, and lend slices of the image: they copy no byte of the file.
 #[derive(Drop)]
 pub struct Contents {
     kind: Kind,
@@ -20,13 +19,13 @@ pub struct Contents {
 }
 
 impl Model for Contents {
-    ghost use Rattle.std.specs.Prelude.{ℕ, List};
+    ghost use Rattle.rd_desk.specs.Lent.{Lent};
 
-    ghost Value = { List ℕ };
+    ghost Value = { Lent };
 
-    ghost use Rattle.rd_desk.specs.Kept.{IsKept, bytes_kept};
+    ghost use Rattle.rd_desk.specs.Kept.{IsKept, lent_kept};
 
-    ghost view = { bytes_kept };
+    ghost view = { lent_kept };
 
     ghost invariant = { IsKept };
 }
@@ -50,8 +49,9 @@ fn count(kind: Kind, image: &[u8], file: &Found) -> Option<usize>
 }
 
 impl Contents {
-    ghost use Rattle.std.specs.List.{concat};
     ghost use Rattle.rd_volume.specs.PiecesLeft.{pieces_left};
+    ghost use Rattle.rd_volume.specs.Volumes.{pieces_of};
+    ghost use Rattle.rd_desk.specs.Slices.{AreSlicesOf, not_empty};
 
     /// The contents of a file of an image, from the kind and the bytes of the image. It takes no
     /// memory.
@@ -61,7 +61,7 @@ impl Contents {
     /// together.
     pub fn of(kind: Kind, image: Items<u8>, file: Found) -> Option<Contents>
         ensures taken { IsSome result ↔ CanBeLent kind image file }
-        ensures bytes { IfSome result (λ contents. contents ≡ contents_of kind image file) }
+        ensures lent { IfSome result (λ contents. contents ≡ record { kind = kind; image = image; file = file }) }
     {
         let len = count(kind, image.as_slice(), &file)?;
         Some(Contents {
@@ -74,7 +74,7 @@ impl Contents {
 
     /// How many bytes they have.
     pub fn len(&self) -> usize
-        ensures { result ≡ length self.now }
+        ensures { result ≡ length (bytes_lent self.now) }
     {
         self.len
     }
@@ -82,7 +82,8 @@ impl Contents {
     /// Their pieces, in order: for each unit of the file a slice of the image. The last one may be
     /// empty.
     pub(crate) fn pieces(&self) -> Pieces<'_>
-        ensures { concat (pieces_left result) ≡ self.now }
+        ensures pieces { pieces_left result ≡ pieces_of self.now.kind self.now.image self.now.file.units self.now.file.last_len }
+        ensures slices { AreSlicesOf self.now (not_empty (pieces_left result)) }
     {
         match Image::new(self.kind, self.image.as_slice()) {
             Ok(image) => pieces(&image, &self.file),

@@ -34,7 +34,7 @@ fn respond<S: Alter>(
     requires fits { IsRequest request.now.what }
     requires day { IsDay caller.now.day }
     ensures responds { Responds S.Store store.old store.new caller.now.day request.now result }
-    ensures one_change { MakesOneChange S.Store store.old store.new request.now.what (λ told. IsSaidOf told result) }
+    ensures one_change { MakesOneChange S.Store store.old store.new caller.now.day request.now.what (λ told. IsSaidOf told result) }
     ensures ends_open { (IsClean S.Store store.old → IsOpen S.Store store.old) → LeavesOpen S.Store store.new result }
 {
     if !request.what.is_for_staff() {
@@ -59,7 +59,7 @@ fn respond_to_badge<S: Alter>(
     requires fits { IsRequest request.now.what }
     requires day { IsDay day }
     ensures responds { Responds S.Store store.old store.new day request.now result }
-    ensures one_change { MakesOneChange S.Store store.old store.new request.now.what (λ told. IsSaidOf told result) }
+    ensures one_change { MakesOneChange S.Store store.old store.new day request.now.what (λ told. IsSaidOf told result) }
     ensures ends_open { LeavesOpen S.Store store.new result }
 {
     let Some(audience) = audience(store, badge)? else {
@@ -78,7 +78,7 @@ fn respond_to_public<S: Alter>(
 ) -> Result<Said, Unavailable>
     requires nobody { request.now.badge ≡ None }
     ensures responds { Responds S.Store store.old store.new day request.now result }
-    ensures one_change { MakesOneChange S.Store store.old store.new request.now.what (λ told. IsSaidOf told result) }
+    ensures one_change { MakesOneChange S.Store store.old store.new day request.now.what (λ told. IsSaidOf told result) }
     ensures ends_open { ¬ IsForStaff request.now.what → LeavesOpen S.Store store.new result }
     ensures turned_away { IsForStaff request.now.what → (result ≡ Ok (Said.Refused Refusal.StaffOnly)) × (store.new ≡ store.old) }
 {

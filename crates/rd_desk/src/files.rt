@@ -2,7 +2,6 @@
 
 ghost use Rattle.std.specs.Prelude.{◌≡◌, IfOk, Some};
 ghost use Rattle.std.specs.FinMap.{get};
-ghost use Rattle.rd_volume.specs.Volumes.{AreBytesOf, IsFound};
 ghost use Rattle.rd_store.specs.Held.{desk};
 ghost use Rattle.rd_store.specs.declared.rows.ImageRow.{ImageRow as Row};
 ghost use Rattle.rd_desk.specs.Calls.{Looks};
@@ -18,7 +17,7 @@ use std::alloc::Global;
 /// The contents of a file of an image, which keep its bytes. It tests that the file is sound and
 /// lies in the image, because nothing is known of a connection that a fault has shut.
 fn contents_in(image: ImageRow, file: Found) -> Result<Contents, Unavailable>
-    ensures { IsFound image.kind image.bytes file → IfOk result (AreBytesOf image.kind image.bytes file.slot) }
+    ensures { IfOk result (λ lent. lent ≡ record { kind = image.kind; image = image.bytes; file = file }) }
 {
     match Contents::of(image.kind, image.bytes, file) {
         Some(contents) => Ok(contents),
@@ -33,8 +32,8 @@ pub(crate) fn contents<S: Alter>(
     acc: u32,
     file: Found,
 ) -> Result<Contents, Unavailable>
-    ensures { Looks S.Store store.old store.new result (λ bytes. (row : Row) → get (desk S.Store store.old).images acc ≡ Some row
-        → IsFound row.kind row.bytes file → AreBytesOf row.kind row.bytes file.slot bytes) }
+    ensures { Looks S.Store store.old store.new result (λ lent. (row : Row) → get (desk S.Store store.old).images acc ≡ Some row
+        → lent ≡ record { kind = row.kind; image = row.bytes; file = file }) }
 {
     let Some(image) = image(store, alloc, acc)? else {
         return Err(Unavailable);

@@ -5,6 +5,7 @@ ghost use Rattle.serde_json.specs.Data.{no_members, string};
 ghost use Rattle.serde_json.specs.View.{view};
 ghost use Rattle.serde_json.specs.Written.{has_float};
 ghost use Rattle.rd_volume.specs.Words.{words_of};
+ghost use Rattle.rd_desk.specs.Lent.{held};
 ghost use Rattle.rd_desk.specs.Refusals.{name_of};
 ghost use Rattle.rd_desk.specs.Texts.{DONE, UNAVAILABLE, counts_data, detail_of, error_data, in_json, map_data, outcome_data, reply_of, rule_member, survey_data, surveyed_data, texts};
 
@@ -141,7 +142,7 @@ fn json_reply(alloc: Global, status: u16, value: &Value) -> Result<Reply, NoMemo
 }
 
 fn fixed_reply(status: u16, text: &'static str) -> Reply
-    ensures { result ≡ record { status = status; form = Form.Json; body = text.entry.now } }
+    ensures { result ≡ record { status = status; form = Form.Json; body = held text.entry.now } }
 {
     Reply {
         status,

@@ -24,7 +24,10 @@ pub use checks::check_row;
 pub use contents::Contents;
 pub use desk::{Desk, answer_in_memory};
 pub use json::{reply_to, unavailable};
-pub use laws::{answers_step, hidden_bytes_are_not_told, one_reply, same_again};
+pub use laws::{
+    answers_step, each_request_has_a_reply, hidden_bytes_are_not_told, one_reply, same_again,
+    what_is_shown_decides,
+};
 pub use rd_geometry::{Items, Kind, NoMemory, Text};
 pub use rd_store::Outcome;
 pub use refusal::Refusal;

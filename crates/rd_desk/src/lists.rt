@@ -7,6 +7,7 @@ ghost use Rattle.serde_json.specs.Data.{array};
 ghost use Rattle.serde_json.specs.Events.{SendsValue};
 ghost use Rattle.serde_json.specs.View.{items_of};
 ghost use Rattle.rd_volume.specs.Words.{words_of};
+ghost use Rattle.rd_desk.specs.Lent.{held};
 ghost use Rattle.rd_desk.specs.Texts.{file_data, image_data, images_data, in_json, line_data, listing_data, texts};
 
 use crate::body::Body;
@@ -165,7 +166,7 @@ impl Serialize for Listed<'_> {
 
 /// The reply with a text of JSON as its body.
 fn listed_reply(text: String) -> Reply
-    ensures { result ≡ record { status = 200; form = Form.Json; body = string_bytes text } }
+    ensures { result ≡ record { status = 200; form = Form.Json; body = held (string_bytes text) } }
 {
     Reply {
         status: 200,

@@ -1,21 +1,35 @@
--- What goes to a visitor rests on nothing that is hidden from him.
-use Rattle.std.proofs.Common.{◌≡◌, inl, inr, ℕ, ℤ, List, refl}
+-- What goes to a visitor rests on nothing that is hidden from them.
+use Rattle.std.proofs.Common.{◌≡◌, ◌∙◌, inl, inr, ℕ, ℤ, Bool, true, false, List, [], ◌∷◌, ◌++◌, Option, length, refl}
 use Rattle.sqlite.specs.Store.{Ghosts}
 use Rattle.sqlite.specs.Held.{Held}
+use Rattle.rd_policy.specs.Zones.{day_number}
 use Rattle.rd_policy.specs.declared.zone.Zone.{Zone}
 use Rattle.rd_store.specs.Held.{IsOpen, desk}
-use Rattle.rd_desk.proofs.Hiding.{not_told}
+use Rattle.rd_store.specs.State.{Desk}
+use Rattle.rd_desk.specs.Hidden.{ReadsTheSame}
+use Rattle.rd_desk.specs.declared.said.Reply.{Reply}
+use Rattle.rd_desk.proofs.Showing.{shown_decides}
 use Rattle.rd_http.specs.Asked.{request, fault}
-use Rattle.rd_http.specs.Hidden.{HiddenBytesReachNoVisitor, HidesFromVisitor}
-use Rattle.rd_http.specs.Visits.{IsAnswer}
+use Rattle.rd_http.specs.Hidden.{HiddenBytesReachNoVisitor, HidesFromVisitor, RepliesAndHides}
+use Rattle.rd_http.specs.ReplyText.{challenge_of, head_text, reply_bytes}
+use Rattle.rd_http.specs.Runs.{Ends, HasRun, Runs}
+use Rattle.rd_http.specs.Told.{Coming, Told, Visit}
+use Rattle.rd_http.specs.Visits.{IsAnswer, IsReplied, answer_bytes}
+use Rattle.rd_http.specs.declared.serve.Served.{Served}
 use Rattle.rd_http.proofs.RunLemmas.{replied}
 
+-- replies that read the same have the same text
+same_text : (reply other : Reply) → ReadsTheSame reply other → answer_bytes reply ≡ answer_bytes other
+unfolding reply_bytes
+same_text reply other same = λ i. head_text (same.status i) (same.form i) (length (same.bytes i)) (challenge_of (same.status i)) ++ same.bytes i
+
 pub reach_none : HiddenBytesReachNoVisitor
-reach_none stream old new day text (inl (request asked, is, (reply, answered, told))) audience other question alike =
-    let who = question asked is in
-    inl (request asked, is, (reply, not_told old other audience day asked reply new who.0 who.1 alike answered, told))
-reach_none stream old new day text (inl (fault reason, is, (same, told))) audience other question alike = inl (fault reason, is, (refl, told))
-reach_none stream old new day text (inr wanting) audience other question alike =
+reach_none stream old new day text (inl (request asked, is, (reply, answered, told))) audience other visit shown =
+    let who = visit asked is in
+    let there = shown_decides old other audience day asked reply new who.0 who.1 shown answered in
+    inl (request asked, is, (there.0, there.2, told ∙ same_text reply there.0 there.1))
+reach_none stream old new day text (inl (fault reason, is, (same, told))) audience other visit shown = inl (fault reason, is, (refl, told))
+reach_none stream old new day text (inr wanting) audience other visit shown =
     inr (record { framed = wanting.framed; same = refl; told = wanting.told })
 
 -- the same of what is answered over a store
@@ -23,3 +37,38 @@ pub answer_hides : {S : Type 0} (g : Ghosts S) (zone : Zone) (stream : List ℕ)
     → HidesFromVisitor stream (desk g old) day text
 answer_hides g zone stream old new day text answer is_open =
     reach_none stream (desk g old) (desk g new) day text (replied g zone stream old new day text answer is_open)
+
+-- ---- a run
+
+module _ (zone : Zone) where
+  ended_hidden : (came : List ℕ) (old new : Desk) (day : ℤ) (out : List ℕ) (tf pf : Bool) → Ends IsReplied zone came old new day out tf pf
+      → Ends RepliesAndHides zone came old new day out tf pf
+  ended_hidden came old new day out false false replied = (replied, reach_none came old new day out replied)
+  ended_hidden came old new day out false true (text, replied, cut) = (text, (replied, reach_none came old new day text replied), cut)
+  ended_hidden came old new day out true pf ended = ended
+
+  runs_hidden : (visits : List Visit) (old new : Desk) → Runs IsReplied zone visits old new → Runs RepliesAndHides zone visits old new
+  runs_hidden [] old new same = same
+  runs_hidden (visit ∷ visits) old new (mid, is, runs) = (
+    mid,
+    record {
+      day = is.day;
+      ends = ended_hidden visit.came old mid (day_number visit.moment zone) visit.out visit.take_failed visit.put_failed is.ends;
+    },
+    runs_hidden visits mid new runs,
+  )
+
+  -- what goes out in a run hides the rest from each visitor
+  pub run_hidden : (coming left : Option (List Coming)) (told : Told) (later : Option Told) (served : Served) (old new : Desk)
+      → HasRun IsReplied zone told later coming left served old new → HasRun RepliesAndHides zone told later coming left served old new
+  run_hidden coming left told later served old new run = record {
+    visits = run.visits;
+    last = run.last;
+    are = run.are;
+    order = run.order;
+    runs = runs_hidden run.visits old new run.runs;
+    counted = run.counted;
+    read_faults = run.read_faults;
+    write_faults = run.write_faults;
+    ended = run.ended;
+  }

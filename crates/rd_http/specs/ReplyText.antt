@@ -39,4 +39,4 @@ head_text status form len extra =
 
 -- the bytes of a reply with such a line
 unfoldable pub reply_bytes : List ℕ → Reply → List ℕ
-reply_bytes extra reply = head_text reply.status reply.form (length reply.body) extra ++ reply.body
+reply_bytes extra reply = head_text reply.status reply.form (length reply.body.bytes) extra ++ reply.body.bytes

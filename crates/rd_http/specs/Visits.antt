@@ -4,6 +4,7 @@ use Rattle.std.specs.Io.KnownBytes.{Appends, Consumes}
 use Rattle.sqlite.specs.Store.{Ghosts}
 use Rattle.sqlite.specs.Held.{Held}
 use Rattle.rd_store.specs.State.{Desk}
+use Rattle.rd_desk.specs.Lent.{held}
 use Rattle.rd_desk.specs.Replies.{IsReply}
 use Rattle.rd_desk.specs.Served.{Serves}
 use Rattle.rd_desk.specs.Texts.{UNAVAILABLE}
@@ -26,7 +27,7 @@ answer_bytes reply = reply_bytes (challenge_of reply.status) reply
 
 -- the bytes that say why there is no request
 abbrev pub fault_bytes : RequestFault → List ℕ
-fault_bytes reason = reply_bytes (allow_line reason) (record { status = status_of reason; form = Json; body = fault_body reason })
+fault_bytes reason = reply_bytes (allow_line reason) (record { status = status_of reason; form = Json; body = held (fault_body reason) })
 
 -- ---- what is done
 

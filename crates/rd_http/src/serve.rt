@@ -3,6 +3,7 @@
 ghost use Rattle.std.specs.Prelude.{◌≡◌, ◌≢◌, ◌↔◌, ◌≤◌, ◌<◌, ◌+◌, true, false, None, IfSome};
 ghost use Rattle.sqlite.specs.Steps.{over_memory};
 ghost use Rattle.rd_store.specs.Held.{IsOpen, Lasts, desk as tables};
+ghost use Rattle.rd_http.specs.Hidden.{RepliesAndHides};
 ghost use Rattle.rd_http.specs.Runs.{HasRun, NoneLeft};
 ghost use Rattle.rd_http.specs.Visits.{IsAnswer, IsReplied};
 
@@ -80,7 +81,8 @@ impl Served {
 /// Serves up to `count` visits one after the other, each at the moment at which the door admits
 /// it. A failed read or write ends only its own visit. A moment that has no day ends the run, and
 /// its visit does not count; a door that shuts ends the run too. Each admitted visit leaves by the
-/// door.
+/// door. Whatever a visitor asks, the reply to them depends on nothing that is hidden from them, or
+/// is 503 (`hidden`), unless the staff asks what only they may.
 pub fn serve_many<S: Alter, D: Door>(
     alloc: Global,
     door: &mut D,
@@ -91,6 +93,8 @@ pub fn serve_many<S: Alter, D: Door>(
         HasRun (IsAnswer S.Store) desk.old.zone told (D.told door.new) (D.coming door.old) (D.coming door.new) result desk.old.store desk.new.store) }
     ensures replied { IsOpen S.Store desk.new.store → IfSome (D.told door.old) (λ told.
         HasRun IsReplied desk.old.zone told (D.told door.new) (D.coming door.old) (D.coming door.new) result (tables S.Store desk.old.store) (tables S.Store desk.new.store)) }
+    ensures hidden { IsOpen S.Store desk.new.store → IfSome (D.told door.old) (λ told.
+        HasRun RepliesAndHides desk.old.zone told (D.told door.new) (D.coming door.old) (D.coming door.new) result (tables S.Store desk.old.store) (tables S.Store desk.new.store)) }
     ensures count { (result.ended ≡ Ended.Count) ↔ (result.visits ≡ count) }
     ensures within { result.visits ≤ count }
     ensures faults { result.read_faults + result.write_faults ≤ result.visits }
@@ -128,6 +132,8 @@ pub fn serve_in_memory<D: Door>(
 ) -> Served
     ensures replied { IfSome (D.told door.old) (λ told.
         HasRun IsReplied desk.old.zone told (D.told door.new) (D.coming door.old) (D.coming door.new) result (tables over_memory desk.old.store) (tables over_memory desk.new.store)) }
+    ensures hidden { IfSome (D.told door.old) (λ told.
+        HasRun RepliesAndHides desk.old.zone told (D.told door.new) (D.coming door.old) (D.coming door.new) result (tables over_memory desk.old.store) (tables over_memory desk.new.store)) }
     ensures count { (result.ended ≡ Ended.Count) ↔ (result.visits ≡ count) }
     ensures within { result.visits ≤ count }
     ensures faults { result.read_faults + result.write_faults ≤ result.visits }

@@ -95,8 +95,8 @@ fn send<W: Wire>(wire: &mut W, answer: Answer) -> Result<(), Broken>
 /// Serves one visit at a moment, in seconds since 1970-01-01T00:00:00 UTC: reads one request, and
 /// no byte beyond what a head and a body may have (270,336), has the desk answer it, and writes
 /// the reply. If the bytes are no request, the reply says why; if memory runs out or the store
-/// fails, it says that the desk is unavailable. The reply to a question depends on no byte that is
-/// hidden from its caller (`hidden`).
+/// fails, it says that the desk is unavailable. Unless the staff asks what only they may, the reply
+/// depends on nothing that is hidden from the visitor, or is 503 (`hidden`).
 ///
 /// It fails with `Clock` exactly when the moment has no day, with `Read` exactly when a read
 /// fails, and with `Write` exactly when a write fails or takes no byte, including the last one,

@@ -1,6 +1,7 @@
 //! The bytes of a reply, written to a connection.
 
 ghost use Rattle.std.specs.Prelude.{◌≡◌, ◌↔◌, ◌≤◌, true, false, length, IsErr};
+ghost use Rattle.rd_desk.specs.Lent.{held};
 ghost use Rattle.rd_http.specs.ReplyText.{reply_bytes};
 ghost use Rattle.rd_http.specs.Sent.{Sends};
 
@@ -32,7 +33,7 @@ pub(crate) fn put_all<W: Wire>(wire: &mut W, bytes: &[u8]) -> Result<(), Broken>
 /// It fails with `Broken` when a write fails: then a front part went out, and not all of it.
 pub(crate) fn put_pieces<W: Wire>(wire: &mut W, body: &Body) -> Result<(), Broken>
     requires { W.put_failed wire.old ≡ false }
-    ensures sends { Sends (W.outgoing wire.old) (W.outgoing wire.new) result body.now }
+    ensures sends { Sends (W.outgoing wire.old) (W.outgoing wire.new) result body.now.bytes }
     ensures failed { IsErr result ↔ (W.put_failed wire.new ≡ true) }
     ensures kept { W.incoming wire.new ≡ W.incoming wire.old }
     ensures came { W.came wire.new ≡ W.came wire.old }
@@ -77,7 +78,7 @@ pub(crate) fn put_fixed<W: Wire>(
     requires ready { W.put_failed wire.old ≡ false }
     requires room { length extra.now ≤ 40 }
     ensures sends { Sends (W.outgoing wire.old) (W.outgoing wire.new) result
-        (reply_bytes extra.now (record { status = status; form = Form.Json; body = body.now })) }
+        (reply_bytes extra.now (record { status = status; form = Form.Json; body = held body.now })) }
     ensures failed { IsErr result ↔ (W.put_failed wire.new ≡ true) }
     ensures kept { W.incoming wire.new ≡ W.incoming wire.old }
     ensures came { W.came wire.new ≡ W.came wire.old }

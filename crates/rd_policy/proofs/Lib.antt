@@ -1,2 +1,3 @@
 pub mod DateLemmas
 pub mod OrderLemmas
+pub mod Existence

@@ -1,7 +1,7 @@
 -- Dates as texts.
-use Rattle.std.specs.Prelude.{◌≡◌, ℕ, ℤ, List, codes}
+use Rattle.std.specs.Prelude.{◌≡◌, ℕ, ℤ, List, Ok, codes}
 use Rattle.jiff.specs.Types.{Date}
-use Rattle.jiff.specs.Words.{epoch_day, date_text}
+use Rattle.jiff.specs.Words.{epoch_day, date_parts, date_text, parse_date}
 use Rattle.rd_policy.specs.Days.{IsDay}
 use Rattle.rd_policy.specs.declared.date.DateFault.{DateFault}
 use Rattle.rd_policy.specs.declared.date.DateFault.TheVariants.{BadDate, NoMemory}
@@ -17,6 +17,10 @@ pub record IsDateOf (day : ℤ) (text : List ℕ) : Type 0 where
 -- the text is the date of no day
 abbrev pub IsNoDate : List ℕ → Type 0
 IsNoDate text = (day : ℤ) → ¬ IsDateOf day text
+
+-- jiff reads the text, in this form or in another, as a date from 0001-01-01 to 9999-12-31
+abbrev pub IsReadAsDate : List ℕ → Type 0
+IsReadAsDate text = (date : Date) × (parse_date text ≡ Ok (date_parts date)) × IsDay (epoch_day date)
 
 -- a day has one date
 abbrev pub OneText : Type 0

@@ -1,6 +1,6 @@
-ghost use Rattle.std.specs.Prelude.{◌≡◌, Some, IfOk, IfErr, string_bytes};
+ghost use Rattle.std.specs.Prelude.{◌≡◌, Err, Some, IfOk, IfErr, string_bytes};
 ghost use Rattle.rd_policy.specs.Days.{IsDay};
-ghost use Rattle.rd_policy.specs.Dates.{IsDateOf, IsNoDate, OneText, OneDay};
+ghost use Rattle.rd_policy.specs.Dates.{IsDateOf, IsNoDate, IsReadAsDate, OneText, OneDay};
 
 use crate::day::is_day;
 use jiff::civil::Date;
@@ -53,10 +53,13 @@ pub fn date_text(alloc: Global, day: i32) -> Result<String, NoMemory>
 /// The day of a date written as `2030-01-01`, counted from 1970-01-01.
 ///
 /// It fails with `BadDate` when the text is not a date of that form, from 0001-01-01 to
-/// 9999-12-31, and with `NoMemory` when memory runs out.
+/// 9999-12-31, and with `NoMemory` when memory runs out. `NoMemory` comes only where `jiff` reads
+/// the text as a date of these years; then it writes the date to compare the two, also where the
+/// form is another.
 pub fn date_read(alloc: Global, text: &str) -> Result<i32, DateFault>
     ensures day { IfOk result (λ day. IsDateOf day text.now) }
     ensures bad { IfErr result (λ fault. fault ≡ DateFault.BadDate → IsNoDate text.now) }
+    ensures memory { result ≡ Err DateFault.NoMemory → IsReadAsDate text.now }
 {
     let Ok(date) = text.parse::<Date>() else {
         return Err(DateFault::BadDate);

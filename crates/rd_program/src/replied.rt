@@ -13,7 +13,7 @@ use std::alloc::{AllocError, Global};
 
 /// The bytes of a body. It fails when memory runs out.
 pub(crate) fn bytes_of(alloc: Global, body: &Body) -> Result<Vec<u8>, AllocError>
-    ensures { IfOk result (λ bytes. bytes.items ≡ body.now) }
+    ensures { IfOk result (λ bytes. bytes.items ≡ body.now.bytes) }
 {
     let mut bytes = Vec::new(alloc);
     for piece in body.pieces() {
@@ -24,7 +24,7 @@ pub(crate) fn bytes_of(alloc: Global, body: &Body) -> Result<Vec<u8>, AllocError
 
 /// Whether a body is a text. It takes no memory.
 pub(crate) fn is_text(body: &Body, text: &[u8]) -> bool
-    ensures { IsTrue result ↔ (body.now ≡ text.now) }
+    ensures { IsTrue result ↔ (body.now.bytes ≡ text.now) }
 {
     let mut rest = text;
     for piece in body.pieces() {
@@ -40,7 +40,7 @@ pub(crate) fn is_text(body: &Body, text: &[u8]) -> bool
 ///
 /// It fails with `NoMemory`, and with `Store` when the body is not JSON.
 pub(crate) fn value_of(alloc: Global, body: &Body) -> Result<Value, Refusal>
-    ensures value { IfOk result (λ value. IsJson body.now (view value)) }
+    ensures value { IfOk result (λ value. IsJson body.now.bytes (view value)) }
     ensures refused { IfErr result IsRowRefusal }
 {
     let bytes = bytes_of(alloc, body)?;

@@ -1,12 +1,11 @@
 -- The files of an image go into the index one after another.
-use Rattle.std.proofs.Common.{◌≡◌, ◌≢◌, ◌⊎◌, inl, inr, ℕ, ◌+◌, ◌<◌, List, length, get_or, AllPairs, Option, Some, None, refl, sym, ap, subst, ◌∙◌, arith, nat_cmp}
+use Rattle.std.proofs.Common.{◌≡◌, inl, inr, ℕ, ◌+◌, ◌<◌, List, length, get_or, AllPairs, Option, Some, None, refl, sym, ap, subst, ◌∙◌, arith, nat_cmp}
 use Rattle.std.specs.FinMap.{FinMap, get, insert}
 use Rattle.std.proofs.lemmas.Bool.{cases_eq}
-use Rattle.sqlite_rules.specs.Lists.{Has}
 use Rattle.sqlite_rules.proofs.ListLemmas.{has_contained, contains_had}
 use Rattle.rd_tables.proofs.Lists.{from_map}
 use Rattle.rd_tables.proofs.Entries.{get_inserted}
-use Rattle.rd_volume.specs.Volumes.{AreFounds, IsFound, IsFoundAt, IsSlotOfFile}
+use Rattle.rd_volume.specs.Volumes.{AreFounds, IsFound, IsFoundAt}
 use Rattle.rd_volume.specs.declared.found.Found.{Found}
 use Rattle.rd_store.specs.declared.rows.ImageRow.{ImageRow}
 use Rattle.rd_store.specs.Index.{FileAt, file_cmp, IsFileIn, IsFiledTo, IsIndexOf}

@@ -1,16 +1,14 @@
 -- What the queries show of the index.
-use Rattle.std.proofs.Common.{◌≡◌, inl, inr, ℕ, ◌<◌, pos, List, [], ◌∷◌, map, All, AllPairs, Bool, true, false, cond, T, ◌&&◌, ◌==◌, Option, Some, None, refl, sym, ap, subst, ◌∙◌, arith, nat_cmp, int_cmp, is_lt, is_eq, Ordering, Less, Equal, Greater}
+use Rattle.std.proofs.Common.{◌≡◌, inl, inr, ℕ, ◌<◌, pos, List, [], ◌∷◌, map, AllPairs, Bool, true, false, cond, T, ◌&&◌, ◌==◌, Option, Some, None, refl, sym, ap, subst, ◌∙◌, arith, nat_cmp, int_cmp, is_lt, is_eq, Less, Equal}
 use Rattle.std.specs.Option.{option_to_list}
 use Rattle.std.specs.Ordering.{eq_by_cmp, ordering_then}
 use Rattle.std.specs.FinMap.{FinMap, get, entries, entries_sorted, retain_keys, get-retain_keys}
 use Rattle.std.specs.FinMap.Entries.{is_sorted, below_all}
-use Rattle.std.proofs.lemmas.Bool.{cases_Bool}
 use Rattle.std.proofs.lemmas.Bool.Decides.{nat_tests}
 use Rattle.std.proofs.lemmas.List.Elements.{All-from_recursion}
 use Rattle.std.proofs.lemmas.List.Kept.{AllPairs-cons}
 use Rattle.sqlite.specs.declared.types.Value.TheVariants.{Int}
 use Rattle.sqlite.specs.Order.{Row, column}
-use Rattle.sqlite.specs.Query.{key_cmp}
 use Rattle.sqlite.specs.Collation.TheVariants.{Binary}
 use Rattle.sqlite_sql.specs.Ops.{binary, is_true}
 use Rattle.sqlite_sql.specs.declared.ops.BinaryOp.TheVariants.{Compare}
@@ -20,10 +18,10 @@ use Rattle.sqlite_rules.specs.Lists.{Has}
 use Rattle.sqlite_rules.proofs.ListLemmas.{contains_had}
 use Rattle.rd_volume.specs.Volumes.{AreFounds, IsFound, IsFoundAt, IsSlotOfFile}
 use Rattle.rd_volume.specs.declared.found.Found.{Found}
-use Rattle.rd_tables.specs.Asked.{IsPicked, rising}
+use Rattle.rd_tables.specs.Asked.{IsPicked}
 use Rattle.rd_tables.specs.Queries.{file_query, files_query}
-use Rattle.rd_tables.specs.Sheets.{Spells, map_of, entry_of, seen}
-use Rattle.rd_tables.proofs.Lists.{map_map, and_true, both, in_map, from_map}
+use Rattle.rd_tables.specs.Sheets.{Spells, map_of, entry_of}
+use Rattle.rd_tables.proofs.Lists.{map_map, and_true, in_map, from_map}
 use Rattle.rd_tables.proofs.Values.{equal_numbers}
 use Rattle.rd_tables.proofs.Entries.{entry_got, got_entry, below_has}
 use Rattle.rd_tables.proofs.Finding.{looked_up, in_order}

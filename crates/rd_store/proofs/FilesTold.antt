@@ -1,11 +1,10 @@
 -- What the tests of the index say of it.
-use Rattle.std.proofs.Common.{◌≡◌, ◌≢◌, inl, inr, ℕ, zero, suc, ◌+◌, ◌<◌, pos, List, [], ◌∷◌, filter, map, All, length, get_or, Bool, true, false, Option, Some, None, IsSome, option_map, refl, sym, ap, subst, ◌∙◌, arith, nat_cmp, is_eq}
+use Rattle.std.proofs.Common.{◌≡◌, ◌≢◌, inl, inr, ℕ, suc, pos, List, [], ◌∷◌, filter, map, All, length, get_or, Bool, true, false, Option, Some, None, IsSome, option_map, refl, sym, ap, subst, ◌∙◌, arith, nat_cmp}
 use Rattle.std.specs.Option.{unwrap_or}
 use Rattle.std.specs.Prelude.{MatchBool}
-use Rattle.std.specs.List.{AllByRecursion, list_all}
-use Rattle.std.specs.List.Sorted.{IsPermutation}
+use Rattle.std.specs.List.{list_all}
 use Rattle.std.specs.Ordering.{eq_by_cmp}
-use Rattle.std.specs.FinMap.{FinMap, get}
+use Rattle.std.specs.FinMap.{get}
 use Rattle.std.proofs.lemmas.Bool.Decides.{nat_tests}
 use Rattle.std.proofs.lemmas.List.{get_or-map, length-map}
 use Rattle.std.proofs.lemmas.List.Sorted.{IsPermutation-sym}
@@ -18,14 +17,14 @@ use Rattle.sqlite.specs.Table.{Table}
 use Rattle.sqlite.specs.Query.{Output, output}
 use Rattle.sqlite_sql.specs.Term.{holds}
 use Rattle.sqlite_rules.specs.Lists.{Has}
-use Rattle.sqlite_rules.proofs.ListLemmas.{all_has, contains_had, has_contained, has_filtered, has_kept}
+use Rattle.sqlite_rules.proofs.ListLemmas.{all_has, has_contained, has_filtered, has_kept}
 use Rattle.rd_volume.specs.Volumes.{AreFounds, IsFound}
 use Rattle.rd_volume.specs.declared.found.Found.{Found}
 use Rattle.rd_volume.proofs.OneSurvey.{one_survey}
 use Rattle.rd_tables.specs.Asked.{picked, IsPicked, IsListed}
 use Rattle.rd_tables.specs.Queries.{files_query, all_files_query}
 use Rattle.rd_tables.specs.Schemas.{desk_with}
-use Rattle.rd_tables.specs.Sheets.{Spells, IsSpelled, HaveRowids, entry_of, map_of, seen}
+use Rattle.rd_tables.specs.Sheets.{Spells, IsSpelled, entry_of, map_of, seen}
 use Rattle.rd_tables.proofs.Lists.{and_true, in_map, from_map}
 use Rattle.rd_tables.proofs.Values.{equal_numbers}
 use Rattle.rd_tables.proofs.Entries.{tie}
@@ -137,10 +136,7 @@ module _ (is_marked : Bool) (acc : ℕ) (trees : Trees) (rows : List Row) (files
 
 -- ---- the image of one accession
 
-module _ (trees : Trees) (acc : ℕ) (row : ImageRow) (found : Option ImageRow) (is : found ≡ get (map_of image_sheet (trees 2)) acc) (some : found ≡ Some row) where
-  stands : get (map_of image_sheet (trees 2)) acc ≡ Some row
-  stands = sym is ∙ some
-
+module _ (trees : Trees) (acc : ℕ) (row : ImageRow) (stands : get (map_of image_sheet (trees 2)) acc ≡ Some row) where
   pub unmarked_image : (is_marked : Bool) → is_marked ≡ false → image_if is_marked trees acc ≡ Some row
   unmarked_image is_marked apart = rw (apart, stands) refl
 

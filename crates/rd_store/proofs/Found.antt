@@ -1,8 +1,8 @@
 -- What the queries show of a desk.
-use Rattle.std.proofs.Common.{◌≡◌, inl, inr, ℕ, zero, suc, ◌<◌, slice_get, slice_index_or, pos, List, [], ◌∷◌, map, Bool, true, false, Option, Some, None, option_map, is_some, refl, sym, ap, ap₂, ◌∙◌, arith, nat_cmp, int_cmp, is_lt, is_eq, Less, Equal, Greater, Ordering, ◌&&◌, ◌||◌, ◌==◌, All, subst, length}
+use Rattle.std.proofs.Common.{◌≡◌, inl, inr, ℕ, zero, suc, ◌<◌, slice_get, slice_index_or, pos, List, [], ◌∷◌, map, Bool, true, false, Option, Some, None, option_map, refl, sym, ap, ◌∙◌, arith, nat_cmp, int_cmp, is_lt, is_eq, Less, Equal, Greater, Ordering, ◌&&◌, ◌==◌, All, subst, length}
 use Rattle.std.specs.Prelude.{MatchBool}
 use Rattle.std.specs.Option.{option_to_list}
-use Rattle.std.specs.List.{Any, list_any}
+use Rattle.std.specs.List.{Any}
 use Rattle.std.proofs.lemmas.Cmp.{nat_list_cmp_total}
 use Rattle.std.proofs.lemmas.List.Elements.{recursion_from_All}
 use Rattle.sqlite_rules.specs.Lists.{Has}
@@ -11,33 +11,32 @@ use Rattle.sqlite_value.proofs.OrderLemmas.{value_cmp-Blob}
 use Rattle.rd_policy.specs.declared.audience.Audience.{Audience}
 use Rattle.rd_policy.specs.declared.audience.Audience.TheVariants.{Staff}
 use Rattle.std.specs.Ordering.{eq_by_cmp, ordering_then, ordering_reverse}
-use Rattle.std.specs.FinMap.{FinMap, get, keys, entries, retain_keys, contains_key-keys}
+use Rattle.std.specs.FinMap.{get, entries, retain_keys}
 use Rattle.std.proofs.lemmas.Bool.Decides.{nat_tests}
 use Rattle.sqlite.specs.declared.types.Value.TheVariants.{Int, Blob}
 use Rattle.sqlite.specs.Order.{Row, column}
 use Rattle.sqlite.specs.Query.{key_cmp}
 use Rattle.sqlite.specs.Collation.TheVariants.{Binary}
-use Rattle.sqlite_sql.specs.Ops.{binary, is_true}
+use Rattle.sqlite_sql.specs.Ops.{binary, is_true, unary}
+use Rattle.sqlite_sql.specs.declared.ops.UnaryOp.TheVariants.{Length, TypeOf}
 use Rattle.sqlite_sql.specs.declared.ops.BinaryOp.TheVariants.{Compare}
 use Rattle.sqlite_sql.specs.declared.ops.CompareOp.TheVariants.{Eq}
 use Rattle.sqlite_value.proofs.OrderLemmas.{value_cmp-Int, then-Equal}
 use Rattle.rd_tables.specs.Asked.{IsPicked, rising}
-use Rattle.rd_tables.specs.Queries.{deed_query, image_query, heading_query, accession_query, accessions_query, marks_query, has_marks_query, marked_query, audience_query, register_query, rules_query, keys_query}
+use Rattle.rd_tables.specs.Queries.{all_images_query, deed_query, image_query, marks_query, audience_query, rules_query, keys_query}
 use Rattle.rd_tables.specs.Sheets.{Spells, entry_of, map_of, natural, seen}
-use Rattle.rd_tables.proofs.Lists.{map_map, and_true, both, in_map, from_map}
+use Rattle.rd_tables.proofs.Lists.{and_true, both, in_map, from_map}
 use Rattle.rd_tables.proofs.Values.{equal_numbers, equal_blobs}
 use Rattle.rd_tables.proofs.Entries.{retain_all, entry_got, got_entry}
 use Rattle.rd_tables.proofs.Finding.{looked_up, in_order}
 use Rattle.rd_tables.proofs.Listed.{got_row}
 use Rattle.rd_policy.specs.declared.rule.Band.{Band}
-use Rattle.rd_store.specs.Cells.{is_number, is_one_of}
 use Rattle.rd_store.specs.Codes.{band_code, is_at}
-use Rattle.rd_store.specs.Marks.{joined, kind_with, with_marks}
+use Rattle.rd_store.specs.Walked.{image_told}
 use Rattle.rd_store.specs.State.{Desk, Place, Terms, digest_cmp, rule_of, HasOtherStaff}
 use Rattle.rd_store.specs.declared.rows.ImageRow.{ImageRow}
-use Rattle.rd_store.specs.Shown.{as_row, deed_shown, image_shown, heading_shown, marks_shown, one_shown, given_shown, accession_shown, registered, registered_shown, registered_in, audience_shown, ShowsOther, IsOtherKey}
+use Rattle.rd_store.specs.Shown.{as_row, deed_shown, image_shown, marks_shown, audience_shown, ShowsOther, IsOtherKey}
 use Rattle.rd_store.specs.Spelled.{deed_sheet, image_sheet, key_sheet, marks_sheet, rule_sheet}
-use Rattle.rd_store.proofs.Joined.{deed_marked, entries_joined, kind_marked}
 use Rattle.rd_store.proofs.Orders.{number_order, digest_order, place_order, kind_back, rule_back, key_back}
 
 -- the first column equals the parameter
@@ -53,22 +52,10 @@ module _ (n : ℕ) (table rows : List Row) where
   image_found spells picks = looked_up image_sheet number_order image_query (Int (pos n) ∷ []) table rows spells picks n image_shown
       (λ row is. ap (λ s. is_true (binary (Compare Eq Binary) (column s 0) (Int (pos n))) && true) is ∙ first_is n _) (λ row is. ap (λ s. ([], column s 1 ∷ column s 2 ∷ column s 3 ∷ column s 4 ∷ [])) is)
 
-  pub heading_found : Spells image_sheet table → IsPicked heading_query (Int (pos n) ∷ []) table rows → rows ≡ map heading_shown (option_to_list (get (map_of image_sheet table) n))
-  heading_found spells picks = looked_up image_sheet number_order heading_query (Int (pos n) ∷ []) table rows spells picks n heading_shown
-      (λ row is. ap (λ s. is_true (binary (Compare Eq Binary) (column s 0) (Int (pos n))) && true) is ∙ first_is n _) (λ row is. ap (λ s. ([], column s 1 ∷ column s 2 ∷ column s 3 ∷ [])) is)
-
-  pub given_found : Spells image_sheet table → IsPicked accession_query (Int (pos n) ∷ []) table rows → rows ≡ map given_shown (option_to_list (get (map_of image_sheet table) n))
-  given_found spells picks = looked_up image_sheet number_order accession_query (Int (pos n) ∷ []) table rows spells picks n given_shown
-      (λ row is. ap (λ s. is_true (binary (Compare Eq Binary) (column s 0) (Int (pos n))) && true) is ∙ first_is n _) (λ row is. ap (λ s. ([], column s 1 ∷ column s 2 ∷ [])) is)
-
-  -- the error bytes of an accession, and whether it has any
+  -- the error bytes of an accession
   pub marks_found : Spells marks_sheet table → IsPicked marks_query (Int (pos n) ∷ []) table rows → rows ≡ map marks_shown (option_to_list (get (map_of marks_sheet table) n))
   marks_found spells picks = looked_up marks_sheet number_order marks_query (Int (pos n) ∷ []) table rows spells picks n marks_shown
       (λ row is. ap (λ s. is_true (binary (Compare Eq Binary) (column s 0) (Int (pos n))) && true) is ∙ first_is n _) (λ row is. ap (λ s. ([], column s 1 ∷ [])) is)
-
-  pub has_marks_found : Spells marks_sheet table → IsPicked has_marks_query (Int (pos n) ∷ []) table rows → rows ≡ map one_shown (option_to_list (get (map_of marks_sheet table) n))
-  has_marks_found spells picks = looked_up marks_sheet number_order has_marks_query (Int (pos n) ∷ []) table rows spells picks n one_shown
-      (λ row is. ap (λ s. is_true (binary (Compare Eq Binary) (column s 0) (Int (pos n))) && true) is ∙ first_is n _) (λ row is. refl)
 
 -- the first row shows what was looked up
 pub first_shown : {X : Type 0} (show : X → Row) (found : Option X) (rows : List Row) (row : Row) → rows ≡ map show (option_to_list found) → Some row ≡ slice_get rows 0 → (x : X) × (found ≡ Some x) × (row ≡ show x)
@@ -81,28 +68,12 @@ numbers_rise a b here there up apart =
     let late : is_lt (int_cmp (pos b) (pos a)) ≡ false = sym (ap is_lt (then-Equal _ ∙ value_cmp-Int (pos b) (pos a))) ∙ up in
     grind (arith, nat_tests)
 
-pub accessions_found : (table rows : List Row) → Spells image_sheet table → IsPicked accessions_query [] table rows → rows ≡ map accession_shown (keys (map_of image_sheet table))
-accessions_found table rows spells picks =
-    in_order image_sheet number_order accessions_query [] table rows spells picks (λ _. true) (λ e. accession_shown e.0) accession_shown (λ row is. refl) (λ row is. ap (λ s. (column s 0 ∷ [], column s 0 ∷ [])) is) numbers_rise
-    ∙ ap (λ m. map (λ (e : ℕ × ImageRow). accession_shown e.0) (entries m)) (retain_all nat_cmp number_order (map_of image_sheet table))
-    ∙ sym (map_map accession_shown (λ (e : ℕ × ImageRow). e.0) (entries (map_of image_sheet table)))
-
--- the accessions whose images have error bytes
-pub marked_found : (table rows : List Row) → Spells marks_sheet table → IsPicked marked_query [] table rows → rows ≡ map accession_shown (keys (map_of marks_sheet table))
-marked_found table rows spells picks =
-    in_order marks_sheet number_order marked_query [] table rows spells picks (λ _. true) (λ e. accession_shown e.0) accession_shown (λ row is. refl) (λ row is. ap (λ s. (column s 0 ∷ [], column s 0 ∷ [])) is) numbers_rise
-    ∙ ap (λ m. map (λ (e : ℕ × List ℕ). accession_shown e.0) (entries m)) (retain_all nat_cmp number_order (map_of marks_sheet table))
-    ∙ sym (map_map accession_shown (λ (e : ℕ × List ℕ). e.0) (entries (map_of marks_sheet table)))
-
-pub numbers_back : (numbers : List ℕ) → map (λ row. natural (column row 0)) (map accession_shown numbers) ≡ numbers
-numbers_back [] = refl
-numbers_back (n ∷ numbers) = ap (λ more. n ∷ more) (numbers_back numbers)
-
-pub register_found : (table rows : List Row) → Spells image_sheet table → IsPicked register_query [] table rows → rows ≡ map registered_shown (entries (map_of image_sheet table))
-register_found table rows spells picks =
-    in_order image_sheet number_order register_query [] table rows spells picks (λ _. true) registered_shown accession_shown (λ row is. refl)
-    (λ row is. ap (λ s. (column s 0 ∷ [], column s 0 ∷ column s 1 ∷ column s 2 ∷ [])) is) numbers_rise
-    ∙ ap (λ m. map registered_shown (entries m)) (retain_all nat_cmp number_order (map_of image_sheet table))
+-- what is shown of all images
+pub images_listed : (table rows : List Row) → Spells image_sheet table → IsPicked all_images_query [] table rows → rows ≡ map image_told (entries (map_of image_sheet table))
+images_listed table rows spells picks =
+    in_order image_sheet number_order all_images_query [] table rows spells picks (λ _. true) image_told (λ acc. Int (pos acc) ∷ []) (λ row is. refl)
+    (λ row is. ap (λ s. (column s 0 ∷ [], column s 0 ∷ column s 1 ∷ column s 2 ∷ column s 3 ∷ unary Length (column s 4) ∷ unary TypeOf (column s 4) ∷ column s 4 ∷ [])) is) numbers_rise
+    ∙ ap (λ m. map image_told (entries m)) (retain_all nat_cmp number_order (map_of image_sheet table))
 
 -- each image of the table is as its row tells it
 pub row_back : (table : List Row) → (acc : ℕ) (image : ImageRow) → get (map_of image_sheet table) acc ≡ Some image → as_row image ≡ image
@@ -116,35 +87,6 @@ rows_back table acc = go (get (map_of image_sheet table) acc) refl
     go : (found : Option ImageRow) → get (map_of image_sheet table) acc ≡ found → option_map as_row found ≡ found
     go None is = refl
     go (Some image) is = ap Some (row_back table acc image is)
-
--- a number is one of the keys where something is there
-one_of_keys : {X : Type 0} (m : FinMap nat_cmp X) (n : ℕ) → is_one_of (keys m) (Int (pos n)) ≡ is_some (get m n)
-one_of_keys m n = same (keys m) ∙ sym (contains_key-keys m n)
-  where
-    same : (numbers : List ℕ) → is_one_of numbers (Int (pos n)) ≡ list_any (eq_by_cmp nat_cmp n) numbers
-    same [] = refl
-    same (one ∷ numbers) = ap₂ (λ a b. a || b) (let it : is_number one one (Int (pos n)) ≡ eq_by_cmp nat_cmp n one = grind (arith, nat_tests) in it) (same numbers)
-
-module _ (table : List Row) (marks : FinMap nat_cmp (List ℕ)) where
-  abbrev images : FinMap nat_cmp ImageRow
-  images = map_of image_sheet table
-
-  -- an accession in the register
-  one_registered : (e : ℕ × ImageRow) → as_row e.1 ≡ e.1 → registered_in (keys marks) (registered_shown e) ≡ registered (e.0, with_marks (get marks e.0) e.1)
-  one_registered e back = λ i. (
-    e.0,
-    record {
-      kind = (ap₂ kind_with (one_of_keys marks e.0) (ap (λ (image : ImageRow). image.kind) back) ∙ sym (kind_marked (get marks e.0) e.1)) i;
-      deed = deed_marked (get marks e.0) e.1 i;
-    },
-  )
-
-  all_registered : (es : List (ℕ × ImageRow)) → ((e : ℕ × ImageRow) → Has es e → as_row e.1 ≡ e.1) → map (registered_in (keys marks)) (map registered_shown es) ≡ map registered (map (λ e. (e.0, with_marks (get marks e.0) e.1)) es)
-  all_registered [] back = refl
-  all_registered (e ∷ es) back = ap₂ (λ r rs. r ∷ rs) (one_registered e (back e (inl refl))) (all_registered es (λ other there. back other (inr there)))
-
-  pub register_back : map (registered_in (keys marks)) (map registered_shown (entries images)) ≡ map registered (entries (joined images marks))
-  register_back = all_registered (entries images) (λ e here. row_back table e.0 e.1 (entry_got nat_cmp number_order images e.0 e.1 here)) ∙ ap (map registered) (sym (entries_joined images marks))
 
 module _ (digest : List ℕ) (table rows : List Row) where
   pub audience_found : Spells key_sheet table → IsPicked audience_query (Blob digest ∷ []) table rows → rows ≡ map audience_shown (option_to_list (get (map_of key_sheet table) digest))

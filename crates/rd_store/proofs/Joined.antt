@@ -2,12 +2,11 @@
 use Rattle.std.proofs.Common.{◌≡◌, inl, inr, ℕ, List, [], ◌∷◌, ◌&&◌, map, Bool, true, false, cond, T, Option, Some, None, option_map, is_some, refl, sym, ap, ap₂, subst, ◌∙◌, Ordering, nat_cmp, is_lt}
 use Rattle.std.specs.Option.{unwrap_or}
 use Rattle.std.specs.Ordering.{eq_by_cmp}
-use Rattle.std.specs.FinMap.{FinMap, get, entries, keys, insert, from_entries, get-entries, get-insert, get-from_entries, get-from_sorted, entries-from_sorted, entries_sorted, same_map}
+use Rattle.std.specs.FinMap.{FinMap, get, entries, insert, from_entries, get-entries, get-insert, get-from_entries, get-from_sorted, entries-from_sorted, entries_sorted, same_map}
 use Rattle.std.specs.FinMap.Entries.{find, is_sorted, below_all}
 use Rattle.std.proofs.lemmas.Bool.{cases_Bool}
 use Rattle.rd_geometry.specs.declared.kind.Kind.{Kind}
 use Rattle.rd_geometry.specs.declared.kind.Kind.TheVariants.{Cpm8, D64, D64e}
-use Rattle.rd_tables.proofs.Lists.{map_map}
 use Rattle.rd_tables.proofs.Entries.{IsKeyOrder, tie}
 use Rattle.rd_store.specs.declared.rows.ImageRow.{ImageRow}
 use Rattle.rd_store.specs.Codes.{kind_code, kind_in}
@@ -48,9 +47,6 @@ module _ {K X Y : Type 0} (cmp : K → K → Ordering) (order : IsKeyOrder cmp) 
   unfolding map_values
   get_made m q = get-from_sorted cmp (made (entries m)) q (sorted m) ∙ find_made q (entries m) ∙ ap (option_map (f q)) (sym (get-entries m q))
 
-  pub keys_made : (m : FinMap cmp X) → keys (map_values f m) ≡ keys m
-  keys_made m = ap (map (λ (e : K × Y). e.0)) (entries_made m) ∙ map_map (λ (e : K × Y). e.0) (λ (e : K × X). (e.0, f e.0 e.1)) (entries m)
-
 -- ---- images and error bytes
 
 abbrev pub Images : Type 0
@@ -65,9 +61,6 @@ module _ (images : Images) (marks : Marks) where
 
   pub entries_joined : entries (joined images marks) ≡ map (λ e. (e.0, with_marks (get marks e.0) e.1)) (entries images)
   entries_joined = entries_made nat_cmp number_order (λ acc image. with_marks (get marks acc) image) images
-
-  pub keys_joined : keys (joined images marks) ≡ keys images
-  keys_joined = keys_made nat_cmp number_order (λ acc image. with_marks (get marks acc) image) images
 
   -- what is there is there in both
   none_both : (found : Option ImageRow) (m : Option (List ℕ)) → option_map (with_marks m) found ≡ None → found ≡ None
@@ -171,23 +164,6 @@ module _ (images : Images) (marks : Marks) (acc : ℕ) where
 
   pub joined_nowhere : get images acc ≡ None → get (joined images marks) acc ≡ None
   joined_nowhere none = get_joined images marks acc ∙ ap (option_map (with_marks (get marks acc))) none
-
-  module _ {T : Type 0} (told : ImageRow → T) where
-    -- what a row tells, where there is one
-    pub row_told : (t : T) → Some t ≡ option_map told (get images acc) → (row : ImageRow) × (get images acc ≡ Some row) × (t ≡ told row)
-    row_told t is = go (get images acc) refl is
-      where
-        go : (found : Option ImageRow) → get images acc ≡ found → Some t ≡ option_map told found → (row : ImageRow) × (get images acc ≡ Some row) × (t ≡ told row)
-        go None none is = absurd cc
-        go (Some row) stands is = (row, stands, cc)
-
-    -- what is told where there is none
-    pub none_told : (other : ImageRow → T) → None ≡ option_map told (get images acc) → None ≡ option_map other (get (joined images marks) acc)
-    none_told other is = go (get images acc) refl is
-      where
-        go : (found : Option ImageRow) → get images acc ≡ found → None ≡ option_map told found → None ≡ option_map other (get (joined images marks) acc)
-        go None none is = sym (ap (option_map other) (joined_nowhere none))
-        go (Some row) stands is = absurd cc
 
 -- ---- an image that is put in two steps
 

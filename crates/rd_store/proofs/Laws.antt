@@ -7,11 +7,10 @@ use Rattle.sqlite.specs.State.{State, Survives}
 use Rattle.sqlite.specs.Held.{Held, state}
 use Rattle.sqlite.proofs.StateLemmas.{clean_if_open}
 use Rattle.rd_tables.specs.Schemas.{marks_table}
-use Rattle.rd_tables.specs.Sheets.{Spells}
 use Rattle.rd_store.specs.declared.faults.StoreFault.{StoreFault}
 use Rattle.rd_store.specs.declared.faults.StoreFault.TheVariants.{Sql}
 use Rattle.rd_store.specs.State.{Desk}
-use Rattle.rd_store.specs.Spelled.{desk_of, marks_sheet}
+use Rattle.rd_store.specs.Spelled.{desk_of}
 use Rattle.rd_store.specs.Opened.{HoldsMarksIf}
 use Rattle.rd_store.specs.Held.{Holds, IsLeft, HoldsDesk, HoldsTables, HoldsCommonTables, Asks, Changes, Lasts, LeavesOnly, LeavesOpen, Reads, Rests, Stays, IsOpen, IsClean, desk}
 
@@ -88,7 +87,7 @@ module _ {S : Type 0} (g : Ghosts S) (old new : Held S) (stays : Stays g old new
       record { schema = ap (λ (db : Database). db.schema) (stays.now is_open) ∙ was.schema; settled = stays.committed is_open ∙ was.settled ∙ sym (stays.now is_open); autocommit = stays.autocommit is_open }
 
   pub stays_marks : (is_marked : Bool) → HoldsMarksIf is_marked (state g old) → HoldsMarksIf is_marked (state g new)
-  stays_marks is_marked held is o = (stays_tables (λ was. (held is was).0) o, subst (λ (db : Database). Spells marks_sheet (db.trees 11)) (sym (stays.now o)) (held is (stays.lasts.was_open o)).1)
+  stays_marks is_marked held is = stays_tables (held is)
 
   pub stays_desk : HoldsDesk (state g old) → HoldsDesk (state g new)
   stays_desk held is_open = record {

@@ -23,3 +23,5 @@ pub mod Filed
 pub mod FilesTold
 pub mod Brought
 pub mod Judged
+pub mod Registers
+pub mod Walked

@@ -6,16 +6,15 @@ use Rattle.rd_tables.specs.Asked.{IsPicked}
 use Rattle.sqlite.specs.Schema.{Schema}
 use Rattle.sqlite.specs.Table.{Table}
 use Rattle.rd_tables.specs.Schemas.{desk_schema, desk_table, SharesFirstTable}
-use Rattle.rd_tables.proofs.QueryTexts.{all_deeds_asks, all_images_asks, all_rules_asks, all_keys_asks, all_checks_asks, all_files_asks, all_marks_asks}
+use Rattle.rd_tables.proofs.QueryTexts.{all_deeds_asks, all_rules_asks, all_keys_asks, all_checks_asks, all_files_asks, all_marks_asks}
 use Rattle.rd_tables.proofs.Reading.{shown_picks}
 use Rattle.rd_store.specs.declared.opening.Listing.{Listing}
-use Rattle.rd_store.specs.declared.opening.Listing.TheVariants.{Deeds, Images, Rules, Keys, Checks, Files, Marks}
+use Rattle.rd_store.specs.declared.opening.Listing.TheVariants.{Deeds, Rules, Keys, Checks, Files, Marks}
 use Rattle.rd_store.specs.Held.{IsReadable}
 use Rattle.rd_store.specs.Opened.{HasDeskFirst, HoldsListed, IsSettledAt, StartsWithDesk, listing_text, listing_query, listing_tree}
 
 pub listing_reads : (table : Listing) (s : State) → HoldsListed table s → IsTrue s.is_open → IsReadable (listing_text table) s
 listing_reads Deeds s held is_open = let at = held is_open in record { over = _; rests = at.rests; plain = (all_deeds_asks at.more).plain }
-listing_reads Images s held is_open = let at = held is_open in record { over = _; rests = at.rests; plain = (all_images_asks at.more).plain }
 listing_reads Rules s held is_open = let at = held is_open in record { over = _; rests = at.rests; plain = (all_rules_asks at.more).plain }
 listing_reads Keys s held is_open = let at = held is_open in record { over = _; rests = at.rests; plain = (all_keys_asks at.more).plain }
 listing_reads Checks s held is_open = let at = held is_open in record { over = _; rests = at.rests; plain = (all_checks_asks at.more).plain }
@@ -24,7 +23,6 @@ listing_reads Marks s held is_open = record { over = desk_schema; rests = held i
 
 pub listing_picks : (table : Listing) (old new : State) → HoldsListed table old → IsTrue old.is_open → (rows : List Row) → Shown (listing_text table) [] old new rows → IsPicked (listing_query table) [] (old.now.trees (listing_tree table)) rows
 listing_picks Deeds old new held is_open rows shown = let at = held is_open in shown_picks (all_deeds_asks at.more) [] old new at.rests.schema rows shown
-listing_picks Images old new held is_open rows shown = let at = held is_open in shown_picks (all_images_asks at.more) [] old new at.rests.schema rows shown
 listing_picks Rules old new held is_open rows shown = let at = held is_open in shown_picks (all_rules_asks at.more) [] old new at.rests.schema rows shown
 listing_picks Keys old new held is_open rows shown = let at = held is_open in shown_picks (all_keys_asks at.more) [] old new at.rests.schema rows shown
 listing_picks Checks old new held is_open rows shown = let at = held is_open in shown_picks (all_checks_asks at.more) [] old new at.rests.schema rows shown

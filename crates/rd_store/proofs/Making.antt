@@ -1,40 +1,35 @@
 -- What the statements make of a database of a desk.
-use Rattle.std.proofs.Common.{◌≡◌, ◌==◌, ◌+◌, ◌<◌, [], ◌∷◌, inl, inr, AllPairs, get_or, length, option_map, ℕ, ℤ, pos, List, filter, Bool, true, false, not, ◌&&◌, Some, None, refl, sym, ap, ap₂, subst, subst₂, ◌∙◌, IsTrue, Equal, nat_cmp, int_cmp, arith}
+use Rattle.std.proofs.Common.{◌≡◌, ◌==◌, ◌+◌, ◌<◌, [], ◌∷◌, inl, inr, AllPairs, get_or, length, option_map, ℕ, ℤ, pos, List, filter, Bool, true, false, not, ◌&&◌, Some, None, IsSome, refl, sym, ap, ap₂, subst, subst₂, ◌∙◌, nat_cmp, arith}
 use Rattle.std.specs.List.{AllByRecursion}
 use Rattle.std.specs.Ordering.{eq_by_cmp}
 use Rattle.std.specs.FinMap.{FinMap, get, insert, remove}
-use Rattle.std.proofs.lemmas.Cmp.{eq_by_cmp_equiv, nat_cmp_total}
 use Rattle.std.proofs.lemmas.Bool.Decides.{nat_tests}
 use Rattle.sqlite.specs.declared.types.Value.TheVariants.{Int, Blob}
 use Rattle.sqlite.specs.Collation.TheVariants.{Binary}
 use Rattle.sqlite.specs.Order.{Row, column}
-use Rattle.sqlite.specs.Tree.{put_row, rowid}
+use Rattle.sqlite.specs.Tree.{put_row, rowid, has_rowid}
 use Rattle.sqlite.specs.Effect.{Database, IsDatabase}
 use Rattle.sqlite.specs.Listing.{understood}
 use Rattle.sqlite.proofs.Callers.{statement_of}
 use Rattle.sqlite_sql.specs.Ops.{binary, is_true}
 use Rattle.sqlite_sql.specs.declared.ops.BinaryOp.TheVariants.{Compare}
 use Rattle.sqlite_sql.specs.declared.ops.CompareOp.TheVariants.{Eq}
-use Rattle.sqlite_trees.specs.View.{is_int}
-use Rattle.sqlite_rules.proofs.ListLemmas.{all_has}
-use Rattle.sqlite_value.proofs.OrderLemmas.{value_cmp-Int}
-use Rattle.sqlite_value.specs.Keys.{first_key}
 use Rattle.rd_geometry.specs.Blocks.{CBM_BLOCKS}
 use Rattle.rd_geometry.specs.declared.kind.Kind.{Kind}
 use Rattle.rd_geometry.specs.declared.kind.Kind.TheVariants.{Cpm8, D64, D64e}
 use Rattle.rd_policy.specs.declared.audience.Audience.{Audience}
 use Rattle.rd_tables.specs.Schemas.{desk_schema}
 use Rattle.rd_tables.specs.Sheets.{Sheet, Spells, SpellLawful, IsSpelled, HaveRowids, entry_of, map_of}
-use Rattle.rd_tables.specs.Statements.{put_deed_text, put_deed, put_image_text, put_image, put_marks_text, put_marks, put_rule_text, put_rule, drop_rule_text, drop_rule, put_key_text, put_key, drop_key_text, drop_key, put_check_text, put_check, drop_check_text, drop_check, put_file_text, put_file}
-use Rattle.rd_tables.proofs.Lists.{and_true, one_row}
-use Rattle.rd_tables.proofs.Values.{equal_numbers, equal_integers, equal_blobs}
+use Rattle.rd_tables.specs.Statements.{put_deed_text, put_deed, set_deed_text, set_deed, put_image_text, put_image, put_marks_text, put_marks, put_rule_text, put_rule, drop_rule_text, drop_rule, put_key_text, put_key, drop_key_text, drop_key, put_check_text, put_check, drop_check_text, drop_check, put_file_text, put_file}
+use Rattle.rd_tables.proofs.Lists.{and_true}
+use Rattle.rd_tables.proofs.Values.{same_numbers, equal_numbers, equal_integers, equal_blobs}
 use Rattle.rd_tables.proofs.Entries.{insert_removed}
-use Rattle.rd_tables.proofs.Changed.{spells_put, map_put, none_at, map_left, spells_left, none_left}
+use Rattle.rd_tables.proofs.Changed.{spells_put, map_put, none_at, one_at, map_left, spells_left, none_left}
 use Rattle.rd_tables.proofs.Removed.{rowids_left, rowids_put}
 use Rattle.rd_tables.proofs.Running.{Makes}
 use Rattle.rd_tables.proofs.Setting.{Sets, is_index_tree, not_taken}
-use Rattle.rd_tables.proofs.StatementTexts.{put_deed_writes, put_image_writes, put_marks_writes, put_rule_writes, drop_rule_writes, put_key_writes, drop_key_writes, put_check_writes, drop_check_writes, put_file_writes}
-use Rattle.rd_tables.proofs.Statements.{deed_params, deed_row, has_number, by_rowid, puts_deed, image_params, image_row, puts_image, marks_params, marks_row, puts_marks, place_params, has_place, drops_rule, rule_row, puts_rule, digest_params, has_digest, drops_key, key_params, key_row, puts_key, checkup_params, has_checkup, drops_check, check_params, check_row, puts_check, file_row, puts_file}
+use Rattle.rd_tables.proofs.StatementTexts.{put_deed_writes, set_deed_writes, put_image_writes, put_marks_writes, put_rule_writes, drop_rule_writes, put_key_writes, drop_key_writes, put_check_writes, drop_check_writes, put_file_writes}
+use Rattle.rd_tables.proofs.Statements.{deed_params, deed_row, has_number, puts_deed, sets_deed, image_params, image_row, puts_image, marks_params, marks_row, puts_marks, place_params, has_place, drops_rule, rule_row, puts_rule, digest_params, has_digest, drops_key, key_params, key_row, puts_key, checkup_params, has_checkup, drops_check, check_params, check_row, puts_check, file_row, puts_file}
 use Rattle.rd_store.specs.declared.rows.DeedRow.{DeedRow}
 use Rattle.rd_store.specs.declared.rows.ImageRow.{ImageRow}
 use Rattle.rd_store.specs.declared.rows.Outcome.{Outcome}
@@ -178,45 +173,50 @@ with_schema desk Index db of = of.schema
 
 -- ---- deeds
 
+-- a deed's number is its rowid
 number_at : (row : Row) → IsSpelled deed_sheet row → rowid row ≡ Int (pos (entry_of deed_sheet row).0)
 number_at row is = ap (λ s. column s 0) is
-
--- a deed's number is its rowid, so no two rows have one
-deed_rowids : (rows : List Row) → Spells deed_sheet rows → HaveRowids rows
-deed_rowids rows spells = record {
-  keyed = λ row here. subst (λ v. IsTrue (is_int v)) (sym (number_at row (all_has (IsSpelled deed_sheet) rows row spells.spelled here))) refl;
-  apart = λ row other here there tie.
-      let one = number_at row (all_has (IsSpelled deed_sheet) rows row spells.spelled here) in
-      let two = number_at other (all_has (IsSpelled deed_sheet) rows other spells.spelled there) in
-      one_row (eq_by_cmp nat_cmp) (eq_by_cmp_equiv nat_cmp_total).symm (λ r. (entry_of deed_sheet r).0) rows spells.apart row other here there
-      (tied (entry_of deed_sheet row).0 (entry_of deed_sheet other).0 (sym (value_cmp-Int _ _) ∙ (rw (one, two) at tie)));
-}
-  where
-    tied : (a b : ℕ) → int_cmp (pos a) (pos b) ≡ Equal → eq_by_cmp nat_cmp a b ≡ true
-    tied a b e = grind (arith, nat_tests)
 
 module _ (num : ℕ) (deed : DeedRow) where
   abbrev new_deed : Row
   new_deed = deed_row num deed.donor deed.signed
 
+  -- the row of the number, by the test of WHERE and by its rowid
   numbered : (row : Row) → IsSpelled deed_sheet row → has_number num deed.donor deed.signed row ≡ eq_by_cmp nat_cmp num (entry_of deed_sheet row).0
-  unfolding first_key
   numbered row is = and_true _ ∙ rw (number_at row is) (equal_numbers (entry_of deed_sheet row).0 num)
 
-  pub makes_deed : (desk : Desk) → Makes desk_schema put_deed_text put_deed put_deed_writes (deed_params num deed.donor deed.signed) (IsOf desk) (IsOf (with_deed num deed desk))
-  makes_deed desk limit db after tally of does sound =
+  has_id : (row : Row) → IsSpelled deed_sheet row → has_rowid (pos num) row ≡ eq_by_cmp nat_cmp num (entry_of deed_sheet row).0
+  has_id row is = rw (number_at row is) (same_numbers (entry_of deed_sheet row).0 num)
+
+  -- where one stands
+  pub makes_deed : (desk : Desk) → IsSome (get desk.deeds num) → Makes desk_schema set_deed_text set_deed set_deed_writes (deed_params num deed.donor deed.signed) (IsOf desk) (IsOf (with_deed num deed desk))
+  makes_deed desk stands limit db after tally of does sound =
       let rows = db.trees 1 in
       let spells = of.rows.deeds in
-      let h = puts_deed num deed.donor deed.signed (statement_of put_deed_text (understood desk_schema put_deed_text)) limit db after tally of.schema (deed_rowids rows spells) does in
-      let test = has_number num deed.donor deed.signed in
-      let left = spells_left deed_sheet number_order num test rows spells numbered in
-      let none = none_left deed_sheet number_order num test rows spells numbered in
-      let free = not_taken test new_deed (by_rowid num deed.donor deed.signed) rows in
+      let there : IsSome (get (map_of deed_sheet rows) num) = subst (λ (d : Desk). IsSome (get d.deeds num)) (sym of.is) stands in
+      let one = one_at deed_sheet number_order num (has_number num deed.donor deed.signed) rows spells numbered there in
+      let h = sets_deed num deed.donor deed.signed (statement_of set_deed_text (understood desk_schema set_deed_text)) limit db after tally of.schema one.0 one.1 (number_at one.0 one.2 ∙ ap (λ n. Int (pos n)) (sym one.3)) does in
+      let test = has_rowid (pos num) in
+      let left = spells_left deed_sheet number_order num test rows spells has_id in
+      let none = none_left deed_sheet number_order num test rows spells has_id in
+      let free = not_taken test new_deed (λ row. refl) rows in
       let kept = filter (λ row. not (test row)) rows in
       let put = spells_put deed_sheet number_order new_deed kept left refl none free in
-      let are = map_put deed_sheet number_order new_deed kept left refl none free ∙ ap (λ m. insert m num deed) (map_left deed_sheet number_order num test rows spells numbered)
+      let are = map_put deed_sheet number_order new_deed kept left refl none free ∙ ap (λ m. insert m num deed) (map_left deed_sheet number_order num test rows spells has_id)
       ∙ insert_removed nat_cmp number_order (map_of deed_sheet rows) num deed ∙ ap (λ (d : Desk). insert d.deeds num deed) of.is in
       of_deeds desk (IsIndexOf desk.images) db after (put_row new_deed kept) of sound h put (insert desk.deeds num deed) are
+
+  -- where none stands
+  pub makes_new_deed : (desk : Desk) → get desk.deeds num ≡ None → Makes desk_schema put_deed_text put_deed put_deed_writes (deed_params num deed.donor deed.signed) (IsOf desk) (IsOf (with_deed num deed desk))
+  makes_new_deed desk free limit db after tally of does sound =
+      let rows = db.trees 1 in
+      let spells = of.rows.deeds in
+      let h = puts_deed num deed.donor deed.signed (statement_of put_deed_text (understood desk_schema put_deed_text)) limit db after tally of.schema does in
+      let apart : get (map_of deed_sheet rows) num ≡ None = ap (λ (d : Desk). get d.deeds num) of.is ∙ free in
+      let none = none_at deed_sheet number_order num rows apart in
+      let put = spells_put deed_sheet number_order new_deed rows spells refl none h.0 in
+      let are = map_put deed_sheet number_order new_deed rows spells refl none h.0 ∙ ap (λ (d : Desk). insert d.deeds num deed) of.is in
+      of_deeds desk (IsIndexOf desk.images) db after (put_row new_deed rows) of sound h.1 put (insert desk.deeds num deed) are
 
 -- ---- images
 

@@ -1,5 +1,5 @@
 -- The orders of the keys, and that columns spell the entry that they come from.
-use Rattle.std.proofs.Common.{◌≡◌, ◌+◌, ◌*◌, map, ◌/◌, ◌%◌, ◌∙◌, ap₂, ℕ, zero, suc, ℤ, pos, List, [], ◌∷◌, Bool, Option, Some, None, true, false, option_map, refl, sym, arith, nat_cmp}
+use Rattle.std.proofs.Common.{◌≡◌, ◌+◌, ◌*◌, map, ◌/◌, ◌%◌, ap₂, ℕ, zero, suc, ℤ, pos, List, [], ◌∷◌, Bool, Option, Some, None, true, false, option_map, refl, arith, nat_cmp}
 use Rattle.std.specs.FinMap.{nat_cmp-IsAntisymmetric, int_cmp-IsAntisymmetric, slice_cmp-IsAntisymmetric}
 use Rattle.std.proofs.lemmas.Cmp.{nat_cmp_total, nat_list_cmp_total, int_cmp_total, then_total, on_total}
 use Rattle.sqlite.specs.declared.types.Value.TheVariants.{Int}

@@ -1,11 +1,12 @@
 -- What a query leaves of a connection.
-use Rattle.std.proofs.Common.{◌≡◌, inl, inr, ℕ, List, IsTrue, sym, ◌∙◌}
+use Rattle.std.proofs.Common.{◌≡◌, inl, inr, ℕ, List, [], IsTrue, sym, ◌∙◌}
 use Rattle.sqlite.specs.Order.{Row}
 use Rattle.sqlite.specs.Store.{Ghosts}
 use Rattle.sqlite.specs.Schema.{Schema}
 use Rattle.sqlite.specs.declared.error.Error.{Error}
-use Rattle.sqlite.specs.State.{State, IsUnchanged, IsRolledBack, FailsToQuery, Shown, Survives, CommitsShowing}
+use Rattle.sqlite.specs.State.{State, IsUnchanged, IsRolledBack, IsNotRun, FailsToQuery, Shown, Survives, CommitsShowing}
 use Rattle.sqlite.specs.Held.{Held, state}
+use Rattle.sqlite.proofs.StateLemmas.{survives_weaker}
 use Rattle.rd_tables.proofs.Reading.{query_fails, shown_was_open, shown_unchanged, read_survives}
 use Rattle.rd_store.specs.Held.{RestsOver, IsReadable, Stays, IsOpen, IsClean}
 use Rattle.rd_store.proofs.Laws.{Laws, clean_at, lasts_of}
@@ -46,3 +47,15 @@ module _ {S : Type 0} (g : Ghosts S) (laws : Laws g) (text : List ℕ) (params :
     | inl same ↦ unchanged (state g old) (state g new) same
     | inr back ↦ undone (state g old) (state g new) (readable (back.was_open is_open)).rests is_open back
   ])
+
+-- a text that was compiled, and not run
+module _ {S : Type 0} (g : Ghosts S) (laws : Laws g) (text : List ℕ) (old new : Held S) (readable : IsOpen g old → IsReadable text (state g old)) (survives : Survives (state g old) (state g new) (λ _. ⊥)) where
+  weaker : Survives (state g old) (state g new) (CommitsShowing text [] (state g old))
+  weaker = survives_weaker (state g old) (state g new) (λ _. ⊥) (CommitsShowing text [] (state g old)) (λ clean trees none. absurd none) survives
+
+  pub prepared_stays : (IsClean g new → IsUnchanged (state g old) (state g new)) → Stays g old new
+  prepared_stays same = stays g laws text [] old new readable weaker (λ is_open. unchanged (state g old) (state g new) (same (clean_at g laws new is_open)))
+
+  pub not_prepared_stays : (e : Error) → (IsClean g new → IsNotRun (state g old) (state g new) text [] e) → Stays g old new
+  unfolding FailsToQuery
+  not_prepared_stays e fails = failed_stays g laws text [] old new readable weaker e (λ clean. inl (fails clean))

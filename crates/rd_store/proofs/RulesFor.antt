@@ -10,6 +10,7 @@ use Rattle.sqlite_rules.specs.Lists.{Has}
 use Rattle.sqlite_rules.proofs.ListLemmas.{all_from}
 use Rattle.rd_policy.specs.Neighbours.{ComesFirst}
 use Rattle.rd_policy.specs.Verdicts.{AreInOrder}
+use Rattle.rd_policy.specs.declared.audience.Audience.{Audience}
 use Rattle.rd_policy.specs.declared.rule.Band.{Band}
 use Rattle.rd_policy.specs.declared.rule.Band.TheVariants.{Takedown, Deed}
 use Rattle.rd_policy.specs.declared.rule.Rule.{Rule}
@@ -17,9 +18,9 @@ use Rattle.rd_tables.proofs.Lists.{both, in_map, from_map}
 use Rattle.rd_tables.proofs.Entries.{entry_got, got_entry}
 use Rattle.rd_store.specs.Codes.{band_code, is_at}
 use Rattle.rd_store.specs.declared.rows.ImageRow.{ImageRow}
-use Rattle.rd_store.specs.State.{Desk, Place, Terms, place_cmp, place_of, terms_of, rule_of, rules_at, rules_with, rules_for}
+use Rattle.rd_store.specs.State.{Desk, Place, Terms, digest_cmp, place_cmp, place_of, terms_of, rule_of, rules_at, rules_with, rules_for}
 use Rattle.rd_store.specs.RulesFor.{IsAbout, IsRuleFor}
-use Rattle.rd_store.proofs.Orders.{place_order, same_band}
+use Rattle.rd_store.proofs.Orders.{digest_order, place_order, same_band}
 
 -- ---- lists
 
@@ -178,3 +179,12 @@ module _ (desk : Desk) (acc : ℕ) (rule : Rule) where
       go : (band : Band) (scope : ℕ) → rule.band ≡ band → rule.scope ≡ scope → IsAbout acc is.image.deed band scope → Contains (rules_at desk Takedown acc ++ rules_at desk Deed is.image.deed) rule
       go Takedown scope of_band of_scope about = Contains-append_left _ _ rule (contains_from_has _ rule (listed_here desk Takedown acc rule is.stands of_band (of_scope ∙ about)))
       go Deed scope of_band of_scope about = Contains-append_right _ _ rule (contains_from_has _ rule (listed_here desk Deed is.image.deed rule is.stands of_band (of_scope ∙ about)))
+
+-- ---- keys
+
+-- a key stands exactly where it is an entry
+pub key_stands : (desk : Desk) (digest : List ℕ) (audience : Audience) → Contains (entries desk.keys) (digest, audience) → get desk.keys digest ≡ Some audience
+key_stands desk digest audience there = entry_got digest_cmp digest_order desk.keys digest audience (has_from_contains (entries desk.keys) (digest, audience) there)
+
+pub key_listed : (desk : Desk) (digest : List ℕ) (audience : Audience) → get desk.keys digest ≡ Some audience → Contains (entries desk.keys) (digest, audience)
+key_listed desk digest audience is = contains_from_has (entries desk.keys) (digest, audience) (got_entry digest_cmp digest_order desk.keys digest audience is)

@@ -26,6 +26,7 @@ use Rattle.rd_store.specs.Spelled.{deed_sheet, image_sheet, marks_sheet, rule_sh
 use Rattle.rd_store.specs.Lawful.{IsDeed, IsKey}
 use Rattle.rd_store.specs.Opened.{AreMarksOf, IsImageOf, IsRuleOf, IsCheckOf, StandsAmong}
 use Rattle.rd_store.specs.Cells.{is_number, is_one_of, is_size_of, blob_name, is_band, HasParts, IsDeedRow, IsImageRow, IsMarksRow, IsSelectAt, IsRuleRow, IsKeyRow, IsCheckRow}
+use Rattle.rd_store.specs.Walked.{image_read}
 use Rattle.rd_store.proofs.Columns.{number_spelled, number_shown, one_of_spelled, one_of_shown, day_spelled, day_shown, some_day_spelled, some_day_shown, digest_spelled, digest_shown, donor_spelled, word_spelled}
 
 either : (a b : Bool) → (a || b) ≡ true → (a ≡ true) ⊎ (b ≡ true)
@@ -105,11 +106,7 @@ is_size : (code n : ℕ) → n ≡ size_of (kind_in code) → is_size_of (Int (p
 is_size zero n is = rw is refl
 is_size (suc code) n is = rw is refl
 
--- what a listing shows of an image
-abbrev pub image_listed : Row → Row
-image_listed row = column row 0 ∷ column row 2 ∷ column row 3 ∷ column row 4 ∷ unary Length (column row 5) ∷ unary TypeOf (column row 5) ∷ []
-
-pub image_to : (deeds : List ℕ) (row : Row) → IsImageRow deeds (image_listed row) → IsSpelled image_sheet row × IsImageOf deeds (entry_of image_sheet row)
+pub image_to : (deeds : List ℕ) (row : Row) → IsImageRow deeds (image_read row) → IsSpelled image_sheet row × IsImageOf deeds (entry_of image_sheet row)
 image_to deeds row q =
     let acc = number_spelled 1 999_999 (column row 0) q.acc in
     let deed = one_of_spelled deeds (column row 3) q.deed in
@@ -118,10 +115,10 @@ image_to deeds row q =
     let size = size_is (column row 2) (length (bytes (column row 5))) (subst (λ v. is_size_of (column row 2) v ≡ true) (ap (unary Length) blob ∙ length_of_blob (bytes (column row 5))) q.size) in
     (λ i. acc.0 i ∷ size.0 i ∷ deed.0 i ∷ digest.0 i ∷ blob i ∷ [], (record { scope = (acc.1, acc.2); digest = digest.1; bytes = size.1 }, deed.1))
 
-pub image_from : (deeds : List ℕ) (row : Row) → IsSpelled image_sheet row → IsImageOf deeds (entry_of image_sheet row) → IsImageRow deeds (image_listed row)
+pub image_from : (deeds : List ℕ) (row : Row) → IsSpelled image_sheet row → IsImageOf deeds (entry_of image_sheet row) → IsImageRow deeds (image_read row)
 image_from deeds row is lawful =
     let e = entry_of image_sheet row in
-    subst (λ s. IsImageRow deeds (column s 0 ∷ column s 1 ∷ column s 2 ∷ column s 3 ∷ unary Length (column s 4) ∷ unary TypeOf (column s 4) ∷ [])) (sym is) (record {
+    subst (λ s. IsImageRow deeds (column s 0 ∷ column s 1 ∷ column s 2 ∷ column s 3 ∷ unary Length (column s 4) ∷ unary TypeOf (column s 4) ∷ column s 4 ∷ [])) (sym is) (record {
       acc = number_shown 1 999_999 e.0 lawful.0.scope.0 lawful.0.scope.1;
       deed = one_of_shown deeds e.1.deed lawful.1;
       digest = digest_shown e.1.digest lawful.0.digest;

@@ -144,6 +144,9 @@ module _ (accessions : List ℕ) (table rows : List Row) (listed : IsListed all_
   pub marks_told : (b : Bool) → MatchBool b (All (IsMarksRow accessions) rows) (¬ All (IsMarksRow accessions) rows) → MatchBool b (SpellLawful marks_sheet (AreMarksOf accessions) table) (¬ SpellLawful marks_sheet (AreMarksOf accessions) table)
   marks_told = told marks_sheet number_order (AreMarksOf accessions) (IsMarksRow accessions) 11 _ _ table rows (marks_to accessions) (marks_from accessions) listed marks_ties
 
+  pub marks_shown_lawful : SpellLawful marks_sheet (AreMarksOf accessions) table → All (IsMarksRow accessions) rows
+  marks_shown_lawful = lawful_told marks_sheet number_order (AreMarksOf accessions) (IsMarksRow accessions) 11 _ _ table rows (marks_to accessions) (marks_from accessions) listed marks_ties
+
   pub marked_numbers : SpellLawful marks_sheet (AreMarksOf accessions) table → AreKeys (map_of marks_sheet table) (map (λ row. natural (column row 0)) rows)
   marked_numbers lawful =
       are_keys marks_sheet table _ (keys_told marks_sheet number_order (AreMarksOf accessions) (IsMarksRow accessions) 11 _ _ table rows (marks_to accessions) (marks_from accessions) listed marks_ties (λ n. n) (λ row. refl) lawful)

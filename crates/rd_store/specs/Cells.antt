@@ -66,6 +66,12 @@ pub record IsImageRow (deeds : List ℕ) (row : Row) : Type 0 where
   pub size : is_size_of (column row 1) (column row 4) ≡ true
   pub kind_of : column row 5 ≡ Text blob_name
 
+-- The row shows that an accession, whichever it is, has error bytes, one for each block.
+pub record HasErrorBytes (row : Row) : Type 0 where
+  pub acc : is_number 1 999_999 (column row 0) ≡ true
+  pub count : is_number 683 683 (column row 1) ≡ true
+  pub kind_of : column row 2 ≡ Text blob_name
+
 -- Of the error bytes of an accession the row shows the count and the type.
 pub record IsMarksRow (accessions : List ℕ) (row : Row) : Type 0 where
   pub acc : is_one_of accessions (column row 0) ≡ true

@@ -6,8 +6,10 @@ pub mod Marks
 pub mod Spelled
 pub mod Held
 pub mod Shown
+pub mod Register
 pub mod Created
 pub mod Cells
 pub mod Opened
+pub mod Walked
 pub mod Migrated
 pub mod RulesFor

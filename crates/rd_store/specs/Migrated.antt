@@ -10,10 +10,12 @@ use Rattle.rd_store.specs.declared.faults.OpenFault.{OpenFault}
 use Rattle.rd_store.specs.declared.faults.OpenFault.TheVariants.{NotADesk, Version as OtherVersion, Inconsistent, Sql}
 use Rattle.rd_store.specs.declared.version.Version.{Version}
 use Rattle.rd_store.specs.declared.version.Version.TheVariants.{First, Second}
+use Rattle.rd_store.specs.declared.register.Register.{Register}
 use Rattle.rd_store.specs.State.{Desk}
 use Rattle.rd_store.specs.Lawful.{IsLawful}
 use Rattle.rd_store.specs.Index.{IsIndexOf}
 use Rattle.rd_store.specs.Spelled.{SpellDesk, HasVersion, HaveOwnRowids, desk_of, index_of, unmarked}
+use Rattle.rd_store.specs.Register.{listed, register_of}
 use Rattle.rd_store.specs.Created.{IsUntouched}
 use Rattle.rd_store.specs.Held.{IsOpen, IsClean, IsLeft, Lasts, LeavesOld, LeavesOnly, desk as desk_at}
 use Rattle.rd_store.specs.Opened.{HasDeskFirst, IsConsistent, IsConsistentAs, IsHeld}
@@ -106,3 +108,12 @@ pub record IsHeldFirst (db : Database) : Type 0 where
 abbrev pub IsHeldIn : Version → Database → Type 0
 IsHeldIn First = IsHeldFirst
 IsHeldIn Second = IsHeld
+
+-- the desk that the tables of this version spell
+abbrev pub desk_in : Version → Trees → Desk
+desk_in First trees = first_desk trees
+desk_in Second trees = desk_of trees
+
+-- the register is that of its images
+abbrev pub IsRegisterIn : Version → Trees → Register → Type 0
+IsRegisterIn version trees register = listed register ≡ register_of (desk_in version trees).images

@@ -1,5 +1,5 @@
 -- When a database is that of a desk, and why it is not opened as one.
-use Rattle.std.specs.Prelude.{◌≡◌, ◌≢◌, ◌↔◌, ℕ, pos, List, length, Bool, true, false, Option, Some, None, IsSome, option_map, IsTrue, Result, Ok, Err, IfOk, IfErr, MatchBool, ⊤}
+use Rattle.std.specs.Prelude.{◌≡◌, ◌≢◌, ◌↔◌, ℕ, pos, List, map, length, Bool, true, false, Option, Some, None, IsSome, option_map, IsTrue, Result, Ok, Err, IfOk, IfErr, MatchBool, ⊤}
 use Rattle.std.specs.Ordering.{nat_cmp}
 use Rattle.std.specs.FinMap.{FinMap, get}
 use Rattle.sqlite.specs.declared.types.Value.TheVariants.{Int}
@@ -42,7 +42,7 @@ use Rattle.rd_store.specs.Index.{AreFilesIn, IsFileIn, IsIndexOf}
 use Rattle.rd_store.specs.Marks.{with_marks}
 use Rattle.rd_store.specs.Spelled.{SpellDesk, HasVersion, desk_of, images_of, index_of, deed_sheet, image_sheet, marks_sheet, rule_sheet, key_sheet, check_sheet, file_sheet}
 use Rattle.rd_store.specs.Created.{IsUntouched}
-use Rattle.rd_store.specs.Held.{RestsOver, HasTables, HoldsTables, HoldsCommonTables, Holds, IsOpen, IsClean, Lasts, LeavesOld, LeavesOnly, LeavesOpen, Stays, desk as desk_at}
+use Rattle.rd_store.specs.Held.{RestsOver, HoldsTables, HoldsCommonTables, Holds, IsOpen, IsClean, Lasts, LeavesOld, LeavesOnly, LeavesOpen, Stays, desk as desk_at}
 
 -- The rows spell a desk of this version, it is a lawful one, and the index is that of its images.
 pub record IsConsistentAs (number : ℕ) (trees : Trees) : Type 0 where
@@ -198,7 +198,6 @@ IsSaid None rows = ¬ HasVersion 1 rows × ¬ HasVersion 2 rows
 
 abbrev pub listing_text : Listing → List ℕ
 listing_text all.Deeds = ask.all_deeds_text
-listing_text all.Images = ask.all_images_text
 listing_text all.Rules = ask.all_rules_text
 listing_text all.Keys = ask.all_keys_text
 listing_text all.Checks = ask.all_checks_text
@@ -207,7 +206,6 @@ listing_text all.Marks = ask.all_marks_text
 
 abbrev pub listing_query : Listing → Query
 listing_query all.Deeds = ask.all_deeds_query
-listing_query all.Images = ask.all_images_query
 listing_query all.Rules = ask.all_rules_query
 listing_query all.Keys = ask.all_keys_query
 listing_query all.Checks = ask.all_checks_query
@@ -216,7 +214,6 @@ listing_query all.Marks = ask.all_marks_query
 
 abbrev pub listing_tree : Listing → ℕ
 listing_tree all.Deeds = 1
-listing_tree all.Images = 2
 listing_tree all.Rules = 3
 listing_tree all.Keys = 5
 listing_tree all.Checks = 7
@@ -226,7 +223,6 @@ listing_tree all.Marks = 11
 -- the tables that a listing wants
 abbrev pub HoldsListed : Listing → State → Type 0
 HoldsListed all.Deeds = HoldsCommonTables
-HoldsListed all.Images = HoldsCommonTables
 HoldsListed all.Rules = HoldsCommonTables
 HoldsListed all.Keys = HoldsCommonTables
 HoldsListed all.Checks = HoldsCommonTables
@@ -296,9 +292,9 @@ pub record HasDisk (acc : ℕ) (trees : Trees) : Type 0 where
 abbrev pub HasDiskIf : Bool → ℕ → Trees → Type 0
 HasDiskIf is_marked acc trees = IsTrue is_marked → HasDisk acc trees
 
--- error bytes can be asked for
+-- the table of error bytes is there to be asked, where an image has any
 abbrev pub HoldsMarksIf : Bool → State → Type 0
-HoldsMarksIf is_marked s = IsTrue is_marked → IsTrue s.is_open → HasTables s × Spells marks_sheet (s.now.trees 11)
+HoldsMarksIf is_marked s = IsTrue is_marked → HoldsTables s
 
 abbrev pub HoldsMarksOf : List ℕ → State → Type 0
 HoldsMarksOf marked s = (acc : ℕ) → HoldsMarksIf (is_among marked acc) s

@@ -3,10 +3,12 @@ ghost use Rattle.std.specs.FinMap.{get};
 ghost use Rattle.sqlite.specs.Held.{state};
 ghost use Rattle.rd_policy.specs.Days.{IsDay};
 ghost use Rattle.rd_store.specs.Held.{Changes, HoldsDesk, IsOf, IsOpen, Judges, Moves, desk};
+ghost use Rattle.rd_store.specs.Register.{IsRegisterOf};
 ghost use Rattle.rd_store.specs.State.{with_check, without_check};
 
 use crate::faults::StoreFault;
 use crate::outside::outside;
+use crate::register::Register;
 use crate::rows::Outcome;
 use crate::{codes, images};
 use sqlite::{Alter, Connection, Error, Transaction, params};
@@ -67,18 +69,20 @@ fn write_check<S: Alter>(
 /// fails or memory runs out.
 pub(crate) fn put_check<S: Alter>(
     conn: &mut Connection<S>,
+    register: &Register,
     acc: u32,
     day: i32,
     outcome: Outcome,
 ) -> Result<(), StoreFault>
     requires holds { HoldsDesk (state S.Store conn.old) }
+    requires listed { IsRegisterOf S.Store conn.old register.now }
     requires day { IsDay day }
     ensures kept { HoldsDesk (state S.Store conn.new) }
     ensures changes { Changes S.Store conn.old conn.new (with_check acc day outcome (desk S.Store conn.old)) result }
     ensures judges { Judges S.Store conn.new result (IsSome (get (desk S.Store conn.old).images acc)) ⊥ }
     ensures fault { IfErr result (λ fault. fault ≢ StoreFault.Conflict) }
 {
-    if images::deed_of(conn, acc)?.is_none() {
+    if !images::stands(conn, register, acc)? {
         return Err(StoreFault::Missing);
     }
     outside(conn)?;

@@ -1,14 +1,15 @@
-ghost use Rattle.std.specs.Prelude.{◌≡◌, IfOk, IfErr, map, false};
+ghost use Rattle.std.specs.Prelude.{◌≡◌, IfOk, IfErr, IsSome, None, is_some, map, false};
 ghost use Rattle.std.specs.FinMap.{get};
 ghost use Rattle.std.specs.Option.{option_to_list};
 ghost use Rattle.sqlite.specs.Held.{state};
-ghost use Rattle.rd_store.specs.Held.{Asks, Changes, HoldsDesk, desk};
+ghost use Rattle.rd_store.specs.Held.{Asks, Changes, HoldsDesk, IsOpen, desk};
 ghost use Rattle.rd_store.specs.Lawful.{IsDeed};
 ghost use Rattle.rd_store.specs.Shown.{deed_shown};
 ghost use Rattle.rd_store.specs.State.{with_deed};
 
 use crate::decode::{day_at, text_at};
 use crate::faults::StoreFault;
+use crate::outside::outside;
 use crate::read::read_all;
 use crate::rows::DeedRow;
 use rd_geometry::Text;
@@ -57,8 +58,8 @@ pub(crate) fn deed<S: Alter>(
     }
 }
 
-/// Puts a deed, in place of one with its number.
-pub(crate) fn insert_deed<S: Alter>(
+/// Writes a deed in place of the one with its number.
+fn update_deed<S: Alter>(
     conn: &mut Connection<S>,
     num: u32,
     donor: &str,
@@ -67,12 +68,80 @@ pub(crate) fn insert_deed<S: Alter>(
     requires mode { conn.old.in_transaction ≡ false }
     requires holds { HoldsDesk (state S.Store conn.old) }
     requires deed { IsDeed num (record { donor = donor.now; signed = signed }) }
+    requires stands { IsOpen S.Store conn.old → IsSome (get (desk S.Store conn.old).deeds num) }
     ensures kept { HoldsDesk (state S.Store conn.new) }
     ensures changes { Changes S.Store conn.old conn.new
         (with_deed num (record { donor = donor.now; signed = signed }) (desk S.Store conn.old)) result }
 {
     conn.execute(
-        "INSERT OR REPLACE INTO deed (num, donor, signed) VALUES (?1, ?2, ?3)",
+        "UPDATE deed SET donor = ?2, signed = ?3 WHERE num = ?1",
         params![num, donor, signed],
     )
+}
+
+/// Puts a deed where none stands.
+fn insert_deed<S: Alter>(
+    conn: &mut Connection<S>,
+    num: u32,
+    donor: &str,
+    signed: i32,
+) -> Result<usize, Error>
+    requires mode { conn.old.in_transaction ≡ false }
+    requires holds { HoldsDesk (state S.Store conn.old) }
+    requires deed { IsDeed num (record { donor = donor.now; signed = signed }) }
+    requires free { IsOpen S.Store conn.old → get (desk S.Store conn.old).deeds num ≡ None }
+    ensures kept { HoldsDesk (state S.Store conn.new) }
+    ensures changes { Changes S.Store conn.old conn.new
+        (with_deed num (record { donor = donor.now; signed = signed }) (desk S.Store conn.old)) result }
+{
+    conn.execute(
+        "INSERT INTO deed (num, donor, signed) VALUES (?1, ?2, ?3)",
+        params![num, donor, signed],
+    )
+}
+
+/// Puts a deed, in place of the one with its number if it `stands`. The images that refer to it are not looked
+/// at: an UPDATE keeps its number, while REPLACE would take it out first and look for them.
+fn write_deed<S: Alter>(
+    conn: &mut Connection<S>,
+    stands: bool,
+    num: u32,
+    donor: &str,
+    signed: i32,
+) -> Result<usize, Error>
+    requires mode { conn.old.in_transaction ≡ false }
+    requires holds { HoldsDesk (state S.Store conn.old) }
+    requires deed { IsDeed num (record { donor = donor.now; signed = signed }) }
+    requires stands { IsOpen S.Store conn.old → stands ≡ is_some (get (desk S.Store conn.old).deeds num) }
+    ensures kept { HoldsDesk (state S.Store conn.new) }
+    ensures changes { Changes S.Store conn.old conn.new
+        (with_deed num (record { donor = donor.now; signed = signed }) (desk S.Store conn.old)) result }
+{
+    if stands {
+        update_deed(conn, num, donor, signed)
+    } else {
+        insert_deed(conn, num, donor, signed)
+    }
+}
+
+/// Puts a deed, in place of one with its number.
+pub(crate) fn put_deed<S: Alter>(
+    conn: &mut Connection<S>,
+    num: u32,
+    donor: &str,
+    signed: i32,
+) -> Result<(), StoreFault>
+    requires holds { HoldsDesk (state S.Store conn.old) }
+    requires deed { IsDeed num (record { donor = donor.now; signed = signed }) }
+    ensures kept { HoldsDesk (state S.Store conn.new) }
+    ensures changes { Changes S.Store conn.old conn.new
+        (with_deed num (record { donor = donor.now; signed = signed }) (desk S.Store conn.old)) result }
+    ensures fault { IfErr result (λ fault. fault ≡ StoreFault.Sql) }
+{
+    let found = deed(conn, num)?;
+    outside(conn)?;
+    match write_deed(conn, found.is_some(), num, donor, signed) {
+        Ok(_) => Ok(()),
+        Err(_) => Err(StoreFault::Sql),
+    }
 }

@@ -1,6 +1,5 @@
-ghost use Rattle.std.specs.Prelude.{◌≡◌, ◌∷◌, [], IfOk, IfErr, IsSome, Option, None, length, map, option_map, pos, false};
+ghost use Rattle.std.specs.Prelude.{◌≡◌, ◌∷◌, [], IfOk, IfErr, IsSome, MatchBool, Option, None, length, map, option_map, pos, false};
 ghost use Rattle.std.specs.FinMap.{entries, get, keys};
-ghost use Rattle.std.specs.List.Sorted.{IsNonDecreasing};
 ghost use Rattle.std.specs.Option.{option_to_list};
 ghost use Rattle.sqlite.specs.Held.{state};
 ghost use Rattle.sqlite.specs.declared.types.Value.TheVariants.{Int};
@@ -14,17 +13,18 @@ ghost use Rattle.rd_tables.specs.Sheets.{Spells, map_of, natural};
 ghost use Rattle.rd_store.specs.Held.{Asks, Changes, HoldsCommonTables, HoldsDesk, IsOfWith, IsOpen, Judges, LacksImage, Moves, desk};
 ghost use Rattle.rd_store.specs.Index.{IsFiledTo, with_new_image};
 ghost use Rattle.rd_store.specs.Lawful.{IsImage};
-ghost use Rattle.rd_store.specs.Shown.{accession_of, as_row, accession_shown, given_shown, image_shown, image_with, heading_of, heading_shown, registered, registered_in, registered_shown};
+ghost use Rattle.rd_store.specs.Register.{IsRegisterOf, IsSameHeading};
+ghost use Rattle.rd_store.specs.Shown.{accession_of, as_row, image_shown, image_with, registered};
 ghost use Rattle.rd_store.specs.Spelled.{image_sheet};
 ghost use Rattle.rd_store.specs.State.{HasOtherImage, with_image};
 
-use crate::cells::has_one_of;
 use crate::decode::{bytes_at, digest_at, kind, number_at};
 use crate::faults::StoreFault;
 use crate::files::insert_files;
-use crate::marks::{insert_marks, kind_at, kind_with, marked, marked_image};
-use crate::outside::outside;
-use crate::read::{read_all, read_over};
+use crate::marks::{insert_marks, marked_image};
+use crate::outside::{outside, stays_open};
+use crate::read::read_over;
+use crate::register::{Register, given};
 use crate::rows::{Accession, ImageRow};
 use crate::{codes, deeds};
 use rd_geometry::{Image, Items, Kind};
@@ -34,7 +34,7 @@ use sqlite::{Alter, Connection, Error, Row, Transaction, params};
 use std::alloc::Global;
 
 /// An image without its bytes.
-#[derive(Debug, Drop)]
+#[derive(Clone, Copy, Debug)]
 pub(crate) struct Heading {
     pub(crate) kind: Kind,
     pub(crate) deed: u32,
@@ -83,9 +83,9 @@ fn first_image(alloc: Global, rows: &[Row]) -> Result<Option<ImageRow>, StoreFau
     }
 }
 
-/// The image of an accession without its error bytes, `None` where there is none. The rows of the images need not
-/// be those of a desk.
-pub(crate) fn image_at<S: Alter>(
+/// The image of an accession without its error bytes, `None` where there is none. The rows need not be those
+/// of a desk.
+fn image_at<S: Alter>(
     alloc: Global,
     conn: &mut Connection<S>,
     acc: u32,
@@ -117,143 +117,6 @@ pub(crate) fn image<S: Alter>(
     Ok(Some(marked_image(alloc, conn, acc, row)?))
 }
 
-/// The rows for the image of an accession without its bytes.
-fn heading_rows<S: Alter>(conn: &mut Connection<S>, acc: u32) -> Result<Vec<Row>, StoreFault>
-    requires holds { HoldsDesk (state S.Store conn.old) }
-    ensures asks { Asks S.Store conn.old conn.new result StoreFault.Sql (λ rows.
-        rows.items ≡ map heading_shown (option_to_list (get (map_of image_sheet ((state S.Store conn.old).now.trees 2)) acc))) }
-    ensures kept { HoldsDesk (state S.Store conn.new) }
-{
-    let key = acc.to_sql();
-    read_all(
-        conn,
-        "SELECT kind, deed, digest FROM image WHERE acc = ?1",
-        &[key],
-    )
-}
-
-/// What a row shows of an image, without error bytes.
-fn read_heading(row: &Row) -> Result<Heading, StoreFault>
-    ensures heading { IfOk result (λ read. (image : ImageRow) → row.now ≡ heading_shown image → read ≡ heading_of (as_row image)) }
-    ensures fault { IfErr result (λ fault. fault ≡ StoreFault.Sql) }
-{
-    let kind = kind(number_at(row, 0)?);
-    let deed = number_at(row, 1)?;
-    let digest = digest_at(row, 2)?;
-    Ok(Heading { kind, deed, digest })
-}
-
-/// What the row of an accession shows of its image, `None` where there is none.
-fn heading_row<S: Alter>(conn: &mut Connection<S>, acc: u32) -> Result<Option<Heading>, StoreFault>
-    requires holds { HoldsDesk (state S.Store conn.old) }
-    ensures asks { Asks S.Store conn.old conn.new result StoreFault.Sql (λ found.
-        found ≡ option_map heading_of (get (map_of image_sheet ((state S.Store conn.old).now.trees 2)) acc)) }
-    ensures kept { HoldsDesk (state S.Store conn.new) }
-{
-    let rows = heading_rows(conn, acc)?;
-    match rows.first() {
-        Some(row) => Ok(Some(read_heading(row)?)),
-        None => Ok(None),
-    }
-}
-
-/// The image of an accession without its bytes, `None` where there is none.
-pub(crate) fn heading_at<S: Alter>(
-    conn: &mut Connection<S>,
-    acc: u32,
-) -> Result<Option<Heading>, StoreFault>
-    requires holds { HoldsDesk (state S.Store conn.old) }
-    ensures asks { Asks S.Store conn.old conn.new result StoreFault.Sql (λ found.
-        found ≡ option_map heading_of (get (desk S.Store conn.old).images acc)) }
-    ensures kept { HoldsDesk (state S.Store conn.new) }
-{
-    let found = heading_row(conn, acc)?;
-    let Some(heading) = found else {
-        return Ok(None);
-    };
-    let kind = kind_at(conn, acc, heading.kind)?;
-    Ok(Some(Heading { kind, ..heading }))
-}
-
-/// The rows for an accession without its image.
-fn given_rows<S: Alter>(conn: &mut Connection<S>, acc: u32) -> Result<Vec<Row>, StoreFault>
-    requires holds { HoldsDesk (state S.Store conn.old) }
-    ensures asks { Asks S.Store conn.old conn.new result StoreFault.Sql (λ rows.
-        rows.items ≡ map given_shown (option_to_list (get (map_of image_sheet ((state S.Store conn.old).now.trees 2)) acc))) }
-    ensures kept { HoldsDesk (state S.Store conn.new) }
-{
-    let key = acc.to_sql();
-    read_all(conn, "SELECT kind, deed FROM image WHERE acc = ?1", &[key])
-}
-
-/// The accession that a row shows, without error bytes.
-fn read_given(row: &Row) -> Result<Accession, StoreFault>
-    ensures accession { IfOk result (λ read. (image : ImageRow) → row.now ≡ given_shown image → read ≡ accession_of (as_row image)) }
-    ensures fault { IfErr result (λ fault. fault ≡ StoreFault.Sql) }
-{
-    let kind = kind(number_at(row, 0)?);
-    let deed = number_at(row, 1)?;
-    Ok(Accession { kind, deed })
-}
-
-/// What the row of an accession shows of it, `None` where it is not there.
-fn given_row<S: Alter>(conn: &mut Connection<S>, acc: u32) -> Result<Option<Accession>, StoreFault>
-    requires holds { HoldsDesk (state S.Store conn.old) }
-    ensures asks { Asks S.Store conn.old conn.new result StoreFault.Sql (λ found.
-        found ≡ option_map accession_of (get (map_of image_sheet ((state S.Store conn.old).now.trees 2)) acc)) }
-    ensures kept { HoldsDesk (state S.Store conn.new) }
-{
-    let rows = given_rows(conn, acc)?;
-    match rows.first() {
-        Some(row) => Ok(Some(read_given(row)?)),
-        None => Ok(None),
-    }
-}
-
-/// An accession without its image, `None` where it is not there.
-pub(crate) fn accession<S: Alter>(
-    conn: &mut Connection<S>,
-    acc: u32,
-) -> Result<Option<Accession>, StoreFault>
-    requires holds { HoldsDesk (state S.Store conn.old) }
-    ensures asks { Asks S.Store conn.old conn.new result StoreFault.Sql (λ found.
-        found ≡ option_map accession_of (get (desk S.Store conn.old).images acc)) }
-    ensures kept { HoldsDesk (state S.Store conn.new) }
-{
-    let found = given_row(conn, acc)?;
-    let Some(given) = found else {
-        return Ok(None);
-    };
-    let kind = kind_at(conn, acc, given.kind)?;
-    Ok(Some(Accession { kind, ..given }))
-}
-
-/// The number of the deed of an accession, `None` where it is not there. It does not ask for error bytes.
-pub(crate) fn deed_of<S: Alter>(
-    conn: &mut Connection<S>,
-    acc: u32,
-) -> Result<Option<u32>, StoreFault>
-    requires holds { HoldsDesk (state S.Store conn.old) }
-    ensures asks { Asks S.Store conn.old conn.new result StoreFault.Sql (λ found.
-        found ≡ option_map (λ (image : ImageRow). image.deed) (get (desk S.Store conn.old).images acc)) }
-    ensures kept { HoldsDesk (state S.Store conn.new) }
-{
-    match given_row(conn, acc)? {
-        Some(given) => Ok(Some(given.deed)),
-        None => Ok(None),
-    }
-}
-
-/// The rows for all accessions.
-fn accession_rows<S: Alter>(conn: &mut Connection<S>) -> Result<Vec<Row>, StoreFault>
-    requires holds { HoldsDesk (state S.Store conn.old) }
-    ensures asks { Asks S.Store conn.old conn.new result StoreFault.Sql (λ rows.
-        rows.items ≡ map accession_shown (keys (desk S.Store conn.old).images)) }
-    ensures kept { HoldsDesk (state S.Store conn.new) }
-{
-    read_all(conn, "SELECT acc FROM image ORDER BY acc", &[])
-}
-
 /// The numbers in the first column of rows.
 pub(crate) fn read_numbers(alloc: Global, rows: &[Row]) -> Result<Vec<u32>, StoreFault>
     ensures numbers { IfOk result (λ numbers.
@@ -270,75 +133,71 @@ pub(crate) fn read_numbers(alloc: Global, rows: &[Row]) -> Result<Vec<u32>, Stor
     Ok(numbers)
 }
 
-/// All accessions, ascending.
+/// An accession without its image, `None` where it is not there. No row is read.
+pub(crate) fn accession<S: Alter>(
+    conn: &mut Connection<S>,
+    register: &Register,
+    acc: u32,
+) -> Result<Option<Accession>, StoreFault>
+    requires holds { HoldsDesk (state S.Store conn.old) }
+    requires listed { IsRegisterOf S.Store conn.old register.now }
+    ensures asks { Asks S.Store conn.old conn.new result StoreFault.Sql (λ found.
+        found ≡ option_map accession_of (get (desk S.Store conn.old).images acc)) }
+    ensures kept { HoldsDesk (state S.Store conn.new) }
+{
+    stays_open(conn)?;
+    match register.find(acc) {
+        Some(heading) => Ok(Some(given(heading))),
+        None => Ok(None),
+    }
+}
+
+/// Whether an accession is there. No row is read.
+pub(crate) fn stands<S: Alter>(
+    conn: &mut Connection<S>,
+    register: &Register,
+    acc: u32,
+) -> Result<bool, StoreFault>
+    requires holds { HoldsDesk (state S.Store conn.old) }
+    requires listed { IsRegisterOf S.Store conn.old register.now }
+    ensures asks { Asks S.Store conn.old conn.new result StoreFault.Sql (λ stand. MatchBool stand
+        (IsSome (get (desk S.Store conn.old).images acc)) (¬ IsSome (get (desk S.Store conn.old).images acc))) }
+    ensures kept { HoldsDesk (state S.Store conn.new) }
+{
+    stays_open(conn)?;
+    Ok(register.find(acc).is_some())
+}
+
+/// All accessions, ascending. No row is read.
 pub(crate) fn accessions<S: Alter>(
     alloc: Global,
     conn: &mut Connection<S>,
+    register: &Register,
 ) -> Result<Vec<u32>, StoreFault>
     requires holds { HoldsDesk (state S.Store conn.old) }
+    requires listed { IsRegisterOf S.Store conn.old register.now }
     ensures asks { Asks S.Store conn.old conn.new result StoreFault.Sql (λ numbers.
         numbers.items ≡ keys (desk S.Store conn.old).images) }
     ensures kept { HoldsDesk (state S.Store conn.new) }
 {
-    let rows = accession_rows(conn)?;
-    read_numbers(alloc, &rows)
+    stays_open(conn)?;
+    register.accessions(alloc)
 }
 
-/// The rows for all accessions, each with its kind and its deed.
-fn register_rows<S: Alter>(conn: &mut Connection<S>) -> Result<Vec<Row>, StoreFault>
-    requires holds { HoldsDesk (state S.Store conn.old) }
-    ensures asks { Asks S.Store conn.old conn.new result StoreFault.Sql (λ rows.
-        rows.items ≡ map registered_shown (entries (map_of image_sheet ((state S.Store conn.old).now.trees 2)))) }
-    ensures kept { HoldsDesk (state S.Store conn.new) }
-{
-    read_all(conn, "SELECT acc, kind, deed FROM image ORDER BY acc", &[])
-}
-
-/// The accession that a row shows, with its number. `marked` are the accessions with error bytes, ascending.
-fn read_registered(row: &Row, marked: &[u32]) -> Result<(u32, Accession), StoreFault>
-    requires { IsNonDecreasing marked.now }
-    ensures registered { IfOk result (λ read. read ≡ registered_in marked.now row.now) }
-    ensures fault { IfErr result (λ fault. fault ≡ StoreFault.Sql) }
-{
-    let number = number_at(row, 0)?;
-    let kind = kind_with(has_one_of(row, 0, marked), kind(number_at(row, 1)?));
-    let deed = number_at(row, 2)?;
-    Ok((number, Accession { kind, deed }))
-}
-
-/// The accessions that rows show, each with its number. `marked` are the accessions with error bytes, ascending.
-fn read_register(
-    alloc: Global,
-    rows: &[Row],
-    marked: &[u32],
-) -> Result<Vec<(u32, Accession)>, StoreFault>
-    requires { IsNonDecreasing marked.now }
-    ensures register { IfOk result (λ register. register.items ≡ map (registered_in marked.now) rows.now) }
-    ensures fault { IfErr result (λ fault. fault ≡ StoreFault.Sql) }
-{
-    let mut register = Vec::new(alloc);
-    for row in rows {
-        let registered = read_registered(row, marked)?;
-        if register.push(registered).is_err() {
-            return Err(StoreFault::Sql);
-        }
-    }
-    Ok(register)
-}
-
-/// All accessions, ascending, each with its kind and its deed.
-pub(crate) fn register<S: Alter>(
+/// All accessions, ascending, each with its kind and its deed. No row is read.
+pub(crate) fn givens<S: Alter>(
     alloc: Global,
     conn: &mut Connection<S>,
+    register: &Register,
 ) -> Result<Vec<(u32, Accession)>, StoreFault>
     requires holds { HoldsDesk (state S.Store conn.old) }
-    ensures asks { Asks S.Store conn.old conn.new result StoreFault.Sql (λ register.
-        register.items ≡ map registered (entries (desk S.Store conn.old).images)) }
+    requires listed { IsRegisterOf S.Store conn.old register.now }
+    ensures asks { Asks S.Store conn.old conn.new result StoreFault.Sql (λ givens.
+        givens.items ≡ map registered (entries (desk S.Store conn.old).images)) }
     ensures kept { HoldsDesk (state S.Store conn.new) }
 {
-    let marked = marked(alloc, conn)?;
-    let rows = register_rows(conn)?;
-    read_register(alloc, &rows, &marked)
+    stays_open(conn)?;
+    register.givens(alloc)
 }
 
 /// The files of an image.
@@ -432,47 +291,74 @@ fn write_image<S: Alter>(
     tx.commit()
 }
 
+/// Puts an image where none stands, and then into the register, in room that is there before: after the commit
+/// nothing takes memory.
+fn add_image<S: Alter>(
+    alloc: Global,
+    conn: &mut Connection<S>,
+    register: &mut Register,
+    acc: u32,
+    heading: &Heading,
+    bytes: &[u8],
+) -> Result<(), StoreFault>
+    requires holds { HoldsDesk (state S.Store conn.old) }
+    requires listed { IsRegisterOf S.Store conn.old register.old }
+    requires image { IsImage acc (image_with heading.now bytes.now) }
+    requires deed { IsOpen S.Store conn.old → IsSome (get (desk S.Store conn.old).deeds heading.now.deed) }
+    requires free { IsOpen S.Store conn.old → get (desk S.Store conn.old).images acc ≡ None }
+    ensures kept { HoldsDesk (state S.Store conn.new) }
+    ensures listed { IsRegisterOf S.Store conn.new register.new }
+    ensures changes { Changes S.Store conn.old conn.new (with_image acc (image_with heading.now bytes.now) (desk S.Store conn.old)) result }
+    ensures fault { IfErr result (λ fault. fault ≡ StoreFault.Sql) }
+{
+    outside(conn)?;
+    let files = survey_of(alloc, heading.kind, bytes)?;
+    register.reserve(alloc)?;
+    match write_image(alloc, conn, acc, heading, bytes, files.as_slice()) {
+        Ok(()) => {
+            register.insert(acc, *heading);
+            Ok(())
+        }
+        Err(_) => Err(StoreFault::Sql),
+    }
+}
+
+/// Whether both have the same kind, deed and digest.
+fn is_same(one: &Heading, other: &Heading) -> bool
+    ensures { MatchBool result (IsSameHeading one.now other.now) (¬ IsSameHeading one.now other.now) }
+{
+    one.kind == other.kind && one.deed == other.deed && one.digest == other.digest
+}
+
 /// Puts an image where none stands. The same kind, deed and digest again change nothing.
 pub(crate) fn put_image<S: Alter>(
     alloc: Global,
     conn: &mut Connection<S>,
+    register: &mut Register,
     acc: u32,
-    kind: Kind,
-    deed: u32,
-    digest: &[u8; 32],
+    heading: &Heading,
     bytes: &[u8],
 ) -> Result<(), StoreFault>
     requires holds { HoldsDesk (state S.Store conn.old) }
-    requires image { IsImage acc (record { kind = kind; deed = deed; digest = digest.now; bytes = bytes.now }) }
+    requires listed { IsRegisterOf S.Store conn.old register.old }
+    requires image { IsImage acc (image_with heading.now bytes.now) }
     ensures kept { HoldsDesk (state S.Store conn.new) }
-    ensures changes { Changes S.Store conn.old conn.new
-        (with_image acc (record { kind = kind; deed = deed; digest = digest.now; bytes = bytes.now }) (desk S.Store conn.old)) result }
-    ensures judges { Judges S.Store conn.new result (IsSome (get (desk S.Store conn.old).deeds deed))
-        (HasOtherImage (desk S.Store conn.old) acc (record { kind = kind; deed = deed; digest = digest.now; bytes = bytes.now })) }
+    ensures listed { IsRegisterOf S.Store conn.new register.new }
+    ensures changes { Changes S.Store conn.old conn.new (with_image acc (image_with heading.now bytes.now) (desk S.Store conn.old)) result }
+    ensures judges { Judges S.Store conn.new result (IsSome (get (desk S.Store conn.old).deeds heading.now.deed))
+        (HasOtherImage (desk S.Store conn.old) acc (image_with heading.now bytes.now)) }
 {
-    if deeds::deed(conn, deed)?.is_none() {
+    if deeds::deed(conn, heading.deed)?.is_none() {
         return Err(StoreFault::Missing);
     }
-    match heading_at(conn, acc)? {
-        Some(heading) => {
-            if heading.kind == kind && heading.deed == deed && heading.digest == *digest {
+    match register.find(acc) {
+        Some(standing) => {
+            if is_same(&standing, heading) {
                 Ok(())
             } else {
                 Err(StoreFault::Conflict)
             }
         }
-        None => {
-            outside(conn)?;
-            let files = survey_of(alloc, kind, bytes)?;
-            let heading = Heading {
-                kind,
-                deed,
-                digest: *digest,
-            };
-            match write_image(alloc, conn, acc, &heading, bytes, files.as_slice()) {
-                Ok(()) => Ok(()),
-                Err(_) => Err(StoreFault::Sql),
-            }
-        }
+        None => add_image(alloc, conn, register, acc, heading, bytes),
     }
 }

@@ -3,13 +3,15 @@ ghost use Rattle.sqlite.specs.Held.{state};
 ghost use Rattle.sqlite.specs.Steps.{over_memory};
 ghost use Rattle.rd_tables.specs.Schemas.{desk_schema, first_schema, has_desk_columns};
 ghost use Rattle.rd_store.specs.Held.{Asks, HoldsDesk, IsOpen};
-ghost use Rattle.rd_store.specs.Migrated.{IsHeldFirst, IsHeldIn, RefusesEach};
+ghost use Rattle.rd_store.specs.Migrated.{IsHeldFirst, IsHeldIn, IsRegisterIn, RefusesEach};
 ghost use Rattle.rd_store.specs.Opened.{HasDeskFirst, IsNamed, IsNoDesk, IsResting, IsSaid, IsSettledAt, IsSoundAt, NamesDesk, TestsDatabase, TestsDesk};
+ghost use Rattle.rd_store.specs.Register.{IsRegisterOf};
 ghost use Rattle.rd_store.specs.Spelled.{HasVersion};
 
 use crate::create::make_first_tables;
 use crate::faults::{OpenFault, Refused};
 use crate::opening::{check_first_rows, check_rows};
+use crate::register::Register;
 use crate::store::Store;
 use crate::version::{Version, said_version};
 use rd_tables::{has_desk_columns, has_foreign_desk, is_blank, same_first_table, same_schema};
@@ -69,18 +71,19 @@ fn known_version<S: Alter>(
     said_version(conn)
 }
 
-/// Whether a database that says version 2 is that of a desk, whose tables are those of the sample.
+/// The register of the desk of a database that says version 2, if it is one, whose tables are those of the sample.
 fn judge_second<S: Alter>(
     alloc: Global,
     conn: &mut Connection<S>,
     sample: &Connection<MemStore>,
-) -> Result<(), OpenFault>
+) -> Result<Register, OpenFault>
     requires rests { IsResting (state S.Store conn.old) }
     requires sound { IsSoundAt (state S.Store conn.old) }
     requires sample { (state over_memory sample.now).now.schema ≡ desk_schema }
     requires desk { IsOpen S.Store conn.old → has_desk_columns (state S.Store conn.old).now.schema ≡ true }
     requires version { IsOpen S.Store conn.old → HasVersion 2 ((state S.Store conn.old).now.trees 0) }
     ensures tests { TestsDesk S.Store conn.old conn.new result }
+    ensures listed { IsOpen S.Store conn.new → IfOk result (IsRegisterIn Version.Second (state S.Store conn.old).now.trees) }
     ensures no_desk { IfErr result (λ fault. fault ≢ OpenFault.NotADesk) }
 {
     if !same_schema(conn.schema(), sample.schema()) {
@@ -89,13 +92,14 @@ fn judge_second<S: Alter>(
     check_rows(alloc, conn)
 }
 
-/// Whether a database that says version 1 is that of a desk.
-fn judge_first<S: Alter>(alloc: Global, conn: &mut Connection<S>) -> Result<(), OpenFault>
+/// The register of the desk of a database that says version 1, if it is one.
+fn judge_first<S: Alter>(alloc: Global, conn: &mut Connection<S>) -> Result<Register, OpenFault>
     requires rests { IsResting (state S.Store conn.old) }
     requires sound { IsSoundAt (state S.Store conn.old) }
     requires desk { IsOpen S.Store conn.old → has_desk_columns (state S.Store conn.old).now.schema ≡ true }
     requires version { IsOpen S.Store conn.old → HasVersion 1 ((state S.Store conn.old).now.trees 0) }
-    ensures tests { TestsDatabase S.Store conn.old conn.new result (λ done. IsHeldFirst) RefusesEach }
+    ensures tests { TestsDatabase S.Store conn.old conn.new result (λ register. IsHeldFirst) RefusesEach }
+    ensures listed { IsOpen S.Store conn.new → IfOk result (IsRegisterIn Version.First (state S.Store conn.old).now.trees) }
     ensures no_desk { IfErr result (λ fault. fault ≢ OpenFault.NotADesk) }
 {
     let first = first_sample(alloc)?;
@@ -105,19 +109,21 @@ fn judge_first<S: Alter>(alloc: Global, conn: &mut Connection<S>) -> Result<(), 
     check_first_rows(alloc, conn)
 }
 
-/// Whether a database is that of a desk of the version that it says. The sample has the tables of version 2.
+/// The register of the desk of a database, if it is one of the version that it says. The sample has the tables of
+/// version 2.
 fn judge_as<S: Alter>(
     alloc: Global,
     conn: &mut Connection<S>,
     sample: &Connection<MemStore>,
     version: Version,
-) -> Result<(), OpenFault>
+) -> Result<Register, OpenFault>
     requires rests { IsResting (state S.Store conn.old) }
     requires sound { IsSoundAt (state S.Store conn.old) }
     requires sample { (state over_memory sample.now).now.schema ≡ desk_schema }
     requires desk { IsOpen S.Store conn.old → has_desk_columns (state S.Store conn.old).now.schema ≡ true }
     requires said { IsOpen S.Store conn.old → IsSaid (Some version) ((state S.Store conn.old).now.trees 0) }
-    ensures tests { TestsDatabase S.Store conn.old conn.new result (λ done. IsHeldIn version) RefusesEach }
+    ensures tests { TestsDatabase S.Store conn.old conn.new result (λ register. IsHeldIn version) RefusesEach }
+    ensures listed { IsOpen S.Store conn.new → IfOk result (IsRegisterIn version (state S.Store conn.old).now.trees) }
     ensures no_desk { IfErr result (λ fault. fault ≢ OpenFault.NotADesk) }
 {
     match version {
@@ -126,12 +132,13 @@ fn judge_as<S: Alter>(
     }
 }
 
-/// Whether a database with a table `desk` is that of a desk of version 2.
-fn judge_tables<S: Alter>(alloc: Global, conn: &mut Connection<S>) -> Result<(), OpenFault>
+/// The register of the desk of a database with a table `desk`, if it is one of version 2.
+fn judge_tables<S: Alter>(alloc: Global, conn: &mut Connection<S>) -> Result<Register, OpenFault>
     requires settled { IsSettledAt (state S.Store conn.old) }
     requires sound { IsSoundAt (state S.Store conn.old) }
     requires desk { has_desk_columns (state S.Store conn.old).now.schema ≡ true }
     ensures tests { TestsDesk S.Store conn.old conn.new result }
+    ensures listed { IsOpen S.Store conn.new → IfOk result (IsRegisterIn Version.Second (state S.Store conn.old).now.trees) }
     ensures no_desk { IfErr result (λ fault. fault ≢ OpenFault.NotADesk) }
 {
     let sample = sample(alloc)?;
@@ -145,15 +152,16 @@ fn judge_tables<S: Alter>(alloc: Global, conn: &mut Connection<S>) -> Result<(),
     }
 }
 
-/// The version of the desk whose database has a table `desk`.
+/// The version and the register of the desk whose database has a table `desk`.
 fn judge_each_tables<S: Alter>(
     alloc: Global,
     conn: &mut Connection<S>,
-) -> Result<Version, OpenFault>
+) -> Result<(Version, Register), OpenFault>
     requires settled { IsSettledAt (state S.Store conn.old) }
     requires sound { IsSoundAt (state S.Store conn.old) }
     requires desk { has_desk_columns (state S.Store conn.old).now.schema ≡ true }
-    ensures tests { TestsDatabase S.Store conn.old conn.new result IsHeldIn RefusesEach }
+    ensures tests { TestsDatabase S.Store conn.old conn.new result (λ found. IsHeldIn found.0) RefusesEach }
+    ensures listed { IsOpen S.Store conn.new → IfOk result (λ found. IsRegisterIn found.0 (state S.Store conn.old).now.trees found.1) }
     ensures no_desk { IfErr result (λ fault. fault ≢ OpenFault.NotADesk) }
 {
     let sample = sample(alloc)?;
@@ -161,8 +169,8 @@ fn judge_each_tables<S: Alter>(
     let Some(version) = said else {
         return Err(OpenFault::Version);
     };
-    judge_as(alloc, conn, &sample, version)?;
-    Ok(version)
+    let register = judge_as(alloc, conn, &sample, version)?;
+    Ok((version, register))
 }
 
 /// Whether a table `desk` with its columns stands, and none whose columns are not told.
@@ -179,26 +187,31 @@ fn find_desk<S: Alter>(conn: &Connection<S>) -> Result<(), OpenFault>
     Ok(())
 }
 
-/// Whether a database is that of a desk of version 2.
-pub(crate) fn judge<S: Alter>(alloc: Global, conn: &mut Connection<S>) -> Result<(), OpenFault>
+/// The register of the desk that a database holds, if it is one of version 2.
+pub(crate) fn judge<S: Alter>(
+    alloc: Global,
+    conn: &mut Connection<S>,
+) -> Result<Register, OpenFault>
     requires settled { IsSettledAt (state S.Store conn.old) }
     requires sound { IsSoundAt (state S.Store conn.old) }
     ensures tests { TestsDesk S.Store conn.old conn.new result }
     ensures names { NamesDesk conn.old conn.new result }
-    ensures kept { IfOk result (λ done. HoldsDesk (state S.Store conn.new)) }
+    ensures kept { IfOk result (λ register. HoldsDesk (state S.Store conn.new)) }
+    ensures listed { IfOk result (IsRegisterOf S.Store conn.new) }
 {
     find_desk(conn)?;
     judge_tables(alloc, conn)
 }
 
-/// The version of the desk that a database holds.
+/// The version and the register of the desk that a database holds.
 pub(crate) fn judge_each<S: Alter>(
     alloc: Global,
     conn: &mut Connection<S>,
-) -> Result<Version, OpenFault>
+) -> Result<(Version, Register), OpenFault>
     requires settled { IsSettledAt (state S.Store conn.old) }
     requires sound { IsSoundAt (state S.Store conn.old) }
-    ensures tests { TestsDatabase S.Store conn.old conn.new result IsHeldIn RefusesEach }
+    ensures tests { TestsDatabase S.Store conn.old conn.new result (λ found. IsHeldIn found.0) RefusesEach }
+    ensures listed { IsOpen S.Store conn.new → IfOk result (λ found. IsRegisterIn found.0 (state S.Store conn.old).now.trees found.1) }
     ensures names { NamesDesk conn.old conn.new result }
 {
     find_desk(conn)?;

@@ -21,12 +21,14 @@ mod migrating;
 mod opening;
 mod outside;
 mod read;
+mod register;
 mod rows;
 mod rule_laws;
 mod rules;
 mod store;
 mod tested;
 mod version;
+mod walking;
 
 pub use crash_laws::left_desks_open;
 pub use faults::{CreateFault, OpenFault, Refused, StoreFault};

@@ -1,26 +1,23 @@
 //! Error bytes, which stand in a table of their own.
 
-ghost use Rattle.std.specs.Prelude.{◌≡◌, ◌∷◌, [], IfOk, IfErr, Option, Some, is_some, length, map, pos};
-ghost use Rattle.std.specs.FinMap.{get, keys};
-ghost use Rattle.std.specs.List.Sorted.{IsNonDecreasing};
+ghost use Rattle.std.specs.Prelude.{◌≡◌, ◌∷◌, [], IfOk, IfErr, Option, Some, length, map, pos};
+ghost use Rattle.std.specs.FinMap.{get};
 ghost use Rattle.std.specs.Option.{option_to_list};
 ghost use Rattle.sqlite.specs.Held.{state};
 ghost use Rattle.sqlite.specs.declared.types.Value.TheVariants.{Int};
 ghost use Rattle.rd_geometry.specs.Blocks.{CBM_BLOCKS};
 ghost use Rattle.rd_tables.specs.Asked.{IsPicked};
-ghost use Rattle.rd_tables.specs.Queries.{marked_query, marks_query};
+ghost use Rattle.rd_tables.specs.Queries.{marks_query};
 ghost use Rattle.rd_tables.specs.Sheets.{Spells, map_of};
 ghost use Rattle.rd_store.specs.declared.rows.ImageRow.{ImageRow};
 ghost use Rattle.rd_store.specs.Held.{Asks, HoldsDesk, HoldsTables, IsClean, IsOfWith, IsOpen, Moves, desk};
 ghost use Rattle.rd_store.specs.Index.{IsFiledTo, with_new_image};
 ghost use Rattle.rd_store.specs.Marks.{kind_with as kind_marked, with_marks as image_marked};
-ghost use Rattle.rd_store.specs.Shown.{marks_shown, one_shown};
+ghost use Rattle.rd_store.specs.Shown.{marks_shown};
 ghost use Rattle.rd_store.specs.Spelled.{image_sheet, marks_sheet};
 
 use crate::decode::bytes_at;
 use crate::faults::StoreFault;
-use crate::images::read_numbers;
-use crate::opening::are_rising;
 use crate::read::read_all;
 use crate::rows::ImageRow;
 use rd_geometry::{Items, Kind};
@@ -111,82 +108,11 @@ pub(crate) fn marked_image<S: Alter>(
     with_marks(row, marks)
 }
 
-/// A row where an accession has error bytes.
-fn has_marks_rows<S: Alter>(conn: &mut Connection<S>, acc: u32) -> Result<Vec<Row>, StoreFault>
-    requires holds { HoldsDesk (state S.Store conn.old) }
-    ensures asks { Asks S.Store conn.old conn.new result StoreFault.Sql (λ rows.
-        rows.items ≡ map one_shown (option_to_list (get (map_of marks_sheet ((state S.Store conn.old).now.trees 11)) acc))) }
-    ensures kept { HoldsDesk (state S.Store conn.new) }
-{
-    let key = acc.to_sql();
-    read_all(conn, "SELECT 1 FROM marks WHERE acc = ?1", &[key])
-}
-
-/// Whether an accession has error bytes.
-fn has_marks<S: Alter>(conn: &mut Connection<S>, acc: u32) -> Result<bool, StoreFault>
-    requires holds { HoldsDesk (state S.Store conn.old) }
-    ensures asks { Asks S.Store conn.old conn.new result StoreFault.Sql (λ has.
-        has ≡ is_some (get (map_of marks_sheet ((state S.Store conn.old).now.trees 11)) acc)) }
-    ensures kept { HoldsDesk (state S.Store conn.new) }
-{
-    let rows = has_marks_rows(conn, acc)?;
-    Ok(!rows.is_empty())
-}
-
 /// The kind of an image whose row has `kind`, with error bytes or without them.
 pub(crate) fn kind_with(marked: bool, kind: Kind) -> Kind
     ensures { result ≡ kind_marked marked kind }
 {
     if marked { Kind::D64e } else { kind }
-}
-
-/// The kind of the image of an accession whose row has `kind`. Whether it has error bytes is asked where
-/// that is a D64.
-pub(crate) fn kind_at<S: Alter>(
-    conn: &mut Connection<S>,
-    acc: u32,
-    kind: Kind,
-) -> Result<Kind, StoreFault>
-    requires holds { HoldsDesk (state S.Store conn.old) }
-    requires awake { IsClean S.Store conn.old → IsOpen S.Store conn.old }
-    ensures asks { Asks S.Store conn.old conn.new result StoreFault.Sql (λ found. (row : ImageRow)
-        → get (map_of image_sheet ((state S.Store conn.old).now.trees 2)) acc ≡ Some row → row.kind ≡ kind
-        → found ≡ (image_marked (get (map_of marks_sheet ((state S.Store conn.old).now.trees 11)) acc) row).kind) }
-    ensures kept { HoldsDesk (state S.Store conn.new) }
-{
-    if kind != Kind::D64 {
-        return Ok(kind);
-    }
-    let marked = has_marks(conn, acc)?;
-    Ok(kind_with(marked, kind))
-}
-
-/// The rows for all accessions whose images have error bytes.
-fn marked_rows<S: Alter>(conn: &mut Connection<S>) -> Result<Vec<Row>, StoreFault>
-    requires holds { HoldsDesk (state S.Store conn.old) }
-    ensures asks { Asks S.Store conn.old conn.new result StoreFault.Sql (λ rows.
-        IsPicked marked_query [] ((state S.Store conn.old).now.trees 11) rows.items) }
-    ensures kept { HoldsDesk (state S.Store conn.new) }
-{
-    read_all(conn, "SELECT acc FROM marks ORDER BY acc", &[])
-}
-
-/// The accessions whose images have error bytes, ascending.
-pub(crate) fn marked<S: Alter>(
-    alloc: Global,
-    conn: &mut Connection<S>,
-) -> Result<Vec<u32>, StoreFault>
-    requires holds { HoldsDesk (state S.Store conn.old) }
-    ensures asks { Asks S.Store conn.old conn.new result StoreFault.Sql (λ numbers.
-        numbers.items ≡ keys (map_of marks_sheet ((state S.Store conn.old).now.trees 11))) }
-    ensures kept { HoldsDesk (state S.Store conn.new) }
-    ensures ascending { IfOk result (λ numbers. IsNonDecreasing numbers.items) }
-{
-    let rows = marked_rows(conn)?;
-    if !are_rising(&rows) {
-        return Err(StoreFault::Sql);
-    }
-    read_numbers(alloc, &rows)
 }
 
 /// Puts error bytes where a D64 stands, inside a transaction.

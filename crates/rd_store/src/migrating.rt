@@ -7,10 +7,12 @@ ghost use Rattle.rd_store.specs.Created.{IsAt, Turns};
 ghost use Rattle.rd_store.specs.Held.{HoldsDesk, IsOf, IsOpen, Moves};
 ghost use Rattle.rd_store.specs.Migrated.{IsFirst, IsHalfway, IsMigrated, IsNotMigrated, first_desk};
 ghost use Rattle.rd_store.specs.Opened.{IsSettledAt, IsSoundAt};
+ghost use Rattle.rd_store.specs.Register.{IsRegisterOf};
 
 use crate::create::create_text;
 use crate::faults::OpenFault;
 use crate::judging::judge_each;
+use crate::register::Register;
 use crate::version::Version;
 use sqlite::{Alter, Connection, Error, Transaction};
 use std::alloc::Global;
@@ -51,32 +53,37 @@ fn write_version<S: Alter>(conn: &mut Connection<S>) -> Result<(), Error>
     tx.commit()
 }
 
-/// Makes tables of version 1 those of version 2, where no transaction has begun.
-fn bring_up<S: Alter>(conn: &mut Connection<S>) -> Result<(), OpenFault>
+/// Makes tables of version 1 those of version 2, where no transaction has begun. The register stays.
+fn bring_up<S: Alter>(conn: &mut Connection<S>, register: Register) -> Result<Register, OpenFault>
     requires start { IsOpen S.Store conn.old → IsAt (IsFirst (first_desk (state S.Store conn.old).now.trees)) (state S.Store conn.old) }
     ensures turns { Turns S.Store conn.old conn.new (IsOf (first_desk (state S.Store conn.old).now.trees)) result }
+    ensures same { IfOk result (λ brought. brought ≡ register) }
     ensures fault { IfErr result (λ fault. fault ≡ OpenFault.Sql) }
 {
     if !conn.is_autocommit() {
         return Err(OpenFault::Sql);
     }
     match write_version(conn) {
-        Ok(()) => Ok(()),
+        Ok(()) => Ok(register),
         Err(_) => Err(OpenFault::Sql),
     }
 }
 
-/// Tests a database for a desk, and brings tables of version 1 to version 2.
-pub(crate) fn migrate<S: Alter>(alloc: Global, conn: &mut Connection<S>) -> Result<(), OpenFault>
+/// Tests a database for a desk, brings tables of version 1 to version 2, and gives the register.
+pub(crate) fn migrate<S: Alter>(
+    alloc: Global,
+    conn: &mut Connection<S>,
+) -> Result<Register, OpenFault>
     requires settled { IsSettledAt (state S.Store conn.old) }
     requires sound { IsSoundAt (state S.Store conn.old) }
-    ensures migrated { IfOk result (λ done. IsMigrated S.Store conn.old conn.new) }
-    ensures holds { IfOk result (λ done. HoldsDesk (state S.Store conn.new)) }
+    ensures migrated { IfOk result (λ register. IsMigrated S.Store conn.old conn.new) }
+    ensures holds { IfOk result (λ register. HoldsDesk (state S.Store conn.new)) }
+    ensures listed { IfOk result (IsRegisterOf S.Store conn.new) }
     ensures refused { IfErr result (λ fault. IsNotMigrated S.Store conn.old conn.new fault) }
 {
-    let version = judge_each(alloc, conn)?;
+    let (version, register) = judge_each(alloc, conn)?;
     match version {
-        Version::First => bring_up(conn),
-        Version::Second => Ok(()),
+        Version::First => bring_up(conn, register),
+        Version::Second => Ok(register),
     }
 }

@@ -1,29 +1,32 @@
-ghost use Rattle.std.specs.Prelude.{◌≡◌, IfOk, IsTrue, MatchBool, int_lt, true};
+ghost use Rattle.std.specs.Prelude.{◌≡◌, IfOk, IfErr, IsTrue, MatchBool, int_lt, map, true, ⊤};
 ghost use Rattle.std.specs.List.Sorted.{IsNonDecreasing};
 ghost use Rattle.sqlite.specs.Held.{state};
 ghost use Rattle.sqlite.specs.Order.{column};
 ghost use Rattle.sqlite_rules.specs.Edit.{id_in};
 ghost use Rattle.sqlite_trees.specs.View.{is_int};
 ghost use Rattle.rd_tables.specs.Asked.{AreRising, IsListed};
-ghost use Rattle.rd_tables.specs.Sheets.{HaveRowids, map_of};
-ghost use Rattle.rd_store.specs.Spelled.{HasVersion, HaveOwnRowids, deed_sheet, image_sheet, marks_sheet, unmarked};
+ghost use Rattle.rd_tables.specs.Sheets.{HaveRowids, map_of, natural};
+ghost use Rattle.rd_store.specs.Register.{listed, number_of, register_of};
+ghost use Rattle.rd_store.specs.Spelled.{HasVersion, HaveOwnRowids, deed_sheet, desk_of, unmarked};
 ghost use Rattle.rd_store.specs.Held.{Asks, HoldsCommonTables, HoldsTables, IsOpen};
-ghost use Rattle.rd_store.specs.Opened.{AreKeys, AreNumbers, HoldsListed, IsConsistent, IsConsistentAs, IsSoundAt, LawfulChecks, LawfulCommon, LawfulDeeds, LawfulGiven, LawfulImages, LawfulKeys, LawfulMarks, LawfulOthers, LawfulRules, HaveOtherRowids, Tests, listing_query, listing_text, listing_tree};
+ghost use Rattle.rd_store.specs.Opened.{AreKeys, AreNumbers, HoldsListed, HoldsMarksOf, IsConsistent, IsConsistentAs, IsSoundAt, LawfulChecks, LawfulCommon, LawfulDeeds, LawfulGiven, LawfulKeys, LawfulOthers, LawfulRules, HaveOtherRowids, Tests, TestsPart, listing_query, listing_text, listing_tree};
+ghost use Rattle.rd_store.specs.Walked.{IsWalk, LawfulCommonWalk, LawfulGivenWalk};
 
 use crate::faults::OpenFault;
-use crate::filing::check_index;
-use crate::images::read_numbers;
+use crate::filing::check_filed;
+use crate::images::{Heading, read_numbers};
 use crate::read::read_over;
-use crate::tested::{are_checks, are_deeds, are_images, are_keys, are_marks, are_rules};
+use crate::register::Register;
+use crate::tested::{are_checks, are_deeds, are_keys, are_marks, are_rules, have_error_bytes};
+use crate::walking::walk_images;
 use sqlite::types::ValueRef;
 use sqlite::{Alter, Connection, Row};
 use std::alloc::Global;
 
-/// A table all of whose rows are read when a desk is opened.
+/// A table all of whose rows are read at once when a desk is opened.
 #[derive(Clone, Copy)]
 pub(crate) enum Listing {
     Deeds,
-    Images,
     Rules,
     Keys,
     Checks,
@@ -31,15 +34,13 @@ pub(crate) enum Listing {
     Marks,
 }
 
-/// The text that asks for all rows of a table, each with its rowid first. The number of a deed or of an image and
-/// the accession of error bytes are rowids, since each is an INTEGER PRIMARY KEY.
+/// The text that asks for all rows of a table, each with its rowid first. The number of a deed and the accession
+/// of error bytes are rowids, since each is an INTEGER PRIMARY KEY.
 fn listing_text(table: Listing) -> &'static str
     ensures { result.now ≡ listing_text table }
 {
     match table {
         Listing::Deeds => "SELECT num, donor, signed FROM deed ORDER BY num",
-        Listing::Images =>
-            "SELECT acc, kind, deed, digest, length(bytes), typeof(bytes) FROM image ORDER BY acc",
         Listing::Rules =>
             "SELECT rowid, band, scope, rank, audiences, day_from, day_until, how, number, word, effect FROM rule ORDER BY rowid",
         Listing::Keys => "SELECT rowid, digest, audience FROM badge ORDER BY rowid",
@@ -114,29 +115,6 @@ fn check_deeds<S: Alter>(alloc: Global, conn: &mut Connection<S>) -> Result<Vec<
     }
 }
 
-/// The accessions, if the rows of the images are those of a desk with these deeds.
-fn check_images<S: Alter>(
-    alloc: Global,
-    conn: &mut Connection<S>,
-    deeds: &[u32],
-) -> Result<Vec<u32>, OpenFault>
-    requires tables { HoldsCommonTables (state S.Store conn.old) }
-    requires deeds { IsNonDecreasing deeds.now }
-    ensures tests { Tests S.Store conn.old conn.new result (LawfulImages deeds.now) }
-    ensures numbers { IsOpen S.Store conn.new → IfOk result (λ numbers.
-        AreKeys (map_of image_sheet ((state S.Store conn.old).now.trees 2)) numbers.items) }
-    ensures ascending { IfOk result (λ numbers. IsNonDecreasing numbers.items) }
-{
-    let rows = read_listing(conn, Listing::Images)?;
-    if !are_images(&rows, deeds) {
-        return Err(OpenFault::Inconsistent);
-    }
-    match read_numbers(alloc, &rows) {
-        Ok(numbers) => Ok(numbers),
-        Err(_) => Err(OpenFault::Sql),
-    }
-}
-
 /// Whether the rows of the rules are those of a desk with these accessions and deeds.
 fn check_rules<S: Alter>(
     conn: &mut Connection<S>,
@@ -186,20 +164,26 @@ fn check_checks<S: Alter>(conn: &mut Connection<S>, accessions: &[u32]) -> Resul
     Ok(())
 }
 
-/// The numbers of the deeds and the accessions, if their rows are those of a desk.
+/// The numbers of the deeds and the entries of the images in the register, if these are those of a desk, and the rows of
+/// the index for each image are those of its files. The marked accessions have error bytes.
 fn check_given<S: Alter>(
     alloc: Global,
     conn: &mut Connection<S>,
-) -> Result<(Vec<u32>, Vec<u32>), OpenFault>
+    marked: &[u32],
+) -> Result<(Vec<u32>, Vec<(u32, Heading)>), OpenFault>
     requires tables { HoldsCommonTables (state S.Store conn.old) }
-    ensures tests { Tests S.Store conn.old conn.new result LawfulGiven }
-    ensures numbers { IsOpen S.Store conn.new → IfOk result (λ numbers.
-        AreNumbers (state S.Store conn.old).now.trees numbers.0.items numbers.1.items) }
-    ensures ascending { IfOk result (λ numbers. IsNonDecreasing numbers.0.items × IsNonDecreasing numbers.1.items) }
+    requires marks { HoldsMarksOf marked.now (state S.Store conn.old) }
+    requires marked { IsNonDecreasing marked.now }
+    ensures tests { TestsPart S.Store conn.old conn.new result LawfulGiven (LawfulGivenWalk marked.now) }
+    ensures numbers { IsOpen S.Store conn.new → IfOk result (λ given.
+        AreNumbers (state S.Store conn.old).now.trees given.0.items (map number_of given.1.items)) }
+    ensures walked { IsOpen S.Store conn.new → IfOk result (λ given.
+        IsWalk marked.now (state S.Store conn.old).now.trees given.1.items) }
+    ensures ascending { IfOk result (λ given. IsNonDecreasing given.0.items) }
 {
     let deeds = check_deeds(alloc, conn)?;
-    let accessions = check_images(alloc, conn, &deeds)?;
-    Ok((deeds, accessions))
+    let entries = walk_images(alloc, conn, &deeds, marked)?;
+    Ok((deeds, entries))
 }
 
 /// Whether all other rows are those of a desk with these accessions and deeds.
@@ -220,68 +204,121 @@ fn check_others<S: Alter>(
     check_checks(conn, accessions)
 }
 
-/// The accessions, if the rows of the tables that each version has, but for the index, are those of a desk.
-fn check_common<S: Alter>(alloc: Global, conn: &mut Connection<S>) -> Result<Vec<u32>, OpenFault>
-    requires tables { HoldsCommonTables (state S.Store conn.old) }
-    requires sound { IsSoundAt (state S.Store conn.old) }
-    ensures tests { Tests S.Store conn.old conn.new result LawfulCommon }
-    ensures rowids { IsOpen S.Store conn.new → IfOk result (λ numbers. HaveOtherRowids (state S.Store conn.old).now.trees) }
-    ensures numbers { IsOpen S.Store conn.new → IfOk result (λ numbers.
-        AreKeys (map_of image_sheet ((state S.Store conn.old).now.trees 2)) numbers.items) }
-    ensures ascending { IfOk result (λ numbers. IsNonDecreasing numbers.items) }
+/// Whether numbers ascend.
+fn ascend(numbers: &[u32]) -> bool
+    ensures { IsTrue result → IsNonDecreasing numbers.now }
 {
-    let (deeds, accessions) = check_given(alloc, conn)?;
-    check_others(conn, &accessions, &deeds)?;
-    Ok(accessions)
+    numbers.is_sorted()
 }
 
-/// The accessions with error bytes, if each row of error bytes has 683 of them and is of one of these accessions.
-fn check_marks<S: Alter>(
+/// The accessions of a register, ascending.
+fn accessions_in(alloc: Global, register: &Register) -> Result<Vec<u32>, OpenFault>
+    ensures numbers { IfOk result (λ numbers. numbers.items ≡ map number_of (listed register.now)) }
+    ensures ascending { IfOk result (λ numbers. IsNonDecreasing numbers.items) }
+    ensures fault { IfErr result (λ fault. fault ≡ OpenFault.Sql) }
+{
+    match register.accessions(alloc) {
+        Ok(numbers) if ascend(&numbers) => Ok(numbers),
+        _ => Err(OpenFault::Sql),
+    }
+}
+
+/// The accessions and the register, if the rows of the tables that each version has are those of a desk, but for rows of
+/// the index that are for no accession. The marked accessions have error bytes.
+fn check_common<S: Alter>(
     alloc: Global,
     conn: &mut Connection<S>,
-    accessions: &[u32],
-) -> Result<Vec<u32>, OpenFault>
+    marked: &[u32],
+) -> Result<(Vec<u32>, Register), OpenFault>
+    requires tables { HoldsCommonTables (state S.Store conn.old) }
+    requires marks { HoldsMarksOf marked.now (state S.Store conn.old) }
+    requires marked { IsNonDecreasing marked.now }
+    requires sound { IsSoundAt (state S.Store conn.old) }
+    ensures tests { TestsPart S.Store conn.old conn.new result LawfulCommon (LawfulCommonWalk marked.now) }
+    ensures rowids { IsOpen S.Store conn.new → IfOk result (λ common. HaveOtherRowids (state S.Store conn.old).now.trees) }
+    ensures walked { IsOpen S.Store conn.new → IfOk result (λ common.
+        IsWalk marked.now (state S.Store conn.old).now.trees (listed common.1)) }
+    ensures numbers { IfOk result (λ common. common.0.items ≡ map number_of (listed common.1)) }
+    ensures ascending { IfOk result (λ common. IsNonDecreasing common.0.items) }
+{
+    let (deeds, entries) = check_given(alloc, conn, marked)?;
+    let register = Register::of(entries);
+    let accessions = accessions_in(alloc, &register)?;
+    check_others(conn, &accessions, &deeds)?;
+    Ok((accessions, register))
+}
+
+/// The rows of error bytes, if each has as many as a 1541 disk has blocks, of an accession. Whether that accession
+/// stands is judged once all are known.
+fn marks_listed<S: Alter>(conn: &mut Connection<S>) -> Result<Vec<Row>, OpenFault>
     requires tables { HoldsTables (state S.Store conn.old) }
-    requires accessions { IsNonDecreasing accessions.now }
-    ensures tests { Tests S.Store conn.old conn.new result (LawfulMarks accessions.now) }
-    ensures numbers { IsOpen S.Store conn.new → IfOk result (λ numbers.
-        AreKeys (map_of marks_sheet ((state S.Store conn.old).now.trees 11)) numbers.items) }
-    ensures ascending { IfOk result (λ numbers. IsNonDecreasing numbers.items) }
+    ensures tests { TestsPart S.Store conn.old conn.new result (λ trees. ⊤) IsConsistent }
+    ensures listed { IsOpen S.Store conn.new → IfOk result (λ rows.
+        IsListed (listing_query Listing.Marks) ((state S.Store conn.old).now.trees 11) rows.items) }
+    ensures rising { IfOk result (λ rows. AreRising rows.items) }
 {
     let rows = read_listing(conn, Listing::Marks)?;
-    if !are_marks(&rows, accessions) {
+    if !have_error_bytes(&rows) {
         return Err(OpenFault::Inconsistent);
     }
+    Ok(rows)
+}
+
+/// The rows of error bytes, and the accessions in them, ascending.
+fn read_marks<S: Alter>(
+    alloc: Global,
+    conn: &mut Connection<S>,
+) -> Result<(Vec<Row>, Vec<u32>), OpenFault>
+    requires tables { HoldsTables (state S.Store conn.old) }
+    ensures tests { TestsPart S.Store conn.old conn.new result (λ trees. ⊤) IsConsistent }
+    ensures listed { IsOpen S.Store conn.new → IfOk result (λ marks.
+        IsListed (listing_query Listing.Marks) ((state S.Store conn.old).now.trees 11) marks.0.items) }
+    ensures numbers { IfOk result (λ marks. marks.1.items ≡ map (λ row. natural (column row 0)) marks.0.items) }
+    ensures ascending { IfOk result (λ marks. IsNonDecreasing marks.1.items) }
+{
+    let rows = marks_listed(conn)?;
     match read_numbers(alloc, &rows) {
-        Ok(numbers) => Ok(numbers),
+        Ok(numbers) => Ok((rows, numbers)),
         Err(_) => Err(OpenFault::Sql),
     }
 }
 
-/// Whether the rows are those of a desk.
-pub(crate) fn check_rows<S: Alter>(alloc: Global, conn: &mut Connection<S>) -> Result<(), OpenFault>
+/// The register of a desk, if the rows are those of one.
+pub(crate) fn check_rows<S: Alter>(
+    alloc: Global,
+    conn: &mut Connection<S>,
+) -> Result<Register, OpenFault>
     requires tables { HoldsTables (state S.Store conn.old) }
     requires sound { IsSoundAt (state S.Store conn.old) }
     requires version { IsOpen S.Store conn.old → HasVersion 2 ((state S.Store conn.old).now.trees 0) }
     ensures tests { Tests S.Store conn.old conn.new result IsConsistent }
-    ensures rowids { IsOpen S.Store conn.new → IfOk result (λ done. HaveOwnRowids (state S.Store conn.old).now.trees) }
+    ensures rowids { IsOpen S.Store conn.new → IfOk result (λ register. HaveOwnRowids (state S.Store conn.old).now.trees) }
+    ensures listed { IsOpen S.Store conn.new → IfOk result (λ register.
+        listed register ≡ register_of (desk_of (state S.Store conn.old).now.trees).images) }
 {
-    let accessions = check_common(alloc, conn)?;
-    let marked = check_marks(alloc, conn, &accessions)?;
-    check_index(alloc, conn, &accessions, &marked)
+    let (rows, marked) = read_marks(alloc, conn)?;
+    let (accessions, register) = check_common(alloc, conn, &marked)?;
+    if !are_marks(&rows, &accessions) {
+        return Err(OpenFault::Inconsistent);
+    }
+    check_filed(conn, &accessions)?;
+    Ok(register)
 }
 
-/// Whether the rows are those of a desk in the tables of version 1.
+/// The register of a desk, if the rows are those of one in the tables of version 1.
 pub(crate) fn check_first_rows<S: Alter>(
     alloc: Global,
     conn: &mut Connection<S>,
-) -> Result<(), OpenFault>
+) -> Result<Register, OpenFault>
     requires tables { HoldsCommonTables (state S.Store conn.old) }
     requires sound { IsSoundAt (state S.Store conn.old) }
     requires version { IsOpen S.Store conn.old → HasVersion 1 ((state S.Store conn.old).now.trees 0) }
     ensures tests { Tests S.Store conn.old conn.new result (λ trees. IsConsistentAs 1 (unmarked trees)) }
-    ensures rowids { IsOpen S.Store conn.new → IfOk result (λ done. HaveOwnRowids (state S.Store conn.old).now.trees) }
+    ensures rowids { IsOpen S.Store conn.new → IfOk result (λ register. HaveOwnRowids (state S.Store conn.old).now.trees) }
+    ensures listed { IsOpen S.Store conn.new → IfOk result (λ register.
+        listed register ≡ register_of (desk_of (unmarked (state S.Store conn.old).now.trees)).images) }
 {
-    let accessions = check_common(alloc, conn)?;
-    check_index(alloc, conn, &accessions, &[])
+    let (accessions, register) = check_common(alloc, conn, &[])?;
+    check_filed(conn, &accessions)?;
+    Ok(register)
 }

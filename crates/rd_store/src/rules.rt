@@ -6,6 +6,7 @@ ghost use Rattle.sqlite_value.specs.Order.{bytes};
 ghost use Rattle.rd_tables.specs.Sheets.{natural};
 ghost use Rattle.rd_store.specs.Codes.{is_at, select_in};
 ghost use Rattle.rd_store.specs.Held.{Asks, Changes, HoldsDesk, IsOf, IsOpen, Judges, Moves, desk};
+ghost use Rattle.rd_store.specs.Register.{IsRegisterOf};
 ghost use Rattle.rd_store.specs.Spelled.{rule_sheet};
 ghost use Rattle.rd_policy.specs.Rules.{IsRule};
 ghost use Rattle.rd_store.specs.State.{Stands, place_of, rule_of, rules_at, rules_for as rules_for_accession, terms_of, with_rule, without_rule};
@@ -14,6 +15,7 @@ use crate::decode::{audiences, band, effect, number_at, select, some_day_at, tex
 use crate::faults::StoreFault;
 use crate::outside::outside;
 use crate::read::read_all;
+use crate::register::Register;
 use crate::{codes, deeds, images};
 use rd_policy::{Band, Rule, Select};
 use sqlite::types::ToSql;
@@ -189,21 +191,32 @@ pub(crate) fn write_rule<S: Alter>(conn: &mut Connection<S>, rule: &Rule) -> Res
 }
 
 /// Whether the accession or the deed of a rule stands.
-fn stands<S: Alter>(conn: &mut Connection<S>, band: Band, scope: u32) -> Result<bool, StoreFault>
+fn stands<S: Alter>(
+    conn: &mut Connection<S>,
+    register: &Register,
+    band: Band,
+    scope: u32,
+) -> Result<bool, StoreFault>
     requires holds { HoldsDesk (state S.Store conn.old) }
+    requires listed { IsRegisterOf S.Store conn.old register.now }
     ensures asks { Asks S.Store conn.old conn.new result StoreFault.Sql (λ stand. MatchBool stand
         (Stands (desk S.Store conn.old) band scope) (¬ Stands (desk S.Store conn.old) band scope)) }
     ensures kept { HoldsDesk (state S.Store conn.new) }
 {
     match band {
-        Band::Takedown => Ok(images::deed_of(conn, scope)?.is_some()),
+        Band::Takedown => images::stands(conn, register, scope),
         Band::Deed => Ok(deeds::deed(conn, scope)?.is_some()),
     }
 }
 
 /// Puts a rule, in place of one at its place, where its accession or deed stands.
-pub(crate) fn put_rule<S: Alter>(conn: &mut Connection<S>, rule: &Rule) -> Result<(), StoreFault>
+pub(crate) fn put_rule<S: Alter>(
+    conn: &mut Connection<S>,
+    register: &Register,
+    rule: &Rule,
+) -> Result<(), StoreFault>
     requires holds { HoldsDesk (state S.Store conn.old) }
+    requires listed { IsRegisterOf S.Store conn.old register.now }
     requires rule { IsRule rule.now }
     ensures kept { HoldsDesk (state S.Store conn.new) }
     ensures changes { Changes S.Store conn.old conn.new
@@ -211,7 +224,7 @@ pub(crate) fn put_rule<S: Alter>(conn: &mut Connection<S>, rule: &Rule) -> Resul
     ensures judges { Judges S.Store conn.new result (Stands (desk S.Store conn.old) rule.now.band rule.now.scope) ⊥ }
     ensures fault { IfErr result (λ fault. fault ≢ StoreFault.Conflict) }
 {
-    if !stands(conn, rule.band, rule.scope)? {
+    if !stands(conn, register, rule.band, rule.scope)? {
         return Err(StoreFault::Missing);
     }
     outside(conn)?;
@@ -224,18 +237,20 @@ pub(crate) fn put_rule<S: Alter>(conn: &mut Connection<S>, rule: &Rule) -> Resul
 /// Takes a rule away, if it is there, where its accession or deed stands.
 pub(crate) fn drop_rule<S: Alter>(
     conn: &mut Connection<S>,
+    register: &Register,
     band: Band,
     scope: u32,
     rank: u16,
 ) -> Result<(), StoreFault>
     requires holds { HoldsDesk (state S.Store conn.old) }
+    requires listed { IsRegisterOf S.Store conn.old register.now }
     ensures kept { HoldsDesk (state S.Store conn.new) }
     ensures changes { Changes S.Store conn.old conn.new
         (without_rule (record { band = band; scope = scope; rank = rank }) (desk S.Store conn.old)) result }
     ensures judges { Judges S.Store conn.new result (Stands (desk S.Store conn.old) band scope) ⊥ }
     ensures fault { IfErr result (λ fault. fault ≢ StoreFault.Conflict) }
 {
-    if !stands(conn, band, scope)? {
+    if !stands(conn, register, band, scope)? {
         return Err(StoreFault::Missing);
     }
     outside(conn)?;
@@ -243,6 +258,26 @@ pub(crate) fn drop_rule<S: Alter>(
         Ok(_) => Ok(()),
         Err(_) => Err(StoreFault::Sql),
     }
+}
+
+/// These rules, and after them those of a deed.
+fn with_rules_of<S: Alter>(
+    alloc: Global,
+    conn: &mut Connection<S>,
+    rules: Vec<Rule>,
+    deed: u32,
+) -> Result<Vec<Rule>, StoreFault>
+    requires holds { HoldsDesk (state S.Store conn.old) }
+    ensures asks { Asks S.Store conn.old conn.new result StoreFault.Sql (λ all.
+        all.items ≡ rules.items ++ rules_at (desk S.Store conn.old) Band.Deed deed) }
+    ensures kept { HoldsDesk (state S.Store conn.new) }
+{
+    let mut all = rules;
+    let mut more = rules_of(alloc, conn, Band::Deed, deed)?;
+    if all.append(&mut more).is_err() {
+        return Err(StoreFault::Sql);
+    }
+    Ok(all)
 }
 
 /// The takedowns of an accession and the rules of a deed.
@@ -257,27 +292,27 @@ pub(crate) fn rules_of_both<S: Alter>(
         rules.items ≡ rules_at (desk S.Store conn.old) Band.Takedown acc ++ rules_at (desk S.Store conn.old) Band.Deed deed) }
     ensures kept { HoldsDesk (state S.Store conn.new) }
 {
-    let mut rules = rules_of(alloc, conn, Band::Takedown, acc)?;
-    let mut more = rules_of(alloc, conn, Band::Deed, deed)?;
-    if rules.append(&mut more).is_err() {
-        return Err(StoreFault::Sql);
-    }
-    Ok(rules)
+    let takedowns = rules_of(alloc, conn, Band::Takedown, acc)?;
+    with_rules_of(alloc, conn, takedowns, deed)
 }
 
-/// The rules that decide on the files of an accession, in their order; none where it is not there.
+/// The rules that decide on the files of an accession, in their order; none where it is not there. The takedowns
+/// are asked for first: then the connection is known to be open, and the register is that of the desk.
 pub(crate) fn rules_for<S: Alter>(
     alloc: Global,
     conn: &mut Connection<S>,
+    register: &Register,
     acc: u32,
 ) -> Result<Vec<Rule>, StoreFault>
     requires holds { HoldsDesk (state S.Store conn.old) }
+    requires listed { IsRegisterOf S.Store conn.old register.now }
     ensures asks { Asks S.Store conn.old conn.new result StoreFault.Sql (λ rules.
         rules.items ≡ rules_for_accession (desk S.Store conn.old) acc) }
     ensures kept { HoldsDesk (state S.Store conn.new) }
 {
-    match images::deed_of(conn, acc)? {
-        Some(deed) => rules_of_both(alloc, conn, acc, deed),
+    let takedowns = rules_of(alloc, conn, Band::Takedown, acc)?;
+    match register.find(acc) {
+        Some(heading) => with_rules_of(alloc, conn, takedowns, heading.deed),
         None => Ok(Vec::new(alloc)),
     }
 }

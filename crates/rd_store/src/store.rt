@@ -16,7 +16,8 @@ ghost use Rattle.rd_store.specs.Lawful.{IsDeed, IsImage, IsKey};
 ghost use Rattle.rd_store.specs.State.{HasOtherImage, IsLastStaff, Stands, place_of, rules_at, rules_for, terms_of, with_check, with_deed, with_image, with_key, with_rule, without_key, without_rule};
 
 use crate::faults::{CreateFault, OpenFault, Refused, StoreFault};
-use crate::outside::outside;
+use crate::images::Heading;
+use crate::register::Register;
 use crate::rows::{Accession, DeedRow, ImageRow, Outcome};
 use crate::{checks, create, deeds, files, images, judging, keys, migrating, rules};
 use rd_geometry::Kind;
@@ -28,15 +29,18 @@ use std::alloc::Global;
 use std::marker::Model;
 
 /// The tables of a desk over a connection: deeds, images, some with error bytes, an index of their files, rules,
-/// desk keys and checks.
+/// desk keys and checks. Beside them it keeps a register in memory, 44 bytes for each accession: the kind of its
+/// image, its deed and its SHA-256.
 #[derive(Drop)]
 pub struct Store<S: Alter> {
     conn: Connection<S>,
+    register: Register,
 }
 
 impl<S: Alter> Model for Store<S> {
     ghost use Rattle.sqlite.specs.Held.{Held, held_code, state};
     ghost use Rattle.rd_store.specs.Held.{HoldsDesk};
+    ghost use Rattle.rd_store.specs.Register.{IsRegisterOf};
 
     ghost Value = { Held S };
 
@@ -44,7 +48,7 @@ impl<S: Alter> Model for Store<S> {
 
     ghost view = { λ store. store.conn };
 
-    ghost invariant = { λ store. HoldsDesk (state S.Store store.conn) };
+    ghost invariant = { λ store. HoldsDesk (state S.Store store.conn) × IsRegisterOf S.Store store.conn store.register };
 }
 
 impl<S: Alter> Store<S> {
@@ -74,7 +78,10 @@ impl<S: Alter> Store<S> {
             });
         }
         match create::write_desk(&mut conn, staff) {
-            Ok(()) => Ok(Store { conn }),
+            Ok(()) => Ok(Store {
+                conn,
+                register: Register::empty(),
+            }),
             Err(_) => Err(Refused {
                 fault: CreateFault::Sql,
                 conn,
@@ -97,7 +104,7 @@ impl<S: Alter> Store<S> {
     {
         let _outside = conn.is_autocommit();
         match judging::judge(alloc, &mut conn) {
-            Ok(()) => Ok(Store { conn }),
+            Ok(register) => Ok(Store { conn, register }),
             Err(fault) => Err(Refused { fault, conn }),
         }
     }
@@ -121,7 +128,7 @@ impl<S: Alter> Store<S> {
     {
         let _outside = conn.is_autocommit();
         match migrating::migrate(alloc, &mut conn) {
-            Ok(()) => Ok(Store { conn }),
+            Ok(register) => Ok(Store { conn, register }),
             Err(fault) => Err(Refused { fault, conn }),
         }
     }
@@ -131,7 +138,7 @@ impl<S: Alter> Store<S> {
         ensures same { result ≡ self }
         ensures holds { HoldsDesk (state S.Store result) }
     {
-        let Store { conn } = self;
+        let Store { conn, register: _ } = self;
         conn
     }
 
@@ -165,14 +172,14 @@ impl<S: Alter> Store<S> {
     }
 
     /// The kind of the image and the deed of an accession, 1 to 999,999; `None` if it is not
-    /// there. It does not read the bytes of the image.
+    /// there. It reads no row.
     ///
     /// It fails with `Sql`.
     pub fn accession(&mut self, acc: u32) -> Result<Option<Accession>, StoreFault>
         ensures reads { Reads S.Store self.old self.new result (λ found.
             found ≡ option_map accession_of (get (desk S.Store self.old).images acc)) }
     {
-        images::accession(&mut self.conn, acc)
+        images::accession(&mut self.conn, &self.register, acc)
     }
 
     /// The files of the image of an accession, 1 to 999,999, by slot, as `survey` gives them; none
@@ -209,18 +216,18 @@ impl<S: Alter> Store<S> {
         ensures reads { Reads S.Store self.old self.new result (λ numbers.
             numbers.items ≡ keys (desk S.Store self.old).images) }
     {
-        images::accessions(alloc, &mut self.conn)
+        images::accessions(alloc, &mut self.conn, &self.register)
     }
 
     /// The register: all accessions, ascending, each with the kind of its image and its deed. It
-    /// does not read the bytes of the images.
+    /// reads no row.
     ///
     /// It fails with `Sql`.
     pub fn register(&mut self, alloc: Global) -> Result<Vec<(u32, Accession)>, StoreFault>
         ensures reads { Reads S.Store self.old self.new result (λ register.
             register.items ≡ map registered (entries (desk S.Store self.old).images)) }
     {
-        images::register(alloc, &mut self.conn)
+        images::givens(alloc, &mut self.conn, &self.register)
     }
 
     /// The audience of the desk key that has a digest, its SHA-256; `None` where there is no such key.
@@ -244,11 +251,7 @@ impl<S: Alter> Store<S> {
             (with_deed num (record { donor = donor.now; signed = signed }) (desk S.Store self.old)) result }
         ensures fault { IfErr result (λ fault. fault ≡ StoreFault.Sql) }
     {
-        outside(&self.conn)?;
-        match deeds::insert_deed(&mut self.conn, num, donor, signed) {
-            Ok(_) => Ok(()),
-            Err(_) => Err(StoreFault::Sql),
-        }
+        deeds::put_deed(&mut self.conn, num, donor, signed)
     }
 
     /// Puts an image of its kind's length where none stands, at an accession, 1 to 999,999, under
@@ -274,7 +277,19 @@ impl<S: Alter> Store<S> {
         ensures judges { Judges S.Store self.new result (IsSome (get (desk S.Store self.old).deeds deed))
             (HasOtherImage (desk S.Store self.old) acc (record { kind = kind; deed = deed; digest = digest.now; bytes = bytes.now })) }
     {
-        images::put_image(alloc, &mut self.conn, acc, kind, deed, digest, bytes)
+        let heading = Heading {
+            kind,
+            deed,
+            digest: *digest,
+        };
+        images::put_image(
+            alloc,
+            &mut self.conn,
+            &mut self.register,
+            acc,
+            &heading,
+            bytes,
+        )
     }
 
     /// Puts a rule, in place of one of its band, number and rank. Its values are within their limits
@@ -288,7 +303,7 @@ impl<S: Alter> Store<S> {
         ensures judges { Judges S.Store self.new result (Stands (desk S.Store self.old) rule.now.band rule.now.scope) ⊥ }
         ensures fault { IfErr result (λ fault. fault ≢ StoreFault.Conflict) }
     {
-        rules::put_rule(&mut self.conn, rule)
+        rules::put_rule(&mut self.conn, &self.register, rule)
     }
 
     /// Takes away the takedown of an accession, or the rule of a deed, that has a rank, 1 to 9,999, if it is
@@ -301,7 +316,7 @@ impl<S: Alter> Store<S> {
         ensures judges { Judges S.Store self.new result (Stands (desk S.Store self.old) band scope) ⊥ }
         ensures fault { IfErr result (λ fault. fault ≢ StoreFault.Conflict) }
     {
-        rules::drop_rule(&mut self.conn, band, scope, rank)
+        rules::drop_rule(&mut self.conn, &self.register, band, scope, rank)
     }
 
     /// Puts a desk key by its digest, for the reading room or the staff, in place of one with it.
@@ -338,7 +353,7 @@ impl<S: Alter> Store<S> {
         ensures judges { Judges S.Store self.new result (IsSome (get (desk S.Store self.old).images acc)) ⊥ }
         ensures fault { IfErr result (λ fault. fault ≢ StoreFault.Conflict) }
     {
-        checks::put_check(&mut self.conn, acc, day, outcome)
+        checks::put_check(&mut self.conn, &self.register, acc, day, outcome)
     }
 
     /// The rules that decide on the files of an accession, 1 to 999,999: its takedowns by rank, and then the
@@ -350,7 +365,7 @@ impl<S: Alter> Store<S> {
             rules.items ≡ rules_for (desk S.Store self.old) acc) }
         ensures order { IsOpen S.Store self.new → IfOk result (λ rules. AreInOrder rules.items) }
     {
-        rules::rules_for(alloc, &mut self.conn, acc)
+        rules::rules_for(alloc, &mut self.conn, &self.register, acc)
     }
 
     /// The rules that decide on the files of an accession whose deed is known, both numbers 1 to

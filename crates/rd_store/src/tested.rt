@@ -1,7 +1,7 @@
 ghost use Rattle.std.specs.Prelude.{◌≡◌, ◌↔◌, All, Any, MatchBool};
 ghost use Rattle.std.specs.List.Sorted.{IsNonDecreasing};
 ghost use Rattle.sqlite.specs.Order.{column};
-ghost use Rattle.rd_store.specs.Cells.{HasParts, IsCheckRow, IsDeedRow, IsFiledRow, IsImageRow, IsKeyRow, IsMarksRow, IsRuleRow, IsSelectAt, IsStaffRow, is_band, is_size_of};
+ghost use Rattle.rd_store.specs.Cells.{HasErrorBytes, HasParts, IsCheckRow, IsDeedRow, IsFiledRow, IsImageRow, IsKeyRow, IsMarksRow, IsRuleRow, IsSelectAt, IsStaffRow, is_band, is_size_of};
 
 use crate::cells::{
     has_day, has_digest, has_donor, has_number, has_one_of, has_some_day, has_word, names_blob,
@@ -104,6 +104,13 @@ fn is_filed(row: &Row, accessions: &[u32]) -> bool
     has_one_of(row, 1, accessions)
 }
 
+/// Whether a row shows error bytes, one for each block, of an accession, whichever it is.
+fn has_error_bytes(row: &Row) -> bool
+    ensures { MatchBool result (HasErrorBytes row.now) (¬ HasErrorBytes row.now) }
+{
+    has_number(row, 0, 1, 999_999) && has_number(row, 1, 683, 683) && names_blob(row, 2)
+}
+
 /// Whether a row shows error bytes, one for each block, of one of these accessions, which ascend.
 fn is_marks(row: &Row, accessions: &[u32]) -> bool
     requires { IsNonDecreasing accessions.now }
@@ -124,14 +131,6 @@ pub(crate) fn are_deeds(rows: &[Row]) -> bool
     ensures { MatchBool result (All IsDeedRow rows.now) (¬ All IsDeedRow rows.now) }
 {
     rows.iter().all(is_deed)
-}
-
-/// Whether each row shows an image of one of these deeds.
-pub(crate) fn are_images(rows: &[Row], deeds: &[u32]) -> bool
-    requires { IsNonDecreasing deeds.now }
-    ensures { MatchBool result (All (IsImageRow deeds.now) rows.now) (¬ All (IsImageRow deeds.now) rows.now) }
-{
-    rows.iter().all(|row| is_image(row, deeds))
 }
 
 /// Whether each row shows a rule.
@@ -164,6 +163,13 @@ pub(crate) fn are_filed(rows: &[Row], accessions: &[u32]) -> bool
     ensures { MatchBool result (All (IsFiledRow accessions.now) rows.now) (¬ All (IsFiledRow accessions.now) rows.now) }
 {
     rows.iter().all(|row| is_filed(row, accessions))
+}
+
+/// Whether each row shows error bytes of an accession, whichever it is.
+pub(crate) fn have_error_bytes(rows: &[Row]) -> bool
+    ensures { MatchBool result (All HasErrorBytes rows.now) (¬ All HasErrorBytes rows.now) }
+{
+    rows.iter().all(has_error_bytes)
 }
 
 /// Whether each row shows error bytes of one of these accessions.

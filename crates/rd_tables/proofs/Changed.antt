@@ -1,21 +1,22 @@
 -- What a row put in, or rows taken out, make of the map that the rows of a table spell.
-use Rattle.std.proofs.Common.{◌≡◌, List, [], ◌∷◌, map, filter, Bool, true, false, not, cond, Option, Some, None, refl, sym, ap, subst, ◌∙◌, Ordering, Less, Equal, Greater, is_eq, true≢false}
+use Rattle.std.proofs.Common.{◌≡◌, inl, inr, List, [], ◌∷◌, map, filter, Bool, true, false, not, cond, Option, Some, None, IsSome, refl, sym, ap, subst, ◌∙◌, Ordering, Less, Equal, Greater, is_eq, true≢false}
 use Rattle.std.specs.List.{AllByRecursion, IsDistinct}
 use Rattle.std.specs.List.Sorted.{IsPermutation}
 use Rattle.std.specs.Ordering.{eq_by_cmp, match_ordering}
 use Rattle.std.specs.FinMap.{get, insert, remove, same_map, get-remove, get-from_entries}
 use Rattle.std.specs.FinMap.Entries.{find, where_key, find-where_key}
+use Rattle.std.proofs.lemmas.Bool.{cases_Bool}
 use Rattle.std.proofs.lemmas.Cmp.{eq_by_cmp_equiv}
 use Rattle.std.proofs.lemmas.List.Sorted.{IsPermutation-trans, IsPermutation-refl, IsPermutation-cons, IsPermutation-map, IsPermutation-middle, IsPermutation-sym, All-permutation}
 use Rattle.std.proofs.lemmas.List.Elements.{recursion_from_All, All-from_recursion}
-use Rattle.std.proofs.lemmas.Map.Keys.{IsDistinct-IsPermutation, IsDistinct-cons}
+use Rattle.std.proofs.lemmas.Map.Keys.{IsDistinct-IsPermutation, IsDistinct-cons, IsDistinct-head, IsDistinct-tail}
 use Rattle.std.proofs.lemmas.Map.Made.{IsDistinct-keys_filter}
 use Rattle.sqlite.specs.Order.{Row, value_cmp}
 use Rattle.sqlite.specs.Tree.{rowid, put_row}
 use Rattle.sqlite.specs.Edit.{is_taken}
 use Rattle.rd_tables.specs.Sheets.{Sheet, entry_of, IsSpelled, Spells, map_of}
 use Rattle.rd_tables.proofs.Lists.{map_map, neither, all_map, all_weaker, all_filtered}
-use Rattle.rd_tables.proofs.Entries.{IsKeyOrder, one_map}
+use Rattle.rd_tables.proofs.Entries.{IsKeyOrder, one_map, tie}
 use Rattle.rd_tables.proofs.Finding.{kept_entries, keys_apart}
 
 -- a row whose rowid is free goes in somewhere
@@ -70,6 +71,32 @@ module _ {K X : Type 0} (sheet : Sheet K X) (order : IsKeyOrder sheet.cmp) where
       go (r ∷ rs) e =
           let parts = parted (eq_by_cmp sheet.cmp key (key_at r)) (look r).1 (find sheet.cmp key (map look rs)) e in
           (parts.0, go rs parts.1)
+
+  -- where it has something at a key, one row has it
+  pub one_at : (key : K) (test : Row → Bool) (rows : List Row) → Spells sheet rows → ((row : Row) → IsSpelled sheet row → test row ≡ eq_by_cmp sheet.cmp key (key_at row)) → IsSome (get (map_of sheet rows) key)
+      → (row : Row) × (filter test rows ≡ row ∷ []) × IsSpelled sheet row × (key ≡ key_at row)
+  one_at key test rows spells tests some = go rows spells.spelled spells.apart (subst IsSome (get-from_entries order.total (map look rows) key) some)
+    where
+      -- rows with other keys do not pass
+      others : (k : K) (rs : List Row) → eq_by_cmp sheet.cmp key k ≡ true → AllByRecursion (IsSpelled sheet) rs → AllByRecursion (λ j. eq_by_cmp sheet.cmp k j ≡ false) (map key_at rs) → filter test rs ≡ []
+      others k [] same all apart = refl
+      others k (r ∷ rs) same all apart =
+          let other : test r ≡ false = tests r all.0 ∙ ap is_eq (order.total.congr key k (key_at r) (tie (sheet.cmp key k) same)) ∙ apart.0 in
+          rw (other, others k rs same all.1 apart.1) refl
+
+      go : (rs : List Row) → AllByRecursion (IsSpelled sheet) rs → IsDistinct (eq_by_cmp sheet.cmp) (map key_at rs) → IsSome (find sheet.cmp key (map look rs)) → (row : Row) × (filter test rs ≡ row ∷ []) × IsSpelled sheet row × (key ≡ key_at row)
+      go [] all apart found = absurd cc
+      go (r ∷ rs) all apart found = elim (cases_Bool (eq_by_cmp sheet.cmp key (key_at r))) [
+        | inl same ↦ (
+          r,
+          rw (tests r all.0 ∙ same) (ap (λ more. r ∷ more) (others (key_at r) rs same all.1 (IsDistinct-head (eq_by_cmp sheet.cmp) (key_at r) (map key_at rs) apart))),
+          all.0,
+          order.same key (key_at r) (tie (sheet.cmp key (key_at r)) same),
+        )
+        | inr other ↦
+            let it = go rs all.1 (IsDistinct-tail (eq_by_cmp sheet.cmp) (key_at r) (map key_at rs) apart) (rw other at found) in
+            (it.0, rw (tests r all.0 ∙ other) it.1, it.2, it.3)
+      ]
 
   -- The rows with one key are taken out.
   module _ (key : K) (test : Row → Bool) (rows : List Row) (spells : Spells sheet rows) (tests : (row : Row) → IsSpelled sheet row → test row ≡ eq_by_cmp sheet.cmp key (key_at row)) where

@@ -10,9 +10,11 @@ pub mod Changed
 pub mod Removed
 pub mod Steps
 pub mod Deleting
+pub mod Updating
 pub mod Setting
 pub mod Reading
 pub mod Running
 pub mod Statements
 pub mod Listed
+pub mod Walking
 pub mod Unique

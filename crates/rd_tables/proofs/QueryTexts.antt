@@ -13,14 +13,22 @@ use Rattle.sqlite.specs.Term.{Term}
 use Rattle.sqlite_value.specs.declared.keys.Key.{Key}
 use Rattle.sqlite.proofs.Callers.{IsPlain, command_of}
 use Rattle.sqlite_tied.specs.Compute.{everything}
-use Rattle.rd_tables.specs.Asked.{asks_of}
+use Rattle.rd_tables.specs.Asked.{asks_of, at_most}
 use Rattle.rd_tables.specs.Schemas.{desk_schema, desk_with, starts_with_desk}
-use Rattle.rd_tables.specs.Queries.{deed_text, deed_query, image_text, image_query, heading_text, heading_query, accession_text, accession_query, marks_text, marks_query, has_marks_text, has_marks_query, audience_text, audience_query, rules_text, rules_query, accessions_text, accessions_query, register_text, register_query, marked_text, marked_query, keys_text, keys_query, all_deeds_text, all_deeds_query, all_images_text, all_images_query, all_rules_text, all_rules_query, all_keys_text, all_keys_query, all_checks_text, all_checks_query, file_text, file_query, files_text, files_query, all_files_text, all_files_query, all_marks_text, all_marks_query, version_text, version_query}
+use Rattle.rd_tables.specs.Queries.{deed_text, deed_query, image_text, image_query, marks_text, marks_query, audience_text, audience_query, rules_text, rules_query, keys_text, keys_query, all_deeds_text, all_deeds_query, all_rules_text, all_rules_query, all_keys_text, all_keys_query, all_checks_text, all_checks_query, file_text, file_query, files_text, files_query, all_files_text, all_files_query, all_marks_text, all_marks_query, first_images_text, all_images_query, next_images_text, later_images_query, version_text, version_query}
 
 -- Over these tables the text asks this of the rows on one tree.
 pub record AsksOver (schema : Schema) (text : List ℕ) (tree : ℕ) (tests shown : List Term) (order : List (Term × Key)) : Type 0 where
   pub names : List (List ℕ)
   pub means : command_of (understood schema text) ≡ Select (record { lets = []; body = asks_of tree tests shown order }) names
+  pub plain : IsPlain (understood schema text)
+  pub stored : reads_listing schema text ≡ false
+  pub here : (trees : Trees) → overlay trees [] tree ≡ trees tree
+
+-- Over these tables the text asks for the first rows of the answer to this.
+pub record AsksStart (schema : Schema) (text : List ℕ) (most tree : ℕ) (tests shown : List Term) (order : List (Term × Key)) : Type 0 where
+  pub names : List (List ℕ)
+  pub means : command_of (understood schema text) ≡ Select (record { lets = []; body = at_most most (asks_of tree tests shown order) }) names
   pub plain : IsPlain (understood schema text)
   pub stored : reads_listing schema text ≡ false
   pub here : (trees : Trees) → overlay trees [] tree ≡ trees tree
@@ -37,6 +45,10 @@ AsksBy text tree query = Asks text tree query.filter query.project query.order
 abbrev pub AsksInEach : List ℕ → ℕ → Query → Type 0
 AsksInEach text tree query = (more : List Table) → AsksOver (desk_with more) text tree query.filter query.project query.order
 
+-- of the first rows
+abbrev pub AsksStartInEach : List ℕ → ℕ → ℕ → Query → Type 0
+AsksStartInEach text most tree query = (more : List Table) → AsksStart (desk_with more) text most tree query.filter query.project query.order
+
 pub deed_asks : AsksBy deed_text 1 deed_query
 unfolding understood everything
 deed_asks = record { names = codes "donor" ∷ codes "signed" ∷ []; means = refl; plain = (refl, refl); stored = refl; here = λ trees. refl }
@@ -45,21 +57,9 @@ pub image_asks : AsksInEach image_text 2 image_query
 unfolding understood everything
 image_asks more = record { names = codes "kind" ∷ codes "deed" ∷ codes "digest" ∷ codes "bytes" ∷ []; means = refl; plain = (refl, refl); stored = refl; here = λ trees. refl }
 
-pub heading_asks : AsksBy heading_text 2 heading_query
-unfolding understood everything
-heading_asks = record { names = codes "kind" ∷ codes "deed" ∷ codes "digest" ∷ []; means = refl; plain = (refl, refl); stored = refl; here = λ trees. refl }
-
-pub accession_asks : AsksBy accession_text 2 accession_query
-unfolding understood everything
-accession_asks = record { names = codes "kind" ∷ codes "deed" ∷ []; means = refl; plain = (refl, refl); stored = refl; here = λ trees. refl }
-
 pub marks_asks : AsksBy marks_text 11 marks_query
 unfolding understood everything
 marks_asks = record { names = codes "bytes" ∷ []; means = refl; plain = (refl, refl); stored = refl; here = λ trees. refl }
-
-pub has_marks_asks : AsksBy has_marks_text 11 has_marks_query
-unfolding understood everything
-has_marks_asks = record { names = codes "1" ∷ []; means = refl; plain = (refl, refl); stored = refl; here = λ trees. refl }
 
 pub audience_asks : AsksBy audience_text 5 audience_query
 unfolding understood everything
@@ -75,18 +75,6 @@ rules_asks = record {
   here = λ trees. refl;
 }
 
-pub accessions_asks : AsksBy accessions_text 2 accessions_query
-unfolding understood everything
-accessions_asks = record { names = codes "acc" ∷ []; means = refl; plain = (refl, refl); stored = refl; here = λ trees. refl }
-
-pub register_asks : AsksBy register_text 2 register_query
-unfolding understood everything
-register_asks = record { names = codes "acc" ∷ codes "kind" ∷ codes "deed" ∷ []; means = refl; plain = (refl, refl); stored = refl; here = λ trees. refl }
-
-pub marked_asks : AsksBy marked_text 11 marked_query
-unfolding understood everything
-marked_asks = record { names = codes "acc" ∷ []; means = refl; plain = (refl, refl); stored = refl; here = λ trees. refl }
-
 pub keys_asks : AsksBy keys_text 5 keys_query
 unfolding understood everything
 keys_asks = record { names = codes "digest" ∷ codes "audience" ∷ []; means = refl; plain = (refl, refl); stored = refl; here = λ trees. refl }
@@ -94,10 +82,6 @@ keys_asks = record { names = codes "digest" ∷ codes "audience" ∷ []; means =
 pub all_deeds_asks : AsksInEach all_deeds_text 1 all_deeds_query
 unfolding understood everything
 all_deeds_asks more = record { names = codes "num" ∷ codes "donor" ∷ codes "signed" ∷ []; means = refl; plain = (refl, refl); stored = refl; here = λ trees. refl }
-
-pub all_images_asks : AsksInEach all_images_text 2 all_images_query
-unfolding understood everything
-all_images_asks more = record { names = codes "acc" ∷ codes "kind" ∷ codes "deed" ∷ codes "digest" ∷ codes "length(bytes)" ∷ codes "typeof(bytes)" ∷ []; means = refl; plain = (refl, refl); stored = refl; here = λ trees. refl }
 
 pub all_rules_asks : AsksInEach all_rules_text 3 all_rules_query
 unfolding understood everything
@@ -130,6 +114,18 @@ all_files_asks more = record { names = codes "rowid" ∷ codes "acc" ∷ []; mea
 pub all_marks_asks : AsksBy all_marks_text 11 all_marks_query
 unfolding understood everything
 all_marks_asks = record { names = codes "acc" ∷ codes "length(bytes)" ∷ codes "typeof(bytes)" ∷ []; means = refl; plain = (refl, refl); stored = refl; here = λ trees. refl }
+
+-- the columns of an image that is walked
+image_names : List (List ℕ)
+image_names = codes "acc" ∷ codes "kind" ∷ codes "deed" ∷ codes "digest" ∷ codes "length(bytes)" ∷ codes "typeof(bytes)" ∷ codes "bytes" ∷ []
+
+pub first_images_asks : AsksStartInEach first_images_text 2 2 all_images_query
+unfolding understood everything image_names
+first_images_asks more = record { names = image_names; means = refl; plain = (refl, refl); stored = refl; here = λ trees. refl }
+
+pub next_images_asks : AsksStartInEach next_images_text 2 2 later_images_query
+unfolding understood everything image_names
+next_images_asks more = record { names = image_names; means = refl; plain = (refl, refl); stored = refl; here = λ trees. refl }
 
 -- the version is read in one way whatever tables follow the first
 pub version_asks : (more : List Table) (indexes : List Index) (views : List View) → AsksOver (starts_with_desk more indexes views) version_text 0 version_query.filter version_query.project version_query.order

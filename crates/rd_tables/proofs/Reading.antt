@@ -12,10 +12,10 @@ use Rattle.sqlite.specs.Listing.{understood}
 use Rattle.sqlite.specs.State.{State, IsUnchanged, IsRolledBack, FailsToShow, FailsToQuery, IsNotRun, Shown, ShowsRows, Survives, CommitsShowing}
 use Rattle.sqlite.proofs.Callers.{IsPlain, reads_as, never_commits}
 use Rattle.sqlite.proofs.StateLemmas.{survives_weaker}
-use Rattle.rd_tables.specs.Asked.{asks_of, IsPicked}
+use Rattle.rd_tables.specs.Asked.{asks_of, IsPicked, IsStart}
 use Rattle.sqlite.specs.Schema.{Schema}
-use Rattle.rd_tables.proofs.Picking.{answer_picks}
-use Rattle.rd_tables.proofs.QueryTexts.{AsksOver}
+use Rattle.rd_tables.proofs.Picking.{answer_picks, answer_starts}
+use Rattle.rd_tables.proofs.QueryTexts.{AsksOver, AsksStart}
 
 not_shown : (old new : State) (text : List ℕ) (c : Compiled) (params : Row) (e : Error) (returning : Option Returning) → FailsToShow old new text c params e returning → IsUnchanged old new ⊎ IsRolledBack old new
 not_shown old new text c params e None h = inl h.3
@@ -66,3 +66,9 @@ pub shown_picks : {over : Schema} {text : List ℕ} {tree : ℕ} {tests shown : 
     → IsPicked (asks_of tree tests shown order) params (old.now.trees tree) rows
 shown_picks {over} {text} {tree} {tests} {shown} {order} asks params old new schema rows h =
     answer_picks tree tests shown order old.now.trees params rows (asks.here old.now.trees) ((reads_as text params old new over schema _ asks.means asks.plain asks.stored rows h).answer Null)
+
+-- the rows are the first of those that the text asks for
+pub shown_starts : {over : Schema} {text : List ℕ} {most tree : ℕ} {tests shown : List Term} {order : List (Term × Key)} → AsksStart over text most tree tests shown order → (params : Row) (old new : State) → old.now.schema ≡ over → (rows : List Row) → Shown text params old new rows
+    → IsStart (asks_of tree tests shown order) most params (old.now.trees tree) rows
+shown_starts {over} {text} {most} {tree} {tests} {shown} {order} asks params old new schema rows h =
+    answer_starts tree tests shown order most old.now.trees params rows (asks.here old.now.trees) ((reads_as text params old new over schema _ asks.means asks.plain asks.stored rows h).answer Null)

@@ -1,38 +1,30 @@
 -- What each statement makes of the rows of its table.
-use Rattle.std.proofs.Common.{◌≡◌, ℕ, ℤ, pos, List, [], ◌∷◌, map, filter, Bool, true, false, not, Option, None, Ok, refl, sym, ap, subst, ◌∙◌, is_eq}
+use Rattle.std.proofs.Common.{◌≡◌, ℕ, ℤ, pos, List, [], ◌∷◌, filter, Bool, true, false, not, Option, None, Ok, refl, ap, subst, ◌∙◌, is_eq}
 use Rattle.std.specs.List.{list_all}
 use Rattle.std.proofs.lemmas.Cmp.{eq_by_cmp_equiv}
 use Rattle.sqlite.specs.declared.types.Value.TheVariants.{Null, Int, Text, Blob}
 use Rattle.sqlite.specs.Order.{Row, column, value_cmp}
-use Rattle.sqlite.specs.Tree.{Trees, put_row, rowid, has_rowid, without_rowid}
-use Rattle.sqlite.specs.Edit.{edit_of, with_rowid, next_rowid, is_taken}
-use Rattle.sqlite.specs.Query.{Output}
+use Rattle.sqlite.specs.Tree.{put_row, rowid, has_rowid, without_rowid}
+use Rattle.sqlite.specs.Edit.{with_rowid, next_rowid, is_taken}
 use Rattle.sqlite.specs.Effect.{Database}
 use Rattle.sqlite.specs.Does.{Tally, Does}
-use Rattle.sqlite.specs.Rows.{Task, Edited, Written, mended}
+use Rattle.sqlite.specs.Rows.{Task}
 use Rattle.sqlite.specs.Table.{Table}
 use Rattle.sqlite.specs.Term.{Term, lit, col, holds}
 use Rattle.sqlite.specs.Cast.{cast_row}
-use Rattle.sqlite.specs.Rowids.TheVariants.{Chosen, Given}
+use Rattle.sqlite.specs.Rowids.TheVariants.{Chosen}
 use Rattle.sqlite.specs.Values.{or_null}
 use Rattle.sqlite.specs.Command.{Command}
-use Rattle.sqlite.proofs.Callers.{one_permutation, one_step}
-use Rattle.sqlite_schema.specs.declared.command.Conflict.TheVariants.{Replace}
 use Rattle.sqlite_schema.specs.declared.schema.Keys.TheVariants.{Enforced}
-use Rattle.sqlite_schema.specs.Rules.{agree}
-use Rattle.sqlite_value.specs.Keys.{plain, first_key}
 use Rattle.sqlite_value.proofs.OrderLemmas.{value_cmp_total}
-use Rattle.sqlite_rules.specs.Calls.{ids_of}
-use Rattle.sqlite_rules.specs.Keys.{AreConflicts}
-use Rattle.rd_tables.specs.Asked.{asks_of, IsPicked}
 use Rattle.rd_tables.specs.Sheets.{HaveRowids}
 use Rattle.rd_tables.specs.Schemas.{desk_schema, desk_table, deed_table, image_table, rule_table, badge_table, checked_table, found_table, marks_table}
-use Rattle.rd_tables.specs.Statements.{put_version, set_version, put_deed, put_image, put_rule, drop_rule, by_place, put_key, drop_key, by_digest, put_check, drop_check, by_checkup, put_file, put_marks}
-use Rattle.rd_tables.proofs.Lists.{and_true, or_false}
-use Rattle.rd_tables.proofs.Values.{cast_int, cast_null, cast_or_null, equal_int}
-use Rattle.rd_tables.proofs.Picking.{answer_picks}
-use Rattle.rd_tables.proofs.Removed.{Picks, removed_rows}
-use Rattle.rd_tables.proofs.Steps.{SetsRows, went, same_value, inserts, replaces}
+use Rattle.rd_tables.specs.Statements.{put_version, version_then, set_version, put_deed, by_number, deed_then, set_deed, put_image, put_rule, drop_rule, by_place, put_key, drop_key, by_digest, put_check, drop_check, by_checkup, put_file, put_marks}
+use Rattle.rd_tables.proofs.Lists.{filter_true}
+use Rattle.rd_tables.proofs.Values.{cast_int, cast_null, cast_or_null}
+use Rattle.rd_tables.proofs.Removed.{removed_rows}
+use Rattle.rd_tables.proofs.Steps.{SetsRows, went, inserts}
+use Rattle.rd_tables.proofs.Updating.{updates}
 use Rattle.rd_tables.proofs.Deleting.{deletes}
 use Rattle.rd_tables.proofs.Running.{plain_mode}
 use Rattle.rd_tables.proofs.Setting.{Sets, sets_rows, concluded}
@@ -82,20 +74,11 @@ sets_version statement limit db after tally schema row one id h =
     let task = task_on limit (desk_table 0) [] in
     let done = went (over_desk statement limit [] set_version db after tally schema h) in
     let end = concluded task plain_mode done.0 (tally, after) done.2 in
-    let answered = went done.1 in
-    let edited = went answered.2 in
-    let terms : List Term = col 1 0 ∷ col 1 0 ∷ lit Null ∷ lit (Int (pos 2)) ∷ [] in
-    let picks = subst (λ rows. IsPicked (asks_of 0 [] terms []) [] rows answered.0) one (answer_picks 0 [] terms [] db.trees [] answered.0 refl (answered.1.answer Null)) in
-    let shown : answered.0 ≡ (Int (pos 1) ∷ version_row) ∷ [] =
-    picks.shown ∙ ap (map (λ (out : Output). out.1)) (one_permutation _ _ picks.same) ∙ ap (λ v. (v ∷ v ∷ Null ∷ Int (pos 2) ∷ []) ∷ []) id in
-    let by = subst (λ rows. Edited desk_schema Enforced db.trees (edit_of db.trees (desk_table 0) (ids_of rows) Given 1 rows) (Ok edited.0)) shown edited.1 in
-    let applied = one_step desk_schema Enforced db.trees edited.0 (edit_of db.trees (desk_table 0) (pos 1 ∷ []) Given 1 ((Int (pos 1) ∷ version_row) ∷ [])) refl by in
-    let same : done.0.trees ≡ edited.0 = ap (λ (it : Written). it.trees) (same_value edited.2) in
+    let passes : filter (λ (r : Row). true) (db.trees 0) ≡ row ∷ [] = filter_true (db.trees 0) ∙ one in
+    let becomes = ap (λ v. v ∷ v ∷ Null ∷ Int (pos 2) ∷ []) id in
+    let it = updates task (λ olds new. refl) [] version_then [] (λ trees. refl) db.trees done.0 row version_row (pos 1) passes becomes version_cast done.1 in
     let gone : without_rowid (pos 1) (db.trees 0) ≡ [] = ap (without_rowid (pos 1)) one ∙ dropped (pos 1) row (ap (λ v. is_eq (value_cmp v (Int (pos 1)))) id ∙ (eq_by_cmp_equiv value_cmp_total).refl (Int (pos 1))) in
-    sets_rows 0 db after done.0.trees (version_row ∷ []) (record {
-      now = ap (λ (t : Trees). t 0) same ∙ applied.rows ∙ ap (put_row (cast_row (desk_table 0) version_row)) gone ∙ ap (λ new. new ∷ []) version_cast;
-      others = λ t other none. ap (λ (it : Trees). it t) same ∙ applied.others t other none;
-    }) end
+    sets_rows 0 db after done.0.trees (version_row ∷ []) (subst (λ rows. SetsRows desk_schema 0 db.trees done.0.trees (put_row version_row rows)) gone it) end
   where
     dropped : (n : ℤ) (r : Row) → has_rowid n r ≡ true → without_rowid n (r ∷ []) ≡ []
     dropped n r is = rw is refl
@@ -109,32 +92,33 @@ module _ (num : ℕ) (donor : List ℕ) (signed : ℤ) where
   abbrev pub deed_row : Row
   deed_row = Int (pos num) ∷ Null ∷ Text donor ∷ Int signed ∷ []
 
-  -- the row has its rowid
-  abbrev pub has_number : Row → Bool
-  has_number row = agree plain (0 ∷ []) row (0 ∷ []) deed_row
+  deed_cast : cast_row (deed_table 1) deed_row ≡ deed_row
+  deed_cast = rw (cast_int (pos num), cast_int signed, cast_null) refl
 
-  pub by_rowid : (row : Row) → has_number row ≡ is_eq (value_cmp (rowid row) (rowid deed_row))
-  unfolding first_key
-  by_rowid row = and_true _ ∙ equal_int (rowid row) (pos num)
-
-  conflicts : (rows found : List Row) → AreConflicts None desk_schema.indexes (deed_table 1) rows deed_row found → Picks has_number rows found
-  conflicts rows found h = record {
-    sound = λ x there. let it = h.sound x there in (it.0, it.1, sym (or_false _) ∙ it.2, it.3);
-    complete = λ row here passes. h.complete row here (or_false _ ∙ passes);
-  }
-
-  pub puts_deed : (statement : List ℕ) (limit : Option ℕ) (db after : Database) (tally : Tally) → db.schema ≡ desk_schema → HaveRowids (db.trees 1) → Runs statement limit deed_params put_deed db after tally
-      → Sets 1 db after (put_row deed_row (filter (λ row. not (has_number row)) (db.trees 1)))
-  puts_deed statement limit db after tally schema rowids h =
+  pub puts_deed : (statement : List ℕ) (limit : Option ℕ) (db after : Database) (tally : Tally) → db.schema ≡ desk_schema → Runs statement limit deed_params put_deed db after tally → PutsIn 1 db after (λ _. deed_row)
+  puts_deed statement limit db after tally schema h =
       let task = task_on limit (deed_table 1) deed_params in
       let done = went (over_desk statement limit deed_params put_deed db after tally schema h) in
       let end = concluded task plain_mode done.0 (tally, after) done.2 in
       let terms : List Term = col 0 0 ∷ lit Null ∷ col 0 1 ∷ col 0 2 ∷ [] in
-      let is : with_rowid Chosen (db.trees 1) (cast_row (deed_table 1) (mended Replace (deed_table 1) deed_row)) ≡ deed_row = rw (cast_int (pos num), cast_int signed, cast_null) refl in
-      let again : cast_row (deed_table 1) deed_row ≡ deed_row = rw (cast_int (pos num), cast_int signed, cast_null) refl in
-      let it = replaces task (λ olds. refl) (λ olds row. refl) refl terms 4 deed_row db.trees done.0 refl done.1 deed_row is again in
-      let left = removed_rows has_number (db.trees 1) it.0 rowids (conflicts (db.trees 1) it.0 it.1) in
-      sets_rows 1 db after done.0.trees _ (subst (λ rows. SetsRows desk_schema 1 db.trees done.0.trees (put_row deed_row rows)) left it.2) end
+      let is : with_rowid Chosen (db.trees 1) (cast_row (deed_table 1) deed_row) ≡ deed_row = ap (with_rowid Chosen (db.trees 1)) deed_cast in
+      let it = inserts task (λ olds. refl) (λ olds row. refl) refl terms 4 deed_row db.trees done.0 refl done.1 deed_row is in
+      (it.0, sets_rows 1 db after done.0.trees (put_row deed_row (db.trees 1)) it.1 end)
+
+  -- the row is that of the number
+  abbrev pub has_number : Row → Bool
+  has_number row = list_all (holds (deed_params ∷ row ∷ [])) by_number
+
+  -- where one row is, it is that of the deed then
+  pub sets_deed : (statement : List ℕ) (limit : Option ℕ) (db after : Database) (tally : Tally) → db.schema ≡ desk_schema → (row : Row) → filter has_number (db.trees 1) ≡ row ∷ [] → column row 0 ≡ Int (pos num)
+      → Runs statement limit deed_params set_deed db after tally → Sets 1 db after (put_row deed_row (without_rowid (pos num) (db.trees 1)))
+  sets_deed statement limit db after tally schema row one id h =
+      let task = task_on limit (deed_table 1) deed_params in
+      let done = went (over_desk statement limit deed_params set_deed db after tally schema h) in
+      let end = concluded task plain_mode done.0 (tally, after) done.2 in
+      let becomes = ap (λ v. v ∷ v ∷ Null ∷ Text donor ∷ Int signed ∷ []) id in
+      let it = updates task (λ olds new. refl) by_number deed_then deed_params (λ trees. refl) db.trees done.0 row deed_row (pos num) one becomes deed_cast done.1 in
+      sets_rows 1 db after done.0.trees _ it end
 
 -- ---- images
 

@@ -1,6 +1,6 @@
 -- How columns take values, and when a parameter equals a column.
 use Rattle.std.proofs.Common.{◌≡◌, ℕ, ℤ, pos, List, Bool, true, false, cond, Option, Some, None, refl, sym, ap, ◌∙◌, arith, nat_cmp, int_cmp, is_eq}
-use Rattle.std.specs.Ordering.{eq_by_cmp}
+use Rattle.std.specs.Ordering.{eq_by_cmp, is_gt}
 use Rattle.std.specs.Cmp.Lexicographic.{slice_cmp}
 use Rattle.std.proofs.lemmas.Cmp.{int_cmp_total, nat_list_cmp_total, eq_by_cmp_equiv}
 use Rattle.std.proofs.lemmas.Bool.Decides.{nat_tests}
@@ -15,7 +15,7 @@ use Rattle.sqlite.specs.Values.{or_null}
 use Rattle.sqlite_schema.specs.Rules.{equal}
 use Rattle.sqlite_sql.specs.Ops.{binary, is_true, from_truth}
 use Rattle.sqlite_sql.specs.declared.ops.BinaryOp.TheVariants.{Compare}
-use Rattle.sqlite_sql.specs.declared.ops.CompareOp.TheVariants.{Eq}
+use Rattle.sqlite_sql.specs.declared.ops.CompareOp.TheVariants.{Eq, Gt}
 use Rattle.sqlite_value.proofs.OrderLemmas.{value_cmp-Int, value_cmp-Blob, value_cmp-Null}
 
 either : (b : Bool) (x : Value) → cond b x x ≡ x
@@ -42,9 +42,12 @@ pub truth_kept : (b : Bool) → is_true (from_truth (Some b)) ≡ b
 truth_kept true = refl
 truth_kept false = refl
 
+pub same_numbers : (a b : ℕ) → is_eq (value_cmp (Int (pos a)) (Int (pos b))) ≡ eq_by_cmp nat_cmp b a
+same_numbers a b = ap is_eq (value_cmp-Int (pos a) (pos b)) ∙ grind (arith, nat_tests)
+
 pub equal_numbers : (a b : ℕ) → is_true (binary (Compare Eq Binary) (Int (pos a)) (Int (pos b))) ≡ eq_by_cmp nat_cmp b a
 unfolding binary
-equal_numbers a b = truth_kept _ ∙ ap is_eq (value_cmp-Int (pos a) (pos b)) ∙ grind (arith, nat_tests)
+equal_numbers a b = truth_kept _ ∙ same_numbers a b
 
 pub equal_integers : (a b : ℤ) → is_true (binary (Compare Eq Binary) (Int a) (Int b)) ≡ eq_by_cmp int_cmp b a
 unfolding binary
@@ -61,3 +64,11 @@ equal_int (Int m) n = truth_kept _
 equal_int (Real x) n = truth_kept _
 equal_int (Text t) n = truth_kept _
 equal_int (Blob b) n = truth_kept _
+
+pub greater_int : (v : Value) (n : ℤ) → is_true (binary (Compare Gt Binary) v (Int n)) ≡ is_gt (value_cmp v (Int n))
+unfolding binary
+greater_int Null n = ap is_gt (sym (value_cmp-Null (Int n)))
+greater_int (Int m) n = truth_kept _
+greater_int (Real x) n = truth_kept _
+greater_int (Text t) n = truth_kept _
+greater_int (Blob b) n = truth_kept _

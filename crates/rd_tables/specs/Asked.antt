@@ -1,5 +1,5 @@
 -- What a query over one table shows.
-use Rattle.std.specs.Prelude.{◌≡◌, ℕ, ◌+◌, ◌<◌, pos, negsuc, true, false, List, [], ◌∷◌, map, filter, length, All, get_or, int_lt, None, IsPermutation, IsSorted}
+use Rattle.std.specs.Prelude.{◌≡◌, ℕ, ◌+◌, ◌<◌, pos, negsuc, true, false, List, [], ◌∷◌, map, filter, length, take, All, get_or, int_lt, None, IsPermutation, IsSorted}
 use Rattle.std.specs.List.{list_all}
 use Rattle.sqlite.specs.declared.types.Value.TheVariants.{Int}
 use Rattle.sqlite.specs.Order.{Row, column}
@@ -7,7 +7,7 @@ use Rattle.sqlite_trees.specs.View.{is_int}
 use Rattle.sqlite_rules.specs.Edit.{id_in}
 use Rattle.sqlite_sql.specs.Term.{Term, lit, col, op2, holds}
 use Rattle.sqlite_sql.specs.declared.ops.BinaryOp.TheVariants.{Compare}
-use Rattle.sqlite_sql.specs.declared.ops.CompareOp.TheVariants.{Eq}
+use Rattle.sqlite_sql.specs.declared.ops.CompareOp.TheVariants.{Eq, Gt}
 use Rattle.sqlite.specs.Query.{Query, inner, end, Output, output, output_cmp}
 use Rattle.sqlite.specs.Collation.TheVariants.{Binary}
 use Rattle.sqlite_value.specs.declared.keys.Key.{Key}
@@ -34,6 +34,14 @@ rising = record { collation = Binary; descending = false }
 abbrev pub equals : ℕ → ℕ → Term
 equals place parameter = op2 (Compare Eq Binary) (col 1 place) (col 0 parameter)
 
+-- and is greater than one
+abbrev pub greater : ℕ → ℕ → Term
+greater place parameter = op2 (Compare Gt Binary) (col 1 place) (col 0 parameter)
+
+-- the same query, which shows no more rows than these
+abbrev pub at_most : ℕ → Query → Query
+at_most most query = record query { limit = lit (Int (pos most)) }
+
 -- the rows that pass, each with what it is sorted by and what is shown of it
 abbrev pub picked : Query → Row → List Row → List Output
 picked query params table = map (λ row. output query (params ∷ row ∷ [])) (filter (λ row. list_all (holds (params ∷ row ∷ [])) query.filter) table)
@@ -44,6 +52,12 @@ pub record IsPicked (query : Query) (params : Row) (table rows : List Row) : Typ
   pub same : IsPermutation (picked query params table) ordered
   pub sorted : IsSorted (output_cmp query) ordered
   pub shown : rows ≡ map (λ out. out.1) ordered
+
+-- The answer is the first of those, and no more than this many.
+pub record IsStart (query : Query) (most : ℕ) (params : Row) (table rows : List Row) : Type 0 where
+  pub all : List Row
+  pub picks : IsPicked query params table all
+  pub first : rows ≡ take most all
 
 -- The first column of each row is a number, above that of the row before.
 pub record AreRising (rows : List Row) : Type 0 where

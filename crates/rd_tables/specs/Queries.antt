@@ -1,10 +1,9 @@
 -- The questions that the store asks of its tables, and the queries that their texts are.
-use Rattle.std.specs.Prelude.{ℕ, List, [], ◌∷◌, codes, pos}
-use Rattle.sqlite.specs.declared.types.Value.TheVariants.{Int}
-use Rattle.sqlite.specs.Term.{Term, lit, col, op1}
+use Rattle.std.specs.Prelude.{ℕ, List, [], ◌∷◌, codes}
+use Rattle.sqlite.specs.Term.{Term, col, op1}
 use Rattle.sqlite_sql.specs.declared.ops.UnaryOp.TheVariants.{Length, TypeOf}
 use Rattle.sqlite.specs.Query.{Query}
-use Rattle.rd_tables.specs.Asked.{asks_of, equals, rising}
+use Rattle.rd_tables.specs.Asked.{asks_of, equals, greater, rising}
 use Rattle.rd_tables.specs.Statements.{by_digest}
 
 -- ---- the entry of one key
@@ -21,33 +20,12 @@ image_text = codes "SELECT kind, deed, digest, bytes FROM image WHERE acc = ?1"
 abbrev pub image_query : Query
 image_query = asks_of 2 (equals 0 0 ∷ []) (col 1 2 ∷ col 1 3 ∷ col 1 4 ∷ col 1 5 ∷ []) []
 
--- an image without its bytes
-abbrev pub heading_text : List ℕ
-heading_text = codes "SELECT kind, deed, digest FROM image WHERE acc = ?1"
-
-abbrev pub heading_query : Query
-heading_query = asks_of 2 (equals 0 0 ∷ []) (col 1 2 ∷ col 1 3 ∷ col 1 4 ∷ []) []
-
--- and without its digest
-abbrev pub accession_text : List ℕ
-accession_text = codes "SELECT kind, deed FROM image WHERE acc = ?1"
-
-abbrev pub accession_query : Query
-accession_query = asks_of 2 (equals 0 0 ∷ []) (col 1 2 ∷ col 1 3 ∷ []) []
-
 -- the error bytes of an image
 abbrev pub marks_text : List ℕ
 marks_text = codes "SELECT bytes FROM marks WHERE acc = ?1"
 
 abbrev pub marks_query : Query
 marks_query = asks_of 11 (equals 0 0 ∷ []) (col 1 2 ∷ []) []
-
--- whether it has any
-abbrev pub has_marks_text : List ℕ
-has_marks_text = codes "SELECT 1 FROM marks WHERE acc = ?1"
-
-abbrev pub has_marks_query : Query
-has_marks_query = asks_of 11 (equals 0 0 ∷ []) (lit (Int (pos 1)) ∷ []) []
 
 abbrev pub audience_text : List ℕ
 audience_text = codes "SELECT audience FROM badge WHERE digest = ?1"
@@ -80,26 +58,6 @@ abbrev pub rules_query : Query
 rules_query = asks_of 3 (equals 1 0 ∷ equals 2 1 ∷ [])
     (col 1 1 ∷ col 1 2 ∷ col 1 3 ∷ col 1 4 ∷ col 1 5 ∷ col 1 6 ∷ col 1 7 ∷ col 1 8 ∷ col 1 9 ∷ col 1 10 ∷ []) ((col 1 3, rising) ∷ [])
 
-abbrev pub accessions_text : List ℕ
-accessions_text = codes "SELECT acc FROM image ORDER BY acc"
-
-abbrev pub accessions_query : Query
-accessions_query = asks_of 2 [] (col 1 0 ∷ []) ((col 1 0, rising) ∷ [])
-
--- each with its kind and its deed
-abbrev pub register_text : List ℕ
-register_text = codes "SELECT acc, kind, deed FROM image ORDER BY acc"
-
-abbrev pub register_query : Query
-register_query = asks_of 2 [] (col 1 0 ∷ col 1 2 ∷ col 1 3 ∷ []) ((col 1 0, rising) ∷ [])
-
--- the accessions whose images have error bytes
-abbrev pub marked_text : List ℕ
-marked_text = codes "SELECT acc FROM marks ORDER BY acc"
-
-abbrev pub marked_query : Query
-marked_query = asks_of 11 [] (col 1 0 ∷ []) ((col 1 0, rising) ∷ [])
-
 abbrev pub keys_text : List ℕ
 keys_text = codes "SELECT digest, audience FROM badge ORDER BY digest"
 
@@ -113,13 +71,6 @@ all_deeds_text = codes "SELECT num, donor, signed FROM deed ORDER BY num"
 
 abbrev pub all_deeds_query : Query
 all_deeds_query = asks_of 1 [] (col 1 0 ∷ col 1 2 ∷ col 1 3 ∷ []) ((col 1 0, rising) ∷ [])
-
--- of the bytes of an image the length and the type
-abbrev pub all_images_text : List ℕ
-all_images_text = codes "SELECT acc, kind, deed, digest, length(bytes), typeof(bytes) FROM image ORDER BY acc"
-
-abbrev pub all_images_query : Query
-all_images_query = asks_of 2 [] (col 1 0 ∷ col 1 2 ∷ col 1 3 ∷ col 1 4 ∷ op1 Length (col 1 5) ∷ op1 TypeOf (col 1 5) ∷ []) ((col 1 0, rising) ∷ [])
 
 abbrev pub all_rules_text : List ℕ
 all_rules_text = codes "SELECT rowid, band, scope, rank, audiences, day_from, day_until, how, number, word, effect FROM rule ORDER BY rowid"
@@ -153,6 +104,26 @@ all_marks_text = codes "SELECT acc, length(bytes), typeof(bytes) FROM marks ORDE
 
 abbrev pub all_marks_query : Query
 all_marks_query = asks_of 11 [] (col 1 0 ∷ op1 Length (col 1 2) ∷ op1 TypeOf (col 1 2) ∷ []) ((col 1 0, rising) ∷ [])
+
+-- ---- the images, one after the other
+
+-- of the bytes the length and the type, and then themselves
+abbrev pub image_columns : List Term
+image_columns = col 1 0 ∷ col 1 2 ∷ col 1 3 ∷ col 1 4 ∷ op1 Length (col 1 5) ∷ op1 TypeOf (col 1 5) ∷ col 1 5 ∷ []
+
+-- all images; of these the two that come first are asked for
+abbrev pub first_images_text : List ℕ
+first_images_text = codes "SELECT acc, kind, deed, digest, length(bytes), typeof(bytes), bytes FROM image ORDER BY acc LIMIT 2"
+
+abbrev pub all_images_query : Query
+all_images_query = asks_of 2 [] image_columns ((col 1 0, rising) ∷ [])
+
+-- those after an accession, and again two
+abbrev pub next_images_text : List ℕ
+next_images_text = codes "SELECT acc, kind, deed, digest, length(bytes), typeof(bytes), bytes FROM image WHERE acc > ?1 ORDER BY acc LIMIT 2"
+
+abbrev pub later_images_query : Query
+later_images_query = asks_of 2 (greater 0 0 ∷ []) image_columns ((col 1 0, rising) ∷ [])
 
 -- ---- the version, whatever tables follow the first
 

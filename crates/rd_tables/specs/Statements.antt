@@ -6,8 +6,7 @@ use Rattle.sqlite.specs.Term.{Term, lit, col}
 use Rattle.sqlite.specs.Query.{Query}
 use Rattle.sqlite.specs.Source.TheVariants.{Values}
 use Rattle.sqlite.specs.Command.{Command}
-use Rattle.sqlite.specs.Command.TheVariants.{Insert, InsertOr, Update, Delete}
-use Rattle.sqlite_schema.specs.declared.command.Conflict.TheVariants.{Replace}
+use Rattle.sqlite.specs.Command.TheVariants.{Insert, Update, Delete}
 use Rattle.rd_tables.specs.Asked.{asks_of, equals}
 use Rattle.rd_tables.specs.Schemas.{desk_table, deed_table, image_table, rule_table, badge_table, checked_table, rule_index, badge_index, checked_index, first_schema, desk_schema}
 
@@ -70,15 +69,33 @@ put_version = Insert 0 (Values (lit (Int (pos 1)) ∷ lit Null ∷ lit (Int (pos
 abbrev pub set_version_text : List ℕ
 set_version_text = codes "UPDATE desk SET version = 2"
 
+-- the rowid of a row, and the row as it is then
+abbrev pub version_then : List Term
+version_then = col 1 0 ∷ col 1 0 ∷ lit Null ∷ lit (Int (pos 2)) ∷ []
+
 -- each row has the version 2 then
 abbrev pub set_version : Command
-set_version = Update 0 (record { lets = []; body = asks_of 0 [] (col 1 0 ∷ col 1 0 ∷ lit Null ∷ lit (Int (pos 2)) ∷ []) [] })
+set_version = Update 0 (record { lets = []; body = asks_of 0 [] version_then [] })
 
 abbrev pub put_deed_text : List ℕ
-put_deed_text = codes "INSERT OR REPLACE INTO deed (num, donor, signed) VALUES (?1, ?2, ?3)"
+put_deed_text = codes "INSERT INTO deed (num, donor, signed) VALUES (?1, ?2, ?3)"
 
 abbrev pub put_deed : Command
-put_deed = InsertOr 1 Replace (Values (col 0 0 ∷ lit Null ∷ col 0 1 ∷ col 0 2 ∷ []) 4) []
+put_deed = Insert 1 (Values (col 0 0 ∷ lit Null ∷ col 0 1 ∷ col 0 2 ∷ []) 4)
+
+abbrev pub set_deed_text : List ℕ
+set_deed_text = codes "UPDATE deed SET donor = ?2, signed = ?3 WHERE num = ?1"
+
+abbrev pub by_number : List Term
+by_number = equals 0 0 ∷ []
+
+-- the rowid of a deed, and its row as it is then
+abbrev pub deed_then : List Term
+deed_then = col 1 0 ∷ col 1 0 ∷ lit Null ∷ col 0 1 ∷ col 0 2 ∷ []
+
+-- the deed with the number has this donor and this day then
+abbrev pub set_deed : Command
+set_deed = Update 1 (record { lets = []; body = asks_of 1 by_number deed_then [] })
 
 abbrev pub put_image_text : List ℕ
 put_image_text = codes "INSERT INTO image (acc, kind, deed, digest, bytes) VALUES (?1, ?2, ?3, ?4, ?5)"

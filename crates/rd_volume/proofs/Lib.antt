@@ -11,3 +11,4 @@ mod OneFaults
 pub mod OneFound
 pub mod OneSurvey
 pub mod OneContents
+pub mod Existence

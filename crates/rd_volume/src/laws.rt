@@ -1,15 +1,16 @@
 //! Laws of what desk says about an image. No code calls them. They hold for every list of bytes,
 //! whatever its length.
 
-ghost use Rattle.std.specs.Prelude.{◌≡◌, ◌+◌, ◌≤◌, ◌↔◌, ℕ, List, All, length, map};
+ghost use Rattle.std.specs.Prelude.{◌≡◌, ◌+◌, ◌<◌, ◌≤◌, ◌↔◌, ℕ, List, All, length, map};
 ghost use Rattle.rd_geometry.specs.Kinds.{size_of};
 ghost use Rattle.rd_geometry.specs.declared.kind.Kind.{Kind};
 ghost use Rattle.rd_volume.specs.Founds.{Fits, IsSoundFile};
 ghost use Rattle.rd_volume.specs.Needed.{AgreesOnNeeded, TellTheSame};
 ghost use Rattle.rd_volume.specs.Parts.{bytes_of_part, parts_of};
-ghost use Rattle.rd_volume.specs.Reports.{IsSoundSlot};
+ghost use Rattle.rd_volume.specs.Reports.{IsReport, IsSoundSlot};
 ghost use Rattle.rd_volume.specs.Volumes.{AreBytesOf, AreFounds, IsFound, IsSlotOfFile, pieces_of};
 ghost use Rattle.rd_volume.specs.declared.found.Found.{Found};
+ghost use Rattle.rd_volume.specs.declared.reports.Report.{Report};
 
 /// A law: a file that `survey` may give has the slot of a file, and it is sound exactly if the
 /// file there is.
@@ -26,6 +27,14 @@ pub fn each_image_has_one_survey()
         → one.slot ≡ other.slot → one ≡ other }
     ensures files { (kind : Kind) (image : List ℕ) (one other : List Found) → AreFounds kind image one
         → AreFounds kind image other → one ≡ other }
+{}
+
+/// A law: each list of bytes has a survey, and each list of numbers a report, so that `survey` and
+/// `report` have something to say of every image, whatever it holds.
+pub fn each_image_can_be_told()
+    ensures survey { (kind : Kind) (image : List ℕ) → All (λ byte. byte < 256) image
+        → (founds : List Found) × AreFounds kind image founds }
+    ensures report { (kind : Kind) (image : List ℕ) → (told : Report) × IsReport kind image told }
 {}
 
 /// A law: no sound file has two lists of bytes.

@@ -17,8 +17,9 @@ mod words;
 pub use calls::{directory_end, fault_words, find, pieces, report, survey};
 pub use found::Found;
 pub use laws::{
-    each_file_told_is_at_its_slot, each_image_has_one_survey, each_piece_is_a_slice_of_its_image,
-    each_sound_file_has_one_content, needed_bytes_decide_what_is_told,
+    each_file_told_is_at_its_slot, each_image_can_be_told, each_image_has_one_survey,
+    each_piece_is_a_slice_of_its_image, each_sound_file_has_one_content,
+    needed_bytes_decide_what_is_told,
 };
 pub use rd_cbm::{End, MapReport};
 pub use rd_geometry::{CbmDisk, CpmDisk, Geometry, Image, Items, Kind, NoMemory, Text, WrongSize};

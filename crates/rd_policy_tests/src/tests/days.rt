@@ -182,14 +182,19 @@ fn dates_have_days(rt: HostRuntime) -> Result<(), Fail> {
     assert_dates(&rt, rt.alloc(), DATES)
 }
 
+/// Texts that are no date from 0001-01-01 to 9999-12-31 in any form that `jiff` reads.
 pub(super) const NO_DATES: &[&str] = table![
     ""; "2030-02-30"; "1900-02-29"; "2030-13-01"; "2030-00-10"; "2030-01-00"; "0000-12-31"; "2030-1-1";
-    "20300101"; "2030/01/01"; "+2030-01-01"; "-002030-01-01"; "+002030-01-01"; "12030-01-01"; "2030-01-01 ";
-    " 2030-01-01"; "2030-01-01T00:00:00"; "2030-01-01 00:00"; "2030-01-01T00:00:00Z"; "2030-01-01[UTC]";
-    "2030-W01-1"; "２０３０-01-01"; "203٠-01-01"; "2030-01-0\u{0}";
+    "2030/01/01"; "+2030-01-01"; "-002030-01-01"; "12030-01-01"; "2030-01-01 "; " 2030-01-01";
+    "2030-01-01T00:00:00Z"; "2030-W01-1"; "２０３０-01-01"; "203٠-01-01"; "2030-01-0\u{0}";
 ];
 
-fn assert_no_dates(rt: &impl Abort, alloc: Global, texts: &[&str]) {
+/// Dates of these years in another form.
+pub(super) const OTHER_FORMS: &[&str] = table![
+    "20300101"; "+002030-01-01"; "2030-01-01T00:00:00"; "2030-01-01 00:00"; "2030-01-01[UTC]";
+];
+
+pub(super) fn assert_no_dates(rt: &impl Abort, alloc: Global, texts: &[&str]) {
     for text in texts {
         assert_eq!(rt;
             date_read(alloc, *text),
@@ -202,4 +207,5 @@ fn assert_no_dates(rt: &impl Abort, alloc: Global, texts: &[&str]) {
 #[test]
 fn other_texts_have_no_day(rt: HostRuntime) {
     assert_no_dates(&rt, rt.alloc(), NO_DATES);
+    assert_no_dates(&rt, rt.alloc(), OTHER_FORMS);
 }

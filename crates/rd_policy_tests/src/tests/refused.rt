@@ -1,7 +1,7 @@
 //! Calls that allocate, which a script runs under an allocator that refuses one growth. A call that
 //! answers that memory was refused is made again, and must then answer as ever.
 
-use super::days::{DATES, NO_DATES};
+use super::days::{DATES, NO_DATES, OTHER_FORMS, assert_no_dates};
 use rd_geometry::NoMemory;
 use rd_policy::{DateFault, date_read, date_text, is_day};
 use std::alloc::Global;
@@ -46,7 +46,7 @@ fn days_when_memory_is_refused(rt: HostRuntime) {
     assert_days(&rt, rt.alloc(), DATES);
 }
 
-fn assert_no_days(rt: &impl Abort, alloc: Global, texts: &[&str]) {
+fn assert_no_days_of_other_forms(rt: &impl Abort, alloc: Global, texts: &[&str]) {
     for text in texts {
         assert_eq!(rt;
             day_again(alloc, *text),
@@ -56,7 +56,10 @@ fn assert_no_days(rt: &impl Abort, alloc: Global, texts: &[&str]) {
     }
 }
 
+/// A text that is no date in any form takes no memory, so it gives `BadDate` at the first call, whichever growth is
+/// refused. A date in another form takes some, to write the date, and the first growth of all is one of these.
 #[test]
 fn texts_without_a_day_when_memory_is_refused(rt: HostRuntime) {
-    assert_no_days(&rt, rt.alloc(), NO_DATES);
+    assert_no_dates(&rt, rt.alloc(), NO_DATES);
+    assert_no_days_of_other_forms(&rt, rt.alloc(), OTHER_FORMS);
 }

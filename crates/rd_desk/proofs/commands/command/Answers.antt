@@ -1,7 +1,6 @@
 use Rattle.std.proofs.Common.{◌∙◌, FitsSigned, ap, rules, subst, sym, w32}
 use Rattle.std.proofs.lemmas.Int.{to_z-of_z}
 use Rattle.rd_desk.specs.Calls.{Carries, IsSaidOf, MakesOneChange}
-use Rattle.rd_desk.specs.Requests.{MayChange}
 use Rattle.rd_desk.specs.declared.request.What.TheVariants.{PutDeed}
 use Rattle.rd_desk.proofs.OneChange.{change_alone, no_call, reads_alone}
 use Rattle.rd_desk.proofs.commands.command.Goals as goal
@@ -49,37 +48,43 @@ returns-in-Unread-clause-carries g c =
 
 pub returns-in-Survey-clause-one_change : goal.returns-in-Survey-clause-one_change
 returns-in-Survey-clause-one_change g c =
-    reads_alone g.S.Store _ _ c.args.store.now c.survey.new.store c.survey.ensures.keeps
+    reads_alone g.S.Store c.args.caller.now.day _ _ c.args.store.now c.survey.new.store c.survey.ensures.keeps
 
 pub returns-in-Check-clause-one_change : goal.returns-in-Check-clause-one_change
 returns-in-Check-clause-one_change g c =
-    subst (λ what. MakesOneChange g.S.Store c.args.store.now c.check.new.store what (λ told. IsSaidOf told c.check.result)) (sym c.in-Check.is) c.check.ensures.one_change
+    subst (λ what. MakesOneChange g.S.Store c.args.store.now c.check.new.store c.args.caller.now.day what (λ told. IsSaidOf told c.check.result)) (sym c.in-Check.is) c.check.ensures.one_change
 
 pub returns-in-PutImage-clause-one_change : goal.returns-in-PutImage-clause-one_change
 returns-in-PutImage-clause-one_change g c =
-    subst (λ what. MakesOneChange g.S.Store c.args.store.now c.put_image.new.store what (λ told. IsSaidOf told c.put_image.result)) (sym c.in-PutImage.is) c.put_image.ensures.one_change
+    subst (λ what. MakesOneChange g.S.Store c.args.store.now c.put_image.new.store c.args.caller.now.day what (λ told. IsSaidOf told c.put_image.result)) (sym c.in-PutImage.is) (c.put_image.ensures.one_change c.args.caller.now.day)
 
 pub returns-in-PutDeed-clause-one_change : goal.returns-in-PutDeed-clause-one_change
 returns-in-PutDeed-clause-one_change g c =
-    change_alone g.S.Store _ _ c.args.store.now c.put_deed.new.store c.rests.ensures (subst MayChange (sym c.in-PutDeed.is) tt) c.put_deed.ensures.change
+    let fits : FitsSigned w32 c.in-PutDeed.signed = search rules in
+    subst (λ what. MakesOneChange g.S.Store c.args.store.now c.put_deed.new.store c.args.caller.now.day what (λ told. IsSaidOf told c.put_deed.result)) (ap (PutDeed c.in-PutDeed.num c.in-PutDeed.donor) (to_z-of_z w32 c.in-PutDeed.signed fits) ∙ sym c.in-PutDeed.is)
+    (change_alone g.S.Store c.args.caller.now.day _ _ c.args.store.now c.put_deed.new.store c.rests.ensures tt (c.put_deed.ensures.change c.args.caller.now.day))
 
 pub returns-in-PutRule-clause-one_change : goal.returns-in-PutRule-clause-one_change
 returns-in-PutRule-clause-one_change g c =
-    change_alone g.S.Store _ _ c.args.store.now c.put_rule.new.store c.rests.ensures (subst MayChange (sym c.in-PutRule.is) tt) c.put_rule.ensures.change
+    subst (λ what. MakesOneChange g.S.Store c.args.store.now c.put_rule.new.store c.args.caller.now.day what (λ told. IsSaidOf told c.put_rule.result)) (sym c.in-PutRule.is)
+    (change_alone g.S.Store c.args.caller.now.day _ _ c.args.store.now c.put_rule.new.store c.rests.ensures tt (c.put_rule.ensures.change c.args.caller.now.day))
 
 pub returns-in-DropRule-clause-one_change : goal.returns-in-DropRule-clause-one_change
 returns-in-DropRule-clause-one_change g c =
-    change_alone g.S.Store _ _ c.args.store.now c.drop_rule.new.store c.rests.ensures (subst MayChange (sym c.in-DropRule.is) tt) c.drop_rule.ensures.change
+    subst (λ what. MakesOneChange g.S.Store c.args.store.now c.drop_rule.new.store c.args.caller.now.day what (λ told. IsSaidOf told c.drop_rule.result)) (sym c.in-DropRule.is)
+    (change_alone g.S.Store c.args.caller.now.day _ _ c.args.store.now c.drop_rule.new.store c.rests.ensures tt (c.drop_rule.ensures.change c.args.caller.now.day))
 
 pub returns-in-PutKey-clause-one_change : goal.returns-in-PutKey-clause-one_change
 returns-in-PutKey-clause-one_change g c =
-    change_alone g.S.Store _ _ c.args.store.now c.put_key.new.store c.rests.ensures (subst MayChange (sym c.in-PutKey.is) tt) c.put_key.ensures.change
+    subst (λ what. MakesOneChange g.S.Store c.args.store.now c.put_key.new.store c.args.caller.now.day what (λ told. IsSaidOf told c.put_key.result)) (sym c.in-PutKey.is)
+    (change_alone g.S.Store c.args.caller.now.day _ _ c.args.store.now c.put_key.new.store c.rests.ensures tt (c.put_key.ensures.change c.args.caller.now.day))
 
 pub returns-in-DropKey-clause-one_change : goal.returns-in-DropKey-clause-one_change
 returns-in-DropKey-clause-one_change g c =
-    change_alone g.S.Store _ _ c.args.store.now c.drop_key.new.store c.rests.ensures (subst MayChange (sym c.in-DropKey.is) tt) c.drop_key.ensures.change
+    subst (λ what. MakesOneChange g.S.Store c.args.store.now c.drop_key.new.store c.args.caller.now.day what (λ told. IsSaidOf told c.drop_key.result)) (sym c.in-DropKey.is)
+    (change_alone g.S.Store c.args.caller.now.day _ _ c.args.store.now c.drop_key.new.store c.rests.ensures tt (c.drop_key.ensures.change c.args.caller.now.day))
 
 pub returns-in-Unread-clause-one_change : goal.returns-in-Unread-clause-one_change
 returns-in-Unread-clause-one_change g c =
-    subst (λ h. MakesOneChange g.S.Store c.args.store.now h c.args.request.now.what (λ told. IsSaidOf told c.unread.result)) (sym c.unread.ensures.same)
-    (no_call g.S.Store _ _ c.args.store.now c.rests.ensures)
+    subst (λ h. MakesOneChange g.S.Store c.args.store.now h c.args.caller.now.day c.args.request.now.what (λ told. IsSaidOf told c.unread.result)) (sym c.unread.ensures.same)
+    (no_call g.S.Store c.args.caller.now.day _ _ c.args.store.now c.rests.ensures)

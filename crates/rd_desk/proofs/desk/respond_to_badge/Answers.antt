@@ -12,12 +12,13 @@ returns-clause-responds g c =
     c.audience.ensures.looks.keeps (λ clean. c.in_ok-audience.ensures.looks.ends_open clean) c.respond.ensures.responds)
 
 pub returns-in_err-audience-clause-one_change : goal.returns-in_err-audience-clause-one_change
-returns-in_err-audience-clause-one_change g c = reads_alone g.S.Store _ _ c.args.store.now c.audience.new.store c.audience.ensures.looks.keeps
+returns-in_err-audience-clause-one_change g c = reads_alone g.S.Store c.args.day _ _ c.args.store.now c.audience.new.store c.audience.ensures.looks.keeps
 
 pub returns-in_default-clause-one_change : goal.returns-in_default-clause-one_change
-returns-in_default-clause-one_change g c = reads_alone g.S.Store _ _ c.args.store.now c.audience.new.store c.audience.ensures.looks.keeps
+returns-in_default-clause-one_change g c = reads_alone g.S.Store c.args.day _ _ c.args.store.now c.audience.new.store c.audience.ensures.looks.keeps
 
 pub returns-clause-one_change : goal.returns-clause-one_change
 returns-clause-one_change g c =
-    reads_first g.S.Store _ _ c.args.store.now c.audience.new.store c.respond.new.store c.audience.ensures.looks.keeps
-    (λ clean. c.in_ok-audience.ensures.looks.ends_open clean) c.respond.ensures.one_change
+    let day = to_z-of_z w32 c.args.day c.ranges.day in
+    reads_first g.S.Store c.args.day _ _ c.args.store.now c.audience.new.store c.respond.new.store c.audience.ensures.looks.keeps
+    (λ clean. c.in_ok-audience.ensures.looks.ends_open clean) (rw day at c.respond.ensures.one_change)

@@ -17,6 +17,6 @@ returns g c = record {
   keeps = search rules;
   answer = λ o image standing kind told.
       served_read (record { image = image; rules = c.args.holding.now.rules }) c.args.holding.now.kind c.args.caller.now.audience c.args.caller.now.day c.args.file c.in_ok-contents.field-0 told
-      (search rules) (c.in_ok-contents.ensures.answer o image standing told);
+      (search rules) (c.in_ok-contents.ensures.answer o image standing);
   ends_open = search rules;
 }

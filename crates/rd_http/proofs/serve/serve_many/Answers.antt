@@ -4,11 +4,13 @@ use Rattle.rd_policy.specs.Days.{HasDay}
 use Rattle.rd_policy.specs.Zones.{day_number}
 use Rattle.rd_store.specs.Held.{desk as tables}
 use Rattle.rd_store.proofs.Laws.{lasts_then}
+use Rattle.rd_http.specs.Hidden.{RepliesAndHides}
 use Rattle.rd_http.specs.Runs.{HasRun, NoneLeft}
 use Rattle.rd_http.specs.declared.serve.Served.{Served}
 use Rattle.rd_http.specs.Visits.{IsAnswer, IsReplied, Visits}
 use Rattle.rd_http.specs.declared.serve.Ended.TheVariants as ended
 use Rattle.rd_http.specs.declared.visit.WireFault.TheVariants.{Clock}
+use Rattle.rd_http.proofs.Hiding.{run_hidden}
 use Rattle.rd_http.proofs.RunLemmas.{all_heard, if_told, none_left, run_replied, run_shut, run_step}
 use Rattle.rd_http.proofs.serve.serve_many.Goals as goal
 
@@ -138,3 +140,35 @@ returns-in_default-clause-last g c shut unshut =
     if_told _ (λ told. told.under_way ≡ None → NoneLeft (g.D.Door.coming c.admit.new.self)) (g.D.Door.told c.args.door.now) i.run (λ told run quiet.
     none_left (IsAnswer g.S.Store) c.args.desk.now.zone (g.D.Door.coming c.args.door.now) (g.D.Door.coming c.loop-served.door) (g.D.Door.coming c.admit.new.self) told (g.D.Door.told c.loop-served.door)
     c.loop-served.served c.args.desk.now.store c.loop-served.desk.store run (search rules) quiet (c.in_default.ensures.last (i.door ∙ unshut) (search rules)))
+
+pub returns-then-eq-clause-hidden : goal.returns-then-eq-clause-hidden
+returns-then-eq-clause-hidden g c is_open =
+    let zone = c.args.desk.now.zone in
+    let old = tables g.S.Store c.args.desk.now.store in
+    let new = tables g.S.Store c.serve_one-ending.new.desk.store in
+    if_told (λ told. HasRun IsReplied zone told (g.D.Door.told c.leave.new.self) (g.D.Door.coming c.args.door.now) (g.D.Door.coming c.leave.new.self) c.with-served.result old new)
+    (λ told. HasRun RepliesAndHides zone told (g.D.Door.told c.leave.new.self) (g.D.Door.coming c.args.door.now) (g.D.Door.coming c.leave.new.self) c.with-served.result old new)
+    (g.D.Door.told c.args.door.now) (returns-then-eq-clause-replied g c is_open)
+    (λ told run. run_hidden zone (g.D.Door.coming c.args.door.now) (g.D.Door.coming c.leave.new.self) told (g.D.Door.told c.leave.new.self) c.with-served.result old new run)
+
+pub returns-in_default-clause-hidden : goal.returns-in_default-clause-hidden
+returns-in_default-clause-hidden g c is_open =
+    let served = c.loop-served.served in
+    let shut : Served = record { visits = served.visits; read_faults = served.read_faults; write_faults = served.write_faults; ended = ended.Shut } in
+    let zone = c.args.desk.now.zone in
+    let old = tables g.S.Store c.args.desk.now.store in
+    let new = tables g.S.Store c.loop-served.desk.store in
+    if_told (λ told. HasRun IsReplied zone told (g.D.Door.told c.admit.new.self) (g.D.Door.coming c.args.door.now) (g.D.Door.coming c.admit.new.self) shut old new)
+    (λ told. HasRun RepliesAndHides zone told (g.D.Door.told c.admit.new.self) (g.D.Door.coming c.args.door.now) (g.D.Door.coming c.admit.new.self) shut old new)
+    (g.D.Door.told c.args.door.now) (returns-in_default-clause-replied g c is_open)
+    (λ told run. run_hidden zone (g.D.Door.coming c.args.door.now) (g.D.Door.coming c.admit.new.self) told (g.D.Door.told c.admit.new.self) shut old new run)
+
+pub returns-clause-hidden : goal.returns-clause-hidden
+returns-clause-hidden g c is_open =
+    let zone = c.args.desk.now.zone in
+    let old = tables g.S.Store c.args.desk.now.store in
+    let new = tables g.S.Store c.loop-served.desk.store in
+    if_told (λ told. HasRun IsReplied zone told (g.D.Door.told c.loop-served.door) (g.D.Door.coming c.args.door.now) (g.D.Door.coming c.loop-served.door) c.loop-served.served old new)
+    (λ told. HasRun RepliesAndHides zone told (g.D.Door.told c.loop-served.door) (g.D.Door.coming c.args.door.now) (g.D.Door.coming c.loop-served.door) c.loop-served.served old new)
+    (g.D.Door.told c.args.door.now) (returns-clause-replied g c is_open)
+    (λ told run. run_hidden zone (g.D.Door.coming c.args.door.now) (g.D.Door.coming c.loop-served.door) told (g.D.Door.told c.loop-served.door) c.loop-served.served old new run)

@@ -32,5 +32,5 @@ returns-in_err-put_all-clause-sends g c =
     let before = map (λ p. p.now) at.yielded in
     let steps : pieces_left at.piece-iterator ≡ piece ∷ pieces_left c.next.new.self = c.in-Some.ensures.steps in
     let p = err_from_is_err_and c.from_residual.result c.from_residual.ensures.1 in
-    rw p.1 (piece_part _ _ _ before (pieces_left c.next.new.self) piece c.args.body.now
+    rw p.1 (piece_part _ _ _ before (pieces_left c.next.new.self) piece c.args.body.now.bytes
     (ap (λ l. concat (before ++ l)) (sym steps) ∙ at.invariant.whole) at.invariant.sends c.in_err-put_all.ensures.sends)

@@ -6,7 +6,7 @@ use Rattle.rd_http.proofs.write.put_pieces.Given as goal
 
 abbrev pub invariant-loop-piece : goal.invariant-loop-piece
 invariant-loop-piece g l = record {
-  whole : concat (map (λ piece. piece.now) l.yielded ++ pieces_left l.piece-iterator) ≡ l.body;
+  whole : concat (map (λ piece. piece.now) l.yielded ++ pieces_left l.piece-iterator) ≡ l.body.bytes;
   sends : Appends (g.W.Wire.outgoing l.fn.wire) (g.W.Wire.outgoing l.wire) (concat (map (λ piece. piece.now) l.yielded));
   ready : g.W.Wire.put_failed l.wire ≡ false;
   kept : g.W.Wire.incoming l.wire ≡ g.W.Wire.incoming l.fn.wire;

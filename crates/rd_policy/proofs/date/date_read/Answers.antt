@@ -35,3 +35,11 @@ returns-clause-bad c = λ bad day is.
     let read = read_date c.in-Ok.date c.args.text.now c.in-Ok.ensures.value day is in
     let same : c.as_str.result.now ≡ c.args.text.now = c.as_str.ensures.value ∙ c.in-Ok-to_string.ensures.ok ∙ sym read.written in
     true≢false (sym (c.if-eq.ensures ∙ (bytes_eq-Decides c.as_str.result.now c.args.text.now).1 same))
+
+pub returns-in_default-to_string-clause-memory : goal.returns-in_default-to_string-clause-memory
+returns-in_default-to_string-clause-memory c = λ none.
+    let fits : FitsSigned w32 c.to_unix_epoch_day-day.result = search rules in
+    let number : to_z w32 (of_z w32 c.to_unix_epoch_day-day.result) ≡ epoch_day c.in-Ok.date =
+    to_z-of_z w32 c.to_unix_epoch_day-day.result fits ∙ c.to_unix_epoch_day-day.ensures.value ∙ ap epoch_day c.to_plain.ensures in
+    let in_range : IsDay (to_z w32 (of_z w32 c.to_unix_epoch_day-day.result)) = search rules in
+    (c.in-Ok.date, sym c.in-Ok.ensures.value, subst IsDay number in_range)

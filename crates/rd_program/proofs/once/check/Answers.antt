@@ -14,6 +14,18 @@ returns-in_err-write_whole-2-clause-checks g c =
     check_made g.S.Store c.args.desk.now.store asked.new.desk.store (day_number c.args.asker.seconds c.args.desk.now.zone) asked.result
     c.args.asker.badge c.args.acc asked.ensures.serves
 
+pub returns-then-is_text-clause-checks : goal.returns-then-is_text-clause-checks
+returns-then-is_text-clause-checks g c =
+    let asked = c.reply_to-reply in
+    check_made g.S.Store c.args.desk.now.store asked.new.desk.store (day_number c.args.asker.seconds c.args.desk.now.zone) asked.result
+    c.args.asker.badge c.args.acc asked.ensures.serves
+
+pub returns-then-is_text-2-clause-checks : goal.returns-then-is_text-2-clause-checks
+returns-then-is_text-2-clause-checks g c =
+    let asked = c.reply_to-reply in
+    check_made g.S.Store c.args.desk.now.store asked.new.desk.store (day_number c.args.asker.seconds c.args.desk.now.zone) asked.result
+    c.args.asker.badge c.args.acc asked.ensures.serves
+
 pub returns-clause-checks : goal.returns-clause-checks
 returns-clause-checks g c =
     let asked = c.reply_to-reply in

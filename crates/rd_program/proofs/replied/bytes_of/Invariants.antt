@@ -5,4 +5,4 @@ use Rattle.rd_program.proofs.replied.bytes_of.Given as goal
 
 -- the pieces so far, and those that are left, are the body
 abbrev pub invariant-loop-piece : goal.invariant-loop-piece
-invariant-loop-piece l = l.bytes.items ++ concat (pieces_left l.piece-iterator) ≡ l.body
+invariant-loop-piece l = l.bytes.items ++ concat (pieces_left l.piece-iterator) ≡ l.body.bytes

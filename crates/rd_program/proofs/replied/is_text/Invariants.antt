@@ -5,4 +5,4 @@ use Rattle.rd_program.proofs.replied.is_text.Given as goal
 
 -- what is left of the body is what is left of the text exactly where the body is the text
 abbrev pub invariant-loop-piece : goal.invariant-loop-piece
-invariant-loop-piece l = (l.body ≡ l.text) ↔ (concat (pieces_left l.piece-iterator) ≡ l.rest)
+invariant-loop-piece l = (l.body.bytes ≡ l.text) ↔ (concat (pieces_left l.piece-iterator) ≡ l.rest)

@@ -10,7 +10,7 @@ use Rattle.rd_store.specs.Held.{IsClean, desk}
 use Rattle.rd_store.specs.State.{with_deed}
 use Rattle.rd_store.proofs.Laws.{Laws}
 use Rattle.rd_store.proofs.Single.{single}
-use Rattle.rd_store.proofs.Making.{makes_deed}
+use Rattle.rd_store.proofs.Making.{makes_new_deed}
 use Rattle.rd_store.proofs.Lawful.{lawful_deed}
 use Rattle.rd_store.proofs.deeds.insert_deed.Goals as goal
 
@@ -27,6 +27,6 @@ returns g c =
     rw (c.params-to_sql.ensures, c.params-to_sql-2.ensures, c.params-to_sql-3.ensures, is) at c.execute.ensures.runs in
     let survives : Survives (state g.S.Store old) (state g.S.Store new) (CommitsBy put_deed_text params (state g.S.Store old)) =
     rw (c.params-to_sql.ensures, c.params-to_sql-2.ensures, c.params-to_sql-3.ensures, is) at c.execute.ensures.survives in
-    let all = single g.S.Store laws put_deed_text put_deed put_deed_writes params (with_deed num deed (desk g.S.Store old)) old new c.requires.mode c.requires.holds (λ was. makes_deed num deed (desk g.S.Store old)) (λ was. lawful_deed num deed (desk g.S.Store old) c.requires.deed)
+    let all = single g.S.Store laws put_deed_text put_deed put_deed_writes params (with_deed num deed (desk g.S.Store old)) old new c.requires.mode c.requires.holds (λ was. makes_new_deed num deed (desk g.S.Store old) (c.requires.free was)) (λ was. lawful_deed num deed (desk g.S.Store old) c.requires.deed)
     c.execute.result runs survives in
     record { kept = all.0; changes = all.1 }

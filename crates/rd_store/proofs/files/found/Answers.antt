@@ -1,8 +1,7 @@
-use Rattle.std.proofs.Common.{rules, ◌≡◌, ◌∙◌, ap, map, subst, sym, IfOk, List}
+use Rattle.std.proofs.Common.{rules, ◌∙◌, ap, map, subst, sym}
 use Rattle.std.specs.FinMap.{get}
 use Rattle.std.proofs.lemmas.Result.{IfOk-weaker}
 use Rattle.sqlite.specs.Held.{state}
-use Rattle.rd_volume.specs.declared.found.Found.{Found}
 use Rattle.rd_store.specs.Held.{desk}
 use Rattle.rd_store.specs.Index.{AreFilesIn}
 use Rattle.rd_store.specs.Spelled.{file_in}

@@ -1,7 +1,6 @@
 use Rattle.std.proofs.Common.{rules, ◌∙◌, sym, subst}
 use Rattle.std.specs.FinMap.{get}
 use Rattle.std.proofs.lemmas.Result.{IfOk-weaker}
-use Rattle.sqlite.specs.Held.{state}
 use Rattle.rd_store.specs.Held.{desk}
 use Rattle.rd_store.specs.Index.{IsFileIn}
 use Rattle.rd_store.proofs.files.found_at.Goals as goal

@@ -1,6 +1,5 @@
 use Rattle.std.proofs.Common.{◌≡◌, get_or, sym}
 use Rattle.rd_volume.specs.declared.found.Found.{Found}
-use Rattle.rd_store.proofs.Listings.{any_default}
 use Rattle.rd_store.proofs.files.insert_file.Goals as goal
 
 pub returns-in-Ok-clause-moves : goal.returns-in-Ok-clause-moves

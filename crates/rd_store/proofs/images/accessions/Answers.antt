@@ -1,15 +1,16 @@
-use Rattle.std.proofs.Common.{rules, ◌≡◌, ◌∙◌, ap, map, subst, IfOk}
-use Rattle.sqlite.specs.Order.{column}
-use Rattle.rd_tables.specs.Sheets.{natural}
-use Rattle.rd_store.proofs.Found.{numbers_back}
+use Rattle.std.proofs.Common.{◌≡◌, ◌∙◌, IfOk, ap, map, rules, subst}
+use Rattle.rd_store.specs.Held.{desk}
+use Rattle.rd_store.specs.Register.{number_of}
+use Rattle.rd_store.proofs.Registers.{numbers_told}
 use Rattle.rd_store.proofs.images.accessions.Goals as goal
 
 pub returns-clause-asks : goal.returns-clause-asks
 returns-clause-asks g c = record {
-  stays = c.accession_rows.ensures.asks.stays;
+  stays = c.stays_open.ensures.asks.stays;
   ends_open = search rules;
-  fault = search rules;
+  fault = c.accessions.ensures.fault;
   answer = λ is_open.
-      let rows = c.deref.ensures.value ∙ c.in_ok-rows.ensures.asks.answer is_open in
-      subst (λ l. IfOk c.read_numbers.result (λ numbers. numbers.items ≡ l)) (ap (map (λ row. natural (column row 0))) rows ∙ numbers_back _) c.read_numbers.ensures.numbers;
+      let images = (desk g.S.Store c.args.conn.now).images in
+      let all = ap (map number_of) (c.requires.listed (c.stays_open.ensures.asks.stays.lasts.was_open is_open)) ∙ numbers_told images in
+      subst (λ l. IfOk c.accessions.result (λ numbers. numbers.items ≡ l)) all c.accessions.ensures.numbers;
 }

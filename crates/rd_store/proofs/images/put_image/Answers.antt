@@ -1,133 +1,116 @@
-use Rattle.std.proofs.Common.{◌≡◌, ◌≢◌, ◌∙◌, rules, refl, sym, ap, subst, Option, Some, None, IsSome, Ok, Err, is_ok, option_map, ℕ}
+use Rattle.std.proofs.Common.{◌≡◌, ◌∙◌, Option, None, IsSome, Ok, Err, refl, rules, subst, sym}
+use Rattle.std.specs.Prelude.{MatchBool}
 use Rattle.std.specs.FinMap.{get}
 use Rattle.sqlite.specs.Effect.{Database}
-use Rattle.rd_store.specs.declared.faults.StoreFault.TheVariants.{Sql, Missing, Conflict}
-use Rattle.rd_store.specs.declared.images.Heading.{Heading}
+use Rattle.rd_store.specs.declared.faults.StoreFault.TheVariants.{Missing, Conflict}
 use Rattle.rd_store.specs.declared.rows.DeedRow.{DeedRow}
-use Rattle.rd_store.specs.declared.rows.ImageRow.{ImageRow}
-use Rattle.rd_store.specs.Held.{Stays, IsOpen, desk}
-use Rattle.rd_store.specs.Shown.{heading_of}
+use Rattle.rd_store.specs.Held.{IsOpen, desk}
+use Rattle.rd_store.specs.Register.{IsSameHeading}
+use Rattle.rd_store.specs.Shown.{image_with}
 use Rattle.rd_store.specs.Spelled.{desk_of}
-use Rattle.rd_store.specs.State.{Desk, HasOtherImage, put_or_kept, with_image}
-use Rattle.rd_store.proofs.Laws.{Laws, stays_then, stays_changes}
+use Rattle.rd_store.specs.State.{with_image}
+use Rattle.rd_store.proofs.Laws.{Laws, stays_changes}
 use Rattle.rd_store.proofs.Changing.{refused, then_told}
+use Rattle.rd_store.proofs.Registers.{added_judges, another, kept_there, listed_stays, no_other, none_there}
 use Rattle.rd_store.proofs.images.put_image.Goals as goal
-use Rattle.rd_store.proofs.images.put_image.Goals.{else-eq-via-then-eq+then-heading-deed+else-eq-2, else-eq-via-then-eq+else-heading-deed, else-eq-via-else-eq}
-
--- an image that stands is kept
-kept_image : (d : Desk) (acc : _) (image : ImageRow) (found : Option ImageRow) (heading : Heading) → Some heading ≡ option_map heading_of found → d ≡ put_or_kept found acc image d
-kept_image d acc image None heading is = absurd cc
-kept_image d acc image (Some standing) heading is = refl
 
 pub returns-in_err-deed-clause-changes : goal.returns-in_err-deed-clause-changes
 returns-in_err-deed-clause-changes g c =
     let laws : Laws g.S.Store = record { settles = g.met.S.Store.settled; shuts = g.met.S.Store.shut_if_dirty } in
-    let image : ImageRow = record { kind = c.args.kind; deed = c.args.deed; digest = c.args.digest.now; bytes = c.args.bytes.now } in
     let old = c.args.conn.now in
-    refused g.S.Store old c.deed.new.conn c.deed.ensures.asks.stays laws c.requires.holds (with_image c.args.acc image (desk g.S.Store old)) c.from_residual.result c.from_residual.ensures.0
+    refused g.S.Store old c.deed.new.conn c.deed.ensures.asks.stays laws c.requires.holds (with_image c.args.acc (image_with c.args.heading.now c.args.bytes.now) (desk g.S.Store old)) c.from_residual.result c.from_residual.ensures.0
+
+pub returns-in_err-deed-clause-listed : goal.returns-in_err-deed-clause-listed
+returns-in_err-deed-clause-listed g c = listed_stays g.S.Store c.args.conn.now c.deed.new.conn c.args.register.now c.deed.ensures.asks.stays c.requires.listed
 
 pub returns-then-is_none-clause-changes : goal.returns-then-is_none-clause-changes
 returns-then-is_none-clause-changes g c =
     let laws : Laws g.S.Store = record { settles = g.met.S.Store.settled; shuts = g.met.S.Store.shut_if_dirty } in
-    let image : ImageRow = record { kind = c.args.kind; deed = c.args.deed; digest = c.args.digest.now; bytes = c.args.bytes.now } in
     let old = c.args.conn.now in
-    refused g.S.Store old c.deed.new.conn c.deed.ensures.asks.stays laws c.requires.holds (with_image c.args.acc image (desk g.S.Store old)) (Err Missing) refl
+    refused g.S.Store old c.deed.new.conn c.deed.ensures.asks.stays laws c.requires.holds (with_image c.args.acc (image_with c.args.heading.now c.args.bytes.now) (desk g.S.Store old)) (Err Missing) refl
 
-pub returns-in_err-heading-clause-changes : goal.returns-in_err-heading-clause-changes
-returns-in_err-heading-clause-changes g c =
+pub returns-then-is_none-clause-listed : goal.returns-then-is_none-clause-listed
+returns-then-is_none-clause-listed g c = listed_stays g.S.Store c.args.conn.now c.deed.new.conn c.args.register.now c.deed.ensures.asks.stays c.requires.listed
+
+-- the same image stands
+pub returns-then-is_same-clause-changes : goal.returns-then-is_same-clause-changes
+returns-then-is_same-clause-changes g c =
     let laws : Laws g.S.Store = record { settles = g.met.S.Store.settled; shuts = g.met.S.Store.shut_if_dirty } in
-    let image : ImageRow = record { kind = c.args.kind; deed = c.args.deed; digest = c.args.digest.now; bytes = c.args.bytes.now } in
+    let image = image_with c.args.heading.now c.args.bytes.now in
     let old = c.args.conn.now in
-    let new = c.heading_at.new.conn in
-    let stays : Stays g.S.Store old new = stays_then g.S.Store old c.deed.new.conn new c.deed.ensures.asks.stays c.in_ok-deed.ensures.asks.ends_open c.heading_at.ensures.asks.stays in
-    refused g.S.Store old new stays laws c.requires.holds (with_image c.args.acc image (desk g.S.Store old)) c.from_residual-in_err-heading.result c.from_residual-in_err-heading.ensures.0
+    let new = c.deed.new.conn in
+    let stays = c.deed.ensures.asks.stays in
+    let found = λ (is_open : IsOpen g.S.Store new). sym c.in-Some.is ∙ c.find.ensures (desk g.S.Store old).images (c.requires.listed (stays.lasts.was_open is_open)) in
+    stays_changes g.S.Store old new stays laws c.requires.holds (with_image c.args.acc image (desk g.S.Store old)) (Ok tt) (λ o. kept_there (desk g.S.Store old) c.args.acc image c.in-Some.standing (found o)) c.in_ok-deed.ensures.asks.ends_open
 
-pub returns-then-eq-2-clause-changes : goal.returns-then-eq-2-clause-changes
-returns-then-eq-2-clause-changes g c =
-    let laws : Laws g.S.Store = record { settles = g.met.S.Store.settled; shuts = g.met.S.Store.shut_if_dirty } in
-    let acc = c.args.acc in
-    let image : ImageRow = record { kind = c.args.kind; deed = c.args.deed; digest = c.args.digest.now; bytes = c.args.bytes.now } in
+pub returns-then-is_same-clause-listed : goal.returns-then-is_same-clause-listed
+returns-then-is_same-clause-listed g c = listed_stays g.S.Store c.args.conn.now c.deed.new.conn c.args.register.now c.deed.ensures.asks.stays c.requires.listed
+
+pub returns-then-is_same-clause-judges : goal.returns-then-is_same-clause-judges
+returns-then-is_same-clause-judges g c =
+    let image = image_with c.args.heading.now c.args.bytes.now in
     let old = c.args.conn.now in
-    let mid = c.deed.new.conn in
-    let new = c.heading_at.new.conn in
-    let heading = c.in-Some.heading in
-    let stays : Stays g.S.Store old new = stays_then g.S.Store old mid new c.deed.ensures.asks.stays c.in_ok-deed.ensures.asks.ends_open c.heading_at.ensures.asks.stays in
-    let same : IsOpen g.S.Store mid → desk g.S.Store mid ≡ desk g.S.Store old = λ o. ap (λ (db : Database). desk_of db.trees) (c.deed.ensures.asks.stays.now o) in
-    let found : IsOpen g.S.Store new → Some heading ≡ option_map heading_of (get (desk g.S.Store old).images acc) =
-    λ o. subst (λ (d : Desk). Some heading ≡ option_map heading_of (get d.images acc)) (same (c.heading_at.ensures.asks.stays.lasts.was_open o)) (sym c.in-Some.is ∙ c.in_ok-heading.ensures.asks.answer o) in
-    stays_changes g.S.Store old new stays laws c.requires.holds (with_image acc image (desk g.S.Store old)) (Ok tt) (λ o. kept_image (desk g.S.Store old) acc image (get (desk g.S.Store old).images acc) heading (found o))
-    c.in_ok-heading.ensures.asks.ends_open
-
-pub returns-in-Some-clause-changes : goal.returns-in-Some-clause-changes
-returns-in-Some-clause-changes g c =
-    let laws : Laws g.S.Store = record { settles = g.met.S.Store.settled; shuts = g.met.S.Store.shut_if_dirty } in
-    let image : ImageRow = record { kind = c.args.kind; deed = c.args.deed; digest = c.args.digest.now; bytes = c.args.bytes.now } in
-    let old = c.args.conn.now in
-    let new = c.heading_at.new.conn in
-    let stays : Stays g.S.Store old new = stays_then g.S.Store old c.deed.new.conn new c.deed.ensures.asks.stays c.in_ok-deed.ensures.asks.ends_open c.heading_at.ensures.asks.stays in
-    refused g.S.Store old new stays laws c.requires.holds (with_image c.args.acc image (desk g.S.Store old)) (Err Conflict) refl
-
-pub returns-in_err-outside-in-None-clause-changes : goal.returns-in_err-outside-in-None-clause-changes
-returns-in_err-outside-in-None-clause-changes g c =
-    let laws : Laws g.S.Store = record { settles = g.met.S.Store.settled; shuts = g.met.S.Store.shut_if_dirty } in
-    let image : ImageRow = record { kind = c.args.kind; deed = c.args.deed; digest = c.args.digest.now; bytes = c.args.bytes.now } in
-    let old = c.args.conn.now in
-    let new = c.heading_at.new.conn in
-    let stays : Stays g.S.Store old new = stays_then g.S.Store old c.deed.new.conn new c.deed.ensures.asks.stays c.in_ok-deed.ensures.asks.ends_open c.heading_at.ensures.asks.stays in
-    refused g.S.Store old new stays laws c.requires.holds (with_image c.args.acc image (desk g.S.Store old)) c.from_residual-in_err-outside-in-None.result c.from_residual-in_err-outside-in-None.ensures.0
-
-pub returns-in-Ok-clause-changes : goal.returns-in-Ok-clause-changes
-returns-in-Ok-clause-changes g c =
-    let image : ImageRow = record { kind = c.args.kind; deed = c.args.deed; digest = c.args.digest.now; bytes = c.args.bytes.now } in
-    let old = c.args.conn.now in
-    let new = c.heading_at.new.conn in
-    let stays : Stays g.S.Store old new = stays_then g.S.Store old c.deed.new.conn new c.deed.ensures.asks.stays c.in_ok-deed.ensures.asks.ends_open c.heading_at.ensures.asks.stays in
-    then_told g.S.Store old new c.write_image.new.conn stays c.in_ok-heading.ensures.asks.ends_open (with_image c.args.acc image) c.write_image.result (Ok tt) (ap is_ok c.in-Ok.is) c.write_image.ensures.changes
-
-pub returns-clause-changes : goal.returns-clause-changes
-returns-clause-changes g c =
-    let image : ImageRow = record { kind = c.args.kind; deed = c.args.deed; digest = c.args.digest.now; bytes = c.args.bytes.now } in
-    let old = c.args.conn.now in
-    let new = c.heading_at.new.conn in
-    let stays : Stays g.S.Store old new = stays_then g.S.Store old c.deed.new.conn new c.deed.ensures.asks.stays c.in_ok-deed.ensures.asks.ends_open c.heading_at.ensures.asks.stays in
-    then_told g.S.Store old new c.write_image.new.conn stays c.in_ok-heading.ensures.asks.ends_open (with_image c.args.acc image) c.write_image.result (Err Sql) (ap is_ok c.in-Err.is) c.write_image.ensures.changes
-
-pub returns-in_err-files-in-None-clause-changes : goal.returns-in_err-files-in-None-clause-changes
-returns-in_err-files-in-None-clause-changes g c =
-    let laws : Laws g.S.Store = record { settles = g.met.S.Store.settled; shuts = g.met.S.Store.shut_if_dirty } in
-    let image : ImageRow = record { kind = c.args.kind; deed = c.args.deed; digest = c.args.digest.now; bytes = c.args.bytes.now } in
-    let old = c.args.conn.now in
-    let new = c.heading_at.new.conn in
-    let stays : Stays g.S.Store old new = stays_then g.S.Store old c.deed.new.conn new c.deed.ensures.asks.stays c.in_ok-deed.ensures.asks.ends_open c.heading_at.ensures.asks.stays in
-    refused g.S.Store old new stays laws c.requires.holds (with_image c.args.acc image (desk g.S.Store old)) c.from_residual-in_err-files-in-None.result c.from_residual-in_err-files-in-None.ensures.0
-
--- another image stands
-other_image : (d : Desk) (acc : ℕ) (image : ImageRow) (heading : Heading) → Some heading ≡ option_map heading_of (get d.images acc) → ¬ ((heading.kind ≡ image.kind) × (heading.deed ≡ image.deed) × (heading.digest ≡ image.digest)) → HasOtherImage d acc image
-other_image d acc image heading is other = from (get d.images acc) refl is
-  where
-    from : (found : Option ImageRow) → get d.images acc ≡ found → Some heading ≡ option_map heading_of found → HasOtherImage d acc image
-    from None at was = absurd cc
-    from (Some standing) at was =
-        let same : heading ≡ heading_of standing = cc in
-        (standing, at, subst (λ (h : Heading). ¬ ((h.kind ≡ image.kind) × (h.deed ≡ image.deed) × (h.digest ≡ image.digest))) same other)
-
-pub returns-in-Some-clause-judges : goal.returns-in-Some-clause-judges
-returns-in-Some-clause-judges g c =
-    let image : ImageRow = record { kind = c.args.kind; deed = c.args.deed; digest = c.args.digest.now; bytes = c.args.bytes.now } in
-    let acc = c.args.acc in
-    let old = c.args.conn.now in
-    let mid = c.deed.new.conn in
-    let new = c.heading_at.new.conn in
-    let heading = c.in-Some.heading in
-    let same : IsOpen g.S.Store mid → desk g.S.Store mid ≡ desk g.S.Store old = λ o. ap (λ (db : Database). desk_of db.trees) (c.deed.ensures.asks.stays.now o) in
-    let found : IsOpen g.S.Store new → Some heading ≡ option_map heading_of (get (desk g.S.Store old).images acc) =
-    λ o. subst (λ (d : Desk). Some heading ≡ option_map heading_of (get d.images acc)) (same (c.heading_at.ensures.asks.stays.lasts.was_open o)) (sym c.in-Some.is ∙ c.in_ok-heading.ensures.asks.answer o) in
-    let other : ¬ ((heading.kind ≡ image.kind) × (heading.deed ≡ image.deed) × (heading.digest ≡ image.digest)) =
-    λ all. elim c.else-eq.branch [
-      | else-eq-via-then-eq+then-heading-deed+else-eq-2 w ↦ let apart : heading.digest ≢ image.digest = search rules in apart all.2
-      | else-eq-via-then-eq+else-heading-deed w ↦ w.if-heading-deed.false all.1
-      | else-eq-via-else-eq w ↦ let apart : heading.kind ≢ image.kind = search rules in apart all.0
-    ] in
+    let new = c.deed.new.conn in
+    let stays = c.deed.ensures.asks.stays in
+    let found = λ (is_open : IsOpen g.S.Store new). sym c.in-Some.is ∙ c.find.ensures (desk g.S.Store old).images (c.requires.listed (stays.lasts.was_open is_open)) in
     let some : IsSome c.in_ok-deed.field-0 = search rules in
-    let there : IsOpen g.S.Store new → IsSome (get (desk g.S.Store old).deeds c.args.deed) = λ o. subst (λ (row : Option DeedRow). IsSome row) (c.in_ok-deed.ensures.asks.answer (c.heading_at.ensures.asks.stays.lasts.was_open o)) some in
-    record { told = λ o. (there o, other_image (desk g.S.Store old) acc image heading (found o) other); ends_open = c.in_ok-heading.ensures.asks.ends_open }
+    let same : IsSameHeading c.in-Some.standing c.args.heading.now = subst (λ b. MatchBool b (IsSameHeading c.in-Some.standing c.args.heading.now) (¬ IsSameHeading c.in-Some.standing c.args.heading.now)) c.if-is_same.true c.is_same.ensures in
+    record {
+      told = λ o. (subst (λ (row : Option DeedRow). IsSome row) (c.in_ok-deed.ensures.asks.answer o) some, no_other (desk g.S.Store old) c.args.acc image c.in-Some.standing (found o) same);
+      ends_open = c.in_ok-deed.ensures.asks.ends_open;
+    }
+
+-- another stands
+pub returns-else-is_same-clause-changes : goal.returns-else-is_same-clause-changes
+returns-else-is_same-clause-changes g c =
+    let laws : Laws g.S.Store = record { settles = g.met.S.Store.settled; shuts = g.met.S.Store.shut_if_dirty } in
+    let old = c.args.conn.now in
+    refused g.S.Store old c.deed.new.conn c.deed.ensures.asks.stays laws c.requires.holds (with_image c.args.acc (image_with c.args.heading.now c.args.bytes.now) (desk g.S.Store old)) (Err Conflict) refl
+
+pub returns-else-is_same-clause-listed : goal.returns-else-is_same-clause-listed
+returns-else-is_same-clause-listed g c = listed_stays g.S.Store c.args.conn.now c.deed.new.conn c.args.register.now c.deed.ensures.asks.stays c.requires.listed
+
+pub returns-else-is_same-clause-judges : goal.returns-else-is_same-clause-judges
+returns-else-is_same-clause-judges g c =
+    let image = image_with c.args.heading.now c.args.bytes.now in
+    let old = c.args.conn.now in
+    let new = c.deed.new.conn in
+    let stays = c.deed.ensures.asks.stays in
+    let found = λ (is_open : IsOpen g.S.Store new). sym c.in-Some.is ∙ c.find.ensures (desk g.S.Store old).images (c.requires.listed (stays.lasts.was_open is_open)) in
+    let some : IsSome c.in_ok-deed.field-0 = search rules in
+    let apart : ¬ IsSameHeading c.in-Some.standing c.args.heading.now = subst (λ b. MatchBool b (IsSameHeading c.in-Some.standing c.args.heading.now) (¬ IsSameHeading c.in-Some.standing c.args.heading.now)) c.if-is_same.false c.is_same.ensures in
+    record {
+      told = λ o. (subst (λ (row : Option DeedRow). IsSome row) (c.in_ok-deed.ensures.asks.answer o) some, another (desk g.S.Store old) c.args.acc image c.in-Some.standing (found o) apart);
+      ends_open = c.in_ok-deed.ensures.asks.ends_open;
+    }
+
+-- none stands
+pub add_image-requires-clause-listed : goal.add_image-requires-clause-listed
+add_image-requires-clause-listed g c = listed_stays g.S.Store c.args.conn.now c.deed.new.conn c.args.register.now c.deed.ensures.asks.stays c.requires.listed
+
+pub add_image-requires-clause-deed : goal.add_image-requires-clause-deed
+add_image-requires-clause-deed g c is_open =
+    let some : IsSome c.in_ok-deed.field-0 = search rules in
+    let there : IsSome (get (desk g.S.Store c.args.conn.now).deeds c.args.heading.now.deed) = subst (λ (row : Option DeedRow). IsSome row) (c.in_ok-deed.ensures.asks.answer is_open) some in
+    subst (λ (db : Database). IsSome (get (desk_of db.trees).deeds c.args.heading.now.deed)) (sym (c.deed.ensures.asks.stays.now is_open)) there
+
+pub add_image-requires-clause-free : goal.add_image-requires-clause-free
+add_image-requires-clause-free g c is_open =
+    let images = (desk g.S.Store c.args.conn.now).images in
+    let free = none_there images c.args.acc (sym c.in-None.is ∙ c.find.ensures images (c.requires.listed (c.deed.ensures.asks.stays.lasts.was_open is_open))) in
+    subst (λ (db : Database). get (desk_of db.trees).images c.args.acc ≡ None) (sym (c.deed.ensures.asks.stays.now is_open)) free
+
+pub returns-in-None-clause-changes : goal.returns-in-None-clause-changes
+returns-in-None-clause-changes g c =
+    then_told g.S.Store c.args.conn.now c.deed.new.conn c.add_image.new.conn c.deed.ensures.asks.stays c.in_ok-deed.ensures.asks.ends_open (with_image c.args.acc (image_with c.args.heading.now c.args.bytes.now)) c.add_image.result c.add_image.result refl c.add_image.ensures.changes
+
+pub returns-in-None-clause-judges : goal.returns-in-None-clause-judges
+returns-in-None-clause-judges g c =
+    let image = image_with c.args.heading.now c.args.bytes.now in
+    let old = c.args.conn.now in
+    let stays = c.deed.ensures.asks.stays in
+    let images = (desk g.S.Store old).images in
+    let some : IsSome c.in_ok-deed.field-0 = search rules in
+    added_judges g.S.Store old c.deed.new.conn c.add_image.new.conn stays c.args.acc image c.add_image.result c.add_image.ensures.changes c.add_image.ensures.fault
+    (λ was. subst (λ (row : Option DeedRow). IsSome row) (c.in_ok-deed.ensures.asks.answer was) some)
+    (λ was. none_there images c.args.acc (sym c.in-None.is ∙ c.find.ensures images (c.requires.listed (stays.lasts.was_open was))))

@@ -1,8 +1,14 @@
+use Rattle.std.proofs.Common.{◌≡◌}
 use Rattle.sqlite.specs.Held.{state}
-use Rattle.rd_store.specs.Held.{IsDeskAt, IsOpen}
+use Rattle.rd_store.specs.Held.{IsDeskAt, IsOpen, desk}
+use Rattle.rd_store.specs.Migrated.{IsRegisterIn}
 use Rattle.rd_store.specs.Opened.{IsHeld, Refuses}
+use Rattle.rd_store.specs.Register.{listed, register_of}
+use Rattle.rd_store.specs.declared.register.Register.{Register}
+use Rattle.rd_store.specs.declared.version.Version.TheVariants.{Second}
 use Rattle.rd_store.proofs.Brought.{rests_by}
 use Rattle.rd_store.proofs.Judged.{desk_names, hold_ok, names_told, no_desk_names, no_desk_tests, told_err}
+use Rattle.rd_store.proofs.Registers.{each_ok, register_stays}
 use Rattle.rd_store.proofs.judging.judge.Goals as goal
 
 pub returns-in_err-find_desk-clause-tests : goal.returns-in_err-find_desk-clause-tests
@@ -30,3 +36,9 @@ returns-clause-kept g c =
     let new = c.judge_tables.new.conn in
     let tests = c.judge_tables.ensures.tests in
     hold_ok c.judge_tables.result (IsOpen g.S.Store new) (IsHeld (state g.S.Store old).now) (IsDeskAt (state g.S.Store new)) tests.holds (rests_by g.S.Store old new c.requires.settled tests.stays)
+
+pub returns-clause-listed : goal.returns-clause-listed
+returns-clause-listed g c =
+    let old = c.args.conn.now in
+    let new = c.judge_tables.new.conn in
+    each_ok c.judge_tables.result (IsOpen g.S.Store new) (IsRegisterIn Second (state g.S.Store old).now.trees) (λ (register : Register). listed register ≡ register_of (desk g.S.Store new).images) c.judge_tables.ensures.listed (register_stays g.S.Store old new c.judge_tables.ensures.tests.stays)

@@ -33,3 +33,6 @@ pub returns-clause-tests : goal.returns-clause-tests
 returns-clause-tests g c =
     let schema : (state g.S.Store c.args.conn.now).now.schema ≡ first_schema = sym c.schema.ensures.value ∙ c.if-not-same_schema.ensures refl ∙ c.schema-2.ensures.value ∙ c.in_ok-first.ensures.schema in
     judged_first g.S.Store c.args.conn.now c.check_first_rows.new.conn c.requires.desk c.requires.sound c.check_first_rows.result schema c.requires.version c.check_first_rows.ensures.tests c.check_first_rows.ensures.rowids
+
+pub returns-clause-listed : goal.returns-clause-listed
+returns-clause-listed g c = c.check_first_rows.ensures.listed

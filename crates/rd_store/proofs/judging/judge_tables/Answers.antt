@@ -1,9 +1,11 @@
-use Rattle.std.proofs.Common.{◌≡◌, ◌∙◌, Some, ap, true, subst, sym}
+use Rattle.std.proofs.Common.{◌≡◌, ◌∙◌, IfOk, Some, ap, true, subst, sym}
 use Rattle.sqlite.specs.Effect.{Database, IsDatabase}
 use Rattle.sqlite.specs.Held.{state}
 use Rattle.rd_tables.specs.Schemas.{has_desk_columns}
 use Rattle.rd_store.specs.Opened.{IsHeld, IsSaid, Refuses}
+use Rattle.rd_store.specs.Migrated.{IsRegisterIn}
 use Rattle.rd_store.specs.Spelled.{HasVersion}
+use Rattle.rd_store.specs.declared.version.Version.TheVariants.{Second}
 use Rattle.rd_store.proofs.Judged.{other_version, still, still_resting, then_database}
 use Rattle.rd_store.proofs.judging.judge_tables.Goals as goal
 
@@ -42,3 +44,8 @@ judge_second-requires-clause-version g c is_open =
 pub returns-clause-tests : goal.returns-clause-tests
 returns-clause-tests g c =
     then_database g.S.Store c.args.conn.now c.known_version.new.conn c.judge_second.new.conn c.known_version.ensures.asks.stays c.in_ok-said.ensures.asks.ends_open c.judge_second.result (λ _. IsHeld) Refuses c.judge_second.ensures.tests
+
+pub returns-clause-listed : goal.returns-clause-listed
+returns-clause-listed g c is_open =
+    let was = c.judge_second.ensures.tests.stays.lasts.was_open is_open in
+    subst (λ (db : Database). IfOk c.judge_second.result (IsRegisterIn Second db.trees)) (c.known_version.ensures.asks.stays.now was) (c.judge_second.ensures.listed is_open)

@@ -1,11 +1,14 @@
-use Rattle.std.proofs.Common.{inl, subst}
+use Rattle.std.proofs.Common.{◌≡◌, inl, subst, sym}
+use Rattle.sqlite.specs.Effect.{Database}
 use Rattle.sqlite.specs.Held.{state}
 use Rattle.rd_store.specs.Held.{IsOpen}
-use Rattle.rd_store.specs.Migrated.{IsHeldIn, IsNotMigrated}
+use Rattle.rd_store.specs.Migrated.{IsHeldIn, IsNotMigrated, IsRegisterIn, first_desk}
+use Rattle.rd_store.specs.Register.{listed, register_of}
 use Rattle.rd_store.specs.declared.version.Version.{Version}
 use Rattle.rd_store.proofs.Brought.{all_brought, all_migrated, first_at, none_brought, opened_second, rests_by, untouched_by}
 use Rattle.rd_store.proofs.Judged.{err_told}
 use Rattle.rd_store.proofs.Laws.{Laws}
+use Rattle.rd_store.proofs.Registers.{brought_listed, register_stays}
 use Rattle.rd_store.proofs.migrating.migrate.Goals as goal
 
 pub returns-in_err-version-clause-refused : goal.returns-in_err-version-clause-refused
@@ -62,3 +65,20 @@ pub returns-in-Second-clause-holds : goal.returns-in-Second-clause-holds
 returns-in-Second-clause-holds g c is_open =
     let tests = c.in_ok-version.ensures.tests in
     rests_by g.S.Store c.args.conn.now c.judge_each.new.conn c.requires.settled tests.stays is_open (subst (λ (v : Version). IsHeldIn v (state g.S.Store c.args.conn.now).now) c.in-Second.is (tests.holds is_open))
+
+-- the register is that of the desk that was judged
+pub returns-in-First-clause-listed : goal.returns-in-First-clause-listed
+returns-in-First-clause-listed g c =
+    let old = c.args.conn.now in
+    let mid = c.judge_each.new.conn in
+    let register = c.in_ok-version.register in
+    let told = λ (is_open : IsOpen g.S.Store mid).
+    subst (λ (db : Database). listed register ≡ register_of (first_desk db.trees).images) (sym (c.in_ok-version.ensures.tests.stays.now is_open))
+    (subst (λ (v : Version). IsRegisterIn v (state g.S.Store old).now.trees register) c.in-First.is (c.in_ok-version.ensures.listed is_open)) in
+    brought_listed g.S.Store mid c.bring_up.new.conn register c.bring_up.result c.bring_up.ensures.turns c.bring_up.ensures.same told
+
+pub returns-in-Second-clause-listed : goal.returns-in-Second-clause-listed
+returns-in-Second-clause-listed g c is_open =
+    let old = c.args.conn.now in
+    register_stays g.S.Store old c.judge_each.new.conn c.in_ok-version.ensures.tests.stays c.in_ok-version.register is_open
+    (subst (λ (v : Version). IsRegisterIn v (state g.S.Store old).now.trees c.in_ok-version.register) c.in-Second.is (c.in_ok-version.ensures.listed is_open))

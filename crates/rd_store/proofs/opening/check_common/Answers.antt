@@ -1,70 +1,70 @@
-use Rattle.std.proofs.Common.{rules, sym, subst}
+use Rattle.std.proofs.Common.{◌≡◌, ◌∙◌, ap, map, subst, subst₂, sym}
 use Rattle.sqlite.specs.Effect.{Database}
 use Rattle.sqlite.specs.Held.{state}
-use Rattle.rd_store.specs.Opened.{HaveOtherRowids, LawfulCommon, LawfulGiven, LawfulOthers}
-use Rattle.rd_store.proofs.Laws.{stays_common, stays_then}
-use Rattle.rd_store.proofs.Sequels.{denied_part, judged_err, others_in, common}
+use Rattle.rd_store.specs.Opened.{AreNumbers, HaveOtherRowids, LawfulCommon, LawfulGiven, LawfulOthers}
+use Rattle.rd_store.specs.Register.{number_of}
+use Rattle.rd_store.specs.Walked.{IsWalk, LawfulCommonWalk, LawfulGivenWalk}
+use Rattle.rd_store.proofs.Laws.{stays_common}
+use Rattle.rd_store.proofs.Sequels.{common, others_in}
+use Rattle.rd_store.proofs.Walked.{part_ok, part_refused, sql_part, then_part}
 use Rattle.rd_store.proofs.opening.check_common.Goals as goal
 
 pub returns-in_err-deeds-clause-tests : goal.returns-in_err-deeds-clause-tests
-returns-in_err-deeds-clause-tests g c = record {
-  stays = c.check_given.ensures.tests.stays;
-  ends_open = search rules;
-  refuses = search rules;
-  named = search rules;
-  judges = λ is_open.
-      let trees = (state g.S.Store c.args.conn.now).now.trees in
-      judged_err (LawfulCommon trees) c.from_residual.result c.in_err-deeds.field-0.0 c.from_residual.ensures.1
-      (denied_part (LawfulGiven trees) (LawfulCommon trees) c.in_err-deeds.field-0.0 (λ (all : LawfulCommon trees). all.given) (c.in_err-deeds.ensures.tests.judges is_open));
-}
+returns-in_err-deeds-clause-tests g c =
+    part_refused g.S.Store c.args.conn.now c.check_given.new.conn LawfulGiven (LawfulGivenWalk c.args.marked.now) LawfulCommon (LawfulCommonWalk c.args.marked.now) c.in_err-deeds.field-0.0 c.from_residual.result c.from_residual.ensures.1 (λ is_open all. (all.0.given, all.1)) c.in_err-deeds.ensures.tests
 
-pub returns-in_err-check_others-clause-tests : goal.returns-in_err-check_others-clause-tests
-returns-in_err-check_others-clause-tests g c = record {
-  stays = stays_then g.S.Store c.args.conn.now c.check_given.new.conn c.check_others.new.conn c.check_given.ensures.tests.stays c.in_ok-deeds.ensures.tests.ends_open c.check_others.ensures.tests.stays;
-  ends_open = search rules;
-  refuses = search rules;
-  named = search rules;
-  judges = λ is_open.
-      let was = c.check_others.ensures.tests.stays.lasts.was_open is_open in
-      let same = c.check_given.ensures.tests.stays.now was in
-      let trees = (state g.S.Store c.args.conn.now).now.trees in
-      let middle = (state g.S.Store c.check_given.new.conn).now.trees in
-      let deeds = c.in_ok-deeds.deeds.items in
-      let accessions = c.in_ok-deeds.accessions.items in
-      let are = c.in_ok-deeds.ensures.numbers was in
-      let from = λ (all : LawfulCommon trees).
-      subst (λ l. LawfulOthers l c.deref-2.result.now middle) (sym c.deref.ensures.value) (subst (λ l. LawfulOthers accessions l middle) (sym c.deref-2.ensures.value) (subst (λ (db : Database). LawfulOthers accessions deeds db.trees) (sym same) (others_in trees deeds accessions are all))) in
-      judged_err (LawfulCommon trees) c.from_residual-in_err-check_others.result c.in_err-check_others.field-0.0 c.from_residual-in_err-check_others.ensures.1
-      (denied_part (LawfulOthers c.deref.result.now c.deref-2.result.now middle) (LawfulCommon trees) c.in_err-check_others.field-0.0 from (c.in_err-check_others.ensures.tests.judges is_open));
-}
-
-pub returns-clause-tests : goal.returns-clause-tests
-returns-clause-tests g c = record {
-  stays = stays_then g.S.Store c.args.conn.now c.check_given.new.conn c.check_others.new.conn c.check_given.ensures.tests.stays c.in_ok-deeds.ensures.tests.ends_open c.check_others.ensures.tests.stays;
-  ends_open = search rules;
-  refuses = search rules;
-  named = search rules;
-  judges = λ is_open.
-      let was = c.check_others.ensures.tests.stays.lasts.was_open is_open in
-      let same = c.check_given.ensures.tests.stays.now was in
-      let trees = (state g.S.Store c.args.conn.now).now.trees in
-      let middle = (state g.S.Store c.check_given.new.conn).now.trees in
-      let deeds = c.in_ok-deeds.deeds.items in
-      let accessions = c.in_ok-deeds.accessions.items in
-      let others = subst (λ (db : Database). LawfulOthers accessions deeds db.trees) same (subst (λ l. LawfulOthers accessions l middle) c.deref-2.ensures.value (subst (λ l. LawfulOthers l c.deref-2.result.now middle) c.deref.ensures.value (c.in_ok-check_others.ensures.tests.judges is_open))) in
-      common trees deeds accessions (c.in_ok-deeds.ensures.numbers was) (c.in_ok-deeds.ensures.tests.judges was) others;
-}
+pub returns-in_err-accessions-clause-tests : goal.returns-in_err-accessions-clause-tests
+returns-in_err-accessions-clause-tests g c =
+    sql_part g.S.Store c.args.conn.now c.check_given.new.conn c.check_given.ensures.tests.stays LawfulCommon (LawfulCommonWalk c.args.marked.now) c.in_err-accessions.field-0.0 c.from_residual-in_err-accessions.result c.from_residual-in_err-accessions.ensures.1 c.in_err-accessions.ensures.fault
 
 pub check_others-requires-clause-tables : goal.check_others-requires-clause-tables
 check_others-requires-clause-tables g c = stays_common g.S.Store c.args.conn.now c.check_given.new.conn c.check_given.ensures.tests.stays c.requires.tables
+
+pub returns-in_err-check_others-clause-tests : goal.returns-in_err-check_others-clause-tests
+returns-in_err-check_others-clause-tests g c =
+    let deeds = c.in_ok-deeds.deeds.items in
+    let accessions = c.in_ok-accessions.accessions.items in
+    let middle = (state g.S.Store c.check_given.new.conn).now.trees in
+    let others = LawfulOthers c.deref.result.now c.deref-2.result.now in
+    let q = c.from_residual-in_err-check_others.result in
+    let same : accessions ≡ map number_of c.in_ok-deeds.entries.items = c.in_ok-accessions.ensures.numbers ∙ ap (map number_of) c.of-register.ensures in
+    then_part g.S.Store c.args.conn.now c.check_given.new.conn c.check_others.new.conn c.check_given.ensures.tests.stays c.in_ok-deeds.ensures.tests.ends_open q LawfulCommon (LawfulCommonWalk c.args.marked.now)
+    (part_refused g.S.Store c.check_given.new.conn c.check_others.new.conn others others LawfulCommon (LawfulCommonWalk c.args.marked.now) c.in_err-check_others.field-0.0 q c.from_residual-in_err-check_others.ensures.1
+    (λ is_open all.
+    let was = c.check_others.ensures.tests.stays.lasts.was_open is_open in
+    let are = subst (λ (db : Database). AreNumbers db.trees deeds accessions) (sym (c.check_given.ensures.tests.stays.now was)) (subst (λ l. AreNumbers (state g.S.Store c.args.conn.now).now.trees deeds l) (sym same) (c.in_ok-deeds.ensures.numbers was)) in
+    subst₂ (λ a d. LawfulOthers a d middle) (sym c.deref.ensures.value) (sym c.deref-2.ensures.value) (others_in middle deeds accessions are all.0))
+    c.in_err-check_others.ensures.tests)
+
+pub returns-clause-tests : goal.returns-clause-tests
+returns-clause-tests g c =
+    let deeds = c.in_ok-deeds.deeds.items in
+    let accessions = c.in_ok-accessions.accessions.items in
+    let middle = (state g.S.Store c.check_given.new.conn).now.trees in
+    let others = LawfulOthers c.deref.result.now c.deref-2.result.now in
+    let same : accessions ≡ map number_of c.in_ok-deeds.entries.items = c.in_ok-accessions.ensures.numbers ∙ ap (map number_of) c.of-register.ensures in
+    then_part g.S.Store c.args.conn.now c.check_given.new.conn c.check_others.new.conn c.check_given.ensures.tests.stays c.in_ok-deeds.ensures.tests.ends_open _ LawfulCommon (LawfulCommonWalk c.args.marked.now)
+    (part_ok g.S.Store c.check_given.new.conn c.check_others.new.conn others others LawfulCommon (LawfulCommonWalk c.args.marked.now) _ _
+    (λ is_open all.
+    let was = c.check_others.ensures.tests.stays.lasts.was_open is_open in
+    let back = sym (c.check_given.ensures.tests.stays.now was) in
+    let are = subst (λ (db : Database). AreNumbers db.trees deeds accessions) back (subst (λ l. AreNumbers (state g.S.Store c.args.conn.now).now.trees deeds l) (sym same) (c.in_ok-deeds.ensures.numbers was)) in
+    let first = subst (λ (db : Database). LawfulGiven db.trees) back (c.in_ok-deeds.ensures.tests.judges was) in
+    common middle deeds accessions are first (subst₂ (λ a d. LawfulOthers a d middle) c.deref.ensures.value c.deref-2.ensures.value all))
+    c.in_ok-check_others.ensures.tests)
 
 pub returns-clause-rowids : goal.returns-clause-rowids
 returns-clause-rowids g c is_open =
     let was = c.check_others.ensures.tests.stays.lasts.was_open is_open in
     subst (λ (db : Database). HaveOtherRowids db.trees) (c.check_given.ensures.tests.stays.now was) (c.in_ok-check_others.ensures.rowids is_open)
 
+pub returns-clause-walked : goal.returns-clause-walked
+returns-clause-walked g c is_open =
+    let was = c.check_others.ensures.tests.stays.lasts.was_open is_open in
+    subst (λ l. IsWalk c.args.marked.now (state g.S.Store c.args.conn.now).now.trees l) (sym c.of-register.ensures) (c.in_ok-deeds.ensures.walked was)
+
 pub returns-clause-numbers : goal.returns-clause-numbers
-returns-clause-numbers g c is_open = (c.in_ok-deeds.ensures.numbers (c.check_others.ensures.tests.stays.lasts.was_open is_open)).1
+returns-clause-numbers g c = c.in_ok-accessions.ensures.numbers
 
 pub returns-clause-ascending : goal.returns-clause-ascending
-returns-clause-ascending g c = c.in_ok-deeds.ensures.ascending.1
+returns-clause-ascending g c = c.in_ok-accessions.ensures.ascending

@@ -1,44 +1,63 @@
-use Rattle.std.proofs.Common.{rules, sym, subst}
+use Rattle.std.proofs.Common.{map, subst, sym}
 use Rattle.sqlite.specs.Effect.{Database}
 use Rattle.sqlite.specs.Held.{state}
-use Rattle.rd_store.specs.Opened.{LawfulGiven, LawfulImages}
-use Rattle.rd_store.proofs.Laws.{stays_common, stays_then}
-use Rattle.rd_store.proofs.Sequels.{denied_part, judged_err, given, images_in}
+use Rattle.rd_tables.specs.Sheets.{map_of}
+use Rattle.rd_store.specs.Opened.{AreKeys, LawfulDeeds, LawfulGiven, LawfulImages}
+use Rattle.rd_store.specs.Register.{number_of}
+use Rattle.rd_store.specs.Spelled.{deed_sheet, image_sheet}
+use Rattle.rd_store.specs.Walked.{IsWalk, LawfulGivenWalk, LawfulWalk}
+use Rattle.rd_store.proofs.Laws.{stays_common, stays_marks}
+use Rattle.rd_store.proofs.Sequels.{given}
+use Rattle.rd_store.proofs.Walked.{part_ok, part_refused, then_part, walk_in}
 use Rattle.rd_store.proofs.opening.check_given.Goals as goal
 
-pub returns-in_err-accessions-clause-tests : goal.returns-in_err-accessions-clause-tests
-returns-in_err-accessions-clause-tests g c = record {
-  stays = stays_then g.S.Store c.args.conn.now c.check_deeds.new.conn c.check_images.new.conn c.check_deeds.ensures.tests.stays c.in_ok-deeds.ensures.tests.ends_open c.check_images.ensures.tests.stays;
-  ends_open = search rules;
-  refuses = search rules;
-  named = search rules;
-  judges = λ is_open.
-      let was = c.check_images.ensures.tests.stays.lasts.was_open is_open in
-      let same = c.check_deeds.ensures.tests.stays.now was in
-      let trees = (state g.S.Store c.args.conn.now).now.trees in
-      let middle = (state g.S.Store c.check_deeds.new.conn).now.trees in
-      let deeds = c.in_ok-deeds.deeds.items in
-      let numbers = c.in_ok-deeds.ensures.numbers was in
-      let part = λ (all : LawfulGiven trees). subst (λ (db : Database). LawfulImages c.deref.result.now db.trees) (sym same) (subst (λ l. LawfulImages l trees) (sym c.deref.ensures.value) (images_in trees deeds numbers all)) in
-      judged_err (LawfulGiven trees) c.from_residual-in_err-accessions.result c.in_err-accessions.field-0.0 c.from_residual-in_err-accessions.ensures.1
-      (denied_part (LawfulImages c.deref.result.now middle) (LawfulGiven trees) c.in_err-accessions.field-0.0 part (c.in_err-accessions.ensures.tests.judges is_open));
-}
+pub returns-in_err-deeds-clause-tests : goal.returns-in_err-deeds-clause-tests
+returns-in_err-deeds-clause-tests g c =
+    part_refused g.S.Store c.args.conn.now c.check_deeds.new.conn LawfulDeeds LawfulDeeds LawfulGiven (LawfulGivenWalk c.args.marked.now) c.in_err-deeds.field-0.0 c.from_residual.result c.from_residual.ensures.1 (λ is_open all. all.0.0) c.in_err-deeds.ensures.tests
+
+pub walk_images-requires-clause-tables : goal.walk_images-requires-clause-tables
+walk_images-requires-clause-tables g c = stays_common g.S.Store c.args.conn.now c.check_deeds.new.conn c.check_deeds.ensures.tests.stays c.requires.tables
+
+pub walk_images-requires-clause-marks : goal.walk_images-requires-clause-marks
+walk_images-requires-clause-marks g c acc = stays_marks g.S.Store c.args.conn.now c.check_deeds.new.conn c.check_deeds.ensures.tests.stays _ (c.requires.marks acc)
+
+pub returns-in_err-entries-clause-tests : goal.returns-in_err-entries-clause-tests
+returns-in_err-entries-clause-tests g c =
+    let marked = c.args.marked.now in
+    let deeds = c.in_ok-deeds.deeds.items in
+    let middle = (state g.S.Store c.check_deeds.new.conn).now.trees in
+    let q = c.from_residual-in_err-entries.result in
+    then_part g.S.Store c.args.conn.now c.check_deeds.new.conn c.walk_images.new.conn c.check_deeds.ensures.tests.stays c.in_ok-deeds.ensures.tests.ends_open q LawfulGiven (LawfulGivenWalk marked)
+    (part_refused g.S.Store c.check_deeds.new.conn c.walk_images.new.conn (LawfulImages c.deref.result.now) (LawfulWalk c.deref.result.now marked) LawfulGiven (LawfulGivenWalk marked) c.in_err-entries.field-0.0 q c.from_residual-in_err-entries.ensures.1
+    (λ is_open all.
+    let was = c.walk_images.ensures.tests.stays.lasts.was_open is_open in
+    let are = subst (λ (db : Database). AreKeys (map_of deed_sheet (db.trees 1)) deeds) (sym (c.check_deeds.ensures.tests.stays.now was)) (c.in_ok-deeds.ensures.numbers was) in
+    subst (λ l. LawfulWalk l marked middle) (sym c.deref.ensures.value) (walk_in middle deeds marked are all))
+    c.in_err-entries.ensures.tests)
 
 pub returns-clause-tests : goal.returns-clause-tests
-returns-clause-tests g c = record {
-  stays = stays_then g.S.Store c.args.conn.now c.check_deeds.new.conn c.check_images.new.conn c.check_deeds.ensures.tests.stays c.in_ok-deeds.ensures.tests.ends_open c.check_images.ensures.tests.stays;
-  ends_open = search rules;
-  refuses = search rules;
-  named = search rules;
-  judges = λ is_open.
-      let was = c.check_images.ensures.tests.stays.lasts.was_open is_open in
-      let same = c.check_deeds.ensures.tests.stays.now was in
-      let trees = (state g.S.Store c.args.conn.now).now.trees in
-      let middle = (state g.S.Store c.check_deeds.new.conn).now.trees in
-      let deeds = c.in_ok-deeds.deeds.items in
-      let images = subst (λ (db : Database). LawfulImages deeds db.trees) same (subst (λ l. LawfulImages l middle) c.deref.ensures.value (c.in_ok-accessions.ensures.tests.judges is_open)) in
-      given trees deeds (c.in_ok-deeds.ensures.numbers was) (c.in_ok-deeds.ensures.tests.judges was) images;
-}
+returns-clause-tests g c =
+    let marked = c.args.marked.now in
+    let deeds = c.in_ok-deeds.deeds.items in
+    let middle = (state g.S.Store c.check_deeds.new.conn).now.trees in
+    then_part g.S.Store c.args.conn.now c.check_deeds.new.conn c.walk_images.new.conn c.check_deeds.ensures.tests.stays c.in_ok-deeds.ensures.tests.ends_open _ LawfulGiven (LawfulGivenWalk marked)
+    (part_ok g.S.Store c.check_deeds.new.conn c.walk_images.new.conn (LawfulImages c.deref.result.now) (LawfulWalk c.deref.result.now marked) LawfulGiven (LawfulGivenWalk marked) _ _
+    (λ is_open images.
+    let was = c.walk_images.ensures.tests.stays.lasts.was_open is_open in
+    let back = sym (c.check_deeds.ensures.tests.stays.now was) in
+    let are = subst (λ (db : Database). AreKeys (map_of deed_sheet (db.trees 1)) deeds) back (c.in_ok-deeds.ensures.numbers was) in
+    let lawful = subst (λ (db : Database). LawfulDeeds db.trees) back (c.in_ok-deeds.ensures.tests.judges was) in
+    given middle deeds are lawful (subst (λ l. LawfulImages l middle) c.deref.ensures.value images))
+    c.in_ok-entries.ensures.tests)
 
-pub check_images-requires-clause-tables : goal.check_images-requires-clause-tables
-check_images-requires-clause-tables g c = stays_common g.S.Store c.args.conn.now c.check_deeds.new.conn c.check_deeds.ensures.tests.stays c.requires.tables
+pub returns-clause-numbers : goal.returns-clause-numbers
+returns-clause-numbers g c is_open =
+    let was = c.walk_images.ensures.tests.stays.lasts.was_open is_open in (
+      c.in_ok-deeds.ensures.numbers was,
+      subst (λ (db : Database). AreKeys (map_of image_sheet (db.trees 2)) (map number_of c.in_ok-entries.entries.items)) (c.check_deeds.ensures.tests.stays.now was) (c.in_ok-entries.ensures.walked is_open).numbers,
+    )
+
+pub returns-clause-walked : goal.returns-clause-walked
+returns-clause-walked g c is_open =
+    let was = c.walk_images.ensures.tests.stays.lasts.was_open is_open in
+    subst (λ (db : Database). IsWalk c.args.marked.now db.trees c.in_ok-entries.entries.items) (c.check_deeds.ensures.tests.stays.now was) (c.in_ok-entries.ensures.walked is_open)

@@ -1,114 +1,151 @@
-use Rattle.std.proofs.Common.{rules, sym, subst}
-use Rattle.std.proofs.lemmas.Result.{IfOk-weaker}
+use Rattle.std.specs.Prelude.{⊤}
+use Rattle.std.proofs.Common.{◌∙◌, All, false, refl, subst, subst₂, sym}
 use Rattle.sqlite.specs.Effect.{Database}
 use Rattle.sqlite.specs.Held.{state}
-use Rattle.rd_tables.specs.Sheets.{HaveRowids, Spells, map_of}
-use Rattle.rd_store.specs.Opened.{AreKeys, IsConsistent, LawfulCommon, LawfulFiles, LawfulMarks}
-use Rattle.rd_store.specs.Spelled.{image_sheet, marks_sheet}
+use Rattle.rd_tables.specs.Asked.{IsListed}
+use Rattle.rd_tables.specs.Queries.{all_marks_query}
+use Rattle.rd_tables.proofs.Listed.{have_rowids}
+use Rattle.rd_store.specs.Cells.{IsMarksRow}
+use Rattle.rd_store.specs.Opened.{AreFiledUnder, AreListed, HaveOtherRowids, IsConsistent, LawfulCommon}
+use Rattle.rd_store.specs.Register.{listed}
+use Rattle.rd_store.specs.Walked.{AreFiledOf, IsWalk, LawfulCommonWalk}
+use Rattle.rd_store.proofs.FilesTold.{filed_in}
 use Rattle.rd_store.proofs.Laws.{common_tables, stays_common, stays_tables, stays_then}
-use Rattle.rd_store.proofs.Sequels.{denied_part, judged_err, judged_same, common_in, marks_in, files_in, consistent_second}
+use Rattle.rd_store.proofs.Sequels.{common_in, files_in, marks_in}
+use Rattle.rd_store.proofs.Verdicts.{marks_told}
+use Rattle.rd_store.proofs.Walked.{checked_second, filed_second, firsts, known_marks, part_refused, register_second, sql_part, then_part, walked_keys}
 use Rattle.rd_store.proofs.opening.check_rows.Goals as goal
 
+pub returns-in_err-rows-clause-tests : goal.returns-in_err-rows-clause-tests
+returns-in_err-rows-clause-tests g c =
+    part_refused g.S.Store c.args.conn.now c.read_marks.new.conn (λ trees. ⊤) IsConsistent IsConsistent IsConsistent c.in_err-rows.field-0.0 c.from_residual.result c.from_residual.ensures.1 (λ is_open all. all) c.in_err-rows.ensures.tests
+
 pub check_common-requires-clause-tables : goal.check_common-requires-clause-tables
-check_common-requires-clause-tables g c = common_tables (state g.S.Store c.args.conn.now) c.requires.tables
+check_common-requires-clause-tables g c = stays_common g.S.Store c.args.conn.now c.read_marks.new.conn c.read_marks.ensures.tests.stays (common_tables (state g.S.Store c.args.conn.now) c.requires.tables)
+
+pub check_common-requires-clause-marks : goal.check_common-requires-clause-marks
+check_common-requires-clause-marks g c acc is = stays_tables g.S.Store c.args.conn.now c.read_marks.new.conn c.read_marks.ensures.tests.stays c.requires.tables
 
 pub returns-in_err-accessions-clause-tests : goal.returns-in_err-accessions-clause-tests
-returns-in_err-accessions-clause-tests g c = record {
-  stays = c.check_common.ensures.tests.stays;
-  ends_open = search rules;
-  refuses = search rules;
-  named = search rules;
-  judges = λ is_open.
-      let trees = (state g.S.Store c.args.conn.now).now.trees in
-      judged_err (IsConsistent trees) c.from_residual.result c.in_err-accessions.field-0.0 c.from_residual.ensures.1
-      (denied_part (LawfulCommon trees) (IsConsistent trees) c.in_err-accessions.field-0.0 (common_in trees 2) (c.in_err-accessions.ensures.tests.judges is_open));
-}
-
-pub returns-in_err-marked-clause-tests : goal.returns-in_err-marked-clause-tests
-returns-in_err-marked-clause-tests g c = record {
-  stays = stays_then g.S.Store c.args.conn.now c.check_common.new.conn c.check_marks.new.conn c.check_common.ensures.tests.stays c.in_ok-accessions.ensures.tests.ends_open c.check_marks.ensures.tests.stays;
-  ends_open = search rules;
-  refuses = search rules;
-  named = search rules;
-  judges = λ is_open.
-      let was = c.check_marks.ensures.tests.stays.lasts.was_open is_open in
-      let same = c.check_common.ensures.tests.stays.now was in
-      let trees = (state g.S.Store c.args.conn.now).now.trees in
-      let middle = (state g.S.Store c.check_common.new.conn).now.trees in
-      let accessions = c.in_ok-accessions.accessions.items in
-      let from = λ (all : IsConsistent trees).
-      subst (λ l. LawfulMarks l middle) (sym c.deref.ensures.value) (subst (λ (db : Database). LawfulMarks accessions db.trees) (sym same) (marks_in trees accessions (c.in_ok-accessions.ensures.numbers was) all)) in
-      judged_err (IsConsistent trees) c.from_residual-in_err-marked.result c.in_err-marked.field-0.0 c.from_residual-in_err-marked.ensures.1
-      (denied_part (LawfulMarks c.deref.result.now middle) (IsConsistent trees) c.in_err-marked.field-0.0 from (c.in_err-marked.ensures.tests.judges is_open));
-}
-
-pub check_index-requires-clause-tables : goal.check_index-requires-clause-tables
-check_index-requires-clause-tables g c =
+returns-in_err-accessions-clause-tests g c =
     let old = c.args.conn.now in
-    stays_common g.S.Store old c.check_marks.new.conn (stays_then g.S.Store old c.check_common.new.conn c.check_marks.new.conn c.check_common.ensures.tests.stays c.in_ok-accessions.ensures.tests.ends_open c.check_marks.ensures.tests.stays)
-    (common_tables (state g.S.Store old) c.requires.tables)
+    let first = c.read_marks.new.conn in
+    let second = c.check_common.new.conn in
+    let middle = (state g.S.Store first).now.trees in
+    let rows = c.in_ok-rows.rows.items in
+    let q = c.from_residual-in_err-accessions.result in
+    then_part g.S.Store old first second c.read_marks.ensures.tests.stays c.in_ok-rows.ensures.tests.ends_open q IsConsistent IsConsistent
+    (part_refused g.S.Store first second LawfulCommon (LawfulCommonWalk c.deref.result.now) IsConsistent IsConsistent c.in_err-accessions.field-0.0 q c.from_residual-in_err-accessions.ensures.1
+    (λ is_open all.
+    let was = c.check_common.ensures.tests.stays.lasts.was_open is_open in
+    let shown = subst (λ (db : Database). IsListed all_marks_query (db.trees 11) rows) (sym (c.read_marks.ensures.tests.stays.now was)) (c.in_ok-rows.ensures.listed was) in
+    (common_in middle 2 all, subst (λ l. AreFiledOf l middle) (sym (c.deref.ensures.value ∙ c.in_ok-rows.ensures.numbers)) (filed_second middle (firsts rows) (known_marks middle rows shown all) all)))
+    c.in_err-accessions.ensures.tests)
 
-pub check_index-requires-clause-marks : goal.check_index-requires-clause-marks
-check_index-requires-clause-marks g c acc is is_open =
+pub returns-then-not-are_marks-clause-tests : goal.returns-then-not-are_marks-clause-tests
+returns-then-not-are_marks-clause-tests g c =
+    let entries = listed c.in_ok-accessions.register in
     let old = c.args.conn.now in
-    let to_second = stays_then g.S.Store old c.check_common.new.conn c.check_marks.new.conn c.check_common.ensures.tests.stays c.in_ok-accessions.ensures.tests.ends_open c.check_marks.ensures.tests.stays in (
-      stays_tables g.S.Store old c.check_marks.new.conn to_second c.requires.tables is_open,
-      subst (λ (db : Database). Spells marks_sheet (db.trees 11)) (sym (c.check_marks.ensures.tests.stays.now is_open)) (c.in_ok-marked.ensures.tests.judges is_open).spells,
-    )
+    let first = c.read_marks.new.conn in
+    let second = c.check_common.new.conn in
+    record {
+      stays = stays_then g.S.Store old first second c.read_marks.ensures.tests.stays c.in_ok-rows.ensures.tests.ends_open c.check_common.ensures.tests.stays;
+      ends_open = λ clean. tt;
+      refuses = λ not_desk not_sql clean. c.in_ok-accessions.ensures.tests.ends_open clean;
+      named = λ is. absurd cc;
+      judges = λ is_open all.
+          let was = c.check_common.ensures.tests.stays.lasts.was_open is_open in
+          let trees = (state g.S.Store old).now.trees in
+          let rows = c.in_ok-rows.rows.items in
+          let accessions = c.in_ok-accessions.accessions.items in
+          let marked = c.deref.result.now in
+          let walk = subst (λ (db : Database). IsWalk marked db.trees entries) (c.read_marks.ensures.tests.stays.now was) (c.in_ok-accessions.ensures.walked is_open) in
+          let are = walked_keys marked accessions trees entries walk c.in_ok-accessions.ensures.numbers in
+          let none = subst₂ (λ a r. ¬ All (IsMarksRow a) r) c.deref-3.ensures.value c.deref-2.ensures.value c.if-not-are_marks.ensures in
+          marks_told accessions (trees 11) rows (c.in_ok-rows.ensures.listed was) false none (marks_in trees accessions are all);
+    }
 
-pub check_index-requires-clause-images : goal.check_index-requires-clause-images
-check_index-requires-clause-images g c is_open =
-    let was = c.check_marks.ensures.tests.stays.lasts.was_open is_open in
-    let same = c.check_marks.ensures.tests.stays.now is_open in
-    subst (λ (db : Database). Spells image_sheet (db.trees 2)) (sym same) (subst (λ (db : Database). Spells image_sheet (db.trees 2)) (sym (c.check_common.ensures.tests.stays.now was)) (c.in_ok-accessions.ensures.tests.judges was).given.1.spells)
+pub check_filed-requires-clause-tables : goal.check_filed-requires-clause-tables
+check_filed-requires-clause-tables g c =
+    let old = c.args.conn.now in
+    let first = c.read_marks.new.conn in
+    let second = c.check_common.new.conn in
+    stays_common g.S.Store old second (stays_then g.S.Store old first second c.read_marks.ensures.tests.stays c.in_ok-rows.ensures.tests.ends_open c.check_common.ensures.tests.stays) (common_tables (state g.S.Store old) c.requires.tables)
 
-pub check_index-requires-clause-numbers : goal.check_index-requires-clause-numbers
-check_index-requires-clause-numbers g c is_open =
-    let was = c.check_marks.ensures.tests.stays.lasts.was_open is_open in
+pub returns-in_err-check_filed-clause-tests : goal.returns-in_err-check_filed-clause-tests
+returns-in_err-check_filed-clause-tests g c =
+    let entries = listed c.in_ok-accessions.register in
+    let old = c.args.conn.now in
+    let first = c.read_marks.new.conn in
+    let second = c.check_common.new.conn in
+    let third = c.check_filed.new.conn in
+    let to_second = stays_then g.S.Store old first second c.read_marks.ensures.tests.stays c.in_ok-rows.ensures.tests.ends_open c.check_common.ensures.tests.stays in
+    let middle = (state g.S.Store second).now.trees in
+    let rows = c.in_ok-rows.rows.items in
     let accessions = c.in_ok-accessions.accessions.items in
-    let late = (state g.S.Store c.check_marks.new.conn).now in
-    subst (λ l. AreKeys (map_of image_sheet (late.trees 2)) l) (sym c.deref-2.ensures.value)
-    (subst (λ (db : Database). AreKeys (map_of image_sheet (db.trees 2)) accessions) (sym (c.check_marks.ensures.tests.stays.now is_open))
-    (subst (λ (db : Database). AreKeys (map_of image_sheet (db.trees 2)) accessions) (sym (c.check_common.ensures.tests.stays.now was)) (c.in_ok-accessions.ensures.numbers was)))
+    let filed = AreFiledUnder c.deref-4.result.now in
+    let q = c.from_residual-in_err-check_filed.result in
+    then_part g.S.Store old second third to_second c.in_ok-accessions.ensures.tests.ends_open q IsConsistent IsConsistent
+    (part_refused g.S.Store second third filed filed IsConsistent IsConsistent c.in_err-check_filed.field-0.0 q c.from_residual-in_err-check_filed.ensures.1
+    (λ is_open all.
+    let late = c.check_filed.ensures.tests.stays.lasts.was_open is_open in
+    let was = c.check_common.ensures.tests.stays.lasts.was_open late in
+    let back = sym (to_second.now late) in
+    let shown = subst (λ (db : Database). IsListed all_marks_query (db.trees 11) rows) back (c.in_ok-rows.ensures.listed was) in
+    let walk = subst (λ (db : Database). IsWalk c.deref.result.now db.trees entries) (sym (c.check_common.ensures.tests.stays.now late)) (c.in_ok-accessions.ensures.walked late) in
+    let are = walked_keys c.deref.result.now accessions middle entries walk c.in_ok-accessions.ensures.numbers in
+    subst (λ l. AreFiledUnder l middle) (sym c.deref-4.ensures.value) (filed_in (firsts rows) accessions middle are (files_in middle accessions (firsts rows) (known_marks middle rows shown all) all)))
+    c.in_err-check_filed.ensures.tests)
 
 pub returns-clause-tests : goal.returns-clause-tests
 returns-clause-tests g c =
+    let entries = listed c.in_ok-accessions.register in
     let old = c.args.conn.now in
-    let first = c.check_common.new.conn in
-    let second = c.check_marks.new.conn in
-    let last = c.check_index.new.conn in
-    let to_second = stays_then g.S.Store old first second c.check_common.ensures.tests.stays c.in_ok-accessions.ensures.tests.ends_open c.check_marks.ensures.tests.stays in
+    let first = c.read_marks.new.conn in
+    let second = c.check_common.new.conn in
+    let third = c.check_filed.new.conn in
+    let to_second = stays_then g.S.Store old first second c.read_marks.ensures.tests.stays c.in_ok-rows.ensures.tests.ends_open c.check_common.ensures.tests.stays in
     record {
-      stays = stays_then g.S.Store old second last to_second c.in_ok-marked.ensures.tests.ends_open c.check_index.ensures.tests.stays;
-      ends_open = search rules;
-      refuses = search rules;
-      named = search rules;
+      stays = stays_then g.S.Store old second third to_second c.in_ok-accessions.ensures.tests.ends_open c.check_filed.ensures.tests.stays;
+      ends_open = λ clean. c.in_ok-check_filed.ensures.tests.ends_open clean;
+      refuses = tt;
+      named = tt;
       judges = λ is_open.
-          let late_open = c.check_index.ensures.tests.stays.lasts.was_open is_open in
-          let was = c.check_marks.ensures.tests.stays.lasts.was_open late_open in
-          let same = c.check_common.ensures.tests.stays.now was in
-          let both = to_second.now late_open in
-          let trees = (state g.S.Store old).now.trees in
-          let middle = (state g.S.Store first).now.trees in
-          let late = (state g.S.Store second).now.trees in
+          let late = c.check_filed.ensures.tests.stays.lasts.was_open is_open in
+          let was = c.check_common.ensures.tests.stays.lasts.was_open late in
+          let before = c.read_marks.ensures.tests.stays.lasts.was_open was in
+          let db = (state g.S.Store old).now in
+          let same = c.read_marks.ensures.tests.stays.now was in
+          let rows = c.in_ok-rows.rows.items in
           let accessions = c.in_ok-accessions.accessions.items in
-          let marked = c.in_ok-marked.marked.items in
-          let are = c.in_ok-accessions.ensures.numbers was in
-          let those = subst (λ (db : Database). AreKeys (map_of marks_sheet (db.trees 11)) marked) same (c.in_ok-marked.ensures.numbers late_open) in
-          let marks = subst (λ (db : Database). LawfulMarks accessions db.trees) same (subst (λ l. LawfulMarks l middle) c.deref.ensures.value (c.in_ok-marked.ensures.tests.judges late_open)) in
-          let version = c.requires.version (c.check_common.ensures.tests.stays.lasts.was_open was) in
-          let to = λ (files : LawfulFiles c.deref-3.result.now c.deref-2.result.now late).
-          consistent_second trees accessions marked those version (c.in_ok-accessions.ensures.tests.judges was) marks
-          (subst (λ (db : Database). LawfulFiles marked accessions db.trees) both (subst (λ l. LawfulFiles marked l late) c.deref-2.ensures.value (subst (λ l. LawfulFiles l c.deref-2.result.now late) c.deref-3.ensures.value files))) in
-          let from = λ (all : IsConsistent trees).
-          subst (λ l. LawfulFiles l c.deref-2.result.now late) (sym c.deref-3.ensures.value) (subst (λ l. LawfulFiles marked l late) (sym c.deref-2.ensures.value) (subst (λ (db : Database). LawfulFiles marked accessions db.trees) (sym both) (files_in trees accessions marked those all))) in
-          judged_same (LawfulFiles c.deref-3.result.now c.deref-2.result.now late) (IsConsistent trees) c.check_index.result to from (c.check_index.ensures.tests.judges is_open);
+          let within = subst₂ (λ a r. All (IsMarksRow a) r) c.deref-3.ensures.value c.deref-2.ensures.value c.if-not-are_marks.ensures in
+          let walk = subst (λ l. IsWalk l db.trees entries) (c.deref.ensures.value ∙ c.in_ok-rows.ensures.numbers) (subst (λ (d : Database). IsWalk c.deref.result.now d.trees entries) same (c.in_ok-accessions.ensures.walked late)) in
+          let common = subst (λ (d : Database). LawfulCommon d.trees) same (c.in_ok-accessions.ensures.tests.judges late) in
+          let filed = subst (λ (d : Database). AreFiledUnder accessions d.trees) (to_second.now late) (subst (λ l. AreFiledUnder l (state g.S.Store second).now.trees) c.deref-4.ensures.value (c.in_ok-check_filed.ensures.tests.judges is_open)) in
+          let files = subst (λ (d : Database). AreListed d.trees) (to_second.now late) (c.in_ok-check_filed.ensures.listed is_open) in
+          let at = common_tables (state g.S.Store old) c.requires.tables before in
+          checked_second db.trees accessions entries rows (c.in_ok-rows.ensures.listed was) within walk c.in_ok-accessions.ensures.numbers (c.requires.version before) common filed files at.more db refl at.rests.schema (c.requires.sound before);
     }
 
 pub returns-clause-rowids : goal.returns-clause-rowids
 returns-clause-rowids g c is_open =
     let old = c.args.conn.now in
-    let to_second = stays_then g.S.Store old c.check_common.new.conn c.check_marks.new.conn c.check_common.ensures.tests.stays c.in_ok-accessions.ensures.tests.ends_open c.check_marks.ensures.tests.stays in
-    let late = c.check_index.ensures.tests.stays.lasts.was_open is_open in
-    let others = c.in_ok-accessions.ensures.rowids (c.check_marks.ensures.tests.stays.lasts.was_open late) in
-    IfOk-weaker c.check_index.result _ _ (λ done files. record { rules = others.0; keys = others.1; checks = others.2; files = subst (λ (db : Database). HaveRowids (db.trees 9)) (to_second.now late) files }) (c.check_index.ensures.rowids is_open)
+    let first = c.read_marks.new.conn in
+    let second = c.check_common.new.conn in
+    let to_second = stays_then g.S.Store old first second c.read_marks.ensures.tests.stays c.in_ok-rows.ensures.tests.ends_open c.check_common.ensures.tests.stays in
+    let late = c.check_filed.ensures.tests.stays.lasts.was_open is_open in
+    let was = c.check_common.ensures.tests.stays.lasts.was_open late in
+    let others = subst (λ (db : Database). HaveOtherRowids db.trees) (c.read_marks.ensures.tests.stays.now was) (c.in_ok-accessions.ensures.rowids late) in
+    let files = subst (λ (db : Database). AreListed db.trees) (to_second.now late) (c.in_ok-check_filed.ensures.listed is_open) in
+    record { rules = others.0; keys = others.1; checks = others.2; files = have_rowids 9 _ _ _ files.0 files.1 }
+
+pub returns-clause-listed : goal.returns-clause-listed
+returns-clause-listed g c is_open =
+    let entries = listed c.in_ok-accessions.register in
+    let late = c.check_filed.ensures.tests.stays.lasts.was_open is_open in
+    let was = c.check_common.ensures.tests.stays.lasts.was_open late in
+    let trees = (state g.S.Store c.args.conn.now).now.trees in
+    let rows = c.in_ok-rows.rows.items in
+    let within = subst₂ (λ a r. All (IsMarksRow a) r) c.deref-3.ensures.value c.deref-2.ensures.value c.if-not-are_marks.ensures in
+    let walk = subst (λ l. IsWalk l trees entries) (c.deref.ensures.value ∙ c.in_ok-rows.ensures.numbers) (subst (λ (db : Database). IsWalk c.deref.result.now db.trees entries) (c.read_marks.ensures.tests.stays.now was) (c.in_ok-accessions.ensures.walked late)) in
+    register_second trees c.in_ok-accessions.accessions.items entries rows (c.in_ok-rows.ensures.listed was) within walk c.in_ok-accessions.ensures.numbers

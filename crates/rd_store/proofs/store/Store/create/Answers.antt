@@ -1,15 +1,20 @@
-use Rattle.std.proofs.Common.{◌≡◌, length, rules}
+use Rattle.std.proofs.Common.{◌≡◌, ◌∙◌, ap, length, rules, sym}
 use Rattle.rd_store.specs.Held.{HoldsDesk}
 use Rattle.sqlite.specs.Held.{state}
+use Rattle.rd_store.specs.Register.{register_of}
+use Rattle.rd_store.specs.State.{Desk}
 use Rattle.rd_store.proofs.Laws.{Laws}
+use Rattle.rd_store.proofs.Registers.{register_empty}
 use Rattle.rd_store.proofs.Creating.{rests_new, made_or_old, only_new}
 use Rattle.rd_store.proofs.store.Store.create.Goals as goal
 
 pub invariant_of-result : goal.invariant_of-result
-invariant_of-result g c is_open =
+invariant_of-result g c =
     let laws : Laws g.S.Store = record { settles = g.met.S.Store.settled; shuts = g.met.S.Store.shut_if_dirty } in
-    let long : length c.args.staff.now ≡ 32 = c.told-staff in
-    rests_new g.S.Store laws c.args.conn c.write_desk.new.conn c.args.staff.now long (c.in-Ok.ensures.turns.ok is_open)
+    let long : length c.args.staff.now ≡ 32 = c.told-staff in (
+      λ is_open. rests_new g.S.Store laws c.args.conn c.write_desk.new.conn c.args.staff.now long (c.in-Ok.ensures.turns.ok is_open),
+      λ is_open. c.empty.ensures ∙ register_empty ∙ ap (λ (d : Desk). register_of d.images) (sym (c.in-Ok.ensures.turns.ok is_open).holds.is),
+    )
 
 pub returns-in-Ok-clause-created : goal.returns-in-Ok-clause-created
 returns-in-Ok-clause-created g c =

@@ -5,6 +5,9 @@ use Rattle.rd_store.specs.Spelled.{desk_of}
 use Rattle.rd_store.proofs.Laws.{Laws, leaves_only}
 use Rattle.rd_store.proofs.store.Store.open.Goals as goal
 
+pub invariant_of-result : goal.invariant_of-result
+invariant_of-result g c = (c.in-Ok.ensures.kept, c.in-Ok.ensures.listed)
+
 pub returns-in-Ok-clause-opened : goal.returns-in-Ok-clause-opened
 returns-in-Ok-clause-opened g c =
     let laws : Laws g.S.Store = record { settles = g.met.S.Store.settled; shuts = g.met.S.Store.shut_if_dirty } in

@@ -1,9 +1,13 @@
 use Rattle.std.specs.Prelude.{⊤}
-use Rattle.std.proofs.Common.{◌≢◌, subst}
+use Rattle.std.proofs.Common.{◌≢◌, refl, subst}
 use Rattle.rd_policy.specs.declared.audience.Audience.TheVariants.{Staff}
 use Rattle.rd_store.specs.Held.{Judges, desk}
 use Rattle.rd_store.specs.State.{IsLastStaff}
+use Rattle.rd_store.proofs.Registers.{listed_changes}
 use Rattle.rd_store.proofs.store.Store.put_key.Goals as goal
+
+pub invariant_of-self : goal.invariant_of-self
+invariant_of-self g c = (c.put_key.ensures.kept, listed_changes g.S.Store c.self.inside.conn c.put_key.new.conn c.self.inside.register _ _ c.put_key.ensures.changes refl c.self.invariant.1)
 
 pub returns-clause-judges : goal.returns-clause-judges
 returns-clause-judges g c =

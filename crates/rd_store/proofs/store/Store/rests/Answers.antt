@@ -6,4 +6,4 @@ use Rattle.rd_store.proofs.store.Store.rests.Goals as goal
 pub returns : goal.returns
 returns g c =
     let laws : Laws g.S.Store = record { settles = g.met.S.Store.settled; shuts = g.met.S.Store.shut_if_dirty } in
-    subst (Rests g.S.Store) c.self.view_is (rests_at g.S.Store laws c.self.inside.conn c.self.invariant)
+    subst (Rests g.S.Store) c.self.view_is (rests_at g.S.Store laws c.self.inside.conn c.self.invariant.0)

@@ -1,0 +1,31 @@
+use Rattle.std.specs.Prelude.{⊤}
+use Rattle.std.proofs.Common.{All, subst}
+use Rattle.sqlite.specs.Held.{state}
+use Rattle.rd_store.specs.Cells.{HasErrorBytes}
+use Rattle.rd_store.specs.Opened.{IsConsistent}
+use Rattle.rd_store.proofs.Walked.{each_has_error_bytes, sql_part}
+use Rattle.rd_store.proofs.opening.marks_listed.Goals as goal
+
+pub read_listing-requires : goal.read_listing-requires
+read_listing-requires g c = record { tables = c.requires.tables }
+
+pub returns-in_err-rows-clause-tests : goal.returns-in_err-rows-clause-tests
+returns-in_err-rows-clause-tests g c =
+    sql_part g.S.Store c.args.conn.now c.read_listing.new.conn c.read_listing.ensures.asks.stays (λ trees. ⊤) IsConsistent c.in_err-rows.field-0.0 c.from_residual.result c.from_residual.ensures.1 c.in_err-rows.ensures.asks.fault
+
+pub returns-then-not-have_error_bytes-clause-tests : goal.returns-then-not-have_error_bytes-clause-tests
+returns-then-not-have_error_bytes-clause-tests g c = record {
+  stays = c.read_listing.ensures.asks.stays;
+  ends_open = λ clean. tt;
+  refuses = λ not_desk not_sql clean. c.in_ok-rows.ensures.asks.ends_open clean;
+  named = λ is. absurd cc;
+  judges = λ is_open all.
+      let some = subst (λ rows. ¬ All HasErrorBytes rows) c.deref.ensures.value c.if-not-have_error_bytes.ensures in
+      some (each_has_error_bytes (state g.S.Store c.args.conn.now).now.trees c.in_ok-rows.rows.items (c.in_ok-rows.ensures.asks.answer is_open) all);
+}
+
+pub returns-clause-tests : goal.returns-clause-tests
+returns-clause-tests g c = record { stays = c.read_listing.ensures.asks.stays; ends_open = λ clean. c.in_ok-rows.ensures.asks.ends_open clean; refuses = tt; named = tt; judges = λ is_open. tt }
+
+pub returns-clause-listed : goal.returns-clause-listed
+returns-clause-listed g c is_open = c.in_ok-rows.ensures.asks.answer is_open

@@ -1,0 +1,6 @@
+use Rattle.std.proofs.Common.{◌≡◌, map, take}
+use Rattle.rd_store.specs.Register.{number_of}
+use Rattle.rd_store.proofs.register.numbers_in.Given as goal
+
+abbrev pub invariant-loop-entry : goal.invariant-loop-entry
+invariant-loop-entry l = l.numbers.items ≡ map number_of (take l.entry-index l.entries)

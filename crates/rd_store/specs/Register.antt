@@ -1,0 +1,79 @@
+-- The register in memory: of each accession what is asked of its image beside its bytes.
+use Rattle.std.specs.Prelude.{◌≡◌, ◌<◌, ℕ, List, [], map, slice_index_or, option_map, Option, Some, None, Result, Ok, Err, Vec, vec_len, vec_capacity}
+use Rattle.std.specs.declared.alloc.Global.{Global}
+use Rattle.std.specs.List.{insert as insert_at}
+use Rattle.std.specs.Ordering.{nat_cmp}
+use Rattle.std.specs.FinMap.{FinMap, entries, get, insert}
+use Rattle.sqlite.specs.Store.{Ghosts}
+use Rattle.sqlite.specs.Held.{Held}
+use Rattle.sqlite.specs.Order.{Row, column}
+use Rattle.sqlite_value.specs.Order.{bytes}
+use Rattle.rd_tables.specs.Sheets.{natural}
+use Rattle.rd_store.specs.declared.images.Heading.{Heading}
+use Rattle.rd_store.specs.declared.register.Register.{Register}
+use Rattle.rd_store.specs.declared.rows.Accession.{Accession}
+use Rattle.rd_store.specs.declared.rows.ImageRow.{ImageRow}
+use Rattle.rd_store.specs.Cells.{is_one_of}
+use Rattle.rd_store.specs.Codes.{kind_in}
+use Rattle.rd_store.specs.Marks.{kind_with}
+use Rattle.rd_store.specs.Shown.{heading_of}
+use Rattle.rd_store.specs.Held.{IsOpen, desk}
+
+-- a register that has no place yet is empty
+abbrev pub listed_in : Option (Vec (ℕ × Heading) Global) → List (ℕ × Heading)
+listed_in None = []
+listed_in (Some entries) = entries.items
+
+abbrev pub listed : Register → List (ℕ × Heading)
+listed register = listed_in register.entries
+
+-- an accession, with what is kept of its image
+abbrev pub kept_of : ℕ × ImageRow → ℕ × Heading
+kept_of e = (e.0, heading_of e.1)
+
+-- the register of these images, ascending
+abbrev pub register_of : FinMap nat_cmp ImageRow → List (ℕ × Heading)
+register_of images = map kept_of (entries images)
+
+-- while the connection is open, the register is that of the desk
+abbrev pub IsRegisterOf : {S : Type 0} → Ghosts S → Held S → Register → Type 0
+IsRegisterOf g h register = IsOpen g h → listed register ≡ register_of (desk g h).images
+
+-- the same kind, deed and digest
+abbrev pub IsSameHeading : Heading → Heading → Type 0
+IsSameHeading one other = (one.kind ≡ other.kind) × (one.deed ≡ other.deed) × (one.digest ≡ other.digest)
+
+-- ---- what is told of an accession
+
+-- its number alone
+abbrev pub number_of : ℕ × Heading → ℕ
+number_of entry = entry.0
+
+abbrev pub given_of : Heading → Accession
+given_of heading = record { kind = heading.kind; deed = heading.deed }
+
+-- its number, its kind and its deed
+abbrev pub given_in : ℕ × Heading → ℕ × Accession
+given_in entry = (entry.0, given_of entry.1)
+
+-- ---- inside
+
+-- the entry of an image that a row of its listing shows; `marked` are the accessions with error bytes, ascending
+abbrev pub entry_in : List ℕ → Row → ℕ × Heading
+entry_in marked row = (
+  natural (column row 0),
+  record { kind = kind_with (is_one_of marked (column row 0)) (kind_in (natural (column row 1))); deed = natural (column row 2); digest = bytes (column row 3) },
+)
+
+-- there is room for one more
+abbrev pub HasRoomIn : Option (Vec (ℕ × Heading) Global) → Type 0
+HasRoomIn None = ⊥
+HasRoomIn (Some entries) = vec_len entries < vec_capacity entries
+
+abbrev pub HasRoom : Register → Type 0
+HasRoom register = HasRoomIn register.entries
+
+-- where an accession is, or where it would go
+abbrev pub IsPlaceIn : FinMap nat_cmp ImageRow → ℕ → Result ℕ ℕ → Type 0
+IsPlaceIn images acc (Ok at) = (d : ℕ × Heading) → option_map heading_of (get images acc) ≡ Some (slice_index_or (register_of images) at d).1
+IsPlaceIn images acc (Err at) = (get images acc ≡ None) × ((image : ImageRow) → insert_at (register_of images) at (kept_of (acc, image)) ≡ register_of (insert images acc image))

@@ -1,0 +1,115 @@
+-- Inside: what a walk over the images finds, each judged and walked from one reading of its row.
+use Rattle.std.specs.Prelude.{◌≡◌, ℕ, pos, List, [], ◌∷◌, map, filter, Bool, Option, Some, None, IsSome, option_map, IsTrue}
+use Rattle.std.specs.FinMap.{entries, get}
+use Rattle.sqlite.specs.declared.types.Value.TheVariants.{Int, Blob}
+use Rattle.sqlite.specs.Order.{Row, column}
+use Rattle.sqlite.specs.Tree.{Trees}
+use Rattle.sqlite_rules.specs.Lists.{Has}
+use Rattle.sqlite_sql.specs.Ops.{unary}
+use Rattle.sqlite_sql.specs.declared.ops.UnaryOp.TheVariants.{Length, TypeOf}
+use Rattle.rd_tables.specs.Asked.{IsStart}
+use Rattle.rd_tables.specs.Queries.{all_images_query, later_images_query}
+use Rattle.rd_tables.specs.Sheets.{Spells, map_of, natural}
+use Rattle.rd_tables.specs.Walks.{ComesNext, IsWalked, is_after}
+use Rattle.rd_store.specs.declared.images.Heading.{Heading}
+use Rattle.rd_store.specs.declared.rows.ImageRow.{ImageRow}
+use Rattle.rd_store.specs.Cells.{IsImageRow}
+use Rattle.rd_store.specs.Codes.{kind_code}
+use Rattle.rd_store.specs.Opened.{AreKeys, HasDiskIf, HasFiles, HaveAccessions, IsFiledAt, LawfulCommon, LawfulGiven, LawfulImages, image_if, is_among}
+use Rattle.rd_store.specs.Register.{entry_in, number_of}
+use Rattle.rd_store.specs.Spelled.{image_sheet, marks_sheet}
+
+-- ---- what is read
+
+-- what is read of the row of an image: of its bytes the length and the type, and then themselves
+abbrev pub image_read : Row → Row
+image_read row = column row 0 ∷ column row 2 ∷ column row 3 ∷ column row 4 ∷ unary Length (column row 5) ∷ unary TypeOf (column row 5) ∷ column row 5 ∷ []
+
+-- the same of the image that the row spells
+abbrev pub image_told : ℕ × ImageRow → Row
+image_told e = Int (pos e.0) ∷ Int (pos (kind_code e.1.kind)) ∷ Int (pos e.1.deed) ∷ Blob e.1.digest ∷ unary Length (Blob e.1.bytes) ∷ unary TypeOf (Blob e.1.bytes) ∷ Blob e.1.bytes ∷ []
+
+-- this was read of the row of an image
+abbrev pub IsReadOf : Trees → Row → Type 0
+IsReadOf trees shown = (row : Row) × Has (trees 2) row × (shown ≡ image_read row)
+
+-- the first rows after an accession, or of all, two at most
+abbrev pub AreNextOf : Option ℕ → Trees → List Row → Type 0
+AreNextOf None trees rows = IsStart all_images_query 2 [] (trees 2) rows
+AreNextOf (Some acc) trees rows = IsStart later_images_query 2 (Int (pos acc) ∷ []) (trees 2) rows
+
+-- this was read of the row that comes next after an accession, or first; there is none
+abbrev pub IsNextOf : Option ℕ → Trees → Option Row → Type 0
+IsNextOf after trees None = filter (is_after (option_map pos after)) (trees 2) ≡ []
+IsNextOf after trees (Some shown) = (row : Row) × ComesNext (trees 2) (option_map pos after) row × (shown ≡ image_read row)
+
+-- ---- one image
+
+-- A walk knows the rows so far alone. What it finds of an image holds once the rows of all images spell a map, and
+-- those of all error bytes, where it has any.
+abbrev pub SpellMarksIf : Bool → Trees → Type 0
+SpellMarksIf is_marked trees = IsTrue is_marked → Spells marks_sheet (trees 11)
+
+-- its row stands at the accession
+abbrev pub StandsOnce : ℕ → ImageRow → Trees → Type 0
+StandsOnce acc row trees = Spells image_sheet (trees 2) → get (map_of image_sheet (trees 2)) acc ≡ Some row
+
+-- it is this
+abbrev pub IsImageOnce : Bool → ℕ → ImageRow → Trees → Type 0
+IsImageOnce is_marked acc image trees = Spells image_sheet (trees 2) → SpellMarksIf is_marked trees → image_if is_marked trees acc ≡ Some image
+
+-- it is a D64, where it has error bytes
+abbrev pub HasDiskOnce : Bool → ℕ → Trees → Type 0
+HasDiskOnce is_marked acc trees = Spells image_sheet (trees 2) → HasDiskIf is_marked acc trees
+
+abbrev pub IsLawfulDisk : Bool → ℕ → Trees → Type 0
+IsLawfulDisk is_marked acc trees = Spells image_sheet (trees 2) × HasDiskIf is_marked acc trees
+
+-- and once each row of the index has the number of an accession, the index has its files
+abbrev pub HasFilesOnce : Bool → ℕ → Trees → Type 0
+HasFilesOnce is_marked acc trees = Spells image_sheet (trees 2) → SpellMarksIf is_marked trees → HaveAccessions trees → HasFiles is_marked acc trees
+
+-- all that is so in the tables of a desk
+abbrev pub IsLawfulAt : Bool → ℕ → Trees → Type 0
+IsLawfulAt is_marked acc trees = Spells image_sheet (trees 2) × SpellMarksIf is_marked trees × IsFiledAt is_marked acc trees
+
+-- the row is within its limits, and the index has the files
+abbrev pub IsJudgedImage : List ℕ → List ℕ → Row → Trees → Type 0
+IsJudgedImage deeds marked shown trees = IsImageRow deeds shown × HasFilesOnce (is_among marked (natural (column shown 0))) (natural (column shown 0)) trees
+
+-- ---- all images
+
+-- the rows of error bytes spell a map, and the index is that of the images, of which these have error bytes
+abbrev pub AreFiledOf : List ℕ → Trees → Type 0
+AreFiledOf marked trees = ((acc : ℕ) → SpellMarksIf (is_among marked acc) trees) × ((acc : ℕ) → IsSome (get (map_of image_sheet (trees 2)) acc) → IsFiledAt (is_among marked acc) acc trees)
+
+-- and the images, of these deeds, are those of a desk
+abbrev pub LawfulWalk : List ℕ → List ℕ → Trees → Type 0
+LawfulWalk deeds marked trees = LawfulImages deeds trees × AreFiledOf marked trees
+
+-- and the deeds are
+abbrev pub LawfulGivenWalk : List ℕ → Trees → Type 0
+LawfulGivenWalk marked trees = LawfulGiven trees × AreFiledOf marked trees
+
+-- and the rows of all tables that each version has
+abbrev pub LawfulCommonWalk : List ℕ → Trees → Type 0
+LawfulCommonWalk marked trees = LawfulCommon trees × AreFiledOf marked trees
+
+-- the entry of the image that comes next after an accession, or first, and was judged; there is none
+abbrev pub IsNextEntry : List ℕ → List ℕ → Option ℕ → Trees → Option (ℕ × Heading) → Type 0
+IsNextEntry deeds marked after trees None = filter (is_after (option_map pos after)) (trees 2) ≡ []
+IsNextEntry deeds marked after trees (Some entry) =
+    (row : Row) × ComesNext (trees 2) (option_map pos after) row × IsJudgedImage deeds marked (image_read row) trees × (entry ≡ entry_in marked (image_read row))
+
+-- These are the entries of the images up to an accession, all of which were judged.
+pub record IsWalkTo (deeds marked : List ℕ) (trees : Trees) (after : Option ℕ) (listed : List (ℕ × Heading)) : Type 0 where
+  pub done : List Row
+  pub walked : IsWalked (trees 2) done (option_map pos after)
+  pub judged : (row : Row) → Has done row → IsJudgedImage deeds marked (image_read row) trees
+  pub told : listed ≡ map (λ row. entry_in marked (image_read row)) done
+
+-- These are the entries of all images, and the index has the files of each.
+pub record IsWalk (marked : List ℕ) (trees : Trees) (listed : List (ℕ × Heading)) : Type 0 where
+  pub numbers : AreKeys (map_of image_sheet (trees 2)) (map number_of listed)
+  pub files : (acc : ℕ) → Has (map number_of listed) acc → HasFilesOnce (is_among marked acc) acc trees
+  pub told : listed ≡ map (entry_in marked) (map image_told (entries (map_of image_sheet (trees 2))))

@@ -1,0 +1,280 @@
+//! The walk over the images at an opening, in the order of their accessions. Each is judged and walked from one reading
+//! of its row.
+
+ghost use Rattle.std.specs.Prelude.{◌≡◌, ◌++◌, ◌∷◌, [], ⊤, IfOk, IfErr, None, OnOk, Some, slice_get};
+ghost use Rattle.std.specs.List.Sorted.{IsNonDecreasing};
+ghost use Rattle.sqlite.specs.Held.{state};
+ghost use Rattle.rd_store.specs.declared.rows.ImageRow.{ImageRow};
+ghost use Rattle.rd_store.specs.Held.{Asks, HoldsCommonTables, IsClean, IsOpen};
+ghost use Rattle.rd_store.specs.Opened.{HoldsMarksIf, HoldsMarksOf, LawfulImages, TestsPart};
+ghost use Rattle.rd_store.specs.Register.{entry_in};
+ghost use Rattle.rd_store.specs.Shown.{as_row};
+ghost use Rattle.rd_store.specs.Walked.{AreNextOf, HasDiskOnce, HasFilesOnce, IsImageOnce, IsJudgedImage, IsLawfulAt, IsLawfulDisk, IsNextEntry, IsNextOf, IsReadOf, IsWalk, LawfulWalk, StandsOnce, image_told};
+
+use crate::cells::has_one_of;
+use crate::decode::{bytes_at, digest_at, kind, number_at};
+use crate::faults::{OpenFault, StoreFault};
+use crate::files::file_rows;
+use crate::filing::show_files;
+use crate::images::{Heading, survey_of};
+use crate::marks::{kind_with, marks_at, with_marks};
+use crate::opening::are_rising;
+use crate::read::read_over;
+use crate::rows::ImageRow;
+use crate::tested::is_image;
+use rd_geometry::{Items, Kind};
+use sqlite::types::ToSql;
+use sqlite::{Alter, Connection, Row};
+use std::alloc::Global;
+
+/// The rows of the first two images.
+fn first_rows<S: Alter>(conn: &mut Connection<S>) -> Result<Vec<Row>, StoreFault>
+    requires tables { HoldsCommonTables (state S.Store conn.old) }
+    ensures asks { Asks S.Store conn.old conn.new result StoreFault.Sql (λ rows.
+        AreNextOf None (state S.Store conn.old).now.trees rows.items) }
+{
+    read_over(
+        conn,
+        "SELECT acc, kind, deed, digest, length(bytes), typeof(bytes), bytes FROM image ORDER BY acc LIMIT 2",
+        &[],
+    )
+}
+
+/// The rows of the next two images after an accession.
+fn later_rows<S: Alter>(conn: &mut Connection<S>, acc: u32) -> Result<Vec<Row>, StoreFault>
+    requires tables { HoldsCommonTables (state S.Store conn.old) }
+    ensures asks { Asks S.Store conn.old conn.new result StoreFault.Sql (λ rows.
+        AreNextOf (Some acc) (state S.Store conn.old).now.trees rows.items) }
+{
+    let key = acc.to_sql();
+    read_over(
+        conn,
+        "SELECT acc, kind, deed, digest, length(bytes), typeof(bytes), bytes FROM image WHERE acc > ?1 ORDER BY acc LIMIT 2",
+        &[key],
+    )
+}
+
+/// The rows of the next two images after an accession, or of the first two. The second is read again as it comes: its
+/// pages are mostly still in the cache of SQLite.
+fn next_rows<S: Alter>(conn: &mut Connection<S>, after: Option<u32>) -> Result<Vec<Row>, StoreFault>
+    requires tables { HoldsCommonTables (state S.Store conn.old) }
+    ensures asks { Asks S.Store conn.old conn.new result StoreFault.Sql (λ rows.
+        AreNextOf after (state S.Store conn.old).now.trees rows.items) }
+{
+    match after {
+        Some(acc) => later_rows(conn, acc),
+        None => first_rows(conn),
+    }
+}
+
+/// The row of the image after an accession, or of the first, before any other. A second row with a higher accession
+/// shows that no other row has the accession of the first.
+fn next_images<S: Alter>(
+    conn: &mut Connection<S>,
+    after: Option<u32>,
+) -> Result<Vec<Row>, OpenFault>
+    requires tables { HoldsCommonTables (state S.Store conn.old) }
+    ensures asks { Asks S.Store conn.old conn.new result OpenFault.Sql (λ rows.
+        IsNextOf after (state S.Store conn.old).now.trees (slice_get rows.items 0)) }
+{
+    match next_rows(conn, after) {
+        Ok(rows) if are_rising(&rows) => Ok(rows),
+        _ => Err(OpenFault::Sql),
+    }
+}
+
+/// The image whose row was read, without error bytes.
+fn read_told(alloc: Global, row: &Row) -> Result<ImageRow, StoreFault>
+    ensures image { IfOk result (λ read. (acc : _) (image : ImageRow) → row.now ≡ image_told (acc, image) → read ≡ as_row image) }
+    ensures fault { IfErr result (λ fault. fault ≡ StoreFault.Sql) }
+{
+    let kind = kind(number_at(row, 1)?);
+    let deed = number_at(row, 2)?;
+    let digest = digest_at(row, 3)?;
+    let bytes = Items::of(bytes_at(alloc, row, 6)?);
+    Ok(ImageRow {
+        kind,
+        deed,
+        digest,
+        bytes,
+    })
+}
+
+/// The entry in the register of the image whose row was read. `marked` are the accessions with error bytes, ascending.
+fn read_entry(row: &Row, marked: &[u32]) -> Result<(u32, Heading), StoreFault>
+    requires { IsNonDecreasing marked.now }
+    ensures entry { IfOk result (λ read. read ≡ entry_in marked.now row.now) }
+    ensures fault { IfErr result (λ fault. fault ≡ StoreFault.Sql) }
+{
+    let number = number_at(row, 0)?;
+    let kind = kind_with(has_one_of(row, 0, marked), kind(number_at(row, 1)?));
+    let deed = number_at(row, 2)?;
+    let digest = digest_at(row, 3)?;
+    Ok((number, Heading { kind, deed, digest }))
+}
+
+/// The entry in the register and the image, without error bytes, of the row that was read.
+fn read_both(
+    alloc: Global,
+    row: &Row,
+    marked: &[u32],
+) -> Result<((u32, Heading), ImageRow), OpenFault>
+    requires { IsNonDecreasing marked.now }
+    ensures entry { IfOk result (λ read. read.0 ≡ entry_in marked.now row.now) }
+    ensures image { IfOk result (λ read. (acc : _) (image : ImageRow) → row.now ≡ image_told (acc, image) → read.1 ≡ as_row image) }
+    ensures fault { IfErr result (λ fault. fault ≡ OpenFault.Sql) }
+{
+    match (read_entry(row, marked), read_told(alloc, row)) {
+        (Ok(entry), Ok(image)) => Ok((entry, image)),
+        _ => Err(OpenFault::Sql),
+    }
+}
+
+/// The image of an accession whose row is this, with error bytes if `is_marked`; then it has to be a D64.
+fn whole_image<S: Alter>(
+    alloc: Global,
+    conn: &mut Connection<S>,
+    acc: u32,
+    row: ImageRow,
+    is_marked: bool,
+) -> Result<ImageRow, OpenFault>
+    requires tables { HoldsCommonTables (state S.Store conn.old) }
+    requires marks { HoldsMarksIf is_marked (state S.Store conn.old) }
+    requires awake { IsClean S.Store conn.old → IsOpen S.Store conn.old }
+    requires row { IsOpen S.Store conn.old → StandsOnce acc row (state S.Store conn.old).now.trees }
+    ensures tests { TestsPart S.Store conn.old conn.new result (HasDiskOnce is_marked acc) (IsLawfulDisk is_marked acc) }
+    ensures image { IsOpen S.Store conn.new → IfOk result (λ image. IsImageOnce is_marked acc image (state S.Store conn.old).now.trees) }
+{
+    if !is_marked {
+        return Ok(row);
+    }
+    if row.kind != Kind::D64 {
+        return Err(OpenFault::Inconsistent);
+    }
+    let Ok(marks) = marks_at(alloc, conn, acc) else {
+        return Err(OpenFault::Sql);
+    };
+    match with_marks(row, marks) {
+        Ok(image) => Ok(image),
+        Err(_) => Err(OpenFault::Sql),
+    }
+}
+
+/// Whether the rows of the index for an accession are those of the files of its image, whose row is this. The image has
+/// error bytes if `is_marked`.
+fn check_files<S: Alter>(
+    alloc: Global,
+    conn: &mut Connection<S>,
+    acc: u32,
+    row: ImageRow,
+    is_marked: bool,
+) -> Result<(), OpenFault>
+    requires tables { HoldsCommonTables (state S.Store conn.old) }
+    requires marks { HoldsMarksIf is_marked (state S.Store conn.old) }
+    requires awake { IsClean S.Store conn.old → IsOpen S.Store conn.old }
+    requires row { IsOpen S.Store conn.old → StandsOnce acc row (state S.Store conn.old).now.trees }
+    ensures tests { TestsPart S.Store conn.old conn.new result (HasFilesOnce is_marked acc) (IsLawfulAt is_marked acc) }
+{
+    let image = whole_image(alloc, conn, acc, row, is_marked)?;
+    let Ok(files) = survey_of(alloc, image.kind, image.bytes.as_slice()) else {
+        return Err(OpenFault::Sql);
+    };
+    let Ok(rows) = file_rows(conn, acc) else {
+        return Err(OpenFault::Sql);
+    };
+    if show_files(alloc, &rows, files.as_slice())? {
+        Ok(())
+    } else {
+        Err(OpenFault::Inconsistent)
+    }
+}
+
+/// The entry in the register of the image whose row was read, if the row is that of an image of one of these deeds, and
+/// the rows of the index for it are those of its files. The marked accessions have error bytes.
+fn check_image<S: Alter>(
+    alloc: Global,
+    conn: &mut Connection<S>,
+    row: &Row,
+    deeds: &[u32],
+    marked: &[u32],
+) -> Result<(u32, Heading), OpenFault>
+    requires tables { HoldsCommonTables (state S.Store conn.old) }
+    requires marks { HoldsMarksOf marked.now (state S.Store conn.old) }
+    requires awake { IsClean S.Store conn.old → IsOpen S.Store conn.old }
+    requires deeds { IsNonDecreasing deeds.now }
+    requires marked { IsNonDecreasing marked.now }
+    requires row { IsOpen S.Store conn.old → IsReadOf (state S.Store conn.old).now.trees row.now }
+    ensures tests { TestsPart S.Store conn.old conn.new result (IsJudgedImage deeds.now marked.now row.now) (LawfulWalk deeds.now marked.now) }
+    ensures entry { IfOk result (λ entry. entry ≡ entry_in marked.now row.now) }
+{
+    if !is_image(row, deeds) {
+        return Err(OpenFault::Inconsistent);
+    }
+    let (entry, image) = read_both(alloc, row, marked)?;
+    check_files(alloc, conn, entry.0, image, has_one_of(row, 0, marked))?;
+    Ok(entry)
+}
+
+/// The entry in the register of the image after an accession, or of the first, if it is that of a desk; `None` after the
+/// last.
+fn check_next<S: Alter>(
+    alloc: Global,
+    conn: &mut Connection<S>,
+    after: Option<u32>,
+    deeds: &[u32],
+    marked: &[u32],
+) -> Result<Option<(u32, Heading)>, OpenFault>
+    requires tables { HoldsCommonTables (state S.Store conn.old) }
+    requires marks { HoldsMarksOf marked.now (state S.Store conn.old) }
+    requires deeds { IsNonDecreasing deeds.now }
+    requires marked { IsNonDecreasing marked.now }
+    ensures tests { TestsPart S.Store conn.old conn.new result (λ trees. ⊤) (LawfulWalk deeds.now marked.now) }
+    ensures next { IsOpen S.Store conn.new → IfOk result (IsNextEntry deeds.now marked.now after (state S.Store conn.old).now.trees) }
+{
+    let rows = next_images(conn, after)?;
+    match rows.first() {
+        Some(row) => Ok(Some(check_image(alloc, conn, row, deeds, marked)?)),
+        None => Ok(None),
+    }
+}
+
+/// Puts an entry after the others.
+fn add_entry(entries: &mut Vec<(u32, Heading)>, entry: (u32, Heading)) -> Result<(), OpenFault>
+    ensures items { OnOk result (entries.new.items ≡ entries.old.items ++ entry ∷ []) }
+    ensures fault { IfErr result (λ fault. fault ≡ OpenFault.Sql) }
+{
+    match entries.push(entry) {
+        Ok(()) => Ok(()),
+        Err(_) => Err(OpenFault::Sql),
+    }
+}
+
+/// The entries in the register of all images, if these are those of a desk with these deeds, and the rows of the index
+/// for each are those of its files. The marked accessions have error bytes. It asks for 1,000,000 images at most: there
+/// are 999,999 accessions.
+pub(crate) fn walk_images<S: Alter>(
+    alloc: Global,
+    conn: &mut Connection<S>,
+    deeds: &[u32],
+    marked: &[u32],
+) -> Result<Vec<(u32, Heading)>, OpenFault>
+    requires tables { HoldsCommonTables (state S.Store conn.old) }
+    requires marks { HoldsMarksOf marked.now (state S.Store conn.old) }
+    requires awake { IsClean S.Store conn.old → IsOpen S.Store conn.old }
+    requires deeds { IsNonDecreasing deeds.now }
+    requires marked { IsNonDecreasing marked.now }
+    ensures tests { TestsPart S.Store conn.old conn.new result (LawfulImages deeds.now) (LawfulWalk deeds.now marked.now) }
+    ensures walked { IsOpen S.Store conn.new → IfOk result (λ entries. IsWalk marked.now (state S.Store conn.old).now.trees entries.items) }
+{
+    let mut entries = Vec::new(alloc);
+    let mut after = None;
+    for _ in 0..1_000_000_u32 {
+        let found = check_next(alloc, conn, after, deeds, marked)?;
+        let Some(entry) = found else {
+            return Ok(entries);
+        };
+        after = Some(entry.0);
+        add_entry(&mut entries, entry)?;
+    }
+    Err(OpenFault::Sql)
+}
