@@ -4,9 +4,9 @@ page shows.
 
 PAGE is docs/OPERATING.md, README.md or docs/COMMANDS.md; without one it is the first. PROGRAM is a built desk; without
 one it is ./desk of this repository. You need Linux, Python 3 with its standard library alone, and packages of Debian,
-which the script installs as root: for the first page nginx, openssl, sqlite3, curl, tzdata, logrotate, adduser and
-systemd, for README.md sqlite3 and curl, for docs/COMMANDS.md curl and cpmtools. The ports 8041, 8042, 8043, 8080 and
-8443 have to be free.
+which the script installs as root: for the first page nginx, openssl, sqlite3, curl, python3, tzdata, logrotate, adduser
+and systemd, for README.md sqlite3 and curl, for docs/COMMANDS.md curl and cpmtools. The ports 8041, 8042, 8043, 8080
+and 8443 have to be free.
 
 Commands after `$` run in one shell, in a copy of what they need of this repository; those of README.md and
 docs/COMMANDS.md have a /tmp of their own. Commands after `#` need the rights of root. Where it has them, they run in
@@ -51,8 +51,8 @@ Page = collections.namedtuple("Page", "prepares plain needed packages")
 PAGES = {
     operating_page.PAGE: Page(
         {"$": "", "#": LAYERS}, ["readers"],
-        [*reading_room.NEEDED, "curl", ZONES, "/usr/sbin/logrotate", "adduser", "systemd-analyze"],
-        [*reading_room.PACKAGES, "curl", "tzdata", "logrotate", "adduser", "systemd"],
+        [*reading_room.NEEDED, "curl", "/usr/bin/python3", ZONES, "/usr/sbin/logrotate", "adduser", "systemd-analyze"],
+        [*reading_room.PACKAGES, "curl", "python3", "tzdata", "logrotate", "adduser", "systemd"],
     ),
     "README.md": Page({"$": OWN_TMP}, [], ["sqlite3", "curl"], ["sqlite3", "curl"]),
     "docs/COMMANDS.md": Page({"$": OWN_TMP}, [], ["curl", "cpmcp"], ["curl", "cpmtools"]),

@@ -19,7 +19,7 @@ SUITE = "bookworm"
 KEPT = pathlib.Path("/var/tmp/desk-under-systemd")
 # What a Debian of the least size lacks, and what is fetched for the machine to install without a network.
 ADDED = "systemd-sysv,dbus,iproute2"
-FETCHED = "nginx openssl sqlite3 curl logrotate"
+FETCHED = "nginx openssl sqlite3 curl logrotate python3"
 FETCH = f"apt-get update -qq && apt-get install -y -qq --download-only --no-install-recommends {FETCHED}"
 CGROUPS = pathlib.Path("/sys/fs/cgroup")
 # The flag CLONE_NEWNS of Linux.
