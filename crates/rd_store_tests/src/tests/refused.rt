@@ -587,7 +587,7 @@ fn first_version(rt: &impl Abort, alloc: Global) -> Result<Connection<MemStore>,
 }
 
 /// The desk that a database of version 1 holds, migrated again where memory was refused, which left its tables as
-/// they were.
+/// they were. Then it has those of `FEW`.
 fn migrate_again(rt: &impl Abort, alloc: Global, conn: Connection<MemStore>) -> Result<Desk, Fail> {
     match migrate_desk(rt, alloc, conn) {
         Ok(desk) => Ok(desk),
@@ -599,7 +599,7 @@ fn migrate_again(rt: &impl Abort, alloc: Global, conn: Connection<MemStore>) -> 
                 first_tables_of(alloc, &mut kept)?
             );
             match migrate_desk(rt, alloc, conn) {
-                Ok(desk) => Ok(desk),
+                Ok(desk) => assert_kept(rt, alloc, desk, FEW, FEW.len()),
                 Err((fault, _)) => Err(Fail::from(fault)),
             }
         }
@@ -617,7 +617,7 @@ const TWO_IMAGES: &[Step<'static>] = &[
 fn migrating_when_memory_is_refused(rt: HostRuntime) -> Result<(), Fail> {
     let alloc = rt.alloc();
     let desk = migrate_again(&rt, alloc, first_version(&rt, alloc)?)?;
-    let mut desk = assert_kept(&rt, alloc, desk, FEW, FEW.len())?;
+    let mut desk = open_again(&rt, alloc, into_connection(desk), FEW)?;
     for (n, step) in TWO_IMAGES.iter().enumerate() {
         assert_step_again(&rt, alloc, &mut desk, n, step)?;
     }
