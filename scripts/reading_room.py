@@ -142,9 +142,10 @@ class Room:
         if self.run("init", "--store", str(self.store), "--key", "abc") != (0, "done\n", ""):
             raise RuntimeError("no store was made")
         self.start_desk()
-        for label, asked, _ in cases:
+        for label, asked, wanted in cases:
             status, body = self.ask_desk(asked)
-            if status != 200:
+            due = 200 if wanted is None else int(wanted.split(b" ", 2)[1])
+            if status != due:
                 raise RuntimeError(f"{label}: {status} {body!r}")
 
     def tables(self):
