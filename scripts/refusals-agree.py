@@ -10,11 +10,11 @@ import re
 import sys
 
 ROOT = pathlib.Path(__file__).resolve().parent.parent
-PROGRAM = "crates/rd_program/src/refusal.rt"
-DESK = "crates/rd_desk/src/refusal.rt"
-VISIT = "crates/rd_http/src/fault.rt"
+PROGRAM = "crates/rd_commands/src/refusal.rt"
+DESK = "crates/rd_protocol/src/refusal.rt"
+VISIT = "crates/rd_messages/src/fault.rt"
 # Replies and lines that stand in the code by themselves.
-UNAVAILABLE = "crates/rd_desk/src/json.rt", r'fixed_reply\((\d+), "\{\\"error\\":\\"(unavailable)\\"\}"\)'
+UNAVAILABLE = "crates/rd_protocol/src/json.rt", r'fixed_reply\((\d+), "\{\\"error\\":\\"(unavailable)\\"\}"\)'
 BAD_ROW = "crates/rd_program/src/import.rt", r'"row \{number\} (bad-row)\\n"'
 FORMATS = "docs/FORMATS.md"
 PAGES = "web/shared.js"

@@ -5,21 +5,21 @@ use Rattle.std.specs.FinMap.{get}
 use Rattle.sqlite.specs.Store.{Ghosts}
 use Rattle.sqlite.specs.Held.{Held}
 use Rattle.rd_store.specs.Held.{Changes, IsClean, IsLeft, IsOpen, Rests, desk}
-use Rattle.rd_store.specs.State.{Desk, with_check}
+use Rattle.rd_protocol.specs.State.{Desk, with_check}
 use Rattle.rd_store.specs.declared.faults.StoreFault.{StoreFault}
-use Rattle.rd_store.specs.declared.rows.ImageRow.{ImageRow}
-use Rattle.rd_store.specs.declared.rows.Outcome.{Outcome}
+use Rattle.rd_protocol.specs.declared.rows.ImageRow.{ImageRow}
+use Rattle.rd_protocol.specs.declared.rows.Outcome.{Outcome}
 use Rattle.rd_desk.specs.Calls.{IsOneChange, IsSaidOf, IsWritten, Keeps, MakesOneChange}
-use Rattle.rd_desk.specs.Replies.{with_checked}
-use Rattle.rd_desk.specs.Checks.{outcome_of}
-use Rattle.rd_desk.specs.Refusals.{status_of}
-use Rattle.rd_desk.specs.Requests.{MayChange}
-use Rattle.rd_desk.specs.declared.refusal.Refusal.{Refusal}
-use Rattle.rd_desk.specs.declared.refusal.Refusal.TheVariants.{UnknownKey}
-use Rattle.rd_desk.specs.declared.request.What.{What}
-use Rattle.rd_desk.specs.declared.said.Reply.{Reply}
-use Rattle.rd_desk.specs.declared.said.Said.{Said}
-use Rattle.rd_desk.specs.declared.said.Said.TheVariants as said
+use Rattle.rd_protocol.specs.Replies.{with_checked}
+use Rattle.rd_protocol.specs.Checks.{outcome_of}
+use Rattle.rd_protocol.specs.Refusals.{status_of}
+use Rattle.rd_protocol.specs.Requests.{MayChange}
+use Rattle.rd_protocol.specs.declared.refusal.Refusal.{Refusal}
+use Rattle.rd_protocol.specs.declared.refusal.Refusal.TheVariants.{UnknownKey}
+use Rattle.rd_protocol.specs.declared.request.What.{What}
+use Rattle.rd_protocol.specs.declared.said.Reply.{Reply}
+use Rattle.rd_protocol.specs.declared.said.Said.{Said}
+use Rattle.rd_protocol.specs.declared.said.Said.TheVariants as said
 use Rattle.rd_desk.proofs.Responding.{keeps_still, keeps_then}
 
 module _ {S : Type 0} (g : Ghosts S) (day : ℤ) (what : What) (Returned : Result ⊤ StoreFault → Type 0) where

@@ -5,25 +5,19 @@ use Rattle.sqlite.specs.Tree.{Trees}
 use Rattle.sqlite.specs.Held.{Held}
 use Rattle.rd_policy.specs.declared.audience.Audience.TheVariants.{Staff}
 use Rattle.rd_store.specs.Held.{IsClean, IsLeft, IsOpen, LeavesOnly, Rests, desk}
-use Rattle.rd_store.specs.Lawful.{IsLawful}
-use Rattle.rd_store.specs.State.{Desk}
+use Rattle.rd_protocol.specs.Lawful.{IsLawful}
+use Rattle.rd_protocol.specs.State.{Desk}
 use Rattle.rd_store.proofs.Laws.{lasts_still, lasts_then}
 use Rattle.rd_desk.specs.Calls.{Carries, IsCarriedOut, IsResponse, Keeps, Looks, Responds}
-use Rattle.rd_desk.specs.Judged.{Holds, IsAccepted, IsAsked, audience_of}
-use Rattle.rd_desk.specs.Replies.{IsAnswered, IsDone, IsStep, Tells, carried_out}
-use Rattle.rd_desk.specs.Requests.{IsForStaff}
-use Rattle.rd_desk.specs.declared.refusal.Refusal.TheVariants.{DigestDiffers}
-use Rattle.rd_desk.specs.declared.request.Request.{Request}
-use Rattle.rd_desk.specs.declared.request.What.{What}
-use Rattle.rd_desk.specs.declared.request.What.TheVariants.{Unread}
-use Rattle.rd_desk.specs.declared.said.Said.{Said}
-use Rattle.rd_desk.specs.declared.said.Said.TheVariants as said
-use Rattle.rd_desk.proofs.Accepting.{no_file}
-use Rattle.rd_desk.proofs.Crashes.{left_accepted}
-
--- what is for the staff asks for no file
-pub nothing_asked : (old : Desk) (day : ℤ) (request : Request) → IsForStaff request.what → IsAsked old day request None
-nothing_asked old day request command judged asked = let none = no_file request.what command in let some = asked.asked in cc
+use Rattle.rd_protocol.specs.Judged.{Holds, IsAccepted, audience_of}
+use Rattle.rd_protocol.specs.Replies.{IsAnswered, IsDone, IsStep, Tells, carried_out}
+use Rattle.rd_protocol.specs.Requests.{IsForStaff}
+use Rattle.rd_protocol.specs.declared.refusal.Refusal.TheVariants.{DigestDiffers}
+use Rattle.rd_protocol.specs.declared.request.Request.{Request}
+use Rattle.rd_protocol.specs.declared.said.Said.{Said}
+use Rattle.rd_protocol.specs.declared.said.Said.TheVariants as said
+use Rattle.rd_protocol.proofs.Accepting.{nothing_asked, is_unread}
+use Rattle.rd_protocol.proofs.Crashes.{left_accepted}
 
 carried : (old : Desk) (day : ℤ) (request : Request) (answer : Said) (new : Desk) → IsForStaff request.what → audience_of old request.badge ≡ Some Staff
     → (IsAccepted old request None × Tells old Staff day None answer request.what × (new ≡ carried_out day request.what old)) → IsDone old day request answer new
@@ -44,10 +38,6 @@ response old day request (Ok (said.Refused refusal)) new command staff is =
     (record { file = None; asked = nothing_asked old day request command; refused = is.0 }, is.1)
 response old day request (Ok answer) new command staff is = carried old day request answer new command staff is
 response old day request (Err fault) new command staff same = same
-
-pub is_unread : (what : What) → (what ≡ Unread) ⊎ (what ≡ Unread → ⊥)
-is_unread Unread = inl refl
-is_unread other = inr (λ is. cc)
 
 -- a lawful desk that a crash left of such a request is the one before it, or the one after the step
 left_step : (old : Desk) (day : ℤ) (request : Request) (left : Trees) → IsForStaff request.what → audience_of old request.badge ≡ Some Staff → IsLawful old

@@ -4,24 +4,24 @@ use Rattle.sqlite.specs.Store.{Ghosts}
 use Rattle.sqlite.specs.Held.{Held}
 use Rattle.rd_policy.specs.declared.audience.Audience.{Audience}
 use Rattle.rd_store.specs.Held.{IsOpen, LeavesOpen, Rests, desk}
-use Rattle.rd_store.specs.State.{Desk}
+use Rattle.rd_protocol.specs.State.{Desk}
 use Rattle.rd_desk.specs.Calls.{IsOfChange, IsResponse, IsSaidOf, IsWritten, MakesOneChange, Responds}
-use Rattle.rd_desk.specs.Judged.{JudgedFile, audience_of}
-use Rattle.rd_desk.specs.Replies.{Answers, IsAnswered, IsReply, Tells, carried_out}
-use Rattle.rd_desk.specs.Requests.{IsForStaff}
+use Rattle.rd_protocol.specs.Judged.{JudgedFile, audience_of}
+use Rattle.rd_protocol.specs.Replies.{Answers, IsAnswered, IsReply, Tells, carried_out}
+use Rattle.rd_protocol.specs.Requests.{IsForStaff}
 use Rattle.rd_desk.specs.Served.{Serves}
-use Rattle.rd_desk.specs.Texts.{UNAVAILABLE, reply_of}
-use Rattle.rd_desk.specs.declared.refusal.Refusal.TheVariants.{StaffOnly}
-use Rattle.rd_desk.specs.declared.request.Request.{Request}
-use Rattle.rd_desk.specs.declared.request.What.{What}
-use Rattle.rd_desk.specs.declared.request.What.TheVariants.{Images, Listing, Bytes, Catalogue, Survey}
-use Rattle.rd_desk.specs.declared.said.Reply.{Reply}
-use Rattle.rd_desk.specs.declared.said.Said.{Said}
-use Rattle.rd_desk.specs.declared.said.Said.TheVariants as said
-use Rattle.rd_desk.proofs.Again.{same_again}
-use Rattle.rd_desk.proofs.Hiding.{hides}
+use Rattle.rd_protocol.specs.Texts.{UNAVAILABLE, reply_of}
+use Rattle.rd_protocol.specs.declared.refusal.Refusal.TheVariants.{StaffOnly}
+use Rattle.rd_protocol.specs.declared.request.Request.{Request}
+use Rattle.rd_protocol.specs.declared.request.What.{What}
+use Rattle.rd_protocol.specs.declared.request.What.TheVariants.{Images, Listing, Bytes, Catalogue, Survey}
+use Rattle.rd_protocol.specs.declared.said.Reply.{Reply}
+use Rattle.rd_protocol.specs.declared.said.Said.{Said}
+use Rattle.rd_protocol.specs.declared.said.Said.TheVariants as said
+use Rattle.rd_protocol.proofs.Again.{same_again}
+use Rattle.rd_protocol.proofs.Hiding.{hides}
 use Rattle.rd_desk.proofs.OneChange.{one_change_written}
-use Rattle.rd_desk.proofs.Showing.{tells_what_is_shown}
+use Rattle.rd_protocol.proofs.Showing.{tells_what_is_shown}
 
 -- what is said and is no command's end changes nothing
 changes_nothing : (old : Desk) (audience : Audience) (day : ℤ) (file : Option JudgedFile) (answer : Said) (what : What) → ¬ IsOfChange answer

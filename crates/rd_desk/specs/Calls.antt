@@ -1,5 +1,5 @@
 -- What the functions that make up an answer say of the store.
-use Rattle.std.specs.Prelude.{◌≡◌, ◌⊎◌, ℕ, ℤ, List, All, Option, Some, None, Result, Ok, Err, IfOk, MatchOption, map, option_map, ⊤}
+use Rattle.std.specs.Prelude.{◌≡◌, ◌⊎◌, ℕ, ℤ, Option, Some, None, Result, Ok, Err, IfOk, MatchOption, option_map, ⊤}
 use Rattle.std.specs.FinMap.{get}
 use Rattle.sqlite.specs.Store.{Ghosts}
 use Rattle.sqlite.specs.Tree.{Trees}
@@ -7,25 +7,26 @@ use Rattle.sqlite.specs.Held.{Held}
 use Rattle.rd_policy.specs.declared.audience.Audience.TheVariants.{Staff}
 use Rattle.rd_policy.specs.declared.rule.Band.{Band}
 use Rattle.rd_policy.specs.declared.rule.Band.TheVariants.{Takedown, Deed}
+use Rattle.rd_store.specs.Batched.{IsIndexed}
 use Rattle.rd_store.specs.Held.{Changes, IsClean, IsLeft, IsOpen, Lasts, LeavesOnly, LeavesOpen, desk}
-use Rattle.rd_store.specs.State.{Desk, rules_for}
-use Rattle.rd_store.specs.Shown.{accession_of}
+use Rattle.rd_protocol.specs.State.{Desk, rules_for, accession_of}
 use Rattle.rd_store.specs.declared.faults.StoreFault.{StoreFault}
-use Rattle.rd_store.specs.declared.rows.Accession.{Accession}
-use Rattle.rd_store.specs.declared.rows.ImageRow.{ImageRow}
-use Rattle.rd_desk.specs.Judged.{Holds, IsAccepted, IsRefused}
-use Rattle.rd_desk.specs.Replies.{IsAnswered, IsStep, IsSurvey, Tells, carried_out}
-use Rattle.rd_desk.specs.Requests.{MayChange}
+use Rattle.rd_protocol.specs.declared.rows.Accession.{Accession}
+use Rattle.rd_protocol.specs.declared.rows.ImageRow.{ImageRow}
+use Rattle.rd_protocol.specs.declared.rows.Indexed.{Indexed}
+use Rattle.rd_protocol.specs.Judged.{Holds, IsAccepted, IsRefused}
+use Rattle.rd_protocol.specs.Replies.{IsAnswered, IsStep, IsSurvey, Tells, carried_out}
+use Rattle.rd_protocol.specs.Requests.{MayChange}
 use Rattle.rd_desk.specs.declared.asking.Holding.{Holding}
-use Rattle.rd_desk.specs.declared.refusal.Refusal.{Refusal}
-use Rattle.rd_desk.specs.declared.refusal.Refusal.TheVariants.{NoAccession, NoDeed, DigestDiffers}
-use Rattle.rd_desk.specs.declared.request.Request.{Request}
-use Rattle.rd_desk.specs.declared.request.What.{What}
-use Rattle.rd_desk.specs.Texts.{UNAVAILABLE, reply_of}
-use Rattle.rd_desk.specs.declared.said.Reply.{Reply}
-use Rattle.rd_desk.specs.declared.said.Said.{Said}
-use Rattle.rd_desk.specs.declared.said.Survey.{Survey}
-use Rattle.rd_desk.specs.declared.said.Said.TheVariants.{Refused, Done, Checked}
+use Rattle.rd_protocol.specs.declared.refusal.Refusal.{Refusal}
+use Rattle.rd_protocol.specs.declared.refusal.Refusal.TheVariants.{NoAccession, NoDeed, DigestDiffers}
+use Rattle.rd_protocol.specs.declared.request.Request.{Request}
+use Rattle.rd_protocol.specs.declared.request.What.{What}
+use Rattle.rd_protocol.specs.Texts.{UNAVAILABLE, reply_of}
+use Rattle.rd_protocol.specs.declared.said.Reply.{Reply}
+use Rattle.rd_protocol.specs.declared.said.Said.{Said}
+use Rattle.rd_protocol.specs.declared.said.Survey.{Survey}
+use Rattle.rd_protocol.specs.declared.said.Said.TheVariants.{Refused, Done, Checked}
 
 -- Calls that read: the desk stays, and a crash leaves it.
 pub record Keeps {S : Type 0} (g : Ghosts S) (old new : Held S) : Type 0 where
@@ -44,11 +45,9 @@ pub record Looks {S T X : Type 0} (g : Ghosts S) (old new : Held S) (result : Re
 abbrev pub IsRegistered : Desk → ℕ → Accession → Type 0
 IsRegistered desk acc given = option_map accession_of (get desk.images acc) ≡ Some given
 
-abbrev pub AreRegistered : Desk → List (ℕ × Accession) → Type 0
-AreRegistered desk register = All (λ one. IsRegistered desk one.0 one.1) register
-
-abbrev pub numbers_of : List (ℕ × Accession) → List ℕ
-numbers_of register = map (λ one. one.0) register
+-- the accession stands, and its kind, its deed and its files are those of its image
+abbrev pub StandsAs : Desk → Indexed → Type 0
+StandsAs desk one = (image : ImageRow) × (get desk.images one.acc ≡ Some image) × IsIndexed (one.acc, image) one
 
 -- an accession that stands: the kind of its image, its deed and the rules for it
 abbrev pub IsHolding : Desk → ℕ → Holding → Type 0

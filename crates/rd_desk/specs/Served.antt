@@ -3,17 +3,17 @@ use Rattle.std.specs.Prelude.{◌≡◌, ◌≢◌, ◌⊎◌, ◌↔◌, ℕ, �
 use Rattle.sqlite.specs.Store.{Ghosts}
 use Rattle.sqlite.specs.Held.{Held}
 use Rattle.rd_store.specs.Held.{IsClean, IsOpen, Lasts, LeavesOnly, desk}
-use Rattle.rd_store.specs.State.{IsStaff}
+use Rattle.rd_protocol.specs.State.{IsStaff}
 use Rattle.rd_desk.specs.Calls.{LeavesStep, MakesOneChange}
-use Rattle.rd_desk.specs.Hidden.{HidesTheRest, TellsWhatIsShown}
-use Rattle.rd_desk.specs.Judged.{audience_of}
-use Rattle.rd_desk.specs.Replies.{Answers, IsReply}
-use Rattle.rd_desk.specs.Requests.{IsForStaff}
-use Rattle.rd_desk.specs.Texts.{UNAVAILABLE, reply_of}
-use Rattle.rd_desk.specs.declared.refusal.Refusal.TheVariants.{StaffOnly}
-use Rattle.rd_desk.specs.declared.request.Request.{Request}
-use Rattle.rd_desk.specs.declared.said.Reply.{Reply}
-use Rattle.rd_desk.specs.declared.said.Said.TheVariants.{Refused}
+use Rattle.rd_protocol.specs.Hidden.{HidesTheRest, TellsWhatIsShown}
+use Rattle.rd_protocol.specs.Judged.{audience_of}
+use Rattle.rd_protocol.specs.Replies.{Answers, IsReply}
+use Rattle.rd_protocol.specs.Requests.{IsForStaff}
+use Rattle.rd_protocol.specs.Texts.{UNAVAILABLE, reply_of}
+use Rattle.rd_protocol.specs.declared.refusal.Refusal.TheVariants.{StaffOnly}
+use Rattle.rd_protocol.specs.declared.request.Request.{Request}
+use Rattle.rd_protocol.specs.declared.said.Reply.{Reply}
+use Rattle.rd_protocol.specs.declared.said.Said.TheVariants.{Refused}
 
 -- A staff request without a badge: the reply says that only the staff may ask it, and the store is
 -- not touched.

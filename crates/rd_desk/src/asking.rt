@@ -1,19 +1,19 @@
 //! The desk's calls of its store. Each fails with `Unavailable` when the store fails or memory
 //! runs out.
 
-ghost use Rattle.std.specs.Prelude.{◌≡◌, ◌++◌, IfOk, is_some, map, option_map};
-ghost use Rattle.std.specs.FinMap.{entries, get};
+ghost use Rattle.std.specs.Prelude.{◌≡◌, ◌++◌, IfOk, drop, is_some, length, option_map, take};
+ghost use Rattle.std.specs.FinMap.{entries, get, keys};
+ghost use Rattle.std.specs.List.{AllZip};
 ghost use Rattle.rd_policy.specs.Verdicts.{AreInOrder};
+ghost use Rattle.rd_store.specs.Batched.{IsIndexed};
 ghost use Rattle.rd_store.specs.Held.{IsOpen, desk};
 ghost use Rattle.rd_store.specs.Index.{AreFilesIn, IsFileIn};
-ghost use Rattle.rd_store.specs.Shown.{accession_of, registered};
-ghost use Rattle.rd_store.specs.State.{rules_at};
+ghost use Rattle.rd_protocol.specs.State.{all_rules, rules_at, accession_of};
 ghost use Rattle.rd_desk.specs.Calls.{IsHolding, IsRegistered, Looks};
 
-use crate::said::Unavailable;
 use rd_geometry::{Items, Kind, NoMemory};
 use rd_policy::{Audience, Band, Rule, in_order};
-use rd_store::{Accession, DeedRow, ImageRow, Store, StoreFault};
+use rd_store::{Accession, DeedRow, ImageRow, Indexed, Rulebook, Store, StoreFault};
 use rd_volume::Found;
 use sqlite::Alter;
 use std::alloc::{AllocError, Global};
@@ -25,6 +25,10 @@ pub(crate) struct Holding {
     pub deed: u32,
     pub rules: Items<Rule>,
 }
+
+/// There is no answer: the database failed, or memory ran out.
+#[derive(Clone, Copy)]
+pub(crate) struct Unavailable;
 
 impl From<StoreFault> for Unavailable {
     fn from(_: StoreFault) -> Unavailable {
@@ -68,14 +72,34 @@ pub(crate) fn has_deed<S: Alter>(store: &mut Store<S>, num: u32) -> Result<bool,
     Ok(store.deed(num)?.is_some())
 }
 
-/// The register: all accessions, ascending, each with the kind of its image and its deed.
-pub(crate) fn register<S: Alter>(
+/// How many accessions there are.
+pub(crate) fn count<S: Alter>(store: &mut Store<S>, alloc: Global) -> Result<usize, Unavailable>
+    ensures looks { Looks S.Store store.old store.new result (λ count. count ≡ length (keys (desk S.Store store.old).images)) }
+{
+    Ok(store.accessions(alloc)?.len())
+}
+
+/// The accessions from a place among all of them on, at most so many, each with its files.
+pub(crate) fn batch<S: Alter>(
     store: &mut Store<S>,
     alloc: Global,
-) -> Result<Vec<(u32, Accession)>, Unavailable>
-    ensures looks { Looks S.Store store.old store.new result (λ found. found.items ≡ map registered (entries (desk S.Store store.old).images)) }
+    from: usize,
+    most: usize,
+) -> Result<Vec<Indexed>, Unavailable>
+    ensures looks { Looks S.Store store.old store.new result (λ batch.
+        AllZip IsIndexed (take most (drop from (entries (desk S.Store store.old).images))) batch.items) }
 {
-    Ok(store.register(alloc)?)
+    Ok(store.batch(alloc, from, most)?)
+}
+
+/// All rules.
+pub(crate) fn rulebook<S: Alter>(
+    store: &mut Store<S>,
+    alloc: Global,
+) -> Result<Rulebook, Unavailable>
+    ensures looks { Looks S.Store store.old store.new result (λ rules. rules ≡ all_rules (desk S.Store store.old)) }
+{
+    Ok(store.rulebook(alloc)?)
 }
 
 /// The image at an accession; `None` if there is none.

@@ -2,27 +2,23 @@
 //! Each makes at most one transaction, as its last step, and says that it is done only after the
 //! commit.
 
-ghost use Rattle.std.specs.Prelude.{◌≡◌, ◌≢◌, IsSome, Some, length, ℤ};
-ghost use Rattle.std.specs.FinMap.{get};
+ghost use Rattle.std.specs.Prelude.{◌≡◌, ◌≢◌, Some, length, ℤ};
 ghost use Rattle.sha2.specs.Sha256.{sha256};
 ghost use Rattle.rd_geometry.specs.Kinds.{size_of};
 ghost use Rattle.rd_policy.specs.Days.{IsDay};
 ghost use Rattle.rd_policy.specs.Rules.{IsRule, IsScope};
 ghost use Rattle.rd_store.specs.Held.{IsOpen, desk};
-ghost use Rattle.rd_store.specs.Lawful.{IsDeed};
+ghost use Rattle.rd_protocol.specs.Lawful.{IsDeed};
 ghost use Rattle.rd_desk.specs.Calls.{Carries, IsOneChange, IsSaidOf, MakesOneChange, missing_of};
-ghost use Rattle.rd_desk.specs.Judged.{audience_of};
-ghost use Rattle.rd_desk.specs.Requests.{IsForStaff, IsRequest};
+ghost use Rattle.rd_protocol.specs.Judged.{audience_of};
+ghost use Rattle.rd_protocol.specs.Requests.{IsForStaff, IsRequest};
 
-use crate::asking::{has_deed, image};
-use crate::checks::{check_row, has_digest};
+use crate::asking::{Unavailable, has_deed, image};
 use crate::queries::Caller;
-use crate::refusal::Refusal;
-use crate::request::{Request, What};
-use crate::said::{Said, Unavailable};
 use crate::surveys::survey;
 use rd_geometry::{Items, Kind, Text};
 use rd_policy::{Audience, Band, Rule};
+use rd_protocol::{Refusal, Request, Said, What, check_row, has_digest};
 use rd_store::{Store, StoreFault};
 use sqlite::Alter;
 use std::alloc::Global;
@@ -127,7 +123,7 @@ fn drop_key<S: Alter>(
     }
 }
 
-/// Puts an image whose length, SHA-256 and deed have been checked.
+/// Puts an image whose length and SHA-256 have been checked.
 fn commit_image<S: Alter>(
     store: &mut Store<S>,
     alloc: Global,
@@ -139,7 +135,6 @@ fn commit_image<S: Alter>(
     bytes: &Items<u8>,
 ) -> Result<Said, Unavailable>
     requires known { IsOpen S.Store store.old → audience_of (desk S.Store store.old) badge.now ≡ Some Audience.Staff }
-    requires deed { IsOpen S.Store store.old → IsSome (get (desk S.Store store.old).deeds deed) }
     requires scope { IsScope acc }
     requires sized { length bytes.now ≡ size_of kind }
     requires same { sha256 bytes.now ≡ digest.now }
@@ -148,12 +143,14 @@ fn commit_image<S: Alter>(
 {
     match store.put_image(alloc, acc, kind, deed, digest, bytes.as_slice()) {
         Ok(()) => Ok(Said::Done),
+        Err(StoreFault::Missing) => Ok(Said::Refused(Refusal::NoDeed)),
         Err(StoreFault::Conflict) => Ok(Said::Refused(Refusal::Conflict)),
-        Err(StoreFault::Missing | StoreFault::Sql) => Err(Unavailable),
+        Err(StoreFault::Sql) => Err(Unavailable),
     }
 }
 
-/// Puts an image. It computes the SHA-256 of the bytes once.
+/// Puts an image. It computes the SHA-256 of the bytes at most once, and asks for the deed once: the store asks as it
+/// puts the image, or the desk asks here where the bytes are wrong, because a missing deed is refused first.
 fn put_image<S: Alter>(
     store: &mut Store<S>,
     alloc: Global,
@@ -169,14 +166,18 @@ fn put_image<S: Alter>(
     ensures carries { (day : ℤ) → Carries S.Store store.old store.new day (record { badge = badge.now; what = What.PutImage acc kind deed digest.now bytes.now }) result }
     ensures one_change { (day : ℤ) → MakesOneChange S.Store store.old store.new day (What.PutImage acc kind deed digest.now bytes.now) (λ told. IsSaidOf told result) }
 {
-    if !has_deed(store, deed)? {
+    store.rests();
+    if bytes.as_slice().len() != kind.size() {
+        if has_deed(store, deed)? {
+            return Ok(Said::Refused(Refusal::WrongSize));
+        }
         return Ok(Said::Refused(Refusal::NoDeed));
     }
-    if bytes.as_slice().len() != kind.size() {
-        return Ok(Said::Refused(Refusal::WrongSize));
-    }
     if !has_digest(bytes.as_slice(), digest) {
-        return Ok(Said::Refused(Refusal::DigestDiffers));
+        if has_deed(store, deed)? {
+            return Ok(Said::Refused(Refusal::DigestDiffers));
+        }
+        return Ok(Said::Refused(Refusal::NoDeed));
     }
     commit_image(store, alloc, badge, acc, kind, deed, digest, bytes)
 }
@@ -210,8 +211,10 @@ fn check<S: Alter>(
         return Ok(Said::Refused(Refusal::NoAccession));
     };
     let outcome = check_row(image.bytes.as_slice(), &image.digest);
-    store.put_check(acc, caller.day, outcome)?;
-    Ok(Said::Checked(outcome))
+    match store.put_check(acc, caller.day, outcome) {
+        Ok(()) => Ok(Said::Checked(outcome)),
+        Err(_) => Err(Unavailable),
+    }
 }
 
 /// Does what a request of the staff asks.

@@ -3,12 +3,11 @@
 ghost use Rattle.std.specs.Prelude.{◌≡◌, IfOk, Some};
 ghost use Rattle.std.specs.FinMap.{get};
 ghost use Rattle.rd_store.specs.Held.{desk};
-ghost use Rattle.rd_store.specs.declared.rows.ImageRow.{ImageRow as Row};
+ghost use Rattle.rd_protocol.specs.declared.rows.ImageRow.{ImageRow as Row};
 ghost use Rattle.rd_desk.specs.Calls.{Looks};
 
-use crate::asking::image;
-use crate::contents::Contents;
-use crate::said::Unavailable;
+use crate::asking::{Unavailable, image};
+use rd_protocol::Contents;
 use rd_store::{ImageRow, Store};
 use rd_volume::Found;
 use sqlite::Alter;

@@ -1,25 +1,23 @@
 //! What a caller may see and read.
 
-ghost use Rattle.std.specs.Prelude.{◌≡◌, Contains, IfOk, Some};
+ghost use Rattle.std.specs.Prelude.{◌≡◌, ◌++◌, Contains, IfOk, Some};
 ghost use Rattle.std.specs.FinMap.{get};
-ghost use Rattle.std.specs.List.{AllZip};
 ghost use Rattle.rd_policy.specs.Verdicts.{AreInOrder, IsVerdict};
 ghost use Rattle.rd_store.specs.Held.{IsClean, IsOpen, desk};
-ghost use Rattle.rd_store.specs.declared.rows.ImageRow.{ImageRow};
+ghost use Rattle.rd_protocol.specs.declared.rows.ImageRow.{ImageRow};
 ghost use Rattle.rd_volume.specs.Volumes.{IsFound};
-ghost use Rattle.rd_desk.specs.Calls.{AreRegistered, IsRegistered, Looks, numbers_of};
-ghost use Rattle.rd_desk.specs.Judged.{audience_of};
-ghost use Rattle.rd_desk.specs.Queries.{AreLinesOf, AreLinesOfEach, IsCounted, IsRead, IsWithheld};
-ghost use Rattle.rd_desk.specs.Replies.{AreLines, IsAnswered, IsListing};
-ghost use Rattle.rd_desk.specs.Requests.{IsForStaff};
+ghost use Rattle.rd_desk.specs.Calls.{IsRegistered, Looks};
+ghost use Rattle.rd_protocol.specs.Judged.{audience_of};
+ghost use Rattle.rd_protocol.specs.Queries.{AreLinesOf, IsRead, IsWithheld};
+ghost use Rattle.rd_protocol.specs.Replies.{AreLines, IsAnswered, IsListing};
+ghost use Rattle.rd_protocol.specs.Requests.{IsForStaff};
 
-use crate::asking::{Holding, accession, file_at, files, hold, register};
+use crate::asking::{Holding, Unavailable, accession, file_at, files, hold};
 use crate::files::contents;
-use crate::refusal::Refusal;
-use crate::request::{Request, What};
-use crate::said::{ImageLine, Line, Listing, Said, Unavailable};
+use crate::overviews::{catalogue, images};
 use rd_geometry::Items;
-use rd_policy::{Audience, Effect, Rule, Verdict, decide};
+use rd_policy::{Audience, Effect, Label, Rule, Verdict, decide};
+use rd_protocol::{Line, Listing, Refusal, Request, Said, What};
 use rd_store::{Accession, Store};
 use rd_volume::Found;
 use sqlite::Alter;
@@ -38,6 +36,18 @@ fn judge(rules: &[Rule], caller: &Caller, file: &Found) -> Verdict
     ensures { IsVerdict (Contains rules.now) caller.now.audience caller.now.day file.now result }
 {
     decide(rules, caller.audience, caller.day, file)
+}
+
+/// The verdict of takedowns on a file, for a caller, and where none of them matches, of rules.
+fn judge_in_turn(takedowns: &[Rule], rules: &[Rule], caller: &Caller, file: &Found) -> Verdict
+    requires { AreInOrder (takedowns.now ++ rules.now) }
+    ensures { IsVerdict (Contains (takedowns.now ++ rules.now)) caller.now.audience caller.now.day file.now result }
+{
+    let verdict = judge(takedowns, caller, file);
+    match verdict.label {
+        Label::Default => judge(rules, caller, file),
+        _ => verdict,
+    }
 }
 
 /// Why the caller may not read a file; `None` if they may. The verdict comes before the class and
@@ -124,19 +134,20 @@ fn bytes<S: Alter>(
     }
 }
 
-/// Those of the files that are listed, each with the verdict on it.
-fn listed(
+/// Those of the files that are listed, each with the verdict of takedowns and rules on it.
+pub(crate) fn listed(
     alloc: Global,
+    takedowns: &[Rule],
     rules: &[Rule],
     caller: &Caller,
     files: Items<Found>,
 ) -> Result<Items<Line>, Unavailable>
-    requires order { AreInOrder rules.now }
-    ensures { IfOk result (AreLinesOf rules.now caller.now.audience caller.now.day files) }
+    requires order { AreInOrder (takedowns.now ++ rules.now) }
+    ensures { IfOk result (AreLinesOf (takedowns.now ++ rules.now) caller.now.audience caller.now.day files) }
 {
     let mut lines = Vec::new(alloc);
     for file in files.into_vec() {
-        let verdict = judge(rules, caller, &file);
+        let verdict = judge_in_turn(takedowns, rules, caller, &file);
         if verdict.effect != Effect::Deny {
             let Ok(()) = lines.push(Line { file, verdict }) else {
                 return Err(Unavailable);
@@ -159,7 +170,7 @@ fn lines<S: Alter>(
         → AreLines image holding.now.rules caller.now.audience caller.now.day lines) }
 {
     let files = files(store, alloc, acc)?;
-    listed(alloc, holding.rules.as_slice(), caller, files)
+    listed(alloc, &[], holding.rules.as_slice(), caller, files)
 }
 
 /// An accession that stands, of this kind and this deed, with its listed files.
@@ -200,107 +211,6 @@ fn listing<S: Alter>(
         Some(given) => Ok(Said::Listed(listed_at(store, alloc, caller, acc, given)?)),
         None => Ok(Said::Refused(Refusal::NoAccession)),
     }
-}
-
-/// The line for an accession that stands: its number, its deed, its kind, and how many of its
-/// files are listed.
-fn image_line<S: Alter>(
-    store: &mut Store<S>,
-    alloc: Global,
-    caller: &Caller,
-    acc: u32,
-    given: Accession,
-) -> Result<ImageLine, Unavailable>
-    requires known { IsOpen S.Store store.old → IsRegistered (desk S.Store store.old) acc given }
-    ensures { Looks S.Store store.old store.new result (IsCounted (desk S.Store store.old) caller.now.audience caller.now.day acc) }
-{
-    let listing = listed_at(store, alloc, caller, acc, given)?;
-    Ok(ImageLine {
-        accession: acc,
-        deed: listing.deed,
-        kind: listing.kind,
-        files: listing.files.as_slice().len(),
-    })
-}
-
-/// Those accessions of a register that have at least one listed file.
-fn image_lines<S: Alter>(
-    store: &mut Store<S>,
-    alloc: Global,
-    caller: &Caller,
-    register: &[(u32, Accession)],
-) -> Result<Items<ImageLine>, Unavailable>
-    requires awake { IsClean S.Store store.old → IsOpen S.Store store.old }
-    requires known { IsOpen S.Store store.old → AreRegistered (desk S.Store store.old) register.now }
-    ensures { Looks S.Store store.old store.new result (AreLinesOfEach (desk S.Store store.old) caller.now.audience caller.now.day (numbers_of register.now)) }
-{
-    let mut lines = Vec::new(alloc);
-    store.rests();
-    for one in register {
-        let (acc, given) = *one;
-        let line = image_line(store, alloc, caller, acc, given)?;
-        if line.files > 0 {
-            let Ok(()) = lines.push(line) else {
-                return Err(Unavailable);
-            };
-        }
-    }
-    Ok(Items::of(lines))
-}
-
-/// The accessions with at least one listed file.
-fn images<S: Alter>(
-    store: &mut Store<S>,
-    alloc: Global,
-    caller: &Caller,
-    badge: &Option<[u8; 32]>,
-) -> Result<Said, Unavailable>
-    requires known { IsOpen S.Store store.old → audience_of (desk S.Store store.old) badge.now ≡ Some caller.now.audience }
-    ensures { Looks S.Store store.old store.new result (λ said.
-        IsAnswered (desk S.Store store.old) caller.now.day (record { badge = badge.now; what = What.Images }) said (desk S.Store store.old)) }
-{
-    let _ = badge;
-    let register = register(store, alloc)?;
-    Ok(Said::Images(image_lines(store, alloc, caller, register.as_slice())?))
-}
-
-/// The accessions of a register, each with its listed files.
-fn listings<S: Alter>(
-    store: &mut Store<S>,
-    alloc: Global,
-    caller: &Caller,
-    register: &[(u32, Accession)],
-) -> Result<Items<Listing>, Unavailable>
-    requires awake { IsClean S.Store store.old → IsOpen S.Store store.old }
-    requires known { IsOpen S.Store store.old → AreRegistered (desk S.Store store.old) register.now }
-    ensures { Looks S.Store store.old store.new result (λ listings. AllZip (IsListing (desk S.Store store.old) caller.now.audience caller.now.day) (numbers_of register.now) listings) }
-{
-    let mut listings = Vec::new(alloc);
-    store.rests();
-    for one in register {
-        let (acc, given) = *one;
-        let listing = listed_at(store, alloc, caller, acc, given)?;
-        let Ok(()) = listings.push(listing) else {
-            return Err(Unavailable);
-        };
-    }
-    Ok(Items::of(listings))
-}
-
-/// All accessions, each with its listed files.
-fn catalogue<S: Alter>(
-    store: &mut Store<S>,
-    alloc: Global,
-    caller: &Caller,
-    badge: &Option<[u8; 32]>,
-) -> Result<Said, Unavailable>
-    requires known { IsOpen S.Store store.old → audience_of (desk S.Store store.old) badge.now ≡ Some caller.now.audience }
-    ensures { Looks S.Store store.old store.new result (λ said.
-        IsAnswered (desk S.Store store.old) caller.now.day (record { badge = badge.now; what = What.Catalogue }) said (desk S.Store store.old)) }
-{
-    let _ = badge;
-    let register = register(store, alloc)?;
-    Ok(Said::Catalogue(listings(store, alloc, caller, register.as_slice())?))
 }
 
 /// Answers a query.

@@ -5,18 +5,19 @@ use Rattle.sqlite.specs.Held.{Held}
 use Rattle.rd_policy.specs.Zones.{day_number}
 use Rattle.rd_policy.specs.declared.zone.Zone.{Zone}
 use Rattle.rd_store.specs.Held.{IsOpen, desk}
-use Rattle.rd_store.specs.State.{Desk}
-use Rattle.rd_desk.specs.Hidden.{ReadsTheSame}
-use Rattle.rd_desk.specs.declared.said.Reply.{Reply}
-use Rattle.rd_desk.proofs.Showing.{shown_decides}
-use Rattle.rd_http.specs.Asked.{request, fault}
+use Rattle.rd_protocol.specs.State.{Desk}
+use Rattle.rd_protocol.specs.Hidden.{ReadsTheSame}
+use Rattle.rd_protocol.specs.declared.said.Reply.{Reply}
+use Rattle.rd_protocol.proofs.Showing.{shown_decides}
+use Rattle.rd_messages.specs.Asked.{request, fault}
 use Rattle.rd_http.specs.Hidden.{HiddenBytesReachNoVisitor, HidesFromVisitor, RepliesAndHides}
-use Rattle.rd_http.specs.ReplyText.{challenge_of, head_text, reply_bytes}
+use Rattle.rd_messages.specs.ReplyText.{challenge_of, head_text, reply_bytes}
 use Rattle.rd_http.specs.Runs.{Ends, HasRun, Runs}
-use Rattle.rd_http.specs.Told.{Coming, Told, Visit}
-use Rattle.rd_http.specs.Visits.{IsAnswer, IsReplied, answer_bytes}
+use Rattle.rd_messages.specs.Told.{Coming, Told, Visit}
+use Rattle.rd_http.specs.Visits.{IsAnswer, IsReplied}
 use Rattle.rd_http.specs.declared.serve.Served.{Served}
 use Rattle.rd_http.proofs.RunLemmas.{replied}
+use Rattle.rd_messages.specs.Answers.{answer_bytes}
 
 -- replies that read the same have the same text
 same_text : (reply other : Reply) → ReadsTheSame reply other → answer_bytes reply ≡ answer_bytes other

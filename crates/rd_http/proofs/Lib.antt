@@ -1,17 +1,3 @@
-pub mod OneAsked
-pub mod ReadLemmas
 pub mod RunLemmas
 pub mod Hiding
-pub mod FramingLemmas
-pub mod HeadLemmas
-pub mod TakenLemmas
-pub mod WholeLemmas
-pub mod PatternLemmas
-pub mod PartLemmas
-pub mod RouteLemmas
-pub mod Values
-pub mod Naming
-pub mod OneBody
-pub mod Keys
-pub mod Sending
 pub mod VisitLemmas

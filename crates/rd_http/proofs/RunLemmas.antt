@@ -9,18 +9,19 @@ use Rattle.rd_policy.specs.Days.{HasDay}
 use Rattle.rd_policy.specs.Zones.{day_number}
 use Rattle.rd_policy.specs.declared.zone.Zone.{Zone}
 use Rattle.rd_store.specs.Held.{IsOpen, Lasts, desk}
-use Rattle.rd_store.specs.State.{Desk}
+use Rattle.rd_protocol.specs.State.{Desk}
 use Rattle.rd_store.proofs.Laws.{lasts_still}
-use Rattle.rd_desk.specs.declared.request.Request.{Request}
-use Rattle.rd_http.specs.Asked.{HasFramedHead, IsRequestOf, request, fault}
-use Rattle.rd_http.specs.Framing.{IsFramed}
+use Rattle.rd_protocol.specs.declared.request.Request.{Request}
+use Rattle.rd_messages.specs.Asked.{HasFramedHead, IsRequestOf, request, fault}
+use Rattle.rd_messages.specs.Framing.{IsFramed}
 use Rattle.rd_http.specs.Runs.{Ends, AreNext, NoneLeft, HasRun, IsCut, IsLast, IsTimeless, IsVisit, Runs, counted}
-use Rattle.rd_http.specs.Told.{Admits, Coming, Leaves, NoneToCome, TakesNext, TellsToo, Told, Visit, coming_of}
-use Rattle.rd_http.specs.Visits.{IsAnswer, IsReplied, Visits, answer_bytes}
+use Rattle.rd_messages.specs.Told.{Admits, Coming, Leaves, NoneToCome, TakesNext, TellsToo, Told, Visit, coming_of}
+use Rattle.rd_http.specs.Visits.{IsAnswer, IsReplied, Visits}
 use Rattle.rd_http.specs.declared.serve.Ended.TheVariants as ended
 use Rattle.rd_http.specs.declared.serve.Served.{Served}
 use Rattle.rd_http.specs.declared.visit.WireFault.{WireFault}
 use Rattle.rd_http.specs.declared.visit.WireFault.TheVariants.{Read, Write, Clock}
+use Rattle.rd_messages.specs.Answers.{answer_bytes}
 
 -- ---- counting
 

@@ -1,33 +1,18 @@
 -- One visit: what the desk does about the bytes that came, and which bytes go.
-use Rattle.std.specs.Prelude.{◌≡◌, ◌⊎◌, ℕ, ℤ, List, Option, Some, None, Result, Ok, Err, ⊤}
-use Rattle.std.specs.Io.KnownBytes.{Appends, Consumes}
+use Rattle.std.specs.Prelude.{◌≡◌, ◌⊎◌, ℕ, ℤ, List, Option, Result, Ok, Err}
+use Rattle.std.specs.Io.KnownBytes.{Appends}
 use Rattle.sqlite.specs.Store.{Ghosts}
 use Rattle.sqlite.specs.Held.{Held}
-use Rattle.rd_store.specs.State.{Desk}
-use Rattle.rd_desk.specs.Lent.{held}
-use Rattle.rd_desk.specs.Replies.{IsReply}
+use Rattle.rd_protocol.specs.State.{Desk}
+use Rattle.rd_protocol.specs.Replies.{IsReply}
 use Rattle.rd_desk.specs.Served.{Serves}
-use Rattle.rd_desk.specs.Texts.{UNAVAILABLE}
-use Rattle.rd_desk.specs.declared.request.Request.{Request}
-use Rattle.rd_desk.specs.declared.said.Form.TheVariants.{Json}
-use Rattle.rd_desk.specs.declared.said.Reply.{Reply}
-use Rattle.rd_http.specs.Asked.{Asked, HasFramedHead, IsAsked, request, fault}
-use Rattle.rd_http.specs.Faults.{allow_line, fault_body, status_of}
-use Rattle.rd_http.specs.ReplyText.{challenge_of, reply_bytes}
-use Rattle.rd_http.specs.Sent.{SendsPart}
-use Rattle.rd_http.specs.declared.fault.RequestFault.{RequestFault}
+use Rattle.rd_protocol.specs.Texts.{UNAVAILABLE}
+use Rattle.rd_protocol.specs.declared.said.Reply.{Reply}
+use Rattle.rd_messages.specs.Asked.{Asked, HasFramedHead, IsAsked, request, fault}
+use Rattle.rd_messages.specs.Sent.{SendsPart}
 use Rattle.rd_http.specs.declared.visit.WireFault.{WireFault}
 use Rattle.rd_http.specs.declared.visit.WireFault.TheVariants.{Read, Write, Clock}
-
--- ---- the bytes that go
-
--- the bytes of a reply of the desk
-abbrev pub answer_bytes : Reply → List ℕ
-answer_bytes reply = reply_bytes (challenge_of reply.status) reply
-
--- the bytes that say why there is no request
-abbrev pub fault_bytes : RequestFault → List ℕ
-fault_bytes reason = reply_bytes (allow_line reason) (record { status = status_of reason; form = Json; body = held (fault_body reason) })
+use Rattle.rd_messages.specs.Answers.{answer_bytes, fault_bytes}
 
 -- ---- what is done
 

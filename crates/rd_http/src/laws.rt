@@ -1,13 +1,6 @@
 //! Laws of visits. No code calls them.
 
-ghost use Rattle.rd_http.specs.Asked.{OneAsked};
 ghost use Rattle.rd_http.specs.Hidden.{HiddenBytesReachNoVisitor};
-
-/// Law: the bytes of a visit ask for at most one thing: a request, or one reason why they are no
-/// request.
-pub fn one_asked()
-    ensures { OneAsked }
-{}
 
 /// Law: the bytes of a visit have the same reply in each desk that shows the same to the visitor,
 /// and so in each that looks alike to them. So the reply that goes to a visitor depends on no byte

@@ -1,30 +1,15 @@
-//! The reading room over HTTP: it reads the bytes that come, and writes the bytes that go.
+//! The reading room over HTTP: visits, one or many. Each reads a request, has the desk answer it, and sends the
+//! reply.
 #![tactic(auto)]
 
-mod asked;
-mod bodies;
-mod body;
-mod fault;
-mod fields;
-mod framing;
-mod head;
 mod laws;
-mod memory;
-mod parts;
-mod pattern;
-mod reply;
-mod route;
 mod serve;
-mod taking;
-mod target;
-mod tcp;
 mod visit;
-mod wire;
-mod write;
 
-pub use laws::{hidden_bytes_reach_no_visitor, one_asked};
-pub use memory::{MemoryDoor, MemoryVisit, MemoryWire, memory_reads};
+pub use laws::hidden_bytes_reach_no_visitor;
+pub use rd_messages::{
+    Broken, Clock, Door, MemoryDoor, MemoryVisit, MemoryWire, Shut, TcpDoor, TcpWire, Wire,
+    memory_reads, one_asked,
+};
 pub use serve::{Ended, Served, serve_in_memory, serve_many};
-pub use tcp::{Clock, TcpDoor, TcpWire};
 pub use visit::{WireFault, serve_one};
-pub use wire::{Broken, Door, Shut, Wire};

@@ -7,9 +7,9 @@ ghost use Rattle.rd_http.specs.Hidden.{RepliesAndHides};
 ghost use Rattle.rd_http.specs.Runs.{HasRun, NoneLeft};
 ghost use Rattle.rd_http.specs.Visits.{IsAnswer, IsReplied};
 
-use crate::visit::{WireFault, serve_one};
-use crate::wire::Door;
+use crate::visit::{WireFault, serve_visit};
 use rd_desk::Desk;
+use rd_messages::{Door, Workspace};
 use rd_store::memory_stays_open;
 use sqlite::{Alter, MemStore};
 use std::alloc::Global;
@@ -105,6 +105,7 @@ pub fn serve_many<S: Alter, D: Door>(
     ensures lasts { Lasts S.Store desk.old.store desk.new.store }
     ensures zone { desk.new.zone ≡ desk.old.zone }
 {
+    let mut workspace = Workspace::new();
     let mut served = Served::NONE;
     while served.visits < count {
         let Ok((seconds, mut conn)) = door.admit() else {
@@ -113,7 +114,7 @@ pub fn serve_many<S: Alter, D: Door>(
                 ..served
             };
         };
-        let ending = serve_one(alloc, &mut conn, seconds, desk);
+        let ending = serve_visit(alloc, &mut workspace, &mut conn, seconds, desk);
         door.leave(conn);
         served = served.with(ending);
         if served.ended == Ended::Clock {

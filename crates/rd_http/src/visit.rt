@@ -1,21 +1,18 @@
 //! One visit: it reads a request, has the desk answer it, and writes the reply.
 
-ghost use Rattle.std.specs.Prelude.{◌≡◌, ◌≢◌, ◌↔◌, ◌≤◌, ℕ, List, Option, Err, true, false, IfSome, IfOk, IsErr, length};
+ghost use Rattle.std.specs.Prelude.{◌≡◌, ◌≢◌, ◌↔◌, ◌≤◌, ℕ, List, Err, true, false, IfSome, IfOk, length};
 ghost use Rattle.rd_policy.specs.Days.{HasDay};
 ghost use Rattle.rd_policy.specs.Zones.{day_number};
 ghost use Rattle.rd_store.specs.Held.{IsOpen, Lasts, desk as tables};
 ghost use Rattle.rd_http.specs.Hidden.{HidesFromVisitor};
-ghost use Rattle.rd_http.specs.Readings.{Fits, IsReading, text_of};
-ghost use Rattle.rd_http.specs.Sent.{Sends};
-ghost use Rattle.rd_http.specs.Taken.{TakesUpTo};
+ghost use Rattle.rd_messages.specs.Readings.{Fits, IsReading};
+ghost use Rattle.rd_messages.specs.ReplyText.{reply_bytes};
+ghost use Rattle.rd_messages.specs.Taken.{TakesUpTo};
 ghost use Rattle.rd_http.specs.Visits.{IsAnswer, Visits};
 
-use crate::asked::{Reading, read_request};
-use crate::fault::RequestFault;
-use crate::reply::challenge;
-use crate::wire::{Broken, Wire};
-use crate::write::{put_fixed, put_reply};
-use rd_desk::{Desk, Reply};
+use rd_desk::{Desk, Reply, unavailable};
+use rd_messages::read_request::{Reading, read_request};
+use rd_messages::{Broken, Wire, Workspace, of_desk, send};
 use rd_policy::DayFault;
 use sqlite::Alter;
 use std::alloc::Global;
@@ -32,63 +29,63 @@ pub enum WireFault {
     Clock,
 }
 
-/// What goes out.
-#[derive(Drop)]
-pub(crate) enum Answer {
-    /// A reply of the desk.
-    Made(Reply),
-    /// Why there is no request.
-    Fault(RequestFault),
-    /// The desk is unavailable, because memory ran out.
-    Unavailable,
-}
-
-/// The answer to what was read.
-fn answer_to<S: Alter>(alloc: Global, seconds: i64, desk: &mut Desk<S>, reading: Reading) -> Answer
+/// The reply to what was read, and the line that only this reply has in its head: at most 40 bytes,
+/// or none.
+fn answer_to<S: Alter>(
+    alloc: Global,
+    seconds: i64,
+    desk: &mut Desk<S>,
+    reading: Reading,
+) -> (&'static str, Reply)
     requires moment { HasDay seconds }
     requires fits { Fits reading }
     ensures answers { (stream : List ℕ) → IsReading stream reading
-        → IsAnswer S.Store stream desk.old.store desk.new.store (day_number seconds desk.old.zone) (text_of result) }
+        → IsAnswer S.Store stream desk.old.store desk.new.store (day_number seconds desk.old.zone) (reply_bytes result.0.now result.1) }
+    ensures short { length result.0.now ≤ 40 }
     ensures lasts { Lasts S.Store desk.old.store desk.new.store }
     ensures zone { desk.new.zone ≡ desk.old.zone }
 {
     match reading {
-        Reading::Request(request) => Answer::Made(desk.answer(alloc, seconds, &request)),
-        Reading::Fault(fault) => Answer::Fault(fault),
-        Reading::NoMemory => Answer::Unavailable,
+        Reading::Request(request) => of_desk(desk.answer(alloc, seconds, &request)),
+        Reading::Fault(fault) => (fault.line(), fault.reply()),
+        Reading::NoMemory => of_desk(unavailable()),
     }
 }
 
-/// Puts an answer. The wire may hold a part of it back.
-fn put_answer<W: Wire>(wire: &mut W, answer: Answer) -> Result<(), Broken>
-    requires ready { W.put_failed wire.old ≡ false }
-    ensures sends { Sends (W.outgoing wire.old) (W.outgoing wire.new) result (text_of answer) }
-    ensures failed { IsErr result ↔ (W.put_failed wire.new ≡ true) }
-    ensures kept { W.incoming wire.new ≡ W.incoming wire.old }
-    ensures came { W.came wire.new ≡ W.came wire.old }
-    ensures take_kept { W.take_failed wire.new ≡ W.take_failed wire.old }
-{
-    match answer {
-        Answer::Made(reply) => put_reply(wire, challenge(reply.status), &reply),
-        Answer::Fault(fault) => put_fixed(wire, fault.status(), fault.line(), fault.body()),
-        Answer::Unavailable => put_fixed(wire, 503, "", "{\"error\":\"unavailable\"}"),
-    }
-}
-
-/// Sends an answer, so that the wire holds nothing of it back.
-#[tactic(auto, using(crate::proofs::Sending::nothing_sent, crate::proofs::Sending::part_sent, crate::proofs::Sending::some_text))]
-fn send<W: Wire>(wire: &mut W, answer: Answer) -> Result<(), Broken>
-    requires ready { W.put_failed wire.old ≡ false }
-    ensures sends { Sends (W.outgoing wire.old) (W.outgoing wire.new) result (text_of answer) }
+/// Serves one visit as `serve_one` does, in a workspace that visits before it may have used.
+pub(crate) fn serve_visit<S: Alter, W: Wire>(
+    alloc: Global,
+    workspace: &mut Workspace,
+    wire: &mut W,
+    seconds: i64,
+    desk: &mut Desk<S>,
+) -> Result<(), WireFault>
+    requires ready { W.take_failed wire.old ≡ false }
+    requires put_ready { W.put_failed wire.old ≡ false }
+    ensures served { IfSome (W.incoming wire.old) (λ stream.
+        Visits (IsAnswer S.Store stream desk.old.store desk.new.store (day_number seconds desk.old.zone))
+        desk.old.store desk.new.store (W.outgoing wire.old) (W.outgoing wire.new) result) }
+    ensures clock { (result ≢ Err WireFault.Clock) ↔ HasDay seconds }
+    ensures read { (result ≡ Err WireFault.Read) ↔ (W.take_failed wire.new ≡ true) }
+    ensures write { (result ≡ Err WireFault.Write) ↔ (W.put_failed wire.new ≡ true) }
     ensures flushed { IfOk result (λ _. W.unsent wire.new ≡ 0) }
-    ensures failed { IsErr result ↔ (W.put_failed wire.new ≡ true) }
-    ensures kept { W.incoming wire.new ≡ W.incoming wire.old }
+    ensures untouched { result ≡ Err WireFault.Clock → (wire.new ≡ wire.old) × (desk.new ≡ desk.old) }
+    ensures unread { result ≡ Err WireFault.Read → (W.outgoing wire.new ≡ W.outgoing wire.old) × (desk.new ≡ desk.old) }
+    ensures bounded { TakesUpTo 270_336 (W.incoming wire.old) (W.incoming wire.new) }
     ensures came { W.came wire.new ≡ W.came wire.old }
-    ensures take_kept { W.take_failed wire.new ≡ W.take_failed wire.old }
+    ensures lasts { Lasts S.Store desk.old.store desk.new.store }
+    ensures zone { desk.new.zone ≡ desk.old.zone }
 {
-    match put_answer(wire, answer) {
-        Ok(()) => wire.flush(),
-        Err(broken) => Err(broken),
+    if desk.day(seconds) == Err(DayFault::OutOfRange) {
+        return Err(WireFault::Clock);
+    }
+    let Ok(reading) = read_request(alloc, workspace, wire) else {
+        return Err(WireFault::Read);
+    };
+    let (line, reply) = answer_to(alloc, seconds, desk, reading);
+    match send(wire, line, reply) {
+        Ok(()) => Ok(()),
+        Err(Broken) => Err(WireFault::Write),
     }
 }
 
@@ -127,15 +124,6 @@ pub fn serve_one<S: Alter, W: Wire>(
     ensures lasts { Lasts S.Store desk.old.store desk.new.store }
     ensures zone { desk.new.zone ≡ desk.old.zone }
 {
-    if desk.day(seconds) == Err(DayFault::OutOfRange) {
-        return Err(WireFault::Clock);
-    }
-    let Ok(reading) = read_request(alloc, wire) else {
-        return Err(WireFault::Read);
-    };
-    let answer = answer_to(alloc, seconds, desk, reading);
-    match send(wire, answer) {
-        Ok(()) => Ok(()),
-        Err(Broken) => Err(WireFault::Write),
-    }
+    let mut workspace = Workspace::new();
+    serve_visit(alloc, &mut workspace, wire, seconds, desk)
 }

@@ -64,6 +64,7 @@ macro_rules! served {
 mod cases;
 mod fakes;
 mod faults;
+mod parts;
 mod refused;
 mod runs;
 mod state;

@@ -1,7 +1,9 @@
 ghost use Rattle.std.specs.Prelude.{None};
 
 use rd_http::{Clock, TcpDoor};
-use rd_program::{Machine, MachineFault, Refusal, exit_code, read_front, run};
+use rd_program::{
+    Files, Machine, MachineFault, Refusal, connect_fault, exit_code, read_front, run,
+};
 use rd_volume::Kind;
 use sqlite::{Connection, File, FileStore};
 use std::alloc::{AllocError, Global};
@@ -46,15 +48,7 @@ fn seconds_now(rt: &HostRuntime) -> Option<i64> {
     i64::try_from(now.duration_since(UNIX_EPOCH).ok()?.as_secs()).ok()
 }
 
-impl<'a> Machine for Host<'a> {
-    type Disk = FileStore<File>;
-
-    type Door = TcpDoor<HostClock<'a>>;
-
-    ghost stands = { λ _ _. None };
-
-    ghost left = { λ _. None };
-
+impl Files for Host<'_> {
     /// Reads at most one byte more than the largest image has, so that a huge file or a device that
     /// never ends does no harm.
     fn read_file(&mut self, alloc: Global, path: &str) -> Result<Vec<u8>, MachineFault> {
@@ -73,9 +67,19 @@ impl<'a> Machine for Host<'a> {
         }
         Ok(bytes)
     }
+}
+
+impl<'a> Machine for Host<'a> {
+    type Disk = FileStore<File>;
+
+    type Door = TcpDoor<HostClock<'a>>;
+
+    ghost stands = { λ _ _. None };
+
+    ghost left = { λ _. None };
 
     fn connect(&mut self, path: &str) -> Result<Connection<FileStore<File>>, MachineFault> {
-        Ok(Connection::open(self.rt, path)?)
+        Connection::open(self.rt, path).map_err(|error| connect_fault(error))
     }
 
     /// What was committed stands already, so a fault of closing loses nothing.
@@ -95,7 +99,8 @@ impl<'a> Machine for Host<'a> {
             rt: self.rt,
             start: Instant::now(self.rt)?,
         };
-        Ok(self.door.insert(TcpDoor::new(listener, clock)))
+        let door = TcpDoor::new(self.rt.alloc(), listener, clock);
+        Ok(self.door.insert(door))
     }
 }
 

@@ -21,5 +21,5 @@ pub use escapes::{add_bytes, bytes_of};
 pub use image::build_with;
 pub use message::Message;
 pub use script::{Line, parts_of, script_of};
-pub use tables::{KeptTables, contents_of};
+pub use tables::{KeptTables, answer_of, contents_of};
 pub use tally::Tally;

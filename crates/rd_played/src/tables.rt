@@ -5,7 +5,7 @@ use crate::tally::Tally;
 use anyhow::{Result, bail};
 use sha2::{Digest, Sha256};
 use sqlite::types::ValueRef;
-use sqlite::{Connection, Error, MemStore, Row};
+use sqlite::{Alter, Connection, Error, Row};
 use std::alloc::Global;
 
 /// Asks for all rows of all tables of a desk, and how all tables are declared.
@@ -21,7 +21,7 @@ const TABLES: &[&str] = &[
     "SELECT acc, bytes FROM marks ORDER BY acc",
 ];
 
-fn rows_of(conn: &mut Connection<MemStore>, sql: &str) -> Result<Vec<Row>, Error> {
+fn rows_of<S: Alter>(conn: &mut Connection<S>, sql: &str) -> Result<Vec<Row>, Error> {
     conn.query_all(sql, &[])
 }
 
@@ -65,11 +65,7 @@ fn add_row(alloc: Global, text: &mut String, row: &Row) -> Result<()> {
 }
 
 /// The rows that a question in SQL gives, each ended by a line feed.
-pub(crate) fn answer_of(
-    alloc: Global,
-    conn: &mut Connection<MemStore>,
-    sql: &str,
-) -> Result<String> {
+pub fn answer_of<S: Alter>(alloc: Global, conn: &mut Connection<S>, sql: &str) -> Result<String> {
     let mut text = String::new(alloc);
     for row in &rows_of(conn, sql)? {
         add_row(alloc, &mut text, row)?;
@@ -78,7 +74,7 @@ pub(crate) fn answer_of(
 }
 
 /// The rows of all tables of a desk, as text. A missing table gives `no table`.
-pub fn contents_of(alloc: Global, conn: &mut Connection<MemStore>) -> Result<String> {
+pub fn contents_of<S: Alter>(alloc: Global, conn: &mut Connection<S>) -> Result<String> {
     let mut text = String::new(alloc);
     for sql in TABLES {
         match answer_of(alloc, conn, *sql) {

@@ -2,16 +2,16 @@
 use Rattle.std.proofs.Common.{◌≡◌, ◌≢◌, ℕ, List, Option, arith, inl, inr, refl, subst, sym}
 use Rattle.std.specs.Io.KnownBytes.{Keeps}
 use Rattle.rd_program.specs.Asking.{IsAskRefusal, IsReplyRefusal, RefusesOnce}
-use Rattle.rd_program.specs.Asks.{AsksADesk, AsksCheckOf, IsCheck, TellsOnOutput}
-use Rattle.rd_program.specs.Asks as asks
-use Rattle.rd_program.specs.Commands.{IsAskOf, IsCheckOf, IsExport}
+use Rattle.rd_commands.specs.Asks.{AsksADesk, AsksCheckOf, IsCheck, TellsOnOutput}
+use Rattle.rd_commands.specs.Asks as asks
+use Rattle.rd_commands.specs.Commands.{IsAskOf, IsCheckOf, IsExport}
 use Rattle.rd_program.specs.Importing.{IsRowRefusal}
-use Rattle.rd_program.specs.Refusals.{status_of}
+use Rattle.rd_commands.specs.Refusals.{status_of}
 use Rattle.rd_program.specs.Serving.{IsClockRefusal, IsOpenRefusal}
-use Rattle.rd_program.specs.declared.refusal.Refusal.{Refusal}
-use Rattle.rd_program.specs.declared.refusal.Refusal.TheVariants.{Clock, Device, Inconsistent, NoAccession, NoMemory, NotADesk, StaffOnly, Store, UnknownKey, Version}
-use Rattle.rd_program.specs.declared.words.Ask.{Ask}
-use Rattle.rd_program.specs.declared.words.Ask.TheVariants.{File, Files, Import, Init, Once, Serve}
+use Rattle.rd_commands.specs.declared.refusal.Refusal.{Refusal}
+use Rattle.rd_commands.specs.declared.refusal.Refusal.TheVariants.{Clock, Device, Inconsistent, NoAccession, NoMemory, NotADesk, StaffOnly, Store, UnknownKey, Version}
+use Rattle.rd_commands.specs.declared.words.Ask.{Ask}
+use Rattle.rd_commands.specs.declared.words.Ask.TheVariants.{File, Files, Import, Init, Once, Serve}
 
 -- ---- what is asked for
 

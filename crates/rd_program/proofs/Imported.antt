@@ -5,24 +5,24 @@ use Rattle.std.proofs.lemmas.List.Folds.{concat-append}
 use Rattle.std.specs.List.{concat}
 use Rattle.std.proofs.KnownBytes.{Appends-nil, Keeps-refl}
 use Rattle.rd_geometry.specs.declared.kind.Kind.{Kind}
-use Rattle.rd_program.specs.Asks.{TellsInRows, TellsOnOutput}
-use Rattle.rd_program.specs.Commands.{AsksInit, AsksServe, IsAskOf, IsImport}
+use Rattle.rd_commands.specs.Asks.{TellsInRows, TellsOnOutput}
+use Rattle.rd_commands.specs.Commands.{AsksInit, AsksServe, IsAskOf, IsImport}
 use Rattle.rd_program.specs.Importing.{GainsFront, GainsFrontOfLine, GainsLine, GainsLines, IsDoneLine, IsImportRefusal, IsRowLine, IsRowRefusal, RefusesImport, RefusesRow, RefusesRows, TellsRow, TellsRows, bad_row_line, said_line}
-use Rattle.rd_program.specs.Output.{AppendsPart}
-use Rattle.rd_program.specs.Refusals.{IsOfDevice, refusal_for, status_of}
+use Rattle.rd_commands.specs.Output.{AppendsPart}
+use Rattle.rd_commands.specs.Refusals.{IsOfDevice, refusal_for, status_of}
 use Rattle.rd_program.specs.Serving.{IsOpenRefusal}
-use Rattle.rd_program.specs.Sheets.{IsReadRefusal}
-use Rattle.rd_program.specs.Told.{both, whole}
-use Rattle.rd_program.specs.Words.{AsksCat, AsksList}
-use Rattle.rd_program.specs.declared.done.Done.{Done}
-use Rattle.rd_program.specs.declared.done.Done.TheVariants.{InPart, Whole}
-use Rattle.rd_program.specs.declared.machine.MachineFault.{MachineFault}
-use Rattle.rd_program.specs.declared.machine.MachineFault.TheVariants as machine_fault
-use Rattle.rd_program.specs.declared.refusal.Refusal.{Refusal}
-use Rattle.rd_program.specs.declared.refusal.Refusal.TheVariants.{BadSheet, Clock, Device, Inconsistent, NoMemory, NotADesk, Store, Version}
-use Rattle.rd_program.specs.declared.words.Ask.{Ask}
-use Rattle.rd_program.specs.declared.words.Ask.TheVariants.{File, Files, Import, Init, Once, Serve}
-use Rattle.rd_program.proofs.Written.{none_written, part_after, piece_more}
+use Rattle.rd_commands.specs.Sheets.{IsReadRefusal}
+use Rattle.rd_commands.specs.Told.{both, whole}
+use Rattle.rd_commands.specs.Words.{AsksCat, AsksList}
+use Rattle.rd_commands.specs.declared.done.Done.{Done}
+use Rattle.rd_commands.specs.declared.done.Done.TheVariants.{InPart, Whole}
+use Rattle.rd_commands.specs.declared.files.MachineFault.{MachineFault}
+use Rattle.rd_commands.specs.declared.files.MachineFault.TheVariants as machine_fault
+use Rattle.rd_commands.specs.declared.refusal.Refusal.{Refusal}
+use Rattle.rd_commands.specs.declared.refusal.Refusal.TheVariants.{BadSheet, Clock, Device, Inconsistent, NoMemory, NotADesk, Store, Version}
+use Rattle.rd_commands.specs.declared.words.Ask.{Ask}
+use Rattle.rd_commands.specs.declared.words.Ask.TheVariants.{File, Files, Import, Init, Once, Serve}
+use Rattle.rd_commands.proofs.Written.{none_written, part_after, piece_more}
 
 -- ---- lines
 

@@ -5,7 +5,7 @@ use Rattle.sha2.specs.Sha256.{sha256}
 use Rattle.sqlite.specs.Held.{Held}
 use Rattle.sqlite.specs.Store.{Ghosts}
 use Rattle.rd_program.specs.Inits.{LeavesInit, MakesDesk}
-use Rattle.rd_program.specs.declared.refusal.Refusal.{Refusal}
+use Rattle.rd_commands.specs.declared.refusal.Refusal.{Refusal}
 
 -- both hold at a success
 pub on_both : {T E : Type 0} (r : Result T E) (P Q : Type 0) → OnOk r P → OnOk r Q → OnOk r (P × Q)

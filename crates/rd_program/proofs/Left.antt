@@ -5,13 +5,13 @@ use Rattle.sqlite.specs.Held.{Held, state}
 use Rattle.sqlite.specs.Store.{Ghosts}
 use Rattle.rd_store.specs.Held.{desk}
 use Rattle.rd_store.specs.Migrated.{IsMigrated, IsNotMigrated}
-use Rattle.rd_store.specs.State.{Desk}
+use Rattle.rd_protocol.specs.State.{Desk}
 use Rattle.rd_store.specs.declared.faults.OpenFault.{OpenFault}
 use Rattle.rd_store.specs.declared.faults.OpenFault.TheVariants as open_fault
 use Rattle.rd_store.proofs.Laws.{lasts_then}
 use Rattle.rd_program.specs.Leaves.{IfBoth, IsReached, Leaves, LeavesDesk, LeavesNone, LeavesStore, LeavesUnopened}
 use Rattle.rd_program.specs.Serving.{IsOpenRefusal}
-use Rattle.rd_program.specs.declared.refusal.Refusal.{Refusal}
+use Rattle.rd_commands.specs.declared.refusal.Refusal.{Refusal}
 
 -- ---- two connections that are told
 

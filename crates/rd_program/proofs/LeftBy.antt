@@ -12,16 +12,16 @@ use Rattle.rd_store.specs.Migrated.{IsMigrated}
 use Rattle.rd_store.proofs.Laws.{lasts_then}
 use Rattle.rd_http.specs.declared.serve.Ended.{Ended}
 use Rattle.rd_http.specs.declared.serve.Ended.TheVariants as ended
-use Rattle.rd_program.specs.Asks.{IsImportAsk, IsOnceAsk, IsServeAsk}
+use Rattle.rd_commands.specs.Asks.{IsImportAsk, IsOnceAsk, IsServeAsk}
 use Rattle.rd_program.specs.Leaves.{HasListened, IsDayAt, IsDayBy, Leaves, LeavesBy, LeavesRefused, LeavesServe, LeavesStore, NamesOpening, StepsOf, TakesIn}
-use Rattle.rd_program.specs.Output.{AppendsPart}
-use Rattle.rd_program.specs.Refusals.{IsOfDevice}
+use Rattle.rd_commands.specs.Output.{AppendsPart}
+use Rattle.rd_commands.specs.Refusals.{IsOfDevice}
 use Rattle.rd_program.specs.Serving.{RefusesToEnd, listening_line, served_line}
-use Rattle.rd_program.specs.declared.refusal.Refusal.{Refusal}
-use Rattle.rd_program.specs.declared.refusal.Refusal.TheVariants.{Device, NoMemory}
-use Rattle.rd_program.specs.declared.words.Ask.{Ask}
-use Rattle.rd_program.specs.declared.words.Ask.TheVariants.{Import, Once, Serve}
-use Rattle.rd_program.specs.declared.words.Question.{Question}
+use Rattle.rd_commands.specs.declared.refusal.Refusal.{Refusal}
+use Rattle.rd_commands.specs.declared.refusal.Refusal.TheVariants.{Device, NoMemory}
+use Rattle.rd_commands.specs.declared.words.Ask.{Ask}
+use Rattle.rd_commands.specs.declared.words.Ask.TheVariants.{Import, Once, Serve}
+use Rattle.rd_commands.specs.declared.words.Question.{Question}
 use Rattle.rd_program.proofs.Left.{after_opening, leaves_weaker, store_weaker}
 use Rattle.rd_program.proofs.Stepped.{steps_on, takes_on}
 

@@ -4,12 +4,12 @@ use Rattle.std.proofs.KnownBytes.{Appends-kept, Appends-trans, Keeps-refl}
 use Rattle.std.specs.Io.KnownBytes.{Appends}
 use Rattle.rd_http.specs.declared.serve.Ended.{Ended}
 use Rattle.rd_http.specs.declared.serve.Ended.TheVariants as ended
-use Rattle.rd_program.specs.Output.{AppendsPart}
-use Rattle.rd_program.specs.Refusals.{IsOfDevice}
+use Rattle.rd_commands.specs.Output.{AppendsPart}
+use Rattle.rd_commands.specs.Refusals.{IsOfDevice}
 use Rattle.rd_program.specs.Serving.{IsOpenRefusal, RefusesServe, RefusesToEnd, listening_line, serve_text, served_line}
-use Rattle.rd_program.specs.declared.refusal.Refusal.{Refusal}
-use Rattle.rd_program.specs.declared.refusal.Refusal.TheVariants.{Device, NoMemory}
-use Rattle.rd_program.proofs.Written.{none_written, part_after, part_of, whole_part}
+use Rattle.rd_commands.specs.declared.refusal.Refusal.{Refusal}
+use Rattle.rd_commands.specs.declared.refusal.Refusal.TheVariants.{Device, NoMemory}
+use Rattle.rd_commands.proofs.Written.{none_written, part_after, part_of, whole_part}
 
 -- where the desk was not opened nothing was written
 pub not_opened : (refusal : Refusal) (port count : ℕ) (o : Option (List ℕ)) → IsOpenRefusal refusal → RefusesServe refusal port count o o

@@ -3,19 +3,19 @@ use Rattle.std.proofs.Common.{◌≡◌, ◌⊎◌, ◌++◌, ℕ, ℤ, List, []
 use Rattle.sqlite.specs.Held.{Held}
 use Rattle.sqlite.specs.Store.{Ghosts}
 use Rattle.rd_store.specs.Held.{desk}
-use Rattle.rd_store.specs.State.{Desk}
-use Rattle.rd_desk.specs.Replies.{Answers, IsAnswered, IsStep}
+use Rattle.rd_protocol.specs.State.{Desk}
+use Rattle.rd_protocol.specs.Replies.{Answers, IsAnswered, IsStep}
 use Rattle.rd_desk.specs.Served.{Serves}
-use Rattle.rd_desk.specs.declared.request.Request.{Request}
-use Rattle.rd_desk.specs.declared.request.What.{What}
-use Rattle.rd_desk.specs.declared.request.What.TheVariants as request
-use Rattle.rd_desk.specs.declared.said.Reply.{Reply}
-use Rattle.rd_desk.specs.declared.said.Said.{Said}
-use Rattle.rd_desk.specs.declared.said.Said.TheVariants as said
+use Rattle.rd_protocol.specs.declared.request.Request.{Request}
+use Rattle.rd_protocol.specs.declared.request.What.{What}
+use Rattle.rd_protocol.specs.declared.request.What.TheVariants as request
+use Rattle.rd_protocol.specs.declared.said.Reply.{Reply}
+use Rattle.rd_protocol.specs.declared.said.Said.{Said}
+use Rattle.rd_protocol.specs.declared.said.Said.TheVariants as said
 use Rattle.rd_program.specs.Leaves.{Checks, IsPutImage, LeavesDesk, StepsOf, TakesFields, TakesIn, TakesInTurn, TakesRow}
-use Rattle.rd_program.specs.declared.sheet.SheetRow.{SheetRow}
-use Rattle.rd_program.specs.declared.words.Question.{Question}
-use Rattle.rd_program.specs.declared.words.Question.TheVariants as question
+use Rattle.rd_commands.specs.declared.sheet.SheetRow.{SheetRow}
+use Rattle.rd_commands.specs.declared.words.Question.{Question}
+use Rattle.rd_commands.specs.declared.words.Question.TheVariants as question
 use Rattle.rd_program.proofs.Left.{desk_then}
 
 -- ---- after a reply

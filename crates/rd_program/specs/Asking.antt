@@ -3,10 +3,10 @@ use Rattle.std.specs.Prelude.{◌≡◌, ◌⊎◌, ℕ, List, Option, codes}
 use Rattle.std.specs.Io.KnownBytes.{Appends, Keeps}
 use Rattle.rd_program.specs.Importing.{IsRowRefusal, said_line}
 use Rattle.rd_program.specs.Serving.{IsClockRefusal, IsOpenRefusal}
-use Rattle.rd_program.specs.declared.done.Done.{Done}
-use Rattle.rd_program.specs.declared.done.Done.TheVariants.{InPart, Whole}
-use Rattle.rd_program.specs.declared.refusal.Refusal.{Refusal}
-use Rattle.rd_program.specs.declared.refusal.Refusal.TheVariants.{Device, NoAccession, StaffOnly, UnknownKey}
+use Rattle.rd_commands.specs.declared.done.Done.{Done}
+use Rattle.rd_commands.specs.declared.done.Done.TheVariants.{InPart, Whole}
+use Rattle.rd_commands.specs.declared.refusal.Refusal.{Refusal}
+use Rattle.rd_commands.specs.declared.refusal.Refusal.TheVariants.{Device, NoAccession, StaffOnly, UnknownKey}
 
 -- why a desk gives no answer: it refuses the request, the device failed, memory ran out, or the
 -- store failed

@@ -3,13 +3,13 @@ use Rattle.std.specs.Prelude.{◌≡◌, ◌⊎◌, ℕ, List, Option, All, ◌+
 use Rattle.std.specs.Fmt.{decimal}
 use Rattle.std.specs.Io.KnownBytes.{Appends, Keeps}
 use Rattle.std.specs.List.{concat}
-use Rattle.rd_program.specs.Output.{AppendsPart}
-use Rattle.rd_program.specs.Printed.{line_feed}
+use Rattle.rd_commands.specs.Output.{AppendsPart}
+use Rattle.rd_commands.specs.Printed.{line_feed}
 use Rattle.rd_program.specs.Serving.{IsClockRefusal, IsOpenRefusal}
-use Rattle.rd_program.specs.declared.done.Done.{Done}
-use Rattle.rd_program.specs.declared.done.Done.TheVariants.{InPart, Whole}
-use Rattle.rd_program.specs.declared.refusal.Refusal.{Refusal}
-use Rattle.rd_program.specs.declared.refusal.Refusal.TheVariants.{BadSheet, Device, NoMemory, Store}
+use Rattle.rd_commands.specs.declared.done.Done.{Done}
+use Rattle.rd_commands.specs.declared.done.Done.TheVariants.{InPart, Whole}
+use Rattle.rd_commands.specs.declared.refusal.Refusal.{Refusal}
+use Rattle.rd_commands.specs.declared.refusal.Refusal.TheVariants.{BadSheet, Device, NoMemory, Store}
 
 -- the line that says this of an accession
 abbrev pub said_line : ℕ → List ℕ → List ℕ

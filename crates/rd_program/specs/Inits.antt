@@ -7,11 +7,11 @@ use Rattle.rd_store.specs.Created.{IsCreated, IsNotCreated}
 use Rattle.rd_store.specs.declared.faults.CreateFault.{CreateFault}
 use Rattle.rd_store.specs.declared.faults.CreateFault.TheVariants as create
 use Rattle.rd_program.specs.Leaves.{IfBoth, Leaves, LeavesNone}
-use Rattle.rd_program.specs.Output.{AppendsPart}
-use Rattle.rd_program.specs.Printed.{line_feed}
-use Rattle.rd_program.specs.Refusals.{refusal_to_create}
-use Rattle.rd_program.specs.declared.refusal.Refusal.{Refusal}
-use Rattle.rd_program.specs.declared.refusal.Refusal.TheVariants.{Device, Exists, NoMemory, Store}
+use Rattle.rd_commands.specs.Output.{AppendsPart}
+use Rattle.rd_commands.specs.Printed.{line_feed}
+use Rattle.rd_commands.specs.declared.refusal.Refusal.{Refusal}
+use Rattle.rd_commands.specs.declared.refusal.Refusal.TheVariants.{Device, Exists, NoMemory, Store}
+use Rattle.rd_program.specs.Faults.{refusal_to_create}
 
 -- the line that says that a desk was made
 abbrev pub done_line : List ℕ

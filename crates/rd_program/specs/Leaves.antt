@@ -14,20 +14,20 @@ use Rattle.rd_policy.specs.declared.zone.Zone.{Zone}
 use Rattle.rd_store.specs.Created.{IsUntouched}
 use Rattle.rd_store.specs.Held.{IsOpen, Lasts, desk}
 use Rattle.rd_store.specs.Migrated.{IsMigrated, IsNotMigrated, SpellsDesk}
-use Rattle.rd_store.specs.State.{Desk}
+use Rattle.rd_protocol.specs.State.{Desk}
 use Rattle.rd_store.specs.declared.faults.OpenFault.TheVariants as open_fault
-use Rattle.rd_desk.specs.Replies.{IsStep}
-use Rattle.rd_desk.specs.declared.request.What.{What}
-use Rattle.rd_desk.specs.declared.request.What.TheVariants as request
+use Rattle.rd_protocol.specs.Replies.{IsStep}
+use Rattle.rd_protocol.specs.declared.request.What.{What}
+use Rattle.rd_protocol.specs.declared.request.What.TheVariants as request
 use Rattle.rd_program.specs.Serving.{listening_line}
-use Rattle.rd_program.specs.Sheets.{Says}
-use Rattle.rd_program.specs.declared.refusal.Refusal.{Refusal}
-use Rattle.rd_program.specs.declared.refusal.Refusal.TheVariants.{Clock, Device, Inconsistent, NoMemory, NotADesk, Store, Version}
-use Rattle.rd_program.specs.declared.sheet.SheetRow.{SheetRow}
-use Rattle.rd_program.specs.declared.words.Ask.{Ask}
-use Rattle.rd_program.specs.declared.words.Ask.TheVariants.{Import, Once, Serve}
-use Rattle.rd_program.specs.declared.words.Question.{Question}
-use Rattle.rd_program.specs.declared.words.Question.TheVariants as question
+use Rattle.rd_commands.specs.Sheets.{Says}
+use Rattle.rd_commands.specs.declared.refusal.Refusal.{Refusal}
+use Rattle.rd_commands.specs.declared.refusal.Refusal.TheVariants.{Clock, Device, Inconsistent, NoMemory, NotADesk, Store, Version}
+use Rattle.rd_commands.specs.declared.sheet.SheetRow.{SheetRow}
+use Rattle.rd_commands.specs.declared.words.Ask.{Ask}
+use Rattle.rd_commands.specs.declared.words.Ask.TheVariants.{Import, Once, Serve}
+use Rattle.rd_commands.specs.declared.words.Question.{Question}
+use Rattle.rd_commands.specs.declared.words.Question.TheVariants as question
 
 -- ---- two connections
 

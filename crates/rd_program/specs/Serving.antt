@@ -4,11 +4,11 @@ use Rattle.std.specs.Fmt.{decimal}
 use Rattle.std.specs.Io.KnownBytes.{Appends, Keeps}
 use Rattle.rd_http.specs.declared.serve.Ended.{Ended}
 use Rattle.rd_http.specs.declared.serve.Ended.TheVariants as ended
-use Rattle.rd_program.specs.Output.{AppendsPart}
-use Rattle.rd_program.specs.Printed.{line_feed}
-use Rattle.rd_program.specs.Refusals.{IsOfDevice}
-use Rattle.rd_program.specs.declared.refusal.Refusal.{Refusal}
-use Rattle.rd_program.specs.declared.refusal.Refusal.TheVariants.{Clock, Device, Inconsistent, NoMemory, NotADesk, Store, Version}
+use Rattle.rd_commands.specs.Output.{AppendsPart}
+use Rattle.rd_commands.specs.Printed.{line_feed}
+use Rattle.rd_commands.specs.Refusals.{IsOfDevice}
+use Rattle.rd_commands.specs.declared.refusal.Refusal.{Refusal}
+use Rattle.rd_commands.specs.declared.refusal.Refusal.TheVariants.{Clock, Device, Inconsistent, NoMemory, NotADesk, Store, Version}
 
 -- the line that says at which port of the machine itself visits come
 abbrev pub listening_line : ℕ → List ℕ

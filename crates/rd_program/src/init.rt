@@ -4,10 +4,9 @@ ghost use Rattle.sha2.specs.Sha256.{sha256};
 ghost use Rattle.rd_store.specs.Created.{IsCreated};
 ghost use Rattle.rd_program.specs.Inits.{IsInitRefusal, LeavesInit, MakesDesk, NotMade, RefusesInit, done_line};
 
+use crate::faults::not_made;
 use crate::machine::Machine;
-use crate::output::write_whole;
-use crate::refusal::Refusal;
-use crate::words::InitAsk;
+use rd_commands::{InitAsk, Refusal, write_whole};
 use rd_store::{Refused, Store};
 use sha2::{Digest, Sha256};
 use sqlite::{Alter, Connection};
@@ -23,7 +22,7 @@ fn make<S: Alter + Drop>(conn: Connection<S>, key: &[u8]) -> (Result<(), Refusal
 {
     match Store::create(conn, &Sha256::digest(key)) {
         Ok(store) => (Ok(()), store.into_connection()),
-        Err(Refused { fault, conn }) => (Err(Refusal::from(fault)), conn),
+        Err(Refused { fault, conn }) => (Err(not_made(fault)), conn),
     }
 }
 

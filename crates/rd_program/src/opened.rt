@@ -6,8 +6,9 @@ ghost use Rattle.rd_program.specs.Serving.{IsClockRefusal, IsOpenRefusal};
 ghost use Rattle.rd_store.specs.Migrated.{IsMigrated};
 ghost use Rattle.rd_policy.specs.Days.{HasDay};
 
+use crate::faults::not_opened;
 use crate::machine::Machine;
-use crate::refusal::Refusal;
+use rd_commands::Refusal;
 use rd_desk::Desk;
 use rd_policy::{DayFault, Zone};
 use rd_store::{Refused, Store};
@@ -37,7 +38,7 @@ pub(crate) fn open_desk<M: Machine>(
         Ok(store) => Ok(Desk::new(store, zone)),
         Err(Refused { fault, conn }) => {
             machine.release(&mut Some(conn));
-            Err(Refusal::from(fault))
+            Err(not_opened(fault))
         }
     }
 }

@@ -3,10 +3,10 @@
 ghost use Rattle.std.specs.Prelude.{◌≡◌, ◌↔◌, IfErr, IfOk, IsTrue, codes, option_map};
 ghost use Rattle.std.specs.List.{concat};
 ghost use Rattle.serde_json.specs.View.{view};
-ghost use Rattle.rd_http.specs.Objects.{IsJson, text_at};
+ghost use Rattle.rd_messages.specs.Objects.{IsJson, text_at};
 ghost use Rattle.rd_program.specs.Importing.{IsRowRefusal};
 
-use crate::refusal::Refusal;
+use rd_commands::Refusal;
 use rd_desk::Body;
 use serde_json::Value;
 use std::alloc::{AllocError, Global};

@@ -2,15 +2,13 @@ ghost use Rattle.std.specs.Prelude.{◌≡◌, IfErr, IfOk, OnErr, OnOk};
 ghost use Rattle.std.specs.Io.KnownBytes.{Appends};
 ghost use Rattle.rd_store.specs.Held.{Lasts};
 ghost use Rattle.rd_program.specs.Leaves.{Leaves, LeavesServe};
-ghost use Rattle.rd_program.specs.Output.{AppendsPart};
-ghost use Rattle.rd_program.specs.Refusals.{IsOfDevice};
+ghost use Rattle.rd_commands.specs.Output.{AppendsPart};
+ghost use Rattle.rd_commands.specs.Refusals.{IsOfDevice};
 ghost use Rattle.rd_program.specs.Serving.{RefusesServe, RefusesToEnd, listening_line, serve_text, served_line};
 
 use crate::machine::Machine;
 use crate::opened::open_desk;
-use crate::output::write_whole;
-use crate::refusal::Refusal;
-use crate::words::ServeAsk;
+use rd_commands::{Refusal, ServeAsk, write_whole};
 use rd_desk::Desk;
 use rd_http::{Ended, Served, serve_many};
 use std::alloc::Global;

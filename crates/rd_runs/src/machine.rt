@@ -6,7 +6,7 @@ use anyhow::Result;
 use rd_geometry::{Kind, NoMemory};
 use rd_http::MemoryDoor;
 use rd_played::build_with;
-use rd_program::{Machine, MachineFault};
+use rd_program::{Files, Machine, MachineFault};
 use sqlite::{Connection, MemStore};
 use std::alloc::Global;
 
@@ -108,6 +108,16 @@ fn copied(alloc: Global, bytes: &[u8]) -> Result<Vec<u8>, MachineFault> {
     Vec::from_slice(alloc, bytes).map_err(|_| MachineFault::NoMemory)
 }
 
+impl Files for Museum<'_> {
+    fn read_file(&mut self, alloc: Global, path: &str) -> Result<Vec<u8>, MachineFault> {
+        copied(alloc, front_of(self.bytes_at(path)?))
+    }
+
+    fn read_sheet(&mut self, alloc: Global, path: &str) -> Result<Vec<u8>, MachineFault> {
+        copied(alloc, self.bytes_at(path)?)
+    }
+}
+
 impl Machine for Museum<'_> {
     type Disk = MemStore;
 
@@ -116,14 +126,6 @@ impl Machine for Museum<'_> {
     ghost stands = { λ _ _. None };
 
     ghost left = { λ _. None };
-
-    fn read_file(&mut self, alloc: Global, path: &str) -> Result<Vec<u8>, MachineFault> {
-        copied(alloc, front_of(self.bytes_at(path)?))
-    }
-
-    fn read_sheet(&mut self, alloc: Global, path: &str) -> Result<Vec<u8>, MachineFault> {
-        copied(alloc, self.bytes_at(path)?)
-    }
 
     /// It also fails at a path without a store, and if the store has not come back, or is inside a
     /// transaction.

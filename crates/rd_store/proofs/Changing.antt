@@ -3,7 +3,7 @@ use Rattle.std.proofs.Common.{◌≡◌, ◌⊎◌, Result, Ok, Err, OnOk, OnErr
 use Rattle.sqlite.specs.Store.{Ghosts}
 use Rattle.sqlite.specs.Effect.{Database}
 use Rattle.sqlite.specs.Held.{Held, state}
-use Rattle.rd_store.specs.State.{Desk}
+use Rattle.rd_protocol.specs.State.{Desk}
 use Rattle.rd_store.specs.Spelled.{desk_of}
 use Rattle.rd_store.specs.Held.{Changes, HoldsDesk, IsLeft, Stays, IsOpen, IsClean, desk}
 use Rattle.rd_store.proofs.Laws.{Laws, lasts_then, stays_changes}

@@ -3,15 +3,15 @@ use Rattle.std.proofs.Common.{◌≡◌, ℕ, None, IsSome, Result, Option, sym,
 use Rattle.std.specs.FinMap.{get}
 use Rattle.sqlite.specs.Store.{Ghosts}
 use Rattle.sqlite.specs.Held.{Held, state}
-use Rattle.rd_store.specs.declared.rows.ImageRow.{ImageRow}
+use Rattle.rd_protocol.specs.declared.rows.ImageRow.{ImageRow}
 use Rattle.rd_store.specs.Created.{IsAt, Turns}
 use Rattle.rd_store.specs.Held.{Changes, HoldsDesk, IsOf, IsOpen, LacksImage, desk}
-use Rattle.rd_store.specs.Lawful.{IsImage}
-use Rattle.rd_store.specs.State.{put_or_kept, with_image}
+use Rattle.rd_protocol.specs.Lawful.{IsImage}
+use Rattle.rd_protocol.specs.State.{put_or_kept, with_image}
 use Rattle.rd_store.specs.Index.{with_new_image}
 use Rattle.rd_store.proofs.Changing.{changes_as}
 use Rattle.rd_store.proofs.Laws.{Laws}
-use Rattle.rd_store.proofs.Lawful.{lawful_insert}
+use Rattle.rd_protocol.proofs.Lawful.{lawful_insert}
 use Rattle.rd_store.proofs.Whole.{starts, changes}
 
 module _ {S : Type 0} (g : Ghosts S) (laws : Laws g) (old last : Held S) (holds : HoldsDesk (state g old)) (acc : ℕ) (image : ImageRow) (free : IsOpen g old → get (desk g old).images acc ≡ None) where

@@ -1,5 +1,5 @@
 -- What the queries show of a desk.
-use Rattle.std.proofs.Common.{◌≡◌, inl, inr, ℕ, zero, suc, ◌<◌, slice_get, slice_index_or, pos, List, [], ◌∷◌, map, Bool, true, false, Option, Some, None, option_map, refl, sym, ap, ◌∙◌, arith, nat_cmp, int_cmp, is_lt, is_eq, Less, Equal, Greater, Ordering, ◌&&◌, ◌==◌, All, subst, length}
+use Rattle.std.proofs.Common.{◌≡◌, inl, inr, ℕ, zero, suc, ap₂, ◌<◌, slice_get, slice_index_or, pos, List, [], ◌∷◌, map, Bool, true, false, Option, Some, None, option_map, refl, sym, ap, ◌∙◌, arith, nat_cmp, int_cmp, is_lt, is_eq, Less, Equal, Greater, Ordering, ◌&&◌, ◌==◌, All, subst, length}
 use Rattle.std.specs.Prelude.{MatchBool}
 use Rattle.std.specs.Option.{option_to_list}
 use Rattle.std.specs.List.{Any}
@@ -23,7 +23,7 @@ use Rattle.sqlite_sql.specs.declared.ops.BinaryOp.TheVariants.{Compare}
 use Rattle.sqlite_sql.specs.declared.ops.CompareOp.TheVariants.{Eq}
 use Rattle.sqlite_value.proofs.OrderLemmas.{value_cmp-Int, then-Equal}
 use Rattle.rd_tables.specs.Asked.{IsPicked, rising}
-use Rattle.rd_tables.specs.Queries.{all_images_query, deed_query, image_query, marks_query, audience_query, rules_query, keys_query}
+use Rattle.rd_tables.specs.Queries.{all_images_query, deed_query, image_query, marks_query, audience_query, rules_query, placed_rules_query, keys_query}
 use Rattle.rd_tables.specs.Sheets.{Spells, entry_of, map_of, natural, seen}
 use Rattle.rd_tables.proofs.Lists.{and_true, both, in_map, from_map}
 use Rattle.rd_tables.proofs.Values.{equal_numbers, equal_blobs}
@@ -31,10 +31,9 @@ use Rattle.rd_tables.proofs.Entries.{retain_all, entry_got, got_entry}
 use Rattle.rd_tables.proofs.Finding.{looked_up, in_order}
 use Rattle.rd_tables.proofs.Listed.{got_row}
 use Rattle.rd_policy.specs.declared.rule.Band.{Band}
-use Rattle.rd_store.specs.Codes.{band_code, is_at}
 use Rattle.rd_store.specs.Walked.{image_told}
-use Rattle.rd_store.specs.State.{Desk, Place, Terms, digest_cmp, rule_of, HasOtherStaff}
-use Rattle.rd_store.specs.declared.rows.ImageRow.{ImageRow}
+use Rattle.rd_protocol.specs.State.{Desk, Place, Terms, digest_cmp, place_cmp, rule_of, HasOtherStaff, band_code, is_at}
+use Rattle.rd_protocol.specs.declared.rows.ImageRow.{ImageRow}
 use Rattle.rd_store.specs.Shown.{as_row, deed_shown, image_shown, marks_shown, audience_shown, ShowsOther, IsOtherKey}
 use Rattle.rd_store.specs.Spelled.{deed_sheet, image_sheet, key_sheet, marks_sheet, rule_sheet}
 use Rattle.rd_store.proofs.Orders.{number_order, digest_order, place_order, kind_back, rule_back, key_back}
@@ -114,6 +113,22 @@ module _ (band : Band) (scope : ℕ) (table rows : List Row) where
       ∙ rw (equal_numbers (band_code (rule_sheet.entry (seen rule_sheet.places row)).0.band) (band_code band), equal_numbers (rule_sheet.entry (seen rule_sheet.places row)).0.scope scope, and_true) (grind (arith, nat_tests)))
       (λ row is. ap (λ s. (column s 2 ∷ [], s)) is)
       (λ a b at bt up apart. ranks_rise (band_code a.band) (band_code b.band) a.scope b.scope a.rank b.rank (band_code band) scope at bt (sym (ap is_lt (then-Equal _ ∙ value_cmp-Int (pos b.rank) (pos a.rank))) ∙ up) apart)
+
+-- ORDER BY the band, the number and the rank, as the places of rules rise
+three_keys : (x y s t m n : ℕ) → key_cmp 0 (rising ∷ rising ∷ rising ∷ []) (Int (pos x) ∷ Int (pos s) ∷ Int (pos m) ∷ []) (Int (pos y) ∷ Int (pos t) ∷ Int (pos n) ∷ []) ≡ ordering_then (int_cmp (pos x) (pos y)) (ordering_then (int_cmp (pos s) (pos t)) (int_cmp (pos m) (pos n)))
+three_keys x y s t m n = ap₂ ordering_then (value_cmp-Int (pos x) (pos y)) (ap₂ ordering_then (value_cmp-Int (pos s) (pos t)) (then-Equal _ ∙ value_cmp-Int (pos m) (pos n)))
+
+places_rise : (x y s t m n : ℕ) → is_lt (ordering_then (int_cmp (pos y) (pos x)) (ordering_then (int_cmp (pos t) (pos s)) (int_cmp (pos n) (pos m)))) ≡ false
+    → is_eq (ordering_then (nat_cmp x y) (ordering_then (nat_cmp s t) (nat_cmp m n))) ≡ false → ordering_then (nat_cmp x y) (ordering_then (nat_cmp s t) (nat_cmp m n)) ≡ Less
+places_rise x y s t m n up apart = grind (arith, nat_tests)
+
+pub rules_placed : (table rows : List Row) → Spells rule_sheet table → IsPicked placed_rules_query [] table rows → rows ≡ map rule_sheet.columns (entries (map_of rule_sheet table))
+rules_placed table rows spells picks =
+    in_order rule_sheet place_order placed_rules_query [] table rows spells picks (λ _. true) rule_sheet.columns (λ place. Int (pos (band_code place.band)) ∷ Int (pos place.scope) ∷ Int (pos place.rank) ∷ [])
+    (λ row is. refl)
+    (λ row is. ap (λ s. (column s 0 ∷ column s 1 ∷ column s 2 ∷ [], s)) is)
+    (λ a b here there up apart. places_rise (band_code a.band) (band_code b.band) a.scope b.scope a.rank b.rank (sym (ap is_lt (three_keys (band_code b.band) (band_code a.band) b.scope a.scope b.rank a.rank)) ∙ up) apart)
+    ∙ ap (λ m. map rule_sheet.columns (entries m)) (retain_all place_cmp place_order (map_of rule_sheet table))
 
 -- the rules that columns spell
 pub rules_back : (es : List (Place × Terms)) → map (λ row. rule_of (rule_sheet.entry row)) (map rule_sheet.columns es) ≡ map rule_of es

@@ -9,7 +9,7 @@ use Rattle.sqlite.proofs.StateLemmas.{clean_if_open}
 use Rattle.rd_tables.specs.Schemas.{marks_table}
 use Rattle.rd_store.specs.declared.faults.StoreFault.{StoreFault}
 use Rattle.rd_store.specs.declared.faults.StoreFault.TheVariants.{Sql}
-use Rattle.rd_store.specs.State.{Desk}
+use Rattle.rd_protocol.specs.State.{Desk}
 use Rattle.rd_store.specs.Spelled.{desk_of}
 use Rattle.rd_store.specs.Opened.{HoldsMarksIf}
 use Rattle.rd_store.specs.Held.{Holds, IsLeft, HoldsDesk, HoldsTables, HoldsCommonTables, Asks, Changes, Lasts, LeavesOnly, LeavesOpen, Reads, Rests, Stays, IsOpen, IsClean, desk}

@@ -3,13 +3,13 @@ pub mod Querying
 pub mod Orders
 pub mod Found
 pub mod FilesFound
+pub mod Indexing
 pub mod Single
 pub mod Changing
 pub mod Inside
 pub mod Whole
 pub mod Making
 pub mod Depositing
-pub mod Lawful
 pub mod Joined
 pub mod Creating
 pub mod Columns
@@ -17,7 +17,7 @@ pub mod Shapes
 pub mod Verdicts
 pub mod Sequels
 pub mod Listings
-pub mod RulesFor
+pub mod Rulebooks
 pub mod Searching
 pub mod Filed
 pub mod FilesTold
@@ -25,3 +25,4 @@ pub mod Brought
 pub mod Judged
 pub mod Registers
 pub mod Walked
+pub mod Maps

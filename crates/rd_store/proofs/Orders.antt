@@ -1,7 +1,7 @@
 -- The orders of the keys, and that columns spell the entry that they come from.
 use Rattle.std.proofs.Common.{◌≡◌, ◌+◌, ◌*◌, map, ◌/◌, ◌%◌, ap₂, ℕ, zero, suc, ℤ, pos, List, [], ◌∷◌, Bool, Option, Some, None, true, false, option_map, refl, arith, nat_cmp}
-use Rattle.std.specs.FinMap.{nat_cmp-IsAntisymmetric, int_cmp-IsAntisymmetric, slice_cmp-IsAntisymmetric}
-use Rattle.std.proofs.lemmas.Cmp.{nat_cmp_total, nat_list_cmp_total, int_cmp_total, then_total, on_total}
+use Rattle.std.specs.FinMap.{nat_cmp-IsAntisymmetric}
+use Rattle.std.proofs.lemmas.Cmp.{nat_cmp_total, then_total, on_total}
 use Rattle.sqlite.specs.declared.types.Value.TheVariants.{Int}
 use Rattle.sqlite.specs.Values.{or_null}
 use Rattle.sqlite_value.proofs.KeyLemmas.{then_tied}
@@ -15,47 +15,27 @@ use Rattle.rd_policy.specs.declared.rule.Effect.TheVariants.{Deny, List as Liste
 use Rattle.rd_policy.specs.declared.select.Select.{Select}
 use Rattle.rd_policy.specs.declared.select.Select.TheVariants.{All, Slot, Prefix, User, Kind as OfKind}
 use Rattle.rd_tables.proofs.Entries.{IsKeyOrder}
-use Rattle.rd_store.specs.declared.rows.Outcome.{Outcome}
-use Rattle.rd_store.specs.declared.rows.Outcome.TheVariants.{Sound, Changed}
-use Rattle.rd_store.specs.Codes.{kind_code, kind_in, band_code, band_in, effect_code, effect_in, audiences_code, audiences_in, audience_code, audience_in, outcome_code, outcome_in, how, number, word, select_in, day_in, number_in, units_code, units_in, class_code, class_in}
+use Rattle.rd_protocol.specs.declared.rows.Outcome.{Outcome}
+use Rattle.rd_protocol.specs.declared.rows.Outcome.TheVariants.{Sound, Changed}
+use Rattle.rd_store.specs.Codes.{kind_code, kind_in, band_in, effect_code, effect_in, audiences_code, audiences_in, audience_code, audience_in, outcome_code, outcome_in, how, number, word, select_in, day_in, number_in, units_code, units_in, class_code, class_in}
 use Rattle.rd_store.specs.Index.{FileAt, file_cmp}
-use Rattle.rd_store.specs.State.{Place, Terms, Checkup, place_cmp, digest_cmp, checkup_cmp}
+use Rattle.rd_protocol.specs.State.{Place, Terms, place_cmp, digest_cmp, checkup_cmp, band_code}
 use Rattle.rd_volume.specs.declared.found.Found.{Found}
 use Rattle.rd_store.specs.Spelled.{key_sheet, rule_sheet, file_sheet, file_shown, file_in}
+use Rattle.rd_protocol.proofs.KeyOrders.{number_order as numbers, digest_order as digests, place_order as places, checkup_order as checkups}
 
+-- the orders of the keys, as lemmas of tables take them
 pub number_order : IsKeyOrder nat_cmp
-number_order = record { total = nat_cmp_total; same = nat_cmp-IsAntisymmetric }
+number_order = record { total = numbers.total; same = numbers.same }
 
 pub digest_order : IsKeyOrder digest_cmp
-digest_order = record { total = nat_list_cmp_total; same = slice_cmp-IsAntisymmetric nat_cmp-IsAntisymmetric }
-
-pub same_band : (a b : Band) → band_code a ≡ band_code b → a ≡ b
-same_band Takedown Takedown e = refl
-same_band Takedown Deed e = absurd (omega (arith, e))
-same_band Deed Takedown e = absurd (omega (arith, e))
-same_band Deed Deed e = refl
+digest_order = record { total = digests.total; same = digests.same }
 
 pub place_order : IsKeyOrder place_cmp
-place_order = record {
-  total = then_total (on_total (λ (place : Place). band_code place.band) nat_cmp_total) (then_total (on_total (λ (place : Place). place.scope) nat_cmp_total) (on_total (λ (place : Place). place.rank) nat_cmp_total));
-  same = λ x y tied.
-      let first = then_tied _ _ tied in
-      let second = then_tied _ _ first.1 in
-      let band = same_band x.band y.band (nat_cmp-IsAntisymmetric _ _ first.0) in
-      let scope = nat_cmp-IsAntisymmetric _ _ second.0 in
-      let rank = nat_cmp-IsAntisymmetric _ _ second.1 in
-      λ i. record { band = band i; scope = scope i; rank = rank i };
-}
+place_order = record { total = places.total; same = places.same }
 
 pub checkup_order : IsKeyOrder checkup_cmp
-checkup_order = record {
-  total = then_total (on_total (λ (checkup : Checkup). checkup.acc) nat_cmp_total) (on_total (λ (checkup : Checkup). checkup.day) int_cmp_total);
-  same = λ x y tied.
-      let both = then_tied _ _ tied in
-      let acc = nat_cmp-IsAntisymmetric _ _ both.0 in
-      let day = int_cmp-IsAntisymmetric _ _ both.1 in
-      λ i. record { acc = acc i; day = day i };
-}
+checkup_order = record { total = checkups.total; same = checkups.same }
 
 pub file_order : IsKeyOrder file_cmp
 file_order = record {

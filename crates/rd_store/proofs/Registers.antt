@@ -24,7 +24,7 @@ use Rattle.rd_store.specs.declared.faults.StoreFault.{StoreFault}
 use Rattle.rd_store.specs.declared.faults.StoreFault.TheVariants.{Sql}
 use Rattle.rd_store.specs.declared.images.Heading.{Heading}
 use Rattle.rd_store.specs.declared.register.Register.{Register}
-use Rattle.rd_store.specs.declared.rows.ImageRow.{ImageRow}
+use Rattle.rd_protocol.specs.declared.rows.ImageRow.{ImageRow}
 use Rattle.rd_store.specs.Cells.{is_one_of}
 use Rattle.rd_store.specs.Created.{Turns}
 use Rattle.rd_store.specs.Held.{Changes, IsOf, IsOpen, Judges, Stays, desk}
@@ -32,9 +32,9 @@ use Rattle.rd_store.specs.Marks.{joined, kind_with, with_marks}
 use Rattle.rd_store.specs.Migrated.{first_desk}
 use Rattle.rd_store.specs.Opened.{AreKeys}
 use Rattle.rd_store.specs.Register.{IsPlaceIn, IsRegisterOf, IsSameHeading, entry_in, given_in, given_of, kept_of, listed, number_of, register_of}
-use Rattle.rd_store.specs.Shown.{accession_of, as_row, heading_of, registered}
+use Rattle.rd_store.specs.Shown.{as_row, heading_of}
 use Rattle.rd_store.specs.Spelled.{desk_of, image_sheet, marks_sheet}
-use Rattle.rd_store.specs.State.{Desk, HasOtherImage, put_or_kept, with_image}
+use Rattle.rd_protocol.specs.State.{Desk, HasOtherImage, put_or_kept, with_image, accession_of, registered}
 use Rattle.rd_store.specs.Walked.{image_told}
 use Rattle.rd_store.proofs.Columns.{one_of_shown, one_of_spelled}
 use Rattle.rd_store.proofs.Found.{row_back}

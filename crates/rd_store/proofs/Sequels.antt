@@ -16,10 +16,10 @@ use Rattle.rd_policy.specs.declared.rule.Band.{Band}
 use Rattle.rd_policy.specs.declared.rule.Band.TheVariants.{Takedown, Deed}
 use Rattle.rd_store.specs.declared.faults.OpenFault.{OpenFault}
 use Rattle.rd_store.specs.declared.faults.OpenFault.TheVariants.{NotADesk, Version, Inconsistent, Sql}
-use Rattle.rd_store.specs.declared.rows.ImageRow.{ImageRow}
-use Rattle.rd_store.specs.State.{Stands}
+use Rattle.rd_protocol.specs.declared.rows.ImageRow.{ImageRow}
+use Rattle.rd_protocol.specs.State.{Stands}
 use Rattle.rd_store.specs.Index.{IsFileIn, IsIndexOf}
-use Rattle.rd_store.specs.Lawful.{IsImage}
+use Rattle.rd_protocol.specs.Lawful.{IsImage}
 use Rattle.rd_store.specs.Marks.{AreMarksIn, joined, with_marks}
 use Rattle.rd_store.specs.Opened.{IsConsistent, IsConsistentAs, Denied, HasDisk, Judged, JudgedPart, AreKeys, AreNumbers, StandsAmong, StandsIn, IsImageOf, LawfulCommon, LawfulDeeds, LawfulFiles, LawfulImages, LawfulGiven, LawfulMarks, LawfulOthers, image_among, is_among, marks_if}
 use Rattle.rd_store.specs.Spelled.{HasVersion, desk_of, images_of, index_of, unmarked, deed_sheet, image_sheet, marks_sheet, file_sheet}

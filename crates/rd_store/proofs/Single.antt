@@ -9,8 +9,8 @@ use Rattle.sqlite.specs.State.{State, Executes, Survives, CommitsBy}
 use Rattle.sqlite.specs.Held.{Held, state}
 use Rattle.rd_tables.specs.Schemas.{desk_schema}
 use Rattle.rd_tables.proofs.Running.{IsWrite, Makes, write_fails, was_open, done_was_open, ran, committed}
-use Rattle.rd_store.specs.State.{Desk}
-use Rattle.rd_store.specs.Lawful.{IsLawful}
+use Rattle.rd_protocol.specs.State.{Desk}
+use Rattle.rd_protocol.specs.Lawful.{IsLawful}
 use Rattle.rd_store.specs.Spelled.{desk_of}
 use Rattle.rd_store.specs.Held.{IsOf, Holds, IsDeskAt, HoldsDesk, Changes, IsOpen, IsClean, desk}
 use Rattle.rd_store.proofs.Laws.{Laws, clean_at, lasts_of, leaves_only, left_is}

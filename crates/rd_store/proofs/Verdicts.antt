@@ -29,11 +29,11 @@ use Rattle.rd_tables.proofs.Lists.{map_map, in_map, from_map}
 use Rattle.rd_tables.proofs.Listed.{to_permuted, show, all_shown, each_shown, shown_each, rowids_apart, have_rowids, apart_by_rowids, row_got, got_row, rows_lawful, lawful_rows}
 use Rattle.rd_tables.proofs.Unique.{same_int, same_blob, agree_one, agree_two, agree_three, one_rule, one_key, one_check}
 use Rattle.rd_store.specs.Cells.{is_number, IsDeedRow, IsImageRow, IsRuleRow, IsKeyRow, IsCheckRow, IsMarksRow, IsStaffRow}
-use Rattle.rd_store.specs.Codes.{band_code, audience_code, audience_in}
-use Rattle.rd_store.specs.Lawful.{IsDeed, IsKey}
+use Rattle.rd_store.specs.Codes.{audience_code, audience_in}
+use Rattle.rd_protocol.specs.Lawful.{IsDeed, IsKey}
 use Rattle.rd_store.specs.Opened.{AreKeys, AreMarksOf, IsImageOf, IsRuleOf, IsCheckOf}
 use Rattle.rd_store.specs.Spelled.{HasVersion, deed_sheet, image_sheet, marks_sheet, rule_sheet, key_sheet, check_sheet}
-use Rattle.rd_store.specs.State.{Place, Checkup}
+use Rattle.rd_protocol.specs.State.{Place, Checkup, band_code}
 use Rattle.rd_store.proofs.Found.{any_has}
 use Rattle.rd_store.proofs.Columns.{number_spelled}
 use Rattle.rd_store.proofs.Orders.{number_order, place_order, digest_order, checkup_order}

@@ -1,5 +1,5 @@
 -- The numbers and texts by which columns stand for values.
-use Rattle.std.specs.Prelude.{ℕ, zero, suc, ◌+◌, ◌*◌, ◌/◌, ◌%◌, ◌==◌, ◌&&◌, ℤ, List, [], ◌∷◌, Bool, cond, flat_map, Option, Some, None}
+use Rattle.std.specs.Prelude.{ℕ, zero, suc, ◌+◌, ◌*◌, ◌/◌, ◌%◌, ◌==◌, ℤ, List, [], ◌∷◌, Bool, cond, flat_map, Option, Some, None}
 use Rattle.sqlite.specs.declared.types.Value.{Value}
 use Rattle.sqlite.specs.declared.types.Value.TheVariants.{Null, Int, Real, Text, Blob}
 use Rattle.rd_tables.specs.Sheets.{natural_of}
@@ -14,8 +14,8 @@ use Rattle.rd_policy.specs.declared.rule.Effect.{Effect}
 use Rattle.rd_policy.specs.declared.rule.Effect.TheVariants.{Deny, List as Listed, Read}
 use Rattle.rd_policy.specs.declared.select.Select.{Select}
 use Rattle.rd_policy.specs.declared.select.Select.TheVariants.{All, Slot, Prefix, User, Kind as OfKind}
-use Rattle.rd_store.specs.declared.rows.Outcome.{Outcome}
-use Rattle.rd_store.specs.declared.rows.Outcome.TheVariants.{Sound, Changed}
+use Rattle.rd_protocol.specs.declared.rows.Outcome.{Outcome}
+use Rattle.rd_protocol.specs.declared.rows.Outcome.TheVariants.{Sound, Changed}
 
 -- a D64 with error bytes has the number of one without: they stand in a table of their own
 abbrev pub kind_code : Kind → ℕ
@@ -27,17 +27,10 @@ abbrev pub kind_in : ℕ → Kind
 kind_in zero = Cpm8
 kind_in (suc code) = D64
 
-abbrev pub band_code : Band → ℕ
-band_code Takedown = 0
-band_code Deed = 1
-
+-- the number of a band is `band_code` of State in rd_protocol
 abbrev pub band_in : ℕ → Band
 band_in zero = Takedown
 band_in (suc code) = Deed
-
--- the rule stands in this band, for this number
-abbrev pub is_at : Band → ℕ → Band → ℕ → Bool
-is_at band scope other_band other_scope = (band_code other_band == band_code band) && (other_scope == scope)
 
 abbrev pub effect_code : Effect → ℕ
 effect_code Deny = 0

@@ -1,7 +1,5 @@
-pub mod State
 pub mod Codes
 pub mod Index
-pub mod Lawful
 pub mod Marks
 pub mod Spelled
 pub mod Held
@@ -12,4 +10,8 @@ pub mod Cells
 pub mod Opened
 pub mod Walked
 pub mod Migrated
-pub mod RulesFor
+pub mod Ruled
+pub mod Batched
+pub use Rattle.rd_protocol.specs.State
+pub use Rattle.rd_protocol.specs.Lawful
+pub use Rattle.rd_protocol.specs.RulesFor

@@ -5,9 +5,8 @@ use Rattle.sqlite.specs.Order.{Row}
 use Rattle.rd_policy.specs.declared.audience.Audience.{Audience}
 use Rattle.rd_policy.specs.declared.audience.Audience.TheVariants.{Staff}
 use Rattle.rd_store.specs.declared.images.Heading.{Heading}
-use Rattle.rd_store.specs.declared.rows.Accession.{Accession}
-use Rattle.rd_store.specs.declared.rows.DeedRow.{DeedRow}
-use Rattle.rd_store.specs.declared.rows.ImageRow.{ImageRow}
+use Rattle.rd_protocol.specs.declared.rows.DeedRow.{DeedRow}
+use Rattle.rd_protocol.specs.declared.rows.ImageRow.{ImageRow}
 use Rattle.rd_store.specs.Codes.{kind_code, kind_in, audience_code}
 use Rattle.rd_store.specs.Spelled.{key_sheet}
 
@@ -33,14 +32,6 @@ image_with heading bytes = record { kind = heading.kind; deed = heading.deed; di
 
 abbrev pub audience_shown : Audience → Row
 audience_shown audience = Int (pos (audience_code audience)) ∷ []
-
--- and without its digest
-abbrev pub accession_of : ImageRow → Accession
-accession_of image = record { kind = image.kind; deed = image.deed }
-
--- an accession with its number, its kind and its deed
-abbrev pub registered : ℕ × ImageRow → ℕ × Accession
-registered e = (e.0, accession_of e.1)
 
 -- a key of the staff with another digest
 abbrev pub IsOtherKey : List ℕ → List ℕ × Audience → Type 0

@@ -4,13 +4,13 @@ ghost use Rattle.sqlite.specs.Held.{state};
 ghost use Rattle.rd_policy.specs.Days.{IsDay};
 ghost use Rattle.rd_store.specs.Held.{Changes, HoldsDesk, IsOf, IsOpen, Judges, Moves, desk};
 ghost use Rattle.rd_store.specs.Register.{IsRegisterOf};
-ghost use Rattle.rd_store.specs.State.{with_check, without_check};
+ghost use Rattle.rd_protocol.specs.State.{with_check, without_check};
 
 use crate::faults::StoreFault;
 use crate::outside::outside;
 use crate::register::Register;
-use crate::rows::Outcome;
 use crate::{codes, images};
+use rd_protocol::Outcome;
 use sqlite::{Alter, Connection, Error, Transaction, params};
 
 /// Removes the finding of a check of an accession on a day, inside a transaction.

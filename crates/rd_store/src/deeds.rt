@@ -3,16 +3,16 @@ ghost use Rattle.std.specs.FinMap.{get};
 ghost use Rattle.std.specs.Option.{option_to_list};
 ghost use Rattle.sqlite.specs.Held.{state};
 ghost use Rattle.rd_store.specs.Held.{Asks, Changes, HoldsDesk, IsOpen, desk};
-ghost use Rattle.rd_store.specs.Lawful.{IsDeed};
+ghost use Rattle.rd_protocol.specs.Lawful.{IsDeed};
 ghost use Rattle.rd_store.specs.Shown.{deed_shown};
-ghost use Rattle.rd_store.specs.State.{with_deed};
+ghost use Rattle.rd_protocol.specs.State.{with_deed};
 
 use crate::decode::{day_at, text_at};
 use crate::faults::StoreFault;
 use crate::outside::outside;
 use crate::read::read_all;
-use crate::rows::DeedRow;
 use rd_geometry::Text;
+use rd_protocol::DeedRow;
 use sqlite::types::ToSql;
 use sqlite::{Alter, Connection, Error, Row, params};
 

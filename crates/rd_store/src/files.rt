@@ -109,7 +109,7 @@ fn read_file(alloc: Global, row: &Row) -> Result<Found, StoreFault>
 }
 
 /// The files that rows show.
-fn read_files(alloc: Global, rows: &[Row]) -> Result<Vec<Found>, StoreFault>
+pub(crate) fn read_files(alloc: Global, rows: &[Row]) -> Result<Vec<Found>, StoreFault>
     ensures files { IfOk result (λ files. files.items ≡ map file_in rows.now) }
     ensures fault { IfErr result (λ fault. fault ≡ StoreFault.Sql) }
 {

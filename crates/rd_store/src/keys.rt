@@ -4,10 +4,10 @@ ghost use Rattle.std.specs.FinMap.{entries, get};
 ghost use Rattle.std.specs.Option.{option_to_list};
 ghost use Rattle.sqlite.specs.Held.{state};
 ghost use Rattle.rd_store.specs.Held.{Asks, Changes, HoldsDesk, IsOf, IsOpen, Judges, Moves, desk};
-ghost use Rattle.rd_store.specs.Lawful.{IsKey};
+ghost use Rattle.rd_protocol.specs.Lawful.{IsKey};
 ghost use Rattle.rd_store.specs.Shown.{ShowsOther, audience_shown};
 ghost use Rattle.rd_store.specs.Spelled.{key_sheet};
-ghost use Rattle.rd_store.specs.State.{HasOtherStaff, IsLastStaff, with_key, without_key};
+ghost use Rattle.rd_protocol.specs.State.{HasOtherStaff, IsLastStaff, with_key, without_key};
 
 use crate::codes;
 use crate::decode::{audience, digest_at, number_at};

@@ -2,6 +2,7 @@
 //! store of `sqlite`.
 #![tactic(auto)]
 
+mod batches;
 mod cells;
 mod checks;
 mod codes;
@@ -15,15 +16,13 @@ mod filing;
 mod images;
 mod judging;
 mod keys;
-mod limits;
 mod marks;
 mod migrating;
 mod opening;
 mod outside;
 mod read;
 mod register;
-mod rows;
-mod rule_laws;
+mod rulebook;
 mod rules;
 mod store;
 mod tested;
@@ -32,7 +31,8 @@ mod walking;
 
 pub use crash_laws::left_desks_open;
 pub use faults::{CreateFault, OpenFault, Refused, StoreFault};
-pub use limits::is_donor;
-pub use rows::{Accession, DeedRow, ImageRow, Outcome};
-pub use rule_laws::{rules_are_in_order, rules_are_those};
+pub use rd_protocol::{
+    Accession, DeedRow, ImageRow, Indexed, Outcome, is_donor, rules_are_in_order, rules_are_those,
+};
+pub use rulebook::Rulebook;
 pub use store::{Store, memory_stays_open};

@@ -1,18 +1,18 @@
 //! The register: of each accession what is asked of its image beside its bytes, in memory.
 
-ghost use Rattle.std.specs.Prelude.{◌≡◌, ◌<◌, ◌≤◌, ℕ, [], IfOk, IfErr, None, OnOk, length, map, option_map, slice_index_or};
+ghost use Rattle.std.specs.Prelude.{◌≡◌, ◌<◌, ◌≤◌, ℕ, [], IfOk, IfErr, None, OnOk, drop, length, map, option_map, slice_index_or, take};
 ghost use Rattle.std.specs.List.{insert as insert_at};
 ghost use Rattle.std.specs.List.Sorted.{IsSearchInRange};
 ghost use Rattle.std.specs.Ordering.{nat_cmp};
 ghost use Rattle.std.specs.FinMap.{FinMap, get, insert};
 ghost use Rattle.rd_store.specs.declared.images.Heading.{Heading as Kept};
-ghost use Rattle.rd_store.specs.declared.rows.ImageRow.{ImageRow};
+ghost use Rattle.rd_protocol.specs.declared.rows.ImageRow.{ImageRow};
 ghost use Rattle.rd_store.specs.Register.{HasRoom, IsPlaceIn, given_in, given_of, kept_of, listed, number_of, register_of};
 ghost use Rattle.rd_store.specs.Shown.{heading_of};
 
 use crate::faults::StoreFault;
 use crate::images::Heading;
-use crate::rows::Accession;
+use rd_protocol::Accession;
 use std::alloc::Global;
 
 /// All accessions, ascending, each with what is kept of its image: 44 bytes.
@@ -114,6 +114,15 @@ impl Register {
             Some(entries) => entries.as_slice(),
             None => &[],
         }
+    }
+
+    /// The accessions from a place on, in their order and at most so many.
+    pub(crate) fn part(&self, from: usize, most: usize) -> &[(u32, Heading)]
+        ensures { result.now ≡ take most (drop from (listed self.now)) }
+    {
+        let entries = self.as_slice();
+        let rest = &entries[from.min(entries.len())..];
+        &rest[..most.min(rest.len())]
     }
 
     /// What is kept of an accession, `None` where it is not there.

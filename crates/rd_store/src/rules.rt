@@ -4,18 +4,19 @@ ghost use Rattle.sqlite.specs.Held.{state};
 ghost use Rattle.sqlite.specs.Order.{column};
 ghost use Rattle.sqlite_value.specs.Order.{bytes};
 ghost use Rattle.rd_tables.specs.Sheets.{natural};
-ghost use Rattle.rd_store.specs.Codes.{is_at, select_in};
+ghost use Rattle.rd_store.specs.Codes.{select_in};
 ghost use Rattle.rd_store.specs.Held.{Asks, Changes, HoldsDesk, IsOf, IsOpen, Judges, Moves, desk};
 ghost use Rattle.rd_store.specs.Register.{IsRegisterOf};
 ghost use Rattle.rd_store.specs.Spelled.{rule_sheet};
 ghost use Rattle.rd_policy.specs.Rules.{IsRule};
-ghost use Rattle.rd_store.specs.State.{Stands, place_of, rule_of, rules_at, rules_for as rules_for_accession, terms_of, with_rule, without_rule};
+ghost use Rattle.rd_protocol.specs.State.{Stands, all_rules as all_rules_of, place_of, rule_of, rules_at, rules_for as rules_for_accession, terms_of, with_rule, without_rule, is_at};
 
 use crate::decode::{audiences, band, effect, number_at, select, some_day_at, text_at};
 use crate::faults::StoreFault;
 use crate::outside::outside;
 use crate::read::read_all;
 use crate::register::Register;
+use crate::rulebook::Rulebook;
 use crate::{codes, deeds, images};
 use rd_policy::{Band, Rule, Select};
 use sqlite::types::ToSql;
@@ -116,6 +117,38 @@ pub(crate) fn rules_of<S: Alter>(
 {
     let rows = rule_rows(conn, band, scope)?;
     read_rules(alloc, &rows)
+}
+
+/// The rows for all rules, by place.
+fn place_rows<S: Alter>(conn: &mut Connection<S>) -> Result<Vec<Row>, StoreFault>
+    requires holds { HoldsDesk (state S.Store conn.old) }
+    ensures asks { Asks S.Store conn.old conn.new result StoreFault.Sql (λ rows.
+        rows.items ≡ map rule_sheet.columns (entries (desk S.Store conn.old).rules)) }
+    ensures kept { HoldsDesk (state S.Store conn.new) }
+{
+    read_all(
+        conn,
+        "SELECT band, scope, rank, audiences, day_from, day_until, how, number, word, effect FROM rule ORDER BY band, scope, rank",
+        &[],
+    )
+}
+
+/// All rules, by place.
+pub(crate) fn all_rules<S: Alter>(
+    alloc: Global,
+    conn: &mut Connection<S>,
+) -> Result<Rulebook, StoreFault>
+    requires holds { HoldsDesk (state S.Store conn.old) }
+    ensures asks { Asks S.Store conn.old conn.new result StoreFault.Sql (λ rules.
+        rules ≡ all_rules_of (desk S.Store conn.old)) }
+    ensures kept { HoldsDesk (state S.Store conn.new) }
+{
+    let rows = place_rows(conn)?;
+    let rules = read_rules(alloc, &rows)?;
+    match Rulebook::of(rules) {
+        Some(rulebook) => Ok(rulebook),
+        None => Err(StoreFault::Sql),
+    }
 }
 
 /// Takes a rule away, if it is there.

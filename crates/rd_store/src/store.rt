@@ -1,27 +1,29 @@
-ghost use Rattle.std.specs.Prelude.{◌≡◌, ◌≢◌, ◌++◌, ⊤, false, IfOk, IfErr, IsSome, map, option_map};
+ghost use Rattle.std.specs.Prelude.{◌≡◌, ◌≢◌, ◌++◌, ⊤, false, IfOk, IfErr, IsSome, drop, map, option_map, take};
+ghost use Rattle.std.specs.List.{AllZip};
 ghost use Rattle.std.specs.FinMap.{entries, get, keys};
 ghost use Rattle.sqlite.specs.Held.{Held, state};
 ghost use Rattle.sqlite_trees.specs.declared.memory.MemStore.{MemStore};
 ghost use Rattle.rd_policy.specs.Days.{IsDay};
 ghost use Rattle.rd_policy.specs.Rules.{IsRule};
 ghost use Rattle.rd_policy.specs.Verdicts.{AreInOrder};
+ghost use Rattle.rd_store.specs.Batched.{IsIndexed};
 ghost use Rattle.rd_store.specs.Created.{IsCreated, IsNotCreated};
 ghost use Rattle.sqlite.specs.Steps.{over_memory};
 ghost use Rattle.rd_store.specs.Held.{Changes, HoldsDesk, IsClean, IsOpen, Judges, Reads, Rests, desk};
 ghost use Rattle.rd_store.specs.Index.{AreFilesIn, IsFileIn};
 ghost use Rattle.rd_store.specs.Migrated.{IsMigrated, IsNotMigrated};
 ghost use Rattle.rd_store.specs.Opened.{IsNotOpened, IsOpened};
-ghost use Rattle.rd_store.specs.Shown.{accession_of, registered};
-ghost use Rattle.rd_store.specs.Lawful.{IsDeed, IsImage, IsKey};
-ghost use Rattle.rd_store.specs.State.{HasOtherImage, IsLastStaff, Stands, place_of, rules_at, rules_for, terms_of, with_check, with_deed, with_image, with_key, with_rule, without_key, without_rule};
+ghost use Rattle.rd_protocol.specs.Lawful.{IsDeed, IsImage, IsKey};
+ghost use Rattle.rd_protocol.specs.State.{HasOtherImage, IsLastStaff, Stands, all_rules, place_of, rules_at, rules_for, terms_of, with_check, with_deed, with_image, with_key, with_rule, without_key, without_rule, accession_of, registered};
 
 use crate::faults::{CreateFault, OpenFault, Refused, StoreFault};
 use crate::images::Heading;
 use crate::register::Register;
-use crate::rows::{Accession, DeedRow, ImageRow, Outcome};
-use crate::{checks, create, deeds, files, images, judging, keys, migrating, rules};
+use crate::rulebook::Rulebook;
+use crate::{batches, checks, create, deeds, files, images, judging, keys, migrating, rules};
 use rd_geometry::Kind;
 use rd_policy::{Audience, Band, Rule};
+use rd_protocol::{Accession, DeedRow, ImageRow, Indexed, Outcome};
 use rd_tables::{has_desk as has_desk_table, is_blank};
 use rd_volume::Found;
 use sqlite::{Alter, Connection};
@@ -230,6 +232,22 @@ impl<S: Alter> Store<S> {
         images::givens(alloc, &mut self.conn, &self.register)
     }
 
+    /// At most `most` accessions, ascending, from the place `from` among all of them, counted from 0: each with its
+    /// kind, its deed, and its files as `found` gives them. One query gives all their files, and no image is read.
+    ///
+    /// It fails with `Sql`.
+    pub fn batch(
+        &mut self,
+        alloc: Global,
+        from: usize,
+        most: usize,
+    ) -> Result<Vec<Indexed>, StoreFault>
+        ensures reads { Reads S.Store self.old self.new result (λ batch.
+            AllZip IsIndexed (take most (drop from (entries (desk S.Store self.old).images))) batch.items) }
+    {
+        batches::batch(alloc, &mut self.conn, &self.register, from, most)
+    }
+
     /// The audience of the desk key that has a digest, its SHA-256; `None` where there is no such key.
     ///
     /// It fails with `Sql`.
@@ -384,6 +402,16 @@ impl<S: Alter> Store<S> {
         ensures order { IsOpen S.Store self.new → IfOk result (λ rules. AreInOrder rules.items) }
     {
         rules::rules_of_both(alloc, &mut self.conn, acc, deed)
+    }
+
+    /// All rules, in which `Rulebook::under` finds those of an accession and a deed. It is one query.
+    ///
+    /// It fails with `Sql`.
+    pub fn rulebook(&mut self, alloc: Global) -> Result<Rulebook, StoreFault>
+        ensures reads { Reads S.Store self.old self.new result (λ rules.
+            rules ≡ all_rules (desk S.Store self.old)) }
+    {
+        rules::all_rules(alloc, &mut self.conn)
     }
 }
 

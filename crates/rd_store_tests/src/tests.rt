@@ -187,6 +187,8 @@ const FILLED: &[Step<'static>] = &[
     Step::Tells(Question::Register(&[(12, COMMODORE)])),
     Step::Tells(Question::Files(12, &[HELLO])),
     Step::Tells(Question::FileAt(12, 0, Some(HELLO))),
+    Step::Tells(Question::Batch(0, 16, &[(12, COMMODORE, &[HELLO])])),
+    Step::Tells(Question::RulesAmong(12, 7, &[], &[(Named::Closed, 7), (Named::Open, 7)])),
 ];
 
 /// Puts what `FILL` puts.

@@ -6,7 +6,7 @@ use Rattle.std.specs.List.Sorted.{IsPermutation, IsStrictlySortedBy}
 use Rattle.std.specs.Ordering.{eq_by_cmp}
 use Rattle.std.specs.Cmp.{IsTotalOrder}
 use Rattle.std.specs.FinMap.{FinMap, get, entries, entries_sorted, get-entries, insert, remove, from_entries, retain_keys, same_map, get-insert, get-remove, get-from_entries, get-retain_keys, IsAntisymmetric}
-use Rattle.std.specs.FinMap.Entries.{find, is_sorted, below_all, where_key}
+use Rattle.std.specs.FinMap.Entries.{find, find-where_key, is_sorted, is_sorted-where_key, below_all, same_entries, where_key}
 use Rattle.std.proofs.lemmas.Bool.{cases_Bool}
 use Rattle.std.proofs.lemmas.Cmp.{eq_by_cmp_equiv}
 use Rattle.std.proofs.lemmas.List.Sorted.{length_permutation, IsPermutation-map}
@@ -90,6 +90,13 @@ module _ {K X : Type 0} (cmp : K → K → Ordering) (order : IsKeyOrder cmp) wh
 
   pub retain_all : (m : FinMap cmp X) → retain_keys m (λ _. true) ≡ m
   retain_all m = same_map order.total order.same _ m (λ q. get-retain_keys m (λ _. true) q (λ x tied. refl))
+
+  -- the entries whose keys pass
+  pub entries_retained : (m : FinMap cmp X) (p : K → Bool) → entries (retain_keys m p) ≡ where_key cmp p (entries m)
+  entries_retained m p =
+      let alike = λ (q x : K) (tied : cmp q x ≡ Equal). ap p (sym (order.same q x tied)) in
+      same_entries cmp order.total order.same (entries (retain_keys m p)) (where_key cmp p (entries m)) (entries_sorted (retain_keys m p)) (is_sorted-where_key cmp p (entries m) (entries_sorted m))
+      (λ q. sym (get-entries (retain_keys m p) q) ∙ get-retain_keys m p q (alike q) ∙ ap (λ o. cond (p q) o None) (get-entries m q) ∙ sym (find-where_key cmp p q (alike q) (entries m)))
 
   below : (x : K) (es : List (K × X)) → AllByRecursion (λ y. cmp x y ≡ Less) (keys_of es) → T (below_all cmp x es)
   below x [] all = tt

@@ -17,4 +17,5 @@ pub mod Running
 pub mod Statements
 pub mod Listed
 pub mod Walking
+pub mod Parted
 pub mod Unique

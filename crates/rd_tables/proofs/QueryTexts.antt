@@ -15,7 +15,7 @@ use Rattle.sqlite.proofs.Callers.{IsPlain, command_of}
 use Rattle.sqlite_tied.specs.Compute.{everything}
 use Rattle.rd_tables.specs.Asked.{asks_of, at_most}
 use Rattle.rd_tables.specs.Schemas.{desk_schema, desk_with, starts_with_desk}
-use Rattle.rd_tables.specs.Queries.{deed_text, deed_query, image_text, image_query, marks_text, marks_query, audience_text, audience_query, rules_text, rules_query, keys_text, keys_query, all_deeds_text, all_deeds_query, all_rules_text, all_rules_query, all_keys_text, all_keys_query, all_checks_text, all_checks_query, file_text, file_query, files_text, files_query, all_files_text, all_files_query, all_marks_text, all_marks_query, first_images_text, all_images_query, next_images_text, later_images_query, version_text, version_query}
+use Rattle.rd_tables.specs.Queries.{deed_text, deed_query, image_text, image_query, marks_text, marks_query, audience_text, audience_query, rules_text, rules_query, keys_text, keys_query, all_deeds_text, all_deeds_query, all_rules_text, all_rules_query, placed_rules_text, placed_rules_query, batch_text, batch_query, all_keys_text, all_keys_query, all_checks_text, all_checks_query, file_text, file_query, files_text, files_query, all_files_text, all_files_query, all_marks_text, all_marks_query, first_images_text, all_images_query, next_images_text, later_images_query, version_text, version_query}
 
 -- Over these tables the text asks this of the rows on one tree.
 pub record AsksOver (schema : Schema) (text : List ℕ) (tree : ℕ) (tests shown : List Term) (order : List (Term × Key)) : Type 0 where
@@ -75,6 +75,16 @@ rules_asks = record {
   here = λ trees. refl;
 }
 
+pub placed_rules_asks : AsksBy placed_rules_text 3 placed_rules_query
+unfolding understood everything
+placed_rules_asks = record {
+  names = codes "band" ∷ codes "scope" ∷ codes "rank" ∷ codes "audiences" ∷ codes "day_from" ∷ codes "day_until" ∷ codes "how" ∷ codes "number" ∷ codes "word" ∷ codes "effect" ∷ [];
+  means = refl;
+  plain = (refl, refl);
+  stored = refl;
+  here = λ trees. refl;
+}
+
 pub keys_asks : AsksBy keys_text 5 keys_query
 unfolding understood everything
 keys_asks = record { names = codes "digest" ∷ codes "audience" ∷ []; means = refl; plain = (refl, refl); stored = refl; here = λ trees. refl }
@@ -106,6 +116,16 @@ file_asks = record { names = file_names; means = refl; plain = (refl, refl); sto
 pub files_asks : AsksInEach files_text 9 files_query
 unfolding understood everything file_names
 files_asks more = record { names = file_names; means = refl; plain = (refl, refl); stored = refl; here = λ trees. refl }
+
+pub batch_asks : AsksBy batch_text 9 batch_query
+unfolding understood everything
+batch_asks = record {
+  names = codes "slot" ∷ codes "name" ∷ codes "ty" ∷ codes "user_no" ∷ codes "served" ∷ codes "size" ∷ codes "faults" ∷ codes "units" ∷ codes "last_len" ∷ codes "acc" ∷ [];
+  means = refl;
+  plain = (refl, refl);
+  stored = refl;
+  here = λ trees. refl;
+}
 
 pub all_files_asks : AsksInEach all_files_text 9 all_files_query
 unfolding understood everything

@@ -1,6 +1,6 @@
 -- How columns take values, and when a parameter equals a column.
-use Rattle.std.proofs.Common.{◌≡◌, ℕ, ℤ, pos, List, Bool, true, false, cond, Option, Some, None, refl, sym, ap, ◌∙◌, arith, nat_cmp, int_cmp, is_eq}
-use Rattle.std.specs.Ordering.{eq_by_cmp, is_gt}
+use Rattle.std.proofs.Common.{◌≡◌, ℕ, ℤ, pos, List, Bool, true, false, cond, Option, Some, None, refl, sym, ap, ◌∙◌, arith, nat_cmp, nat_le, int_cmp, is_eq}
+use Rattle.std.specs.Ordering.{eq_by_cmp, is_ge, is_gt, is_le}
 use Rattle.std.specs.Cmp.Lexicographic.{slice_cmp}
 use Rattle.std.proofs.lemmas.Cmp.{int_cmp_total, nat_list_cmp_total, eq_by_cmp_equiv}
 use Rattle.std.proofs.lemmas.Bool.Decides.{nat_tests}
@@ -15,7 +15,7 @@ use Rattle.sqlite.specs.Values.{or_null}
 use Rattle.sqlite_schema.specs.Rules.{equal}
 use Rattle.sqlite_sql.specs.Ops.{binary, is_true, from_truth}
 use Rattle.sqlite_sql.specs.declared.ops.BinaryOp.TheVariants.{Compare}
-use Rattle.sqlite_sql.specs.declared.ops.CompareOp.TheVariants.{Eq, Gt}
+use Rattle.sqlite_sql.specs.declared.ops.CompareOp.TheVariants.{Eq, Ge, Gt, Le}
 use Rattle.sqlite_value.proofs.OrderLemmas.{value_cmp-Int, value_cmp-Blob, value_cmp-Null}
 
 either : (b : Bool) (x : Value) → cond b x x ≡ x
@@ -48,6 +48,14 @@ same_numbers a b = ap is_eq (value_cmp-Int (pos a) (pos b)) ∙ grind (arith, na
 pub equal_numbers : (a b : ℕ) → is_true (binary (Compare Eq Binary) (Int (pos a)) (Int (pos b))) ≡ eq_by_cmp nat_cmp b a
 unfolding binary
 equal_numbers a b = truth_kept _ ∙ same_numbers a b
+
+pub least_numbers : (a b : ℕ) → is_true (binary (Compare Ge Binary) (Int (pos a)) (Int (pos b))) ≡ nat_le b a
+unfolding binary
+least_numbers a b = truth_kept _ ∙ ap is_ge (value_cmp-Int (pos a) (pos b)) ∙ grind (arith, nat_tests)
+
+pub most_numbers : (a b : ℕ) → is_true (binary (Compare Le Binary) (Int (pos a)) (Int (pos b))) ≡ nat_le a b
+unfolding binary
+most_numbers a b = truth_kept _ ∙ ap is_le (value_cmp-Int (pos a) (pos b)) ∙ grind (arith, nat_tests)
 
 pub equal_integers : (a b : ℤ) → is_true (binary (Compare Eq Binary) (Int a) (Int b)) ≡ eq_by_cmp int_cmp b a
 unfolding binary

@@ -7,7 +7,7 @@ use Rattle.sqlite_trees.specs.View.{is_int}
 use Rattle.sqlite_rules.specs.Edit.{id_in}
 use Rattle.sqlite_sql.specs.Term.{Term, lit, col, op2, holds}
 use Rattle.sqlite_sql.specs.declared.ops.BinaryOp.TheVariants.{Compare}
-use Rattle.sqlite_sql.specs.declared.ops.CompareOp.TheVariants.{Eq, Gt}
+use Rattle.sqlite_sql.specs.declared.ops.CompareOp.TheVariants.{Eq, Ge, Gt, Le}
 use Rattle.sqlite.specs.Query.{Query, inner, end, Output, output, output_cmp}
 use Rattle.sqlite.specs.Collation.TheVariants.{Binary}
 use Rattle.sqlite_value.specs.declared.keys.Key.{Key}
@@ -37,6 +37,13 @@ equals place parameter = op2 (Compare Eq Binary) (col 1 place) (col 0 parameter)
 -- and is greater than one
 abbrev pub greater : ℕ → ℕ → Term
 greater place parameter = op2 (Compare Gt Binary) (col 1 place) (col 0 parameter)
+
+-- and is one or greater, and is one or less
+abbrev pub at_least : ℕ → ℕ → Term
+at_least place parameter = op2 (Compare Ge Binary) (col 1 place) (col 0 parameter)
+
+abbrev pub no_more : ℕ → ℕ → Term
+no_more place parameter = op2 (Compare Le Binary) (col 1 place) (col 0 parameter)
 
 -- the same query, which shows no more rows than these
 abbrev pub at_most : ℕ → Query → Query

@@ -3,7 +3,7 @@ use Rattle.std.specs.Prelude.{ℕ, List, [], ◌∷◌, codes}
 use Rattle.sqlite.specs.Term.{Term, col, op1}
 use Rattle.sqlite_sql.specs.declared.ops.UnaryOp.TheVariants.{Length, TypeOf}
 use Rattle.sqlite.specs.Query.{Query}
-use Rattle.rd_tables.specs.Asked.{asks_of, equals, greater, rising}
+use Rattle.rd_tables.specs.Asked.{asks_of, at_least, equals, greater, no_more, rising}
 use Rattle.rd_tables.specs.Statements.{by_digest}
 
 -- ---- the entry of one key
@@ -57,6 +57,22 @@ rules_text = codes "SELECT band, scope, rank, audiences, day_from, day_until, ho
 abbrev pub rules_query : Query
 rules_query = asks_of 3 (equals 1 0 ∷ equals 2 1 ∷ [])
     (col 1 1 ∷ col 1 2 ∷ col 1 3 ∷ col 1 4 ∷ col 1 5 ∷ col 1 6 ∷ col 1 7 ∷ col 1 8 ∷ col 1 9 ∷ col 1 10 ∷ []) ((col 1 3, rising) ∷ [])
+
+-- all rules: takedowns before those of deeds, then the lower number, then the lower rank
+abbrev pub placed_rules_text : List ℕ
+placed_rules_text = codes "SELECT band, scope, rank, audiences, day_from, day_until, how, number, word, effect FROM rule ORDER BY band, scope, rank"
+
+abbrev pub placed_rules_query : Query
+placed_rules_query = asks_of 3 []
+    (col 1 1 ∷ col 1 2 ∷ col 1 3 ∷ col 1 4 ∷ col 1 5 ∷ col 1 6 ∷ col 1 7 ∷ col 1 8 ∷ col 1 9 ∷ col 1 10 ∷ []) ((col 1 1, rising) ∷ (col 1 2, rising) ∷ (col 1 3, rising) ∷ [])
+
+-- the files of the accessions from one to another, each with its accession last
+abbrev pub batch_text : List ℕ
+batch_text = codes "SELECT slot, name, ty, user_no, served, size, faults, units, last_len, acc FROM found WHERE acc >= ?1 AND acc <= ?2 ORDER BY acc, slot"
+
+abbrev pub batch_query : Query
+batch_query = asks_of 9 (at_least 1 0 ∷ no_more 1 1 ∷ [])
+    (col 1 2 ∷ col 1 3 ∷ col 1 4 ∷ col 1 5 ∷ col 1 6 ∷ col 1 7 ∷ col 1 8 ∷ col 1 9 ∷ col 1 10 ∷ col 1 1 ∷ []) ((col 1 1, rising) ∷ (col 1 2, rising) ∷ [])
 
 abbrev pub keys_text : List ℕ
 keys_text = codes "SELECT digest, audience FROM badge ORDER BY digest"

@@ -166,6 +166,40 @@ const THREE_FILES_OF_17: Wanted = Wanted::Json(
     r#"{"images":[{"accession":12,"deed":7,"files":1,"kind":"d64"},{"accession":17,"deed":7,"files":3,"kind":"d64"}]}"#,
 );
 
+/// Takes down all files of accession 28 for all but the staff.
+const ALL_28: NewRule = like!(NewRule, TAKEDOWN, scope: 28, files: Files::All);
+
+/// 18 accessions, of which the public sees no file of one.
+const MANY: &[Case] = &[Case {
+    label: "more accessions than are read at one time",
+    before: &[
+        Ask::PutImage(like!(NewImage, HELLO_15, acc: 21)),
+        Ask::PutImage(like!(NewImage, HELLO_15, acc: 22)),
+        Ask::PutImage(like!(NewImage, HELLO_15, acc: 23)),
+        Ask::PutImage(like!(NewImage, HELLO_15, acc: 24)),
+        Ask::PutImage(like!(NewImage, HELLO_15, acc: 25)),
+        Ask::PutImage(like!(NewImage, HELLO_15, acc: 26)),
+        Ask::PutImage(like!(NewImage, HELLO_15, acc: 27)),
+        Ask::PutImage(like!(NewImage, HELLO_15, acc: 28)),
+        Ask::PutImage(like!(NewImage, HELLO_15, acc: 29)),
+        Ask::PutImage(like!(NewImage, HELLO_15, acc: 30)),
+        Ask::PutImage(like!(NewImage, HELLO_15, acc: 31)),
+        Ask::PutImage(like!(NewImage, HELLO_15, acc: 32)),
+        Ask::PutImage(like!(NewImage, HELLO_15, acc: 33)),
+        Ask::PutImage(like!(NewImage, HELLO_15, acc: 34)),
+        Ask::PutImage(like!(NewImage, HELLO_15, acc: 35)),
+        Ask::PutImage(like!(NewImage, HELLO_15, acc: 36)),
+        Ask::PutImage(like!(NewImage, HELLO_15, acc: 37)),
+        Ask::PutRule(ALL_28),
+    ],
+    visits: &[(PUBLIC, AFTER, Ask::Images, ALL_BUT_28)],
+}];
+
+const ALL_BUT_28: Wanted = Wanted::Json(
+    200,
+    r#"{"images":[{"accession":12,"deed":7,"files":1,"kind":"d64"},{"accession":21,"deed":7,"files":1,"kind":"cpm8"},{"accession":22,"deed":7,"files":1,"kind":"cpm8"},{"accession":23,"deed":7,"files":1,"kind":"cpm8"},{"accession":24,"deed":7,"files":1,"kind":"cpm8"},{"accession":25,"deed":7,"files":1,"kind":"cpm8"},{"accession":26,"deed":7,"files":1,"kind":"cpm8"},{"accession":27,"deed":7,"files":1,"kind":"cpm8"},{"accession":29,"deed":7,"files":1,"kind":"cpm8"},{"accession":30,"deed":7,"files":1,"kind":"cpm8"},{"accession":31,"deed":7,"files":1,"kind":"cpm8"},{"accession":32,"deed":7,"files":1,"kind":"cpm8"},{"accession":33,"deed":7,"files":1,"kind":"cpm8"},{"accession":34,"deed":7,"files":1,"kind":"cpm8"},{"accession":35,"deed":7,"files":1,"kind":"cpm8"},{"accession":36,"deed":7,"files":1,"kind":"cpm8"},{"accession":37,"deed":7,"files":1,"kind":"cpm8"}]}"#,
+);
+
 const FIRST: NewImage =
     like!(NewImage, PROGRAM_12, acc: 1, kind: Kind::Cpm8, bytes: Picture::Hello, digest: Picture::Hello);
 
@@ -248,6 +282,11 @@ fn each_audience_sees_what_the_rules_let_it(rt: HostRuntime) -> Result<(), Fail>
 #[test]
 fn disks_are_listed_and_served(rt: HostRuntime) -> Result<(), Fail> {
     assert_cases(&rt, rt.alloc(), DISKS)
+}
+
+#[test]
+fn all_accessions_are_shown(rt: HostRuntime) -> Result<(), Fail> {
+    assert_cases(&rt, rt.alloc(), MANY)
 }
 
 #[test]

@@ -3,7 +3,7 @@
 
 use rd_desk::{
     Body, Contents, Form, ImageLine, Line, Listing, Outcome, Refusal, Reply, Said, Survey,
-    reply_to, unavailable,
+    fixed_reply, reply_to, unavailable,
 };
 use rd_geometry::{Items, Kind, NoMemory, Text};
 use rd_policy::{Effect, Label, Verdict};
@@ -18,6 +18,8 @@ use std::test::Fail;
 #[derive(Clone, Copy)]
 enum Told<'a> {
     Unavailable,
+    /// A text of the program itself, with a status.
+    Fixed(u16, &'static str),
     Refused(Refusal),
     Done,
     /// Accessions: number, deed, kind, and how many files.
@@ -235,6 +237,12 @@ const REFUSALS: &[Case<'static>] = &[
         Form::Json,
         "{\"error\":\"unavailable\"}",
     ),
+    (
+        Told::Fixed(404, "{\"error\":\"no-route\"}"),
+        404,
+        Form::Json,
+        "{\"error\":\"no-route\"}",
+    ),
 ];
 
 const ANSWERS: &[Case<'static>] = &[
@@ -450,6 +458,7 @@ fn contents(alloc: Global, bytes: &str) -> Result<Contents, NoMemory> {
 fn reply(alloc: Global, told: Told<'_>) -> Result<Reply, NoMemory> {
     let said = match told {
         Told::Unavailable => return Ok(unavailable()),
+        Told::Fixed(status, text) => return Ok(fixed_reply(status, text)),
         Told::Refused(refusal) => Said::Refused(refusal),
         Told::Done => Said::Done,
         Told::Images(images) => Said::Images(image_lines(alloc, images)?),

@@ -67,7 +67,7 @@ where
     let mut client = TcpStream::connect(rt, listener.local_addr()?)?;
     client.write_all(bytes_of(rt.alloc(), came)?.as_slice())?;
     client.shutdown(Shutdown::Write)?;
-    let mut door = TcpDoor::new(listener, Standing(clock));
+    let mut door = TcpDoor::new(rt.alloc(), listener, Standing(clock));
     assert_eq!(rt;
         serve_in_memory(rt.alloc(), &mut door, desk, 1),
         served,

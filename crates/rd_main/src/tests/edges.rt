@@ -4,7 +4,7 @@ use super::fakes::{Bare, End, Stumbling};
 use super::sheets::HEADER;
 use super::{Ran, is_refused};
 use crate::host::Host;
-use rd_program::{Machine, MachineFault, run};
+use rd_program::{Files, MachineFault, run};
 use rd_rows::cpm::hello;
 use std::alloc::{Alloc, Global};
 use std::test::Fail;

@@ -3,7 +3,7 @@
 ghost use Rattle.std.specs.Prelude.{None};
 
 use rd_http::MemoryDoor;
-use rd_program::{Machine, MachineFault};
+use rd_program::{Files, Machine, MachineFault};
 use rd_rows::cbm::one_program;
 use sqlite::{Alter, Connection, MemStore};
 use std::alloc::{AllocError, Global};
@@ -104,6 +104,16 @@ impl Write for Stumbling {
 #[derive(Drop)]
 pub(crate) struct Bare;
 
+impl Files for Bare {
+    fn read_file(&mut self, _alloc: Global, _path: &str) -> Result<Vec<u8>, MachineFault> {
+        Err(MachineFault::Failed)
+    }
+
+    fn read_sheet(&mut self, _alloc: Global, _path: &str) -> Result<Vec<u8>, MachineFault> {
+        Err(MachineFault::Failed)
+    }
+}
+
 impl Machine for Bare {
     type Disk = MemStore;
 
@@ -112,14 +122,6 @@ impl Machine for Bare {
     ghost stands = { λ _ _. None };
 
     ghost left = { λ _. None };
-
-    fn read_file(&mut self, _alloc: Global, _path: &str) -> Result<Vec<u8>, MachineFault> {
-        Err(MachineFault::Failed)
-    }
-
-    fn read_sheet(&mut self, _alloc: Global, _path: &str) -> Result<Vec<u8>, MachineFault> {
-        Err(MachineFault::Failed)
-    }
 
     fn connect(&mut self, _path: &str) -> Result<Connection<MemStore>, MachineFault> {
         Err(MachineFault::Failed)
@@ -181,15 +183,7 @@ pub(crate) struct Museum<S: Alter + Drop = MemStore> {
     pub(crate) sheet: Sheet,
 }
 
-impl<S: Alter + Drop> Machine for Museum<S> {
-    type Disk = S;
-
-    type Door = MemoryDoor;
-
-    ghost stands = { λ machine _. machine.conn };
-
-    ghost left = { λ machine. machine.conn };
-
+impl<S: Alter + Drop> Files for Museum<S> {
     fn read_file(&mut self, alloc: Global, path: &str) -> Result<Vec<u8>, MachineFault> {
         image_at(alloc, path)
     }
@@ -203,6 +197,16 @@ impl<S: Alter + Drop> Machine for Museum<S> {
             Sheet::Fails(fault) => Err(fault),
         }
     }
+}
+
+impl<S: Alter + Drop> Machine for Museum<S> {
+    type Disk = S;
+
+    type Door = MemoryDoor;
+
+    ghost stands = { λ machine _. machine.conn };
+
+    ghost left = { λ machine. machine.conn };
 
     /// It also fails at a path without a store, and if the store has not come back, or is inside a
     /// transaction.

@@ -1,13 +1,14 @@
 //! The files of images, as the index of a desk tells them.
 
 use super::steps::{
-    CONFLICT, Call, Case, DONE, Digest, MISSING, Named, Picture, Question, Start, Step,
+    COMMODORE, CONFLICT, Call, Case, DONE, Digest, MISSING, Named, Picture, Question, Start, Step,
     assert_cases, assert_steps, started,
 };
 use super::told::{A, B, C, DATA, FILE, HELLO, HELLO_TXT, LONG, LOOP, LOST, SEPARATOR};
 use super::{CPM, LOOPED, PROGRAM, into_connection, number};
+use rd_geometry::Kind;
 use rd_policy::Band;
-use rd_store::Outcome;
+use rd_store::{Accession, Outcome};
 use sqlite::{Connection, MemStore};
 use std::process::Abort;
 use std::test::Fail;
@@ -85,6 +86,59 @@ const FILES: &[Case] = &[
             Step::Tells(Question::Files(18, &[LONG])),
             Step::Tells(Question::Files(19, &[FILE])),
             Step::Tells(Question::FileAt(19, 0, Some(FILE))),
+        ],
+    },
+];
+
+/// A CP/M disk under deed 7.
+const CONTROL_PROGRAM: Accession = Accession {
+    kind: Kind::Cpm8,
+    deed: 7,
+};
+
+/// Accessions with their files, from a place on.
+const BATCHES: &[Case] = &[
+    Case {
+        label: "a new desk has no accessions",
+        start: Start::New,
+        steps: &[
+            Step::Tells(Question::Batch(0, 16, &[])),
+            Step::Tells(Question::Batch(1, 16, &[])),
+        ],
+    },
+    Case {
+        label: "from each place on, and so many",
+        start: Start::Shelved,
+        steps: &[
+            Step::Does(Call::PutImage(13, (Picture::Mixed, 7, Digest::Other)), DONE),
+            Step::Does(
+                Call::PutImage(17, (Picture::Formatted, 7, Digest::Other)),
+                DONE,
+            ),
+            Step::Tells(Question::Batch(
+                0,
+                16,
+                &[
+                    (12, COMMODORE, &[HELLO]),
+                    (13, COMMODORE, &[DATA, SEPARATOR, LOST]),
+                    (14, COMMODORE, &[LOOP]),
+                    (15, CONTROL_PROGRAM, &[HELLO_TXT]),
+                    (17, COMMODORE, &[]),
+                ],
+            )),
+            Step::Tells(Question::Batch(
+                1,
+                2,
+                &[
+                    (13, COMMODORE, &[DATA, SEPARATOR, LOST]),
+                    (14, COMMODORE, &[LOOP]),
+                ],
+            )),
+            Step::Tells(Question::Batch(3, 1, &[(15, CONTROL_PROGRAM, &[HELLO_TXT])])),
+            Step::Tells(Question::Batch(4, 1_000_000, &[(17, COMMODORE, &[])])),
+            Step::Tells(Question::Batch(5, 16, &[])),
+            Step::Tells(Question::Batch(4_294_967_295, 16, &[])),
+            Step::Tells(Question::Batch(2, 0, &[])),
         ],
     },
 ];
@@ -231,6 +285,11 @@ fn assert_rows(
 #[test]
 fn files_are_found(rt: HostRuntime) -> Result<(), Fail> {
     assert_cases(&rt, rt.alloc(), FILES)
+}
+
+#[test]
+fn accessions_come_in_batches(rt: HostRuntime) -> Result<(), Fail> {
+    assert_cases(&rt, rt.alloc(), BATCHES)
 }
 
 #[test]

@@ -318,6 +318,14 @@ const FILES: &[Step<'static>] = &[
     PUT_IMAGE,
     Step::Does(Call::PutImage(15, CPM), DONE),
     Step::Tells(Question::Register(&[(12, COMMODORE), (15, CONTROL_PROGRAM)])),
+    Step::Tells(Question::Batch(
+        0,
+        16,
+        &[
+            (12, COMMODORE, &[HELLO]),
+            (15, CONTROL_PROGRAM, &[HELLO_TXT]),
+        ],
+    )),
     Step::Tells(Question::Files(12, &[HELLO])),
     Step::Tells(Question::FileAt(12, 0, Some(HELLO))),
     Step::Tells(Question::FileAt(12, 1, None)),
@@ -357,6 +365,12 @@ const RULES: &[Step<'static>] = &[
             (Named::ByPrefix, 7),
             (Named::Open, 7),
         ],
+    )),
+    Step::Tells(Question::RulesAmong(
+        12,
+        7,
+        &[(Named::Takedown, 12)],
+        &[(Named::ByPrefix, 7), (Named::Open, 7)],
     )),
     Step::Does(Call::PutRule(Named::Open, 9), MISSING),
 ];

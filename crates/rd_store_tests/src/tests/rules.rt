@@ -1,5 +1,6 @@
 //! Rules of deeds and takedowns.
 
+use super::LOOPED;
 use super::steps::{
     Call, Case, DONE, Digest, MISSING, Named, Picture, Question, Start, Step, assert_cases,
 };
@@ -65,6 +66,39 @@ const ORDERS: &[Case] = &[
             Step::Does(Call::DropRule(Band::Deed, 9, 10), MISSING),
             Step::Does(Call::DropRule(Band::Takedown, 7, 10), MISSING),
             Step::Tells(Question::RulesFor(12, &[(Named::Closed, 7), (Named::Open, 7)])),
+        ],
+    },
+];
+
+const AMONG_ALL: &[Case] = &[
+    Case {
+        label: "no rules",
+        start: Start::New,
+        steps: &[Step::Tells(Question::RulesAmong(12, 7, &[], &[]))],
+    },
+    Case {
+        label: "the takedowns of each accession, and the rules of each deed",
+        start: Start::Filled,
+        steps: &[
+            Step::Does(Call::PutImage(11, LOOPED), DONE),
+            Step::Does(Call::PutImage(13, LOOPED), DONE),
+            Step::Does(Call::PutRule(Named::Takedown, 13), DONE),
+            Step::Does(Call::PutRule(Named::LastTakedown, 12), DONE),
+            Step::Does(Call::PutRule(Named::Takedown, 12), DONE),
+            Step::Does(Call::PutRule(Named::Takedown, 11), DONE),
+            Step::Does(Call::PutRule(Named::Open, 8), DONE),
+            Step::Tells(Question::RulesAmong(
+                12,
+                7,
+                &[(Named::Takedown, 12), (Named::LastTakedown, 12)],
+                &[(Named::Closed, 7), (Named::Open, 7)],
+            )),
+            Step::Tells(Question::RulesAmong(11, 8, &[(Named::Takedown, 11)], &[(Named::Open, 8)])),
+            Step::Tells(Question::RulesAmong(13, 9, &[(Named::Takedown, 13)], &[])),
+            Step::Tells(Question::RulesAmong(14, 8, &[], &[(Named::Open, 8)])),
+            Step::Tells(Question::RulesAmong(7, 12, &[], &[])),
+            Step::Tells(Question::RulesAmong(0, 0, &[], &[])),
+            Step::Tells(Question::RulesAmong(4_294_967_295, 4_294_967_295, &[], &[])),
         ],
     },
 ];
@@ -147,6 +181,11 @@ const NUMBERS: &[Case] = &[
 #[test]
 fn rules_come_in_order(rt: HostRuntime) -> Result<(), Fail> {
     assert_cases(&rt, rt.alloc(), ORDERS)
+}
+
+#[test]
+fn rules_are_found_among_all(rt: HostRuntime) -> Result<(), Fail> {
+    assert_cases(&rt, rt.alloc(), AMONG_ALL)
 }
 
 #[test]

@@ -9,7 +9,7 @@ use rd_geometry::{Kind, NoMemory, Text};
 use rd_policy::{Audience, Band, Effect, Rule, Select, is_scope};
 use rd_rows::cbm::{add_marks, crossed, formatted, full, looped, mixed, one_program, put_mark};
 use rd_rows::cpm::{hello, scattered};
-use rd_store::{Accession, DeedRow, ImageRow, Outcome, Store, StoreFault};
+use rd_store::{Accession, DeedRow, ImageRow, Indexed, Outcome, Rulebook, Store, StoreFault};
 use rd_volume::Found;
 use sqlite::Alter;
 use std::alloc::Global;
@@ -97,6 +97,9 @@ pub(super) enum Named {
 /// A rule and its deed or accession.
 pub(super) type Ruled = (Named, u32);
 
+/// An accession with its kind, its deed and its files.
+pub(super) type Filed<'a> = (u32, Accession, &'a [Told]);
+
 /// A call that may change a desk, with its arguments in their order.
 #[derive(Clone, Copy)]
 pub(super) enum Call<'a> {
@@ -123,6 +126,10 @@ pub(super) enum Question<'a> {
     RulesFor(u32, &'a [Ruled]),
     /// Of an accession and a deed.
     RulesUnder(u32, u32, &'a [Ruled]),
+    /// Among all rules, the takedowns of an accession and the rules of a deed.
+    RulesAmong(u32, u32, &'a [Ruled], &'a [Ruled]),
+    /// The accessions from a place on, at most so many.
+    Batch(usize, usize, &'a [Filed<'a>]),
     Files(u32, &'a [Told]),
     /// Of an accession and a slot.
     FileAt(u32, u16, Option<Told>),
@@ -480,6 +487,58 @@ fn has_rules(
     }
 }
 
+fn rulebook<S: Alter>(alloc: Global, desk: &mut Store<S>) -> Result<Rulebook, StoreFault> {
+    desk.rulebook(alloc)
+}
+
+fn has_rules_among<S: Alter>(
+    alloc: Global,
+    desk: &mut Store<S>,
+    acc: u32,
+    deed: u32,
+    takedowns: &[Ruled],
+    rules: &[Ruled],
+) -> Result<Result<bool, StoreFault>, NoMemory> {
+    let all = match rulebook(alloc, desk) {
+        Ok(all) => all,
+        Err(fault) => return Ok(Err(fault)),
+    };
+    let (first, second) = all.under(acc, deed);
+    Ok(Ok(are_rules(alloc, first, takedowns)? && are_rules(alloc, second, rules)?))
+}
+
+fn batch<S: Alter>(
+    alloc: Global,
+    desk: &mut Store<S>,
+    from: usize,
+    most: usize,
+) -> Result<Vec<Indexed>, StoreFault> {
+    desk.batch(alloc, from, most)
+}
+
+fn is_filed(one: &Indexed, (acc, given, files): Filed<'_>) -> bool {
+    one.acc == acc
+        && one.kind == given.kind
+        && one.deed == given.deed
+        && are_told(one.files.as_slice(), files)
+}
+
+fn has_batch<S: Alter>(
+    alloc: Global,
+    desk: &mut Store<S>,
+    from: usize,
+    most: usize,
+    wanted: &[Filed<'_>],
+) -> Result<bool, StoreFault> {
+    let found = batch(alloc, desk, from, most)?;
+    for (one, wanted) in found.iter().zip(wanted) {
+        if !is_filed(one, *wanted) {
+            return Ok(false);
+        }
+    }
+    Ok(found.len() == wanted.len())
+}
+
 fn files<S: Alter>(alloc: Global, desk: &mut Store<S>, acc: u32) -> Result<Vec<Found>, StoreFault> {
     desk.found(alloc, acc)
 }
@@ -539,6 +598,10 @@ pub(super) fn tells_so<S: Alter>(
         Question::RulesUnder(acc, deed, wanted) => {
             has_rules(alloc, rules_under(alloc, desk, acc, deed), wanted)?
         }
+        Question::RulesAmong(acc, deed, takedowns, rules) => {
+            has_rules_among(alloc, desk, acc, deed, takedowns, rules)?
+        }
+        Question::Batch(from, most, wanted) => has_batch(alloc, desk, from, most, wanted),
         Question::Files(acc, wanted) => has_files(alloc, desk, acc, wanted),
         Question::FileAt(acc, slot, wanted) => has_file_at(alloc, desk, acc, slot, wanted),
     })

@@ -2,8 +2,8 @@ use Rattle.std.proofs.Common.{◌∙◌, FitsSigned, ap, rules, sym, w32}
 use Rattle.std.proofs.lemmas.Int.{to_z-of_z}
 use Rattle.std.specs.FinMap.{get}
 use Rattle.rd_store.specs.Held.{desk}
-use Rattle.rd_store.specs.State.{Desk}
-use Rattle.rd_desk.proofs.OneChange.{change_last, changes_as, check_recorded, failed_is_said, reads_alone}
+use Rattle.rd_protocol.specs.State.{Desk}
+use Rattle.rd_desk.proofs.OneChange.{change_last, changes_as, check_recorded, reads_alone}
 use Rattle.rd_desk.proofs.commands.check.Goals as goal
 
 pub returns-in_err-image-clause-one_change : goal.returns-in_err-image-clause-one_change
@@ -12,8 +12,8 @@ returns-in_err-image-clause-one_change g c = reads_alone g.S.Store c.args.caller
 pub returns-in_default-clause-one_change : goal.returns-in_default-clause-one_change
 returns-in_default-clause-one_change g c = reads_alone g.S.Store c.args.caller.now.day _ _ c.args.store.now c.image.new.store c.image.ensures.looks.keeps
 
-pub returns-in_err-put_check-clause-one_change : goal.returns-in_err-put_check-clause-one_change
-returns-in_err-put_check-clause-one_change g c =
+pub returns-in-Ok-clause-one_change : goal.returns-in-Ok-clause-one_change
+returns-in-Ok-clause-one_change g c =
     let middle = desk g.S.Store c.image.new.store in
     let fits : FitsSigned w32 c.args.caller.now.day = search rules in
     let day = to_z-of_z w32 c.args.caller.now.day fits in
@@ -24,7 +24,7 @@ returns-in_err-put_check-clause-one_change g c =
           (λ o. check_recorded middle c.args.acc c.args.caller.now.day c.in_ok-image.field-0 c.in-Some.image c.check_row-outcome.result
           (c.in_ok-image.ensures.looks.answer o ∙ ap (λ (d : Desk). get d.images c.args.acc) (sym (c.image.ensures.looks.keeps.same o))) c.in-Some.is (rw c.as_slice.ensures at c.check_row-outcome.ensures.outcome))
           (rw day at c.put_check.ensures.changes);
-      returned = failed_is_said c.put_check.result c.in_err-put_check.field-0.0 c.from_residual-in_err-put_check.result c.in_err-put_check.was c.from_residual-in_err-put_check.ensures.0;
+      returned = rw c.in-Ok.is tt;
     })
 
 pub returns-clause-one_change : goal.returns-clause-one_change
@@ -39,5 +39,5 @@ returns-clause-one_change g c =
           (λ o. check_recorded middle c.args.acc c.args.caller.now.day c.in_ok-image.field-0 c.in-Some.image c.check_row-outcome.result
           (c.in_ok-image.ensures.looks.answer o ∙ ap (λ (d : Desk). get d.images c.args.acc) (sym (c.image.ensures.looks.keeps.same o))) c.in-Some.is (rw c.as_slice.ensures at c.check_row-outcome.ensures.outcome))
           (rw day at c.put_check.ensures.changes);
-      returned = rw c.in_ok-put_check.was tt;
+      returned = rw c.in-Err.is tt;
     })

@@ -1,7 +1,7 @@
 use Rattle.std.proofs.Common.{◌∙◌, FitsSigned, ap, rules, subst, sym, w32}
 use Rattle.std.proofs.lemmas.Int.{to_z-of_z}
 use Rattle.rd_desk.specs.Calls.{Carries, IsSaidOf, MakesOneChange}
-use Rattle.rd_desk.specs.declared.request.What.TheVariants.{PutDeed}
+use Rattle.rd_protocol.specs.declared.request.What.TheVariants.{PutDeed}
 use Rattle.rd_desk.proofs.OneChange.{change_alone, no_call, reads_alone}
 use Rattle.rd_desk.proofs.commands.command.Goals as goal
 

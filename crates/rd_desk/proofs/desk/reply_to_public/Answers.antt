@@ -1,7 +1,7 @@
 use Rattle.std.proofs.Common.{inl, inr, subst, w32}
 use Rattle.std.proofs.lemmas.Int.{to_z-of_z}
 use Rattle.rd_desk.specs.Served.{Serves}
-use Rattle.rd_desk.proofs.Accepting.{is_for_staff}
+use Rattle.rd_protocol.proofs.Accepting.{is_for_staff}
 use Rattle.rd_desk.proofs.Serving.{serves}
 use Rattle.rd_desk.proofs.desk.reply_to_public.Goals as goal
 

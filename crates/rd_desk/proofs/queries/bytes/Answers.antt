@@ -1,10 +1,10 @@
 use Rattle.std.proofs.Common.{◌≡◌, Some, rules, subst, sym, ◌∙◌}
 use Rattle.std.specs.FinMap.{get}
 use Rattle.rd_store.specs.Held.{desk}
-use Rattle.rd_store.specs.State.{Desk}
+use Rattle.rd_protocol.specs.State.{Desk}
 use Rattle.rd_desk.specs.Calls.{IsHolding}
-use Rattle.rd_desk.specs.Queries.{Standing}
-use Rattle.rd_desk.proofs.Reading.{if_ok, read_answered}
+use Rattle.rd_protocol.specs.Queries.{Standing}
+use Rattle.rd_protocol.proofs.Reading.{if_ok, read_answered}
 use Rattle.rd_desk.proofs.queries.bytes.Goals as goal
 
 pub returns-in_ok-holding-in-Some : goal.returns-in_ok-holding-in-Some

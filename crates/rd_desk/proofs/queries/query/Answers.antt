@@ -1,7 +1,7 @@
 use Rattle.std.proofs.Common.{subst, sym}
 use Rattle.rd_store.specs.Held.{desk}
 use Rattle.rd_desk.specs.Calls.{Looks}
-use Rattle.rd_desk.specs.Replies.{IsAnswered}
+use Rattle.rd_protocol.specs.Replies.{IsAnswered}
 use Rattle.rd_desk.proofs.queries.query.Goals as goal
 
 pub returns-in-Bytes : goal.returns-in-Bytes

@@ -17,19 +17,19 @@ use Rattle.rd_http.proofs.serve.serve_many.Goals as goal
 pub loop-served-preserved : goal.loop-served-preserved
 loop-served-preserved g c =
     let i = c.loop-served.invariant in
-    let e = c.serve_one-ending.ensures in
+    let e = c.serve_visit-ending.ensures in
     let conn = c.in-Ok.conn in
-    let left = c.serve_one-ending.new.wire in
+    let left = c.serve_visit-ending.new.wire in
     let before = c.loop-served.desk in
-    let after = c.serve_one-ending.new.desk in
+    let after = c.serve_visit-ending.new.desk in
     let fits : FitsSigned w64 c.in-Ok.seconds = search rules in
     let back = to_z-of_z w64 c.in-Ok.seconds fits in
     let zone = c.args.desk.now.zone in
     let served = subst (λ m. IfSome (g.D.Conn.Wire.incoming conn) (λ stream. Visits (IsAnswer g.S.Store stream before.store after.store (day_number c.in-Ok.seconds m)) before.store after.store
-    (g.D.Conn.Wire.outgoing conn) (g.D.Conn.Wire.outgoing left) c.serve_one-ending.result)) i.zone
+    (g.D.Conn.Wire.outgoing conn) (g.D.Conn.Wire.outgoing left) c.serve_visit-ending.result)) i.zone
     (subst (λ s. IfSome (g.D.Conn.Wire.incoming conn) (λ stream. Visits (IsAnswer g.S.Store stream before.store after.store (day_number s before.zone)) before.store after.store
-    (g.D.Conn.Wire.outgoing conn) (g.D.Conn.Wire.outgoing left) c.serve_one-ending.result)) back e.served) in
-    let clock = subst (λ s. (¬ (c.serve_one-ending.result ≡ Err Clock)) ↔ HasDay s) back e.clock in
+    (g.D.Conn.Wire.outgoing conn) (g.D.Conn.Wire.outgoing left) c.serve_visit-ending.result)) back e.served) in
+    let clock = subst (λ s. (¬ (c.serve_visit-ending.result ≡ Err Clock)) ↔ HasDay s) back e.clock in
     let ran = if_told (λ told. HasRun (IsAnswer g.S.Store) zone told (g.D.Door.told c.loop-served.door) (g.D.Door.coming c.args.door.now) (g.D.Door.coming c.loop-served.door) c.loop-served.served c.args.desk.now.store before.store)
     (λ told. HasRun (IsAnswer g.S.Store) zone told (g.D.Door.told c.leave.new.self) (g.D.Door.coming c.args.door.now) (g.D.Door.coming c.leave.new.self) c.with-served.result c.args.desk.now.store after.store)
     (g.D.Door.told c.args.door.now) i.run (λ told run.
@@ -37,7 +37,7 @@ loop-served-preserved g c =
     (run_step (IsAnswer g.S.Store) zone (g.D.Door.coming c.args.door.now) (g.D.Door.coming c.loop-served.door) (g.D.Door.coming c.admit.new.self) (g.D.Door.coming c.leave.new.self)
     told (g.D.Door.told c.loop-served.door) (g.D.Door.told c.admit.new.self) (g.D.Door.told c.leave.new.self) c.loop-served.served c.args.desk.now.store before.store after.store c.in-Ok.seconds
     (g.D.Conn.Wire.came conn) (g.D.Conn.Wire.incoming conn) (g.D.Conn.Wire.came left) (g.D.Conn.Wire.outgoing conn) (g.D.Conn.Wire.outgoing left) (g.D.Conn.Wire.take_failed left) (g.D.Conn.Wire.put_failed left)
-    c.serve_one-ending.result run c.in-Ok.ensures.next c.leave.ensures.kept i.counting c.in-Ok.ensures.told c.in-Ok.ensures.whole c.in-Ok.ensures.tells served e.came c.leave.ensures.told
+    c.serve_visit-ending.result run c.in-Ok.ensures.next c.leave.ensures.kept i.counting c.in-Ok.ensures.told c.in-Ok.ensures.whole c.in-Ok.ensures.tells served e.came c.leave.ensures.told
     (record { read = e.read; write = e.write; clock = clock }))) in
     record {
       visits = search rules;
@@ -47,25 +47,25 @@ loop-served-preserved g c =
       lasts = lasts_then g.S.Store c.args.desk.now.store before.store after.store i.lasts e.lasts;
       zone = e.zone ∙ i.zone;
       door = search rules;
-      heard = λ all. subst (λ (s : Served). s.read_faults ≡ 0) (sym c.with-served.ensures) (all_heard c.serve_one-ending.result c.loop-served.served (g.D.Conn.Wire.take_failed left) e.read (all left) (i.heard all));
+      heard = λ all. subst (λ (s : Served). s.read_faults ≡ 0) (sym c.with-served.ensures) (all_heard c.serve_visit-ending.result c.loop-served.served (g.D.Conn.Wire.take_failed left) e.read (all left) (i.heard all));
     }
 
 pub returns-then-eq-clause-run : goal.returns-then-eq-clause-run
 returns-then-eq-clause-run g c =
     let i = c.loop-served.invariant in
-    let e = c.serve_one-ending.ensures in
+    let e = c.serve_visit-ending.ensures in
     let conn = c.in-Ok.conn in
-    let left = c.serve_one-ending.new.wire in
+    let left = c.serve_visit-ending.new.wire in
     let before = c.loop-served.desk in
-    let after = c.serve_one-ending.new.desk in
+    let after = c.serve_visit-ending.new.desk in
     let fits : FitsSigned w64 c.in-Ok.seconds = search rules in
     let back = to_z-of_z w64 c.in-Ok.seconds fits in
     let zone = c.args.desk.now.zone in
     let served = subst (λ m. IfSome (g.D.Conn.Wire.incoming conn) (λ stream. Visits (IsAnswer g.S.Store stream before.store after.store (day_number c.in-Ok.seconds m)) before.store after.store
-    (g.D.Conn.Wire.outgoing conn) (g.D.Conn.Wire.outgoing left) c.serve_one-ending.result)) i.zone
+    (g.D.Conn.Wire.outgoing conn) (g.D.Conn.Wire.outgoing left) c.serve_visit-ending.result)) i.zone
     (subst (λ s. IfSome (g.D.Conn.Wire.incoming conn) (λ stream. Visits (IsAnswer g.S.Store stream before.store after.store (day_number s before.zone)) before.store after.store
-    (g.D.Conn.Wire.outgoing conn) (g.D.Conn.Wire.outgoing left) c.serve_one-ending.result)) back e.served) in
-    let clock = subst (λ s. (¬ (c.serve_one-ending.result ≡ Err Clock)) ↔ HasDay s) back e.clock in
+    (g.D.Conn.Wire.outgoing conn) (g.D.Conn.Wire.outgoing left) c.serve_visit-ending.result)) back e.served) in
+    let clock = subst (λ s. (¬ (c.serve_visit-ending.result ≡ Err Clock)) ↔ HasDay s) back e.clock in
     let ran = if_told (λ told. HasRun (IsAnswer g.S.Store) zone told (g.D.Door.told c.loop-served.door) (g.D.Door.coming c.args.door.now) (g.D.Door.coming c.loop-served.door) c.loop-served.served c.args.desk.now.store before.store)
     (λ told. HasRun (IsAnswer g.S.Store) zone told (g.D.Door.told c.leave.new.self) (g.D.Door.coming c.args.door.now) (g.D.Door.coming c.leave.new.self) c.with-served.result c.args.desk.now.store after.store)
     (g.D.Door.told c.args.door.now) i.run (λ told run.
@@ -73,26 +73,26 @@ returns-then-eq-clause-run g c =
     (run_step (IsAnswer g.S.Store) zone (g.D.Door.coming c.args.door.now) (g.D.Door.coming c.loop-served.door) (g.D.Door.coming c.admit.new.self) (g.D.Door.coming c.leave.new.self)
     told (g.D.Door.told c.loop-served.door) (g.D.Door.told c.admit.new.self) (g.D.Door.told c.leave.new.self) c.loop-served.served c.args.desk.now.store before.store after.store c.in-Ok.seconds
     (g.D.Conn.Wire.came conn) (g.D.Conn.Wire.incoming conn) (g.D.Conn.Wire.came left) (g.D.Conn.Wire.outgoing conn) (g.D.Conn.Wire.outgoing left) (g.D.Conn.Wire.take_failed left) (g.D.Conn.Wire.put_failed left)
-    c.serve_one-ending.result run c.in-Ok.ensures.next c.leave.ensures.kept i.counting c.in-Ok.ensures.told c.in-Ok.ensures.whole c.in-Ok.ensures.tells served e.came c.leave.ensures.told
+    c.serve_visit-ending.result run c.in-Ok.ensures.next c.leave.ensures.kept i.counting c.in-Ok.ensures.told c.in-Ok.ensures.whole c.in-Ok.ensures.tells served e.came c.leave.ensures.told
     (record { read = e.read; write = e.write; clock = clock }))) in
     ran
 
 pub returns-then-eq-clause-replied : goal.returns-then-eq-clause-replied
 returns-then-eq-clause-replied g c is_open =
     let i = c.loop-served.invariant in
-    let e = c.serve_one-ending.ensures in
+    let e = c.serve_visit-ending.ensures in
     let conn = c.in-Ok.conn in
-    let left = c.serve_one-ending.new.wire in
+    let left = c.serve_visit-ending.new.wire in
     let before = c.loop-served.desk in
-    let after = c.serve_one-ending.new.desk in
+    let after = c.serve_visit-ending.new.desk in
     let fits : FitsSigned w64 c.in-Ok.seconds = search rules in
     let back = to_z-of_z w64 c.in-Ok.seconds fits in
     let zone = c.args.desk.now.zone in
     let served = subst (λ m. IfSome (g.D.Conn.Wire.incoming conn) (λ stream. Visits (IsAnswer g.S.Store stream before.store after.store (day_number c.in-Ok.seconds m)) before.store after.store
-    (g.D.Conn.Wire.outgoing conn) (g.D.Conn.Wire.outgoing left) c.serve_one-ending.result)) i.zone
+    (g.D.Conn.Wire.outgoing conn) (g.D.Conn.Wire.outgoing left) c.serve_visit-ending.result)) i.zone
     (subst (λ s. IfSome (g.D.Conn.Wire.incoming conn) (λ stream. Visits (IsAnswer g.S.Store stream before.store after.store (day_number s before.zone)) before.store after.store
-    (g.D.Conn.Wire.outgoing conn) (g.D.Conn.Wire.outgoing left) c.serve_one-ending.result)) back e.served) in
-    let clock = subst (λ s. (¬ (c.serve_one-ending.result ≡ Err Clock)) ↔ HasDay s) back e.clock in
+    (g.D.Conn.Wire.outgoing conn) (g.D.Conn.Wire.outgoing left) c.serve_visit-ending.result)) back e.served) in
+    let clock = subst (λ s. (¬ (c.serve_visit-ending.result ≡ Err Clock)) ↔ HasDay s) back e.clock in
     let ran = if_told (λ told. HasRun (IsAnswer g.S.Store) zone told (g.D.Door.told c.loop-served.door) (g.D.Door.coming c.args.door.now) (g.D.Door.coming c.loop-served.door) c.loop-served.served c.args.desk.now.store before.store)
     (λ told. HasRun (IsAnswer g.S.Store) zone told (g.D.Door.told c.leave.new.self) (g.D.Door.coming c.args.door.now) (g.D.Door.coming c.leave.new.self) c.with-served.result c.args.desk.now.store after.store)
     (g.D.Door.told c.args.door.now) i.run (λ told run.
@@ -100,7 +100,7 @@ returns-then-eq-clause-replied g c is_open =
     (run_step (IsAnswer g.S.Store) zone (g.D.Door.coming c.args.door.now) (g.D.Door.coming c.loop-served.door) (g.D.Door.coming c.admit.new.self) (g.D.Door.coming c.leave.new.self)
     told (g.D.Door.told c.loop-served.door) (g.D.Door.told c.admit.new.self) (g.D.Door.told c.leave.new.self) c.loop-served.served c.args.desk.now.store before.store after.store c.in-Ok.seconds
     (g.D.Conn.Wire.came conn) (g.D.Conn.Wire.incoming conn) (g.D.Conn.Wire.came left) (g.D.Conn.Wire.outgoing conn) (g.D.Conn.Wire.outgoing left) (g.D.Conn.Wire.take_failed left) (g.D.Conn.Wire.put_failed left)
-    c.serve_one-ending.result run c.in-Ok.ensures.next c.leave.ensures.kept i.counting c.in-Ok.ensures.told c.in-Ok.ensures.whole c.in-Ok.ensures.tells served e.came c.leave.ensures.told
+    c.serve_visit-ending.result run c.in-Ok.ensures.next c.leave.ensures.kept i.counting c.in-Ok.ensures.told c.in-Ok.ensures.whole c.in-Ok.ensures.tells served e.came c.leave.ensures.told
     (record { read = e.read; write = e.write; clock = clock }))) in
     if_told (λ told. HasRun (IsAnswer g.S.Store) zone told (g.D.Door.told c.leave.new.self) (g.D.Door.coming c.args.door.now) (g.D.Door.coming c.leave.new.self) c.with-served.result c.args.desk.now.store after.store)
     (λ told. HasRun IsReplied zone told (g.D.Door.told c.leave.new.self) (g.D.Door.coming c.args.door.now) (g.D.Door.coming c.leave.new.self) c.with-served.result (tables g.S.Store c.args.desk.now.store) (tables g.S.Store after.store))
@@ -132,7 +132,7 @@ returns-clause-replied g c is_open =
 pub returns-then-eq-clause-heard : goal.returns-then-eq-clause-heard
 returns-then-eq-clause-heard g c all =
     subst (λ (s : Served). s.read_faults ≡ 0) (sym c.with-served.ensures)
-    (all_heard c.serve_one-ending.result c.loop-served.served (g.D.Conn.Wire.take_failed c.serve_one-ending.new.wire) c.serve_one-ending.ensures.read (all c.serve_one-ending.new.wire) (c.loop-served.invariant.heard all))
+    (all_heard c.serve_visit-ending.result c.loop-served.served (g.D.Conn.Wire.take_failed c.serve_visit-ending.new.wire) c.serve_visit-ending.ensures.read (all c.serve_visit-ending.new.wire) (c.loop-served.invariant.heard all))
 
 pub returns-in_default-clause-last : goal.returns-in_default-clause-last
 returns-in_default-clause-last g c shut unshut =
@@ -145,7 +145,7 @@ pub returns-then-eq-clause-hidden : goal.returns-then-eq-clause-hidden
 returns-then-eq-clause-hidden g c is_open =
     let zone = c.args.desk.now.zone in
     let old = tables g.S.Store c.args.desk.now.store in
-    let new = tables g.S.Store c.serve_one-ending.new.desk.store in
+    let new = tables g.S.Store c.serve_visit-ending.new.desk.store in
     if_told (λ told. HasRun IsReplied zone told (g.D.Door.told c.leave.new.self) (g.D.Door.coming c.args.door.now) (g.D.Door.coming c.leave.new.self) c.with-served.result old new)
     (λ told. HasRun RepliesAndHides zone told (g.D.Door.told c.leave.new.self) (g.D.Door.coming c.args.door.now) (g.D.Door.coming c.leave.new.self) c.with-served.result old new)
     (g.D.Door.told c.args.door.now) (returns-then-eq-clause-replied g c is_open)

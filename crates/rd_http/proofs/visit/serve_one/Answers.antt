@@ -1,62 +1,37 @@
-use Rattle.std.proofs.Common.{ℕ, List, subst, w64}
+use Rattle.std.proofs.Common.{◌≡◌, ◌↔◌, Err, IfSome, subst, w64}
 use Rattle.std.proofs.lemmas.Int.{to_z-of_z}
+use Rattle.rd_policy.specs.Days.{HasDay}
 use Rattle.rd_policy.specs.Zones.{day_number}
 use Rattle.rd_store.specs.Held.{IsOpen, desk as tables}
 use Rattle.rd_http.specs.Hidden.{HidesFromVisitor}
-use Rattle.rd_http.specs.Readings.{IsReading, text_of}
-use Rattle.rd_http.specs.Visits.{IsAnswer}
+use Rattle.rd_http.specs.Visits.{IsAnswer, Visits}
+use Rattle.rd_http.specs.declared.visit.WireFault.TheVariants.{Clock}
 use Rattle.rd_http.proofs.Hiding.{answer_hides}
-use Rattle.rd_http.proofs.VisitLemmas.{sent_cut, sent_whole}
+use Rattle.rd_http.proofs.RunLemmas.{if_told}
+use Rattle.rd_http.proofs.VisitLemmas.{visits_then}
 use Rattle.rd_http.proofs.visit.serve_one.Goals as goal
 
-pub returns-in-Ok-send-clause-served : goal.returns-in-Ok-send-clause-served
-returns-in-Ok-send-clause-served g c =
+pub returns-clause-served : goal.returns-clause-served
+returns-clause-served g c =
     let old = c.args.desk.now in
-    let new = c.answer_to-answer.new.desk in
-    let text = text_of c.answer_to-answer.result in
-    let answers = subst (λ seconds. (stream : List ℕ) → IsReading stream c.in-Ok.reading → IsAnswer g.S.Store stream old.store new.store (day_number seconds old.zone) text)
-    (to_z-of_z w64 c.args.seconds c.ranges.seconds) c.answer_to-answer.ensures.answers in
-    sent_whole (λ stream. IsReading stream c.in-Ok.reading) (λ stream text. IsAnswer g.S.Store stream old.store new.store (day_number c.args.seconds old.zone) text)
-    old.store new.store text answers
-    (g.W.Wire.incoming c.args.wire.now) (g.W.Wire.outgoing c.args.wire.now) (g.W.Wire.outgoing c.read_request.new.wire) (g.W.Wire.outgoing c.send.new.wire)
-    c.in-Ok.ensures.reading c.in-Ok.ensures.kept c.in-Ok-send.ensures.sends
+    let new = c.serve_visit.new.desk in
+    subst (λ seconds. IfSome (g.W.Wire.incoming c.args.wire.now) (λ stream. Visits (IsAnswer g.S.Store stream old.store new.store (day_number seconds old.zone)) old.store new.store
+    (g.W.Wire.outgoing c.args.wire.now) (g.W.Wire.outgoing c.serve_visit.new.wire) c.serve_visit.result)) (to_z-of_z w64 c.args.seconds c.ranges.seconds) c.serve_visit.ensures.served
 
-pub returns-in-Err-clause-served : goal.returns-in-Err-clause-served
-returns-in-Err-clause-served g c =
+pub returns-clause-hidden : goal.returns-clause-hidden
+returns-clause-hidden g c =
     let old = c.args.desk.now in
-    let new = c.answer_to-answer.new.desk in
-    let text = text_of c.answer_to-answer.result in
-    let answers = subst (λ seconds. (stream : List ℕ) → IsReading stream c.in-Ok.reading → IsAnswer g.S.Store stream old.store new.store (day_number seconds old.zone) text)
-    (to_z-of_z w64 c.args.seconds c.ranges.seconds) c.answer_to-answer.ensures.answers in
-    sent_cut (λ stream. IsReading stream c.in-Ok.reading) (λ stream text. IsAnswer g.S.Store stream old.store new.store (day_number c.args.seconds old.zone) text)
-    old.store new.store text answers
-    (g.W.Wire.incoming c.args.wire.now) (g.W.Wire.outgoing c.args.wire.now) (g.W.Wire.outgoing c.read_request.new.wire) (g.W.Wire.outgoing c.send.new.wire)
-    c.in-Ok.ensures.reading c.in-Ok.ensures.kept c.in-Err.ensures.sends
+    let new = c.serve_visit.new.desk in
+    let day = day_number c.args.seconds old.zone in
+    let before = g.W.Wire.outgoing c.args.wire.now in
+    let after = g.W.Wire.outgoing c.serve_visit.new.wire in
+    let result = c.serve_visit.result in
+    if_told (λ stream. Visits (IsAnswer g.S.Store stream old.store new.store day) old.store new.store before after result)
+    (λ stream. Visits (λ text. IsOpen g.S.Store new.store → HidesFromVisitor stream (tables g.S.Store old.store) day text) old.store new.store before after result)
+    (g.W.Wire.incoming c.args.wire.now) (returns-clause-served g c) (λ stream visits.
+    visits_then (IsAnswer g.S.Store stream old.store new.store day) (λ text. IsOpen g.S.Store new.store → HidesFromVisitor stream (tables g.S.Store old.store) day text) old.store new.store
+    (λ text answer. answer_hides g.S.Store old.zone stream old.store new.store day text answer) before after result visits)
 
-pub returns-in-Ok-send-clause-hidden : goal.returns-in-Ok-send-clause-hidden
-returns-in-Ok-send-clause-hidden g c =
-    let old = c.args.desk.now in
-    let new = c.answer_to-answer.new.desk in
-    let text = text_of c.answer_to-answer.result in
-    let hides = λ (stream : List ℕ) (reads : IsReading stream c.in-Ok.reading). answer_hides g.S.Store old.zone stream old.store new.store (day_number c.args.seconds old.zone) text
-    (subst (λ seconds. IsAnswer g.S.Store stream old.store new.store (day_number seconds old.zone) text) (to_z-of_z w64 c.args.seconds c.ranges.seconds)
-    (c.answer_to-answer.ensures.answers stream reads)) in
-    sent_whole (λ stream. IsReading stream c.in-Ok.reading)
-    (λ stream text. IsOpen g.S.Store new.store → HidesFromVisitor stream (tables g.S.Store old.store) (day_number c.args.seconds old.zone) text)
-    old.store new.store text hides
-    (g.W.Wire.incoming c.args.wire.now) (g.W.Wire.outgoing c.args.wire.now) (g.W.Wire.outgoing c.read_request.new.wire) (g.W.Wire.outgoing c.send.new.wire)
-    c.in-Ok.ensures.reading c.in-Ok.ensures.kept c.in-Ok-send.ensures.sends
-
-pub returns-in-Err-clause-hidden : goal.returns-in-Err-clause-hidden
-returns-in-Err-clause-hidden g c =
-    let old = c.args.desk.now in
-    let new = c.answer_to-answer.new.desk in
-    let text = text_of c.answer_to-answer.result in
-    let hides = λ (stream : List ℕ) (reads : IsReading stream c.in-Ok.reading). answer_hides g.S.Store old.zone stream old.store new.store (day_number c.args.seconds old.zone) text
-    (subst (λ seconds. IsAnswer g.S.Store stream old.store new.store (day_number seconds old.zone) text) (to_z-of_z w64 c.args.seconds c.ranges.seconds)
-    (c.answer_to-answer.ensures.answers stream reads)) in
-    sent_cut (λ stream. IsReading stream c.in-Ok.reading)
-    (λ stream text. IsOpen g.S.Store new.store → HidesFromVisitor stream (tables g.S.Store old.store) (day_number c.args.seconds old.zone) text)
-    old.store new.store text hides
-    (g.W.Wire.incoming c.args.wire.now) (g.W.Wire.outgoing c.args.wire.now) (g.W.Wire.outgoing c.read_request.new.wire) (g.W.Wire.outgoing c.send.new.wire)
-    c.in-Ok.ensures.reading c.in-Ok.ensures.kept c.in-Err.ensures.sends
+pub returns-clause-clock : goal.returns-clause-clock
+returns-clause-clock g c =
+    subst (λ seconds. (¬ (c.serve_visit.result ≡ Err Clock)) ↔ HasDay seconds) (to_z-of_z w64 c.args.seconds c.ranges.seconds) c.serve_visit.ensures.clock

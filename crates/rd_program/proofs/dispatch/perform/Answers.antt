@@ -1,17 +1,17 @@
 use Rattle.std.proofs.Common.{◌≡◌, IfErr, IfOk, IfSome, OnOk, codes, inl, subst, sym}
 use Rattle.std.proofs.lemmas.Result.{IfErr-weaker}
-use Rattle.rd_program.specs.Asks.{AsksADesk, AsksCheckOf, AsksFile, AsksFiles, AsksNew, AsksVisits, IsFileAsk, IsFilesAsk, IsInitAsk, IsServeAsk, TellsInRows, TellsOnOutput}
-use Rattle.rd_program.specs.Cat.{Refuses, Serves}
+use Rattle.rd_commands.specs.Asks.{AsksADesk, AsksCheckOf, AsksFile, AsksFiles, AsksNew, AsksVisits, IsFileAsk, IsFilesAsk, IsInitAsk, IsServeAsk, TellsInRows, TellsOnOutput}
+use Rattle.rd_commands.specs.Cat.{Refuses, Serves}
 use Rattle.std.specs.Io.KnownBytes.{Appends}
 use Rattle.rd_program.specs.Leaves.{LeavesBy, LeavesRefused}
-use Rattle.rd_program.specs.Listed.{Lists, RefusesList}
+use Rattle.rd_commands.specs.Listed.{Lists, RefusesList}
 use Rattle.rd_program.specs.Serving.{RefusesServe, serve_text}
 use Rattle.rd_program.proofs.Answered.{once_kept, once_never}
 use Rattle.rd_program.proofs.Imported.{err_whole, ok_whole, whole_is}
 use Rattle.rd_program.proofs.Inited.{at_err_both, left_as, made_as, on_both}
 use Rattle.rd_program.proofs.LeftBy.{no_refusal}
-use Rattle.rd_program.proofs.Ran.{as_asked}
-use Rattle.rd_program.specs.declared.done.Done.TheVariants.{InPart}
+use Rattle.rd_commands.proofs.Ran.{as_asked}
+use Rattle.rd_commands.specs.declared.done.Done.TheVariants.{InPart}
 use Rattle.rd_program.proofs.dispatch.perform.Goals as goal
 
 pub returns-in-File-clause-done : goal.returns-in-File-clause-done

@@ -1,23 +1,23 @@
 use Rattle.std.proofs.Common.{◌≡◌, ◌∙◌, Some, arith, codes, inl, inr, refl, subst, sym}
 use Rattle.std.specs.Prelude.{⊤}
 use Rattle.rd_program.specs.Asking.{TellsCheck}
-use Rattle.rd_program.specs.Input.{ReadsUpTo}
-use Rattle.rd_program.specs.Refusals.{status_of}
+use Rattle.rd_commands.specs.Input.{ReadsUpTo}
+use Rattle.rd_commands.specs.Refusals.{status_of}
 use Rattle.rd_program.specs.Serving.{serve_text}
-use Rattle.rd_program.specs.Told.{Tells}
-use Rattle.rd_program.specs.Versions.{RefusesVersion}
-use Rattle.rd_program.specs.declared.refusal.Refusal.TheVariants.{NoMemory}
-use Rattle.rd_program.specs.declared.words.Question.TheVariants.{Catalogue, Check}
-use Rattle.rd_program.proofs.Asked.{help_asked, no_fault_in}
+use Rattle.rd_commands.specs.Told.{Tells}
+use Rattle.rd_commands.specs.Versions.{RefusesVersion}
+use Rattle.rd_commands.specs.declared.refusal.Refusal.TheVariants.{NoMemory}
+use Rattle.rd_commands.specs.declared.words.Question.TheVariants.{Catalogue, Check}
+use Rattle.rd_commands.proofs.Asked.{help_asked, no_fault_in}
 use Rattle.std.proofs.KnownBytes.{Keeps-refl}
 use Rattle.rd_program.proofs.Answered.{check_asks, check_of_desk, export_asks, export_is_whole}
 use Rattle.rd_program.proofs.Imported.{done_lines, import_tells, in_part_is_one, not_in_rows, one_is_some, rows_of, rows_tell}
 use Rattle.rd_program.proofs.Left.{none_still, still_left}
 use Rattle.rd_program.proofs.LeftBy.{import_leaves, import_names, once_leaves, once_names, serve_leaves, serve_refused}
-use Rattle.rd_program.proofs.Ran.{is_cut, kept_is_cut, no_sound_file, not_done, of_all, of_known, reads_few, reads_no_input, reads_of_kind, tells}
-use Rattle.rd_program.proofs.ReadUpTo.{reads_none, reads_within}
-use Rattle.rd_program.proofs.VersionLine.{version_asked, version_no_help, version_not_taken}
-use Rattle.rd_program.proofs.Written.{none_written}
+use Rattle.rd_commands.proofs.Ran.{is_cut, kept_is_cut, no_sound_file, not_done, of_all, of_known, reads_few, reads_no_input, reads_of_kind, tells}
+use Rattle.rd_commands.proofs.ReadUpTo.{reads_none, reads_within}
+use Rattle.rd_commands.proofs.VersionLine.{version_asked, version_no_help, version_not_taken}
+use Rattle.rd_commands.proofs.Written.{none_written}
 use Rattle.rd_program.proofs.dispatch.run.Goals as goal
 
 pub returns-in-Ok-perform-clause-command : goal.returns-in-Ok-perform-clause-command

@@ -3,7 +3,7 @@ use Rattle.csv.specs.Records.{fields_of}
 use Rattle.rd_policy.specs.Zones.{day_number}
 use Rattle.rd_program.specs.Leaves.{LeavesDesk, TakesFields}
 use Rattle.rd_program.specs.Importing.{IsDoneLine, TellsRows}
-use Rattle.rd_program.specs.declared.done.Done.TheVariants.{Whole}
+use Rattle.rd_commands.specs.declared.done.Done.TheVariants.{Whole}
 use Rattle.rd_program.proofs.Imported.{ends_at_row, ends_between, no_rows, rows_more}
 use Rattle.rd_program.proofs.Stepped.{row_more}
 use Rattle.rd_program.proofs.import.import_rows.Goals as goal

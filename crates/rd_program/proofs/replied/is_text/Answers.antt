@@ -1,5 +1,5 @@
 use Rattle.std.proofs.Common.{◌≡◌, false, true}
-use Rattle.rd_desk.specs.BodyPieces.{pieces_left}
+use Rattle.rd_protocol.specs.BodyPieces.{pieces_left}
 use Rattle.rd_program.proofs.Pieces.{left_after, not_same}
 use Rattle.rd_program.proofs.replied.is_text.Goals as goal
 

@@ -1,6 +1,6 @@
 use Rattle.std.proofs.Common.{◌≡◌, ◌↔◌}
 use Rattle.std.specs.List.{concat}
-use Rattle.rd_desk.specs.BodyPieces.{pieces_left}
+use Rattle.rd_protocol.specs.BodyPieces.{pieces_left}
 use Rattle.rd_program.proofs.replied.is_text.Given as goal
 
 -- what is left of the body is what is left of the text exactly where the body is the text

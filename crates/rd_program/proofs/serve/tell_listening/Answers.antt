@@ -1,5 +1,5 @@
 use Rattle.std.proofs.Common.{◌≡◌, OnErr, rules, subst}
-use Rattle.rd_program.specs.Output.{AppendsPart}
+use Rattle.rd_commands.specs.Output.{AppendsPart}
 use Rattle.rd_program.specs.Serving.{listening_line}
 use Rattle.rd_program.proofs.serve.tell_listening.Goals as goal
 

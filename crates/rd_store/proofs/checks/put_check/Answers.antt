@@ -2,7 +2,7 @@ use Rattle.std.proofs.Common.{Ok, Err, is_ok, ap, w32}
 use Rattle.std.proofs.lemmas.Int.{to_z-of_z}
 use Rattle.rd_store.specs.declared.faults.StoreFault.TheVariants.{Sql}
 use Rattle.rd_store.specs.Held.{desk}
-use Rattle.rd_store.specs.State.{with_check}
+use Rattle.rd_protocol.specs.State.{with_check}
 use Rattle.rd_store.proofs.Laws.{Laws}
 use Rattle.rd_store.proofs.Changing.{refused, then_told}
 use Rattle.rd_store.proofs.checks.put_check.Goals as goal

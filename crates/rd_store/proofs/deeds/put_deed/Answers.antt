@@ -3,10 +3,10 @@ use Rattle.std.specs.FinMap.{get}
 use Rattle.std.proofs.lemmas.Int.{to_z-of_z}
 use Rattle.sqlite.specs.Effect.{Database}
 use Rattle.rd_store.specs.declared.faults.StoreFault.TheVariants.{Sql}
-use Rattle.rd_store.specs.declared.rows.DeedRow.{DeedRow}
+use Rattle.rd_protocol.specs.declared.rows.DeedRow.{DeedRow}
 use Rattle.rd_store.specs.Held.{desk}
 use Rattle.rd_store.specs.Spelled.{desk_of}
-use Rattle.rd_store.specs.State.{Desk, with_deed}
+use Rattle.rd_protocol.specs.State.{Desk, with_deed}
 use Rattle.rd_store.proofs.Laws.{Laws}
 use Rattle.rd_store.proofs.Changing.{refused, then_told}
 use Rattle.rd_store.proofs.deeds.put_deed.Goals as goal

@@ -3,7 +3,7 @@ use Rattle.sqlite.specs.Held.{state}
 use Rattle.rd_store.specs.declared.faults.StoreFault.TheVariants.{Sql}
 use Rattle.rd_store.specs.Held.{desk}
 use Rattle.rd_store.specs.Shown.{image_with}
-use Rattle.rd_store.specs.State.{with_image}
+use Rattle.rd_protocol.specs.State.{with_image}
 use Rattle.rd_store.proofs.Laws.{Laws, holds_tables, stays_still}
 use Rattle.rd_store.proofs.Changing.{refused}
 use Rattle.rd_store.proofs.Registers.{listed_not_put, listed_put}

@@ -3,12 +3,12 @@ use Rattle.std.specs.Prelude.{MatchBool}
 use Rattle.std.specs.FinMap.{get}
 use Rattle.sqlite.specs.Effect.{Database}
 use Rattle.rd_store.specs.declared.faults.StoreFault.TheVariants.{Missing, Conflict}
-use Rattle.rd_store.specs.declared.rows.DeedRow.{DeedRow}
+use Rattle.rd_protocol.specs.declared.rows.DeedRow.{DeedRow}
 use Rattle.rd_store.specs.Held.{IsOpen, desk}
 use Rattle.rd_store.specs.Register.{IsSameHeading}
 use Rattle.rd_store.specs.Shown.{image_with}
 use Rattle.rd_store.specs.Spelled.{desk_of}
-use Rattle.rd_store.specs.State.{with_image}
+use Rattle.rd_protocol.specs.State.{with_image}
 use Rattle.rd_store.proofs.Laws.{Laws, stays_changes}
 use Rattle.rd_store.proofs.Changing.{refused, then_told}
 use Rattle.rd_store.proofs.Registers.{added_judges, another, kept_there, listed_stays, no_other, none_there}

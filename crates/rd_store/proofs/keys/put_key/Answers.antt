@@ -1,7 +1,7 @@
 use Rattle.std.proofs.Common.{Err, refl}
 use Rattle.rd_store.specs.declared.faults.StoreFault.TheVariants.{Conflict}
 use Rattle.rd_store.specs.Held.{desk}
-use Rattle.rd_store.specs.State.{with_key}
+use Rattle.rd_protocol.specs.State.{with_key}
 use Rattle.rd_store.proofs.Laws.{Laws}
 use Rattle.rd_store.proofs.Changing.{refused}
 use Rattle.rd_store.proofs.keys.put_key.Goals as goal

@@ -1,7 +1,7 @@
 use Rattle.std.proofs.Common.{Ok, Err, is_ok, ap}
 use Rattle.rd_store.specs.declared.faults.StoreFault.TheVariants.{Sql}
 use Rattle.rd_store.specs.Held.{desk}
-use Rattle.rd_store.specs.State.{without_rule}
+use Rattle.rd_protocol.specs.State.{without_rule}
 use Rattle.rd_store.proofs.Laws.{Laws}
 use Rattle.rd_store.proofs.Changing.{refused, then_told}
 use Rattle.rd_store.proofs.rules.drop_rule.Goals as goal

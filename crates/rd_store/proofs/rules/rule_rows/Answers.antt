@@ -4,10 +4,10 @@ use Rattle.sqlite.specs.declared.types.Value.TheVariants.{Int}
 use Rattle.sqlite.specs.Held.{state}
 use Rattle.rd_tables.proofs.QueryTexts.{rules_asks}
 use Rattle.rd_tables.proofs.Reading.{shown_was_open, shown_picks}
-use Rattle.rd_store.specs.Codes.{band_code}
 use Rattle.rd_store.proofs.Laws.{holds_tables, stays_desk}
 use Rattle.rd_store.proofs.Found.{rules_found}
 use Rattle.rd_store.proofs.rules.rule_rows.Goals as goal
+use Rattle.rd_protocol.specs.State.{band_code}
 
 pub read_all-requires-clause-tables : goal.read_all-requires-clause-tables
 read_all-requires-clause-tables g c = holds_tables (state g.S.Store c.args.conn.now) c.requires.holds

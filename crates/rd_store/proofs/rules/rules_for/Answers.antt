@@ -5,7 +5,7 @@ use Rattle.rd_policy.specs.declared.rule.Band.TheVariants.{Takedown, Deed}
 use Rattle.rd_store.specs.declared.images.Heading.{Heading}
 use Rattle.rd_store.specs.Held.{desk}
 use Rattle.rd_store.specs.Spelled.{desk_of}
-use Rattle.rd_store.specs.State.{rules_at, rules_with}
+use Rattle.rd_protocol.specs.State.{rules_at, rules_with}
 use Rattle.rd_store.proofs.Laws.{stays_then}
 use Rattle.rd_store.proofs.Registers.{deed_found, none_there}
 use Rattle.rd_store.proofs.rules.rules_for.Goals as goal

@@ -1,6 +1,6 @@
 use Rattle.std.proofs.Common.{rules, ◌≡◌, ◌∙◌, ap, map, subst, IfOk}
 use Rattle.rd_store.specs.Spelled.{rule_sheet}
-use Rattle.rd_store.specs.State.{rule_of}
+use Rattle.rd_protocol.specs.State.{rule_of}
 use Rattle.rd_store.proofs.Found.{rules_back}
 use Rattle.rd_store.proofs.rules.rules_of.Goals as goal
 

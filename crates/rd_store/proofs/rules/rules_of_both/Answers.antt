@@ -4,7 +4,7 @@ use Rattle.sqlite.specs.Effect.{Database}
 use Rattle.rd_policy.specs.declared.rule.Band.TheVariants.{Takedown, Deed}
 use Rattle.rd_store.specs.Held.{desk}
 use Rattle.rd_store.specs.Spelled.{desk_of}
-use Rattle.rd_store.specs.State.{rules_at}
+use Rattle.rd_protocol.specs.State.{rules_at}
 use Rattle.rd_store.proofs.Laws.{stays_then}
 use Rattle.rd_store.proofs.rules.rules_of_both.Goals as goal
 

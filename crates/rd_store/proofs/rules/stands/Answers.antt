@@ -3,7 +3,7 @@ use Rattle.std.specs.Prelude.{MatchBool}
 use Rattle.rd_policy.specs.declared.rule.Band.{Band}
 use Rattle.rd_store.specs.declared.faults.StoreFault.TheVariants.{Sql}
 use Rattle.rd_store.specs.Held.{Asks, desk}
-use Rattle.rd_store.specs.State.{Stands}
+use Rattle.rd_protocol.specs.State.{Stands}
 use Rattle.rd_store.proofs.rules.stands.Goals as goal
 
 pub returns-in-Takedown-clause-asks : goal.returns-in-Takedown-clause-asks

@@ -1,7 +1,7 @@
 use Rattle.std.specs.Prelude.{⊤}
 use Rattle.std.proofs.Common.{refl, subst}
 use Rattle.rd_store.specs.Held.{Judges, desk}
-use Rattle.rd_store.specs.State.{IsLastStaff}
+use Rattle.rd_protocol.specs.State.{IsLastStaff}
 use Rattle.rd_store.proofs.Registers.{listed_changes}
 use Rattle.rd_store.proofs.store.Store.drop_key.Goals as goal
 

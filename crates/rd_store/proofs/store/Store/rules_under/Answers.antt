@@ -2,7 +2,7 @@ use Rattle.std.proofs.Common.{sym, subst}
 use Rattle.std.proofs.lemmas.Result.{IfOk-weaker}
 use Rattle.rd_policy.specs.Verdicts.{AreInOrder}
 use Rattle.rd_store.specs.Held.{desk}
-use Rattle.rd_store.proofs.RulesFor.{both_in_order}
+use Rattle.rd_protocol.proofs.RulesFor.{both_in_order}
 use Rattle.rd_store.proofs.Registers.{listed_stays}
 use Rattle.rd_store.proofs.store.Store.rules_under.Goals as goal
 

@@ -1,0 +1,14 @@
+pub mod Operands
+pub mod Texts
+pub mod CatLine
+pub mod ListLine
+pub mod VersionLine
+pub mod Asked
+pub mod Written
+pub mod ReadUpTo
+pub mod ToldLine
+pub mod ListWritten
+pub mod Served
+pub mod Ran
+pub mod WordsWritten
+pub mod RowFields

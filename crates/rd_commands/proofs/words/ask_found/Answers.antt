@@ -1,0 +1,102 @@
+use Rattle.std.proofs.Common.{◌∙◌, inl, inr, subst, sym}
+use Rattle.clap.specs.Words.{subcommand_rows_of}
+use Rattle.rd_commands.specs.Asks.{AreCatRows, AreCheckRows, AreExportRows, AreImportRows, AreInitRows, AreServeRows, EntersAs}
+use Rattle.rd_commands.specs.Zones.{HasZoneRule}
+use Rattle.rd_commands.proofs.Asked.{clockless, entered_as, name_met, rows_met}
+use Rattle.rd_commands.proofs.words.ask_found.Goals as goal
+
+pub returns-in_err-file_asked-in-cat-clause-file : goal.returns-in_err-file_asked-in-cat-clause-file
+returns-in_err-file_asked-in-cat-clause-file c = λ kind image slot enters.
+    let rows = rows_met c.args.matches.now _ enters.rows _ enters.into (sym c.in_ok-name.ensures.rows) in
+    absurd (c.in_err-file_asked-in-cat.ensures kind image slot (subst (λ r. AreCatRows r kind image slot) rows enters.found))
+
+pub returns-in_ok-file_asked-in-cat-clause-file : goal.returns-in_ok-file_asked-in-cat-clause-file
+returns-in_ok-file_asked-in-cat-clause-file c = λ kind image slot enters.
+    let rows = rows_met c.args.matches.now _ enters.rows _ enters.into (sym c.in_ok-name.ensures.rows) in
+    c.in_ok-file_asked-in-cat.ensures kind image slot (subst (λ r. AreCatRows r kind image slot) rows enters.found)
+
+pub returns-in_ok-init_asked-in-init-clause-init : goal.returns-in_ok-init_asked-in-init-clause-init
+returns-in_ok-init_asked-in-init-clause-init c = λ store key enters.
+    let rows = rows_met c.args.matches.now _ enters.rows _ enters.into (sym c.in_ok-name.ensures.rows) in
+    c.in_ok-init_asked-in-init.ensures store key (subst (λ r. AreInitRows r store key) rows enters.found)
+
+pub returns-in_err-serve_asked-in-serve-clause-serve : goal.returns-in_err-serve_asked-in-serve-clause-serve
+returns-in_err-serve_asked-in-serve-clause-serve c = λ store port count rule enters.
+    let rows = rows_met c.args.matches.now _ enters.rows _ enters.into (sym c.in_ok-name.ensures.rows) in
+    absurd (c.in_err-serve_asked-in-serve.ensures.asked store port count rule (subst (λ r. AreServeRows r store port count rule) rows enters.found))
+
+pub returns-in_ok-serve_asked-in-serve-clause-serve : goal.returns-in_ok-serve_asked-in-serve-clause-serve
+returns-in_ok-serve_asked-in-serve-clause-serve c = λ store port count rule enters.
+    let rows = rows_met c.args.matches.now _ enters.rows _ enters.into (sym c.in_ok-name.ensures.rows) in
+    c.in_ok-serve_asked-in-serve.ensures.asked store port count rule (subst (λ r. AreServeRows r store port count rule) rows enters.found)
+
+pub returns-in_err-import_asked-in-import-clause-import : goal.returns-in_err-import_asked-in-import-clause-import
+returns-in_err-import_asked-in-import-clause-import c = λ store key sheet moment rule enters.
+    let rows = rows_met c.args.matches.now _ enters.rows _ enters.into (sym c.in_ok-name.ensures.rows) in
+    absurd (c.in_err-import_asked-in-import.ensures.asked store key sheet moment rule (subst (λ r. AreImportRows r store key sheet moment rule) rows enters.found))
+
+pub returns-in_ok-import_asked-in-import-clause-import : goal.returns-in_ok-import_asked-in-import-clause-import
+returns-in_ok-import_asked-in-import-clause-import c = λ store key sheet moment rule enters.
+    let rows = rows_met c.args.matches.now _ enters.rows _ enters.into (sym c.in_ok-name.ensures.rows) in
+    c.in_ok-import_asked-in-import.ensures.asked store key sheet moment rule (subst (λ r. AreImportRows r store key sheet moment rule) rows enters.found)
+
+pub returns-in_err-export_asked-in-export-clause-export : goal.returns-in_err-export_asked-in-export-clause-export
+returns-in_err-export_asked-in-export-clause-export c = λ store key moment rule enters.
+    let rows = rows_met c.args.matches.now _ enters.rows _ enters.into (sym c.in_ok-name.ensures.rows) in
+    absurd (c.in_err-export_asked-in-export.ensures.asked store key moment rule (subst (λ r. AreExportRows r store key moment rule) rows enters.found))
+
+pub returns-in_ok-export_asked-in-export-clause-export : goal.returns-in_ok-export_asked-in-export-clause-export
+returns-in_ok-export_asked-in-export-clause-export c = λ store key moment rule enters.
+    let rows = rows_met c.args.matches.now _ enters.rows _ enters.into (sym c.in_ok-name.ensures.rows) in
+    c.in_ok-export_asked-in-export.ensures.asked store key moment rule (subst (λ r. AreExportRows r store key moment rule) rows enters.found)
+
+pub returns-in_err-check_asked-in-check-clause-check : goal.returns-in_err-check_asked-in-check-clause-check
+returns-in_err-check_asked-in-check-clause-check c = λ store key acc moment rule enters.
+    let rows = rows_met c.args.matches.now _ enters.rows _ enters.into (sym c.in_ok-name.ensures.rows) in
+    absurd (c.in_err-check_asked-in-check.ensures.asked store key acc moment rule (subst (λ r. AreCheckRows r store key acc moment rule) rows enters.found))
+
+pub returns-in_ok-check_asked-in-check-clause-check : goal.returns-in_ok-check_asked-in-check-clause-check
+returns-in_ok-check_asked-in-check-clause-check c = λ store key acc moment rule enters.
+    let rows = rows_met c.args.matches.now _ enters.rows _ enters.into (sym c.in_ok-name.ensures.rows) in
+    c.in_ok-check_asked-in-check.ensures.asked store key acc moment rule (subst (λ r. AreCheckRows r store key acc moment rule) rows enters.found)
+
+pub returns-in_ok-import_asked-in-import-clause-told_on_output : goal.returns-in_ok-import_asked-in-import-clause-told_on_output
+returns-in_ok-import_asked-in-import-clause-told_on_output c = λ tells.
+    inl (subst (λ name. EntersAs name (subcommand_rows_of c.args.matches.now)) c.in-import.is
+    (entered_as c.args.matches.now _ _ c.in_ok-name.ensures.name c.in_ok-name.ensures.rows))
+
+pub returns-in_ok-check_asked-in-check-clause-told_on_output : goal.returns-in_ok-check_asked-in-check-clause-told_on_output
+returns-in_ok-check_asked-in-check-clause-told_on_output c = λ tells.
+    inr (subst (λ name. EntersAs name (subcommand_rows_of c.args.matches.now)) c.in-check.is
+    (entered_as c.args.matches.now _ _ c.in_ok-name.ensures.name c.in_ok-name.ensures.rows))
+
+pub returns-in_ok-file_asked-in-cat-clause-zone : goal.returns-in_ok-file_asked-in-cat-clause-zone
+returns-in_ok-file_asked-in-cat-clause-zone c = λ name rows into clocks.
+    let met = name_met c.args.matches.now name _ rows _ into c.in_ok-name.ensures.name c.in_ok-name.ensures.rows in
+    absurd (clockless name (inl (met ∙ c.in-cat.is)) clocks)
+
+pub returns-in_ok-files_asked-in-list-clause-zone : goal.returns-in_ok-files_asked-in-list-clause-zone
+returns-in_ok-files_asked-in-list-clause-zone c = λ name rows into clocks.
+    let met = name_met c.args.matches.now name _ rows _ into c.in_ok-name.ensures.name c.in_ok-name.ensures.rows in
+    absurd (clockless name (inr (inl (met ∙ c.in-list.is))) clocks)
+
+pub returns-in_ok-init_asked-in-init-clause-zone : goal.returns-in_ok-init_asked-in-init-clause-zone
+returns-in_ok-init_asked-in-init-clause-zone c = λ name rows into clocks.
+    let met = name_met c.args.matches.now name _ rows _ into c.in_ok-name.ensures.name c.in_ok-name.ensures.rows in
+    absurd (clockless name (inr (inr (met ∙ c.in-init.is))) clocks)
+
+pub returns-in_ok-serve_asked-in-serve-clause-zone : goal.returns-in_ok-serve_asked-in-serve-clause-zone
+returns-in_ok-serve_asked-in-serve-clause-zone c = λ name rows into clocks.
+    subst HasZoneRule (sym (rows_met c.args.matches.now name rows _ into (sym c.in_ok-name.ensures.rows))) (c.in_ok-serve_asked-in-serve.ensures.zone)
+
+pub returns-in_ok-import_asked-in-import-clause-zone : goal.returns-in_ok-import_asked-in-import-clause-zone
+returns-in_ok-import_asked-in-import-clause-zone c = λ name rows into clocks.
+    subst HasZoneRule (sym (rows_met c.args.matches.now name rows _ into (sym c.in_ok-name.ensures.rows))) (c.in_ok-import_asked-in-import.ensures.zone)
+
+pub returns-in_ok-export_asked-in-export-clause-zone : goal.returns-in_ok-export_asked-in-export-clause-zone
+returns-in_ok-export_asked-in-export-clause-zone c = λ name rows into clocks.
+    subst HasZoneRule (sym (rows_met c.args.matches.now name rows _ into (sym c.in_ok-name.ensures.rows))) (c.in_ok-export_asked-in-export.ensures.zone)
+
+pub returns-in_ok-check_asked-in-check-clause-zone : goal.returns-in_ok-check_asked-in-check-clause-zone
+returns-in_ok-check_asked-in-check-clause-zone c = λ name rows into clocks.
+    subst HasZoneRule (sym (rows_met c.args.matches.now name rows _ into (sym c.in_ok-name.ensures.rows))) (c.in_ok-check_asked-in-check.ensures.zone)

@@ -1,0 +1,20 @@
+use Rattle.clap.specs.Words.{found_of}
+use Rattle.std.proofs.Common.{codes}
+use Rattle.rd_commands.proofs.Asked.{text_is, text_there}
+use Rattle.rd_commands.proofs.words.import_asked.Goals as goal
+
+pub returns-in_err-get_str-clause-asked : goal.returns-in_err-get_str-clause-asked
+returns-in_err-get_str-clause-asked c = λ store key sheet moment rule rows.
+    absurd (text_there (found_of c.args.found.now) (codes "store") store c.in_err-get_str.ensures rows.store_found)
+
+pub returns-in_err-get_str-2-clause-asked : goal.returns-in_err-get_str-2-clause-asked
+returns-in_err-get_str-2-clause-asked c = λ store key sheet moment rule rows.
+    absurd (text_there (found_of c.args.found.now) (codes "sheet") sheet c.in_err-get_str-2.ensures rows.sheet_found)
+
+pub returns-clause-asked : goal.returns-clause-asked
+returns-clause-asked c = λ store key sheet moment rule rows. record {
+  store_is = text_is (found_of c.args.found.now) (codes "store") _ store c.in_ok-get_str.ensures rows.store_found;
+  key_is = c.in_ok-key_asked.ensures key rows.key_found;
+  sheet_is = text_is (found_of c.args.found.now) (codes "sheet") _ sheet c.in_ok-get_str-2.ensures rows.sheet_found;
+  when_is = c.in_ok-when_asked.ensures.asked moment rule rows.moment_told rows.rule_told;
+}

@@ -1,0 +1,296 @@
+-- What the program reads in the words of a command.
+use Rattle.std.specs.Prelude.{◌≡◌, ◌+◌, ◌⊎◌, ⊤, ℕ, ℤ, List, None, Ok, Option, Some, codes, option_map}
+use Rattle.std.specs.Int.{w64}
+use Rattle.std.specs.Str.Parse.{ParsesSigned, ParsesUnsigned}
+use Rattle.std.specs.declared.num.ParseIntError.{ParseIntError}
+use Rattle.clap.specs.Values.{kind_of}
+use Rattle.clap.specs.Words.{Row, Text, first_of, one_of}
+use Rattle.clap.specs.declared.error.kind.ErrorKind.TheVariants.{DisplayHelp, DisplayVersion}
+use Rattle.rd_geometry.specs.declared.kind.Kind.{Kind}
+use Rattle.httparse.specs.Grammar.{trim_ows}
+use Rattle.rd_geometry.specs.Kinds.{size_of, word_of}
+use Rattle.rd_policy.specs.Zones.{IsZoneOf}
+use Rattle.rd_policy.specs.Rules.{IsScope}
+use Rattle.rd_commands.specs.declared.words.Ask.{Ask}
+use Rattle.rd_commands.specs.declared.words.Ask.TheVariants.{File, Files, Import, Init, Once, Serve}
+use Rattle.rd_commands.specs.declared.words.FileAsk.{FileAsk}
+use Rattle.rd_commands.specs.declared.words.ImageAsk.{ImageAsk}
+use Rattle.rd_commands.specs.declared.words.ImportAsk.{ImportAsk}
+use Rattle.rd_commands.specs.declared.words.InitAsk.{InitAsk}
+use Rattle.rd_commands.specs.declared.words.OnceAsk.{OnceAsk}
+use Rattle.rd_commands.specs.declared.words.Question.{Question}
+use Rattle.rd_commands.specs.declared.words.Question.TheVariants as question
+use Rattle.rd_commands.specs.declared.words.ServeAsk.{ServeAsk}
+use Rattle.rd_commands.specs.declared.words.Unread.{Unread}
+use Rattle.rd_commands.specs.declared.words.WhenAsk.{WhenAsk}
+use Rattle.rd_commands.specs.declared.words.Unread.TheVariants.{Told, Usage, NoMemory}
+use Rattle.rd_commands.specs.CommandLine.{HasFault}
+use Rattle.rd_commands.specs.Words.{IsSlotText}
+use Rattle.rd_commands.specs.Zones.{HasClocks, HasZoneRule, IsRuleTold}
+
+-- it asks for the file at the slot of the image of the kind
+pub record AsksFile (ask : FileAsk) (kind : Kind) (image : List ℕ) (slot : ℕ) : Type 0 where
+  pub kind_is : ask.kind ≡ kind
+  pub image_is : ask.image.now ≡ image
+  pub slot_is : ask.slot ≡ slot
+
+-- it asks for the files of the image of the kind
+pub record AsksFiles (ask : ImageAsk) (kind : Kind) (image : List ℕ) : Type 0 where
+  pub kind_is : ask.kind ≡ kind
+  pub image_is : ask.image.now ≡ image
+
+-- it asks for a desk in the file of the store, with this key without the blanks and tabs at both
+-- ends
+pub record AsksNew (ask : InitAsk) (store key : List ℕ) : Type 0 where
+  pub store_is : ask.store.now ≡ store
+  pub key_is : ask.key.now ≡ trim_ows key
+
+-- it asks for so many visits, at the port, of the desk in the file of the store, with clocks by
+-- the rule
+pub record AsksVisits (ask : ServeAsk) (store : List ℕ) (port count : ℕ) (rule : List ℕ) : Type 0 where
+  pub store_is : ask.store.now ≡ store
+  pub port_is : ask.port ≡ port
+  pub count_is : ask.count ≡ count
+  pub zone_is : IsZoneOf rule ask.zone
+
+-- it names a moment, in seconds since 1970-01-01T00:00:00 UTC, or none, and clocks by the rule
+pub record AsksWhen (ask : WhenAsk) (moment : Option ℤ) (rule : List ℕ) : Type 0 where
+  pub moment_is : ask.seconds ≡ moment
+  pub zone_is : IsZoneOf rule ask.zone
+
+-- It asks the desk in the file of the store to take in the images of the sheet, for a caller with
+-- this key without the blanks and tabs at both ends, at that moment by these clocks.
+pub record AsksImages (ask : ImportAsk) (store key sheet : List ℕ) (moment : Option ℤ) (rule : List ℕ) : Type 0 where
+  pub store_is : ask.store.now ≡ store
+  pub key_is : ask.key.now ≡ trim_ows key
+  pub sheet_is : ask.sheet.now ≡ sheet
+  pub when_is : AsksWhen ask.when moment rule
+
+-- It asks the desk in the file of the store this question, for a caller with this key without the
+-- blanks and tabs at both ends, or without one, at that moment by these clocks.
+pub record AsksOnce (ask : OnceAsk) (store : List ℕ) (key : Option (List ℕ)) (question : Question) (moment : Option ℤ) (rule : List ℕ) : Type 0 where
+  pub store_is : ask.store.now ≡ store
+  pub key_is : option_map (λ key. key.now) ask.key ≡ option_map trim_ows key
+  pub question_is : ask.question ≡ question
+  pub when_is : AsksWhen ask.when moment rule
+
+-- the command asks for the file at the slot of the image of the kind
+abbrev pub IsFileAsk : Kind → List ℕ → ℕ → Ask → Type 0
+IsFileAsk kind image slot (File ask) = AsksFile ask kind image slot
+IsFileAsk kind image slot _ = ⊥
+
+-- the command asks for the files of the image of the kind
+abbrev pub IsFilesAsk : Kind → List ℕ → Ask → Type 0
+IsFilesAsk kind image (Files ask) = AsksFiles ask kind image
+IsFilesAsk kind image _ = ⊥
+
+-- the command asks for a desk in the file of the store, with the key
+abbrev pub IsInitAsk : List ℕ → List ℕ → Ask → Type 0
+IsInitAsk store key (Init ask) = AsksNew ask store key
+IsInitAsk store key _ = ⊥
+
+-- the command asks for so many visits at the port, of the desk in the file of the store, by its
+-- clocks
+abbrev pub IsServeAsk : List ℕ → ℕ → ℕ → List ℕ → Ask → Type 0
+IsServeAsk store port count rule (Serve ask) = AsksVisits ask store port count rule
+IsServeAsk store port count rule _ = ⊥
+
+-- the command asks the desk in the file of the store to take in the images of the sheet, for the
+-- key
+abbrev pub IsImportAsk : List ℕ → List ℕ → List ℕ → Option ℤ → List ℕ → Ask → Type 0
+IsImportAsk store key sheet moment rule (Import ask) = AsksImages ask store key sheet moment rule
+IsImportAsk store key sheet moment rule _ = ⊥
+
+-- the command asks for an answer of the desk in the file of the store
+abbrev pub IsOnceAsk : List ℕ → Option (List ℕ) → Question → Option ℤ → List ℕ → Ask → Type 0
+IsOnceAsk store key question moment rule (Once ask) = AsksOnce ask store key question moment rule
+IsOnceAsk store key question moment rule _ = ⊥
+
+-- one question to a desk
+abbrev pub AsksADesk : Ask → Type 0
+AsksADesk (Once ask) = ⊤
+AsksADesk _ = ⊥
+
+-- the question what a check of this accession finds
+abbrev pub IsCheckOf : ℕ → Question → Type 0
+IsCheckOf acc (question.Check accession) = accession ≡ acc
+IsCheckOf acc question.Catalogue = ⊥
+
+-- the question to a desk what a check of this accession finds
+abbrev pub AsksCheckOf : ℕ → Ask → Type 0
+AsksCheckOf acc (Once ask) = IsCheckOf acc ask.question
+AsksCheckOf acc _ = ⊥
+
+-- the question asks for a check
+abbrev pub IsCheck : Question → Type 0
+IsCheck (question.Check accession) = ⊤
+IsCheck question.Catalogue = ⊥
+
+-- the number of an accession in a question is within its limits
+abbrev pub IsAskable : Question → Type 0
+IsAskable (question.Check accession) = IsScope accession
+IsAskable question.Catalogue = ⊤
+
+-- if not all is well, the output says so: what became of a row, or that an image is changed
+abbrev pub TellsOnOutput : Ask → Type 0
+TellsOnOutput (Import ask) = ⊤
+TellsOnOutput (Once ask) = IsCheck ask.question
+TellsOnOutput _ = ⊥
+
+-- the command goes row by row, and a line for each row says what became of it
+abbrev pub TellsInRows : Ask → Type 0
+TellsInRows (Import ask) = ⊤
+TellsInRows _ = ⊥
+
+-- if the command names an accession, its number is from 1 to 999,999
+abbrev pub IsWithinLimits : Ask → Type 0
+IsWithinLimits (Once ask) = IsAskable ask.question
+IsWithinLimits _ = ⊤
+
+-- how many bytes of the input the command reads at most: one more than an image of the kind has,
+-- or none if it reads no image
+abbrev pub most_read : Ask → ℕ
+most_read (File ask) = size_of ask.kind + 1
+most_read (Files ask) = size_of ask.kind + 1
+most_read (Init ask) = 0
+most_read (Serve ask) = 0
+most_read (Import ask) = 0
+most_read (Once ask) = 0
+
+-- the text to write is help
+abbrev pub IsHelp : Unread → Type 0
+IsHelp (Told error) = kind_of error ≡ DisplayHelp
+IsHelp Usage = ⊥
+IsHelp NoMemory = ⊥
+
+-- the text to write is the version
+abbrev pub IsVersion : Unread → Type 0
+IsVersion (Told error) = kind_of error ≡ DisplayVersion
+IsVersion Usage = ⊥
+IsVersion NoMemory = ⊥
+
+-- the text to write is a fault that `clap` finds in the words
+abbrev pub IsFaultOf : List Text → Unread → Type 0
+IsFaultOf words (Told error) = HasFault words (kind_of error)
+IsFaultOf words Usage = Unit {0}
+IsFaultOf words NoMemory = Unit {0}
+
+-- the operands that `clap` found for `cat`
+pub record AreCatRows (rows : List Row) (kind : Kind) (image : List ℕ) (slot : ℕ) : Type 0 where
+  pub kind_found : first_of (codes "KIND") rows ≡ Some (word_of kind)
+  pub image_found : first_of (codes "IMAGE") rows ≡ Some image
+  pub slot_text : List ℕ
+  pub slot_found : one_of (codes "SLOT") rows ≡ Some slot_text
+  pub number : IsSlotText slot_text slot
+
+-- the parse went into `cat`, and found its operands
+pub record EntersCat (entered : Option (Text × List Row)) (kind : Kind) (image : List ℕ) (slot : ℕ)
+    : Type 0 where
+  pub rows : List Row
+  pub into : entered ≡ Some (codes "cat", rows)
+  pub found : AreCatRows rows kind image slot
+
+-- the operands that `clap` found for `list`
+pub record AreListRows (rows : List Row) (kind : Kind) (image : List ℕ) : Type 0 where
+  pub kind_found : first_of (codes "KIND") rows ≡ Some (word_of kind)
+  pub image_found : first_of (codes "IMAGE") rows ≡ Some image
+
+-- the parse went into `list`, and found its operands
+pub record EntersList (entered : Option (Text × List Row)) (kind : Kind) (image : List ℕ)
+    : Type 0 where
+  pub rows : List Row
+  pub into : entered ≡ Some (codes "list", rows)
+  pub found : AreListRows rows kind image
+
+-- the options that `clap` found for `init`
+pub record AreInitRows (rows : List Row) (store key : List ℕ) : Type 0 where
+  pub store_found : first_of (codes "store") rows ≡ Some store
+  pub key_found : first_of (codes "key") rows ≡ Some key
+
+-- the parse went into `init`, and found its options
+pub record EntersInit (entered : Option (Text × List Row)) (store key : List ℕ) : Type 0 where
+  pub rows : List Row
+  pub into : entered ≡ Some (codes "init", rows)
+  pub found : AreInitRows rows store key
+
+-- the options that `clap` found for `serve`: of the numbers the texts, and of the zone one that may be absent
+pub record AreServeRows (rows : List Row) (store : List ℕ) (port count : ℕ) (rule : List ℕ) : Type 0 where
+  pub store_found : first_of (codes "store") rows ≡ Some store
+  pub port_text : List ℕ
+  pub port_found : one_of (codes "port") rows ≡ Some port_text
+  pub port_number : ParsesUnsigned {E = ParseIntError} 16 10 port_text (Ok port)
+  pub count_text : List ℕ
+  pub count_found : one_of (codes "count") rows ≡ Some count_text
+  pub count_number : ParsesUnsigned {E = ParseIntError} 32 10 count_text (Ok count)
+  pub rule_told : IsRuleTold (first_of (codes "zone") rows) rule
+
+-- the parse went into `serve`, and found its options
+pub record EntersServe (entered : Option (Text × List Row)) (store : List ℕ) (port count : ℕ) (rule : List ℕ) : Type 0 where
+  pub rows : List Row
+  pub into : entered ≡ Some (codes "serve", rows)
+  pub found : AreServeRows rows store port count rule
+
+-- what the option for a moment gives: nothing if it is absent, and otherwise the number that its
+-- text writes
+abbrev pub IsMomentTold : Option (List ℕ) → Option ℤ → Type 0
+IsMomentTold (Some text) moment = (seconds : ℤ) × ParsesSigned {E = ParseIntError} w64 10 text (Ok seconds) × (moment ≡ Some seconds)
+IsMomentTold None moment = moment ≡ None
+
+-- the options that `clap` found for `import`: of the moment and the zone those that are there
+pub record AreImportRows (rows : List Row) (store key sheet : List ℕ) (moment : Option ℤ) (rule : List ℕ) : Type 0 where
+  pub store_found : first_of (codes "store") rows ≡ Some store
+  pub key_found : first_of (codes "key") rows ≡ Some key
+  pub sheet_found : first_of (codes "sheet") rows ≡ Some sheet
+  pub moment_told : IsMomentTold (one_of (codes "at") rows) moment
+  pub rule_told : IsRuleTold (first_of (codes "zone") rows) rule
+
+-- the parse went into `import`, and found its options
+pub record EntersImport (entered : Option (Text × List Row)) (store key sheet : List ℕ) (moment : Option ℤ) (rule : List ℕ)
+    : Type 0 where
+  pub rows : List Row
+  pub into : entered ≡ Some (codes "import", rows)
+  pub found : AreImportRows rows store key sheet moment rule
+
+-- the parse went into the command of this name
+abbrev pub EntersAs : Text → Option (Text × List Row) → Type 0
+EntersAs name entered = (rows : List Row) × (entered ≡ Some (name, rows))
+
+-- if the parse went into a command that has clocks, it found a rule for them
+abbrev pub EntersByRule : Option (Text × List Row) → Type 0
+EntersByRule entered = (name : List ℕ) (rows : List Row) → entered ≡ Some (name, rows) → HasClocks name → HasZoneRule rows
+
+-- the options that `clap` found for `export`: of the key, the moment and the zone those that are there
+pub record AreExportRows (rows : List Row) (store : List ℕ) (key : Option (List ℕ)) (moment : Option ℤ) (rule : List ℕ) : Type 0 where
+  pub store_found : first_of (codes "store") rows ≡ Some store
+  pub key_told : first_of (codes "key") rows ≡ key
+  pub moment_told : IsMomentTold (one_of (codes "at") rows) moment
+  pub rule_told : IsRuleTold (first_of (codes "zone") rows) rule
+
+-- the parse went into `export`, and found its options
+pub record EntersExport (entered : Option (Text × List Row)) (store : List ℕ) (key : Option (List ℕ)) (moment : Option ℤ) (rule : List ℕ)
+    : Type 0 where
+  pub rows : List Row
+  pub into : entered ≡ Some (codes "export", rows)
+  pub found : AreExportRows rows store key moment rule
+
+-- the options that `clap` found for `check`: of the moment and the zone those that are there
+pub record AreCheckRows (rows : List Row) (store key : List ℕ) (acc : ℕ) (moment : Option ℤ) (rule : List ℕ) : Type 0 where
+  pub store_found : first_of (codes "store") rows ≡ Some store
+  pub key_found : first_of (codes "key") rows ≡ Some key
+  pub acc_text : List ℕ
+  pub acc_found : one_of (codes "acc") rows ≡ Some acc_text
+  pub acc_number : ParsesUnsigned {E = ParseIntError} 32 10 acc_text (Ok acc)
+  pub acc_within : IsScope acc
+  pub moment_told : IsMomentTold (one_of (codes "at") rows) moment
+  pub rule_told : IsRuleTold (first_of (codes "zone") rows) rule
+
+-- the parse went into `check`, and found its options
+pub record EntersCheck (entered : Option (Text × List Row)) (store key : List ℕ) (acc : ℕ) (moment : Option ℤ) (rule : List ℕ)
+    : Type 0 where
+  pub rows : List Row
+  pub into : entered ≡ Some (codes "check", rows)
+  pub found : AreCheckRows rows store key acc moment rule
+
+-- the parse went into a command whose output says if not all is well
+abbrev pub EntersTelling : Option (Text × List Row) → Type 0
+EntersTelling entered = EntersAs (codes "import") entered ⊎ EntersAs (codes "check") entered

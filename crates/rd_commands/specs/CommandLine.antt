@@ -1,0 +1,197 @@
+-- The command line as the program describes it to `clap`.
+use Rattle.std.specs.Prelude.{◌≡◌, ◌⊎◌, List, [], ◌∷◌, Some, codes, map, pos, true}
+use Rattle.std.specs.Borrow.{Bor}
+use Rattle.clap.specs.Simple.{on_top}
+use Rattle.clap.specs.Words.{App, IsAmong, Row, Rule, Shape, Text, fault_of, new_app, new_rule, subcommand_of, with_rule, with_subcommand}
+use Rattle.clap.specs.declared.error.kind.ErrorKind.{ErrorKind}
+use Rattle.clap.specs.declared.error.kind.ErrorKind.TheVariants.{DisplayHelp, DisplayVersion}
+use Rattle.clap.specs.declared.builder.value_parser.ValueParser.{ValueParser}
+use Rattle.clap.specs.declared.builder.value_parser.ValueParser.TheVariants.{Names, Signed}
+use Rattle.rd_geometry.specs.Kinds.{word_of}
+use Rattle.rd_protocol.specs.Parts.{all_kinds}
+
+-- a list of names, behind references
+abbrev pub NameList : Type 0
+NameList = Bor (List (Bor Text))
+
+-- a required operand
+abbrev pub required : Text → Rule
+required id = record (new_rule id) { required = true }
+
+-- a required operand that passes a parser
+abbrev pub required_by : Text → ValueParser → Rule
+required_by id parser = record (required id) { parser = Some parser }
+
+-- the operand for a kind, one of these names
+abbrev pub kind_rule : NameList → Rule
+kind_rule kinds = required_by (codes "KIND") (Names kinds)
+
+-- the operand for an image
+abbrev pub image_rule : Rule
+image_rule = required (codes "IMAGE")
+
+-- the operand for a slot, a number from 0 to 9,999
+abbrev pub slot_rule : Rule
+slot_rule = required_by (codes "SLOT") (Signed (pos 0) (pos 9999))
+
+-- the command `cat`
+abbrev pub cat_app : NameList → App
+cat_app kinds =
+    with_rule (with_rule (with_rule (new_app (codes "cat")) (kind_rule kinds)) image_rule) slot_rule
+
+-- the command `list`
+abbrev pub list_app : NameList → App
+list_app kinds = with_rule (with_rule (new_app (codes "list")) (kind_rule kinds)) image_rule
+
+-- a required option, whose value has a name in the help
+abbrev pub required_option : Text → Rule
+required_option id = record (required id) { long = Some id; value_names = 1 }
+
+-- the option for the file of a store
+abbrev pub store_rule : Rule
+store_rule = required_option (codes "store")
+
+-- the option for a desk key
+abbrev pub key_rule : Rule
+key_rule = required_option (codes "key")
+
+-- the option for a port, a number from 1 to 65,535
+abbrev pub port_rule : Rule
+port_rule = record (required_option (codes "port")) { parser = Some (Signed (pos 1) (pos 65535)) }
+
+-- the option for a number of visits, from 0 to 4,294,967,295
+abbrev pub count_rule : Rule
+count_rule = record (required_option (codes "count")) { parser = Some (Signed (pos 0) (pos 4294967295)) }
+
+-- the option for the zone of a desk's clocks, which may be absent
+abbrev pub zone_rule : Rule
+zone_rule = record (new_rule (codes "zone")) { long = Some (codes "zone"); value_names = 1 }
+
+-- the option for a sheet
+abbrev pub sheet_rule : Rule
+sheet_rule = required_option (codes "sheet")
+
+-- the option for a moment, a number from 0 to 9,223,372,036,854,775,807, which may be absent
+abbrev pub moment_rule : Rule
+moment_rule = record (new_rule (codes "at")) {
+  long = Some (codes "at");
+  value_names = 1;
+  parser = Some (Signed (pos 0) (pos 9223372036854775807));
+}
+
+-- the option for a desk key that may be absent
+abbrev pub optional_key_rule : Rule
+optional_key_rule = record (new_rule (codes "key")) { long = Some (codes "key"); value_names = 1 }
+
+-- the option for an accession, a number from 1 to 999,999
+abbrev pub accession_rule : Rule
+accession_rule = record (required_option (codes "acc")) { parser = Some (Signed (pos 1) (pos 999999)) }
+
+-- the command `init`
+abbrev pub init_app : App
+init_app = with_rule (with_rule (new_app (codes "init")) store_rule) key_rule
+
+-- the command `serve`
+abbrev pub serve_app : App
+serve_app =
+    with_rule (with_rule (with_rule (with_rule (new_app (codes "serve")) store_rule) port_rule) count_rule) zone_rule
+
+-- the command `import`
+abbrev pub import_app : App
+import_app =
+    with_rule (with_rule (with_rule (with_rule (with_rule (new_app (codes "import")) store_rule) key_rule) sheet_rule)
+    moment_rule) zone_rule
+
+-- the command `export`
+abbrev pub export_app : App
+export_app =
+    with_rule (with_rule (with_rule (with_rule (new_app (codes "export")) store_rule) optional_key_rule) moment_rule)
+    zone_rule
+
+-- the command `check`
+abbrev pub check_app : App
+check_app =
+    with_rule (with_rule (with_rule (with_rule (with_rule (new_app (codes "check")) store_rule) key_rule) accession_rule)
+    moment_rule) zone_rule
+
+-- the words come without the program's name, one of them is a command's, and there is a version
+abbrev pub wants_command : Shape → Shape
+wants_command s = record s {
+  no_binary_name = true;
+  has_version = true;
+  arg_required_else_help = true;
+  subcommand_required = true;
+}
+
+-- the program, without its commands
+abbrev pub bare_app : App
+bare_app = on_top wants_command (new_app (codes "desk"))
+
+-- the program
+abbrev pub desk_app : NameList → NameList → App
+desk_app kinds kinds' =
+    with_subcommand (with_subcommand (with_subcommand (with_subcommand (with_subcommand (with_subcommand (with_subcommand
+    bare_app (cat_app kinds).top) (list_app kinds').top) init_app.top) serve_app.top) import_app.top) export_app.top)
+    check_app.top
+
+-- the names are the words of all kinds
+abbrev pub AreKindNames : NameList → Type 0
+AreKindNames kinds = map (λ name. name.now) kinds.now ≡ map word_of all_kinds
+
+-- an operand for one of the kinds
+abbrev pub IsKindRule : Rule → Type 0
+IsKindRule rule = (kinds : NameList) × AreKindNames kinds × (rule ≡ kind_rule kinds)
+
+-- the command `cat`, with one of the kinds
+abbrev pub IsCatApp : App → Type 0
+IsCatApp app = (kinds : NameList) × AreKindNames kinds × (app ≡ cat_app kinds)
+
+-- the command `list`, with one of the kinds
+abbrev pub IsListApp : App → Type 0
+IsListApp app = (kinds : NameList) × AreKindNames kinds × (app ≡ list_app kinds)
+
+-- the program, whose commands take these kinds
+pub record IsDeskApp (app : App) : Type 0 where
+  pub cat_kinds : NameList
+  pub list_kinds : NameList
+  pub cat_names : AreKindNames cat_kinds
+  pub list_names : AreKindNames list_kinds
+  pub is : app ≡ desk_app cat_kinds list_kinds
+
+-- `clap` finds no fault in the words: they are a command of the program
+pub record IsTaken (words : List Text) : Type 0 where
+  pub app : App
+  pub is_desk : IsDeskApp app
+  pub no_fault : fault_of app words ≡ []
+
+-- they are this command
+pub record IsTakenAs (name : Text) (words : List Text) : Type 0 where
+  pub app : App
+  pub is_desk : IsDeskApp app
+  pub no_fault : fault_of app words ≡ []
+  pub rows : List Row
+  pub into : subcommand_of app words ≡ Some (name, rows)
+
+-- they are a command whose output says if not all is well
+abbrev pub IsTakenTelling : List Text → Type 0
+IsTakenTelling words = IsTakenAs (codes "import") words ⊎ IsTakenAs (codes "check") words
+
+-- `clap` finds a fault of a kind in the words; a call for help or the version is one
+pub record HasFault (words : List Text) (kind : ErrorKind) : Type 0 where
+  pub app : App
+  pub is_desk : IsDeskApp app
+  pub fault : IsAmong kind (fault_of app words)
+
+-- `clap` finds no fault in the words, and takes them as the command of this name with these rows, however
+-- the program is described
+pub record Enters (words : List Text) (name : Text) (rows : List Row) : Type 0 where
+  pub no_fault : (app : App) → IsDeskApp app → fault_of app words ≡ []
+  pub into : (app : App) → IsDeskApp app → subcommand_of app words ≡ Some (name, rows)
+
+-- the words ask for help
+abbrev pub AsksForHelp : List Text → Type 0
+AsksForHelp words = HasFault words DisplayHelp
+
+-- the words ask for the version
+abbrev pub AsksForVersion : List Text → Type 0
+AsksForVersion words = HasFault words DisplayVersion

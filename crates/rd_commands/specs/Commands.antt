@@ -1,0 +1,89 @@
+-- What words ask for.
+use Rattle.std.specs.Prelude.{◌⊎◌, ℕ, ℤ, List, Option, Some, codes}
+use Rattle.clap.specs.Words.{Row, Text}
+use Rattle.rd_geometry.specs.declared.kind.Kind.{Kind}
+use Rattle.rd_commands.specs.declared.words.Ask.{Ask}
+use Rattle.rd_commands.specs.declared.words.Question.TheVariants.{Catalogue, Check}
+use Rattle.rd_commands.specs.Asks.{AreCheckRows, AreExportRows, AreImportRows, AreInitRows, AreServeRows, IsFileAsk, IsFilesAsk, IsImportAsk, IsInitAsk, IsOnceAsk, IsServeAsk}
+use Rattle.rd_commands.specs.CommandLine.{Enters}
+use Rattle.rd_commands.specs.Words.{AsksCat, AsksList}
+use Rattle.rd_commands.specs.Zones.{HasClocks, HasZoneRule}
+
+-- The words ask for a desk in the file of a store, with a key: they are those of `init`, as `clap` takes them.
+pub record AsksInit (words : List Text) (store key : List ℕ) : Type 0 where
+  pub rows : List Row
+  pub enters : Enters words (codes "init") rows
+  pub found : AreInitRows rows store key
+
+-- The words ask for so many visits at a port, of the desk in the file of a store whose clocks are those of the
+-- rule: they are those of `serve`, as `clap` takes them.
+pub record AsksServe (words : List Text) (store : List ℕ) (port count : ℕ) (rule : List ℕ) : Type 0 where
+  pub rows : List Row
+  pub enters : Enters words (codes "serve") rows
+  pub found : AreServeRows rows store port count rule
+
+-- The words ask the desk in the file of a store to take in the images of a sheet, for a caller
+-- with this key, at a moment that they name, or that of the clock, by the clocks of the rule: they
+-- are those of `import`, as `clap` takes them.
+pub record AsksImport (words : List Text) (store key sheet : List ℕ) (moment : Option ℤ) (rule : List ℕ) : Type 0 where
+  pub rows : List Row
+  pub enters : Enters words (codes "import") rows
+  pub found : AreImportRows rows store key sheet moment rule
+
+-- they ask for it with some options
+abbrev pub IsImport : List Text → Type 0
+IsImport words = (store : List ℕ) × (key : List ℕ) × (sheet : List ℕ) × (moment : Option ℤ) × (rule : List ℕ)
+    × AsksImport words store key sheet moment rule
+
+-- The words ask for the catalogue of the desk in the file of a store, for a caller with this key
+-- or without one, at a moment that they name, or that of the clock, by the clocks of the rule:
+-- they are those of `export`, as `clap` takes them.
+pub record AsksExport (words : List Text) (store : List ℕ) (key : Option (List ℕ)) (moment : Option ℤ) (rule : List ℕ) : Type 0 where
+  pub rows : List Row
+  pub enters : Enters words (codes "export") rows
+  pub found : AreExportRows rows store key moment rule
+
+-- they ask for it with some options
+abbrev pub IsExport : List Text → Type 0
+IsExport words = (store : List ℕ) × (key : Option (List ℕ)) × (moment : Option ℤ) × (rule : List ℕ) × AsksExport words store key moment rule
+
+-- The words ask the desk in the file of a store to check the image of an accession, for a caller
+-- with this key, at such a moment by such clocks: they are those of `check`, as `clap` takes them.
+pub record AsksCheck (words : List Text) (store key : List ℕ) (acc : ℕ) (moment : Option ℤ) (rule : List ℕ) : Type 0 where
+  pub rows : List Row
+  pub enters : Enters words (codes "check") rows
+  pub found : AreCheckRows rows store key acc moment rule
+
+-- they ask for it with some options, of an accession
+abbrev pub IsCheckOf : List Text → ℕ → Type 0
+IsCheckOf words acc = (store : List ℕ) × (key : List ℕ) × (moment : Option ℤ) × (rule : List ℕ) × AsksCheck words store key acc moment rule
+
+-- the words ask for a desk, for visits, to take in images, for the catalogue or for a check; none
+-- of these reads the input
+abbrev pub AsksOfStore : List Text → Type 0
+AsksOfStore words = ((store : List ℕ) × (key : List ℕ) × AsksInit words store key)
+    ⊎ (((store : List ℕ) × (port : ℕ) × (count : ℕ) × (rule : List ℕ) × AsksServe words store port count rule)
+    ⊎ (IsImport words ⊎ (IsExport words ⊎ ((acc : ℕ) × IsCheckOf words acc))))
+
+-- the words are a command of the program: a plain form of `cat` or `list`, or any form of the others
+abbrev pub IsCommand : List Text → Type 0
+IsCommand words = ((kind : Kind) × (image : List ℕ) × (slot : ℕ) × AsksCat words kind image slot)
+    ⊎ (((kind : Kind) × (image : List ℕ) × AsksList words kind image) ⊎ AsksOfStore words)
+
+-- if `clap` takes the words as a command that has clocks, they give a rule for these
+abbrev pub TellsARule : List Text → Type 0
+TellsARule words = (name : List ℕ) (rows : List Row) → Enters words name rows → HasClocks name → HasZoneRule rows
+
+-- the program asks for what the words ask for
+pub record IsAskOf (words : List Text) (ask : Ask) : Type 0 where
+  pub file : (kind : Kind) (image : List ℕ) (slot : ℕ) → AsksCat words kind image slot → IsFileAsk kind image slot ask
+  pub files : (kind : Kind) (image : List ℕ) → AsksList words kind image → IsFilesAsk kind image ask
+  pub init : (store key : List ℕ) → AsksInit words store key → IsInitAsk store key ask
+  pub serve : (store : List ℕ) (port count : ℕ) (rule : List ℕ) → AsksServe words store port count rule
+      → IsServeAsk store port count rule ask
+  pub import : (store key sheet : List ℕ) (moment : Option ℤ) (rule : List ℕ)
+      → AsksImport words store key sheet moment rule → IsImportAsk store key sheet moment rule ask
+  pub export : (store : List ℕ) (key : Option (List ℕ)) (moment : Option ℤ) (rule : List ℕ)
+      → AsksExport words store key moment rule → IsOnceAsk store key Catalogue moment rule ask
+  pub check : (store key : List ℕ) (acc : ℕ) (moment : Option ℤ) (rule : List ℕ)
+      → AsksCheck words store key acc moment rule → IsOnceAsk store (Some key) (Check acc) moment rule ask

@@ -1,0 +1,14 @@
+pub mod Words
+pub mod CommandLine
+pub mod Zones
+pub mod Asks
+pub mod Commands
+pub mod Refusals
+pub mod Output
+pub mod Input
+pub mod Cat
+pub mod Printed
+pub mod Listed
+pub mod Told
+pub mod Sheets
+pub mod Versions

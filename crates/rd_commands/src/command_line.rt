@@ -1,0 +1,278 @@
+ghost use Rattle.std.specs.Prelude.{◌≡◌, IfOk, false};
+ghost use Rattle.clap.specs.Words.{app_of, rule_of};
+ghost use Rattle.clap.specs.declared.builder.command.Command.TheViews.{out-Command as fields_of};
+ghost use Rattle.rd_commands.specs.CommandLine.{IsCatApp, IsDeskApp, IsKindRule, IsListApp, accession_rule, bare_app, check_app, count_rule, export_app, image_rule, import_app, init_app, key_rule, moment_rule, optional_key_rule, port_rule, serve_app, sheet_rule, slot_rule, store_rule, zone_rule};
+
+use crate::version::VERSION;
+use clap::{Arg, Command, value_parser};
+use rd_geometry::KIND_WORDS;
+use std::alloc::{AllocError, Global};
+
+/// The operand for a kind.
+fn kind_operand<'a>(alloc: Global) -> Arg<'a>
+    ensures rule { IsKindRule (rule_of result) }
+    ensures local { result.global ≡ false }
+{
+    Arg::new(alloc, "KIND")
+        .required(true)
+        .help("The kind of disk image; a d64e is a d64 with error bytes behind it")
+        .value_parser(KIND_WORDS.as_slice())
+}
+
+/// The operand for an image.
+fn image_operand<'a>(alloc: Global) -> Arg<'a>
+    ensures rule { rule_of result ≡ image_rule }
+    ensures local { result.global ≡ false }
+{
+    Arg::new(alloc, "IMAGE")
+        .required(true)
+        .help("The path of the image, or - for standard input")
+}
+
+/// The operand for a slot.
+fn slot_operand<'a>(alloc: Global) -> Arg<'a>
+    ensures rule { rule_of result ≡ slot_rule }
+    ensures local { result.global ≡ false }
+{
+    Arg::new(alloc, "SLOT")
+        .required(true)
+        .help("The slot of the file in the directory, 0 to 9999")
+        .value_parser(value_parser!(u16).range(0..=9999))
+}
+
+/// The command `cat`.
+fn cat_command<'a>(alloc: Global) -> Result<Command<'a>, AllocError>
+    ensures shape { IfOk result (λ cat. IsCatApp (app_of cat)) }
+    ensures local { IfOk result (λ cat. (fields_of cat).has_globals ≡ false) }
+{
+    Command::new(alloc, "cat")
+        .about("Writes the bytes of a file of an image to standard output")
+        .after_help("Examples:\n  desk cat cpm8 disk.img 0\n  desk cat d64 disk.d64 0")
+        .arg(kind_operand(alloc))?
+        .arg(image_operand(alloc))?
+        .arg(slot_operand(alloc))
+}
+
+/// The command `list`.
+fn list_command<'a>(alloc: Global) -> Result<Command<'a>, AllocError>
+    ensures shape { IfOk result (λ list. IsListApp (app_of list)) }
+    ensures local { IfOk result (λ list. (fields_of list).has_globals ≡ false) }
+{
+    Command::new(alloc, "list")
+        .about("Lists the files of an image: slot, user, type, size, faults and name")
+        .after_help("Examples:\n  desk list cpm8 disk.img\n  desk list d64 disk.d64")
+        .arg(kind_operand(alloc))?
+        .arg(image_operand(alloc))
+}
+
+/// The option for the file of a store.
+fn store_option<'a>(alloc: Global) -> Arg<'a>
+    ensures rule { rule_of result ≡ store_rule }
+    ensures local { result.global ≡ false }
+{
+    Arg::new(alloc, "store")
+        .long("store")
+        .value_name("FILE")
+        .required(true)
+        .help("The file of the store")
+}
+
+/// The option for a desk key.
+fn key_option<'a>(alloc: Global) -> Arg<'a>
+    ensures rule { rule_of result ≡ key_rule }
+    ensures local { result.global ≡ false }
+{
+    Arg::new(alloc, "key")
+        .long("key")
+        .value_name("KEY")
+        .required(true)
+        .help("A desk key of the staff, without blanks and tabs at both ends")
+}
+
+/// The option for a port.
+fn port_option<'a>(alloc: Global) -> Arg<'a>
+    ensures rule { rule_of result ≡ port_rule }
+    ensures local { result.global ≡ false }
+{
+    Arg::new(alloc, "port")
+        .long("port")
+        .value_name("PORT")
+        .required(true)
+        .help("The port on 127.0.0.1, 1 to 65535")
+        .value_parser(value_parser!(u16).range(1..=65_535))
+}
+
+/// The option for a number of visits.
+fn count_option<'a>(alloc: Global) -> Arg<'a>
+    ensures rule { rule_of result ≡ count_rule }
+    ensures local { result.global ≡ false }
+{
+    Arg::new(alloc, "count")
+        .long("count")
+        .value_name("COUNT")
+        .required(true)
+        .help("How many visits are served, 0 to 4294967295")
+        .value_parser(value_parser!(u32))
+}
+
+/// The option for the zone of the desk's clocks.
+fn zone_option<'a>(alloc: Global) -> Arg<'a>
+    ensures rule { rule_of result ≡ zone_rule }
+    ensures local { result.global ≡ false }
+{
+    Arg::new(alloc, "zone").long("zone").value_name("ZONE").help(
+        "The rule of the desk's clocks as POSIX writes it, such as CET-1CEST,M3.5.0,M10.5.0/3; UTC0 where it is not given",
+    )
+}
+
+/// The option for a sheet.
+fn sheet_option<'a>(alloc: Global) -> Arg<'a>
+    ensures rule { rule_of result ≡ sheet_rule }
+    ensures local { result.global ≡ false }
+{
+    Arg::new(alloc, "sheet")
+        .long("sheet")
+        .value_name("SHEET")
+        .required(true)
+        .help("The file of the sheet: CSV with the header accession,kind,deed,sha256,file")
+}
+
+/// The option for a moment.
+fn moment_option<'a>(alloc: Global) -> Arg<'a>
+    ensures rule { rule_of result ≡ moment_rule }
+    ensures local { result.global ≡ false }
+{
+    Arg::new(alloc, "at")
+        .long("at")
+        .value_name("SECONDS")
+        .help(
+            "The moment, in seconds since 1970-01-01 of UTC, that of the clock where it is not given",
+        )
+        .value_parser(value_parser!(i64).range(0..=9_223_372_036_854_775_807))
+}
+
+/// The command `init`.
+fn init_command<'a>(alloc: Global) -> Result<Command<'a>, AllocError>
+    ensures shape { IfOk result (λ init. app_of init ≡ init_app) }
+    ensures local { IfOk result (λ init. (fields_of init).has_globals ≡ false) }
+{
+    Command::new(alloc, "init")
+        .about("Makes a desk with one staff key in the file of a store")
+        .after_help("Example:\n  desk init --store museum.sqlite --key 'a long phrase'")
+        .arg(store_option(alloc))?
+        .arg(key_option(alloc))
+}
+
+/// The command `serve`.
+fn serve_command<'a>(alloc: Global) -> Result<Command<'a>, AllocError>
+    ensures shape { IfOk result (λ serve. app_of serve ≡ serve_app) }
+    ensures local { IfOk result (λ serve. (fields_of serve).has_globals ≡ false) }
+{
+    Command::new(alloc, "serve")
+        .about("Serves visits over HTTP on 127.0.0.1, one after the other")
+        .after_help(
+            "Example:\n  desk serve --store museum.sqlite --port 8041 --count 1000 --zone CET-1CEST,M3.5.0,M10.5.0/3",
+        )
+        .arg(store_option(alloc))?
+        .arg(port_option(alloc))?
+        .arg(count_option(alloc))?
+        .arg(zone_option(alloc))
+}
+
+/// The command `import`.
+fn import_command<'a>(alloc: Global) -> Result<Command<'a>, AllocError>
+    ensures shape { IfOk result (λ import. app_of import ≡ import_app) }
+    ensures local { IfOk result (λ import. (fields_of import).has_globals ≡ false) }
+{
+    Command::new(alloc, "import")
+        .about("Takes in the images that a sheet names, and tells what became of each row")
+        .after_help(
+            "Example:\n  desk import --store museum.sqlite --key 'a long phrase' --sheet images.csv",
+        )
+        .arg(store_option(alloc))?
+        .arg(key_option(alloc))?
+        .arg(sheet_option(alloc))?
+        .arg(moment_option(alloc))?
+        .arg(zone_option(alloc))
+}
+
+/// The option for a desk key that may be absent.
+fn optional_key_option<'a>(alloc: Global) -> Arg<'a>
+    ensures rule { rule_of result ≡ optional_key_rule }
+    ensures local { result.global ≡ false }
+{
+    Arg::new(alloc, "key").long("key").value_name("KEY").help(
+        "A desk key, without blanks and tabs at both ends; the public has none",
+    )
+}
+
+/// The option for an accession.
+fn accession_option<'a>(alloc: Global) -> Arg<'a>
+    ensures rule { rule_of result ≡ accession_rule }
+    ensures local { result.global ≡ false }
+{
+    Arg::new(alloc, "acc")
+        .long("acc")
+        .value_name("ACCESSION")
+        .required(true)
+        .help("The number of an accession, 1 to 999999")
+        .value_parser(value_parser!(u32).range(1..=999_999))
+}
+
+/// The command `export`.
+fn export_command<'a>(alloc: Global) -> Result<Command<'a>, AllocError>
+    ensures shape { IfOk result (λ export. app_of export ≡ export_app) }
+    ensures local { IfOk result (λ export. (fields_of export).has_globals ≡ false) }
+{
+    Command::new(alloc, "export")
+        .about("Writes the catalogue: the files of all accessions that the caller may see")
+        .after_help("Example:\n  desk export --store museum.sqlite")
+        .arg(store_option(alloc))?
+        .arg(optional_key_option(alloc))?
+        .arg(moment_option(alloc))?
+        .arg(zone_option(alloc))
+}
+
+/// The command `check`.
+fn check_command<'a>(alloc: Global) -> Result<Command<'a>, AllocError>
+    ensures shape { IfOk result (λ check. app_of check ≡ check_app) }
+    ensures local { IfOk result (λ check. (fields_of check).has_globals ≡ false) }
+{
+    Command::new(alloc, "check")
+        .about("Tells whether the image of an accession is as it was given, and records it")
+        .after_help("Example:\n  desk check --store museum.sqlite --key 'a long phrase' --acc 12")
+        .arg(store_option(alloc))?
+        .arg(key_option(alloc))?
+        .arg(accession_option(alloc))?
+        .arg(moment_option(alloc))?
+        .arg(zone_option(alloc))
+}
+
+/// The program's command line, without its commands.
+fn bare_desk<'a>(alloc: Global) -> Result<Command<'a>, AllocError>
+    ensures { IfOk result (λ desk. app_of desk ≡ bare_app) }
+{
+    let desk = Command::new(alloc, "desk")
+        .version(VERSION)
+        .about("Reads files from disk images, and serves those of a museum by its rules")
+        .after_help(
+            "Examples:\n  desk list cpm8 disk.img\n  desk cat cpm8 disk.img 0\n  desk list d64 disk.d64\n  desk init --store museum.sqlite --key 'a long phrase'\n  desk serve --store museum.sqlite --port 8041 --count 1000\n  desk import --store museum.sqlite --key 'a long phrase' --sheet images.csv\n  desk export --store museum.sqlite\n  desk check --store museum.sqlite --key 'a long phrase' --acc 12",
+        )
+        .no_binary_name(true)
+        .bin_name("desk")?;
+    Ok(desk.subcommand_required(true).arg_required_else_help(true))
+}
+
+/// The command line of the program, for words without the program's name.
+pub(crate) fn desk_command<'a>(alloc: Global) -> Result<Command<'a>, AllocError>
+    ensures { IfOk result (λ desk. IsDeskApp (app_of desk)) }
+{
+    bare_desk(alloc)?
+        .subcommand(cat_command(alloc)?)?
+        .subcommand(list_command(alloc)?)?
+        .subcommand(init_command(alloc)?)?
+        .subcommand(serve_command(alloc)?)?
+        .subcommand(import_command(alloc)?)?
+        .subcommand(export_command(alloc)?)?
+        .subcommand(check_command(alloc)?)
+}

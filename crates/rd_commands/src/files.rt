@@ -1,0 +1,70 @@
+//! The files of a machine, and why it does not give what it is asked for.
+
+ghost use Rattle.std.specs.Prelude.{◌↔◌, ◌≡◌};
+ghost use Rattle.std.specs.IoError.{error_kind};
+ghost use Rattle.std.specs.declared.io.ErrorKind.TheVariants.{OutOfMemory};
+ghost use Rattle.rd_commands.specs.Refusals.{refusal_for};
+ghost use Rattle.rd_commands.specs.declared.files.MachineFault.TheVariants as machine_fault;
+ghost use Rattle.rd_commands.specs.declared.refusal.Refusal.TheVariants as refusal;
+
+use crate::refusal::Refusal;
+use std::alloc::Global;
+use std::io::{self, ErrorKind};
+
+/// Why the machine does not give what the program asks it for.
+#[derive(Clone, Copy, Debug, PartialEq, Eq)]
+pub enum MachineFault {
+    /// It could not be opened or read.
+    Failed,
+    /// Memory ran out.
+    NoMemory,
+}
+
+impl MachineFault {
+    /// The refusal that the program ends with: `NoMemory` if memory ran out, and otherwise
+    /// `failed`.
+    pub fn or(self, failed: Refusal) -> Refusal
+        ensures { result ≡ refusal_for failed self }
+    {
+        match self {
+            MachineFault::Failed => failed,
+            MachineFault::NoMemory => Refusal::NoMemory,
+        }
+    }
+}
+
+impl From<io::Error> for MachineFault {
+    ghost from_gives = { λ error fault. (fault ≡ machine_fault.NoMemory)
+        ↔ (error_kind error ≡ OutOfMemory) };
+
+    fn from(error: io::Error) -> MachineFault {
+        match error.kind() {
+            ErrorKind::OutOfMemory => MachineFault::NoMemory,
+            _ => MachineFault::Failed,
+        }
+    }
+}
+
+impl From<Refusal> for MachineFault {
+    ghost from_gives = { λ refused fault. (fault ≡ machine_fault.NoMemory)
+        ↔ (refused ≡ refusal.NoMemory) };
+
+    fn from(refusal: Refusal) -> MachineFault {
+        match refusal {
+            Refusal::NoMemory => MachineFault::NoMemory,
+            _ => MachineFault::Failed,
+        }
+    }
+}
+
+/// What a command that reads images asks of the machine that it runs on.
+pub trait Files {
+    /// The bytes of the file at a path. For a file that is larger than any image, the front is
+    /// enough: one byte more than the largest image has.
+    fn read_file(&mut self, alloc: Global, path: &str) -> Result<Vec<u8>, MachineFault>;
+
+    /// All bytes of the sheet at a path, at most 67,108,864 (64 MiB).
+    ///
+    /// It fails when the sheet has more, and reads at most one byte more than that.
+    fn read_sheet(&mut self, alloc: Global, path: &str) -> Result<Vec<u8>, MachineFault>;
+}

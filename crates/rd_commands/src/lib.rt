@@ -1,0 +1,31 @@
+//! The command line of the program `desk`: its words, its input and output, its refusals, the commands on images,
+//! and the rows of a sheet. It names no database.
+#![tactic(auto)]
+
+mod blanks;
+pub mod cat;
+mod command_line;
+mod done;
+mod files;
+mod input;
+pub mod list;
+mod output;
+mod printed;
+mod refusal;
+mod sheet;
+mod source;
+mod tell;
+mod version;
+mod words;
+
+pub use done::{Done, whole};
+pub use files::{Files, MachineFault};
+pub use input::read_front;
+pub use output::write_whole;
+pub use refusal::Refusal;
+pub use sheet::{SheetRow, is_header, next_row, row_of};
+pub use tell::{exit_code, tell_refusal, tell_unread};
+pub use words::{
+    Ask, FileAsk, ImageAsk, ImportAsk, InitAsk, OnceAsk, Question, ServeAsk, Unread, WhenAsk,
+    read_words,
+};

@@ -1,0 +1,133 @@
+//! The rows of a sheet: a table as CSV with the columns `accession`, `kind`, `deed`, `sha256` and
+//! `file`, and in each row an image to take in.
+
+ghost use Rattle.std.specs.Prelude.{◌≡◌, ◌↔◌, IfErr, IfNone, IfSome, IsTrue, Some, option_map};
+ghost use Rattle.csv.specs.Records.{field_at, fields_of};
+ghost use Rattle.rd_policy.specs.Rules.{IsScope};
+ghost use Rattle.rd_commands.specs.Sheets as spec;
+ghost use Rattle.rd_commands.specs.Sheets.{IsBad, IsReadRefusal, IsWithin, Says, header};
+
+use crate::refusal::Refusal;
+use csv::{ByteRecord, ErrorKind, Reader};
+use rd_protocol::{digest, scope};
+use rd_volume::Kind;
+use std::str;
+
+/// What a row says of an image.
+#[derive(Clone, Copy, Debug)]
+pub struct SheetRow<'a> {
+    /// The number of its accession, 1 to 999,999.
+    pub acc: u32,
+    /// Its kind.
+    pub kind: Kind,
+    /// The number of its deed, 1 to 999,999.
+    pub deed: u32,
+    /// The SHA-256 that its bytes must have.
+    pub digest: [u8; 32],
+    /// The path of its file, which is not empty.
+    pub file: &'a str,
+}
+
+/// The text of the field at a place; `None` if there is none or it is not UTF-8.
+fn text_at(fields: &ByteRecord, place: usize) -> Option<&str>
+    ensures { option_map (λ text. text.now) result ≡ spec.text_at place (fields_of fields.now) }
+{
+    str::from_utf8(fields.get(place)?).ok()
+}
+
+/// The number of an accession or a deed that the field at a place writes.
+fn scope_at(fields: &ByteRecord, place: usize) -> Option<u32>
+    ensures value { result ≡ spec.scope_at place (fields_of fields.now) }
+    ensures within { IfSome result IsScope }
+{
+    scope(text_at(fields, place)?)
+}
+
+/// The kind that the field at a place names.
+fn kind_at(fields: &ByteRecord, place: usize) -> Option<Kind>
+    ensures { result ≡ spec.kind_at place (fields_of fields.now) }
+{
+    Kind::from_word(text_at(fields, place)?)
+}
+
+/// The digest that the field at a place writes.
+fn digest_at(fields: &ByteRecord, place: usize) -> Option<[u8; 32]>
+    ensures { result ≡ spec.digest_at place (fields_of fields.now) }
+{
+    digest(text_at(fields, place)?)
+}
+
+/// The path that the field at a place is, which is not empty.
+fn path_at(fields: &ByteRecord, place: usize) -> Option<&str>
+    ensures { option_map (λ path. path.now) result ≡ spec.path_at place (fields_of fields.now) }
+{
+    let path = text_at(fields, place)?;
+    if path.is_empty() { None } else { Some(path) }
+}
+
+/// What a row says of an image; `None` if a field is missing, is not UTF-8, or is badly written:
+/// the numbers, the kind and the digest are written as in paths of HTTP, and the path is not
+/// empty.
+pub fn row_of(fields: &ByteRecord) -> Option<SheetRow<'_>>
+    ensures says { IfSome result (Says (fields_of fields.now)) }
+    ensures bad { IfNone result (IsBad (fields_of fields.now)) }
+    ensures within { IfSome result IsWithin }
+{
+    Some(SheetRow {
+        acc: scope_at(fields, 0)?,
+        kind: kind_at(fields, 1)?,
+        deed: scope_at(fields, 2)?,
+        digest: digest_at(fields, 3)?,
+        file: path_at(fields, 4)?,
+    })
+}
+
+/// Whether the field at a place is this name.
+fn is_named(fields: &ByteRecord, place: usize, name: &str) -> bool
+    ensures { IsTrue result ↔ (field_at (fields_of fields.now) place ≡ Some name.now) }
+{
+    match fields.get(place) {
+        Some(field) => field == name.as_bytes(),
+        None => false,
+    }
+}
+
+/// Whether the fields are the names of the columns.
+pub fn is_header(fields: &ByteRecord) -> bool
+    ensures { IsTrue result ↔ (fields_of fields.now ≡ header) }
+{
+    if fields.len() != 5 {
+        return false;
+    }
+    if !is_named(fields, 0, "accession") {
+        return false;
+    }
+    if !is_named(fields, 1, "kind") {
+        return false;
+    }
+    if !is_named(fields, 2, "deed") {
+        return false;
+    }
+    if !is_named(fields, 3, "sha256") {
+        return false;
+    }
+    is_named(fields, 4, "file")
+}
+
+/// Reads the next row of a sheet, and gives whether there is one. If there is, it has as many
+/// fields as the first row read.
+///
+/// It fails with `BadSheet` when a row has another number of fields, with `NoMemory`, and with
+/// `Device` when the reader fails, which one over a slice never does.
+pub fn next_row(reader: &mut Reader<&[u8]>, fields: &mut ByteRecord) -> Result<bool, Refusal>
+    ensures { IfErr result IsReadRefusal }
+{
+    match reader.read_byte_record(fields) {
+        Ok(found) => Ok(found),
+        Err(error) => Err(match error.kind() {
+            ErrorKind::UnequalLengths { .. } => Refusal::BadSheet,
+            ErrorKind::OutOfMemory => Refusal::NoMemory,
+            _ => Refusal::Device,
+        }),
+    }
+}

@@ -1,0 +1,172 @@
+//! What goes to standard error: the line of a refusal, or what is wrong with the words.
+
+ghost use Rattle.std.specs.Prelude.{◌≡◌, ◌≢◌, ◌≤◌, ◌⊎◌, ◌++◌, ⊤, IfErr, IfOk, OnErr, OnOk, codes};
+ghost use Rattle.std.specs.Io.KnownBytes.{Appends, Keeps};
+ghost use Rattle.std.specs.Process.{exit_status};
+ghost use Rattle.clap.specs.Values.{kind_of};
+ghost use Rattle.clap.specs.declared.error.Error.{Error};
+ghost use Rattle.clap.specs.declared.error.kind.ErrorKind.TheVariants.{DisplayHelp, DisplayVersion};
+ghost use Rattle.rd_volume.specs.Words.{words_left};
+ghost use Rattle.rd_commands.specs.Asks.{IsHelp, IsVersion};
+ghost use Rattle.rd_commands.specs.Output.{AppendsPart};
+ghost use Rattle.rd_commands.specs.Printed.{blanked, refusal_line, words_after};
+ghost use Rattle.rd_commands.specs.Refusals.{status_of};
+ghost use Rattle.rd_commands.specs.Told.{Tells};
+ghost use Rattle.rd_commands.specs.Versions.{RefusesVersion, version_line};
+ghost use Rattle.rd_commands.specs.declared.refusal.Refusal.TheVariants.{NoMemory};
+ghost use Rattle.rd_commands.specs.declared.words.Unread.TheVariants as Unread;
+
+use crate::output::{flush, write_bytes};
+use crate::refusal::Refusal;
+use crate::version::tell_version;
+use crate::words::Unread;
+use clap::Error;
+use clap::error::ErrorKind;
+use rd_volume::{FaultWords, fault_words};
+use std::io::Write;
+use std::process::ExitCode;
+
+/// What it says of a text that is no rule for clocks.
+const ZONE_MISTAKE: &[u8] =
+    b"error: --zone takes a rule as POSIX writes it, as in UTC0 or CET-1CEST,M3.5.0,M10.5.0/3\n\nFor more information, try '--help'.\n";
+
+/// Writes a word after a blank.
+///
+/// It fails with `Device` when a write fails: then a front part was written.
+fn write_word<E: Write>(errors: &mut E, word: &str) -> Result<(), Refusal>
+    ensures done { OnOk result (Appends (E.contents errors.old) (E.contents errors.new)
+        (codes " " ++ word.now)) }
+    ensures cut { OnErr result (AppendsPart (E.contents errors.old) (E.contents errors.new)
+        (codes " " ++ word.now)) }
+{
+    write_bytes(errors, b" ")?;
+    write_bytes(errors, word.as_bytes())
+}
+
+/// Writes words, each after a blank.
+///
+/// It fails with `Device` when a write fails: then a front part was written.
+fn write_words<E: Write>(errors: &mut E, words: FaultWords) -> Result<(), Refusal>
+    ensures done { OnOk result (Appends (E.contents errors.old) (E.contents errors.new)
+        (blanked (words_left words))) }
+    ensures cut { OnErr result (AppendsPart (E.contents errors.old) (E.contents errors.new)
+        (blanked (words_left words))) }
+{
+    for word in words {
+        write_word(errors, word)?;
+    }
+    Ok(())
+}
+
+/// Writes the words that follow the name of a refusal, each after a blank: those of the faults of a file.
+///
+/// It fails with `Device` when a write fails: then a front part was written.
+fn write_words_after<E: Write>(errors: &mut E, refused: Refusal) -> Result<(), Refusal>
+    ensures done { OnOk result (Appends (E.contents errors.old) (E.contents errors.new)
+        (blanked (words_after refused))) }
+    ensures cut { OnErr result (AppendsPart (E.contents errors.old) (E.contents errors.new)
+        (blanked (words_after refused))) }
+{
+    match refused {
+        Refusal::Faulty(kind, faults) => write_words(errors, fault_words(kind, faults)),
+        _ => Ok(()),
+    }
+}
+
+/// Writes the line that names a refusal.
+///
+/// It fails with `Device` when a write fails: then a front part was written.
+fn write_line<E: Write>(errors: &mut E, refused: Refusal) -> Result<(), Refusal>
+    ensures done { OnOk result (Appends (E.contents errors.old) (E.contents errors.new)
+        (refusal_line refused)) }
+    ensures cut { OnErr result (AppendsPart (E.contents errors.old) (E.contents errors.new)
+        (refusal_line refused)) }
+{
+    write_bytes(errors, b"desk:")?;
+    write_word(errors, refused.name())?;
+    write_words_after(errors, refused)?;
+    write_bytes(errors, b"\n")
+}
+
+/// Writes a refusal as one line, and gives its status. A write that fails ends the line, and
+/// nothing reports it.
+pub fn tell_refusal<E: Write>(refused: Refusal, errors: &mut E) -> u8
+    ensures status { result ≡ status_of refused }
+    ensures told { AppendsPart (E.contents errors.old) (E.contents errors.new) (refusal_line refused) }
+{
+    let _ = write_line(errors, refused);
+    refused.status()
+}
+
+/// The exit status of the process: that of `run` if it ran, and otherwise that of the refusal,
+/// which it writes to `errors`.
+pub fn exit_code<E: Write>(ran: Result<u8, Refusal>, errors: &mut E) -> ExitCode
+    ensures ran { IfOk ran (λ status. exit_status result ≡ status) }
+    ensures silent { OnOk ran (Keeps (E.contents errors.old) (E.contents errors.new)) }
+    ensures refused { IfErr ran (λ refused. exit_status result ≡ status_of refused) }
+    ensures told { IfErr ran (λ refused.
+        AppendsPart (E.contents errors.old) (E.contents errors.new) (refusal_line refused)) }
+{
+    let status = match ran {
+        Ok(status) => status,
+        Err(refused) => tell_refusal(refused, errors),
+    };
+    ExitCode::from(status)
+}
+
+/// Writes the help that the words ask for.
+///
+/// It fails with `Device` when a write fails.
+fn tell_help<W: Write>(help: &Error, output: &mut W) -> Result<(), Refusal>
+    ensures { IfErr result (λ refused. refused ≡ Refusal.Device) }
+{
+    if write!(output, "{help}").is_err() {
+        return Err(Refusal::Device);
+    }
+    flush(output)
+}
+
+/// Writes help, the version, or what is wrong with the words, and gives the status: 0 if the words
+/// ask for help or the version and it is written, 2 if the words are no command, otherwise 3.
+pub fn tell_unread<W: Write, E: Write>(unread: Unread, output: &mut W, errors: &mut E) -> u8
+    ensures status { result ≤ 3 }
+    ensures not_refused { result ≢ 1 }
+    ensures shown { result ≡ 0 → IsHelp unread
+        ⊎ (IsVersion unread × Appends (W.contents output.old) (W.contents output.new) version_line) }
+    ensures silent { result ≡ 0 → Keeps (E.contents errors.old) (E.contents errors.new) }
+    ensures usage { result ≡ 2 → Keeps (W.contents output.old) (W.contents output.new) }
+    ensures mistake { (error : Error) → unread ≡ Unread.Told error → kind_of error ≢ DisplayHelp
+        → kind_of error ≢ DisplayVersion → result ≡ 2 }
+    ensures mistaken { unread ≡ Unread.Usage → result ≡ 2 }
+    ensures memory { unread ≡ Unread.NoMemory
+        → (result ≡ 3) × Keeps (W.contents output.old) (W.contents output.new) }
+    ensures no_memory { unread ≡ Unread.NoMemory
+        → AppendsPart (E.contents errors.old) (E.contents errors.new) (refusal_line NoMemory) }
+    ensures told { result ≡ 3
+        → Tells (λ _. ⊤) 3 (E.contents errors.old) (E.contents errors.new) }
+    ensures version { IsVersion unread → result ≢ 0
+        → (result ≡ 3) × Tells (RefusesVersion (W.contents output.old) (W.contents output.new)) 3
+        (E.contents errors.old) (E.contents errors.new) }
+{
+    match unread {
+        Unread::NoMemory => tell_refusal(Refusal::NoMemory, errors),
+        Unread::Usage => {
+            let _ = write_bytes(errors, ZONE_MISTAKE);
+            2
+        }
+        Unread::Told(error) => {
+            let told = match error.kind() {
+                ErrorKind::DisplayHelp => tell_help(&error, output),
+                ErrorKind::DisplayVersion => tell_version(output),
+                _ => {
+                    let _ = write!(errors, "{error}");
+                    return 2;
+                }
+            };
+            match told {
+                Ok(()) => 0,
+                Err(refused) => tell_refusal(refused, errors),
+            }
+        }
+    }
+}

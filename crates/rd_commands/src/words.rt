@@ -1,0 +1,432 @@
+ghost use Rattle.std.specs.Prelude.{◌≡◌, ◌⊎◌, IfErr, IfOk, IfSome, IsSomeAnd, List, Ok, OnOk, OnSome, Option, Some, codes, map, option_map, ℕ, ℤ};
+ghost use Rattle.std.specs.Str.Parse.{ParsesUnsigned};
+ghost use Rattle.std.specs.declared.num.ParseIntError.{ParseIntError};
+ghost use Rattle.clap.specs.Words.{first_of, found_of, kind_of, one_of, rows_of};
+ghost use Rattle.clap.specs.Words.{subcommand_rows_of};
+ghost use Rattle.clap.specs.declared.error.kind.ErrorKind.TheVariants.{OutOfMemory};
+ghost use Rattle.httparse.specs.Grammar.{trim_ows};
+ghost use Rattle.rd_geometry.specs.Kinds.{word_of};
+ghost use Rattle.rd_policy.specs.Rules.{IsScope};
+ghost use Rattle.rd_policy.specs.Zones.{IsZoneOf};
+ghost use Rattle.rd_commands.specs.Asks.{AreCatRows, AreCheckRows, AreExportRows, AreImportRows, AreInitRows, AreListRows, AreServeRows, IsMomentTold};
+ghost use Rattle.rd_commands.specs.Asks.{AsksFile, AsksFiles, AsksImages, AsksNew, AsksOnce, AsksVisits, AsksWhen, IsAskable};
+ghost use Rattle.rd_commands.specs.Asks.{EntersByRule, EntersCat, EntersCheck, EntersExport, EntersImport, EntersInit, EntersList, EntersServe, EntersTelling};
+ghost use Rattle.rd_commands.specs.Asks.{IsWithinLimits, IsFaultOf, IsFileAsk, IsFilesAsk, IsImportAsk, IsInitAsk, IsOnceAsk, IsServeAsk, IsVersion, TellsOnOutput};
+ghost use Rattle.rd_commands.specs.CommandLine.{IsTaken, IsTakenTelling};
+ghost use Rattle.rd_commands.specs.Commands.{IsAskOf, IsCommand, TellsARule};
+ghost use Rattle.rd_commands.specs.Words.{AsksVersion, IsSlotText};
+ghost use Rattle.rd_commands.specs.Zones.{HasZoneRule, IsRuleTold};
+ghost use Rattle.rd_commands.specs.declared.words.Unread.TheVariants as Unread;
+
+use crate::blanks::trimmed;
+use crate::command_line::desk_command;
+use clap::error::ErrorKind;
+use clap::{ArgMatches, Command, Error};
+use rd_policy::{Zone, is_scope};
+use rd_volume::Kind;
+use std::alloc::{AllocError, Global};
+
+/// The file whose bytes `cat` writes.
+#[derive(Clone, Copy, Debug)]
+pub struct FileAsk<'a> {
+    /// The kind of the image.
+    pub kind: Kind,
+    /// The path of the image, or a hyphen for standard input.
+    pub image: &'a str,
+    /// The slot of the file, at most 9,999.
+    pub slot: u16,
+}
+
+/// The image whose files `list` lists.
+#[derive(Clone, Copy, Debug)]
+pub struct ImageAsk<'a> {
+    /// The kind of the image.
+    pub kind: Kind,
+    /// The path of the image, or a hyphen for standard input.
+    pub image: &'a str,
+}
+
+/// The desk that `init` makes.
+#[derive(Clone, Copy, Debug)]
+pub struct InitAsk<'a> {
+    /// The path of the store.
+    pub store: &'a str,
+    /// The desk key of the staff, without blanks and tabs at both ends.
+    pub key: &'a [u8],
+}
+
+/// The visits that `serve` serves.
+#[derive(Clone, Copy, Debug)]
+pub struct ServeAsk<'a> {
+    /// The path of the store.
+    pub store: &'a str,
+    /// The port, 1 to 65,535.
+    pub port: u16,
+    /// How many visits.
+    pub count: u32,
+    /// The zone of the desk's clocks.
+    pub zone: Zone,
+}
+
+/// When a command is done, and by which clocks.
+#[derive(Clone, Copy, Debug)]
+pub struct WhenAsk {
+    /// The seconds since 1970-01-01T00:00:00 UTC, if the words name them; otherwise those of the
+    /// clock count.
+    pub seconds: Option<i64>,
+    /// The zone of the desk's clocks.
+    pub zone: Zone,
+}
+
+/// The images that `import` takes in.
+#[derive(Clone, Copy, Debug)]
+pub struct ImportAsk<'a> {
+    /// The path of the store.
+    pub store: &'a str,
+    /// The desk key of the caller, without blanks and tabs at both ends.
+    pub key: &'a [u8],
+    /// The path of the sheet that names the images.
+    pub sheet: &'a str,
+    /// When it takes them in.
+    pub when: WhenAsk,
+}
+
+/// The one question that a command asks a desk.
+#[derive(Clone, Copy, Debug)]
+pub enum Question {
+    /// The catalogue.
+    Catalogue,
+    /// What a check of the image of an accession, 1 to 999,999, finds.
+    Check(u32),
+}
+
+/// One question to the desk in the file of a store, and who asks it.
+#[derive(Clone, Copy, Debug)]
+pub struct OnceAsk<'a> {
+    /// The path of the store.
+    pub store: &'a str,
+    /// The desk key of the caller, without blanks and tabs at both ends, if the words give one.
+    pub key: Option<&'a [u8]>,
+    /// The question.
+    pub question: Question,
+    /// When the desk is asked.
+    pub when: WhenAsk,
+}
+
+/// What a command asks for.
+#[derive(Clone, Copy, Debug)]
+pub enum Ask<'a> {
+    /// The bytes of a file.
+    File(FileAsk<'a>),
+    /// The list of an image's files.
+    Files(ImageAsk<'a>),
+    /// A new desk.
+    Init(InitAsk<'a>),
+    /// Visits.
+    Serve(ServeAsk<'a>),
+    /// Images to take in.
+    Import(ImportAsk<'a>),
+    /// One question to a desk, by `export` or `check`.
+    Once(OnceAsk<'a>),
+}
+
+/// Why the words do not run a command.
+#[derive(Debug, Drop)]
+pub enum Unread {
+    /// The text to write: help or the version, if the words ask for it, or what is wrong with the
+    /// words.
+    Told(Error),
+    /// The words are no command, although `clap` accepts them: the text of `--zone` is no rule.
+    Usage,
+    /// Memory ran out.
+    NoMemory,
+}
+
+impl From<AllocError> for Unread {
+    ghost from_gives = { λ _ unread. unread ≡ Unread.NoMemory };
+
+    fn from(_error: AllocError) -> Unread {
+        Unread::NoMemory
+    }
+}
+
+impl From<Error> for Unread {
+    ghost from_gives = { λ error unread. (kind_of error ≡ OutOfMemory → unread ≡ Unread.NoMemory)
+        × ((unread ≡ Unread.NoMemory) ⊎ (unread ≡ Unread.Told error)) };
+
+    fn from(error: Error) -> Unread {
+        if error.kind() == ErrorKind::OutOfMemory {
+            Unread::NoMemory
+        } else {
+            Unread::Told(error)
+        }
+    }
+}
+
+/// The kind that the operand for a kind names, `None` if there is none.
+fn kind_asked(found: &ArgMatches) -> Option<Kind>
+    ensures { (kind : Kind)
+        → first_of (codes "KIND") (rows_of (found_of found.now)) ≡ Some (word_of kind)
+        → result ≡ Some kind }
+{
+    Kind::from_word(found.get_str("KIND")?)
+}
+
+/// The number that the operand for a slot reads as, `None` if there is none.
+fn slot_asked(found: &ArgMatches) -> Option<u16>
+    ensures { (text : List ℕ) (slot : ℕ)
+        → one_of (codes "SLOT") (rows_of (found_of found.now)) ≡ Some text
+        → IsSlotText text slot → result ≡ Some slot }
+{
+    found.get_one::<u16>("SLOT")
+}
+
+/// What the operands of `cat` ask for; `None` if one is missing or badly written.
+fn file_asked<'a>(found: &ArgMatches<'a>) -> Option<FileAsk<'a>>
+    ensures { (kind : Kind) (image : List ℕ) (slot : ℕ)
+        → AreCatRows (rows_of (found_of found.now)) kind image slot
+        → IsSomeAnd result (λ ask. AsksFile ask kind image slot) }
+{
+    Some(FileAsk {
+        kind: kind_asked(found)?,
+        image: found.get_str("IMAGE")?,
+        slot: slot_asked(found)?,
+    })
+}
+
+/// What the operands of `list` ask for; `None` if one is missing or badly written.
+fn files_asked<'a>(found: &ArgMatches<'a>) -> Option<ImageAsk<'a>>
+    ensures { (kind : Kind) (image : List ℕ)
+        → AreListRows (rows_of (found_of found.now)) kind image
+        → IsSomeAnd result (λ ask. AsksFiles ask kind image) }
+{
+    Some(ImageAsk {
+        kind: kind_asked(found)?,
+        image: found.get_str("IMAGE")?,
+    })
+}
+
+/// The desk key that its option gives, without blanks and tabs at both ends, `None` if there is
+/// none.
+fn key_asked<'a>(found: &ArgMatches<'a>) -> Option<&'a [u8]>
+    ensures { (key : List ℕ)
+        → first_of (codes "key") (rows_of (found_of found.now)) ≡ Some key
+        → IsSomeAnd result (λ trimmed. trimmed.now ≡ trim_ows key) }
+{
+    Some(trimmed(found.get_str("key")?.as_bytes()))
+}
+
+/// What the options of `init` ask for, `None` if one is missing.
+fn init_asked<'a>(found: &ArgMatches<'a>) -> Option<InitAsk<'a>>
+    ensures { (store : List ℕ) (key : List ℕ)
+        → AreInitRows (rows_of (found_of found.now)) store key
+        → IsSomeAnd result (λ ask. AsksNew ask store key) }
+{
+    Some(InitAsk {
+        store: found.get_str("store")?,
+        key: key_asked(found)?,
+    })
+}
+
+/// The port that its option reads as, `None` if there is none.
+fn port_asked(found: &ArgMatches) -> Option<u16>
+    ensures { (text : List ℕ) (port : ℕ)
+        → one_of (codes "port") (rows_of (found_of found.now)) ≡ Some text
+        → ParsesUnsigned {E = ParseIntError} 16 10 text (Ok port) → result ≡ Some port }
+{
+    found.get_one::<u16>("port")
+}
+
+/// The number of visits that its option reads as, `None` if there is none.
+fn count_asked(found: &ArgMatches) -> Option<u32>
+    ensures { (text : List ℕ) (count : ℕ)
+        → one_of (codes "count") (rows_of (found_of found.now)) ≡ Some text
+        → ParsesUnsigned {E = ParseIntError} 32 10 text (Ok count) → result ≡ Some count }
+{
+    found.get_one::<u32>("count")
+}
+
+/// The zone whose rule its option gives, that of UTC if it is absent, and `None` if the text is no
+/// rule.
+fn zone_asked(found: &ArgMatches) -> Option<Zone>
+    ensures asked { (rule : List ℕ)
+        → IsRuleTold (first_of (codes "zone") (rows_of (found_of found.now))) rule
+        → IsSomeAnd result (IsZoneOf rule) }
+    ensures zone { OnSome result (HasZoneRule (rows_of (found_of found.now))) }
+{
+    let rule = found.get_str("zone").unwrap_or("UTC0");
+    Zone::read(rule).ok()
+}
+
+/// What the options of `serve` ask for; `None` if one is missing or badly written.
+fn serve_asked<'a>(found: &ArgMatches<'a>) -> Option<ServeAsk<'a>>
+    ensures asked { (store : List ℕ) (port count : ℕ) (rule : List ℕ)
+        → AreServeRows (rows_of (found_of found.now)) store port count rule
+        → IsSomeAnd result (λ ask. AsksVisits ask store port count rule) }
+    ensures zone { OnSome result (HasZoneRule (rows_of (found_of found.now))) }
+{
+    Some(ServeAsk {
+        store: found.get_str("store")?,
+        port: port_asked(found)?,
+        count: count_asked(found)?,
+        zone: zone_asked(found)?,
+    })
+}
+
+/// The moment that its option gives; `None` if it is absent.
+fn moment_asked(found: &ArgMatches) -> Option<i64>
+    ensures { (moment : Option ℤ)
+        → IsMomentTold (one_of (codes "at") (rows_of (found_of found.now))) moment → result ≡ moment }
+{
+    found.get_one::<i64>("at")
+}
+
+/// When to do a command, and by which clocks; `None` if the text of `--zone` is no rule.
+fn when_asked(found: &ArgMatches) -> Option<WhenAsk>
+    ensures asked { (moment : Option ℤ) (rule : List ℕ)
+        → IsMomentTold (one_of (codes "at") (rows_of (found_of found.now))) moment
+        → IsRuleTold (first_of (codes "zone") (rows_of (found_of found.now))) rule
+        → IsSomeAnd result (λ ask. AsksWhen ask moment rule) }
+    ensures zone { OnSome result (HasZoneRule (rows_of (found_of found.now))) }
+{
+    Some(WhenAsk {
+        seconds: moment_asked(found),
+        zone: zone_asked(found)?,
+    })
+}
+
+/// What the options of `import` ask for; `None` if one is missing or badly written.
+fn import_asked<'a>(found: &ArgMatches<'a>) -> Option<ImportAsk<'a>>
+    ensures asked { (store key sheet : List ℕ) (moment : Option ℤ) (rule : List ℕ)
+        → AreImportRows (rows_of (found_of found.now)) store key sheet moment rule
+        → IsSomeAnd result (λ ask. AsksImages ask store key sheet moment rule) }
+    ensures zone { OnSome result (HasZoneRule (rows_of (found_of found.now))) }
+{
+    Some(ImportAsk {
+        store: found.get_str("store")?,
+        key: key_asked(found)?,
+        sheet: found.get_str("sheet")?,
+        when: when_asked(found)?,
+    })
+}
+
+/// The desk key that its option gives, without blanks and tabs at both ends, `None` if it is
+/// absent.
+fn key_given<'a>(found: &ArgMatches<'a>) -> Option<&'a [u8]>
+    ensures { option_map (λ trimmed. trimmed.now) result
+        ≡ option_map trim_ows (first_of (codes "key") (rows_of (found_of found.now))) }
+{
+    match found.get_str("key") {
+        Some(key) => Some(trimmed(key.as_bytes())),
+        None => None,
+    }
+}
+
+/// The accession that its option gives; `None` if it gives none.
+fn accession_asked(found: &ArgMatches) -> Option<u32>
+    ensures number { (text : List ℕ) (acc : ℕ)
+        → one_of (codes "acc") (rows_of (found_of found.now)) ≡ Some text
+        → ParsesUnsigned {E = ParseIntError} 32 10 text (Ok acc) → IsScope acc → result ≡ Some acc }
+    ensures within { IfSome result IsScope }
+{
+    let acc = found.get_one::<u32>("acc")?;
+    if is_scope(acc) { Some(acc) } else { None }
+}
+
+/// What the options of `export` ask for; `None` if one is missing or badly written.
+fn export_asked<'a>(found: &ArgMatches<'a>) -> Option<OnceAsk<'a>>
+    ensures asked { (store : List ℕ) (key : Option (List ℕ)) (moment : Option ℤ) (rule : List ℕ)
+        → AreExportRows (rows_of (found_of found.now)) store key moment rule
+        → IsSomeAnd result (λ ask. AsksOnce ask store key Question.Catalogue moment rule) }
+    ensures zone { OnSome result (HasZoneRule (rows_of (found_of found.now))) }
+    ensures question { IfSome result (λ ask. ask.question ≡ Question.Catalogue) }
+{
+    Some(OnceAsk {
+        store: found.get_str("store")?,
+        key: key_given(found),
+        question: Question::Catalogue,
+        when: when_asked(found)?,
+    })
+}
+
+/// What the options of `check` ask for; `None` if one is missing or badly written.
+fn check_asked<'a>(found: &ArgMatches<'a>) -> Option<OnceAsk<'a>>
+    ensures asked { (store key : List ℕ) (acc : ℕ) (moment : Option ℤ) (rule : List ℕ)
+        → AreCheckRows (rows_of (found_of found.now)) store key acc moment rule
+        → IsSomeAnd result (λ ask. AsksOnce ask store (Some key) (Question.Check acc) moment rule) }
+    ensures zone { OnSome result (HasZoneRule (rows_of (found_of found.now))) }
+    ensures question { IfSome result (λ ask. IsAskable ask.question) }
+{
+    Some(OnceAsk {
+        store: found.get_str("store")?,
+        key: Some(key_asked(found)?),
+        question: Question::Check(accession_asked(found)?),
+        when: when_asked(found)?,
+    })
+}
+
+/// What a command asks for, from a parse of the words; `None` if the parse found no command.
+fn ask_found<'a>(matches: &ArgMatches<'a>) -> Option<Ask<'a>>
+    ensures file { (kind : Kind) (image : List ℕ) (slot : ℕ)
+        → EntersCat (subcommand_rows_of matches.now) kind image slot
+        → IsSomeAnd result (IsFileAsk kind image slot) }
+    ensures files { (kind : Kind) (image : List ℕ)
+        → EntersList (subcommand_rows_of matches.now) kind image
+        → IsSomeAnd result (IsFilesAsk kind image) }
+    ensures init { (store key : List ℕ)
+        → EntersInit (subcommand_rows_of matches.now) store key
+        → IsSomeAnd result (IsInitAsk store key) }
+    ensures serve { (store : List ℕ) (port count : ℕ) (rule : List ℕ)
+        → EntersServe (subcommand_rows_of matches.now) store port count rule
+        → IsSomeAnd result (IsServeAsk store port count rule) }
+    ensures import { (store key sheet : List ℕ) (moment : Option ℤ) (rule : List ℕ)
+        → EntersImport (subcommand_rows_of matches.now) store key sheet moment rule
+        → IsSomeAnd result (IsImportAsk store key sheet moment rule) }
+    ensures export { (store : List ℕ) (key : Option (List ℕ)) (moment : Option ℤ) (rule : List ℕ)
+        → EntersExport (subcommand_rows_of matches.now) store key moment rule
+        → IsSomeAnd result (IsOnceAsk store key Question.Catalogue moment rule) }
+    ensures check { (store key : List ℕ) (acc : ℕ) (moment : Option ℤ) (rule : List ℕ)
+        → EntersCheck (subcommand_rows_of matches.now) store key acc moment rule
+        → IsSomeAnd result (IsOnceAsk store (Some key) (Question.Check acc) moment rule) }
+    ensures told_on_output { IfSome result (λ ask. TellsOnOutput ask → EntersTelling (subcommand_rows_of matches.now)) }
+    ensures accession { IfSome result IsWithinLimits }
+    ensures zone { OnSome result (EntersByRule (subcommand_rows_of matches.now)) }
+{
+    let (name, found) = matches.subcommand()?;
+    match name {
+        "cat" => Some(Ask::File(file_asked(found)?)),
+        "list" => Some(Ask::Files(files_asked(found)?)),
+        "init" => Some(Ask::Init(init_asked(found)?)),
+        "serve" => Some(Ask::Serve(serve_asked(found)?)),
+        "import" => Some(Ask::Import(import_asked(found)?)),
+        "export" => Some(Ask::Once(export_asked(found)?)),
+        "check" => Some(Ask::Once(check_asked(found)?)),
+        _ => None,
+    }
+}
+
+/// Reads the words of a command, without the program's name.
+///
+/// It fails with `Told` when they ask for help or the version or are no command, with `Usage` when
+/// the parse gives no command or not all its operands, or the text of `--zone` is no rule, and
+/// with `NoMemory`.
+pub fn read_words<'a>(alloc: Global, words: &'a [&'a str]) -> Result<Ask<'a>, Unread>
+    ensures read { IfOk result (IsAskOf (map (λ word. word.now) words.entry.now)) }
+    ensures told_on_output { IfOk result (λ ask. TellsOnOutput ask → IsTakenTelling (map (λ word. word.now) words.entry.now)) }
+    ensures accession { IfOk result IsWithinLimits }
+    ensures zone { OnOk result (TellsARule (map (λ word. word.now) words.entry.now)) }
+    ensures no_rule { IfErr result (λ fault. ¬ TellsARule (map (λ word. word.now) words.entry.now)
+        → (fault ≡ Unread.Usage) ⊎ (fault ≡ Unread.NoMemory)) }
+    ensures taken { OnOk result (IsTaken (map (λ word. word.now) words.entry.now)) }
+    ensures told { IfErr result (IsFaultOf (map (λ word. word.now) words.entry.now)) }
+    ensures unread { IfErr result (λ fault. IsCommand (map (λ word. word.now) words.entry.now)
+        → fault ≡ Unread.NoMemory) }
+    ensures version { IfErr result (λ fault. AsksVersion (map (λ word. word.now) words.entry.now)
+        → (fault ≡ Unread.NoMemory) ⊎ IsVersion fault) }
+{
+    let desk: Command<'a> = desk_command(alloc)?;
+    match desk.try_get_matches_from(words) {
+        Ok(matches) => ask_found(&matches).ok_or(Unread::Usage),
+        Err(error) => Err(Unread::from(error)),
+    }
+}

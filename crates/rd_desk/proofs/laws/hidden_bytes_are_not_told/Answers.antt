@@ -1,5 +1,0 @@
-use Rattle.rd_desk.proofs.Hiding.{not_told}
-use Rattle.rd_desk.proofs.laws.hidden_bytes_are_not_told.Goals as goal
-
-pub returns : goal.returns
-returns c = not_told

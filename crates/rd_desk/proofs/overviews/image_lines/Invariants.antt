@@ -1,0 +1,13 @@
+use Rattle.std.proofs.Common.{◌*◌}
+use Rattle.rd_store.specs.Held.{IsClean, IsOpen, desk}
+use Rattle.rd_desk.specs.Calls.{Keeps}
+use Rattle.rd_protocol.specs.Queries.{AreLinesOfEach}
+use Rattle.rd_desk.proofs.Batching.{accs_before}
+use Rattle.rd_desk.proofs.overviews.image_lines.Given as goal
+
+abbrev pub invariant-loop-at : goal.invariant-loop-at
+invariant-loop-at g l = record {
+  keeps : Keeps g.S.Store l.fn.store l.store;
+  awake : IsClean g.S.Store l.store → IsOpen g.S.Store l.store;
+  told : IsOpen g.S.Store l.store → AreLinesOfEach (desk g.S.Store l.fn.store) l.caller.audience l.caller.day (accs_before (desk g.S.Store l.fn.store) (16 * l.at)) l.lines.items;
+}

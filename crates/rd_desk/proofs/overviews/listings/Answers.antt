@@ -1,0 +1,39 @@
+use Rattle.std.proofs.Common.{◌≡◌, ◌∙◌, ◌+◌, ◌*◌, ◌≤◌, [], ap, arith, drop, length, rules, subst, sym, take}
+use Rattle.std.specs.FinMap.{entries, keys}
+use Rattle.std.specs.List.{AllZip}
+use Rattle.rd_store.specs.Batched.{IsIndexed}
+use Rattle.rd_store.specs.Held.{desk}
+use Rattle.rd_protocol.specs.Replies.{IsListing}
+use Rattle.rd_desk.proofs.Batching.{accs_before, batch_next, batch_stands, batches_end}
+use Rattle.rd_desk.proofs.Responding.{keeps_then}
+use Rattle.rd_desk.proofs.overviews.listings.Goals as goal
+
+pub loop-at-init : goal.loop-at-init
+loop-at-init g c = record { keeps = search rules; awake = search rules; told = λ o. subst (AllZip (IsListing (desk g.S.Store c.args.store.now) c.args.caller.now.audience c.args.caller.now.day) []) (sym c.new-listings.ensures.items) tt }
+
+pub loop-at-preserved : goal.loop-at-preserved
+loop-at-preserved g c = record {
+  keeps = keeps_then g.S.Store c.args.store.now c.loop-at.store c.batch.new.store c.loop-at.invariant.keeps c.loop-at.invariant.awake c.batch.ensures.looks.keeps;
+  awake = λ clean. c.in_ok-part.ensures.looks.ends_open clean;
+  told = λ o.
+      let was = c.batch.ensures.looks.keeps.lasts.was_open o in
+      let first = c.loop-at.invariant.keeps.lasts.was_open was in
+      let d = desk g.S.Store c.args.store.now in
+      let from = 16 * c.loop-at.at in
+      let zip = subst (λ e. AllZip IsIndexed (take 16 (drop from (entries e.images))) c.in_ok-part.part.items) (c.loop-at.invariant.keeps.same was) (c.in_ok-part.ensures.looks.answer o) in
+      let more = c.in_ok-listings.ensures d (accs_before d from) (c.requires.rules first) (batch_stands d from 16 c.in_ok-part.part.items zip) (c.loop-at.invariant.told was) in
+      let next : from + 16 ≡ 16 * (c.loop-at.at + 1) = omega arith in
+      subst (λ accs. AllZip (IsListing d c.args.caller.now.audience c.args.caller.now.day) accs c.in_ok-listings.listings.items) (batch_next d from 16 c.in_ok-part.part.items zip ∙ ap (accs_before d) next) more;
+}
+
+pub returns : goal.returns
+returns g c = record {
+  keeps = c.loop-at.invariant.keeps;
+  ends_open = λ clean. c.loop-at.invariant.awake clean;
+  answer = λ o.
+      let first = c.loop-at.invariant.keeps.lasts.was_open o in
+      let d = desk g.S.Store c.args.store.now in
+      let count = c.requires.count first in
+      let whole : length (keys d.images) ≤ 16 * c.loop-at.at = omega (arith, count, c.loop-at-test.false) in
+      subst (AllZip (IsListing d c.args.caller.now.audience c.args.caller.now.day) (keys d.images)) (sym c.of.ensures) (subst (λ accs. AllZip (IsListing d c.args.caller.now.audience c.args.caller.now.day) accs c.loop-at.listings.items) (batches_end d (16 * c.loop-at.at) whole) (c.loop-at.invariant.told o));
+}

@@ -1,4 +1,0 @@
-use Rattle.rd_http.proofs.bodies.dates.day_of.Goals as goal
-
-pub returns-in-Err-BadDate : goal.returns-in-Err-BadDate
-returns-in-Err-BadDate c = c.in-Err-BadDate.ensures.bad c.in-Err-BadDate.field-0-is

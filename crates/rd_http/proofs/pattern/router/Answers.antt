@@ -1,5 +1,0 @@
-use Rattle.rd_http.specs.Examples.{each_goes_in}
-use Rattle.rd_http.proofs.pattern.router.Goals as goal
-
-pub router_of-requires : goal.router_of-requires
-router_of-requires c = each_goes_in

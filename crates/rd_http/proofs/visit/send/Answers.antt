@@ -1,6 +1,0 @@
-use Rattle.std.proofs.Common.{rules}
-use Rattle.rd_http.proofs.Sending.{some_text, then_flushed}
-use Rattle.rd_http.proofs.visit.send.Goals as goal
-
-pub returns-in-Ok-clause-sends : goal.returns-in-Ok-clause-sends
-returns-in-Ok-clause-sends g c = search (rules, then_flushed, some_text)

@@ -1,0 +1,13 @@
+pub mod OneAsked
+pub mod ReadLemmas
+pub mod FramingLemmas
+pub mod HeadLemmas
+pub mod TakenLemmas
+pub mod WholeLemmas
+pub mod PatternLemmas
+pub mod RouteLemmas
+pub mod Values
+pub mod Naming
+pub mod OneBody
+pub mod Keys
+pub mod Sending

@@ -1,0 +1,15 @@
+use Rattle.std.proofs.Common.{◌≡◌, ◌∙◌, List, Option, None, Some, ap, option_map, refl, sym, rules}
+use Rattle.sha2.specs.Sha256.{sha256}
+use Rattle.rd_messages.specs.Routes.{method_named, methods_of}
+use Rattle.rd_messages.proofs.OneAsked.{what_asked}
+use Rattle.rd_messages.proofs.read_request.read_whole.Goals as goal
+
+pub returns-clause-reads : goal.returns-clause-reads
+returns-clause-reads c = (
+  c.in-Some.route,
+  c.in-Some-named.method,
+  sym c.in_ok-route.ensures.route ∙ c.in-Some.is,
+  ap (λ methods. method_named methods c.args.name.now) (sym c.methods-methods.ensures) ∙ sym c.named.ensures ∙ c.in-Some-named.is,
+  c.request.ensures.badge ∙ c.badge.ensures ∙ search rules,
+  what_asked c.in-Some.route c.in-Some-named.method c.args.body.items c.in_ok-told.told c.request.result.what c.in_ok-told.ensures c.request.ensures.what,
+)

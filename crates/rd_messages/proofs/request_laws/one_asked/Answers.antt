@@ -1,0 +1,5 @@
+use Rattle.rd_messages.proofs.OneAsked.{one_asked}
+use Rattle.rd_messages.proofs.request_laws.one_asked.Goals as goal
+
+pub returns : goal.returns
+returns c = one_asked

@@ -1,0 +1,82 @@
+-- Targets, and what they name.
+use Rattle.std.specs.Prelude.{◌≡◌, true, Some, None, [], ◌∷◌, ◌++◌, codes, refl, replicate}
+use Rattle.hex.proofs.OnLiterals.{hex_on_literals}
+use Rattle.matchit.proofs.OnLiterals.{matchit_on_literals}
+use Rattle.rd_geometry.specs.declared.kind.Kind.TheVariants.{D64}
+use Rattle.rd_policy.specs.declared.rule.Band.TheVariants as band
+use Rattle.rd_messages.specs.Patterns.{all_go_in, matched, pattern_rows, patterns}
+use Rattle.rd_messages.specs.Routes.{method_named, route_of}
+use Rattle.rd_messages.specs.declared.pattern.Pattern.TheVariants as pattern
+use Rattle.rd_messages.specs.declared.route.Method.TheVariants as method
+use Rattle.rd_messages.specs.declared.route.Methods.TheVariants as methods
+use Rattle.rd_messages.specs.declared.route.Route.TheVariants as route
+
+pub each_goes_in : all_go_in patterns [] ≡ true
+unfolding matchit_on_literals
+each_goes_in = refl
+
+pub file_matched : matched (codes "/images/12/files/0") ≡ Some (pattern.Bytes, codes "12" ∷ codes "0" ∷ [])
+unfolding matched pattern_rows matchit_on_literals
+file_matched = refl
+
+pub nothing_matched : matched (codes "/images/12/files") ≡ None
+unfolding matched pattern_rows matchit_on_literals
+nothing_matched = refl
+
+-- a query is not read
+pub file_named : route_of (codes "/images/12/files/0?slot=1") ≡ Some (route.Bytes 12 0)
+unfolding matched pattern_rows matchit_on_literals
+file_named = refl
+
+pub survey_named : route_of (codes "/images/12/survey") ≡ Some (route.Survey 12)
+unfolding matched pattern_rows matchit_on_literals
+survey_named = refl
+
+pub check_named : route_of (codes "/images/12/check") ≡ Some (route.Check 12)
+unfolding matched pattern_rows matchit_on_literals
+check_named = refl
+
+pub catalogue_named : route_of (codes "/catalogue") ≡ Some route.Catalogue
+unfolding matched pattern_rows matchit_on_literals
+catalogue_named = refl
+
+pub takedown_named : route_of (codes "/images/12/rules/10") ≡ Some (route.Rule band.Takedown 12 10)
+unfolding matched pattern_rows matchit_on_literals
+takedown_named = refl
+
+pub deed_rule_named : route_of (codes "/deeds/7/rules/10") ≡ Some (route.Rule band.Deed 7 10)
+unfolding matched pattern_rows matchit_on_literals
+deed_rule_named = refl
+
+pub image_named : route_of (codes "/accessions/12/d64/7/0a0A0a0A0a0A0a0A0a0A0a0A0a0A0a0A0a0A0a0A0a0A0a0A0a0A0a0A0a0A0a0A")
+    ≡ Some (route.Accession 12 D64 7 (replicate 32 10))
+unfolding matched pattern_rows matchit_on_literals hex_on_literals
+image_named = refl
+
+pub leading_zero_refused : route_of (codes "/deeds/07") ≡ None
+unfolding matched pattern_rows matchit_on_literals
+leading_zero_refused = refl
+
+pub seven_digits_refused : route_of (codes "/deeds/1000000") ≡ None
+unfolding matched pattern_rows matchit_on_literals
+seven_digits_refused = refl
+
+pub slot_00_refused : route_of (codes "/images/12/files/00") ≡ None
+unfolding matched pattern_rows matchit_on_literals
+slot_00_refused = refl
+
+-- `%31` is not decoded to `1`
+pub nothing_decoded : route_of (codes "/images/%31") ≡ None
+unfolding matched pattern_rows matchit_on_literals
+nothing_decoded = refl
+
+-- a byte above 127
+pub other_byte_refused : route_of (codes "/deeds/7" ++ 200 ∷ []) ≡ None
+unfolding matched pattern_rows matchit_on_literals
+other_byte_refused = refl
+
+pub post_named : method_named methods.Post (codes "POST") ≡ Some method.Post
+post_named = refl
+
+pub small_letters_refused : method_named methods.Get (codes "get") ≡ None
+small_letters_refused = refl

@@ -1,0 +1,17 @@
+pub mod Told
+pub mod Faults
+pub mod Asked
+pub mod Answers
+pub mod Readings
+pub mod Fields
+pub mod Framing
+pub mod Heads
+pub mod Taken
+pub mod Patterns
+pub mod Routes
+pub mod Examples
+pub mod Objects
+pub mod RequestBodies
+pub mod MemoryDoors
+pub mod ReplyText
+pub mod Sent

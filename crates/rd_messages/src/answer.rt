@@ -1,0 +1,53 @@
+//! Sends a reply, with the line that only this reply has in its head.
+
+ghost use Rattle.std.specs.Prelude.{◌≡◌, ◌↔◌, ◌≤◌, true, false, IfOk, IsErr, length};
+ghost use Rattle.rd_messages.specs.ReplyText.{reply_bytes};
+ghost use Rattle.rd_messages.specs.Sent.{Sends};
+ghost use Rattle.rd_messages.specs.Answers.{answer_bytes};
+
+use crate::reply::challenge;
+use crate::wire::{Broken, Wire};
+use crate::write::put_reply;
+use rd_protocol::Reply;
+
+/// A reply of the desk, and the line that only this reply has in its head: at most 40 bytes, or
+/// none.
+pub fn of_desk(reply: Reply) -> (&'static str, Reply)
+    ensures text { reply_bytes result.0.now result.1 ≡ answer_bytes reply }
+    ensures short { length result.0.now ≤ 40 }
+{
+    (challenge(reply.status), reply)
+}
+
+/// Puts a reply. `line` is a line of at most 40 bytes that only this reply has in its head, or
+/// empty. The wire may hold a part of it back.
+fn put_answer<W: Wire>(wire: &mut W, line: &str, reply: Reply) -> Result<(), Broken>
+    requires ready { W.put_failed wire.old ≡ false }
+    requires room { length line.now ≤ 40 }
+    ensures sends { Sends (W.outgoing wire.old) (W.outgoing wire.new) result (reply_bytes line.now reply) }
+    ensures failed { IsErr result ↔ (W.put_failed wire.new ≡ true) }
+    ensures kept { W.incoming wire.new ≡ W.incoming wire.old }
+    ensures came { W.came wire.new ≡ W.came wire.old }
+    ensures take_kept { W.take_failed wire.new ≡ W.take_failed wire.old }
+{
+    put_reply(wire, line, &reply)
+}
+
+/// Sends a reply, so that the wire holds nothing of it back. `line` is a line of at most 40 bytes
+/// that only this reply has in its head, or empty.
+#[tactic(auto, using(crate::proofs::Sending::nothing_sent, crate::proofs::Sending::part_sent, crate::proofs::Sending::some_reply))]
+pub fn send<W: Wire>(wire: &mut W, line: &str, reply: Reply) -> Result<(), Broken>
+    requires ready { W.put_failed wire.old ≡ false }
+    requires room { length line.now ≤ 40 }
+    ensures sends { Sends (W.outgoing wire.old) (W.outgoing wire.new) result (reply_bytes line.now reply) }
+    ensures flushed { IfOk result (λ _. W.unsent wire.new ≡ 0) }
+    ensures failed { IsErr result ↔ (W.put_failed wire.new ≡ true) }
+    ensures kept { W.incoming wire.new ≡ W.incoming wire.old }
+    ensures came { W.came wire.new ≡ W.came wire.old }
+    ensures take_kept { W.take_failed wire.new ≡ W.take_failed wire.old }
+{
+    match put_answer(wire, line, reply) {
+        Ok(()) => wire.flush(),
+        Err(broken) => Err(broken),
+    }
+}

@@ -1,0 +1,32 @@
+//! Messages over HTTP: the bytes that come become a request, and a reply the bytes that go; and the wires and
+//! doors that they pass. It names no database.
+#![tactic(auto)]
+
+mod answer;
+mod bodies;
+mod body;
+mod fault;
+mod fields;
+mod framing;
+mod head;
+mod kept_router;
+mod memory;
+mod pattern;
+pub mod read_request;
+mod reply;
+mod request_laws;
+mod route;
+mod taking;
+mod target;
+mod tcp;
+mod wire;
+mod workspace;
+mod write;
+
+pub use answer::{of_desk, send};
+pub use fault::RequestFault;
+pub use memory::{MemoryDoor, MemoryVisit, MemoryWire, memory_reads};
+pub use request_laws::one_asked;
+pub use tcp::{Clock, TcpDoor, TcpWire};
+pub use wire::{Broken, Door, Shut, Wire};
+pub use workspace::Workspace;

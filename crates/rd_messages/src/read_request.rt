@@ -1,0 +1,250 @@
+//! Reads the bytes that come, and finds what they ask.
+
+ghost use Rattle.std.specs.Prelude.{◌≡◌, ◌⊎◌, ◌↔◌, ℕ, List, Option, Some, true, false, IfOk, IfSome, IsErr, MatchOption, option_map};
+ghost use Rattle.sha2.specs.Sha256.{sha256};
+ghost use Rattle.std.specs.Io.KnownBytes.{Consumes};
+ghost use Rattle.httparse.specs.Spans.{IsRequestWithin};
+ghost use Rattle.rd_protocol.specs.Requests.{IsRequest};
+ghost use Rattle.rd_messages.specs.Heads.{HasHead};
+ghost use Rattle.rd_messages.specs.Readings.{Fits, IsReading, IsTold, Reads};
+ghost use Rattle.rd_messages.specs.Taken.{TakesUpTo};
+
+use crate::bodies::{deed_body, key_body, rule_body};
+use crate::body::{ReadBody, read_body};
+use crate::fault::RequestFault;
+use crate::framing::framing_of;
+use crate::head::read_head;
+use crate::kept_router::KeptRouter;
+use crate::route::{Method, Route};
+use crate::wire::{Broken, Wire};
+use crate::workspace::Workspace;
+use httparse::spans::{HeaderSpan, RequestSpans};
+use rd_geometry::{Items, NoMemory};
+use rd_policy::Band;
+use rd_protocol::{Request, What};
+use sha2::{Digest, Sha256};
+use std::alloc::Global;
+
+/// What was read of a visit.
+#[derive(Drop)]
+pub enum Reading {
+    /// A request, whose values are within their limits.
+    Request(Request),
+    /// Bytes that are no request.
+    Fault(RequestFault),
+    /// Memory ran out after a head whose fields give the length of its body.
+    NoMemory,
+}
+
+/// The command to put the deed that a body describes; `None` if it describes none.
+fn deed_told(alloc: Global, num: u32, body: &[u8]) -> Result<Option<What>, NoMemory>
+    ensures { IfOk result (IsTold (Route.Deed num) Method.Put body.now) }
+{
+    match deed_body(alloc, body)? {
+        Some((donor, signed)) => Ok(Some(What::PutDeed { num, donor, signed })),
+        None => Ok(None),
+    }
+}
+
+/// The command to put the rule that a body describes; `None` if it describes none within the
+/// limits of its values.
+fn rule_told(
+    alloc: Global,
+    band: Band,
+    scope: u32,
+    rank: u16,
+    body: &[u8],
+) -> Result<Option<What>, NoMemory>
+    ensures { IfOk result (IsTold (Route.Rule band scope rank) Method.Put body.now) }
+{
+    match rule_body(alloc, band, scope, rank, body)? {
+        Some(rule) => Ok(Some(What::PutRule(rule))),
+        None => Ok(None),
+    }
+}
+
+/// The command to give a desk key to the audience that a body names; `None` if it names none.
+fn key_told(alloc: Global, digest: [u8; 32], body: &[u8]) -> Result<Option<What>, NoMemory>
+    ensures { IfOk result (IsTold (Route.Badge digest) Method.Put body.now) }
+{
+    match key_body(alloc, body)? {
+        Some(audience) => Ok(Some(What::PutKey { digest, audience })),
+        None => Ok(None),
+    }
+}
+
+/// What a path asks with a method and a body; `None` if the body says nothing that is within its
+/// limits.
+fn told(
+    alloc: Global,
+    route: Route,
+    method: Method,
+    body: Vec<u8>,
+) -> Result<Option<What>, NoMemory>
+    ensures { IfOk result (IsTold route method body.items) }
+{
+    match (route, method) {
+        (Route::Images, _) => Ok(Some(What::Images)),
+        (Route::Listing(acc), _) => Ok(Some(What::Listing(acc))),
+        (Route::Bytes(acc, slot), _) => Ok(Some(What::Bytes(acc, slot))),
+        (Route::Survey(acc), _) => Ok(Some(What::Survey(acc))),
+        (Route::Check(acc), _) => Ok(Some(What::Check(acc))),
+        (
+            Route::Accession {
+                acc,
+                kind,
+                deed,
+                digest,
+            },
+            _,
+        ) => {
+            let bytes = Items::of(body);
+            Ok(Some(What::PutImage {
+                acc,
+                kind,
+                deed,
+                digest,
+                bytes,
+            }))
+        }
+        (Route::Deed(num), _) => deed_told(alloc, num, &body),
+        (Route::Rule { band, scope, rank }, Method::Put) => rule_told(
+            alloc, band, scope, rank, &body,
+        ),
+        (Route::Rule { band, scope, rank }, Method::Delete) => Ok(Some(What::DropRule {
+            band,
+            scope,
+            rank,
+        })),
+        (Route::Rule { .. }, Method::Get | Method::Post) => Ok(None),
+        (Route::Badge(digest), Method::Put) => key_told(alloc, digest, &body),
+        (Route::Badge(digest), Method::Delete) => Ok(Some(What::DropKey { digest })),
+        (Route::Badge(_), Method::Get | Method::Post) => Ok(None),
+        (Route::Catalogue, _) => Ok(Some(What::Catalogue)),
+    }
+}
+
+/// The request of a caller; if the body said nothing, or nothing within its limits, a command that
+/// cannot be read.
+fn request(badge: Option<[u8; 32]>, told: Option<What>) -> Request
+    ensures badge { result.badge ≡ badge }
+    ensures fits { IsRequest result.what }
+    ensures what { MatchOption told (result.what ≡ What.Unread) (λ what.
+        (IsRequest what × (result.what ≡ what)) ⊎ ((¬ IsRequest what) × (result.what ≡ What.Unread))) }
+{
+    let request = Request {
+        badge,
+        what: told.unwrap_or(What::Unread),
+    };
+    if request.fits() {
+        return request;
+    }
+    Request {
+        badge,
+        what: What::Unread,
+    }
+}
+
+/// The SHA-256 of a desk key.
+fn badge(key: Option<&[u8]>) -> Option<[u8; 32]>
+    ensures { result ≡ option_map (λ key. sha256 key.now) key.entry }
+{
+    match key {
+        Some(key) => Some(Sha256::digest(key)),
+        None => None,
+    }
+}
+
+/// What a request that came whole asks.
+fn read_whole(
+    alloc: Global,
+    router: &mut KeptRouter,
+    name: &[u8],
+    target: &[u8],
+    key: Option<&[u8]>,
+    body: Vec<u8>,
+) -> Result<Reading, NoMemory>
+    ensures reads { IfOk result (Reads name.now target.now (option_map (λ key. key.now) key.entry) body.items) }
+    ensures fits { IfOk result Fits }
+{
+    let Some(route) = Route::of_target(alloc, router, target)? else {
+        return Ok(Reading::Fault(RequestFault::NoRoute));
+    };
+    let methods = route.methods();
+    let Some(method) = methods.named(name) else {
+        return Ok(Reading::Fault(RequestFault::Method(methods)));
+    };
+    let told = told(alloc, route, method, body)?;
+    Ok(Reading::Request(request(badge(key), told)))
+}
+
+/// Reads what comes over a connection after a head. The spans say where the parts of the head are
+/// in the bytes that have come. It fails when a read fails.
+fn read_rest<W: Wire>(
+    alloc: Global,
+    router: &mut KeptRouter,
+    wire: &mut W,
+    bytes: &[u8],
+    spans: &[HeaderSpan],
+    head: RequestSpans,
+) -> Result<Reading, Broken>
+    requires ready { W.take_failed wire.old ≡ false }
+    requires within { IsRequestWithin bytes.now spans.now head }
+    ensures reading { IfOk result (λ reading. (stream : List ℕ) → HasHead stream bytes.now spans.now head
+        → Consumes (Some stream) (W.incoming wire.old) bytes.now → IsReading stream reading) }
+    ensures fits { IfOk result Fits }
+    ensures bounded { TakesUpTo 262_144 (W.incoming wire.old) (W.incoming wire.new) }
+    ensures failed { IsErr result ↔ (W.take_failed wire.new ≡ true) }
+    ensures kept { W.outgoing wire.new ≡ W.outgoing wire.old }
+    ensures came { W.came wire.new ≡ W.came wire.old }
+    ensures put_kept { W.put_failed wire.new ≡ W.put_failed wire.old }
+{
+    let Some(framing) = framing_of(bytes, &spans[..head.headers]) else {
+        return Ok(Reading::Fault(RequestFault::Framing));
+    };
+    let body = match read_body(wire, alloc, &bytes[head.len..], framing.length)? {
+        ReadBody::Whole(body) => body,
+        ReadBody::Short => return Ok(Reading::Fault(RequestFault::Framing)),
+        ReadBody::NoMemory => return Ok(Reading::NoMemory),
+    };
+    match read_whole(
+        alloc,
+        router,
+        head.method.of(bytes),
+        head.path.of(bytes),
+        framing.key,
+        body,
+    ) {
+        Ok(reading) => Ok(reading),
+        Err(NoMemory) => Ok(Reading::NoMemory),
+    }
+}
+
+/// Reads what comes over a connection. It fails when a read fails.
+pub fn read_request<W: Wire>(
+    alloc: Global,
+    workspace: &mut Workspace,
+    wire: &mut W,
+) -> Result<Reading, Broken>
+    requires ready { W.take_failed wire.old ≡ false }
+    ensures reading { IfOk result (λ reading. IfSome (W.incoming wire.old) (λ stream. IsReading stream reading)) }
+    ensures fits { IfOk result Fits }
+    ensures bounded { TakesUpTo 270_336 (W.incoming wire.old) (W.incoming wire.new) }
+    ensures failed { IsErr result ↔ (W.take_failed wire.new ≡ true) }
+    ensures kept { W.outgoing wire.new ≡ W.outgoing wire.old }
+    ensures came { W.came wire.new ≡ W.came wire.old }
+    ensures put_kept { W.put_failed wire.new ≡ W.put_failed wire.old }
+{
+    let (found, filled) = read_head(wire, &mut workspace.head, &mut workspace.spans)?;
+    match found {
+        Some(head) => read_rest(
+            alloc,
+            &mut workspace.router,
+            wire,
+            &workspace.head[..filled],
+            &workspace.spans,
+            head,
+        ),
+        None => Ok(Reading::Fault(RequestFault::BadHead)),
+    }
+}

@@ -1,0 +1,23 @@
+use crate::kept_router::KeptRouter;
+use httparse::spans::{EMPTY_HEADER_SPAN, HeaderSpan};
+
+/// What visits use one after the other, so that none makes it anew: room for a head and for its
+/// fields, and the router of paths. No visit reads what an earlier one left in
+/// the room.
+#[derive(Drop)]
+pub struct Workspace {
+    pub(crate) head: [u8; 8_192],
+    pub(crate) spans: [HeaderSpan; 64],
+    pub(crate) router: KeptRouter,
+}
+
+impl Workspace {
+    /// What no visit has used yet. It takes no memory.
+    pub fn new() -> Workspace {
+        Workspace {
+            head: [0; 8_192],
+            spans: [EMPTY_HEADER_SPAN; 64],
+            router: KeptRouter::new(),
+        }
+    }
+}

@@ -1,5 +1,0 @@
-use Rattle.rd_program.proofs.Written.{on_err, whole_part}
-use Rattle.rd_program.proofs.output.write_pieces.Goals as goal
-
-pub returns-clause-cut : goal.returns-clause-cut
-returns-clause-cut g c = on_err c.flush.result (whole_part _ _ _ _ c.in_ok-write_each.ensures.done c.flush.ensures.bytes)

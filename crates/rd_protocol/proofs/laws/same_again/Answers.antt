@@ -1,0 +1,5 @@
+use Rattle.rd_protocol.proofs.Again.{same_again}
+use Rattle.rd_protocol.proofs.laws.same_again.Goals as goal
+
+pub returns : goal.returns
+returns c = same_again

@@ -1,0 +1,10 @@
+-- What contracts see of a body, by what holds its bytes.
+use Rattle.rd_protocol.specs.Lent.{BodyView, held, lent_out}
+use Rattle.rd_protocol.specs.declared.body.Inner.{Inner}
+use Rattle.rd_protocol.specs.declared.body.Inner.TheVariants.{Fixed, Written, Table, File}
+
+abbrev pub body_of : Inner → BodyView
+body_of (Fixed text) = held text.now
+body_of (Written text) = held text
+body_of (Table bytes) = held bytes
+body_of (File contents) = lent_out contents

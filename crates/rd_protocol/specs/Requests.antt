@@ -1,0 +1,54 @@
+-- What a caller may ask: the limits of its values, and what only the staff may ask. The limits are
+-- this project's.
+use Rattle.std.specs.Prelude.{◌≢◌, ◌≤◌}
+use Rattle.rd_policy.specs.Rules.{IsScope, IsRank, IsRule}
+use Rattle.rd_policy.specs.declared.audience.Audience.TheVariants.{Public}
+use Rattle.rd_protocol.specs.Lawful.{IsDeed}
+use Rattle.rd_protocol.specs.declared.request.What.{What}
+use Rattle.rd_protocol.specs.declared.request.What.TheVariants.{Images, Listing, Bytes, Catalogue, Survey, Check, PutImage, PutDeed, PutRule, DropRule, PutKey, DropKey, Unread}
+
+-- each value is within its limits; a digest and the bytes of an image may be any
+abbrev pub IsRequest : What → Type 0
+IsRequest Images = Unit {0}
+IsRequest (Listing acc) = IsScope acc
+IsRequest (Bytes acc slot) = IsScope acc × (slot ≤ 9_999)
+IsRequest Catalogue = Unit {0}
+IsRequest (Survey acc) = IsScope acc
+IsRequest (Check acc) = IsScope acc
+IsRequest (PutImage acc kind deed digest bytes) = IsScope acc × IsScope deed
+IsRequest (PutDeed num donor signed) = IsDeed num (record { donor = donor; signed = signed })
+IsRequest (PutRule rule) = IsRule rule
+IsRequest (DropRule band scope rank) = IsScope scope × IsRank rank
+IsRequest (PutKey digest audience) = audience ≢ Public
+IsRequest (DropKey digest) = Unit {0}
+IsRequest Unread = Unit {0}
+
+-- to put something or to take it away, also when the body of the request cannot be read; the reply
+-- says that it is done
+abbrev pub IsPutOrDrop : What → Type 0
+IsPutOrDrop Images = ⊥
+IsPutOrDrop (Listing acc) = ⊥
+IsPutOrDrop (Bytes acc slot) = ⊥
+IsPutOrDrop Catalogue = ⊥
+IsPutOrDrop (Survey acc) = ⊥
+IsPutOrDrop (Check acc) = ⊥
+IsPutOrDrop (PutImage acc kind deed digest bytes) = Unit {0}
+IsPutOrDrop (PutDeed num donor signed) = Unit {0}
+IsPutOrDrop (PutRule rule) = Unit {0}
+IsPutOrDrop (DropRule band scope rank) = Unit {0}
+IsPutOrDrop (PutKey digest audience) = Unit {0}
+IsPutOrDrop (DropKey digest) = Unit {0}
+IsPutOrDrop Unread = Unit {0}
+
+-- for the staff: to put and to drop, surveys and checks; anyone may ask the four questions
+abbrev pub IsForStaff : What → Type 0
+IsForStaff (Survey acc) = Unit {0}
+IsForStaff (Check acc) = Unit {0}
+IsForStaff other = IsPutOrDrop other
+
+-- to put, to drop and to check; a survey only reads, as the four questions do, and a body that cannot be
+-- read is refused
+abbrev pub MayChange : What → Type 0
+MayChange (Survey acc) = ⊥
+MayChange Unread = ⊥
+MayChange other = IsForStaff other

@@ -1,0 +1,177 @@
+-- The text of each reply: JSON without blanks, each object's keys in the order of their bytes.
+use Rattle.std.specs.Prelude.{ℕ, List, Option, Some, None, codes, map, true}
+use Rattle.serde_json.specs.Data.{Data, null, boolean, number, unsigned, string, array, object, Members, no_members, member}
+use Rattle.serde_json.specs.View.{items_of}
+use Rattle.serde_json.specs.Written.{compact_text}
+use Rattle.rd_geometry.specs.Kinds.{word_of}
+use Rattle.rd_geometry.specs.declared.kind.Kind.{Kind}
+use Rattle.rd_geometry.specs.declared.kind.Kind.TheVariants.{Cpm8, D64, D64e}
+use Rattle.rd_policy.specs.Verdicts.{label_text}
+use Rattle.rd_cbm.specs.declared.chains.End.{End}
+use Rattle.rd_cbm.specs.declared.chains.End.TheVariants as end
+use Rattle.rd_cbm.specs.declared.report.MapReport.{MapReport}
+use Rattle.rd_volume.specs.Words.{words_of}
+use Rattle.rd_volume.specs.declared.found.Found.{Found}
+use Rattle.rd_protocol.specs.declared.rows.Outcome.{Outcome}
+use Rattle.rd_protocol.specs.declared.rows.Outcome.TheVariants as outcome
+use Rattle.rd_protocol.specs.Catalogues.{catalogue_text}
+pub use Rattle.rd_protocol.specs.Catalogues.{effect_word}
+use Rattle.rd_protocol.specs.Lent.{held, lent_out}
+use Rattle.rd_protocol.specs.Refusals.{name_of, status_of}
+use Rattle.rd_protocol.specs.declared.refusal.Refusal.{Refusal}
+use Rattle.rd_protocol.specs.declared.refusal.Refusal.TheVariants.{UnknownKey, StaffOnly, BadBody, NoAccession, NoFile, NoDeed, Denied, ListedOnly, Faulty, WrongSize, DigestDiffers, Conflict}
+use Rattle.rd_protocol.specs.declared.said.Form.TheVariants.{Json, Csv, Octets}
+use Rattle.rd_protocol.specs.declared.said.ImageLine.{ImageLine}
+use Rattle.rd_protocol.specs.declared.said.Line.{Line}
+use Rattle.rd_protocol.specs.declared.said.Listing.{Listing}
+use Rattle.rd_protocol.specs.declared.said.Reply.{Reply}
+use Rattle.rd_protocol.specs.declared.said.Said.{Said}
+use Rattle.rd_protocol.specs.declared.said.Said.TheVariants.{Refused, Done, Images, Listed, File, Catalogue, Surveyed, Checked}
+use Rattle.rd_protocol.specs.declared.said.Survey.{Survey}
+
+-- ---- values
+
+abbrev pub natural : ℕ → Data
+natural n = number (unsigned n)
+
+-- a number, or null if there is none
+abbrev pub natural_or_null : Option ℕ → Data
+natural_or_null None = null
+natural_or_null (Some n) = natural n
+
+abbrev pub texts : List (List ℕ) → Data
+texts words = array (items_of (map (λ word. string word) words))
+
+-- ---- refusals
+
+abbrev pub rule_member : List ℕ → Members
+rule_member rule = member (codes "rule") (string rule) no_members
+
+-- what a reply says of a refusal beside its name: the rule that decided, or the faults
+abbrev pub detail_of : Refusal → Members
+detail_of UnknownKey = rule_member (codes "K0")
+detail_of StaffOnly = rule_member (codes "S0")
+detail_of BadBody = no_members
+detail_of NoAccession = no_members
+detail_of NoFile = no_members
+detail_of NoDeed = no_members
+detail_of (Denied label) = rule_member (label_text label)
+detail_of ListedOnly = no_members
+detail_of (Faulty kind faults) = member (codes "faults") (texts (words_of kind faults)) no_members
+detail_of WrongSize = no_members
+detail_of DigestDiffers = no_members
+detail_of Conflict = no_members
+
+abbrev pub error_data : List ℕ → Members → Data
+error_data name detail = object (member (codes "error") (string name) detail)
+
+-- ---- what is listed
+
+-- a file, with the word of an effect, its faults and the label of a rule
+abbrev pub file_data : List ℕ → Data → List ℕ → Found → Data
+file_data effect faults rule file =
+    object
+    (member (codes "effect") (string effect)
+    (member (codes "faults") faults
+    (member (codes "name") (string file.name)
+    (member (codes "rule") (string rule)
+    (member (codes "size") (natural_or_null file.size)
+    (member (codes "slot") (natural file.slot)
+    (member (codes "type") (string file.ty)
+    (member (codes "user") (natural_or_null file.user) no_members))))))))
+
+-- a file of an image of a kind
+abbrev pub line_data : Kind → Line → Data
+line_data kind line =
+    file_data (effect_word line.verdict.effect) (texts (words_of kind line.file.faults)) (label_text line.verdict.label) line.file
+
+abbrev pub listing_data : Listing → Data
+listing_data listing =
+    object
+    (member (codes "accession") (natural listing.accession)
+    (member (codes "deed") (natural listing.deed)
+    (member (codes "files") (array (items_of (map (line_data listing.kind) listing.files)))
+    (member (codes "kind") (string (word_of listing.kind)) no_members))))
+
+abbrev pub image_data : ImageLine → Data
+image_data line =
+    object
+    (member (codes "accession") (natural line.accession)
+    (member (codes "deed") (natural line.deed)
+    (member (codes "files") (natural line.files)
+    (member (codes "kind") (string (word_of line.kind)) no_members))))
+
+abbrev pub images_data : List ImageLine → Data
+images_data lines = object (member (codes "images") (array (items_of (map image_data lines))) no_members)
+
+-- ---- what is surveyed and checked
+
+abbrev pub end_word : End → List ℕ
+end_word (end.Last byte) = codes "end"
+end_word end.Loop = codes "loop"
+end_word end.Off = codes "off"
+
+abbrev pub counts_data : MapReport → Data
+counts_data map =
+    object
+    (member (codes "claimed_free") (natural map.claimed_free)
+    (member (codes "unclaimed_used") (natural map.unclaimed_used)
+    (member (codes "wrong_counts") (natural map.wrong_counts) no_members)))
+
+-- what is wrong with the block map, in counts; a CP/M disk has none
+abbrev pub map_data : Kind → MapReport → Data
+map_data Cpm8 map = null
+map_data D64 map = counts_data map
+map_data D64e map = counts_data map
+
+-- a survey, with the words for the kind and for the directory's end, and the value for the block
+-- map
+abbrev pub survey_data : List ℕ → List ℕ → Data → Survey → Data
+survey_data kind directory map survey =
+    object
+    (member (codes "accession") (natural survey.accession)
+    (member (codes "deed") (natural survey.deed)
+    (member (codes "directory") (string directory)
+    (member (codes "donor") (string survey.donor)
+    (member (codes "faulty") (natural survey.report.faulty)
+    (member (codes "files") (natural survey.report.files)
+    (member (codes "kind") (string kind)
+    (member (codes "label") (string survey.report.label)
+    (member (codes "map") map
+    (member (codes "served") (natural survey.report.served)
+    (member (codes "signed") (string survey.signed)
+    (member (codes "size_differs") (natural survey.report.size_differs) no_members))))))))))))
+
+abbrev pub surveyed_data : Survey → Data
+surveyed_data survey =
+    survey_data (word_of survey.kind) (end_word survey.report.directory) (map_data survey.kind survey.report.map) survey
+
+abbrev pub outcome_word : Outcome → List ℕ
+outcome_word outcome.Sound = codes "sound"
+outcome_word outcome.Changed = codes "changed"
+
+abbrev pub outcome_data : Outcome → Data
+outcome_data found = object (member (codes "outcome") (string (outcome_word found)) no_members)
+
+abbrev pub DONE : Data
+DONE = object (member (codes "done") (boolean true) no_members)
+
+-- ---- replies
+
+abbrev pub in_json : ℕ → Data → Reply
+in_json status said = record { status = status; form = Json; body = held (compact_text said) }
+
+-- the reply that says the answer
+abbrev pub reply_of : Said → Reply
+reply_of (Refused refusal) = in_json (status_of refusal) (error_data (name_of refusal) (detail_of refusal))
+reply_of Done = in_json 200 DONE
+reply_of (Images lines) = in_json 200 (images_data lines)
+reply_of (Listed listing) = in_json 200 (listing_data listing)
+reply_of (File contents) = record { status = 200; form = Octets; body = lent_out contents }
+reply_of (Catalogue listings) = record { status = 200; form = Csv; body = held (catalogue_text listings) }
+reply_of (Surveyed survey) = in_json 200 (surveyed_data survey)
+reply_of (Checked found) = in_json 200 (outcome_data found)
+
+-- the reply when the database fails, or memory runs out
+abbrev pub UNAVAILABLE : Reply
+UNAVAILABLE = in_json 503 (error_data (codes "unavailable") no_members)

@@ -1,0 +1,7 @@
+use Rattle.std.proofs.Common.{take}
+use Rattle.std.specs.List.{AllZip}
+use Rattle.rd_store.specs.Batched.{IsIndexedBy}
+use Rattle.rd_store.proofs.batches.index_each.Given as goal
+
+abbrev pub invariant-loop-entry : goal.invariant-loop-entry
+invariant-loop-entry l = AllZip (IsIndexedBy l.rows) (take l.entry-index l.entries) l.batch.items

@@ -1,0 +1,13 @@
+use Rattle.std.proofs.Common.{◌∙◌, ap, map, rules}
+use Rattle.rd_store.specs.Batched.{files_at}
+use Rattle.rd_store.specs.Spelled.{file_in}
+use Rattle.rd_store.proofs.Indexing.{files_read}
+use Rattle.rd_store.proofs.batches.index_one.Goals as goal
+
+pub returns-clause-one : goal.returns-clause-one
+returns-clause-one c = record {
+  acc = search rules;
+  kind = search rules;
+  deed = search rules;
+  files = λ es sorted are. c.of.ensures ∙ c.in_ok-files.ensures.files ∙ ap (map file_in) (c.rows_of.ensures es sorted are) ∙ files_read (files_at c.args.entry.now.0 es);
+}
