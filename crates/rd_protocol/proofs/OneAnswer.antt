@@ -13,9 +13,9 @@ use Rattle.rd_policy.specs.declared.verdict.Label.TheVariants.{Default}
 use Rattle.rd_policy.proofs.OrderLemmas.{one_verdict}
 use Rattle.rd_volume.specs.Founds.{IsSoundFile}
 use Rattle.rd_volume.specs.Reports.{IsSoundSlot}
-use Rattle.rd_volume.specs.Told.{told_sound}
 use Rattle.rd_volume.specs.Volumes.{IsFound}
 use Rattle.rd_volume.proofs.OneFound.{one_found}
+use Rattle.rd_volume.proofs.Told.{told_sound}
 use Rattle.rd_protocol.specs.State.{Desk, rules_for}
 use Rattle.rd_protocol.specs.declared.rows.ImageRow.{ImageRow}
 use Rattle.rd_protocol.specs.declared.rows.Outcome.{Outcome}

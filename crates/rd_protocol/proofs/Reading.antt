@@ -5,10 +5,10 @@ use Rattle.rd_policy.specs.Verdicts.{IsVerdict}
 use Rattle.rd_policy.specs.declared.audience.Audience.{Audience}
 use Rattle.rd_policy.specs.declared.verdict.Verdict.{Verdict}
 use Rattle.rd_volume.specs.Founds.{IsSoundFile}
-use Rattle.rd_volume.specs.Told.{told_bytes, told_slot}
 use Rattle.rd_geometry.specs.declared.kind.Kind.{Kind}
 use Rattle.rd_volume.specs.Volumes.{AreBytesOf, IsFound, IsSlotOfFile, contents_of}
 use Rattle.rd_volume.specs.declared.found.Found.{Found}
+use Rattle.rd_volume.proofs.Told.{told_bytes, told_slot}
 use Rattle.rd_protocol.specs.State.{Desk, rules_for}
 use Rattle.rd_protocol.specs.declared.rows.ImageRow.{ImageRow}
 use Rattle.rd_protocol.specs.Judged.{Conflicts, IsAccepted, IsAsked, IsJudgedFile, IsRefused, JudgedFile, PassesTo, accession_of, audience_of, deed_of, file_of, image_of}

@@ -19,10 +19,10 @@ use Rattle.rd_policy.specs.declared.verdict.Label.{Label}
 use Rattle.rd_policy.specs.declared.verdict.Verdict.{Verdict}
 use Rattle.rd_policy.proofs.Existence.{date_of, verdict_on}
 use Rattle.rd_volume.specs.Founds.{IsSoundFile}
-use Rattle.rd_volume.specs.Told.{told_bytes as told_file_bytes, told_slot}
 use Rattle.rd_volume.specs.Volumes.{AreBytesOf, IsFound, IsSlotOfFile}
 use Rattle.rd_volume.specs.declared.found.Found.{Found}
 use Rattle.rd_volume.proofs.Existence.{decided_slot, file_at, report_of, survey_of}
+use Rattle.rd_volume.proofs.Told.{told_bytes as told_file_bytes, told_slot}
 use Rattle.rd_protocol.specs.Lawful.{IsLawful}
 use Rattle.rd_protocol.specs.State.{Desk, HasOtherImage, HasOtherStaff, IsLastStaff, IsSameImage, rules_for}
 use Rattle.rd_protocol.specs.declared.rows.DeedRow.{DeedRow}

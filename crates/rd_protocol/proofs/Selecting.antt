@@ -11,10 +11,10 @@ use Rattle.rd_policy.specs.declared.audience.Audience.{Audience}
 use Rattle.rd_policy.specs.declared.rule.Effect.TheVariants.{Deny}
 use Rattle.rd_policy.specs.declared.rule.Rule.{Rule}
 use Rattle.rd_policy.specs.declared.verdict.Verdict.{Verdict}
-use Rattle.rd_volume.specs.Told.{told_slot}
 use Rattle.rd_volume.specs.Volumes.{AreFounds, IsFound}
 use Rattle.rd_volume.specs.declared.found.Found.{Found}
 use Rattle.rd_volume.proofs.OneFound.{one_found}
+use Rattle.rd_volume.proofs.Told.{told_slot}
 use Rattle.rd_protocol.specs.declared.rows.ImageRow.{ImageRow}
 use Rattle.rd_protocol.specs.State.{Desk, rules_for}
 use Rattle.rd_protocol.specs.Queries.{AreLinesOf, AreLinesOfEach, IsCounted}

@@ -13,11 +13,11 @@ use Rattle.rd_policy.specs.declared.rule.Rule.{Rule}
 use Rattle.rd_policy.specs.declared.verdict.Verdict.{Verdict}
 use Rattle.rd_volume.specs.Founds.{IsSoundFile}
 use Rattle.rd_volume.specs.Reports.{IsSoundSlot}
-use Rattle.rd_volume.specs.Told.{told_sound, told_bytes as told_file_bytes}
 use Rattle.rd_volume.specs.Volumes.{AreBytesOf, IsFound, IsSlotOfFile}
 use Rattle.rd_volume.specs.declared.found.Found.{Found}
 use Rattle.rd_volume.proofs.OneContents.{one_contents}
 use Rattle.rd_volume.proofs.OneFound.{one_found}
+use Rattle.rd_volume.proofs.Told.{told_sound, told_bytes as told_file_bytes}
 use Rattle.rd_protocol.specs.State.{Desk, rules_for, accession_of as given_of}
 use Rattle.rd_protocol.specs.declared.rows.Accession.{Accession}
 use Rattle.rd_protocol.specs.declared.rows.ImageRow.{ImageRow}

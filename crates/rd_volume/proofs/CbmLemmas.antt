@@ -1,5 +1,5 @@
 -- The files of a 1541 disk as both kinds tell them.
-use Rattle.std.proofs.Common.{◌≡◌, ◌∙◌, inl, inr, ◌↔◌, ◌+◌, ◌-◌, ◌*◌, ◌%◌, ◌<◌, ◌≤◌, ◌&&◌, ℕ, List, [], ◌∷◌, All, AllPairs, Contains, IfNone, IfSome, IsTrue, None, Option, Some, ap, sym, arith, cond, drop, false, length, nat_eq, nat_le, refl, slice_index_or, subst, take, true}
+use Rattle.std.proofs.Common.{◌≡◌, ◌∙◌, inl, inr, ◌↔◌, ◌+◌, ◌-◌, ◌*◌, ◌%◌, ◌<◌, ◌≤◌, ◌&&◌, ℕ, List, [], ◌∷◌, All, AllPairs, Contains, IfNone, IfSome, IsTrue, None, Option, Some, ap, append-nil, sym, arith, cond, drop, false, length, nat_eq, nat_le, refl, slice_index_or, subst, take, true}
 use Rattle.std.proofs.lemmas.Bool.{agree_below_at, and_from, and_parts, cases_Bool, cases_eq, le-leb, leb-true}
 use Rattle.std.proofs.lemmas.List.{length-append, length-drop, length-take}
 use Rattle.std.proofs.lemmas.List.Elements.{All-head, All-tail}
@@ -16,10 +16,11 @@ use Rattle.rd_cbm.specs.declared.class.Class.{Class}
 use Rattle.rd_cbm.specs.declared.class.Class.TheVariants.{Del, Seq, Prg, Usr, Rel, Other}
 use Rattle.rd_cbm.specs.declared.listing.CbmFile.{CbmFile}
 use Rattle.rd_cbm.proofs.OneChain.{one_chain}
-use Rattle.rd_volume.specs.CbmFounds.{IsCbmFile, TellsCbm, TellsCbmFiles, bytes_of_chain, is_served, length_of_blocks}
+use Rattle.rd_volume.specs.CbmFounds.{IsCbmFile, bytes_of_chain}
 use Rattle.rd_volume.specs.CbmKinds.{not_cpm}
-use Rattle.rd_volume.specs.Directories.{in_blocks, of_blocks}
+use Rattle.rd_volume.specs.OneDirectory.{in_blocks, of_blocks}
 use Rattle.rd_volume.specs.Printed.{cbm_type_of, printed}
+use Rattle.rd_volume.specs.Tells.{TellsCbm, TellsCbmFiles, is_served, length_of_blocks}
 use Rattle.rd_volume.specs.Volumes.{AreFounds, IsFound, IsFoundAt}
 use Rattle.rd_volume.specs.declared.found.Found.{Found}
 use Rattle.rd_volume.proofs.ToldLemmas.{each_told, few_below, items_ascend, numbers_ascend, same_numbers}
@@ -79,7 +80,8 @@ length_chain : (image chain : List ℕ) (used : ℕ) → CBM_SIZE ≤ length ima
 length_chain image [] used size byte on_disk = refl
 length_chain image (n ∷ []) used size byte on_disk =
     let whole : length (drop 2 (cbm_block image n)) ≡ 254 = length_block image n size (All-head (λ n. n < CBM_BLOCKS) n [] on_disk) in
-    length-take (used + 1 - 2) (drop 2 (cbm_block image n)) ∙ omega arith
+    ap length (append-nil (take (used + 1 - 2) (drop 2 (cbm_block image n))))
+    ∙ length-take (used + 1 - 2) (drop 2 (cbm_block image n)) ∙ omega arith
 length_chain image (n ∷ m ∷ chain) used size byte on_disk =
     let whole : length (drop 2 (cbm_block image n)) ≡ 254 = length_block image n size (All-head (λ n. n < CBM_BLOCKS) n (m ∷ chain) on_disk) in
     let rest : length (bytes_of_chain image (m ∷ chain) used) ≡ 254 * length chain + (used - 1) =

@@ -17,7 +17,7 @@ use Rattle.rd_cbm.specs.declared.listing.CbmFile.{CbmFile}
 use Rattle.rd_cbm.specs.declared.report.MapReport.{MapReport}
 use Rattle.rd_cbm.proofs.OneChain.{one_chain}
 use Rattle.rd_volume.specs.CbmKinds.{not_cpm}
-use Rattle.rd_volume.specs.Directories.{in_blocks, of_blocks}
+use Rattle.rd_volume.specs.OneDirectory.{in_blocks, of_blocks}
 use Rattle.rd_volume.specs.Reports.{DiffersInSize, HasOtherSize, IsDirectoryEnd, IsFaultySlot, IsMapReport, IsSoundSlot}
 use Rattle.rd_volume.specs.Tallies.{differs_in_size, is_claimant, is_sound}
 use Rattle.rd_volume.specs.Volumes.{IsSlotOfFile}

@@ -13,8 +13,9 @@ use Rattle.rd_cpm.specs.Faults.{IsSound}
 use Rattle.rd_cpm.specs.Files.{Directory, IsEntryOf}
 use Rattle.rd_cpm.specs.Listing.{AreFiles, Describes}
 use Rattle.rd_cpm.specs.declared.listing.CpmFile.{CpmFile}
-use Rattle.rd_volume.specs.CpmFounds.{IsCpmFile, TellsCpm, TellsCpmFiles, last_sector_length}
+use Rattle.rd_volume.specs.CpmFounds.{IsCpmFile, last_sector_length}
 use Rattle.rd_volume.specs.Printed.{cpm_name_of, cpm_type_of}
+use Rattle.rd_volume.specs.Tells.{TellsCpm, TellsCpmFiles}
 use Rattle.rd_volume.specs.Volumes.{AreFounds, IsFoundAt}
 use Rattle.rd_volume.specs.declared.found.Found.{Found}
 use Rattle.rd_volume.proofs.ToldLemmas.{each_told, few_below, items_ascend, numbers_ascend, same_numbers}

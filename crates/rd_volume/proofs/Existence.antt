@@ -23,7 +23,8 @@ use Rattle.rd_cpm.specs.Files.{IsFileSlot as IsCpmSlot}
 use Rattle.rd_cpm.proofs.Existence as cpm
 use Rattle.rd_volume.specs.CbmFounds.{IsCbmFile, bytes_of_chain}
 use Rattle.rd_volume.specs.CpmFounds.{IsCpmFile, last_sector_length}
-use Rattle.rd_volume.specs.Directories.{OfDirectory, in_blocks, of_blocks}
+use Rattle.rd_volume.specs.Directories.{OfDirectory}
+use Rattle.rd_volume.specs.OneDirectory.{in_blocks, of_blocks}
 use Rattle.rd_volume.specs.Printed.{cbm_type_of, cpm_name_of, cpm_type_of, printed}
 use Rattle.rd_volume.specs.Reports.{DiffersInSize, HasOtherSize, IsDirectoryEnd, IsFaultySlot, IsMapReport, IsReport, IsSoundSlot, label_of}
 use Rattle.rd_volume.specs.Volumes.{AreFounds, HasNoFault as IsWithoutFault, IsFound, IsOfServedClass, IsSlotOfFile}

@@ -1,6 +1,7 @@
 mod PrintedLemmas
 mod WordLemmas
 mod ToldLemmas
+pub mod Told
 mod CpmLemmas
 mod CbmLemmas
 mod PieceLemmas

@@ -9,7 +9,7 @@ use Rattle.rd_cpm.specs.Contents.{bytes_of_sectors}
 use Rattle.rd_cpm.specs.Entries.{slot_of}
 use Rattle.rd_cpm.proofs.OneSectors.{one_sectors}
 use Rattle.rd_volume.specs.CbmFounds.{bytes_of_chain}
-use Rattle.rd_volume.specs.Directories.{of_blocks}
+use Rattle.rd_volume.specs.OneDirectory.{of_blocks}
 use Rattle.rd_volume.specs.Reports.{IsSoundSlot}
 use Rattle.rd_volume.specs.Volumes.{AreBytesOf, AreCbmBytes}
 

@@ -17,8 +17,8 @@ use Rattle.rd_cpm.specs.Files.{Directory}
 use Rattle.rd_cpm.proofs.OneSectors.{one_sectors}
 use Rattle.rd_volume.specs.CbmFounds.{HasCbmContents, IsCbmFile, bytes_of_chain}
 use Rattle.rd_volume.specs.CpmFounds.{HasCpmContents, IsCpmFile, last_sector_length}
-use Rattle.rd_volume.specs.Directories.{of_blocks}
 use Rattle.rd_volume.specs.Founds.{HasNoContents}
+use Rattle.rd_volume.specs.OneDirectory.{of_blocks}
 use Rattle.rd_volume.specs.Printed.{cbm_type_of, cpm_name_of, cpm_type_of, printed}
 use Rattle.rd_volume.specs.Volumes.{IsFound}
 use Rattle.rd_volume.specs.declared.found.Found.{Found}

@@ -1,11 +1,17 @@
 -- The pieces of a file, one by one and joined.
-use Rattle.std.proofs.Common.{◌≡◌, ◌∙◌, ◌+◌, ◌<◌, ◌≤◌, ℕ, zero, suc, List, [], ◌∷◌, ap, arith, get_or, length, refl, slice_index, subst, sym, take}
+use Rattle.std.proofs.Common.{◌≡◌, ◌∙◌, ◌+◌, ◌<◌, ◌≤◌, ℕ, zero, suc, List, [], ◌∷◌, All, ap, arith, get_or, length, refl, slice_index, subst, sym, take}
 use Rattle.std.specs.List.{concat}
+use Rattle.std.proofs.lemmas.List.Elements.{All-cons, All-head, All-nil, All-tail}
+use Rattle.rd_geometry.specs.Kinds.{size_of}
+use Rattle.rd_geometry.specs.Laws.{block_inside, cpm_unit_inside}
 use Rattle.rd_geometry.specs.declared.kind.Kind.{Kind}
+use Rattle.rd_geometry.specs.declared.kind.Kind.TheVariants.{Cpm8}
 use Rattle.rd_volume.specs.Founds.{IsSoundFile}
-use Rattle.rd_volume.specs.Told.{told_bytes}
+use Rattle.rd_volume.specs.Kinds.{room_of, unit_count_of}
+use Rattle.rd_volume.specs.Parts.{part_of_unit, parts_of, place_of_body}
 use Rattle.rd_volume.specs.Volumes.{AreBytesOf, IsFound, body_of, pieces_of}
 use Rattle.rd_volume.specs.declared.found.Found.{Found}
+use Rattle.rd_volume.proofs.Told.{told_bytes}
 
 -- a piece before the last is all that its unit holds
 before_last : (kind : Kind) (image units : List ℕ) (last i : ℕ) → i + 1 < length units
@@ -47,3 +53,20 @@ pub pieces_count : (kind : Kind) (image units : List ℕ) (last : ℕ) → lengt
 pieces_count kind image [] last = refl
 pieces_count kind image (unit ∷ []) last = refl
 pieces_count kind image (unit ∷ next ∷ units) last = ap suc (pieces_count kind image (next ∷ units) last)
+
+-- the part of a unit of the disk lies in the image
+unit_inside : (kind : Kind) (unit size : ℕ) → unit < unit_count_of kind → size ≡ size_of kind → place_of_body kind unit + room_of kind ≤ size
+unit_inside Cpm8 unit size low whole = cpm_unit_inside unit size low whole
+unit_inside _ unit size low whole = let inside = block_inside unit size low (omega arith) in omega arith
+
+-- and so do the parts of a file
+pub parts_inside : (kind : Kind) (units : List ℕ) (last size : ℕ) → All (λ unit. unit < unit_count_of kind) units → last ≤ room_of kind → size ≡ size_of kind
+    → All (λ part. part.start + part.count ≤ size) (parts_of kind units last)
+parts_inside kind [] last size low fits whole = All-nil (λ part. part.start + part.count ≤ size)
+parts_inside kind (unit ∷ []) last size low fits whole =
+    let inside = unit_inside kind unit size (All-head (λ unit. unit < unit_count_of kind) unit [] low) whole in
+    All-cons (λ part. part.start + part.count ≤ size) (part_of_unit kind unit last) [] (omega arith) (All-nil (λ part. part.start + part.count ≤ size))
+parts_inside kind (unit ∷ next ∷ units) last size low fits whole =
+    All-cons (λ part. part.start + part.count ≤ size) (part_of_unit kind unit (room_of kind)) (parts_of kind (next ∷ units) last)
+    (unit_inside kind unit size (All-head (λ unit. unit < unit_count_of kind) unit (next ∷ units) low) whole)
+    (parts_inside kind (next ∷ units) last size (All-tail (λ unit. unit < unit_count_of kind) unit (next ∷ units) low) fits whole)

@@ -1,4 +1,4 @@
--- A 1541 image that agrees with another on the needed bytes has the same files.
+-- Proofs: a 1541 image that agrees with another on the needed bytes has the same files.
 use Rattle.std.proofs.Common.{◌≡◌, ◌∙◌, ◌+◌, ◌-◌, ◌*◌, ◌/◌, ◌%◌, ◌<◌, ◌≤◌, ℕ, List, Contains, Some, ap, ap₂, arith, length, refl, slice_index, sym}
 use Rattle.std.specs.List.{concat}
 use Rattle.rd_geometry.specs.Blocks.{CBM_BLOCK_LENGTH, cbm_block, index_of, place_of_block, place_of_mark}
@@ -9,26 +9,26 @@ use Rattle.rd_cbm.specs.Entries.{Data, IsServed, Side, Way, class_of, entry_at, 
 use Rattle.rd_cbm.specs.Faults.{HasNoFault, IsSound}
 use Rattle.rd_cbm.specs.Files.{AreDirectoryBlocks, IsFileSlot}
 use Rattle.rd_cbm.specs.Links.{link_by, link_of}
-use Rattle.rd_cbm.specs.Walks.{Ends, IsChain}
 use Rattle.rd_cbm.proofs.AlikeFiles.{HasFilesOf, claimed_alike, data_alike, data_end_alike, faults_alike, files_turned, served_alike, slot_alike, sound_alike}
 use Rattle.rd_cbm.proofs.AlikeWalks.{HasLinksAlong, chain_alike}
 use Rattle.rd_cbm.proofs.Existence.{has_end}
 use Rattle.rd_cbm.proofs.Inside.{links_inside, start_inside}
-use Rattle.rd_volume.specs.AlikePieces.{pieces_alike, pieces_length}
+use Rattle.rd_volume.specs.AlikePieces.{pieces_length}
 use Rattle.rd_volume.specs.CbmFounds.{IsCbmFile, bytes_of_chain}
 use Rattle.rd_volume.specs.CbmKinds.{not_cpm}
-use Rattle.rd_volume.specs.Directories.{OfDirectory, in_blocks, of_blocks}
+use Rattle.rd_volume.specs.Directories.{OfDirectory}
 use Rattle.rd_volume.specs.Founds.{IsSoundFile}
 use Rattle.rd_volume.specs.Laws.{cbm_joined, cbm_sound}
-use Rattle.rd_volume.specs.Needed.{AgreesOnNeeded, IsNeededOfCbm, IsServedByte, byte_of_file, byte_of_used_entry, link_of_claimed, link_of_directory, mark_of_claimed, place_of_cbm_entry, type_byte}
+use Rattle.rd_volume.specs.Needed.{AgreesOnNeeded, AreCbmUnits, AreUnitsOf, DescribesCbmFiles, byte_of_used_entry, describing, link_of_claimed, link_of_directory, mark_of_claimed, place_of_cbm_entry, type_byte}
+use Rattle.rd_volume.specs.OneDirectory.{in_blocks, of_blocks}
 use Rattle.rd_volume.specs.Printed.{cbm_type_of, printed}
 use Rattle.rd_volume.specs.Ranges.{same_inner_item, same_item, same_length, same_or, same_range}
 use Rattle.rd_volume.specs.Reports.{IsSoundSlot}
-use Rattle.rd_volume.specs.TellsAll.{HasLaw}
+use Rattle.rd_volume.specs.TellsAll.{HasLaw, KeepsFiles, served_pieces}
 use Rattle.rd_volume.specs.Volumes.{AreCbmBytes, pieces_of}
 use Rattle.rd_volume.specs.declared.found.Found.{Found}
 
--- a link and a byte of an entry are the same where those of the image are
+-- a link is the same where that of the image is
 link_same : (image other : List ℕ) (block : ℕ)
     → ((byte : ℕ) → byte < 2 → slice_index image (place_of_block block + byte) ≡ slice_index other (place_of_block block + byte))
     → link_of image block ≡ link_of other block
@@ -38,6 +38,7 @@ link_same image other block same =
     ap₂ link_by (same_item image other start (start + CBM_BLOCK_LENGTH) 0 (λ _. same 0 (omega arith)))
     (same_item image other start (start + CBM_BLOCK_LENGTH) 1 (λ _. same 1 (omega arith)))
 
+-- and so is a byte of an entry
 entry_byte : (image other blocks : List ℕ) (slot byte : ℕ)
     → slice_index image (place_of_cbm_entry blocks slot + byte) ≡ slice_index other (place_of_cbm_entry blocks slot + byte)
     → slice_index (entry_at image blocks slot) byte ≡ slice_index (entry_at other blocks slot) byte
@@ -47,6 +48,7 @@ entry_byte image other blocks slot byte same =
     let start : ℕ = 32 * (slot % 8) in
     same_inner_item image other block (block + CBM_BLOCK_LENGTH) start (start + 32) (place_of_cbm_entry blocks slot) byte refl (λ _. same)
 
+-- an entry is as long in both
 entry_length : (image other blocks : List ℕ) (slot : ℕ) → length image ≡ length other → length (entry_at image blocks slot) ≡ length (entry_at other blocks slot)
 unfolding entry_at
 entry_length image other blocks slot size =
@@ -55,41 +57,42 @@ entry_length image other blocks slot size =
     same_length (cbm_block image block) (cbm_block other block) start (start + 32)
     (same_length image other (place_of_block block) (place_of_block block + CBM_BLOCK_LENGTH) size)
 
--- An image has the needed bytes of another, whose directory has these blocks.
-record HasNeeded (image other served blocks : List ℕ) : Type 0 where
+-- An image has the bytes that describe the files of another, whose directory has these blocks.
+record HasDescription (image other blocks : List ℕ) : Type 0 where
   size : length image ≡ length other
   are : AreDirectoryBlocks other blocks
-  same : (place : ℕ) → IsNeededOfCbm other served place blocks → slice_index image place ≡ slice_index other place
+  same : (place : ℕ) → DescribesCbmFiles other place blocks → slice_index image place ≡ slice_index other place
 
 -- the blocks are those of its directory too
-same_directory : (image other served blocks : List ℕ) → HasNeeded image other served blocks → AreDirectoryBlocks image blocks
-same_directory image other served blocks has =
+same_directory : (image other blocks : List ℕ) → HasDescription image other blocks → AreDirectoryBlocks image blocks
+same_directory image other blocks has =
     let along : HasLinksAlong (link_of image) (link_of other) (index_of 18 1) = record {
       same = λ block reached. link_same image other block (λ byte low.
           has.same (place_of_block block + byte) (link_of_directory block byte (has.are.all block reached) low refl));
     } in
     chain_alike along blocks has.are
 
--- the bytes of a used entry that are needed
-file_byte : (image other served blocks : List ℕ) → HasNeeded image other served blocks → (slot byte : ℕ) → IsFileSlot other blocks slot → 3 ≤ byte → byte ≤ 22
+-- bytes 3 to 22 of a used entry are the same
+file_byte : (image other blocks : List ℕ) → HasDescription image other blocks → (slot byte : ℕ) → IsFileSlot other blocks slot → 3 ≤ byte → byte ≤ 22
     → slice_index (entry_at image blocks slot) byte ≡ slice_index (entry_at other blocks slot) byte
-file_byte image other served blocks has slot byte file from to =
+file_byte image other blocks has slot byte file from to =
     entry_byte image other blocks slot byte (has.same (place_of_cbm_entry blocks slot + byte) (byte_of_used_entry slot byte file from to refl))
 
-start_same : (image other served blocks : List ℕ) → HasNeeded image other served blocks → (slot : ℕ) (way : Way) → IsFileSlot other blocks slot
+-- and so are the starts of the chains
+start_same : (image other blocks : List ℕ) → HasDescription image other blocks → (slot : ℕ) (way : Way) → IsFileSlot other blocks slot
     → start_of (entry_at image blocks slot) way ≡ start_of (entry_at other blocks slot) way
-start_same image other served blocks has slot Data file =
-    ap₂ index_of (file_byte image other served blocks has slot 3 file (omega arith) (omega arith)) (file_byte image other served blocks has slot 4 file (omega arith) (omega arith))
-start_same image other served blocks has slot Side file =
-    ap₂ index_of (file_byte image other served blocks has slot 21 file (omega arith) (omega arith)) (file_byte image other served blocks has slot 22 file (omega arith) (omega arith))
+start_same image other blocks has slot Data file =
+    ap₂ index_of (file_byte image other blocks has slot 3 file (omega arith) (omega arith)) (file_byte image other blocks has slot 4 file (omega arith) (omega arith))
+start_same image other blocks has slot Side file =
+    ap₂ index_of (file_byte image other blocks has slot 21 file (omega arith) (omega arith)) (file_byte image other blocks has slot 22 file (omega arith) (omega arith))
 
 -- so the image has what describes the other's files
-has_files : (image other served blocks : List ℕ) → HasNeeded image other served blocks → HasFilesOf image other blocks
-has_files image other served blocks has = record {
+has_files : (image other blocks : List ℕ) → HasDescription image other blocks → HasFilesOf image other blocks
+has_files image other blocks has = record {
   type = λ slot inside. entry_byte image other blocks slot 2 (has.same (place_of_cbm_entry blocks slot + 2) (type_byte slot inside refl));
   name = λ slot file. same_range (entry_at image blocks slot) (entry_at other blocks slot) 5 21 (entry_length image other blocks slot has.size)
-      (λ i inside. file_byte image other served blocks has slot (5 + i) file (omega arith) (omega arith));
-  start = start_same image other served blocks has;
+      (λ i inside. file_byte image other blocks has slot (5 + i) file (omega arith) (omega arith));
+  start = start_same image other blocks has;
   link = λ block claimed. link_same image other block (λ byte low.
       has.same (place_of_block block + byte) (link_of_claimed block byte claimed low refl));
   mark = λ block claimed. same_or image other (place_of_mark block) 1 has.size (has.same (place_of_mark block) (mark_of_claimed block claimed refl));
@@ -103,57 +106,39 @@ record AreAlike (image other : List ℕ) : Type 0 where
   of_other : AreDirectoryBlocks other blocks
   files : HasFilesOf image other blocks
 
+-- which holds the other way too
 turned : (image other : List ℕ) → AreAlike image other → AreAlike other image
 turned image other alike = record { blocks = alike.blocks; of_image = alike.of_other; of_other = alike.of_image; files = files_turned alike.files }
 
+-- images that agree are alike
 are_alike : (kind : Kind) → IsCbm kind → (image other served : List ℕ) → AgreesOnNeeded kind image other served → AreAlike image other
 are_alike Cpm8 cbm image other served agrees = absurd (not_cpm cbm)
 are_alike _ cbm image other served agrees =
     let walk = has_end (link_of other) (index_of 18 1) (links_inside other) (start_inside 18 1) in
-    let has : HasNeeded image other served walk.blocks = record {
+    let has : HasDescription image other walk.blocks = record {
       size = agrees.size;
       are = walk.chain;
-      same = λ place needed. agrees.same place (in_blocks other walk.blocks walk.chain (IsNeededOfCbm other served place) needed);
+      same = λ place describes. agrees.same place (describing (in_blocks other walk.blocks walk.chain (DescribesCbmFiles other place) describes));
     } in
     record {
       blocks = walk.blocks;
-      of_image = same_directory image other served walk.blocks has;
+      of_image = same_directory image other walk.blocks has;
       of_other = walk.chain;
-      files = has_files image other served walk.blocks has;
+      files = has_files image other walk.blocks has;
     }
 
 -- what follows of the blocks of the one directory follows of the other directory
 of_alike : (image other : List ℕ) → (alike : AreAlike image other) → (P Q : List ℕ → Type 0) → (P alike.blocks → Q alike.blocks) → OfDirectory other P → OfDirectory image Q
 of_alike image other alike P Q step of = in_blocks image alike.blocks alike.of_image Q (step (of_blocks other alike.blocks alike.of_other P of))
 
--- each byte that is needed of the other is needed
-served_byte_alike : (image other blocks served : List ℕ) → HasFilesOf image other blocks → (block byte : ℕ) → IsServedByte other blocks served block byte
-    → IsServedByte image blocks served block byte
-served_byte_alike image other blocks served has block byte is = record {
-  slot = is.slot;
-  among_served = is.among_served;
-  file = slot_alike has is.file;
-  sound = sound_alike has is.file is.sound;
-  chain = is.chain;
-  is_chain = data_alike has is.file is.sound is.chain is.is_chain;
-  used = is.used;
-  ends = data_end_alike has is.file is.sound is.used is.ends;
-  position = is.position;
-  on_chain = is.on_chain;
-  there = is.there;
-  after_link = is.after_link;
-  in_block = is.in_block;
-  within_used = is.within_used;
-}
-
-needed_alike : (image other served blocks : List ℕ) → HasFilesOf image other blocks → (place : ℕ) → IsNeededOfCbm other served place blocks
-    → IsNeededOfCbm image served place blocks
-needed_alike image other served blocks has place (link_of_directory block byte among low at) = link_of_directory block byte among low at
-needed_alike image other served blocks has place (type_byte slot inside at) = type_byte slot inside at
-needed_alike image other served blocks has place (byte_of_used_entry slot byte file from to at) = byte_of_used_entry slot byte (slot_alike has file) from to at
-needed_alike image other served blocks has place (link_of_claimed block byte claimed low at) = link_of_claimed block byte (claimed_alike has block claimed) low at
-needed_alike image other served blocks has place (mark_of_claimed block claimed at) = mark_of_claimed block (claimed_alike has block claimed) at
-needed_alike image other served blocks has place (byte_of_file block byte is at) = byte_of_file block byte (served_byte_alike image other blocks served has block byte is) at
+-- what describes the other's files describes those of this image
+describes_alike : (image other blocks : List ℕ) → HasFilesOf image other blocks → (place : ℕ) → DescribesCbmFiles other place blocks
+    → DescribesCbmFiles image place blocks
+describes_alike image other blocks has place (link_of_directory block byte among low at) = link_of_directory block byte among low at
+describes_alike image other blocks has place (type_byte slot inside at) = type_byte slot inside at
+describes_alike image other blocks has place (byte_of_used_entry slot byte file from to at) = byte_of_used_entry slot byte (slot_alike has file) from to at
+describes_alike image other blocks has place (link_of_claimed block byte claimed low at) = link_of_claimed block byte (claimed_alike has block claimed) low at
+describes_alike image other blocks has place (mark_of_claimed block claimed at) = mark_of_claimed block (claimed_alike has block claimed) at
 
 -- a chain has as many bytes in both, whatever these are
 chain_length : (image other chain : List ℕ) (used last : ℕ) → used < 256 → last ≡ used - 1 → length image ≡ length other
@@ -199,6 +184,7 @@ record IsSoundIn (image blocks : List ℕ) (slot : ℕ) : Type 0 where
   file : IsFileSlot image blocks slot
   sound : IsSound image blocks slot
 
+-- a sound file's slot is one by the blocks of the directory
 sound_in : (kind : Kind) → IsCbm kind → (image blocks : List ℕ) → AreDirectoryBlocks image blocks → (slot : ℕ) → IsSoundSlot kind image slot
     → IsSoundIn image blocks slot
 sound_in Cpm8 cbm image blocks are slot is = absurd (not_cpm cbm)
@@ -210,82 +196,85 @@ sound_in _ cbm image blocks are slot is = record {
   };
 }
 
-sound_slot_alike : (kind : Kind) → IsCbm kind → (image other : List ℕ) → AreAlike image other → (slot : ℕ) → IsSoundSlot kind other slot
+-- and the other way
+sound_slot : (kind : Kind) → IsCbm kind → (image blocks : List ℕ) → AreDirectoryBlocks image blocks → (slot : ℕ) → IsSoundIn image blocks slot
     → IsSoundSlot kind image slot
-sound_slot_alike Cpm8 cbm image other alike slot is = absurd (not_cpm cbm)
-sound_slot_alike kind cbm image other alike slot is =
-    let there : IsSoundIn other alike.blocks slot = sound_in kind cbm other alike.blocks alike.of_other slot is in
-    let sound : IsSound image alike.blocks slot = sound_alike alike.files there.file there.sound in
-    record {
-      file = in_blocks image alike.blocks alike.of_image (λ bs. IsFileSlot image bs slot) (slot_alike alike.files there.file);
-      class = in_blocks image alike.blocks alike.of_image (λ bs. IsServed (type_of (entry_at image bs slot))) sound.served;
-      sound = in_blocks image alike.blocks alike.of_image (λ bs. HasNoFault image bs slot) sound.no_fault;
-    }
+sound_slot Cpm8 cbm image blocks are slot is = absurd (not_cpm cbm)
+sound_slot _ cbm image blocks are slot is = record {
+  file = in_blocks image blocks are (λ bs. IsFileSlot image bs slot) is.file;
+  class = in_blocks image blocks are (λ bs. IsServed (type_of (entry_at image bs slot))) is.sound.served;
+  sound = in_blocks image blocks are (λ bs. HasNoFault image bs slot) is.sound.no_fault;
+}
 
--- the pieces of a served file are the same, and joined its bytes
-served_pieces : (kind : Kind) → IsCbm kind → (image other served : List ℕ) → AgreesOnNeeded kind image other served → (blocks : List ℕ) → AreDirectoryBlocks other blocks → (slot used last : ℕ) (chain : List ℕ)
-    → last ≡ used - 1 → Contains served slot → IsSoundIn other blocks slot → IsChain (link_of other) (start_of (entry_at other blocks slot) Data) chain
-    → Ends (link_of other) (start_of (entry_at other blocks slot) Data) used → pieces_of kind image chain last ≡ pieces_of kind other chain last
-served_pieces Cpm8 cbm image other served agrees blocks are slot used last chain is_last among is_sound is_chain ends = absurd (not_cpm cbm)
-served_pieces kind cbm image other served agrees blocks are slot used last chain is_last among is_sound is_chain ends =
-    pieces_alike kind image other chain last agrees.size (λ position byte inside low before_last.
-    let block : ℕ = slice_index chain position in
-    let place : ℕ = place_of_block block + 2 + byte in
-    agrees.same place (in_blocks other blocks are (IsNeededOfCbm other served place) (byte_of_file block (2 + byte) (record {
-      slot = slot;
-      among_served = among;
-      file = is_sound.file;
-      sound = is_sound.sound;
-      chain = chain;
-      is_chain = is_chain;
-      used = used;
-      ends = ends;
-      position = position;
-      on_chain = inside;
-      there = refl;
-      after_link = omega arith;
-      in_block = omega arith;
-      within_used = λ at_end. let before : byte < last = before_last at_end in omega arith;
-    }) (omega arith))))
+-- a file has the units that it has by the blocks of the directory
+units_of : (kind : Kind) → IsCbm kind → (image blocks : List ℕ) → AreDirectoryBlocks image blocks → (slot last : ℕ) (units : List ℕ)
+    → AreCbmUnits image slot units last blocks → AreUnitsOf kind image slot units last
+units_of Cpm8 cbm image blocks are slot last units is = absurd (not_cpm cbm)
+units_of _ cbm image blocks are slot last units is = in_blocks image blocks are (AreCbmUnits image slot units last) is
 
+-- the files of the other are files of this image
+keeps_files : (kind : Kind) → IsCbm kind → (image other : List ℕ) → AreAlike image other → KeepsFiles kind image other
+keeps_files Cpm8 cbm image other alike = absurd (not_cpm cbm)
+keeps_files kind cbm image other alike = record {
+  describes = λ place. of_alike image other alike (DescribesCbmFiles other place) (DescribesCbmFiles image place)
+      (describes_alike image other alike.blocks alike.files place);
+  sound = λ slot is.
+      let there : IsSoundIn other alike.blocks slot = sound_in kind cbm other alike.blocks alike.of_other slot is in
+      sound_slot kind cbm image alike.blocks alike.of_image slot
+      (record { file = slot_alike alike.files there.file; sound = sound_alike alike.files there.file there.sound });
+  units = λ slot last units is.
+      let there : IsSoundIn other alike.blocks slot = sound_in kind cbm other alike.blocks alike.of_other slot is in
+      of_alike image other alike (AreCbmUnits other slot units last) (AreCbmUnits image slot units last) (λ are. record {
+        chain = data_alike alike.files there.file there.sound units are.chain;
+        used = are.used;
+        ends = data_end_alike alike.files there.file there.sound are.used are.ends;
+        is_last = are.is_last;
+      });
+}
+
+-- the bytes of a served file are the same
 bytes_alike : (kind : Kind) → IsCbm kind → (image other served : List ℕ) → AgreesOnNeeded kind image other served → AreAlike image other → (slot : ℕ) (bytes : List ℕ)
     → Contains served slot → IsSoundSlot kind other slot → OfDirectory other (AreCbmBytes other slot bytes) → OfDirectory image (AreCbmBytes image slot bytes)
 bytes_alike kind cbm image other served agrees alike slot bytes among sound =
     let there : IsSoundIn other alike.blocks slot = sound_in kind cbm other alike.blocks alike.of_other slot sound in
-    of_alike image other alike (AreCbmBytes other slot bytes) (AreCbmBytes image slot bytes) (λ are. record {
+    of_alike image other alike (AreCbmBytes other slot bytes) (AreCbmBytes image slot bytes) (λ are.
+    let last : ℕ = are.used - 1 in
+    let units : AreUnitsOf kind other slot are.chain last = units_of kind cbm other alike.blocks alike.of_other slot last are.chain
+    (record { chain = are.is_chain; used = are.used; ends = are.ends; is_last = refl }) in
+    record {
       chain = are.chain;
       used = are.used;
       is_chain = data_alike alike.files there.file there.sound are.chain are.is_chain;
       ends = data_end_alike alike.files there.file there.sound are.used are.ends;
-      joined = are.joined ∙ sym (cbm_joined kind cbm other are.chain are.used (are.used - 1) refl)
-          ∙ sym (ap concat (served_pieces kind cbm image other served agrees alike.blocks alike.of_other slot are.used (are.used - 1) are.chain refl among there are.is_chain are.ends))
-          ∙ cbm_joined kind cbm image are.chain are.used (are.used - 1) refl;
+      joined = are.joined ∙ sym (cbm_joined kind cbm other are.chain are.used last refl)
+          ∙ sym (ap concat (served_pieces kind image other served agrees slot last are.chain among sound units))
+          ∙ cbm_joined kind cbm image are.chain are.used last refl;
     })
 
+-- and so are the pieces of its record
 found_pieces : (kind : Kind) → IsCbm kind → (image other served : List ℕ) → AgreesOnNeeded kind image other served → (blocks : List ℕ) → AreDirectoryBlocks other blocks
     → (found : Found) → Contains served found.slot → IsCbmFile other found blocks → IsSoundFile found
     → pieces_of kind image found.units found.last_len ≡ pieces_of kind other found.units found.last_len
 found_pieces kind cbm image other served agrees blocks are found among told sound =
     let contents = cbm_sound other blocks found told sound in
-    served_pieces kind cbm image other served agrees blocks are found.slot contents.used found.last_len found.units contents.last among
-    (record { file = told.slot; sound = record { served = told.class.0 sound.class; no_fault = told.faults.none.0 sound.sound } }) contents.chain contents.ends
+    served_pieces kind image other served agrees found.slot found.last_len found.units among
+    (sound_slot kind cbm other blocks are found.slot
+    (record { file = told.slot; sound = record { served = told.class.0 sound.class; no_fault = told.faults.none.0 sound.sound } }))
+    (units_of kind cbm other blocks are found.slot found.last_len found.units
+    (record { chain = contents.chain; used = contents.used; ends = contents.ends; is_last = contents.last }))
 
 -- the law of a 1541 image, with error bytes or without
 pub cbm_law : (kind : Kind) → IsCbm kind → HasLaw kind
 cbm_law Cpm8 cbm = absurd (not_cpm cbm)
 cbm_law kind cbm = record {
-  needed = λ image other served agrees place.
+  files = λ image other served agrees.
       let alike : AreAlike image other = are_alike kind cbm image other served agrees in
-      let back : AreAlike other image = turned image other alike in (
-        of_alike other image back (IsNeededOfCbm image served place) (IsNeededOfCbm other served place) (needed_alike other image served back.blocks back.files place),
-        of_alike image other alike (IsNeededOfCbm other served place) (IsNeededOfCbm image served place) (needed_alike image other served alike.blocks alike.files place),
-      );
+      (keeps_files kind cbm image other alike, keeps_files kind cbm other image (turned image other alike));
   tells = λ image other served agrees.
       let alike : AreAlike image other = are_alike kind cbm image other served agrees in
       record {
         file = λ slot. of_alike image other alike (λ blocks. IsFileSlot other blocks slot) (λ blocks. IsFileSlot image blocks slot) (slot_alike alike.files);
         found = λ found. of_alike image other alike (IsCbmFile other found) (IsCbmFile image found) (found_alike image other alike.blocks agrees.size alike.files found);
-        sound = sound_slot_alike kind cbm image other alike;
         bytes = bytes_alike kind cbm image other served agrees alike;
         pieces = λ found among told. found_pieces kind cbm image other served agrees alike.blocks alike.of_other found among
             (of_blocks other alike.blocks alike.of_other (IsCbmFile other found) told);

@@ -1,22 +1,21 @@
--- A CP/M image that agrees with another on the needed bytes has the same files.
+-- Proofs: a CP/M image that agrees with another on the needed bytes has the same files.
 use Rattle.std.proofs.Common.{◌≡◌, ◌≢◌, ◌∙◌, ◌+◌, ◌*◌, ◌/◌, ◌%◌, ◌<◌, ◌≤◌, ℕ, List, Contains, Some, ap, ap₂, arith, length, refl, slice_index, slice_range, sym}
 use Rattle.std.specs.List.{concat}
-use Rattle.std.proofs.lemmas.List.Elements.{Contains-get_or}
 use Rattle.rd_geometry.specs.Places.{CPM_UNIT_LENGTH, cpm_unit, place_of_cpm_unit}
 use Rattle.rd_geometry.specs.declared.kind.Kind.TheVariants.{Cpm8}
-use Rattle.rd_cpm.specs.Contents.{AreSectors, bytes_of_sectors}
+use Rattle.rd_cpm.specs.Contents.{bytes_of_sectors}
 use Rattle.rd_cpm.specs.Entries.{IsOfFile, ex_of, name_of, plain, s2_of, slot_of}
 use Rattle.rd_cpm.specs.Faults.{IsSound}
 use Rattle.rd_cpm.proofs.AlikeDirectories.{HasFilesOf, faults_alike, files_turned, of_file_alike, sectors_alike, slot_alike, sound_alike}
-use Rattle.rd_volume.specs.AlikePieces.{pieces_alike, pieces_length}
+use Rattle.rd_volume.specs.AlikePieces.{pieces_length}
 use Rattle.rd_volume.specs.CpmFounds.{IsCpmFile, last_sector_length}
 use Rattle.rd_volume.specs.Laws.{cpm_joined, last_at_most}
-use Rattle.rd_volume.specs.Needed.{AgreesOnNeeded, IsNeededOfCpm, byte_of_entry, byte_of_sector, first_byte, place_of_cpm_entry}
+use Rattle.rd_volume.specs.Needed.{AgreesOnNeeded, DescribesCpmFiles, byte_of_entry, describing, first_byte, place_of_cpm_entry}
 use Rattle.rd_volume.specs.Printed.{cpm_name_of, cpm_type_of}
 use Rattle.rd_volume.specs.Ranges.{same_inner_item, same_length, same_range}
 use Rattle.rd_volume.specs.Reports.{IsSoundSlot}
-use Rattle.rd_volume.specs.TellsAll.{HasLaw}
-use Rattle.rd_volume.specs.Volumes.{AreCpmBytes, pieces_of}
+use Rattle.rd_volume.specs.TellsAll.{KeepsFiles, HasLaw, served_pieces}
+use Rattle.rd_volume.specs.Volumes.{AreCpmBytes}
 use Rattle.rd_volume.specs.declared.found.Found.{Found}
 
 -- a byte of an entry is the same where that of the image is
@@ -29,6 +28,7 @@ entry_byte image other slot byte same =
     let start : ℕ = 32 * (slot % 4) in
     same_inner_item image other unit (unit + CPM_UNIT_LENGTH) start (start + 32) (place_of_cpm_entry slot) byte refl (λ inside. same (omega arith))
 
+-- an entry is as long in both
 entry_length : (image other : List ℕ) (slot : ℕ) → length image ≡ length other → length (slot_of image slot) ≡ length (slot_of other slot)
 unfolding slot_of
 entry_length image other slot size =
@@ -36,12 +36,14 @@ entry_length image other slot size =
     let start : ℕ = 32 * (slot % 4) in
     same_length (cpm_unit image (slot / 4)) (cpm_unit other (slot / 4)) start (start + 32) (same_length image other unit (unit + CPM_UNIT_LENGTH) size)
 
--- the bytes of an entry of a file but for S1, and ranges of these
+-- the bytes of an entry of a file but for S1
 file_byte : (image other served : List ℕ) → AgreesOnNeeded Cpm8 image other served → (slot byte : ℕ) → slot < 64 → IsOfFile (slot_of other slot) → byte ≢ 13
     → slice_index (slot_of image slot) byte ≡ slice_index (slot_of other slot) byte
 file_byte image other served agrees slot byte low file looked_at =
-    entry_byte image other slot byte (λ inside. agrees.same (place_of_cpm_entry slot + byte) (byte_of_entry slot byte low file inside looked_at refl))
+    entry_byte image other slot byte (λ inside.
+    agrees.same (place_of_cpm_entry slot + byte) (describing (byte_of_entry slot byte low file inside looked_at refl)))
 
+-- and ranges of these
 file_range : (image other served : List ℕ) → AgreesOnNeeded Cpm8 image other served → (slot a b : ℕ) → slot < 64 → IsOfFile (slot_of other slot)
     → ((i : ℕ) → a + i < b → a + i ≢ 13) → slice_range (slot_of image slot) a b ≡ slice_range (slot_of other slot) a b
 file_range image other served agrees slot a b low file looked_at =
@@ -51,7 +53,7 @@ file_range image other served agrees slot a b low file looked_at =
 -- so the directory has what describes the other's files
 has_files : (image other served : List ℕ) → AgreesOnNeeded Cpm8 image other served → HasFilesOf (slot_of image) (slot_of other)
 has_files image other served agrees = record {
-  first = λ slot low. entry_byte image other slot 0 (λ _. agrees.same (place_of_cpm_entry slot + 0) (first_byte slot low (omega arith)));
+  first = λ slot low. entry_byte image other slot 0 (λ _. agrees.same (place_of_cpm_entry slot + 0) (describing (first_byte slot low (omega arith))));
   name = λ slot low file. file_range image other served agrees slot 1 12 low file (λ i inside. omega arith);
   extent = λ slot low file.
       let s2 : s2_of (slot_of image slot) ≡ s2_of (slot_of other slot) = file_byte image other served agrees slot 14 low file (omega arith) in
@@ -61,20 +63,19 @@ has_files image other served agrees = record {
   pointers = λ slot low file. file_range image other served agrees slot 16 32 low file (λ i inside. omega arith);
 }
 
--- each byte that is needed of the other is needed
-needed_alike : (image other served : List ℕ) → HasFilesOf (slot_of image) (slot_of other) → (place : ℕ) → IsNeededOfCpm other served place → IsNeededOfCpm image served place
-needed_alike image other served has place (first_byte slot low at) = first_byte slot low at
-needed_alike image other served has place (byte_of_entry slot byte low file inside looked_at at) =
+-- what describes the other's files describes those of this image
+describes_alike : (image other : List ℕ) → HasFilesOf (slot_of image) (slot_of other) → (place : ℕ) → DescribesCpmFiles other place → DescribesCpmFiles image place
+describes_alike image other has place (first_byte slot low at) = first_byte slot low at
+describes_alike image other has place (byte_of_entry slot byte low file inside looked_at at) =
     byte_of_entry slot byte low (of_file_alike has slot low file) inside looked_at at
-needed_alike image other served has place (byte_of_sector unit byte is inside at) = byte_of_sector unit byte (record {
-  slot = is.slot;
-  among_served = is.among_served;
-  file = slot_alike has is.slot is.file;
-  sound = sound_alike has is.file.slot is.sound;
-  sectors = is.sectors;
-  are_sectors = sectors_alike has is.file.slot is.sectors is.are_sectors;
-  among_sectors = is.among_sectors;
-}) inside at
+
+-- and this image has the other's sound files with their units
+keeps_files : (image other : List ℕ) → HasFilesOf (slot_of image) (slot_of other) → KeepsFiles Cpm8 image other
+keeps_files image other has = record {
+  describes = describes_alike image other has;
+  sound = λ slot sound. record { file = slot_alike has slot sound.file; class = tt; sound = sound_alike has sound.file.slot sound.sound };
+  units = λ slot last units sound are. record { sectors = sectors_alike has sound.file.slot units are.sectors; is_last = are.is_last };
+}
 
 -- sectors have as many bytes together in both, whatever these are
 sectors_length : (image other sectors : List ℕ) (last : ℕ) → last ≡ last_sector_length sectors → length image ≡ length other
@@ -107,22 +108,7 @@ found_alike image other size has found told =
       faulty = λ faulty. told.faulty (λ sound. faulty (sound_alike has low sound));
     }
 
--- the pieces of a served file are the same, and joined its bytes
-served_pieces : (image other served : List ℕ) → AgreesOnNeeded Cpm8 image other served → (slot last : ℕ) (sectors : List ℕ) → Contains served slot
-    → IsSoundSlot Cpm8 other slot → AreSectors (slot_of other) slot sectors → pieces_of Cpm8 image sectors last ≡ pieces_of Cpm8 other sectors last
-served_pieces image other served agrees slot last sectors among sound are =
-    pieces_alike Cpm8 image other sectors last agrees.size (λ position byte inside low _.
-    let unit : ℕ = slice_index sectors position in
-    agrees.same (place_of_cpm_unit unit + byte) (byte_of_sector unit byte (record {
-      slot = slot;
-      among_served = among;
-      file = sound.file;
-      sound = sound.sound;
-      sectors = sectors;
-      are_sectors = are;
-      among_sectors = Contains-get_or sectors position 0 inside;
-    }) low refl))
-
+-- the bytes of a served file are the same
 bytes_alike : (image other served : List ℕ) → AgreesOnNeeded Cpm8 image other served → (slot : ℕ) (bytes : List ℕ) → Contains served slot
     → IsSoundSlot Cpm8 other slot → AreCpmBytes other slot bytes → AreCpmBytes image slot bytes
 bytes_alike image other served agrees slot bytes among sound are =
@@ -131,25 +117,26 @@ bytes_alike image other served agrees slot bytes among sound are =
       sectors = are.sectors;
       are_sectors = sectors_alike (has_files image other served agrees) sound.file.slot are.sectors are.are_sectors;
       joined = are.joined ∙ sym (cpm_joined other are.sectors last refl)
-          ∙ sym (ap concat (served_pieces image other served agrees slot last are.sectors among sound are.are_sectors))
+          ∙ sym (ap concat (served_pieces Cpm8 image other served agrees slot last are.sectors among sound (record { sectors = are.are_sectors; is_last = refl })))
           ∙ cpm_joined image are.sectors last refl;
     }
 
+-- the law of a CP/M image
 pub cpm_law : HasLaw Cpm8
 cpm_law = record {
-  needed = λ image other served agrees place.
+  files = λ image other served agrees.
       let has : HasFilesOf (slot_of image) (slot_of other) = has_files image other served agrees in
-      (needed_alike other image served (files_turned has) place, needed_alike image other served has place);
+      (keeps_files image other has, keeps_files other image (files_turned has));
   tells = λ image other served agrees.
       let has : HasFilesOf (slot_of image) (slot_of other) = has_files image other served agrees in
       record {
         file = λ slot file. slot_alike has slot file;
         found = found_alike image other agrees.size has;
-        sound = λ slot sound. record { file = slot_alike has slot sound.file; class = tt; sound = sound_alike has sound.file.slot sound.sound };
         bytes = bytes_alike image other served agrees;
         pieces = λ found among told sound.
             let no_fault : IsSound (slot_of other) found.slot = told.faults.sound.0 sound.sound in
-            served_pieces image other served agrees found.slot found.last_len found.units among
-            (record { file = told.slot; class = tt; sound = no_fault }) (told.sound no_fault).units;
+            let contents = told.sound no_fault in
+            served_pieces Cpm8 image other served agrees found.slot found.last_len found.units among
+            (record { file = told.slot; class = tt; sound = no_fault }) (record { sectors = contents.units; is_last = contents.last });
       };
 }

@@ -1,12 +1,10 @@
 -- The files of a CP/M image, in the form that all kinds share.
-use Rattle.std.specs.Prelude.{◌≡◌, ◌≢◌, ◌*◌, ℕ, List, [], ◌∷◌, IsTrue, None, Some, length}
-use Rattle.std.specs.List.{AllZip}
+use Rattle.std.specs.Prelude.{◌≡◌, ℕ, List, [], ◌∷◌, IsTrue, Some, length}
 use Rattle.rd_geometry.specs.Places.{CPM_UNIT_LENGTH}
 use Rattle.rd_cpm.specs.Contents.{AreSectors, bytes_of_sectors}
 use Rattle.rd_cpm.specs.Entries.{slot_of, first_of, name_of, plain}
 use Rattle.rd_cpm.specs.Faults.{IsSound, AreFaults}
 use Rattle.rd_cpm.specs.Files.{IsFileSlot}
-use Rattle.rd_cpm.specs.declared.listing.CpmFile.{CpmFile}
 use Rattle.rd_volume.specs.Founds.{HasNoContents}
 use Rattle.rd_volume.specs.Printed.{cpm_name_of, cpm_type_of}
 use Rattle.rd_volume.specs.declared.found.Found.{Found}
@@ -35,20 +33,3 @@ pub record IsCpmFile (image : List ℕ) (found : Found) : Type 0 where
   pub faults : AreFaults (slot_of image) found.slot found.faults
   pub sound : IsSound (slot_of image) found.slot → HasCpmContents image found
   pub faulty : ¬ IsSound (slot_of image) found.slot → HasNoContents found
-
--- The record says what rd_cpm says of the file.
-pub record TellsCpm (file : CpmFile) (found : Found) : Type 0 where
-  pub slot : found.slot ≡ file.slot
-  pub name : found.name ≡ cpm_name_of file.name
-  pub type : found.ty ≡ cpm_type_of file.name
-  pub user : found.user ≡ Some file.user
-  pub class : IsTrue found.served_class
-  pub faults : found.faults ≡ file.faults
-  pub units : found.units ≡ file.sectors
-  pub size : file.faults ≡ 0 → found.size ≡ Some (128 * length file.sectors)
-  pub none : file.faults ≢ 0 → found.size ≡ None
-  pub last : found.last_len ≡ last_sector_length file.sectors
-
--- The records say what rd_cpm says of the files, in their order.
-abbrev pub TellsCpmFiles : List CpmFile → List Found → Type 0
-TellsCpmFiles files founds = AllZip TellsCpm files founds

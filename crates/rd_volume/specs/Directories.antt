@@ -1,6 +1,5 @@
 -- The directory of a 1541 image. The definitions of rd_cbm take its blocks.
-use Rattle.std.proofs.Common.{List, ℕ, subst}
-use Rattle.rd_cbm.proofs.OneChain.{one_chain}
+use Rattle.std.specs.Prelude.{List, ℕ}
 use Rattle.rd_cbm.specs.Files.{AreDirectoryBlocks}
 
 -- Something holds of the blocks of the directory of an image.
@@ -8,11 +7,3 @@ pub record OfDirectory (image : List ℕ) (P : List ℕ → Type 0) : Type 0 whe
   pub blocks : List ℕ
   pub are_blocks : AreDirectoryBlocks image blocks
   pub holds : P blocks
-
--- what holds of the directory's blocks holds of blocks that are the directory's
-pub of_blocks : (image blocks : List ℕ) → AreDirectoryBlocks image blocks → (P : List ℕ → Type 0) → OfDirectory image P → P blocks
-of_blocks image blocks are P of = subst P (one_chain _ _ of.blocks blocks of.are_blocks are) of.holds
-
--- and the other way
-pub in_blocks : (image blocks : List ℕ) → AreDirectoryBlocks image blocks → (P : List ℕ → Type 0) → P blocks → OfDirectory image P
-in_blocks image blocks are P holds = record { blocks = blocks; are_blocks = are; holds = holds }

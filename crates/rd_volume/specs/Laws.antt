@@ -1,5 +1,5 @@
--- Proofs of the laws of `Volume`, which its `impl`s cite.
-use Rattle.std.proofs.Common.{◌≡◌, ◌∙◌, inl, inr, ◌+◌, ◌-◌, ◌*◌, ◌/◌, ◌%◌, ◌<◌, ◌≤◌, ℕ, List, [], ◌∷◌, ◌++◌, All, Some, ap, ap₂, append-nil, sym, arith, drop, false, length, refl, slice_index, slice_range, subst, take, true}
+-- Proofs: the laws of `Volume` on where files lie and how long they are, which its `impl`s cite.
+use Rattle.std.proofs.Common.{◌≡◌, ◌∙◌, inl, inr, ◌+◌, ◌-◌, ◌*◌, ◌/◌, ◌%◌, ◌<◌, ◌≤◌, ℕ, List, [], ◌∷◌, ◌++◌, All, Some, ap, ap₂, sym, arith, drop, false, length, refl, slice_index, slice_range, subst, take, true}
 use Rattle.std.specs.List.{concat}
 use Rattle.std.proofs.lemmas.Bool.{cases_Bool, cases_eq}
 use Rattle.std.proofs.lemmas.List.{length-drop, length-take, take_all}
@@ -19,9 +19,11 @@ use Rattle.rd_volume.specs.Founds.{Fits, HasNoContents, IsSoundFile}
 use Rattle.rd_volume.specs.Volumes.{IsFound, body_of, contents_of, pieces_of}
 use Rattle.rd_volume.specs.declared.found.Found.{Found}
 
+-- a unit has at most the bytes of a whole one
 unit_at_most : (image : List ℕ) (n : ℕ) → length (cpm_unit image n) ≤ CPM_UNIT_LENGTH
 unit_at_most image n = simp (length-take, length-drop) (omega arith)
 
+-- what is not above a number is at most that
 not_above : (a b : ℕ) → (b < a → ⊥) → a ≤ b
 not_above a b none = omega arith
 
@@ -51,6 +53,7 @@ record_on_disk image k r u sound is =
     let sector : u ≡ 8 * pointer_of (slot_of image is.entry) (r % 128 / 8) + r % 8 = is.sector in
     omega arith
 
+-- the last sector of a file is no longer than a sector
 pub last_at_most : (sectors : List ℕ) → last_sector_length sectors ≤ CPM_UNIT_LENGTH
 last_at_most [] = omega arith
 last_at_most (sector ∷ sectors) = omega arith
@@ -75,11 +78,13 @@ cpm_fits image found is = elim (cases_eq found.faults 0) [
       }
 ]
 
+-- bytes 2 to 255 of a block are all that it holds of a file
 block_body : (kind : Kind) → IsCbm kind → (image : List ℕ) (block : ℕ)
     → slice_range (cbm_block image block) 2 CBM_BLOCK_LENGTH ≡ body_of kind image block
 block_body kind cbm image block =
     take_all 254 (drop 2 (cbm_block image block)) (simp (length-drop, length-take) (omega arith)) ∙ sym (cbm_body kind cbm image block)
 
+-- and those up to the last byte used are the front of that
 last_body : (kind : Kind) → IsCbm kind → (image : List ℕ) (block used last : ℕ) → last ≡ used - 1
     → slice_range (cbm_block image block) 2 (used + 1) ≡ take last (body_of kind image block)
 last_body kind cbm image block used last is =
@@ -91,7 +96,7 @@ pub cbm_joined : (kind : Kind) → IsCbm kind → (image blocks : List ℕ) (use
     → concat (pieces_of kind image blocks last) ≡ bytes_of_chain image blocks used
 cbm_joined kind cbm image [] used last is = refl
 cbm_joined kind cbm image (block ∷ []) used last is =
-    append-nil (take last (body_of kind image block)) ∙ sym (last_body kind cbm image block used last is)
+    ap (λ bytes. bytes ++ []) (sym (last_body kind cbm image block used last is))
 cbm_joined kind cbm image (block ∷ next ∷ blocks) used last is =
     ap₂ (λ xs ys. xs ++ ys) (sym (block_body kind cbm image block)) (cbm_joined kind cbm image (next ∷ blocks) used last is)
 
@@ -108,6 +113,7 @@ cbm_total kind cbm image found is sound =
     let told = cbm_sound image is.blocks found is.holds sound in
     told.size ∙ ap (λ bytes. Some (length bytes)) (sym (cbm_joined kind cbm image found.units told.used found.last_len told.last))
 
+-- a file without contents lies in each image
 no_contents_fit : (kind : Kind) → IsCbm kind → (found : Found) → HasNoContents found → Fits kind found
 no_contents_fit Cpm8 cbm found none = absurd (not_cpm cbm)
 no_contents_fit _ cbm found none = record {
@@ -115,6 +121,7 @@ no_contents_fit _ cbm found none = record {
   last = let last : found.last_len ≡ 0 = none.last in omega arith;
 }
 
+-- and so does one with those of its image
 contents_fit : (kind : Kind) → IsCbm kind → (image blocks : List ℕ) (found : Found) → HasCbmContents image blocks found → Fits kind found
 contents_fit Cpm8 cbm image blocks found told = absurd (not_cpm cbm)
 contents_fit _ cbm image blocks found told = record {

@@ -1,22 +1,27 @@
+-- ---- what a reader of a public clause believes
 pub mod Kinds
+pub mod Lists
 pub mod Printed
 pub mod Words
 pub mod Founds
 pub mod CpmFounds
-pub mod Directories
 pub mod CbmFounds
+pub mod Directories
 pub mod Volumes
-pub mod Disks
-pub mod PiecesLeft
-pub mod Tallies
 pub mod Reports
-pub mod CbmKinds
-pub mod Laws
-pub mod Told
+pub mod Disks
 pub mod Parts
-pub mod Ranges
-pub mod AlikePieces
+pub mod PiecesLeft
 pub mod Needed
+-- ---- inside: what only private functions and proofs cite
+pub mod Tells
+pub mod Tallies
+-- Proofs, for the laws that the `impl`s of `Volume` cite: a clause of src/ cites nothing of proofs/.
+pub mod Ranges
+pub mod CbmKinds
+pub mod OneDirectory
+pub mod Laws
+pub mod AlikePieces
 pub mod TellsAll
 pub mod AlikeCpm
 pub mod AlikeCbm

@@ -1,22 +1,22 @@
 -- The needed bytes of an image: those that describe its files, and those that its served files
 -- hold. A list of slots says which files are served: the sound ones among the files at these
 -- slots. A byte has the number of its place in the image, counted from 0.
-use Rattle.std.specs.Prelude.{◌≡◌, ◌≢◌, ◌+◌, ◌*◌, ◌/◌, ◌%◌, ◌<◌, ◌≤◌, ◌↔◌, ℕ, List, Contains, length, slice_index}
-use Rattle.rd_geometry.specs.Blocks.{CBM_BLOCK_LENGTH, place_of_block, place_of_mark}
-use Rattle.rd_geometry.specs.Places.{CPM_UNIT_LENGTH, place_of_cpm_unit}
+use Rattle.std.specs.Prelude.{◌≡◌, ◌≢◌, ◌+◌, ◌-◌, ◌*◌, ◌/◌, ◌%◌, ◌<◌, ◌≤◌, ◌↔◌, ℕ, List, Contains, length, slice_index}
+use Rattle.rd_geometry.specs.Blocks.{place_of_block, place_of_mark}
+use Rattle.rd_geometry.specs.Places.{place_of_cpm_unit}
 use Rattle.rd_geometry.specs.declared.kind.Kind.{Kind}
 use Rattle.rd_geometry.specs.declared.kind.Kind.TheVariants.{Cpm8, D64, D64e}
 use Rattle.rd_cbm.specs.Entries.{Data, entry_at, start_of}
-use Rattle.rd_cbm.specs.Faults as cbm_fault
 use Rattle.rd_cbm.specs.Files as cbm_file
 use Rattle.rd_cbm.specs.Links.{link_of}
 use Rattle.rd_cbm.specs.Walks.{Ends, IsChain}
 use Rattle.rd_cpm.specs.Contents.{AreSectors}
 use Rattle.rd_cpm.specs.Entries.{IsOfFile, slot_of}
-use Rattle.rd_cpm.specs.Faults as cpm_fault
-use Rattle.rd_cpm.specs.Files as cpm_file
+use Rattle.rd_volume.specs.CpmFounds.{last_sector_length}
 use Rattle.rd_volume.specs.Directories.{OfDirectory}
 use Rattle.rd_volume.specs.Founds.{IsSoundFile}
+use Rattle.rd_volume.specs.Kinds.{room_of}
+use Rattle.rd_volume.specs.Parts.{Part, parts_of}
 use Rattle.rd_volume.specs.Reports.{IsSoundSlot}
 use Rattle.rd_volume.specs.Volumes.{AreBytesOf, AreFounds, IsFound, IsSlotOfFile, pieces_of}
 use Rattle.rd_volume.specs.declared.found.Found.{Found}
@@ -25,73 +25,83 @@ use Rattle.rd_volume.specs.declared.found.Found.{Found}
 abbrev pub place_of_cpm_entry : ℕ → ℕ
 place_of_cpm_entry slot = place_of_cpm_unit (slot / 4) + 32 * (slot % 4)
 
--- The unit is a sector of a served file of a CP/M image.
-pub record IsServedSector (image served : List ℕ) (unit : ℕ) : Type 0 where
-  pub slot : ℕ
-  pub among_served : Contains served slot
-  pub file : cpm_file.IsFileSlot (slot_of image) slot
-  pub sound : cpm_fault.IsSound (slot_of image) slot
-  pub sectors : List ℕ
-  pub are_sectors : AreSectors (slot_of image) slot sectors
-  pub among_sectors : Contains sectors unit
-
--- The byte at a place of a CP/M image is needed. It is byte 0 of an entry; or it is another byte of an
--- entry of a file, but not byte 13, which is S1; or it is a byte of a sector of a served file.
-pub data IsNeededOfCpm (image served : List ℕ) (place : ℕ) : Type 0 where
-  first_byte : (slot : ℕ) → slot < 64 → place ≡ place_of_cpm_entry slot → IsNeededOfCpm image served place
+-- The byte at a place of a CP/M image describes its files. It is byte 0 of an entry; or it is another byte
+-- of an entry of a file, but not byte 13, which is S1.
+pub data DescribesCpmFiles (image : List ℕ) (place : ℕ) : Type 0 where
+  first_byte : (slot : ℕ) → slot < 64 → place ≡ place_of_cpm_entry slot → DescribesCpmFiles image place
   byte_of_entry : (slot byte : ℕ) → slot < 64 → IsOfFile (slot_of image slot) → byte < 32 → byte ≢ 13
-      → place ≡ place_of_cpm_entry slot + byte → IsNeededOfCpm image served place
-  byte_of_sector : (unit byte : ℕ) → IsServedSector image served unit → byte < CPM_UNIT_LENGTH
-      → place ≡ place_of_cpm_unit unit + byte → IsNeededOfCpm image served place
+      → place ≡ place_of_cpm_entry slot + byte → DescribesCpmFiles image place
 
 -- the place at which the entry of a slot of a 1541 directory with these blocks begins: eight of 32 bytes
 -- to a block
 abbrev pub place_of_cbm_entry : List ℕ → ℕ → ℕ
 place_of_cbm_entry blocks slot = place_of_block (slice_index blocks (slot / 8)) + 32 * (slot % 8)
 
--- The byte of a block is one of a served file of a 1541 image: the block is that at some position of the
--- chain of the file's data, and the byte is one of 2 to 255, in the chain's last block one up to the last
--- byte used.
-pub record IsServedByte (image blocks served : List ℕ) (block byte : ℕ) : Type 0 where
-  pub slot : ℕ
-  pub among_served : Contains served slot
-  pub file : cbm_file.IsFileSlot image blocks slot
-  pub sound : cbm_fault.IsSound image blocks slot
-  pub chain : List ℕ
-  pub is_chain : IsChain (link_of image) (start_of (entry_at image blocks slot) Data) chain
+-- The byte at a place of a 1541 image, whose directory's blocks are handed in, describes its files. It is
+-- one of the link, bytes 0 and 1, of a block of the directory; or it is byte 2 of an entry, which is the
+-- type byte; or it is one of bytes 3 to 22 of an entry of a file; or it is one of the link of a block that
+-- a file claims, or that block's error byte. An image without error bytes ends before the places of these,
+-- and so has no byte there.
+pub data DescribesCbmFiles (image : List ℕ) (place : ℕ) (blocks : List ℕ) : Type 0 where
+  link_of_directory : (block byte : ℕ) → Contains blocks block → byte < 2
+      → place ≡ place_of_block block + byte → DescribesCbmFiles image place blocks
+  type_byte : (slot : ℕ) → slot < 8 * length blocks
+      → place ≡ place_of_cbm_entry blocks slot + 2 → DescribesCbmFiles image place blocks
+  byte_of_used_entry : (slot byte : ℕ) → cbm_file.IsFileSlot image blocks slot → 3 ≤ byte → byte ≤ 22
+      → place ≡ place_of_cbm_entry blocks slot + byte → DescribesCbmFiles image place blocks
+  link_of_claimed : (block byte : ℕ) → cbm_file.IsClaimed image blocks block → byte < 2
+      → place ≡ place_of_block block + byte → DescribesCbmFiles image place blocks
+  mark_of_claimed : (block : ℕ) → cbm_file.IsClaimed image blocks block
+      → place ≡ place_of_mark block → DescribesCbmFiles image place blocks
+
+-- the byte at a place of an image describes the files of that image
+abbrev pub DescribesFiles : Kind → List ℕ → ℕ → Type 0
+DescribesFiles Cpm8 image place = DescribesCpmFiles image place
+DescribesFiles D64 image place = OfDirectory image (DescribesCbmFiles image place)
+DescribesFiles D64e image place = OfDirectory image (DescribesCbmFiles image place)
+
+-- The units of the sound file at a slot of a CP/M image are these sectors, and the last of them holds `last`
+-- bytes of it.
+pub record AreCpmUnits (image : List ℕ) (slot : ℕ) (units : List ℕ) (last : ℕ) : Type 0 where
+  pub sectors : AreSectors (slot_of image) slot units
+  pub is_last : last ≡ last_sector_length units
+
+-- The units of the sound file at a slot of a 1541 image, whose directory has these blocks, are the chain of
+-- its data, and the last of them holds `last` bytes of it: those from byte 2 up to the last byte used.
+pub record AreCbmUnits (image : List ℕ) (slot : ℕ) (units : List ℕ) (last : ℕ) (blocks : List ℕ) : Type 0 where
+  pub chain : IsChain (link_of image) (start_of (entry_at image blocks slot) Data) units
   pub used : ℕ
   pub ends : Ends (link_of image) (start_of (entry_at image blocks slot) Data) used
-  pub position : ℕ
-  pub on_chain : position < length chain
-  pub there : block ≡ slice_index chain position
-  pub after_link : 2 ≤ byte
-  pub in_block : byte < CBM_BLOCK_LENGTH
-  pub within_used : position + 1 ≡ length chain → byte ≤ used
+  pub is_last : last ≡ used - 1
 
--- The byte at a place of a 1541 image, whose directory's blocks are handed in, is needed. It is one of the
--- link, bytes 0 and 1, of a block of the directory; or it is byte 2 of an entry, which is the type byte;
--- or it is one of bytes 3 to 22 of an entry of a file; or it is one of the link of a block that a file
--- claims, or that block's error byte; or it is a byte of a served file. An image without error bytes ends
--- before the places of these, and so has no byte there.
-pub data IsNeededOfCbm (image served : List ℕ) (place : ℕ) (blocks : List ℕ) : Type 0 where
-  link_of_directory : (block byte : ℕ) → Contains blocks block → byte < 2
-      → place ≡ place_of_block block + byte → IsNeededOfCbm image served place blocks
-  type_byte : (slot : ℕ) → slot < 8 * length blocks
-      → place ≡ place_of_cbm_entry blocks slot + 2 → IsNeededOfCbm image served place blocks
-  byte_of_used_entry : (slot byte : ℕ) → cbm_file.IsFileSlot image blocks slot → 3 ≤ byte → byte ≤ 22
-      → place ≡ place_of_cbm_entry blocks slot + byte → IsNeededOfCbm image served place blocks
-  link_of_claimed : (block byte : ℕ) → cbm_file.IsClaimed image blocks block → byte < 2
-      → place ≡ place_of_block block + byte → IsNeededOfCbm image served place blocks
-  mark_of_claimed : (block : ℕ) → cbm_file.IsClaimed image blocks block
-      → place ≡ place_of_mark block → IsNeededOfCbm image served place blocks
-  byte_of_file : (block byte : ℕ) → IsServedByte image blocks served block byte
-      → place ≡ place_of_block block + byte → IsNeededOfCbm image served place blocks
+-- these are the units of the sound file at a slot, and the last of them holds `last` bytes of it
+abbrev pub AreUnitsOf : Kind → List ℕ → ℕ → List ℕ → ℕ → Type 0
+AreUnitsOf Cpm8 image slot units last = AreCpmUnits image slot units last
+AreUnitsOf D64 image slot units last = OfDirectory image (AreCbmUnits image slot units last)
+AreUnitsOf D64e image slot units last = OfDirectory image (AreCbmUnits image slot units last)
 
--- the byte at a place of an image is needed, where the files at these slots are served
-abbrev pub IsNeeded : Kind → List ℕ → List ℕ → ℕ → Type 0
-IsNeeded Cpm8 image served place = IsNeededOfCpm image served place
-IsNeeded D64 image served place = OfDirectory image (IsNeededOfCbm image served place)
-IsNeeded D64e image served place = OfDirectory image (IsNeededOfCbm image served place)
+-- The byte at a place of an image is served: it is a byte of a part of the image that holds bytes of a
+-- sound file at one of these slots. The byte also lies within the room of the unit, even if `last` were
+-- larger.
+pub record IsServedByte (kind : Kind) (image served : List ℕ) (place : ℕ) : Type 0 where
+  pub slot : ℕ
+  pub among_served : Contains served slot
+  pub sound : IsSoundSlot kind image slot
+  pub units : List ℕ
+  pub last : ℕ
+  pub are_units : AreUnitsOf kind image slot units last
+  pub part : Part
+  pub of_file : Contains (parts_of kind units last) part
+  pub byte : ℕ
+  pub in_part : byte < part.count
+  pub in_unit : byte < room_of kind
+  pub there : place ≡ part.start + byte
+
+-- The byte at a place of an image is needed, where the files at these slots are served: it describes the
+-- image's files, or is served.
+pub data IsNeeded (kind : Kind) (image served : List ℕ) (place : ℕ) : Type 0 where
+  describing : DescribesFiles kind image place → IsNeeded kind image served place
+  of_served : IsServedByte kind image served place → IsNeeded kind image served place
 
 -- An image agrees with another, which is as long, on the other's needed bytes.
 pub record AgreesOnNeeded (kind : Kind) (image other served : List ℕ) : Type 0 where

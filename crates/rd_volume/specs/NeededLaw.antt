@@ -1,4 +1,4 @@
--- The needed bytes of an image decide what is told of it, by the laws of both kinds of disk.
+-- Proofs: the needed bytes of an image decide what is told of it, by the laws of both kinds of disk.
 use Rattle.std.specs.Prelude.{ℕ, List, refl}
 use Rattle.rd_geometry.specs.declared.kind.Kind.{Kind}
 use Rattle.rd_geometry.specs.declared.kind.Kind.TheVariants.{Cpm8}
@@ -7,6 +7,7 @@ use Rattle.rd_volume.specs.AlikeCpm.{cpm_law}
 use Rattle.rd_volume.specs.Needed.{AgreesOnNeeded, TellTheSame}
 use Rattle.rd_volume.specs.TellsAll.{HasLaw, by_law}
 
+-- each kind has its law
 has_law : (kind : Kind) → HasLaw kind
 has_law Cpm8 = cpm_law
 has_law kind = cbm_law kind refl

@@ -1,10 +1,11 @@
 -- The parts of an image that hold the bytes of a file.
-use Rattle.std.specs.Prelude.{◌+◌, ℕ, List, [], ◌∷◌, slice_range}
+use Rattle.std.specs.Prelude.{◌+◌, ℕ, List, slice_range}
 use Rattle.rd_geometry.specs.Blocks.{place_of_block}
 use Rattle.rd_geometry.specs.Places.{place_of_cpm_unit}
 use Rattle.rd_geometry.specs.declared.kind.Kind.{Kind}
 use Rattle.rd_geometry.specs.declared.kind.Kind.TheVariants.{Cpm8, D64, D64e}
 use Rattle.rd_volume.specs.Kinds.{room_of}
+use Rattle.rd_volume.specs.Lists.{map_last_apart}
 
 -- A part of an image: so many bytes, from a place on.
 pub record Part : Type 0 where
@@ -29,6 +30,5 @@ part_of_unit kind unit count = record { start = place_of_body kind unit; count =
 -- the parts that hold the bytes of a file, one for each of its units: of each unit but the last all that
 -- it holds of a file, and of the last one the first `last` bytes of that
 abbrev pub parts_of : Kind → List ℕ → ℕ → List Part
-parts_of kind [] last = []
-parts_of kind (unit ∷ []) last = part_of_unit kind unit last ∷ []
-parts_of kind (unit ∷ next ∷ units) last = part_of_unit kind unit (room_of kind) ∷ parts_of kind (next ∷ units) last
+parts_of kind units last =
+    map_last_apart (λ unit. part_of_unit kind unit (room_of kind)) (λ unit. part_of_unit kind unit last) units

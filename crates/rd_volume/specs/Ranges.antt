@@ -1,4 +1,4 @@
--- Ranges of lists: their items, and when two lists have the same.
+-- Proofs: the items of ranges of lists, and when two lists have the same.
 use Rattle.std.proofs.Common.{◌≡◌, ◌∙◌, inl, inr, ◌+◌, ◌-◌, ◌<◌, ◌≤◌, ℕ, List, ap, arith, drop, ext_get_or, length, refl, slice_index, slice_index_or, slice_range, subst, sym, take}
 use Rattle.std.proofs.lemmas.Bool.{cases_lt}
 use Rattle.std.proofs.lemmas.List.{get_or-drop, get_or-take, get_or_default, get_or_past, length-drop, length-take, take-take}
@@ -17,6 +17,7 @@ same_or xs ys i past size same = elim (cases_lt i (length xs)) [
 pub item_of_range : (xs : List ℕ) (a b i : ℕ) → a + i < b → slice_index (slice_range xs a b) i ≡ slice_index xs (a + i)
 item_of_range xs a b i inside = get_or-take (b - a) (drop a xs) i 0 (omega arith) ∙ get_or-drop a xs i 0
 
+-- and past its end there is none
 no_item : (xs : List ℕ) (a b i : ℕ) → b ≤ a + i → slice_index (slice_range xs a b) i ≡ 0
 no_item xs a b i past = get_or-eq_default (slice_range xs a b) 0 (let most : length (slice_range xs a b) ≤ b - a = simp length-take (omega arith) in omega arith)
 

@@ -3,7 +3,7 @@ use Rattle.std.specs.Prelude.{◌&&◌, ◌==◌, Bool, false, not, true}
 use Rattle.rd_cbm.specs.declared.class.Class.{Class}
 use Rattle.rd_cbm.specs.declared.class.Class.TheVariants.{Del, Seq, Prg, Usr, Rel, Other}
 use Rattle.rd_cbm.specs.declared.listing.CbmFile.{CbmFile}
-use Rattle.rd_volume.specs.CbmFounds.{is_served}
+use Rattle.rd_volume.specs.Tells.{is_served}
 
 -- a file of the class claims blocks when it is closed
 abbrev pub is_claimant : Class → Bool

@@ -1,7 +1,7 @@
 -- The files of an image of any kind, and their bytes. An image is its kind and the list of its bytes. What is
 -- said of a 1541 image is said once, and both of its kinds name it: an image has the same files with error
--- bytes as without, but for the fault that these bytes tell.
-use Rattle.std.specs.Prelude.{◌≡◌, ◌<◌, ℕ, List, [], ◌∷◌, All, AllPairs, Contains, IfNone, IfSome, Option, drop, map, take}
+-- bytes as without, except for the fault `read-error`, which only error bytes can show.
+use Rattle.std.specs.Prelude.{◌≡◌, ◌<◌, ℕ, List, All, AllPairs, Contains, IfNone, IfSome, Option, drop, map, take}
 use Rattle.std.specs.List.{concat}
 use Rattle.rd_geometry.specs.Blocks.{cbm_block}
 use Rattle.rd_geometry.specs.Places.{cpm_unit}
@@ -19,6 +19,7 @@ use Rattle.rd_cpm.specs.Files.{IsFileSlot}
 use Rattle.rd_volume.specs.CbmFounds.{IsCbmFile, bytes_of_chain}
 use Rattle.rd_volume.specs.CpmFounds.{IsCpmFile}
 use Rattle.rd_volume.specs.Directories.{OfDirectory}
+use Rattle.rd_volume.specs.Lists.{map_last_apart}
 use Rattle.rd_volume.specs.declared.found.Found.{Found}
 
 -- slot k of a 1541 image is the slot of a file
@@ -101,10 +102,7 @@ body_of D64e image n = drop 2 (cbm_block image n)
 -- the pieces of a file, one for each unit: all that the unit holds, and of the last unit the first
 -- `last` bytes of it
 abbrev pub pieces_of : Kind → List ℕ → List ℕ → ℕ → List (List ℕ)
-pieces_of kind image [] last = []
-pieces_of kind image (unit ∷ []) last = take last (body_of kind image unit) ∷ []
-pieces_of kind image (unit ∷ next ∷ units) last =
-    body_of kind image unit ∷ pieces_of kind image (next ∷ units) last
+pieces_of kind image units last = map_last_apart (body_of kind image) (λ unit. take last (body_of kind image unit)) units
 
 -- the pieces of a file, joined
 abbrev pub contents_of : Kind → List ℕ → Found → List ℕ

@@ -8,7 +8,7 @@ ghost use Rattle.rd_volume.specs.Founds.{Fits};
 ghost use Rattle.rd_volume.specs.Volumes.{IsFoundAt, body_of};
 ghost use Rattle.rd_volume.specs.Reports.{IsDirectoryEnd, IsReport, label_of};
 ghost use Rattle.rd_volume.specs.Tallies.{differs_in_size, is_claimant, is_sound};
-ghost use Rattle.rd_volume.specs.CbmFounds.{TellsCbm, TellsCbmFiles, is_served, length_of_blocks};
+ghost use Rattle.rd_volume.specs.Tells.{TellsCbm, TellsCbmFiles, is_served, length_of_blocks};
 
 use crate::found::Found;
 use crate::printed::{cbm_name, cbm_type};

@@ -2,7 +2,8 @@
 
 ghost use Rattle.std.specs.Prelude.{◌≡◌, ◌≢◌, ◌*◌, ◌≤◌, ◌==◌, All, IfOk, IfSome, None, Some, count_by, length, not};
 ghost use Rattle.rd_geometry.specs.CpmDisks.{cpm_bytes};
-ghost use Rattle.rd_volume.specs.CpmFounds.{TellsCpm, TellsCpmFiles, last_sector_length};
+ghost use Rattle.rd_volume.specs.CpmFounds.{last_sector_length};
+ghost use Rattle.rd_volume.specs.Tells.{TellsCpm, TellsCpmFiles};
 ghost use Rattle.rd_volume.specs.Founds.{Fits};
 ghost use Rattle.rd_volume.specs.Reports.{IsReport};
 ghost use Rattle.rd_volume.specs.Volumes.{IsFoundAt};

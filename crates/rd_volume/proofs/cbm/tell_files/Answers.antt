@@ -1,6 +1,6 @@
 use Rattle.std.proofs.Common.{◌≡◌, ◌∙◌, [], ◌∷◌, ap, append_assoc, arith, length}
 use Rattle.std.specs.Vec.Iter.{into_iter_items}
-use Rattle.rd_volume.specs.CbmFounds.{TellsCbm}
+use Rattle.rd_volume.specs.Tells.{TellsCbm}
 use Rattle.rd_volume.proofs.ToldLemmas.{told_more}
 use Rattle.rd_volume.proofs.cbm.tell_files.Goals as goal
 

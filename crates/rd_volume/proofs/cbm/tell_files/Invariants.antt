@@ -1,6 +1,6 @@
 use Rattle.std.proofs.Common.{◌≡◌, ◌++◌, length}
 use Rattle.std.specs.Vec.Iter.{into_iter_items, into_iter_len}
-use Rattle.rd_volume.specs.CbmFounds.{TellsCbmFiles}
+use Rattle.rd_volume.specs.Tells.{TellsCbmFiles}
 use Rattle.rd_volume.proofs.cbm.tell_files.Given as goal
 
 abbrev pub invariant-loop-file : goal.invariant-loop-file

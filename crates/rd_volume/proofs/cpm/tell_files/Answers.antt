@@ -1,6 +1,6 @@
 use Rattle.std.proofs.Common.{◌≡◌, ◌∙◌, [], ◌∷◌, ap, append_assoc, arith, length}
 use Rattle.std.specs.Vec.Iter.{into_iter_items}
-use Rattle.rd_volume.specs.CpmFounds.{TellsCpm}
+use Rattle.rd_volume.specs.Tells.{TellsCpm}
 use Rattle.rd_volume.proofs.ToldLemmas.{told_more}
 use Rattle.rd_volume.proofs.cpm.tell_files.Goals as goal
 

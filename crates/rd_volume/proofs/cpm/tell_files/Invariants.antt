@@ -1,6 +1,6 @@
 use Rattle.std.proofs.Common.{◌≡◌, ◌++◌, length}
 use Rattle.std.specs.Vec.Iter.{into_iter_items, into_iter_len}
-use Rattle.rd_volume.specs.CpmFounds.{TellsCpmFiles}
+use Rattle.rd_volume.specs.Tells.{TellsCpmFiles}
 use Rattle.rd_volume.proofs.cpm.tell_files.Given as goal
 
 abbrev pub invariant-loop-file : goal.invariant-loop-file

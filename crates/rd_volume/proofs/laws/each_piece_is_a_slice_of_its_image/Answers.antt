@@ -1,5 +1,6 @@
 use Rattle.std.proofs.Common.{length}
-use Rattle.rd_volume.specs.AlikePieces.{parts_inside, pieces_are_parts}
+use Rattle.rd_volume.specs.AlikePieces.{pieces_are_parts}
+use Rattle.rd_volume.proofs.PieceLemmas.{parts_inside}
 use Rattle.rd_volume.proofs.laws.each_piece_is_a_slice_of_its_image.Goals as goal
 
 pub returns-clause-slices : goal.returns-clause-slices

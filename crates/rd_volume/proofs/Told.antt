@@ -2,9 +2,9 @@
 use Rattle.std.proofs.Common.{◌≡◌, ◌↔◌, ℕ, List, IsTrue, refl}
 use Rattle.rd_geometry.specs.declared.kind.Kind.{Kind}
 use Rattle.rd_geometry.specs.declared.kind.Kind.TheVariants.{Cpm8}
-use Rattle.rd_volume.specs.Directories.{in_blocks, of_blocks}
 use Rattle.rd_volume.specs.Founds.{IsSoundFile}
 use Rattle.rd_volume.specs.Laws.{cbm_joined, cbm_sound, cpm_joined}
+use Rattle.rd_volume.specs.OneDirectory.{in_blocks, of_blocks}
 use Rattle.rd_volume.specs.Reports.{IsSoundSlot}
 use Rattle.rd_volume.specs.Volumes.{AreBytesOf, HasNoFault, IsFound, IsOfServedClass, IsSlotOfFile, contents_of}
 use Rattle.rd_volume.specs.declared.found.Found.{Found}
