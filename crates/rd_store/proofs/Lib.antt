@@ -24,5 +24,6 @@ pub mod FilesTold
 pub mod Brought
 pub mod Judged
 pub mod Registers
+pub mod Lasting
 pub mod Walked
 pub mod Maps

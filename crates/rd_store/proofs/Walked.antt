@@ -1,9 +1,8 @@
 -- What a walk over the images finds.
-use Rattle.std.proofs.Common.{◌≡◌, inl, inr, ℕ, pos, List, [], ◌∷◌, ◌++◌, map, filter, All, Bool, true, false, Option, Some, None, IsSome, option_map, slice_get, Result, Ok, Err, refl, sym, ap, ap₂, subst, ◌∙◌, nat_cmp}
+use Rattle.std.proofs.Common.{◌≡◌, inl, inr, ℕ, ◌-◌, pos, List, [], ◌∷◌, ◌++◌, map, filter, length, take, All, Bool, true, false, Option, Some, None, IsSome, option_map, slice_get, Result, Ok, Err, refl, sym, ap, ap₂, subst, ◌∙◌, arith, nat_cmp}
 use Rattle.std.specs.Prelude.{IsErrAnd, MatchBool}
-use Rattle.std.specs.Option.{unwrap_or}
 use Rattle.std.specs.FinMap.{FinMap, entries, get, keys}
-use Rattle.std.proofs.lemmas.List.{map-append}
+use Rattle.std.proofs.lemmas.List.{length_push, map-append}
 use Rattle.std.proofs.lemmas.List.Elements.{All-from_recursion, All-weaker}
 use Rattle.sqlite.specs.declared.types.Value.TheVariants.{Int}
 use Rattle.sqlite.specs.Effect.{Database, IsDatabase}
@@ -21,12 +20,12 @@ use Rattle.rd_tables.specs.Asked.{AreRising, IsListed, greater}
 use Rattle.rd_tables.specs.Queries.{all_images_query, all_marks_query}
 use Rattle.rd_tables.specs.Schemas.{desk_with}
 use Rattle.rd_tables.specs.Sheets.{IsSpelled, Spells, entry_of, map_of, natural}
-use Rattle.rd_tables.specs.Walks.{IsWalked, is_after}
+use Rattle.rd_tables.specs.Walks.{AreNext, IsWalked, is_after}
 use Rattle.rd_tables.proofs.Entries.{entry_got, got_entry}
 use Rattle.rd_tables.proofs.Listed.{all_in, row_got, rows_lawful}
 use Rattle.rd_tables.proofs.Lists.{and_true, from_map, in_map, map_map}
 use Rattle.rd_tables.proofs.Values.{greater_int}
-use Rattle.rd_tables.proofs.Walking.{all_walked, comes_from, none_next, one_next, walk_goes_on, walk_starts}
+use Rattle.rd_tables.proofs.Walking.{all_walked, comes_from, each_next, none_next, walk_goes_on, walk_starts}
 use Rattle.rd_store.specs.declared.faults.OpenFault.{OpenFault}
 use Rattle.rd_store.specs.declared.faults.OpenFault.TheVariants.{Sql}
 use Rattle.rd_store.specs.declared.images.Heading.{Heading}
@@ -38,7 +37,7 @@ use Rattle.rd_store.specs.Opened.{AreFiledUnder, AreKeys, AreListed, HaveAccessi
 use Rattle.rd_store.specs.Register.{entry_in, number_of, register_of}
 use Rattle.rd_store.specs.Shown.{as_row}
 use Rattle.rd_store.specs.Spelled.{HasVersion, deed_sheet, image_sheet, images_of, marks_sheet, unmarked}
-use Rattle.rd_store.specs.Walked.{AreFiledOf, AreNextOf, HasFilesOnce, IsJudgedImage, IsLawfulAt, IsNextEntry, IsNextOf, IsReadOf, IsWalk, IsWalkTo, LawfulGivenWalk, LawfulWalk, SpellMarksIf, StandsOnce, image_read, image_told}
+use Rattle.rd_store.specs.Walked.{AreBatchOf, AreFiledOf, AreNextOf, AreReadNext, HasFilesOnce, IsJudgedImage, IsLawfulAt, IsNextEntry, IsReadOf, IsWalk, IsWalkTo, LawfulGivenWalk, LawfulWalk, SpellMarksIf, StandsOnce, image_read, image_told, last_number}
 use Rattle.rd_store.proofs.Columns.{number_shown, number_spelled, one_of_spelled}
 use Rattle.rd_store.proofs.FilesTold.{filed_at, have_accessions, lawful_files}
 use Rattle.rd_store.proofs.Found.{images_listed}
@@ -90,31 +89,29 @@ sql_part {S} {U} g a b stays Part P fault (Err other) is sql = subst (λ e. Test
 
 -- ---- what is read
 
-pub next_of : (after : Option ℕ) (trees : Trees) (rows : List Row) → AreNextOf after trees rows → AreRising rows → IsNextOf after trees (slice_get rows 0)
-next_of None trees [] starts rises = none_next 2 [] _ [] None (λ row. refl) (trees 2) [] starts refl
-next_of None trees (row ∷ rows) starts rises = one_next 2 [] _ [] None (λ row. refl) (trees 2) (row ∷ rows) starts rises row rows refl
-next_of (Some acc) trees [] starts rises = none_next 2 (greater 0 0 ∷ []) _ (Int (pos acc) ∷ []) (Some (pos acc)) (λ row. and_true _ ∙ greater_int (column row 0) (pos acc)) (trees 2) [] starts refl
-next_of (Some acc) trees (row ∷ rows) starts rises =
-    one_next 2 (greater 0 0 ∷ []) _ (Int (pos acc) ∷ []) (Some (pos acc)) (λ row. and_true _ ∙ greater_int (column row 0) (pos acc)) (trees 2) (row ∷ rows) starts rises row rows refl
+-- without rows of which seven are shown there are none
+none_shown : (rows : List Row) → take 7 rows ≡ [] → rows ≡ []
+none_shown [] is = refl
+none_shown (row ∷ rows) is = absurd (let wrong : row ∷ take 6 rows ≡ [] = is in cc)
 
--- a row that is there next was read of one of the table
-pub read_of : (after : Option ℕ) (trees : Trees) (found : Option Row) → IsNextOf after trees found → (shown : Row) → Some shown ≡ found → IsReadOf trees shown
-read_of after trees None next shown is = absurd cc
-read_of after trees (Some other) next shown is =
-    let same : shown ≡ other = ap (λ (o : Option Row). unwrap_or o shown) is in
-    (next.0, comes_from (trees 2) (option_map pos after) next.0 next.1, same ∙ next.2)
+pub batch_of : (after : Option ℕ) (trees : Trees) (rows : List Row) → AreNextOf after trees rows → AreRising rows → AreBatchOf after trees (take 7 rows)
+batch_of None trees rows starts rises = (
+  each_next 2 [] _ [] None (λ row. refl) 7 (trees 2) rows starts rises,
+  λ none. none_next 2 [] _ [] None (λ row. refl) 7 (trees 2) rows starts (none_shown rows none),
+)
+batch_of (Some acc) trees rows starts rises = (
+  each_next 2 (greater 0 0 ∷ []) _ (Int (pos acc) ∷ []) (Some (pos acc)) (λ row. and_true _ ∙ greater_int (column row 0) (pos acc)) 7 (trees 2) rows starts rises,
+  λ none. none_next 2 (greater 0 0 ∷ []) _ (Int (pos acc) ∷ []) (Some (pos acc)) (λ row. and_true _ ∙ greater_int (column row 0) (pos acc)) 7 (trees 2) rows starts (none_shown rows none),
+)
+
+-- the first of the rows that come next was read of one of the table
+pub read_of : (after : Option ℕ) (trees : Trees) (shown : Row) (more : List Row) → AreReadNext after trees (shown ∷ more) → IsReadOf trees shown
+read_of after trees shown more next = (next.0, comes_from (trees 2) (option_map pos after) next.0 next.1, next.2)
 
 -- and the entry of what was judged
-pub next_entry : (deeds marked : List ℕ) (after : Option ℕ) (trees : Trees) (found : Option Row) → IsNextOf after trees found → (shown : Row) → Some shown ≡ found → IsJudgedImage deeds marked shown trees → (entry : ℕ × Heading) → entry ≡ entry_in marked shown
-    → IsNextEntry deeds marked after trees (Some entry)
-next_entry deeds marked after trees None next shown is judged entry told = absurd cc
-next_entry deeds marked after trees (Some other) next shown is judged entry told =
-    let same : shown ≡ image_read next.0 = ap (λ (o : Option Row). unwrap_or o shown) is ∙ next.2 in
-    (next.0, next.1, subst (λ s. IsJudgedImage deeds marked s trees) same judged, told ∙ ap (entry_in marked) same)
-
-pub no_entry : (deeds marked : List ℕ) (after : Option ℕ) (trees : Trees) (found : Option Row) → IsNextOf after trees found → None ≡ found → IsNextEntry deeds marked after trees None
-no_entry deeds marked after trees None next is = next
-no_entry deeds marked after trees (Some other) next is = absurd cc
+pub next_entry : (deeds marked : List ℕ) (after : Option ℕ) (trees : Trees) (shown : Row) (more : List Row) → AreReadNext after trees (shown ∷ more) → IsJudgedImage deeds marked shown trees → (entry : ℕ × Heading) → entry ≡ entry_in marked shown
+    → IsNextEntry deeds marked after trees entry
+next_entry deeds marked after trees shown more next judged entry told = (next.0, next.1, subst (λ s. IsJudgedImage deeds marked s trees) next.2 judged, told ∙ ap (entry_in marked) next.2)
 
 -- the row of an image within its limits stands, once the rows of all images spell a map
 pub read_once : (deeds : List ℕ) (trees : Trees) (shown : Row) → IsReadOf trees shown → IsImageRow deeds shown → (read : ImageRow) → ((acc : ℕ) (image : ImageRow) → shown ≡ image_told (acc, image) → read ≡ as_row image) → StandsOnce (natural (column shown 0)) read trees
@@ -153,35 +150,56 @@ lawful_at deeds marked trees shown is lawful =
 
 -- ---- the walk
 
-pub starts_to : (deeds marked : List ℕ) (trees : Trees) → IsWalkTo deeds marked trees None []
+pub starts_to : (deeds marked : List ℕ) (trees : Trees) → IsWalkTo deeds marked trees []
 starts_to deeds marked trees = record { done = []; walked = walk_starts (trees 2); judged = λ row here. absurd here; told = refl }
 
-pub goes_on : (deeds marked : List ℕ) (trees : Trees) (after : Option ℕ) (listed : List (ℕ × Heading)) (entry : ℕ × Heading) → IsWalkTo deeds marked trees after listed → IsNextEntry deeds marked after trees (Some entry)
-    → IsWalkTo deeds marked trees (Some entry.0) (listed ++ entry ∷ [])
-goes_on deeds marked trees after listed entry so_far next =
-    let row = next.0 in
-    let within = next.2.0 in
-    let number : entry.0 ≡ natural (column row 0) = ap (λ (e : ℕ × Heading). e.0) next.3 in
-    let id : id_in (column row 0) ≡ pos entry.0 = ap id_in (read_number deeds (image_read row) within) ∙ ap pos (sym number) in
-    record {
-      done = so_far.done ++ row ∷ [];
-      walked = subst (λ n. IsWalked (trees 2) (so_far.done ++ row ∷ []) (Some n)) id (walk_goes_on (trees 2) so_far.done (option_map pos after) row so_far.walked next.1);
-      judged = λ other here. elim (has_either so_far.done (row ∷ []) other here) [
-        | inl before ↦ so_far.judged other before
-        | inr at ↦ elim at [
-          | inl is ↦ subst (λ (r : Row). IsJudgedImage deeds marked (image_read r) trees) (sym is) next.2
-          | inr none ↦ absurd none
-        ]
-      ];
-      told = ap₂ (λ es e. es ++ e ∷ []) so_far.told next.3 ∙ sym (map-append (λ (r : Row). entry_in marked (image_read r)) so_far.done (row ∷ []));
-    }
+-- the last entry is the one that was put after the others
+last_put : (listed : List (ℕ × Heading)) (entry : ℕ × Heading) → last_number (listed ++ entry ∷ []) ≡ Some entry.0
+last_put listed entry =
+    let all = listed ++ entry ∷ [] in
+    let at : length all - 1 ≡ length listed = omega (arith, length_push listed entry) in
+    ap (λ n. option_map number_of (slice_get all n)) at ∙ ap (option_map number_of) (end listed)
+  where
+    end : (before : List (ℕ × Heading)) → slice_get (before ++ entry ∷ []) (length before) ≡ Some entry
+    end [] = refl
+    end (first ∷ before) = end before
 
-module _ (deeds marked : List ℕ) (trees : Trees) (after : Option ℕ) (listed : List (ℕ × Heading)) (all : IsWalkTo deeds marked trees after listed) (none : filter (is_after (option_map pos after)) (trees 2) ≡ []) where
+module _ (deeds marked : List ℕ) (trees : Trees) (listed : List (ℕ × Heading)) (entry : ℕ × Heading) where
+  -- the place of the entry that was put last
+  place_put : (next : IsNextEntry deeds marked (last_number listed) trees entry) → Some (id_in (column next.0 0)) ≡ option_map pos (last_number (listed ++ entry ∷ []))
+  place_put next =
+      let number : entry.0 ≡ natural (column next.0 0) = ap (λ (e : ℕ × Heading). e.0) next.3 in
+      let id : id_in (column next.0 0) ≡ pos entry.0 = ap id_in (read_number deeds (image_read next.0) next.2.0) ∙ ap pos (sym number) in
+      ap (λ n. Some n) id ∙ ap (option_map pos) (sym (last_put listed entry))
+
+  pub goes_on : IsWalkTo deeds marked trees listed → IsNextEntry deeds marked (last_number listed) trees entry → IsWalkTo deeds marked trees (listed ++ entry ∷ [])
+  goes_on so_far next =
+      let row = next.0 in
+      record {
+        done = so_far.done ++ row ∷ [];
+        walked = subst (IsWalked (trees 2) (so_far.done ++ row ∷ [])) (place_put next) (walk_goes_on (trees 2) so_far.done (option_map pos (last_number listed)) row so_far.walked next.1);
+        judged = λ other here. elim (has_either so_far.done (row ∷ []) other here) [
+          | inl before ↦ so_far.judged other before
+          | inr at ↦ elim at [
+            | inl is ↦ subst (λ (r : Row). IsJudgedImage deeds marked (image_read r) trees) (sym is) next.2
+            | inr none ↦ absurd none
+          ]
+        ];
+        told = ap₂ (λ es e. es ++ e ∷ []) so_far.told next.3 ∙ sym (map-append (λ (r : Row). entry_in marked (image_read r)) so_far.done (row ∷ []));
+      }
+
+  -- the rows after the first come next after it
+  pub rest_next : (shown : Row) (more : List Row) (next : AreReadNext (last_number listed) trees (shown ∷ more)) → IsJudgedImage deeds marked shown trees → entry ≡ entry_in marked shown → AreReadNext (last_number (listed ++ entry ∷ [])) trees more
+  unfolding next_entry
+  rest_next shown more next judged told =
+      subst (λ place. AreNext image_read (trees 2) place more) (place_put (next_entry deeds marked (last_number listed) trees shown more next judged entry told)) next.3
+
+module _ (deeds marked : List ℕ) (trees : Trees) (listed : List (ℕ × Heading)) (all : IsWalkTo deeds marked trees listed) (none : filter (is_after (option_map pos (last_number listed))) (trees 2) ≡ []) where
   abbrev rows : List Row
   rows = map image_read all.done
 
   shown_all : IsListed all_images_query (trees 2) rows
-  shown_all = all_walked 2 _ (trees 2) all.done (option_map pos after) all.walked none
+  shown_all = all_walked 2 _ (trees 2) all.done (option_map pos (last_number listed)) all.walked none
 
   within_all : All (IsImageRow deeds) rows
   within_all = All-from_recursion (IsImageRow deeds) rows (all_in (IsImageRow deeds) rows (λ shown here.

@@ -27,24 +27,29 @@ abbrev pub is_day : Value → Bool
 is_day (Int day) = not (int_lt day (negsuc 719_161)) && not (int_lt (pos 2_932_896) day)
 is_day _ = false
 
+-- such a day, or NULL for none
 abbrev pub is_some_day : Value → Bool
 is_some_day Null = true
 is_some_day value = is_day value
 
+-- 32 bytes, the length of a SHA-256 (FIPS 180-4)
 abbrev pub is_digest : Value → Bool
 is_digest (Blob bytes) = length bytes == 32
 is_digest _ = false
 
+-- a text that is a donor's name
 abbrev pub IsDonorAt : Value → Type 0
 IsDonorAt (Text text) = IsDonor text
 IsDonorAt _ = ⊥
 
+-- a text of at most so many bytes, each a printable character of ASCII or a blank
 abbrev pub IsWordAt : ℕ → Value → Type 0
 IsWordAt most (Text text) = IsPlainText most text
 IsWordAt most _ = ⊥
 
 -- ---- one row
 
+-- The row shows a deed: its number, its donor, and the day on which it was signed.
 pub record IsDeedRow (row : Row) : Type 0 where
   pub num : is_number 1 999_999 (column row 0) ≡ true
   pub donor : IsDonorAt (column row 1)
@@ -90,6 +95,7 @@ HasParts sort most longest how number word = (is_number sort sort how ≡ true) 
 abbrev pub IsSelectAt : Value → Value → Value → Type 0
 IsSelectAt how number word = HasParts 0 0 0 how number word ⊎ (HasParts 1 9_999 0 how number word ⊎ (HasParts 2 0 64 how number word ⊎ (HasParts 3 15 0 how number word ⊎ HasParts 4 0 16 how number word)))
 
+-- The row shows, after its rowid, a rule about one of these accessions or deeds.
 pub record IsRuleRow (accessions deeds : List ℕ) (row : Row) : Type 0 where
   pub band : is_band accessions deeds (column row 1) (column row 2) (column row 10) ≡ true
   pub scope : is_number 1 999_999 (column row 2) ≡ true
@@ -99,10 +105,12 @@ pub record IsRuleRow (accessions deeds : List ℕ) (row : Row) : Type 0 where
   pub until : is_some_day (column row 6) ≡ true
   pub select : IsSelectAt (column row 7) (column row 8) (column row 9)
 
+-- The row shows, after its rowid, a desk key for the room or the staff.
 pub record IsKeyRow (row : Row) : Type 0 where
   pub digest : is_digest (column row 1) ≡ true
   pub audience : is_number 1 2 (column row 2) ≡ true
 
+-- The row shows, after its rowid, a check of one of these accessions: its day and its outcome.
 pub record IsCheckRow (accessions : List ℕ) (row : Row) : Type 0 where
   pub acc : is_one_of accessions (column row 1) ≡ true
   pub day : is_day (column row 2) ≡ true

@@ -23,20 +23,23 @@ kind_code Cpm8 = 0
 kind_code D64 = 1
 kind_code D64e = 1
 
+-- the kind without error bytes that a number stands for
 abbrev pub kind_in : ℕ → Kind
 kind_in zero = Cpm8
 kind_in (suc code) = D64
 
--- the number of a band is `band_code` of State in rd_protocol
+-- the band that a number stands for; the number of a band is `band_code` of State in rd_protocol
 abbrev pub band_in : ℕ → Band
 band_in zero = Takedown
 band_in (suc code) = Deed
 
+-- the number that stands for an effect
 abbrev pub effect_code : Effect → ℕ
 effect_code Deny = 0
 effect_code Listed = 1
 effect_code Read = 2
 
+-- and the effect for which it stands
 abbrev pub effect_in : ℕ → Effect
 effect_in zero = Deny
 effect_in (suc zero) = Listed
@@ -46,6 +49,7 @@ effect_in (suc (suc code)) = Read
 abbrev pub audiences_code : Audiences → ℕ
 audiences_code set = cond set.public 1 0 + (cond set.room 2 0 + cond set.staff 4 0)
 
+-- and the set for which it stands
 abbrev pub audiences_in : ℕ → Audiences
 audiences_in code = record { public = code % 2 == 1; room = code / 2 % 2 == 1; staff = code / 4 % 2 == 1 }
 
@@ -55,21 +59,25 @@ audience_code Public = 0
 audience_code Room = 1
 audience_code Staff = 2
 
+-- the audience that a number stands for
 abbrev pub audience_in : ℕ → Audience
 audience_in zero = Public
 audience_in (suc zero) = Room
 audience_in (suc (suc code)) = Staff
 
+-- the number that stands for the outcome of a check
 abbrev pub outcome_code : Outcome → ℕ
 outcome_code Sound = 0
 outcome_code Changed = 1
 
+-- and the outcome for which it stands
 abbrev pub outcome_in : ℕ → Outcome
 outcome_in zero = Sound
 outcome_in (suc code) = Changed
 
 -- ---- a selector is three columns
 
+-- the first is a number for the sort of the selector
 abbrev pub how : Select → ℕ
 how All = 0
 how (Slot slot) = 1
@@ -77,6 +85,7 @@ how (Prefix text) = 2
 how (User user) = 3
 how (OfKind text) = 4
 
+-- the second is the slot or the user, and 0 for a selector without one
 abbrev pub number : Select → ℕ
 number All = 0
 number (Slot slot) = slot
@@ -84,6 +93,7 @@ number (Prefix text) = 0
 number (User user) = user
 number (OfKind text) = 0
 
+-- the third is the prefix or the type, and empty for a selector without one
 abbrev pub word : Select → List ℕ
 word All = []
 word (Slot slot) = []
@@ -91,6 +101,7 @@ word (Prefix text) = text
 word (User user) = []
 word (OfKind text) = text
 
+-- the selector that three columns stand for
 abbrev pub select_in : ℕ → ℕ → List ℕ → Select
 select_in zero number word = All
 select_in (suc zero) number word = Slot number
@@ -100,6 +111,7 @@ select_in (suc (suc (suc (suc how)))) number word = OfKind word
 
 -- ---- a day that may be absent
 
+-- a whole number is a day, and NULL, or any other value, is none
 abbrev pub day_in : Value → Option ℤ
 day_in Null = None
 day_in (Int day) = Some day
@@ -109,6 +121,7 @@ day_in (Blob bytes) = None
 
 -- ---- a number that may be absent
 
+-- a whole number is itself, and 0 where it is negative; NULL, or any other value, is none
 abbrev pub number_in : Value → Option ℕ
 number_in Null = None
 number_in (Int number) = Some (natural_of number)
@@ -118,9 +131,11 @@ number_in (Blob bytes) = None
 
 -- ---- the units of a file are two bytes each, the high byte first
 
+-- the bytes of units
 abbrev pub units_code : List ℕ → List ℕ
 units_code = flat_map (λ unit. unit / 256 ∷ unit % 256 ∷ [])
 
+-- the units of bytes; of an odd number of bytes the last counts for nothing
 abbrev pub units_in : List ℕ → List ℕ
 units_in [] = []
 units_in (high ∷ []) = []
@@ -130,5 +145,6 @@ units_in (high ∷ low ∷ more) = (256 * high + low) ∷ units_in more
 abbrev pub class_code : Bool → ℕ
 class_code served = cond served 1 0
 
+-- whether a number stands for a file of that class
 abbrev pub class_in : ℕ → Bool
 class_in code = code == 1

@@ -57,6 +57,7 @@ pub record HasCommonTables (s : State) : Type 0 where
   pub more : List Table
   pub rests : RestsOver (desk_with more) s
 
+-- while the connection is open, it rests over the tables that each version has
 abbrev pub HoldsCommonTables : State → Type 0
 HoldsCommonTables s = IsTrue s.is_open → HasCommonTables s
 
@@ -70,9 +71,11 @@ pub record IsReadable (text : List ℕ) (s : State) : Type 0 where
 abbrev pub HasTables : State → Type 0
 HasTables = RestsOver desk_schema
 
+-- while the connection is open, its tables are those of a desk
 abbrev pub HoldsTables : State → Type 0
 HoldsTables s = IsTrue s.is_open → HasTables s
 
+-- The tables are those of a desk, and the desk that their rows spell is a lawful one, with its index.
 pub record IsDeskAt (s : State) : Type 0 where
   pub tables : HasTables s
   pub holds : Holds (desk_of s.now.trees) s.now
@@ -86,9 +89,11 @@ module _ {S : Type 0} (g : Ghosts S) (h : Held S) where
   abbrev pub desk : Desk
   desk = desk_of (state g h).now.trees
 
+  -- the connection is open
   abbrev pub IsOpen : Type 0
   IsOpen = IsTrue (state g h).is_open
 
+  -- so far nothing else has written the store's files, and the disk has returned what was written
   abbrev pub IsClean : Type 0
   IsClean = HasCleanDisk (state g h)
 

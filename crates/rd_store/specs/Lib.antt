@@ -1,17 +1,23 @@
+-- ---- what a reader of a public clause believes
 pub mod Codes
 pub mod Index
 pub mod Marks
 pub mod Spelled
 pub mod Held
-pub mod Shown
-pub mod Register
 pub mod Created
-pub mod Cells
 pub mod Opened
-pub mod Walked
 pub mod Migrated
-pub mod Ruled
 pub mod Batched
 pub use Rattle.rd_protocol.specs.State
 pub use Rattle.rd_protocol.specs.Lawful
 pub use Rattle.rd_protocol.specs.RulesFor
+-- ---- inside: what only private functions and proofs cite
+-- Only private functions and proofs cite what follows a line `inside` in a file.
+-- An invariant of a type is proved of each value, and no caller has to believe it: so `Ruled` is here, which that of
+-- `Rulebook` cites, and `Register`, which that of `Store` cites.
+pub mod Shown
+pub mod Ruled
+pub mod Register
+pub mod Last
+pub mod Cells
+pub mod Walked

@@ -138,6 +138,7 @@ abbrev pub JudgedPart : {T : Type 0} → Type 0 → Type 0 → Result T OpenFaul
 JudgedPart Part P (Ok value) = Part
 JudgedPart Part P (Err fault) = Denied P fault
 
+-- and after Ok all of it holds
 abbrev pub Judged : {T : Type 0} → Type 0 → Result T OpenFault → Type 0
 Judged P = JudgedPart P P
 
@@ -196,6 +197,7 @@ IsSaid None rows = ¬ HasVersion 1 rows × ¬ HasVersion 2 rows
 
 -- ---- the listing of a table
 
+-- the text that asks for all rows of the table
 abbrev pub listing_text : Listing → List ℕ
 listing_text all.Deeds = ask.all_deeds_text
 listing_text all.Rules = ask.all_rules_text
@@ -204,6 +206,7 @@ listing_text all.Checks = ask.all_checks_text
 listing_text all.Files = ask.all_files_text
 listing_text all.Marks = ask.all_marks_text
 
+-- the query that the text means
 abbrev pub listing_query : Listing → Query
 listing_query all.Deeds = ask.all_deeds_query
 listing_query all.Rules = ask.all_rules_query
@@ -212,6 +215,7 @@ listing_query all.Checks = ask.all_checks_query
 listing_query all.Files = ask.all_files_query
 listing_query all.Marks = ask.all_marks_query
 
+-- the number of the tree that has the rows of the table
 abbrev pub listing_tree : Listing → ℕ
 listing_tree all.Deeds = 1
 listing_tree all.Rules = 3
@@ -220,7 +224,7 @@ listing_tree all.Checks = 7
 listing_tree all.Files = 9
 listing_tree all.Marks = 11
 
--- the tables that a listing wants
+-- the tables that must be there for a listing
 abbrev pub HoldsListed : Listing → State → Type 0
 HoldsListed all.Deeds = HoldsCommonTables
 HoldsListed all.Rules = HoldsCommonTables
@@ -231,22 +235,28 @@ HoldsListed all.Marks = HoldsTables
 
 -- ---- the rows of one table spell lawful entries
 
+-- the rows spell deeds within their limits, by number
 abbrev pub LawfulDeeds : Trees → Type 0
 LawfulDeeds trees = SpellLawful deed_sheet (λ e. IsDeed e.0 e.1) (trees 1)
 
+-- an image within its limits, which came by one of these deeds
 abbrev pub IsImageOf : List ℕ → ℕ × ImageRow → Type 0
 IsImageOf deeds e = IsImage e.0 e.1 × Has deeds e.1.deed
 
+-- such images by accession
 abbrev pub LawfulImages : List ℕ → Trees → Type 0
 LawfulImages deeds trees = SpellLawful image_sheet (IsImageOf deeds) (trees 2)
 
+-- the accession or the deed of a rule is one of these
 abbrev pub StandsAmong : List ℕ → List ℕ → Band → ℕ → Type 0
 StandsAmong accessions deeds Takedown scope = Has accessions scope
 StandsAmong accessions deeds Deed scope = Has deeds scope
 
+-- a rule within its limits, about one of these
 abbrev pub IsRuleOf : List ℕ → List ℕ → Place × Terms → Type 0
 IsRuleOf accessions deeds e = IsRule (rule_of e) × StandsAmong accessions deeds e.0.band e.0.scope
 
+-- such rules by place
 abbrev pub LawfulRules : List ℕ → List ℕ → Trees → Type 0
 LawfulRules accessions deeds trees = SpellLawful rule_sheet (IsRuleOf accessions deeds) (trees 3)
 
@@ -254,9 +264,11 @@ LawfulRules accessions deeds trees = SpellLawful rule_sheet (IsRuleOf accessions
 abbrev pub LawfulKeys : Trees → Type 0
 LawfulKeys trees = SpellLawful key_sheet (λ e. IsKey e.0 e.1) (trees 5) × ((digest : List ℕ) × (get (map_of key_sheet (trees 5)) digest ≡ Some Staff))
 
+-- a check on a day, of one of these accessions
 abbrev pub IsCheckOf : List ℕ → Checkup × Outcome → Type 0
 IsCheckOf accessions e = IsDay e.0.day × Has accessions e.0.acc
 
+-- such checks by accession and day
 abbrev pub LawfulChecks : List ℕ → Trees → Type 0
 LawfulChecks accessions trees = SpellLawful check_sheet (IsCheckOf accessions) (trees 7)
 
@@ -264,6 +276,7 @@ LawfulChecks accessions trees = SpellLawful check_sheet (IsCheckOf accessions) (
 abbrev pub AreMarksOf : List ℕ → ℕ × List ℕ → Type 0
 AreMarksOf accessions e = (length e.1 ≡ CBM_BLOCKS) × Has accessions e.0
 
+-- such error bytes by accession
 abbrev pub LawfulMarks : List ℕ → Trees → Type 0
 LawfulMarks accessions trees = SpellLawful marks_sheet (AreMarksOf accessions) (trees 11)
 
@@ -272,9 +285,11 @@ abbrev pub marks_if : Bool → Option (List ℕ) → Option (List ℕ)
 marks_if false marks = None
 marks_if true marks = marks
 
+-- the image of an accession, with its error bytes where it is said to have any
 abbrev pub image_if : Bool → Trees → ℕ → Option ImageRow
 image_if is_marked trees acc = option_map (with_marks (marks_if is_marked (get (map_of marks_sheet (trees 11)) acc))) (get (map_of image_sheet (trees 2)) acc)
 
+-- a number is one of these
 abbrev pub is_among : List ℕ → ℕ → Bool
 is_among numbers n = is_one_of numbers (Int (pos n))
 
@@ -296,6 +311,7 @@ HasDiskIf is_marked acc trees = IsTrue is_marked → HasDisk acc trees
 abbrev pub HoldsMarksIf : Bool → State → Type 0
 HoldsMarksIf is_marked s = IsTrue is_marked → HoldsTables s
 
+-- and so for each of these accessions: where one is listed, the table is there
 abbrev pub HoldsMarksOf : List ℕ → State → Type 0
 HoldsMarksOf marked s = (acc : ℕ) → HoldsMarksIf (is_among marked acc) s
 

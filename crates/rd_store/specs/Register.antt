@@ -24,6 +24,7 @@ abbrev pub listed_in : Option (Vec (ℕ × Heading) Global) → List (ℕ × Hea
 listed_in None = []
 listed_in (Some entries) = entries.items
 
+-- what a register lists
 abbrev pub listed : Register → List (ℕ × Heading)
 listed register = listed_in register.entries
 
@@ -49,6 +50,7 @@ IsSameHeading one other = (one.kind ≡ other.kind) × (one.deed ≡ other.deed)
 abbrev pub number_of : ℕ × Heading → ℕ
 number_of entry = entry.0
 
+-- its kind and its deed
 abbrev pub given_of : Heading → Accession
 given_of heading = record { kind = heading.kind; deed = heading.deed }
 
@@ -56,7 +58,7 @@ given_of heading = record { kind = heading.kind; deed = heading.deed }
 abbrev pub given_in : ℕ × Heading → ℕ × Accession
 given_in entry = (entry.0, given_of entry.1)
 
--- ---- inside
+-- ---- how it is made and searched
 
 -- the entry of an image that a row of its listing shows; `marked` are the accessions with error bytes, ascending
 abbrev pub entry_in : List ℕ → Row → ℕ × Heading
@@ -70,6 +72,7 @@ abbrev pub HasRoomIn : Option (Vec (ℕ × Heading) Global) → Type 0
 HasRoomIn None = ⊥
 HasRoomIn (Some entries) = vec_len entries < vec_capacity entries
 
+-- a register has room for one more
 abbrev pub HasRoom : Register → Type 0
 HasRoom register = HasRoomIn register.entries
 

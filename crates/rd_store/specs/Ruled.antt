@@ -10,7 +10,7 @@ use Rattle.rd_protocol.specs.State.{Desk, all_rules, band_code}
 abbrev pub AreAllRules : List Rule → Type 0
 AreAllRules rules = (desk : Desk) × (rules ≡ all_rules desk)
 
--- ---- inside
+-- ---- those of one band and number
 
 -- a band and a number beside another band, by its code, and another number: first by the band, then by the number
 abbrev pub side_of : ℕ → ℕ → Band → ℕ → Ordering

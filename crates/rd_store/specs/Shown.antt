@@ -10,9 +10,11 @@ use Rattle.rd_protocol.specs.declared.rows.ImageRow.{ImageRow}
 use Rattle.rd_store.specs.Codes.{kind_code, kind_in, audience_code}
 use Rattle.rd_store.specs.Spelled.{key_sheet}
 
+-- the columns for a deed: its donor, and the day on which they signed it
 abbrev pub deed_shown : DeedRow → Row
 deed_shown deed = Text deed.donor ∷ Int deed.signed ∷ []
 
+-- the columns for an image: its kind, its deed, its digest and its bytes
 abbrev pub image_shown : ImageRow → Row
 image_shown image = Int (pos (kind_code image.kind)) ∷ Int (pos image.deed) ∷ Blob image.digest ∷ Blob image.bytes ∷ []
 
@@ -20,6 +22,7 @@ image_shown image = Int (pos (kind_code image.kind)) ∷ Int (pos image.deed) �
 abbrev pub as_row : ImageRow → ImageRow
 as_row image = record image { kind = kind_in (kind_code image.kind) }
 
+-- error bytes, in one column
 abbrev pub marks_shown : List ℕ → Row
 marks_shown marks = Blob marks ∷ []
 
@@ -27,9 +30,11 @@ marks_shown marks = Blob marks ∷ []
 abbrev pub heading_of : ImageRow → Heading
 heading_of image = record { kind = image.kind; deed = image.deed; digest = image.digest }
 
+-- an image of this heading and these bytes
 abbrev pub image_with : Heading → List ℕ → ImageRow
 image_with heading bytes = record { kind = heading.kind; deed = heading.deed; digest = heading.digest; bytes = bytes }
 
+-- the column for a key: its audience
 abbrev pub audience_shown : Audience → Row
 audience_shown audience = Int (pos (audience_code audience)) ∷ []
 

@@ -19,6 +19,7 @@ use Rattle.rd_store.specs.Index.{FileAt, file_cmp}
 use Rattle.rd_store.specs.Marks.{AreMarksIn, joined}
 use Rattle.rd_protocol.specs.State.{Desk, Place, Terms, Checkup, place_cmp, digest_cmp, checkup_cmp, band_code}
 
+-- deeds by number: the donor, and the day on which they were signed
 abbrev pub deed_sheet : Sheet ℕ DeedRow
 deed_sheet = record {
   places = 0 ∷ 2 ∷ 3 ∷ [];
@@ -27,6 +28,7 @@ deed_sheet = record {
   entry = λ row. (natural (column row 0), record { donor = bytes (column row 1); signed = id_in (column row 2) });
 }
 
+-- images by accession: kind, deed, digest and bytes, without error bytes
 abbrev pub image_sheet : Sheet ℕ ImageRow
 image_sheet = record {
   places = 0 ∷ 2 ∷ 3 ∷ 4 ∷ 5 ∷ [];
@@ -47,6 +49,7 @@ marks_sheet = record {
   entry = λ row. (natural (column row 0), bytes (column row 1));
 }
 
+-- rules by place: audiences, days, selector and effect
 abbrev pub rule_sheet : Sheet Place Terms
 rule_sheet = record {
   places = 1 ∷ 2 ∷ 3 ∷ 4 ∷ 5 ∷ 6 ∷ 7 ∷ 8 ∷ 9 ∷ 10 ∷ [];
@@ -65,6 +68,7 @@ rule_sheet = record {
   );
 }
 
+-- desk keys by digest: the audience
 abbrev pub key_sheet : Sheet (List ℕ) Audience
 key_sheet = record {
   places = 1 ∷ 2 ∷ [];
@@ -73,6 +77,7 @@ key_sheet = record {
   entry = λ row. (bytes (column row 0), audience_in (natural (column row 1)));
 }
 
+-- checks by accession and day: the outcome
 abbrev pub check_sheet : Sheet Checkup Outcome
 check_sheet = record {
   places = 1 ∷ 2 ∷ 3 ∷ [];
@@ -86,6 +91,7 @@ abbrev pub file_shown : Found → Row
 file_shown file = Int (pos file.slot) ∷ Text file.name ∷ Text file.ty ∷ or_null Int (option_map pos file.user) ∷ Int (pos (class_code file.served_class))
     ∷ or_null Int (option_map pos file.size) ∷ Int (pos file.faults) ∷ Blob (units_code file.units) ∷ Int (pos file.last_len) ∷ []
 
+-- the file that such columns describe
 abbrev pub file_in : Row → Found
 file_in row = record {
   slot = natural (column row 0);
@@ -104,6 +110,7 @@ abbrev pub later : Row → Row
 later [] = []
 later (first ∷ row) = row
 
+-- the index: files by accession and slot
 abbrev pub file_sheet : Sheet FileAt Found
 file_sheet = record {
   places = 1 ∷ 2 ∷ 3 ∷ 4 ∷ 5 ∷ 6 ∷ 7 ∷ 8 ∷ 9 ∷ 10 ∷ [];
@@ -146,6 +153,7 @@ desk_of trees = record {
 abbrev pub unmarked : Trees → Trees
 unmarked trees = λ tree. cond (tree == 11) [] (trees tree)
 
+-- the index that the rows spell
 abbrev pub index_of : Trees → FinMap file_cmp Found
 index_of trees = map_of file_sheet (trees 9)
 

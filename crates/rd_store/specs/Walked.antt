@@ -1,5 +1,5 @@
 -- Inside: what a walk over the images finds, each judged and walked from one reading of its row.
-use Rattle.std.specs.Prelude.{◌≡◌, ℕ, pos, List, [], ◌∷◌, map, filter, Bool, Option, Some, None, IsSome, option_map, IsTrue}
+use Rattle.std.specs.Prelude.{◌≡◌, ℕ, ◌-◌, pos, List, [], ◌∷◌, map, filter, length, slice_get, Bool, Option, Some, None, IsSome, option_map, IsTrue}
 use Rattle.std.specs.FinMap.{entries, get}
 use Rattle.sqlite.specs.declared.types.Value.TheVariants.{Int, Blob}
 use Rattle.sqlite.specs.Order.{Row, column}
@@ -10,7 +10,7 @@ use Rattle.sqlite_sql.specs.declared.ops.UnaryOp.TheVariants.{Length, TypeOf}
 use Rattle.rd_tables.specs.Asked.{IsStart}
 use Rattle.rd_tables.specs.Queries.{all_images_query, later_images_query}
 use Rattle.rd_tables.specs.Sheets.{Spells, map_of, natural}
-use Rattle.rd_tables.specs.Walks.{ComesNext, IsWalked, is_after}
+use Rattle.rd_tables.specs.Walks.{AreNext, ComesNext, IsWalked, is_after}
 use Rattle.rd_store.specs.declared.images.Heading.{Heading}
 use Rattle.rd_protocol.specs.declared.rows.ImageRow.{ImageRow}
 use Rattle.rd_store.specs.Cells.{IsImageRow}
@@ -33,15 +33,18 @@ image_told e = Int (pos e.0) ∷ Int (pos (kind_code e.1.kind)) ∷ Int (pos e.1
 abbrev pub IsReadOf : Trees → Row → Type 0
 IsReadOf trees shown = (row : Row) × Has (trees 2) row × (shown ≡ image_read row)
 
--- the first rows after an accession, or of all, two at most
+-- the first rows after an accession, or of all, eight at most
 abbrev pub AreNextOf : Option ℕ → Trees → List Row → Type 0
-AreNextOf None trees rows = IsStart all_images_query 2 [] (trees 2) rows
-AreNextOf (Some acc) trees rows = IsStart later_images_query 2 (Int (pos acc) ∷ []) (trees 2) rows
+AreNextOf None trees rows = IsStart all_images_query 8 [] (trees 2) rows
+AreNextOf (Some acc) trees rows = IsStart later_images_query 8 (Int (pos acc) ∷ []) (trees 2) rows
 
--- this was read of the row that comes next after an accession, or first; there is none
-abbrev pub IsNextOf : Option ℕ → Trees → Option Row → Type 0
-IsNextOf after trees None = filter (is_after (option_map pos after)) (trees 2) ≡ []
-IsNextOf after trees (Some shown) = (row : Row) × ComesNext (trees 2) (option_map pos after) row × (shown ≡ image_read row)
+-- these were read of the rows that come next after an accession, or first, one after the other
+abbrev pub AreReadNext : Option ℕ → Trees → List Row → Type 0
+AreReadNext after trees rows = AreNext image_read (trees 2) (option_map pos after) rows
+
+-- and where there are none, no row comes next
+abbrev pub AreBatchOf : Option ℕ → Trees → List Row → Type 0
+AreBatchOf after trees rows = AreReadNext after trees rows × (rows ≡ [] → filter (is_after (option_map pos after)) (trees 2) ≡ [])
 
 -- ---- one image
 
@@ -62,6 +65,7 @@ IsImageOnce is_marked acc image trees = Spells image_sheet (trees 2) → SpellMa
 abbrev pub HasDiskOnce : Bool → ℕ → Trees → Type 0
 HasDiskOnce is_marked acc trees = Spells image_sheet (trees 2) → HasDiskIf is_marked acc trees
 
+-- the rows of the images spell a map, and the image at the accession is a D64 if it has error bytes
 abbrev pub IsLawfulDisk : Bool → ℕ → Trees → Type 0
 IsLawfulDisk is_marked acc trees = Spells image_sheet (trees 2) × HasDiskIf is_marked acc trees
 
@@ -95,16 +99,19 @@ LawfulGivenWalk marked trees = LawfulGiven trees × AreFiledOf marked trees
 abbrev pub LawfulCommonWalk : List ℕ → Trees → Type 0
 LawfulCommonWalk marked trees = LawfulCommon trees × AreFiledOf marked trees
 
--- the entry of the image that comes next after an accession, or first, and was judged; there is none
-abbrev pub IsNextEntry : List ℕ → List ℕ → Option ℕ → Trees → Option (ℕ × Heading) → Type 0
-IsNextEntry deeds marked after trees None = filter (is_after (option_map pos after)) (trees 2) ≡ []
-IsNextEntry deeds marked after trees (Some entry) =
+-- the accession of the last of these entries
+abbrev pub last_number : List (ℕ × Heading) → Option ℕ
+last_number listed = option_map number_of (slice_get listed (length listed - 1))
+
+-- the entry of the image that comes next after an accession, or first, and was judged
+abbrev pub IsNextEntry : List ℕ → List ℕ → Option ℕ → Trees → ℕ × Heading → Type 0
+IsNextEntry deeds marked after trees entry =
     (row : Row) × ComesNext (trees 2) (option_map pos after) row × IsJudgedImage deeds marked (image_read row) trees × (entry ≡ entry_in marked (image_read row))
 
--- These are the entries of the images up to an accession, all of which were judged.
-pub record IsWalkTo (deeds marked : List ℕ) (trees : Trees) (after : Option ℕ) (listed : List (ℕ × Heading)) : Type 0 where
+-- These are the entries of the images up to the last of them, all of which were judged.
+pub record IsWalkTo (deeds marked : List ℕ) (trees : Trees) (listed : List (ℕ × Heading)) : Type 0 where
   pub done : List Row
-  pub walked : IsWalked (trees 2) done (option_map pos after)
+  pub walked : IsWalked (trees 2) done (option_map pos (last_number listed))
   pub judged : (row : Row) → Has done row → IsJudgedImage deeds marked (image_read row) trees
   pub told : listed ≡ map (λ row. entry_in marked (image_read row)) done
 

@@ -16,6 +16,7 @@ mod filing;
 mod images;
 mod judging;
 mod keys;
+mod last;
 mod marks;
 mod migrating;
 mod opening;

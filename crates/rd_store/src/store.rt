@@ -18,6 +18,7 @@ ghost use Rattle.rd_protocol.specs.State.{HasOtherImage, IsLastStaff, Stands, al
 
 use crate::faults::{CreateFault, OpenFault, Refused, StoreFault};
 use crate::images::Heading;
+use crate::last::{Last, image_again};
 use crate::register::Register;
 use crate::rulebook::Rulebook;
 use crate::{batches, checks, create, deeds, files, images, judging, keys, migrating, rules};
@@ -32,17 +33,19 @@ use std::marker::Model;
 
 /// The tables of a desk over a connection: deeds, images, some with error bytes, an index of their files, rules,
 /// desk keys and checks. Beside them it keeps a register in memory, 44 bytes for each accession: the kind of its
-/// image, its deed and its SHA-256.
+/// image, its deed and its SHA-256; and the image that was asked for last, where it was asked for twice in a row.
 #[derive(Drop)]
 pub struct Store<S: Alter> {
     conn: Connection<S>,
     register: Register,
+    last: Last,
 }
 
 impl<S: Alter> Model for Store<S> {
     ghost use Rattle.sqlite.specs.Held.{Held, held_code, state};
     ghost use Rattle.rd_store.specs.Held.{HoldsDesk};
     ghost use Rattle.rd_store.specs.Register.{IsRegisterOf};
+    ghost use Rattle.rd_store.specs.Last.{IsLastOf};
 
     ghost Value = { Held S };
 
@@ -50,7 +53,7 @@ impl<S: Alter> Model for Store<S> {
 
     ghost view = { λ store. store.conn };
 
-    ghost invariant = { λ store. HoldsDesk (state S.Store store.conn) × IsRegisterOf S.Store store.conn store.register };
+    ghost invariant = { λ store. HoldsDesk (state S.Store store.conn) × IsRegisterOf S.Store store.conn store.register × IsLastOf S.Store store.conn store.last };
 }
 
 impl<S: Alter> Store<S> {
@@ -83,6 +86,7 @@ impl<S: Alter> Store<S> {
             Ok(()) => Ok(Store {
                 conn,
                 register: Register::empty(),
+                last: Last::Unasked,
             }),
             Err(_) => Err(Refused {
                 fault: CreateFault::Sql,
@@ -106,7 +110,11 @@ impl<S: Alter> Store<S> {
     {
         let _outside = conn.is_autocommit();
         match judging::judge(alloc, &mut conn) {
-            Ok(register) => Ok(Store { conn, register }),
+            Ok(register) => Ok(Store {
+                conn,
+                register,
+                last: Last::Unasked,
+            }),
             Err(fault) => Err(Refused { fault, conn }),
         }
     }
@@ -130,7 +138,11 @@ impl<S: Alter> Store<S> {
     {
         let _outside = conn.is_autocommit();
         match migrating::migrate(alloc, &mut conn) {
-            Ok(register) => Ok(Store { conn, register }),
+            Ok(register) => Ok(Store {
+                conn,
+                register,
+                last: Last::Unasked,
+            }),
             Err(fault) => Err(Refused { fault, conn }),
         }
     }
@@ -140,7 +152,11 @@ impl<S: Alter> Store<S> {
         ensures same { result ≡ self }
         ensures holds { HoldsDesk (state S.Store result) }
     {
-        let Store { conn, register: _ } = self;
+        let Store {
+            conn,
+            register: _,
+            last: _,
+        } = self;
         conn
     }
 
@@ -171,6 +187,19 @@ impl<S: Alter> Store<S> {
             found ≡ get (desk S.Store self.old).images acc) }
     {
         images::image(alloc, &mut self.conn, acc)
+    }
+
+    /// The image of an accession, 1 to 999,999; `None` where there is none. It is what `image` gives, for a caller
+    /// who asks for one accession again and again, as for the files of a disk one after the other. An image that
+    /// is asked for twice in a row is kept in memory, and read from there as long as no other is asked for. Where
+    /// there is no memory to keep it, it is read from its row each time.
+    ///
+    /// It fails with `Sql`.
+    pub fn image_again(&mut self, alloc: Global, acc: u32) -> Result<Option<ImageRow>, StoreFault>
+        ensures reads { Reads S.Store self.old self.new result (λ found.
+            found ≡ get (desk S.Store self.old).images acc) }
+    {
+        image_again(alloc, &mut self.conn, &mut self.last, acc)
     }
 
     /// The kind of the image and the deed of an accession, 1 to 999,999; `None` if it is not

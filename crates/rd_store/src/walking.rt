@@ -1,7 +1,7 @@
 //! The walk over the images at an opening, in the order of their accessions. Each is judged and walked from one reading
 //! of its row.
 
-ghost use Rattle.std.specs.Prelude.{◌≡◌, ◌++◌, ◌∷◌, [], ⊤, IfOk, IfErr, None, OnOk, Some, slice_get};
+ghost use Rattle.std.specs.Prelude.{◌≡◌, ◌++◌, ◌∷◌, [], ⊤, IfOk, IfErr, None, OnOk, Some};
 ghost use Rattle.std.specs.List.Sorted.{IsNonDecreasing};
 ghost use Rattle.sqlite.specs.Held.{state};
 ghost use Rattle.rd_protocol.specs.declared.rows.ImageRow.{ImageRow};
@@ -9,7 +9,7 @@ ghost use Rattle.rd_store.specs.Held.{Asks, HoldsCommonTables, IsClean, IsOpen};
 ghost use Rattle.rd_store.specs.Opened.{HoldsMarksIf, HoldsMarksOf, LawfulImages, TestsPart};
 ghost use Rattle.rd_store.specs.Register.{entry_in};
 ghost use Rattle.rd_store.specs.Shown.{as_row};
-ghost use Rattle.rd_store.specs.Walked.{AreNextOf, HasDiskOnce, HasFilesOnce, IsImageOnce, IsJudgedImage, IsLawfulAt, IsLawfulDisk, IsNextEntry, IsNextOf, IsReadOf, IsWalk, LawfulWalk, StandsOnce, image_told};
+ghost use Rattle.rd_store.specs.Walked.{AreBatchOf, AreNextOf, AreReadNext, HasDiskOnce, HasFilesOnce, IsImageOnce, IsJudgedImage, IsLawfulAt, IsLawfulDisk, IsReadOf, IsWalk, IsWalkTo, LawfulWalk, StandsOnce, image_told, last_number};
 
 use crate::cells::has_one_of;
 use crate::decode::{bytes_at, digest_at, kind, number_at};
@@ -27,7 +27,7 @@ use sqlite::types::ToSql;
 use sqlite::{Alter, Connection, Row};
 use std::alloc::Global;
 
-/// The rows of the first two images.
+/// The rows of the first eight images.
 fn first_rows<S: Alter>(conn: &mut Connection<S>) -> Result<Vec<Row>, StoreFault>
     requires tables { HoldsCommonTables (state S.Store conn.old) }
     ensures asks { Asks S.Store conn.old conn.new result StoreFault.Sql (λ rows.
@@ -35,12 +35,12 @@ fn first_rows<S: Alter>(conn: &mut Connection<S>) -> Result<Vec<Row>, StoreFault
 {
     read_over(
         conn,
-        "SELECT acc, kind, deed, digest, length(bytes), typeof(bytes), bytes FROM image ORDER BY acc LIMIT 2",
+        "SELECT acc, kind, deed, digest, length(bytes), typeof(bytes), bytes FROM image ORDER BY acc LIMIT 8",
         &[],
     )
 }
 
-/// The rows of the next two images after an accession.
+/// The rows of the next eight images after an accession.
 fn later_rows<S: Alter>(conn: &mut Connection<S>, acc: u32) -> Result<Vec<Row>, StoreFault>
     requires tables { HoldsCommonTables (state S.Store conn.old) }
     ensures asks { Asks S.Store conn.old conn.new result StoreFault.Sql (λ rows.
@@ -49,13 +49,12 @@ fn later_rows<S: Alter>(conn: &mut Connection<S>, acc: u32) -> Result<Vec<Row>, 
     let key = acc.to_sql();
     read_over(
         conn,
-        "SELECT acc, kind, deed, digest, length(bytes), typeof(bytes), bytes FROM image WHERE acc > ?1 ORDER BY acc LIMIT 2",
+        "SELECT acc, kind, deed, digest, length(bytes), typeof(bytes), bytes FROM image WHERE acc > ?1 ORDER BY acc LIMIT 8",
         &[key],
     )
 }
 
-/// The rows of the next two images after an accession, or of the first two. The second is read again as it comes: its
-/// pages are mostly still in the cache of SQLite.
+/// The rows of the next eight images after an accession, or of the first eight.
 fn next_rows<S: Alter>(conn: &mut Connection<S>, after: Option<u32>) -> Result<Vec<Row>, StoreFault>
     requires tables { HoldsCommonTables (state S.Store conn.old) }
     ensures asks { Asks S.Store conn.old conn.new result StoreFault.Sql (λ rows.
@@ -67,18 +66,22 @@ fn next_rows<S: Alter>(conn: &mut Connection<S>, after: Option<u32>) -> Result<V
     }
 }
 
-/// The row of the image after an accession, or of the first, before any other. A second row with a higher accession
-/// shows that no other row has the accession of the first.
+/// The rows of the next seven images after an accession, or of the first seven; none after the last. A row with a higher
+/// accession shows that no other row has the accession of the one before it. So the eighth shows it of the seventh, and
+/// is read again with those that follow.
 fn next_images<S: Alter>(
     conn: &mut Connection<S>,
     after: Option<u32>,
 ) -> Result<Vec<Row>, OpenFault>
     requires tables { HoldsCommonTables (state S.Store conn.old) }
     ensures asks { Asks S.Store conn.old conn.new result OpenFault.Sql (λ rows.
-        IsNextOf after (state S.Store conn.old).now.trees (slice_get rows.items 0)) }
+        AreBatchOf after (state S.Store conn.old).now.trees rows.items) }
 {
     match next_rows(conn, after) {
-        Ok(rows) if are_rising(&rows) => Ok(rows),
+        Ok(mut rows) if are_rising(&rows) => {
+            rows.truncate(7);
+            Ok(rows)
+        }
         _ => Err(OpenFault::Sql),
     }
 }
@@ -215,29 +218,6 @@ fn check_image<S: Alter>(
     Ok(entry)
 }
 
-/// The entry in the register of the image after an accession, or of the first, if it is that of a desk; `None` after the
-/// last.
-fn check_next<S: Alter>(
-    alloc: Global,
-    conn: &mut Connection<S>,
-    after: Option<u32>,
-    deeds: &[u32],
-    marked: &[u32],
-) -> Result<Option<(u32, Heading)>, OpenFault>
-    requires tables { HoldsCommonTables (state S.Store conn.old) }
-    requires marks { HoldsMarksOf marked.now (state S.Store conn.old) }
-    requires deeds { IsNonDecreasing deeds.now }
-    requires marked { IsNonDecreasing marked.now }
-    ensures tests { TestsPart S.Store conn.old conn.new result (λ trees. ⊤) (LawfulWalk deeds.now marked.now) }
-    ensures next { IsOpen S.Store conn.new → IfOk result (IsNextEntry deeds.now marked.now after (state S.Store conn.old).now.trees) }
-{
-    let rows = next_images(conn, after)?;
-    match rows.first() {
-        Some(row) => Ok(Some(check_image(alloc, conn, row, deeds, marked)?)),
-        None => Ok(None),
-    }
-}
-
 /// Puts an entry after the others.
 fn add_entry(entries: &mut Vec<(u32, Heading)>, entry: (u32, Heading)) -> Result<(), OpenFault>
     ensures items { OnOk result (entries.new.items ≡ entries.old.items ++ entry ∷ []) }
@@ -249,9 +229,43 @@ fn add_entry(entries: &mut Vec<(u32, Heading)>, entry: (u32, Heading)) -> Result
     }
 }
 
+/// The accession of the last of these entries.
+fn last_accession(entries: &[(u32, Heading)]) -> Option<u32>
+    ensures { result ≡ last_number entries.now }
+{
+    Some(entries.last()?.0)
+}
+
+/// Puts the entries of the next images, whose rows were read, after the others, if these images are those of a desk with
+/// these deeds, and the rows of the index for each are those of its files. The marked accessions have error bytes.
+fn walk_rows<S: Alter>(
+    alloc: Global,
+    conn: &mut Connection<S>,
+    rows: &[Row],
+    deeds: &[u32],
+    marked: &[u32],
+    entries: &mut Vec<(u32, Heading)>,
+) -> Result<(), OpenFault>
+    requires tables { HoldsCommonTables (state S.Store conn.old) }
+    requires marks { HoldsMarksOf marked.now (state S.Store conn.old) }
+    requires awake { IsClean S.Store conn.old → IsOpen S.Store conn.old }
+    requires deeds { IsNonDecreasing deeds.now }
+    requires marked { IsNonDecreasing marked.now }
+    requires rows { IsOpen S.Store conn.old → AreReadNext (last_number entries.old.items) (state S.Store conn.old).now.trees rows.now }
+    ensures tests { TestsPart S.Store conn.old conn.new result (λ trees. ⊤) (LawfulWalk deeds.now marked.now) }
+    ensures walked { IsOpen S.Store conn.new → IfOk result (λ done.
+        IsWalkTo deeds.now marked.now (state S.Store conn.old).now.trees entries.old.items → IsWalkTo deeds.now marked.now (state S.Store conn.old).now.trees entries.new.items) }
+{
+    for row in rows {
+        let entry = check_image(alloc, conn, row, deeds, marked)?;
+        add_entry(entries, entry)?;
+    }
+    Ok(())
+}
+
 /// The entries in the register of all images, if these are those of a desk with these deeds, and the rows of the index
-/// for each are those of its files. The marked accessions have error bytes. It asks for 1,000,000 images at most: there
-/// are 999,999 accessions.
+/// for each are those of its files. The marked accessions have error bytes. It asks 1,000,000 times at most: there are
+/// 999,999 accessions.
 pub(crate) fn walk_images<S: Alter>(
     alloc: Global,
     conn: &mut Connection<S>,
@@ -267,14 +281,12 @@ pub(crate) fn walk_images<S: Alter>(
     ensures walked { IsOpen S.Store conn.new → IfOk result (λ entries. IsWalk marked.now (state S.Store conn.old).now.trees entries.items) }
 {
     let mut entries = Vec::new(alloc);
-    let mut after = None;
     for _ in 0..1_000_000_u32 {
-        let found = check_next(alloc, conn, after, deeds, marked)?;
-        let Some(entry) = found else {
+        let rows = next_images(conn, last_accession(&entries))?;
+        if rows.is_empty() {
             return Ok(entries);
-        };
-        after = Some(entry.0);
-        add_entry(&mut entries, entry)?;
+        }
+        walk_rows(alloc, conn, &rows, deeds, marked, &mut entries)?;
     }
     Err(OpenFault::Sql)
 }

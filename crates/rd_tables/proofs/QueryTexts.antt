@@ -139,11 +139,11 @@ all_marks_asks = record { names = codes "acc" ∷ codes "length(bytes)" ∷ code
 image_names : List (List ℕ)
 image_names = codes "acc" ∷ codes "kind" ∷ codes "deed" ∷ codes "digest" ∷ codes "length(bytes)" ∷ codes "typeof(bytes)" ∷ codes "bytes" ∷ []
 
-pub first_images_asks : AsksStartInEach first_images_text 2 2 all_images_query
+pub first_images_asks : AsksStartInEach first_images_text 8 2 all_images_query
 unfolding understood everything image_names
 first_images_asks more = record { names = image_names; means = refl; plain = (refl, refl); stored = refl; here = λ trees. refl }
 
-pub next_images_asks : AsksStartInEach next_images_text 2 2 later_images_query
+pub next_images_asks : AsksStartInEach next_images_text 8 2 later_images_query
 unfolding understood everything image_names
 next_images_asks more = record { names = image_names; means = refl; plain = (refl, refl); stored = refl; here = λ trees. refl }
 

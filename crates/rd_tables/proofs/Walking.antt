@@ -1,11 +1,11 @@
 -- Rows that a query shows one after the other are walked in the order of their rowids.
-use Rattle.std.proofs.Common.{◌≡◌, ◌⊎◌, inl, inr, ℕ, ℤ, suc, ◌+◌, ◌<◌, List, [], ◌∷◌, ◌++◌, map, filter, take, length, get_or, true, false, Option, Some, None, refl, sym, ap, ap₂, subst, ◌∙◌, arith, cond, int_lt, int_cmp, is_lt, Ordering, Less, Equal, Greater}
+use Rattle.std.proofs.Common.{◌≡◌, ◌⊎◌, inl, inr, ℕ, ℤ, zero, suc, ◌+◌, ◌<◌, List, [], ◌∷◌, ◌++◌, map, filter, take, length, get_or, true, false, Option, Some, None, refl, sym, ap, ap₂, subst, ◌∙◌, arith, cond, int_lt, int_cmp, is_lt, Ordering, Less, Equal, Greater}
 use Rattle.std.specs.List.{AllByRecursion, list_all}
 use Rattle.std.specs.List.Sorted.{IsPermutation, IsSorted}
 use Rattle.std.specs.Ordering.{is_gt, ordering_reverse}
 use Rattle.std.proofs.lemmas.Bool.{cases_order}
 use Rattle.std.proofs.lemmas.Bool.Decides.{nat_tests}
-use Rattle.std.proofs.lemmas.List.{append-nil, get_or_append_left, get_or_push, get_or-map, length-map, length_push}
+use Rattle.std.proofs.lemmas.List.{append-nil, get_or_append_left, get_or_push, get_or-map, length-map, length_push, take-take}
 use Rattle.std.proofs.lemmas.List.Sorted.{IsPermutation-cons, IsPermutation-map, IsPermutation-pop_more, IsPermutation-refl, IsPermutation-sym, IsPermutation-trans, length_permutation}
 use Rattle.sqlite.specs.declared.types.Value.{Value}
 use Rattle.sqlite.specs.declared.types.Value.TheVariants.{Null, Int, Real, Text, Blob}
@@ -20,7 +20,7 @@ use Rattle.sqlite_rules.proofs.ListLemmas.{has_filtered}
 use Rattle.sqlite_trees.specs.View.{is_int}
 use Rattle.sqlite_trees.proofs.ListLemmas.{IsPermutation-filter, filter-filter, filter_all}
 use Rattle.rd_tables.specs.Asked.{AreRising, IsListed, IsStart, asks_of, rising}
-use Rattle.rd_tables.specs.Walks.{ComesNext, IsWalked, is_after}
+use Rattle.rd_tables.specs.Walks.{AreNext, ComesNext, IsWalked, is_after}
 use Rattle.rd_tables.proofs.Listed.{to_permuted}
 use Rattle.rd_tables.proofs.Lists.{empty_by_length, filter_same, filter_true, map_map, permuted_images}
 
@@ -194,15 +194,28 @@ module _ (tree : ℕ) (shown : List Term) (table done : List Row) (place : Optio
     };
   }
 
--- ---- the next row, from an answer of two rows
+-- ---- the next rows, from the first of all that follow
 
-module _ (tree : ℕ) (tests shown : List Term) (params : Row) (place : Option ℤ) (same : (row : Row) → list_all (holds (params ∷ row ∷ [])) tests ≡ is_after place row) (table rows : List Row)
-    (starts : IsStart (asks_of tree tests (col 1 0 ∷ shown) ((col 1 0, rising) ∷ [])) 2 params table rows) where
+-- rows that rise still do without the first
+later_rising : (row : Row) (rows : List Row) → AreRising (row ∷ rows) → AreRising rows
+later_rising row rows rises = record {
+  numbers = λ k d low. rises.numbers (suc k) d (omega (arith, low));
+  rise = λ k low.
+      let shifted : suc k + 1 ≡ suc (k + 1) = omega arith in
+      let up = rises.rise (suc k) (omega (arith, low)) in
+      subst (λ n. int_lt (id_in (column (get_or rows k []) 0)) (id_in (column (get_or (row ∷ rows) n []) 0)) ≡ true) shifted up;
+}
+
+module _ (tree : ℕ) (tests shown : List Term) (params : Row) (place : Option ℤ) (same : (row : Row) → list_all (holds (params ∷ row ∷ [])) tests ≡ is_after place row) (most : ℕ) (table rows : List Row)
+    (starts : IsStart (asks_of tree tests (col 1 0 ∷ shown) ((col 1 0, rising) ∷ [])) (suc most) params table rows) where
   abbrev asked : Query
   asked = asks_of tree tests (col 1 0 ∷ shown) ((col 1 0, rising) ∷ [])
 
   abbrev tells : Row → Output
   tells row = output asked (params ∷ row ∷ [])
+
+  abbrev shown_of : Row → Row
+  shown_of row = (tells row).1
 
   abbrev left : List Row
   left = filter (is_after place) table
@@ -213,15 +226,15 @@ module _ (tree : ℕ) (tests shown : List Term) (params : Row) (place : Option �
   moved : IsPermutation (map tells left) starts.picks.ordered
   moved = subst (λ l. IsPermutation (map tells l) starts.picks.ordered) kept starts.picks.same
 
-  shown_first : rows ≡ take 2 (map (λ (o : Output). o.1) starts.picks.ordered)
-  shown_first = starts.first ∙ ap (take 2) starts.picks.shown
+  shown_first : rows ≡ take (suc most) (map (λ (o : Output). o.1) starts.picks.ordered)
+  shown_first = starts.first ∙ ap (take (suc most)) starts.picks.shown
 
   pub none_next : rows ≡ [] → left ≡ []
   none_next none = go starts.picks.ordered moved shown_first
     where
-      go : (ordered : List Output) → IsPermutation (map tells left) ordered → rows ≡ take 2 (map (λ (o : Output). o.1) ordered) → left ≡ []
+      go : (ordered : List Output) → IsPermutation (map tells left) ordered → rows ≡ take (suc most) (map (λ (o : Output). o.1) ordered) → left ≡ []
       go [] h is = empty_by_length left (omega (arith, length_permutation (map tells left) [] h, length-map left tells))
-      go (o ∷ ordered) h is = absurd (let wrong : [] ≡ take 2 (map (λ (p : Output). p.1) (o ∷ ordered)) = sym none ∙ is in cc)
+      go (o ∷ ordered) h is = absurd (let wrong : [] ≡ o.1 ∷ take most (map (λ (p : Output). p.1) ordered) = sym none ∙ is in cc)
 
   later_sorted : (row : Row) (others : List Row) → IsSorted (output_cmp asked) (map tells (row ∷ others)) → IsSorted (output_cmp asked) (map tells others)
   later_sorted row others sorted k d low high =
@@ -237,33 +250,33 @@ module _ (tree : ℕ) (tests shown : List Term) (params : Row) (place : Option �
       let late : is_lt (value_cmp (rowid other) (rowid row)) ≡ false = sym (ap is_lt (then-Equal (value_cmp (rowid other) (rowid row)))) ∙ sorted 0 (tells row) (omega arith) within in
       (up, all_above n other others (not_below n (rowid row) (rowid other) up late) (later_sorted row (other ∷ others) sorted))
 
-  module _ (rises : AreRising rows) where
-    -- the rows after the first
-    above_first : (row : Row) (others : List Row) → rows ≡ take 2 (map (λ (o : Output). o.1) (map tells (row ∷ others))) → IsSorted (output_cmp asked) (map tells (row ∷ others)) → is_int (rowid row) ≡ true
-        → AllByRecursion (λ other. is_after (Some (id_in (rowid row))) other ≡ true) others
-    above_first row [] is sorted number = tt
-    above_first row (other ∷ others) is sorted number =
-        let two : rows ≡ (tells row).1 ∷ (tells other).1 ∷ [] = is in
-        let both = subst AreRising two rises in
-        all_above (id_in (rowid row)) other others (lt_above (rowid other) (id_in (rowid row)) (both.numbers 1 [] (omega arith)) (both.rise 0 (omega arith))) (later_sorted row (other ∷ others) sorted)
+  -- the rows after the first, of which one more is shown
+  above_first : (n : ℕ) (row : Row) (others : List Row) → AreRising (take (suc (suc n)) (map shown_of (row ∷ others))) → IsSorted (output_cmp asked) (map tells (row ∷ others)) → is_int (rowid row) ≡ true
+      → AllByRecursion (λ other. is_after (Some (id_in (rowid row))) other ≡ true) others
+  above_first n row [] rises sorted number = tt
+  above_first n row (other ∷ others) rises sorted number =
+      all_above (id_in (rowid row)) other others (lt_above (rowid other) (id_in (rowid row)) (rises.numbers 1 [] (omega arith)) (rises.rise 0 (omega arith))) (later_sorted row (other ∷ others) sorted)
 
-    pub one_next : (first : Row) (more : List Row) → rows ≡ first ∷ more → (row : Row) × ComesNext table place row × (first ≡ (tells row).1)
-    one_next first more are =
-        let found = permuted_images tells left starts.picks.ordered moved in
-        go found.0 found.1 (shown_first ∙ ap (λ l. take 2 (map (λ (o : Output). o.1) l)) found.2) (subst (IsSorted (output_cmp asked)) found.2 starts.picks.sorted)
-      where
-        go : (others : List Row) → IsPermutation left others → rows ≡ take 2 (map (λ (o : Output). o.1) (map tells others)) → IsSorted (output_cmp asked) (map tells others) → (row : Row) × ComesNext table place row × (first ≡ (tells row).1)
-        go [] h is sorted = absurd (let wrong : first ∷ more ≡ [] = sym are ∙ is in cc)
-        go (row ∷ others) h is sorted =
-            let some : rows ≡ (tells row).1 ∷ take 1 (map (λ (o : Output). o.1) (map tells others)) = is in
-            let number : is_int (rowid row) ≡ true = (subst AreRising some rises).numbers 0 [] (omega arith) in
-            let n = id_in (rowid row) in
-            let stood = has_filtered (is_after place) table row (to_permuted (row ∷ others) left row (IsPermutation-sym _ _ h) (inl refl)) in
-            let above = above_first row others is sorted number in
-            let fewer : filter (is_after (Some n)) left ≡ filter (is_after (Some n)) table = filter-filter (is_after (Some n)) (is_after place) (λ other up. later_after place row other number stood.1 up) table in
-            let alone : filter (is_after (Some n)) (row ∷ others) ≡ others = ap (λ b. cond b (row ∷ filter (is_after (Some n)) others) (filter (is_after (Some n)) others)) (not_above (rowid row) number) ∙ filter_all (is_after (Some n)) others above in
-            let rest : IsPermutation (filter (is_after (Some n)) table) others = subst (IsPermutation (filter (is_after (Some n)) table)) alone (subst (λ l. IsPermutation l (filter (is_after (Some n)) (row ∷ others))) fewer (IsPermutation-filter (is_after (Some n)) left (row ∷ others) h)) in (
-              row,
-              record { number = number; above = stood.1; rest = IsPermutation-trans left (row ∷ others) _ h (IsPermutation-cons row others _ (IsPermutation-sym _ _ rest)) },
-              ap (λ (l : List Row). get_or l 0 []) (sym are ∙ is),
-            )
+  -- of rows that rise each but the last shows that the one before it is alone
+  one_by_one : (n : ℕ) (at : Option ℤ) (others : List Row) → IsPermutation (filter (is_after at) table) others → IsSorted (output_cmp asked) (map tells others) → AreRising (take (suc n) (map shown_of others))
+      → AreNext shown_of table at (take n (map shown_of others))
+  one_by_one zero at others h sorted rises = tt
+  one_by_one (suc n) at [] h sorted rises = tt
+  one_by_one (suc n) at (row ∷ others) h sorted rises =
+      let here = filter (is_after at) table in
+      let number : is_int (rowid row) ≡ true = rises.numbers 0 [] (omega arith) in
+      let id = id_in (rowid row) in
+      let stood = has_filtered (is_after at) table row (to_permuted (row ∷ others) here row (IsPermutation-sym _ _ h) (inl refl)) in
+      let above = above_first n row others rises sorted number in
+      let fewer : filter (is_after (Some id)) here ≡ filter (is_after (Some id)) table = filter-filter (is_after (Some id)) (is_after at) (λ other up. later_after at row other number stood.1 up) table in
+      let alone : filter (is_after (Some id)) (row ∷ others) ≡ others = ap (λ b. cond b (row ∷ filter (is_after (Some id)) others) (filter (is_after (Some id)) others)) (not_above (rowid row) number) ∙ filter_all (is_after (Some id)) others above in
+      let rest : IsPermutation (filter (is_after (Some id)) table) others = subst (IsPermutation (filter (is_after (Some id)) table)) alone (subst (λ l. IsPermutation l (filter (is_after (Some id)) (row ∷ others))) fewer (IsPermutation-filter (is_after (Some id)) here (row ∷ others) h)) in
+      let next : ComesNext table at row = record { number = number; above = stood.1; rest = IsPermutation-trans here (row ∷ others) _ h (IsPermutation-cons row others _ (IsPermutation-sym _ _ rest)) } in
+      (row, next, refl, one_by_one n (Some id) others rest (later_sorted row others sorted) (later_rising (shown_of row) (take (suc n) (map shown_of others)) rises))
+
+  pub each_next : AreRising rows → AreNext shown_of table place (take most rows)
+  each_next rises =
+      let found = permuted_images tells left starts.picks.ordered moved in
+      let shows : rows ≡ take (suc most) (map shown_of found.0) = shown_first ∙ ap (λ l. take (suc most) (map (λ (o : Output). o.1) l)) found.2 ∙ ap (take (suc most)) (map_map (λ (o : Output). o.1) tells found.0) in
+      let first : take most rows ≡ take most (map shown_of found.0) = ap (take most) shows ∙ take-take most (suc most) (map shown_of found.0) (omega arith) in
+      subst (AreNext shown_of table place) (sym first) (one_by_one most place found.0 found.1 (subst (IsSorted (output_cmp asked)) found.2 starts.picks.sorted) (subst AreRising shows rises))

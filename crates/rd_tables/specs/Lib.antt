@@ -1,6 +1,8 @@
+-- ---- what a reader of a public clause believes
 pub mod Sheets
+pub mod Schemas
+-- ---- inside: what only private functions and proofs cite
 pub mod Asked
 pub mod Walks
-pub mod Schemas
 pub mod Statements
 pub mod Queries

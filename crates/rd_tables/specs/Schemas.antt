@@ -22,6 +22,7 @@ use Rattle.sqlite_value.specs.declared.keys.Order.{Order}
 
 -- ---- parts of a declaration
 
+-- a column of a STRICT table: its name, its type, and whether it is NOT NULL
 abbrev pub column_of : List ℕ → Kind → Bool → Column
 column_of name kind not_null = record { name = name; kind = kind; is_strict = true; not_null = not_null; default = Null; collation = Binary }
 
@@ -29,6 +30,7 @@ column_of name kind not_null = record { name = name; kind = kind; is_strict = tr
 abbrev pub between : ℕ → ℕ → ℕ → Term
 between place low high = op2 And (op2 (Compare Ge Binary) (col 1 place) (lit (Int (pos low)))) (op2 (Compare Le Binary) (col 1 place) (lit (Int (pos high))))
 
+-- a table, by the parts of its declaration
 abbrev pub table_of : List ℕ → ℕ → List Column → Option ℕ → List ℕ → List (List ℕ) → List Order → List Term → List Reference → Table
 table_of name tree columns rowid primary uniques orders checks references = record {
   name = name;
@@ -59,10 +61,12 @@ index_of name tree table key = record { name = name; tree = tree; table = table;
 
 -- ---- the tables
 
+-- the desk's own table: the version, in the one row with the id 1
 abbrev pub desk_table : ℕ → Table
 desk_table tree = numbered (codes "desk") tree (column_of (codes "id") Integer false ∷ column_of (codes "version") Integer true ∷ [])
     (op2 (Compare Eq Binary) (col 1 0) (lit (Int (pos 1))) ∷ []) []
 
+-- deeds by number
 abbrev pub deed_table : ℕ → Table
 deed_table tree = numbered (codes "deed") tree (column_of (codes "num") Integer false ∷ column_of (codes "donor") Text true ∷ column_of (codes "signed") Integer true ∷ []) [] []
 
@@ -70,15 +74,18 @@ deed_table tree = numbered (codes "deed") tree (column_of (codes "num") Integer 
 abbrev pub to_deed : Reference
 to_deed = record { columns = 3 ∷ []; parent = codes "deed"; parent_columns = codes "num" ∷ []; on_delete = NoAction; on_update = NoAction; is_deferred = false }
 
+-- images by accession
 abbrev pub image_table : ℕ → Table
 image_table tree = numbered (codes "image") tree
     (column_of (codes "acc") Integer false ∷ column_of (codes "kind") Integer true ∷ column_of (codes "deed") Integer true ∷ column_of (codes "digest") Blob true
     ∷ column_of (codes "bytes") Blob true ∷ [])
     (between 2 0 1 ∷ []) (to_deed ∷ [])
 
+-- the PRIMARY KEY of the rules: the band, the scope and the rank
 abbrev pub rule_key : List ℕ
 rule_key = 1 ∷ 2 ∷ 3 ∷ []
 
+-- rules by place
 abbrev pub rule_table : ℕ → Table
 rule_table tree = keyed (codes "rule") tree
     (column_of (codes "band") Integer true ∷ column_of (codes "scope") Integer true ∷ column_of (codes "rank") Integer true ∷ column_of (codes "audiences") Integer true
@@ -86,19 +93,24 @@ rule_table tree = keyed (codes "rule") tree
     ∷ column_of (codes "number") Integer true ∷ column_of (codes "word") Text true ∷ column_of (codes "effect") Integer true ∷ [])
     rule_key (between 1 0 1 ∷ between 4 1 7 ∷ between 7 0 4 ∷ between 10 0 2 ∷ [])
 
+-- the PRIMARY KEY of the desk keys: the digest
 abbrev pub badge_key : List ℕ
 badge_key = 1 ∷ []
 
+-- desk keys by digest, for the room or the staff
 abbrev pub badge_table : ℕ → Table
 badge_table tree = keyed (codes "badge") tree (column_of (codes "digest") Blob true ∷ column_of (codes "audience") Integer true ∷ []) badge_key (between 2 1 2 ∷ [])
 
+-- the PRIMARY KEY of the checks: the accession and the day
 abbrev pub checked_key : List ℕ
 checked_key = 1 ∷ 2 ∷ []
 
+-- the outcomes of checks
 abbrev pub checked_table : ℕ → Table
 checked_table tree = keyed (codes "checked") tree (column_of (codes "acc") Integer true ∷ column_of (codes "day") Integer true ∷ column_of (codes "outcome") Integer true ∷ [])
     checked_key (between 3 0 1 ∷ [])
 
+-- the PRIMARY KEY of the files: the accession and the slot
 abbrev pub found_key : List ℕ
 found_key = 1 ∷ 2 ∷ []
 
@@ -114,15 +126,19 @@ found_table tree = keyed (codes "found") tree
 abbrev pub marks_table : ℕ → Table
 marks_table tree = numbered (codes "marks") tree (column_of (codes "acc") Integer false ∷ column_of (codes "bytes") Blob true ∷ []) [] []
 
+-- the index of the rules, under the name that SQLite gives it
 abbrev pub rule_index : Index
 rule_index = index_of (codes "sqlite_autoindex_rule_1") 4 3 rule_key
 
+-- the index of the desk keys
 abbrev pub badge_index : Index
 badge_index = index_of (codes "sqlite_autoindex_badge_1") 6 5 badge_key
 
+-- the index of the checks
 abbrev pub checked_index : Index
 checked_index = index_of (codes "sqlite_autoindex_checked_1") 8 7 checked_key
 
+-- the index of the files
 abbrev pub found_index : Index
 found_index = index_of (codes "sqlite_autoindex_found_1") 10 9 found_key
 

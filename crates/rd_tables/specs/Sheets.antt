@@ -34,6 +34,7 @@ entry_of sheet row = sheet.entry (seen sheet.places row)
 abbrev pub IsSpelled : {K X : Type 0} → Sheet K X → Row → Type 0
 IsSpelled sheet row = seen sheet.places row ≡ sheet.columns (entry_of sheet row)
 
+-- The rows spell a map: each has the columns of its entry, and no two have the same key.
 pub record Spells {K X : Type 0} (sheet : Sheet K X) (rows : List Row) : Type 0 where
   pub spelled : AllByRecursion (IsSpelled sheet) rows
   pub apart : IsDistinct (eq_by_cmp sheet.cmp) (map (λ row. (entry_of sheet row).0) rows)
@@ -47,13 +48,14 @@ pub record SpellLawful {K X : Type 0} (sheet : Sheet K X) (P : K × X → Type 0
   pub spells : Spells sheet rows
   pub lawful : (key : K) (value : X) → get (map_of sheet rows) key ≡ Some value → P (key, value)
 
--- The rowids are numbers, and no two rows have one. A DELETE goes by the rowid.
+-- The rowids are numbers, and no two rows have the same one. A DELETE goes by the rowid.
 pub record HaveRowids (rows : List Row) : Type 0 where
   pub keyed : (row : Row) → Has rows row → IsTrue (is_int (rowid row))
   pub apart : (row other : Row) → Has rows row → Has rows other → value_cmp (rowid row) (rowid other) ≡ Equal → row ≡ other
 
 -- ---- values
 
+-- a whole number, and 0 where it is negative
 abbrev pub natural_of : ℤ → ℕ
 natural_of (pos n) = n
 natural_of (negsuc n) = 0

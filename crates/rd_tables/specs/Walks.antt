@@ -1,5 +1,5 @@
 -- Walking the rows of a table in the order of their rowids.
-use Rattle.std.specs.Prelude.{◌≡◌, ℕ, ℤ, ◌+◌, Bool, true, List, [], ◌∷◌, ◌++◌, filter, length, get_or, Option, Some, None, IsPermutation}
+use Rattle.std.specs.Prelude.{◌≡◌, ℕ, ℤ, ◌+◌, Bool, true, List, [], ◌∷◌, ◌++◌, filter, length, get_or, Option, Some, None, IsPermutation, ⊤}
 use Rattle.std.specs.Ordering.{is_gt}
 use Rattle.sqlite.specs.declared.types.Value.TheVariants.{Int}
 use Rattle.sqlite.specs.Order.{Row, value_cmp}
@@ -18,6 +18,11 @@ pub record ComesNext (table : List Row) (place : Option ℤ) (row : Row) : Type 
   pub number : is_int (rowid row) ≡ true
   pub above : is_after place row ≡ true
   pub rest : IsPermutation (filter (is_after place) table) (row ∷ filter (is_after (Some (id_in (rowid row)))) table)
+
+-- What is shown is of the rows that come next after a place, one after the other.
+abbrev pub AreNext : (Row → Row) → List Row → Option ℤ → List Row → Type 0
+AreNext shows table place [] = ⊤
+AreNext shows table place (shown ∷ more) = (row : Row) × ComesNext table place row × (shown ≡ shows row) × AreNext shows table (Some (id_in (rowid row))) more
 
 -- These rows were walked, as far as this place: their rowids are numbers that rise, and all others come after it.
 pub record IsWalked (table done : List Row) (place : Option ℤ) : Type 0 where

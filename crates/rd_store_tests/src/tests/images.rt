@@ -5,7 +5,7 @@ use super::steps::{
     WITH_MARKS, assert_cases,
 };
 use super::told::{HELLO, HELLO_UNREAD};
-use super::{MARKED, PROGRAM};
+use super::{CPM, LOOPED, MARKED, PROGRAM};
 use rd_geometry::Kind;
 use rd_store::Accession;
 use std::test::Fail;
@@ -241,6 +241,45 @@ const IMAGES: &[Case] = &[
     },
 ];
 
+/// The image with one program and error bytes, under deed 7, with the digest of the one without.
+const SAME_DIGEST: Given = (Picture::Marked, 7, Digest::Program);
+
+const AGAIN: &[Case] = &[
+    Case {
+        label: "one image again and again, and then others",
+        start: Start::Shelved,
+        steps: &[
+            Step::Tells(Question::ImageAgain(12, Some(PROGRAM))),
+            Step::Tells(Question::ImageAgain(12, Some(PROGRAM))),
+            Step::Tells(Question::ImageAgain(12, Some(PROGRAM))),
+            Step::Tells(Question::ImageAgain(14, Some(LOOPED))),
+            Step::Tells(Question::ImageAgain(12, Some(PROGRAM))),
+            Step::Tells(Question::ImageAgain(15, Some(CPM))),
+            Step::Tells(Question::ImageAgain(15, Some(CPM))),
+            Step::Tells(Question::ImageAgain(15, Some(CPM))),
+            Step::Tells(Question::Image(12, Some(PROGRAM))),
+            Step::Tells(Question::ImageAgain(15, Some(CPM))),
+        ],
+    },
+    Case {
+        label: "one image again and again, while others are put",
+        start: Start::Shelved,
+        steps: &[
+            Step::Tells(Question::ImageAgain(13, None)),
+            Step::Tells(Question::ImageAgain(13, None)),
+            Step::Tells(Question::ImageAgain(12, Some(PROGRAM))),
+            Step::Tells(Question::ImageAgain(12, Some(PROGRAM))),
+            Step::Does(Call::PutImage(13, SAME_DIGEST), DONE),
+            Step::Tells(Question::ImageAgain(12, Some(PROGRAM))),
+            Step::Does(Call::PutImage(12, LOOPED), CONFLICT),
+            Step::Tells(Question::ImageAgain(12, Some(PROGRAM))),
+            Step::Tells(Question::ImageAgain(13, Some(SAME_DIGEST))),
+            Step::Tells(Question::ImageAgain(13, Some(SAME_DIGEST))),
+            Step::Tells(Question::ImageAgain(13, Some(SAME_DIGEST))),
+        ],
+    },
+];
+
 #[test]
 fn deeds_are_kept(rt: HostRuntime) -> Result<(), Fail> {
     assert_cases(&rt, rt.alloc(), DEEDS)
@@ -251,4 +290,9 @@ fn images_are_kept(rt: HostRuntime) -> Result<(), Fail> {
     assert_cases(&rt, rt.alloc(), IMAGES)?;
     assert_cases(&rt, rt.alloc(), MARKS)?;
     assert_cases(&rt, rt.alloc(), ACCESSIONS)
+}
+
+#[test]
+fn images_are_asked_for_again(rt: HostRuntime) -> Result<(), Fail> {
+    assert_cases(&rt, rt.alloc(), AGAIN)
 }

@@ -287,7 +287,7 @@ fn an_image_with_error_bytes_when_memory_is_refused(rt: HostRuntime) -> Result<(
     Ok(())
 }
 
-/// Puts an image, the same again, and images that are not taken in.
+/// Puts an image, the same again, and images that are not taken in; asks for the image, and for the one in memory.
 const IMAGES: &[Step<'static>] = &[
     PUT_DEED,
     PUT_IMAGE,
@@ -298,6 +298,9 @@ const IMAGES: &[Step<'static>] = &[
         MISSING,
     ),
     Step::Tells(Question::Image(12, Some(PROGRAM))),
+    Step::Tells(Question::ImageAgain(12, Some(PROGRAM))),
+    Step::Tells(Question::ImageAgain(12, Some(PROGRAM))),
+    Step::Tells(Question::ImageAgain(12, Some(PROGRAM))),
 ];
 
 #[test]

@@ -118,6 +118,8 @@ pub(super) enum Call<'a> {
 pub(super) enum Question<'a> {
     Deed(u32, Option<(&'a str, i32)>),
     Image(u32, Option<Given>),
+    /// The same, and the store may have the image in memory.
+    ImageAgain(u32, Option<Given>),
     /// Of an accession: the kind and the deed.
     Accession(u32, Option<Accession>),
     Accessions(&'a [u32]),
@@ -380,6 +382,14 @@ pub(super) fn image<S: Alter>(
     desk.image(alloc, acc)
 }
 
+fn image_again<S: Alter>(
+    alloc: Global,
+    desk: &mut Store<S>,
+    acc: u32,
+) -> Result<Option<ImageRow>, StoreFault> {
+    desk.image_again(alloc, acc)
+}
+
 pub(super) fn is_given(row: &ImageRow, (picture, deed, digest): Given, bytes: &[u8]) -> bool {
     row.kind == kind_of(picture)
         && row.deed == deed
@@ -387,13 +397,12 @@ pub(super) fn is_given(row: &ImageRow, (picture, deed, digest): Given, bytes: &[
         && row.bytes.as_slice() == bytes
 }
 
-fn has_image<S: Alter>(
+fn has_image(
     alloc: Global,
-    desk: &mut Store<S>,
-    acc: u32,
+    found: Result<Option<ImageRow>, StoreFault>,
     wanted: Option<Given>,
 ) -> Result<Result<bool, StoreFault>, NoMemory> {
-    let found = match image(alloc, desk, acc) {
+    let found = match found {
         Ok(found) => found,
         Err(fault) => return Ok(Err(fault)),
     };
@@ -589,7 +598,10 @@ pub(super) fn tells_so<S: Alter>(
 ) -> Result<Result<bool, StoreFault>, NoMemory> {
     Ok(match question {
         Question::Deed(num, wanted) => has_deed(desk, num, wanted),
-        Question::Image(acc, wanted) => has_image(alloc, desk, acc, wanted)?,
+        Question::Image(acc, wanted) => has_image(alloc, image(alloc, desk, acc), wanted)?,
+        Question::ImageAgain(acc, wanted) => {
+            has_image(alloc, image_again(alloc, desk, acc), wanted)?
+        }
         Question::Accession(acc, wanted) => has_accession(desk, acc, wanted),
         Question::Accessions(wanted) => has_accessions(alloc, desk, wanted),
         Question::Register(wanted) => has_register(alloc, desk, wanted),

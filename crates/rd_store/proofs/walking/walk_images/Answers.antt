@@ -1,13 +1,13 @@
-use Rattle.std.proofs.Common.{◌≡◌, List, Option, Some, None, ℕ, filter, option_map, pos, subst, sym, []}
+use Rattle.std.proofs.Common.{◌≡◌, ◌∙◌, List, Option, ℕ, ap, eqb-true, length, rules, subst, sym, vec_len}
 use Rattle.std.specs.Prelude.{⊤}
 use Rattle.sqlite.specs.Effect.{Database}
 use Rattle.sqlite.specs.Held.{state}
-use Rattle.rd_tables.specs.Walks.{is_after}
+use Rattle.rd_tables.proofs.Lists.{empty_by_length}
 use Rattle.rd_store.specs.declared.images.Heading.{Heading}
 use Rattle.rd_store.specs.Opened.{LawfulImages}
-use Rattle.rd_store.specs.Walked.{IsNextEntry, IsWalkTo, LawfulWalk}
+use Rattle.rd_store.specs.Walked.{AreBatchOf, AreReadNext, IsWalkTo, LawfulWalk, last_number}
 use Rattle.rd_store.proofs.Laws.{stays_common, stays_here, stays_marks, stays_then}
-use Rattle.rd_store.proofs.Walked.{goes_on, part_refused, sql_part, starts_to, then_part, walked_all, walked_lawful}
+use Rattle.rd_store.proofs.Walked.{part_refused, sql_part, starts_to, then_part, walked_all, walked_lawful}
 use Rattle.rd_store.proofs.walking.walk_images.Goals as goal
 
 pub loop-init : goal.loop-init
@@ -16,63 +16,85 @@ loop-init g c = (
   c.requires.awake,
   λ is_open.
       let trees = (state g.S.Store c.args.conn.now).now.trees in
-      subst (λ (l : List (ℕ × Heading)). IsWalkTo c.args.deeds.now c.args.marked.now trees None l) (sym c.new-entries.ensures.items) (starts_to c.args.deeds.now c.args.marked.now trees),
+      subst (λ (l : List (ℕ × Heading)). IsWalkTo c.args.deeds.now c.args.marked.now trees l) (sym c.new-entries.ensures.items) (starts_to c.args.deeds.now c.args.marked.now trees),
 )
 
-pub check_next-requires-clause-tables : goal.check_next-requires-clause-tables
-check_next-requires-clause-tables g c = stays_common g.S.Store c.args.conn.now c.loop.conn c.loop.invariant.0 c.requires.tables
+pub next_images-requires : goal.next_images-requires
+next_images-requires g c = record { tables = stays_common g.S.Store c.args.conn.now c.loop.conn c.loop.invariant.0 c.requires.tables }
 
-pub check_next-requires-clause-marks : goal.check_next-requires-clause-marks
-check_next-requires-clause-marks g c acc = stays_marks g.S.Store c.args.conn.now c.loop.conn c.loop.invariant.0 _ (c.requires.marks acc)
+pub returns-in_err-rows-clause-tests : goal.returns-in_err-rows-clause-tests
+returns-in_err-rows-clause-tests g c =
+    sql_part g.S.Store c.args.conn.now c.next_images.new.conn (stays_then g.S.Store c.args.conn.now c.loop.conn c.next_images.new.conn c.loop.invariant.0 c.loop.invariant.1 c.next_images.ensures.asks.stays)
+    (LawfulImages c.args.deeds.now) (LawfulWalk c.args.deeds.now c.args.marked.now) c.in_err-rows.field-0.0 c.from_residual.result c.from_residual.ensures.1 c.in_err-rows.ensures.asks.fault
 
-pub returns-in_err-found-clause-tests : goal.returns-in_err-found-clause-tests
-returns-in_err-found-clause-tests g c =
-    let lawful = LawfulWalk c.args.deeds.now c.args.marked.now in
-    let q = c.from_residual.result in
-    then_part g.S.Store c.args.conn.now c.loop.conn c.check_next.new.conn c.loop.invariant.0 c.loop.invariant.1 q (LawfulImages c.args.deeds.now) lawful
-    (part_refused g.S.Store c.loop.conn c.check_next.new.conn (λ trees. ⊤) lawful (LawfulImages c.args.deeds.now) lawful c.in_err-found.field-0.0 q c.from_residual.ensures.1 (λ is_open all. all) c.in_err-found.ensures.tests)
-
-pub returns-in_default-clause-tests : goal.returns-in_default-clause-tests
-returns-in_default-clause-tests g c = record {
-  stays = stays_then g.S.Store c.args.conn.now c.loop.conn c.check_next.new.conn c.loop.invariant.0 c.loop.invariant.1 c.check_next.ensures.tests.stays;
-  ends_open = λ clean. c.in_ok-found.ensures.tests.ends_open clean;
+pub returns-then-is_empty-clause-tests : goal.returns-then-is_empty-clause-tests
+returns-then-is_empty-clause-tests g c = record {
+  stays = stays_then g.S.Store c.args.conn.now c.loop.conn c.next_images.new.conn c.loop.invariant.0 c.loop.invariant.1 c.next_images.ensures.asks.stays;
+  ends_open = λ clean. c.in_ok-rows.ensures.asks.ends_open clean;
   refuses = tt;
   named = tt;
   judges = λ is_open.
       let deeds = c.args.deeds.now in
       let marked = c.args.marked.now in
       let trees = (state g.S.Store c.args.conn.now).now.trees in
-      let was = c.check_next.ensures.tests.stays.lasts.was_open is_open in
-      let none : filter (is_after (option_map pos c.loop.after)) (trees 2) ≡ [] =
-      subst (λ (db : Database). IsNextEntry deeds marked c.loop.after db.trees None) (c.loop.invariant.0.now was) (subst (λ (f : Option (ℕ × Heading)). IsNextEntry deeds marked c.loop.after (state g.S.Store c.loop.conn).now.trees f) c.in_default.is (c.in_ok-found.ensures.next is_open)) in
-      walked_lawful deeds marked trees c.loop.after c.loop.entries.items (c.loop.invariant.2 was) none;
+      let listed = c.loop.entries.items in
+      let was = c.next_images.ensures.asks.stays.lasts.was_open is_open in
+      let after : c.last_accession.result ≡ last_number listed = c.last_accession.ensures ∙ ap last_number c.deref.ensures.value in
+      let batch : AreBatchOf (last_number listed) trees c.in_ok-rows.rows.items =
+      subst (λ (db : Database). AreBatchOf (last_number listed) db.trees c.in_ok-rows.rows.items) (c.loop.invariant.0.now was)
+      (subst (λ (a : Option ℕ). AreBatchOf a (state g.S.Store c.loop.conn).now.trees c.in_ok-rows.rows.items) after (c.in_ok-rows.ensures.asks.answer is_open)) in
+      let len : vec_len c.in_ok-rows.rows ≡ length c.in_ok-rows.rows.items = search rules in
+      walked_lawful deeds marked trees listed (c.loop.invariant.2 was) (batch.1 (empty_by_length _ (sym len ∙ eqb-true (vec_len c.in_ok-rows.rows) 0 (sym c.is_empty.ensures ∙ c.if-is_empty.true))));
 }
 
-pub returns-in_default-clause-walked : goal.returns-in_default-clause-walked
-returns-in_default-clause-walked g c is_open =
+pub returns-then-is_empty-clause-walked : goal.returns-then-is_empty-clause-walked
+returns-then-is_empty-clause-walked g c is_open =
     let deeds = c.args.deeds.now in
     let marked = c.args.marked.now in
     let trees = (state g.S.Store c.args.conn.now).now.trees in
-    let was = c.check_next.ensures.tests.stays.lasts.was_open is_open in
-    let none : filter (is_after (option_map pos c.loop.after)) (trees 2) ≡ [] =
-    subst (λ (db : Database). IsNextEntry deeds marked c.loop.after db.trees None) (c.loop.invariant.0.now was) (subst (λ (f : Option (ℕ × Heading)). IsNextEntry deeds marked c.loop.after (state g.S.Store c.loop.conn).now.trees f) c.in_default.is (c.in_ok-found.ensures.next is_open)) in
-    walked_all deeds marked trees c.loop.after c.loop.entries.items (c.loop.invariant.2 was) none
+    let listed = c.loop.entries.items in
+    let was = c.next_images.ensures.asks.stays.lasts.was_open is_open in
+    let after : c.last_accession.result ≡ last_number listed = c.last_accession.ensures ∙ ap last_number c.deref.ensures.value in
+    let batch : AreBatchOf (last_number listed) trees c.in_ok-rows.rows.items =
+    subst (λ (db : Database). AreBatchOf (last_number listed) db.trees c.in_ok-rows.rows.items) (c.loop.invariant.0.now was)
+    (subst (λ (a : Option ℕ). AreBatchOf a (state g.S.Store c.loop.conn).now.trees c.in_ok-rows.rows.items) after (c.in_ok-rows.ensures.asks.answer is_open)) in
+    let len : vec_len c.in_ok-rows.rows ≡ length c.in_ok-rows.rows.items = search rules in
+    walked_all deeds marked trees listed (c.loop.invariant.2 was) (batch.1 (empty_by_length _ (sym len ∙ eqb-true (vec_len c.in_ok-rows.rows) 0 (sym c.is_empty.ensures ∙ c.if-is_empty.true))))
 
-pub returns-in_err-add_entry-clause-tests : goal.returns-in_err-add_entry-clause-tests
-returns-in_err-add_entry-clause-tests g c =
-    sql_part g.S.Store c.args.conn.now c.check_next.new.conn (stays_then g.S.Store c.args.conn.now c.loop.conn c.check_next.new.conn c.loop.invariant.0 c.loop.invariant.1 c.check_next.ensures.tests.stays)
-    (LawfulImages c.args.deeds.now) (LawfulWalk c.args.deeds.now c.args.marked.now) c.in_err-add_entry.field-0.0 c.from_residual-in_err-add_entry.result c.from_residual-in_err-add_entry.ensures.1 c.in_err-add_entry.ensures.fault
+pub walk_rows-requires-clause-tables : goal.walk_rows-requires-clause-tables
+walk_rows-requires-clause-tables g c =
+    stays_common g.S.Store c.args.conn.now c.next_images.new.conn (stays_then g.S.Store c.args.conn.now c.loop.conn c.next_images.new.conn c.loop.invariant.0 c.loop.invariant.1 c.next_images.ensures.asks.stays) c.requires.tables
+
+pub walk_rows-requires-clause-marks : goal.walk_rows-requires-clause-marks
+walk_rows-requires-clause-marks g c acc =
+    stays_marks g.S.Store c.args.conn.now c.next_images.new.conn (stays_then g.S.Store c.args.conn.now c.loop.conn c.next_images.new.conn c.loop.invariant.0 c.loop.invariant.1 c.next_images.ensures.asks.stays) _ (c.requires.marks acc)
+
+pub walk_rows-requires-clause-rows : goal.walk_rows-requires-clause-rows
+walk_rows-requires-clause-rows g c is_open =
+    let listed = c.loop.entries.items in
+    let after : c.last_accession.result ≡ last_number listed = c.last_accession.ensures ∙ ap last_number c.deref.ensures.value in
+    let batch = subst (λ (a : Option ℕ). AreBatchOf a (state g.S.Store c.loop.conn).now.trees c.in_ok-rows.rows.items) after (c.in_ok-rows.ensures.asks.answer is_open) in
+    subst (AreReadNext (last_number listed) (state g.S.Store c.next_images.new.conn).now.trees) (sym c.deref-in-loop.ensures.value)
+    (subst (λ (db : Database). AreReadNext (last_number listed) db.trees c.in_ok-rows.rows.items) (sym (c.next_images.ensures.asks.stays.now is_open)) batch.0)
+
+pub returns-in_err-walk_rows-clause-tests : goal.returns-in_err-walk_rows-clause-tests
+returns-in_err-walk_rows-clause-tests g c =
+    let lawful = LawfulWalk c.args.deeds.now c.args.marked.now in
+    let q = c.from_residual-in_err-walk_rows.result in
+    let stays = stays_then g.S.Store c.args.conn.now c.loop.conn c.next_images.new.conn c.loop.invariant.0 c.loop.invariant.1 c.next_images.ensures.asks.stays in
+    then_part g.S.Store c.args.conn.now c.next_images.new.conn c.walk_rows.new.conn stays c.in_ok-rows.ensures.asks.ends_open q (LawfulImages c.args.deeds.now) lawful
+    (part_refused g.S.Store c.next_images.new.conn c.walk_rows.new.conn (λ trees. ⊤) lawful (LawfulImages c.args.deeds.now) lawful c.in_err-walk_rows.field-0.0 q c.from_residual-in_err-walk_rows.ensures.1 (λ is_open all. all) c.in_err-walk_rows.ensures.tests)
 
 pub loop-preserved : goal.loop-preserved
-loop-preserved g c = (
-  stays_then g.S.Store c.args.conn.now c.loop.conn c.check_next.new.conn c.loop.invariant.0 c.loop.invariant.1 c.check_next.ensures.tests.stays,
-  c.in_ok-found.ensures.tests.ends_open,
-  λ is_open.
-      let deeds = c.args.deeds.now in
-      let marked = c.args.marked.now in
-      let trees = (state g.S.Store c.args.conn.now).now.trees in
-      let was = c.check_next.ensures.tests.stays.lasts.was_open is_open in
-      let next : IsNextEntry deeds marked c.loop.after trees (Some c.in-Some.entry) =
-      subst (λ (db : Database). IsNextEntry deeds marked c.loop.after db.trees (Some c.in-Some.entry)) (c.loop.invariant.0.now was) (subst (λ (f : Option (ℕ × Heading)). IsNextEntry deeds marked c.loop.after (state g.S.Store c.loop.conn).now.trees f) c.in-Some.is (c.in_ok-found.ensures.next is_open)) in
-      subst (λ (l : List (ℕ × Heading)). IsWalkTo deeds marked trees (Some c.in-Some.entry.0) l) (sym c.in_ok-add_entry.ensures.items) (goes_on deeds marked trees c.loop.after c.loop.entries.items c.in-Some.entry (c.loop.invariant.2 was) next),
-)
+loop-preserved g c =
+    let stays = stays_then g.S.Store c.args.conn.now c.loop.conn c.next_images.new.conn c.loop.invariant.0 c.loop.invariant.1 c.next_images.ensures.asks.stays in (
+      stays_then g.S.Store c.args.conn.now c.next_images.new.conn c.walk_rows.new.conn stays c.in_ok-rows.ensures.asks.ends_open c.walk_rows.ensures.tests.stays,
+      c.in_ok-walk_rows.ensures.tests.ends_open,
+      λ is_open.
+          let deeds = c.args.deeds.now in
+          let marked = c.args.marked.now in
+          let trees = (state g.S.Store c.args.conn.now).now.trees in
+          let was = c.walk_rows.ensures.tests.stays.lasts.was_open is_open in
+          let earlier = c.next_images.ensures.asks.stays.lasts.was_open was in
+          subst (λ (db : Database). IsWalkTo deeds marked db.trees c.loop.entries.items → IsWalkTo deeds marked db.trees c.walk_rows.new.entries.items) (stays.now was) (c.in_ok-walk_rows.ensures.walked is_open) (c.loop.invariant.2 earlier),
+    )

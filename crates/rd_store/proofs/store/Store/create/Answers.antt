@@ -14,6 +14,7 @@ invariant_of-result g c =
     let long : length c.args.staff.now ≡ 32 = c.told-staff in (
       λ is_open. rests_new g.S.Store laws c.args.conn c.write_desk.new.conn c.args.staff.now long (c.in-Ok.ensures.turns.ok is_open),
       λ is_open. c.empty.ensures ∙ register_empty ∙ ap (λ (d : Desk). register_of d.images) (sym (c.in-Ok.ensures.turns.ok is_open).holds.is),
+      λ is_open. tt,
     )
 
 pub returns-in-Ok-clause-created : goal.returns-in-Ok-clause-created

@@ -1,5 +1,5 @@
-use Rattle.rd_store.proofs.Registers.{listed_stays}
+use Rattle.rd_store.proofs.Lasting.{memory_stays}
 use Rattle.rd_store.proofs.store.Store.found.Goals as goal
 
 pub invariant_of-self : goal.invariant_of-self
-invariant_of-self g c = (c.found.ensures.kept, listed_stays g.S.Store c.self.inside.conn c.found.new.conn c.self.inside.register c.found.ensures.asks.stays c.self.invariant.1)
+invariant_of-self g c = memory_stays g.S.Store c.self.inside.conn c.found.new.conn c.self.inside.last c.self.inside.register c.found.ensures.kept c.found.ensures.asks.stays c.self.invariant.1 c.self.invariant.2

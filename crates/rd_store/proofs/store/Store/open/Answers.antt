@@ -6,7 +6,7 @@ use Rattle.rd_store.proofs.Laws.{Laws, leaves_only}
 use Rattle.rd_store.proofs.store.Store.open.Goals as goal
 
 pub invariant_of-result : goal.invariant_of-result
-invariant_of-result g c = (c.in-Ok.ensures.kept, c.in-Ok.ensures.listed)
+invariant_of-result g c = (c.in-Ok.ensures.kept, c.in-Ok.ensures.listed, λ is_open. tt)
 
 pub returns-in-Ok-clause-opened : goal.returns-in-Ok-clause-opened
 returns-in-Ok-clause-opened g c =

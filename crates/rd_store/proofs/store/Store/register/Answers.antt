@@ -1,5 +1,5 @@
-use Rattle.rd_store.proofs.Registers.{listed_stays}
+use Rattle.rd_store.proofs.Lasting.{memory_stays}
 use Rattle.rd_store.proofs.store.Store.register.Goals as goal
 
 pub invariant_of-self : goal.invariant_of-self
-invariant_of-self g c = (c.givens.ensures.kept, listed_stays g.S.Store c.self.inside.conn c.givens.new.conn c.self.inside.register c.givens.ensures.asks.stays c.self.invariant.1)
+invariant_of-self g c = memory_stays g.S.Store c.self.inside.conn c.givens.new.conn c.self.inside.last c.self.inside.register c.givens.ensures.kept c.givens.ensures.asks.stays c.self.invariant.1 c.self.invariant.2

@@ -1,5 +1,5 @@
-use Rattle.rd_store.proofs.Registers.{listed_stays}
+use Rattle.rd_store.proofs.Lasting.{memory_stays}
 use Rattle.rd_store.proofs.store.Store.rulebook.Goals as goal
 
 pub invariant_of-self : goal.invariant_of-self
-invariant_of-self g c = (c.all_rules.ensures.kept, listed_stays g.S.Store c.self.inside.conn c.all_rules.new.conn c.self.inside.register c.all_rules.ensures.asks.stays c.self.invariant.1)
+invariant_of-self g c = memory_stays g.S.Store c.self.inside.conn c.all_rules.new.conn c.self.inside.last c.self.inside.register c.all_rules.ensures.kept c.all_rules.ensures.asks.stays c.self.invariant.1 c.self.invariant.2

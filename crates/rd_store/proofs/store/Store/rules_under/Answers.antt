@@ -3,11 +3,11 @@ use Rattle.std.proofs.lemmas.Result.{IfOk-weaker}
 use Rattle.rd_policy.specs.Verdicts.{AreInOrder}
 use Rattle.rd_store.specs.Held.{desk}
 use Rattle.rd_protocol.proofs.RulesFor.{both_in_order}
-use Rattle.rd_store.proofs.Registers.{listed_stays}
+use Rattle.rd_store.proofs.Lasting.{memory_stays}
 use Rattle.rd_store.proofs.store.Store.rules_under.Goals as goal
 
 pub invariant_of-self : goal.invariant_of-self
-invariant_of-self g c = (c.rules_of_both.ensures.kept, listed_stays g.S.Store c.self.inside.conn c.rules_of_both.new.conn c.self.inside.register c.rules_of_both.ensures.asks.stays c.self.invariant.1)
+invariant_of-self g c = memory_stays g.S.Store c.self.inside.conn c.rules_of_both.new.conn c.self.inside.last c.self.inside.register c.rules_of_both.ensures.kept c.rules_of_both.ensures.asks.stays c.self.invariant.1 c.self.invariant.2
 
 pub returns-clause-order : goal.returns-clause-order
 returns-clause-order g c is_open =

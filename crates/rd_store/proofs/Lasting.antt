@@ -1,0 +1,73 @@
+-- What becomes of the image that is kept in memory.
+use Rattle.std.proofs.Common.{◌≡◌, ℕ, Option, Some, None, Result, Ok, Err, OnOk, OnErr, refl, sym, ap, subst, ◌∙◌, nat_cmp}
+use Rattle.std.specs.FinMap.{FinMap, get, insert}
+use Rattle.sqlite.specs.Store.{Ghosts}
+use Rattle.sqlite.specs.Effect.{Database}
+use Rattle.sqlite.specs.Held.{Held, state}
+use Rattle.rd_store.specs.declared.last.Last.{Last}
+use Rattle.rd_store.specs.declared.last.Last.TheVariants.{Unasked, Once, Kept}
+use Rattle.rd_store.specs.declared.register.Register.{Register}
+use Rattle.rd_protocol.specs.declared.rows.ImageRow.{ImageRow}
+use Rattle.rd_protocol.specs.State.{Desk, put_or_kept, with_image}
+use Rattle.rd_store.specs.Held.{Changes, HoldsDesk, IsOpen, Stays, desk}
+use Rattle.rd_store.specs.Last.{IsAmong, IsKept, IsLastOf, image_in}
+use Rattle.rd_store.specs.Register.{IsRegisterOf}
+use Rattle.rd_store.specs.Spelled.{desk_of}
+use Rattle.rd_store.proofs.Maps.{others_stay}
+use Rattle.rd_store.proofs.Orders.{number_order}
+use Rattle.rd_store.proofs.Registers.{listed_changes, listed_stays}
+
+abbrev Images : Type 0
+Images = FinMap nat_cmp ImageRow
+
+-- the image that is kept for an accession is the one there
+pub kept_there : (last : Last) (acc : ℕ) (images : Images) → IsKept acc last → IsAmong last images → image_in last ≡ get images acc
+kept_there Unasked acc images key is = absurd key
+kept_there (Once at) acc images key is = absurd key
+kept_there (Kept at image) acc images key is = sym is ∙ ap (get images) key
+
+-- an image that is put where none stands leaves the others
+stands_still : (images : Images) (acc : ℕ) (image : ImageRow) (at : ℕ) (kept : ImageRow) → get images acc ≡ None → get images at ≡ Some kept → get (insert images acc image) at ≡ Some kept
+stands_still images acc image at kept free is =
+    others_stay nat_cmp number_order images acc image at (λ same. let wrong : None ≡ Some kept = sym free ∙ ap (get images) (sym same) ∙ is in cc) ∙ is
+
+among_put : (d : Desk) (acc : ℕ) (image : ImageRow) (found : Option ImageRow) → get d.images acc ≡ found → (last : Last) → IsAmong last d.images → IsAmong last (put_or_kept found acc image d).images
+among_put d acc image found there Unasked is = tt
+among_put d acc image found there (Once at) is = tt
+among_put d acc image None there (Kept at kept) is = stands_still d.images acc image at kept there is
+among_put d acc image (Some standing) there (Kept at kept) is = is
+
+module _ {S : Type 0} (g : Ghosts S) (old new : Held S) (last : Last) where
+  -- queries
+  pub among_stays : Stays g old new → IsOpen g new → IsAmong last (desk g old).images → IsAmong last (desk g new).images
+  among_stays stays o is = subst (λ (db : Database). IsAmong last (desk_of db.trees).images) (sym (stays.now o)) is
+
+  pub last_stays : Stays g old new → IsLastOf g old last → IsLastOf g new last
+  last_stays stays was o = among_stays stays o (was (stays.lasts.was_open o))
+
+  -- a change that leaves each image that stands
+  last_changes : {T X : Type 0} (after : Desk) (r : Result T X) → Changes g old new after r → (IsAmong last (desk g old).images → IsAmong last after.images) → IsLastOf g old last → IsLastOf g new last
+  last_changes {T} {X} after r changes leaves was o = both r (changes.ok o) (changes.err o)
+    where
+      both : (q : Result T X) → OnOk q (desk g new ≡ after) → OnErr q (desk g new ≡ desk g old) → IsAmong last (desk g new).images
+      both (Ok value) ok err = subst (λ (d : Desk). IsAmong last d.images) (sym ok) (leaves (was (changes.lasts.was_open o)))
+      both (Err fault) ok err = subst (λ (d : Desk). IsAmong last d.images) (sym err) (was (changes.lasts.was_open o))
+
+  -- a put
+  pub last_put : {T X : Type 0} (acc : ℕ) (image : ImageRow) (r : Result T X) → Changes g old new (with_image acc image (desk g old)) r → IsLastOf g old last → IsLastOf g new last
+  last_put acc image r changes was = last_changes (with_image acc image (desk g old)) r changes (among_put (desk g old) acc image (get (desk g old).images acc) refl last) was
+
+  -- ---- all that a store keeps true
+
+  -- queries
+  pub memory_stays : (register : Register) → HoldsDesk (state g new) → Stays g old new → IsRegisterOf g old register → IsLastOf g old last → HoldsDesk (state g new) × IsRegisterOf g new register × IsLastOf g new last
+  memory_stays register holds stays listed was = (holds, listed_stays g old new register stays listed, last_stays stays was)
+
+  -- a change that leaves the images as they were
+  pub memory_changes : {T X : Type 0} (register : Register) (after : Desk) (r : Result T X) → HoldsDesk (state g new) → Changes g old new after r → after.images ≡ (desk g old).images → IsRegisterOf g old register → IsLastOf g old last
+      → HoldsDesk (state g new) × IsRegisterOf g new register × IsLastOf g new last
+  memory_changes register after r holds changes same listed was = (
+    holds,
+    listed_changes g old new register after r changes same listed,
+    last_changes after r changes (λ is. subst (IsAmong last) (sym same) is) was,
+  )
