@@ -40,7 +40,7 @@ module _ {S : Type 0} (g : Ghosts S) (day : ℤ) (what : What) (Returned : Resul
   change_alone a b rests may change = change_last a a b (keeps_still g a rests) may change
 
   -- more calls that read, before all others
-  pub reads_first : (a b c : Held S) → Keeps g a b → (IsClean g b → IsOpen g b) → MakesOneChange g b c day what Returned → MakesOneChange g a c day what Returned
+  pub reads_first : (a b c : Held S) → Keeps g a b → (IsOpen g a → IsClean g b → IsOpen g b) → MakesOneChange g b c day what Returned → MakesOneChange g a c day what Returned
   reads_first a b c keeps opens makes = record { middle = makes.middle; reads = keeps_then g a b makes.middle keeps opens makes.reads; last = makes.last }
 
 -- a call that makes a desk of the old one makes each that is the same where the connection is open

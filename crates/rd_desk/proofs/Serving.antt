@@ -1,5 +1,5 @@
 -- A request and its reply, from what is said.
-use Rattle.std.proofs.Common.{◌≡◌, ◌≢◌, ◌⊎◌, inl, inr, ◌∙◌, ℤ, Option, None, Result, Ok, Err, OnOk, refl, subst}
+use Rattle.std.proofs.Common.{◌≡◌, ◌≢◌, ◌⊎◌, inl, inr, ◌∙◌, ℕ, ℤ, List, Option, Some, None, Result, Ok, Err, OnOk, refl, subst}
 use Rattle.sqlite.specs.Store.{Ghosts}
 use Rattle.sqlite.specs.Held.{Held}
 use Rattle.rd_policy.specs.declared.audience.Audience.{Audience}
@@ -18,6 +18,7 @@ use Rattle.rd_protocol.specs.declared.request.What.TheVariants.{Images, Listing,
 use Rattle.rd_protocol.specs.declared.said.Reply.{Reply}
 use Rattle.rd_protocol.specs.declared.said.Said.{Said}
 use Rattle.rd_protocol.specs.declared.said.Said.TheVariants as said
+use Rattle.rd_protocol.proofs.Accepting.{is_for_staff}
 use Rattle.rd_protocol.proofs.Again.{same_again}
 use Rattle.rd_protocol.proofs.Hiding.{hides}
 use Rattle.rd_desk.proofs.OneChange.{one_change_written}
@@ -90,3 +91,18 @@ module _ {S : Type 0} (g : Ghosts S) (old new : Held S) (day : ℤ) (request : R
     tells = λ o. tells_what_is_shown (desk g old) day request reply (desk g new) (replied (desk g old) day request result reply (desk g new) written (responds.judged o));
     one_change = one_change_written g old new day request.what result reply written makes;
   }
+
+-- the store is open after Ok, or the caller was turned away
+pub ending : {S X : Type 0} (g : Ghosts S) (old new : Held S) (request : Request) (result : Result Said X)
+    → ((request.badge ≡ None → ¬ IsForStaff request.what) → LeavesOpen g new result)
+    → (request.badge ≡ None → IsForStaff request.what → (result ≡ Ok (said.Refused StaffOnly)) × (new ≡ old))
+    → LeavesOpen g new result ⊎ ((request.badge ≡ None) × IsForStaff request.what × (result ≡ Ok (said.Refused StaffOnly)) × (new ≡ old))
+ending {X = X} g old new request result opens away = elim (is_for_staff request.what) [
+  | inl command ↦ at command request.badge refl
+  | inr query ↦ inl (opens (λ nobody. query))
+]
+  where
+    at : IsForStaff request.what → (badge : Option (List ℕ)) → request.badge ≡ badge
+        → LeavesOpen g new result ⊎ ((request.badge ≡ None) × IsForStaff request.what × (result ≡ Ok (said.Refused StaffOnly)) × (new ≡ old))
+    at command None is = let turned = away is command in inr (is, command, turned.0, turned.1)
+    at command (Some digest) is = inl (opens (λ nobody for_staff. cc))

@@ -1,9 +1,11 @@
 -- What the functions that make up an answer say of the store.
-use Rattle.std.specs.Prelude.{◌≡◌, ◌⊎◌, ℕ, ℤ, Option, Some, None, Result, Ok, Err, IfOk, MatchOption, option_map, ⊤}
+use Rattle.std.specs.Prelude.{◌≡◌, ◌≢◌, ◌⊎◌, ℕ, ℤ, List, Option, Some, None, IsSomeAnd, Result, Ok, Err, IfOk, MatchOption, option_map, ⊤}
 use Rattle.std.specs.FinMap.{get}
 use Rattle.sqlite.specs.Store.{Ghosts}
 use Rattle.sqlite.specs.Tree.{Trees}
 use Rattle.sqlite.specs.Held.{Held}
+use Rattle.sha2.specs.Sha256.{sha256}
+use Rattle.rd_policy.specs.declared.audience.Audience.{Audience}
 use Rattle.rd_policy.specs.declared.audience.Audience.TheVariants.{Staff}
 use Rattle.rd_policy.specs.declared.rule.Band.{Band}
 use Rattle.rd_policy.specs.declared.rule.Band.TheVariants.{Takedown, Deed}
@@ -14,12 +16,12 @@ use Rattle.rd_store.specs.declared.faults.StoreFault.{StoreFault}
 use Rattle.rd_protocol.specs.declared.rows.Accession.{Accession}
 use Rattle.rd_protocol.specs.declared.rows.ImageRow.{ImageRow}
 use Rattle.rd_protocol.specs.declared.rows.Indexed.{Indexed}
-use Rattle.rd_protocol.specs.Judged.{Holds, IsAccepted, IsRefused}
+use Rattle.rd_protocol.specs.Judged.{IsAccepted, IsRefused, audience_of, image_of}
 use Rattle.rd_protocol.specs.Replies.{IsAnswered, IsStep, IsSurvey, Tells, carried_out}
 use Rattle.rd_protocol.specs.Requests.{MayChange}
-use Rattle.rd_desk.specs.declared.asking.Holding.{Holding}
+use Rattle.rd_desk.specs.declared.asking.AccessionRules.{AccessionRules}
 use Rattle.rd_protocol.specs.declared.refusal.Refusal.{Refusal}
-use Rattle.rd_protocol.specs.declared.refusal.Refusal.TheVariants.{NoAccession, NoDeed, DigestDiffers}
+use Rattle.rd_protocol.specs.declared.refusal.Refusal.TheVariants.{NoAccession, NoDeed}
 use Rattle.rd_protocol.specs.declared.request.Request.{Request}
 use Rattle.rd_protocol.specs.declared.request.What.{What}
 use Rattle.rd_protocol.specs.Texts.{UNAVAILABLE, reply_of}
@@ -43,16 +45,16 @@ pub record Looks {S T X : Type 0} (g : Ghosts S) (old new : Held S) (result : Re
 
 -- the accession stands, and its image is of this kind and came by this deed
 abbrev pub IsRegistered : Desk → ℕ → Accession → Type 0
-IsRegistered desk acc given = option_map accession_of (get desk.images acc) ≡ Some given
+IsRegistered desk acc accession = option_map accession_of (get desk.images acc) ≡ Some accession
 
 -- the accession stands, and its kind, its deed and its files are those of its image
 abbrev pub StandsAs : Desk → Indexed → Type 0
 StandsAs desk one = (image : ImageRow) × (get desk.images one.acc ≡ Some image) × IsIndexed (one.acc, image) one
 
 -- an accession that stands: the kind of its image, its deed and the rules for it
-abbrev pub IsHolding : Desk → ℕ → Holding → Type 0
-IsHolding desk acc holding =
-    (image : ImageRow) × (get desk.images acc ≡ Some image) × (holding.kind ≡ image.kind) × (holding.deed ≡ image.deed) × (holding.rules ≡ rules_for desk acc)
+abbrev pub AreAccessionRules : Desk → ℕ → AccessionRules → Type 0
+AreAccessionRules desk acc loaded =
+    (image : ImageRow) × (get desk.images acc ≡ Some image) × (loaded.kind ≡ image.kind) × (loaded.deed ≡ image.deed) × (loaded.rules ≡ rules_for desk acc)
 
 -- the survey of an accession, or nothing if it does not stand
 abbrev pub IsSurveyAt : Desk → ℕ → Option Survey → Type 0
@@ -63,24 +65,37 @@ abbrev pub missing_of : Band → Refusal
 missing_of Takedown = NoAccession
 missing_of Deed = NoDeed
 
--- the desk after a staff request, by its answer: the next one if the request is carried out, and
--- the old one if it is refused or has no answer
-abbrev pub IsCarriedOut : {X : Type 0} → Desk → ℤ → Request → Result Said X → Desk → Type 0
-IsCarriedOut old day request (Ok (Refused refusal)) new = IsRefused old request None refusal × (new ≡ old)
-IsCarriedOut old day request (Ok answer) new =
-    IsAccepted old request None × Tells old Staff day None answer request.what × (new ≡ carried_out day request.what old)
-IsCarriedOut old day request (Err fault) new = new ≡ old
+-- this is true of the request of each caller of an audience, whatever their badge
+abbrev pub ForEachCaller : Desk → Audience → What → (Request → Type 0) → Type 0
+ForEachCaller desk audience what Is =
+    (badge : Option (List ℕ)) → audience_of desk badge ≡ Some audience → Is (record { badge = badge; what = what })
 
--- A request of the staff. A crash leaves either the old desk or the one after the request, and
+-- what is said to a query of an audience on a day, after which the desk is the same
+abbrev pub IsSaidTo : Desk → Audience → ℤ → What → Said → Type 0
+IsSaidTo desk audience day what said = ForEachCaller desk audience what (λ request. IsAnswered desk day request said desk)
+
+-- the desk after what the staff asks, by its answer: the next one if it is carried out, and the old
+-- one if it is refused or has no answer
+abbrev pub IsCarriedOut : {X : Type 0} → Desk → ℤ → What → Result Said X → Desk → Type 0
+IsCarriedOut old day what (Ok (Refused refusal)) new =
+    ForEachCaller old Staff what (λ request. IsRefused old request None refusal) × (new ≡ old)
+IsCarriedOut old day what (Ok answer) new =
+    ForEachCaller old Staff what (λ request. IsAccepted old request None) × Tells old Staff day None answer what × (new ≡ carried_out day what old)
+IsCarriedOut old day what (Err fault) new = new ≡ old
+
+-- an image that is put has the digest given for it
+abbrev pub HasItsDigest : What → Type 0
+HasItsDigest what = ¬ IsSomeAnd (image_of what) (λ image. sha256 image.bytes ≢ image.digest)
+
+-- What the staff asks on a day. A crash leaves either the old desk or the one after it, and
 -- then an image that was put has the digest given for it. (The other reasons to refuse it do not
 -- need to be named: the desk after it is lawful.)
-pub record Carries {S X : Type 0} (g : Ghosts S) (old new : Held S) (day : ℤ) (request : Request) (result : Result Said X) : Type 0 where
+pub record Carries {S X : Type 0} (g : Ghosts S) (old new : Held S) (day : ℤ) (what : What) (result : Result Said X) : Type 0 where
   pub lasts : Lasts g old new
-  pub judged : IsOpen g new → IsCarriedOut (desk g old) day request result (desk g new)
+  pub judged : IsOpen g new → IsCarriedOut (desk g old) day what result (desk g new)
   pub stays_open : IsOpen g old → LeavesOpen g new result
   pub crash : IsOpen g old → IsClean g new → (left : Trees) → g.recovers new.store left
-      → IsLeft (desk g old) left
-      ⊎ ((¬ Holds (desk g old) request None DigestDiffers) × IsLeft (carried_out day request.what (desk g old)) left)
+      → IsLeft (desk g old) left ⊎ (HasItsDigest what × IsLeft (carried_out day what (desk g old)) left)
   pub durable : IsOpen g new → LeavesOnly g new (desk g new)
 
 -- an answer, or none and the desk as before

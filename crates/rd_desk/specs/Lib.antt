@@ -1,3 +1,5 @@
+-- ---- what a reader of a public clause believes
+-- of `Calls` only `Keeps`, `LeavesStep`, `IsOneChange` and `MakesOneChange`
 pub mod Calls
 pub mod Served
 pub use Rattle.rd_protocol.specs.Requests
@@ -10,10 +12,11 @@ pub use Rattle.rd_protocol.specs.BodyPieces
 pub use Rattle.rd_protocol.specs.Texts
 pub use Rattle.rd_protocol.specs.Checks
 pub use Rattle.rd_protocol.specs.Catalogues
-pub use Rattle.rd_protocol.specs.Written
 pub use Rattle.rd_protocol.specs.Judged
 pub use Rattle.rd_protocol.specs.Replies
 pub use Rattle.rd_protocol.specs.Laws
 pub use Rattle.rd_protocol.specs.Shown
 pub use Rattle.rd_protocol.specs.Hidden
+-- ---- inside: what only private functions and proofs cite
+pub use Rattle.rd_protocol.specs.Written
 pub use Rattle.rd_protocol.specs.Queries

@@ -1,15 +1,16 @@
 //! The desk's calls of its store. Each fails with `Unavailable` when the store fails or memory
 //! runs out.
 
-ghost use Rattle.std.specs.Prelude.{◌≡◌, ◌++◌, IfOk, drop, is_some, length, option_map, take};
+ghost use Rattle.std.specs.Prelude.{◌≡◌, ◌≢◌, ◌++◌, IfOk, None, Ok, Some, drop, is_some, length, option_map, take};
 ghost use Rattle.std.specs.FinMap.{entries, get, keys};
 ghost use Rattle.std.specs.List.{AllZip};
 ghost use Rattle.rd_policy.specs.Verdicts.{AreInOrder};
 ghost use Rattle.rd_store.specs.Batched.{IsIndexed};
-ghost use Rattle.rd_store.specs.Held.{IsOpen, desk};
+ghost use Rattle.rd_store.specs.Held.{IsOpen, LeavesOpen, desk};
 ghost use Rattle.rd_store.specs.Index.{AreFilesIn, IsFileIn};
+ghost use Rattle.rd_protocol.specs.Judged.{audience_of};
 ghost use Rattle.rd_protocol.specs.State.{all_rules, rules_at, accession_of};
-ghost use Rattle.rd_desk.specs.Calls.{IsHolding, IsRegistered, Looks};
+ghost use Rattle.rd_desk.specs.Calls.{AreAccessionRules, IsRegistered, Keeps, Looks};
 
 use rd_geometry::{Items, Kind, NoMemory};
 use rd_policy::{Audience, Band, Rule, in_order};
@@ -20,7 +21,7 @@ use std::alloc::{AllocError, Global};
 
 /// An accession: the kind of its image, its deed, and the rules for its files in order.
 #[derive(Drop)]
-pub(crate) struct Holding {
+pub(crate) struct AccessionRules {
     pub kind: Kind,
     pub deed: u32,
     pub rules: Items<Rule>,
@@ -48,14 +49,24 @@ impl From<AllocError> for Unavailable {
     }
 }
 
-/// The audience of the desk key with a digest; `None` if there is no such key.
+/// The audience of a caller: that of their key, `None` if the desk has no such key, and without a
+/// key the public. Without one it does not touch the store.
 pub(crate) fn audience<S: Alter>(
     store: &mut Store<S>,
-    digest: &[u8; 32],
+    badge: &Option<[u8; 32]>,
 ) -> Result<Option<Audience>, Unavailable>
-    ensures looks { Looks S.Store store.old store.new result (λ found. found ≡ get (desk S.Store store.old).keys digest.now) }
+    ensures keeps { Keeps S.Store store.old store.new }
+    ensures answer { IsOpen S.Store store.new → IfOk result (λ found. found ≡ audience_of (desk S.Store store.old) badge.now) }
+    ensures ends_open { badge.now ≢ None → LeavesOpen S.Store store.new result }
+    ensures untouched { badge.now ≡ None → (result ≡ Ok (Some Audience.Public)) × (store.new ≡ store.old) }
 {
-    Ok(store.audience_of(digest)?)
+    match badge {
+        Some(digest) => Ok(store.audience_of(digest)?),
+        None => {
+            store.rests();
+            Ok(Some(Audience::Public))
+        }
+    }
 }
 
 /// The deed with a number; `None` if there is none.
@@ -113,6 +124,17 @@ pub(crate) fn image<S: Alter>(
     Ok(store.image(alloc, acc)?)
 }
 
+/// The same for a caller who may ask for one accession several times: the store keeps its image in memory.
+pub(crate) fn image_again<S: Alter>(
+    store: &mut Store<S>,
+    alloc: Global,
+    acc: u32,
+) -> Result<Option<ImageRow>, Unavailable>
+    ensures looks { Looks S.Store store.old store.new result (λ found. found ≡ get (desk S.Store store.old).images acc) }
+{
+    Ok(store.image_again(alloc, acc)?)
+}
+
 /// The kind and the deed of an accession; `None` if it does not stand.
 pub(crate) fn accession<S: Alter>(
     store: &mut Store<S>,
@@ -168,17 +190,17 @@ fn rules<S: Alter>(
 
 /// An accession that stands, with this kind and this deed, together with the rules for its files,
 /// in order.
-pub(crate) fn hold<S: Alter>(
+pub(crate) fn load_rules<S: Alter>(
     store: &mut Store<S>,
     alloc: Global,
     acc: u32,
-    given: Accession,
-) -> Result<Holding, Unavailable>
-    requires known { IsOpen S.Store store.old → IsRegistered (desk S.Store store.old) acc given }
-    ensures looks { Looks S.Store store.old store.new result (IsHolding (desk S.Store store.old) acc) }
-    ensures order { IfOk result (λ holding. AreInOrder holding.rules) }
+    accession: Accession,
+) -> Result<AccessionRules, Unavailable>
+    requires known { IsOpen S.Store store.old → IsRegistered (desk S.Store store.old) acc accession }
+    ensures looks { Looks S.Store store.old store.new result (AreAccessionRules (desk S.Store store.old) acc) }
+    ensures order { IfOk result (λ loaded. AreInOrder loaded.rules) }
 {
-    let Accession { kind, deed } = given;
+    let Accession { kind, deed } = accession;
     let rules = rules(store, alloc, acc, deed)?;
-    Ok(Holding { kind, deed, rules })
+    Ok(AccessionRules { kind, deed, rules })
 }

@@ -1,16 +1,14 @@
-//! What only the staff may do. Callers of these functions have checked that the caller is staff.
+//! What only the staff may do. Callers of these functions have checked that the staff asks.
 //! Each makes at most one transaction, as its last step, and says that it is done only after the
 //! commit.
 
-ghost use Rattle.std.specs.Prelude.{◌≡◌, ◌≢◌, Some, length, ℤ};
+ghost use Rattle.std.specs.Prelude.{◌≡◌, ◌≢◌, length, ℤ};
 ghost use Rattle.sha2.specs.Sha256.{sha256};
 ghost use Rattle.rd_geometry.specs.Kinds.{size_of};
 ghost use Rattle.rd_policy.specs.Days.{IsDay};
 ghost use Rattle.rd_policy.specs.Rules.{IsRule, IsScope};
-ghost use Rattle.rd_store.specs.Held.{IsOpen, desk};
 ghost use Rattle.rd_protocol.specs.Lawful.{IsDeed};
 ghost use Rattle.rd_desk.specs.Calls.{Carries, IsOneChange, IsSaidOf, MakesOneChange, missing_of};
-ghost use Rattle.rd_protocol.specs.Judged.{audience_of};
 ghost use Rattle.rd_protocol.specs.Requests.{IsForStaff, IsRequest};
 
 use crate::asking::{Unavailable, has_deed, image};
@@ -18,7 +16,7 @@ use crate::queries::Caller;
 use crate::surveys::survey;
 use rd_geometry::{Items, Kind, Text};
 use rd_policy::{Audience, Band, Rule};
-use rd_protocol::{Refusal, Request, Said, What, check_row, has_digest};
+use rd_protocol::{Refusal, Said, What, check_row, has_digest};
 use rd_store::{Store, StoreFault};
 use sqlite::Alter;
 use std::alloc::Global;
@@ -36,14 +34,12 @@ fn missing(band: Band) -> Refusal
 /// Puts a deed.
 fn put_deed<S: Alter>(
     store: &mut Store<S>,
-    badge: &Option<[u8; 32]>,
     num: u32,
     donor: &Text,
     signed: i32,
 ) -> Result<Said, Unavailable>
-    requires known { IsOpen S.Store store.old → audience_of (desk S.Store store.old) badge.now ≡ Some Audience.Staff }
     requires deed { IsDeed num (record { donor = donor.now; signed = signed }) }
-    ensures carries { (day : ℤ) → Carries S.Store store.old store.new day (record { badge = badge.now; what = What.PutDeed num donor.now signed }) result }
+    ensures carries { (day : ℤ) → Carries S.Store store.old store.new day (What.PutDeed num donor.now signed) result }
     ensures change { (day : ℤ) → IsOneChange S.Store store.old store.new day (What.PutDeed num donor.now signed) (λ told. IsSaidOf told result) }
 {
     store.put_deed(num, donor.as_str(), signed)?;
@@ -51,14 +47,9 @@ fn put_deed<S: Alter>(
 }
 
 /// Puts a rule.
-fn put_rule<S: Alter>(
-    store: &mut Store<S>,
-    badge: &Option<[u8; 32]>,
-    rule: &Rule,
-) -> Result<Said, Unavailable>
-    requires known { IsOpen S.Store store.old → audience_of (desk S.Store store.old) badge.now ≡ Some Audience.Staff }
+fn put_rule<S: Alter>(store: &mut Store<S>, rule: &Rule) -> Result<Said, Unavailable>
     requires rule { IsRule rule.now }
-    ensures carries { (day : ℤ) → Carries S.Store store.old store.new day (record { badge = badge.now; what = What.PutRule rule.now }) result }
+    ensures carries { (day : ℤ) → Carries S.Store store.old store.new day (What.PutRule rule.now) result }
     ensures change { (day : ℤ) → IsOneChange S.Store store.old store.new day (What.PutRule rule.now) (λ told. IsSaidOf told result) }
 {
     match store.put_rule(rule) {
@@ -71,13 +62,11 @@ fn put_rule<S: Alter>(
 /// Takes a rule away.
 fn drop_rule<S: Alter>(
     store: &mut Store<S>,
-    badge: &Option<[u8; 32]>,
     band: Band,
     scope: u32,
     rank: u16,
 ) -> Result<Said, Unavailable>
-    requires known { IsOpen S.Store store.old → audience_of (desk S.Store store.old) badge.now ≡ Some Audience.Staff }
-    ensures carries { (day : ℤ) → Carries S.Store store.old store.new day (record { badge = badge.now; what = What.DropRule band scope rank }) result }
+    ensures carries { (day : ℤ) → Carries S.Store store.old store.new day (What.DropRule band scope rank) result }
     ensures change { (day : ℤ) → IsOneChange S.Store store.old store.new day (What.DropRule band scope rank) (λ told. IsSaidOf told result) }
 {
     match store.drop_rule(band, scope, rank) {
@@ -90,13 +79,11 @@ fn drop_rule<S: Alter>(
 /// Puts a desk key.
 fn put_key<S: Alter>(
     store: &mut Store<S>,
-    badge: &Option<[u8; 32]>,
     digest: &[u8; 32],
     audience: Audience,
 ) -> Result<Said, Unavailable>
-    requires known { IsOpen S.Store store.old → audience_of (desk S.Store store.old) badge.now ≡ Some Audience.Staff }
     requires key { audience ≢ Audience.Public }
-    ensures carries { (day : ℤ) → Carries S.Store store.old store.new day (record { badge = badge.now; what = What.PutKey digest.now audience }) result }
+    ensures carries { (day : ℤ) → Carries S.Store store.old store.new day (What.PutKey digest.now audience) result }
     ensures change { (day : ℤ) → IsOneChange S.Store store.old store.new day (What.PutKey digest.now audience) (λ told. IsSaidOf told result) }
 {
     match store.put_key(digest, audience) {
@@ -107,13 +94,8 @@ fn put_key<S: Alter>(
 }
 
 /// Takes a desk key away.
-fn drop_key<S: Alter>(
-    store: &mut Store<S>,
-    badge: &Option<[u8; 32]>,
-    digest: &[u8; 32],
-) -> Result<Said, Unavailable>
-    requires known { IsOpen S.Store store.old → audience_of (desk S.Store store.old) badge.now ≡ Some Audience.Staff }
-    ensures carries { (day : ℤ) → Carries S.Store store.old store.new day (record { badge = badge.now; what = What.DropKey digest.now }) result }
+fn drop_key<S: Alter>(store: &mut Store<S>, digest: &[u8; 32]) -> Result<Said, Unavailable>
+    ensures carries { (day : ℤ) → Carries S.Store store.old store.new day (What.DropKey digest.now) result }
     ensures change { (day : ℤ) → IsOneChange S.Store store.old store.new day (What.DropKey digest.now) (λ told. IsSaidOf told result) }
 {
     match store.drop_key(digest) {
@@ -127,18 +109,16 @@ fn drop_key<S: Alter>(
 fn commit_image<S: Alter>(
     store: &mut Store<S>,
     alloc: Global,
-    badge: &Option<[u8; 32]>,
     acc: u32,
     kind: Kind,
     deed: u32,
     digest: &[u8; 32],
     bytes: &Items<u8>,
 ) -> Result<Said, Unavailable>
-    requires known { IsOpen S.Store store.old → audience_of (desk S.Store store.old) badge.now ≡ Some Audience.Staff }
     requires scope { IsScope acc }
     requires sized { length bytes.now ≡ size_of kind }
     requires same { sha256 bytes.now ≡ digest.now }
-    ensures carries { (day : ℤ) → Carries S.Store store.old store.new day (record { badge = badge.now; what = What.PutImage acc kind deed digest.now bytes.now }) result }
+    ensures carries { (day : ℤ) → Carries S.Store store.old store.new day (What.PutImage acc kind deed digest.now bytes.now) result }
     ensures change { (day : ℤ) → IsOneChange S.Store store.old store.new day (What.PutImage acc kind deed digest.now bytes.now) (λ told. IsSaidOf told result) }
 {
     match store.put_image(alloc, acc, kind, deed, digest, bytes.as_slice()) {
@@ -154,16 +134,14 @@ fn commit_image<S: Alter>(
 fn put_image<S: Alter>(
     store: &mut Store<S>,
     alloc: Global,
-    badge: &Option<[u8; 32]>,
     acc: u32,
     kind: Kind,
     deed: u32,
     digest: &[u8; 32],
     bytes: &Items<u8>,
 ) -> Result<Said, Unavailable>
-    requires known { IsOpen S.Store store.old → audience_of (desk S.Store store.old) badge.now ≡ Some Audience.Staff }
     requires scope { IsScope acc }
-    ensures carries { (day : ℤ) → Carries S.Store store.old store.new day (record { badge = badge.now; what = What.PutImage acc kind deed digest.now bytes.now }) result }
+    ensures carries { (day : ℤ) → Carries S.Store store.old store.new day (What.PutImage acc kind deed digest.now bytes.now) result }
     ensures one_change { (day : ℤ) → MakesOneChange S.Store store.old store.new day (What.PutImage acc kind deed digest.now bytes.now) (λ told. IsSaidOf told result) }
 {
     store.rests();
@@ -179,18 +157,7 @@ fn put_image<S: Alter>(
         }
         return Ok(Said::Refused(Refusal::NoDeed));
     }
-    commit_image(store, alloc, badge, acc, kind, deed, digest, bytes)
-}
-
-/// Refuses a command whose body cannot be read.
-fn unread<S: Alter>(store: &mut Store<S>, badge: &Option<[u8; 32]>) -> Result<Said, Unavailable>
-    requires known { IsOpen S.Store store.old → audience_of (desk S.Store store.old) badge.now ≡ Some Audience.Staff }
-    ensures carries { (day : ℤ) → Carries S.Store store.old store.new day (record { badge = badge.now; what = What.Unread }) result }
-    ensures same { store.new ≡ store.old }
-{
-    let _ = badge;
-    store.rests();
-    Ok(Said::Refused(Refusal::BadBody))
+    commit_image(store, alloc, acc, kind, deed, digest, bytes)
 }
 
 /// Checks the image of an accession, and records the finding under the day.
@@ -198,15 +165,12 @@ fn check<S: Alter>(
     store: &mut Store<S>,
     alloc: Global,
     caller: &Caller,
-    badge: &Option<[u8; 32]>,
     acc: u32,
 ) -> Result<Said, Unavailable>
-    requires known { IsOpen S.Store store.old → audience_of (desk S.Store store.old) badge.now ≡ Some Audience.Staff }
     requires day { IsDay caller.now.day }
-    ensures carries { Carries S.Store store.old store.new caller.now.day (record { badge = badge.now; what = What.Check acc }) result }
+    ensures carries { Carries S.Store store.old store.new caller.now.day (What.Check acc) result }
     ensures one_change { MakesOneChange S.Store store.old store.new caller.now.day (What.Check acc) (λ told. IsSaidOf told result) }
 {
-    let _ = badge;
     let Some(image) = image(store, alloc, acc)? else {
         return Ok(Said::Refused(Refusal::NoAccession));
     };
@@ -217,38 +181,36 @@ fn check<S: Alter>(
     }
 }
 
-/// Does what a request of the staff asks.
+/// Does what the staff asks on the caller's day.
 pub(crate) fn command<S: Alter>(
     store: &mut Store<S>,
     alloc: Global,
     caller: &Caller,
-    request: &Request,
+    what: &What,
 ) -> Result<Said, Unavailable>
-    requires known { IsOpen S.Store store.old → audience_of (desk S.Store store.old) request.now.badge ≡ Some Audience.Staff }
     requires day { IsDay caller.now.day }
-    requires fits { IsRequest request.now.what }
-    requires staff { IsForStaff request.now.what }
-    ensures carries { Carries S.Store store.old store.new caller.now.day request.now result }
-    ensures one_change { MakesOneChange S.Store store.old store.new caller.now.day request.now.what (λ told. IsSaidOf told result) }
+    requires fits { IsRequest what.now }
+    requires staff { IsForStaff what.now }
+    ensures carries { Carries S.Store store.old store.new caller.now.day what.now result }
+    ensures one_change { MakesOneChange S.Store store.old store.new caller.now.day what.now (λ told. IsSaidOf told result) }
 {
     store.rests();
-    let badge = &request.badge;
-    match &request.what {
-        What::Survey(acc) => survey(store, alloc, badge, *acc),
-        What::Check(acc) => check(store, alloc, caller, badge, *acc),
+    match what {
+        What::Survey(acc) => survey(store, alloc, *acc),
+        What::Check(acc) => check(store, alloc, caller, *acc),
         What::PutImage {
             acc,
             kind,
             deed,
             digest,
             bytes,
-        } => put_image(store, alloc, badge, *acc, *kind, *deed, digest, bytes),
-        What::PutDeed { num, donor, signed } => put_deed(store, badge, *num, donor, *signed),
-        What::PutRule(rule) => put_rule(store, badge, rule),
-        What::DropRule { band, scope, rank } => drop_rule(store, badge, *band, *scope, *rank),
-        What::PutKey { digest, audience } => put_key(store, badge, digest, *audience),
-        What::DropKey { digest } => drop_key(store, badge, digest),
-        What::Unread => unread(store, badge),
+        } => put_image(store, alloc, *acc, *kind, *deed, digest, bytes),
+        What::PutDeed { num, donor, signed } => put_deed(store, *num, donor, *signed),
+        What::PutRule(rule) => put_rule(store, rule),
+        What::DropRule { band, scope, rank } => drop_rule(store, *band, *scope, *rank),
+        What::PutKey { digest, audience } => put_key(store, digest, *audience),
+        What::DropKey { digest } => drop_key(store, digest),
+        What::Unread => Ok(Said::Refused(Refusal::BadBody)),
         What::Images | What::Listing(_) | What::Bytes(_, _) | What::Catalogue => unreachable!(),
     }
 }

@@ -1,12 +1,11 @@
 //! The desk: who sees what, by which rule, and how the tables change.
 
-ghost use Rattle.std.specs.Prelude.{◌≡◌, ◌↔◌, Ok, IsOk, IfOk, IfErr, Some, None};
+ghost use Rattle.std.specs.Prelude.{◌≡◌, ◌↔◌, Ok, IsOk, IfOk, IfErr, None};
 ghost use Rattle.sqlite.specs.Steps.{over_memory};
 ghost use Rattle.rd_policy.specs.Days.{HasDay, IsDay};
 ghost use Rattle.rd_policy.specs.Zones.{day_number};
-ghost use Rattle.rd_store.specs.Held.{IsClean, IsOpen, LeavesOpen, desk, desk as tables};
+ghost use Rattle.rd_store.specs.Held.{IsClean, IsOpen, LeavesOpen, desk as tables};
 ghost use Rattle.rd_desk.specs.Calls.{IsSaidOf, IsWritten, MakesOneChange, Responds};
-ghost use Rattle.rd_protocol.specs.Judged.{audience_of};
 ghost use Rattle.rd_protocol.specs.Replies.{Answers};
 ghost use Rattle.rd_protocol.specs.Requests.{IsForStaff, IsRequest};
 ghost use Rattle.rd_desk.specs.Served.{Serves};
@@ -20,71 +19,33 @@ use rd_store::{Store, memory_stays_open};
 use sqlite::{Alter, MemStore};
 use std::alloc::Global;
 
-/// The answer to a caller whose audience is known.
+/// The answer to a request on a day. Where a caller without a key asks what only the staff may, it
+/// refuses this and does not touch the store.
 fn respond<S: Alter>(
     store: &mut Store<S>,
     alloc: Global,
-    caller: &Caller,
+    day: i32,
     request: &Request,
 ) -> Result<Said, Unavailable>
-    requires known { IsOpen S.Store store.old → audience_of (desk S.Store store.old) request.now.badge ≡ Some caller.now.audience }
     requires fits { IsRequest request.now.what }
-    requires day { IsDay caller.now.day }
-    ensures responds { Responds S.Store store.old store.new caller.now.day request.now result }
-    ensures one_change { MakesOneChange S.Store store.old store.new caller.now.day request.now.what (λ told. IsSaidOf told result) }
-    ensures ends_open { (IsClean S.Store store.old → IsOpen S.Store store.old) → LeavesOpen S.Store store.new result }
+    requires day { IsDay day }
+    ensures responds { Responds S.Store store.old store.new day request.now result }
+    ensures one_change { MakesOneChange S.Store store.old store.new day request.now.what (λ told. IsSaidOf told result) }
+    ensures ends_open { (request.now.badge ≡ None → ¬ IsForStaff request.now.what) → LeavesOpen S.Store store.new result }
+    ensures turned_away { request.now.badge ≡ None → IsForStaff request.now.what → (result ≡ Ok (Said.Refused Refusal.StaffOnly)) × (store.new ≡ store.old) }
 {
+    let Some(audience) = audience(store, &request.badge)? else {
+        return Ok(Said::Refused(Refusal::UnknownKey));
+    };
+    let caller = Caller { audience, day };
     if !request.what.is_for_staff() {
-        return query(store, alloc, caller, request);
+        return query(store, alloc, &caller, &request.what);
     }
     store.rests();
     if caller.audience != Audience::Staff {
         return Ok(Said::Refused(Refusal::StaffOnly));
     }
-    command(store, alloc, caller, request)
-}
-
-/// The answer to a caller with a badge.
-fn respond_to_badge<S: Alter>(
-    store: &mut Store<S>,
-    alloc: Global,
-    day: i32,
-    request: &Request,
-    badge: &[u8; 32],
-) -> Result<Said, Unavailable>
-    requires badge { request.now.badge ≡ Some badge.now }
-    requires fits { IsRequest request.now.what }
-    requires day { IsDay day }
-    ensures responds { Responds S.Store store.old store.new day request.now result }
-    ensures one_change { MakesOneChange S.Store store.old store.new day request.now.what (λ told. IsSaidOf told result) }
-    ensures ends_open { LeavesOpen S.Store store.new result }
-{
-    let Some(audience) = audience(store, badge)? else {
-        return Ok(Said::Refused(Refusal::UnknownKey));
-    };
-    respond(store, alloc, &Caller { audience, day }, request)
-}
-
-/// The answer to a caller without a badge. It refuses what only the staff may do, without touching
-/// the store.
-fn respond_to_public<S: Alter>(
-    store: &mut Store<S>,
-    alloc: Global,
-    day: i32,
-    request: &Request,
-) -> Result<Said, Unavailable>
-    requires nobody { request.now.badge ≡ None }
-    ensures responds { Responds S.Store store.old store.new day request.now result }
-    ensures one_change { MakesOneChange S.Store store.old store.new day request.now.what (λ told. IsSaidOf told result) }
-    ensures ends_open { ¬ IsForStaff request.now.what → LeavesOpen S.Store store.new result }
-    ensures turned_away { IsForStaff request.now.what → (result ≡ Ok (Said.Refused Refusal.StaffOnly)) × (store.new ≡ store.old) }
-{
-    if request.what.is_for_staff() {
-        store.rests();
-        return Ok(Said::Refused(Refusal::StaffOnly));
-    }
-    let audience = Audience::Public;
-    query(store, alloc, &Caller { audience, day }, request)
+    command(store, alloc, &caller, &request.what)
 }
 
 /// The reply that says an answer; if there is no answer, or no memory for the reply, it says that
@@ -103,49 +64,15 @@ fn reply_with(alloc: Global, said: Result<Said, Unavailable>) -> Reply
     }
 }
 
-/// The reply to a caller with a badge.
-fn reply_to_badge<S: Alter>(
-    store: &mut Store<S>,
-    alloc: Global,
-    day: i32,
-    request: &Request,
-    badge: &[u8; 32],
-) -> Reply
-    requires badge { request.now.badge ≡ Some badge.now }
-    requires fits { IsRequest request.now.what }
-    requires day { IsDay day }
-    ensures serves { Serves S.Store store.old store.new day request.now result }
-{
-    let said = respond_to_badge(store, alloc, day, request, badge);
-    store.rests();
-    reply_with(alloc, said)
-}
-
-/// The reply to a caller without a badge.
-fn reply_to_public<S: Alter>(
-    store: &mut Store<S>,
-    alloc: Global,
-    day: i32,
-    request: &Request,
-) -> Reply
-    requires nobody { request.now.badge ≡ None }
-    ensures serves { Serves S.Store store.old store.new day request.now result }
-{
-    let said = respond_to_public(store, alloc, day, request);
-    store.rests();
-    reply_with(alloc, said)
-}
-
 /// Replies to a request on a day.
 fn reply_on<S: Alter>(store: &mut Store<S>, alloc: Global, day: i32, request: &Request) -> Reply
     requires fits { IsRequest request.now.what }
     requires day { IsDay day }
     ensures serves { Serves S.Store store.old store.new day request.now result }
 {
-    match &request.badge {
-        Some(badge) => reply_to_badge(store, alloc, day, request, badge),
-        None => reply_to_public(store, alloc, day, request),
-    }
+    let said = respond(store, alloc, day, request);
+    store.rests();
+    reply_with(alloc, said)
 }
 
 /// The desk over its store, and the zone of its clocks.

@@ -1,14 +1,13 @@
 //! What a caller may see of all accessions. All rules are read at once, and the files of 16 accessions at a time.
 
-ghost use Rattle.std.specs.Prelude.{◌≡◌, ◌++◌, ℕ, All, IfOk, List, Some, length, map};
+ghost use Rattle.std.specs.Prelude.{◌≡◌, ◌++◌, ℕ, All, IfOk, List, length, map};
 ghost use Rattle.std.specs.FinMap.{keys};
 ghost use Rattle.std.specs.List.{AllZip};
 ghost use Rattle.rd_store.specs.Held.{IsClean, IsOpen, desk};
 ghost use Rattle.rd_protocol.specs.State.{Desk, all_rules};
-ghost use Rattle.rd_desk.specs.Calls.{Looks, StandsAs};
-ghost use Rattle.rd_protocol.specs.Judged.{audience_of};
+ghost use Rattle.rd_desk.specs.Calls.{IsSaidTo, Looks, StandsAs};
 ghost use Rattle.rd_protocol.specs.Queries.{AreLinesOfEach, IsCounted};
-ghost use Rattle.rd_protocol.specs.Replies.{IsAnswered, IsListing};
+ghost use Rattle.rd_protocol.specs.Replies.{IsListing};
 
 use crate::asking::{Unavailable, batch, count, rulebook};
 use crate::queries::{Caller, listed};
@@ -109,13 +108,9 @@ pub(crate) fn images<S: Alter>(
     store: &mut Store<S>,
     alloc: Global,
     caller: &Caller,
-    badge: &Option<[u8; 32]>,
 ) -> Result<Said, Unavailable>
-    requires known { IsOpen S.Store store.old → audience_of (desk S.Store store.old) badge.now ≡ Some caller.now.audience }
-    ensures { Looks S.Store store.old store.new result (λ said.
-        IsAnswered (desk S.Store store.old) caller.now.day (record { badge = badge.now; what = What.Images }) said (desk S.Store store.old)) }
+    ensures { Looks S.Store store.old store.new result (IsSaidTo (desk S.Store store.old) caller.now.audience caller.now.day What.Images) }
 {
-    let _ = badge;
     let rules = rulebook(store, alloc)?;
     let accessions = count(store, alloc)?;
     Ok(Said::Images(image_lines(store, alloc, caller, &rules, accessions)?))
@@ -170,13 +165,9 @@ pub(crate) fn catalogue<S: Alter>(
     store: &mut Store<S>,
     alloc: Global,
     caller: &Caller,
-    badge: &Option<[u8; 32]>,
 ) -> Result<Said, Unavailable>
-    requires known { IsOpen S.Store store.old → audience_of (desk S.Store store.old) badge.now ≡ Some caller.now.audience }
-    ensures { Looks S.Store store.old store.new result (λ said.
-        IsAnswered (desk S.Store store.old) caller.now.day (record { badge = badge.now; what = What.Catalogue }) said (desk S.Store store.old)) }
+    ensures { Looks S.Store store.old store.new result (IsSaidTo (desk S.Store store.old) caller.now.audience caller.now.day What.Catalogue) }
 {
-    let _ = badge;
     let rules = rulebook(store, alloc)?;
     let accessions = count(store, alloc)?;
     Ok(Said::Catalogue(listings(store, alloc, caller, &rules, accessions)?))

@@ -6,18 +6,17 @@ ghost use Rattle.rd_policy.specs.Verdicts.{AreInOrder, IsVerdict};
 ghost use Rattle.rd_store.specs.Held.{IsClean, IsOpen, desk};
 ghost use Rattle.rd_protocol.specs.declared.rows.ImageRow.{ImageRow};
 ghost use Rattle.rd_volume.specs.Volumes.{IsFound};
-ghost use Rattle.rd_desk.specs.Calls.{IsRegistered, Looks};
-ghost use Rattle.rd_protocol.specs.Judged.{audience_of};
+ghost use Rattle.rd_desk.specs.Calls.{IsRegistered, IsSaidTo, Looks};
 ghost use Rattle.rd_protocol.specs.Queries.{AreLinesOf, IsRead, IsWithheld};
-ghost use Rattle.rd_protocol.specs.Replies.{AreLines, IsAnswered, IsListing};
+ghost use Rattle.rd_protocol.specs.Replies.{AreLines, IsListing};
 ghost use Rattle.rd_protocol.specs.Requests.{IsForStaff};
 
-use crate::asking::{Holding, Unavailable, accession, file_at, files, hold};
+use crate::asking::{AccessionRules, Unavailable, accession, file_at, files, load_rules};
 use crate::files::contents;
 use crate::overviews::{catalogue, images};
 use rd_geometry::Items;
 use rd_policy::{Audience, Effect, Label, Rule, Verdict, decide};
-use rd_protocol::{Line, Listing, Refusal, Request, Said, What};
+use rd_protocol::{Line, Listing, Refusal, Said, What};
 use rd_store::{Accession, Store};
 use rd_volume::Found;
 use sqlite::Alter;
@@ -52,11 +51,11 @@ fn judge_in_turn(takedowns: &[Rule], rules: &[Rule], caller: &Caller, file: &Fou
 
 /// Why the caller may not read a file; `None` if they may. The verdict comes before the class and
 /// the faults.
-fn withheld(holding: &Holding, caller: &Caller, file: &Found) -> Option<Refusal>
-    requires order { AreInOrder holding.now.rules }
-    ensures { IsWithheld holding.now.kind holding.now.rules caller.now.audience caller.now.day file.now result }
+fn withheld(accession: &AccessionRules, caller: &Caller, file: &Found) -> Option<Refusal>
+    requires order { AreInOrder accession.now.rules }
+    ensures { IsWithheld accession.now.kind accession.now.rules caller.now.audience caller.now.day file.now result }
 {
-    let verdict = judge(holding.rules.as_slice(), caller, file);
+    let verdict = judge(accession.rules.as_slice(), caller, file);
     if verdict.effect != Effect::Read {
         return Some(Refusal::Denied(verdict.label));
     }
@@ -64,7 +63,7 @@ fn withheld(holding: &Holding, caller: &Caller, file: &Found) -> Option<Refusal>
         return Some(Refusal::ListedOnly);
     }
     if file.faults != 0 {
-        return Some(Refusal::Faulty(holding.kind, file.faults));
+        return Some(Refusal::Faulty(accession.kind, file.faults));
     }
     None
 }
@@ -73,19 +72,19 @@ fn withheld(holding: &Holding, caller: &Caller, file: &Found) -> Option<Refusal>
 fn said_of<S: Alter>(
     store: &mut Store<S>,
     alloc: Global,
-    holding: &Holding,
+    accession: &AccessionRules,
     caller: &Caller,
     acc: u32,
     file: Found,
 ) -> Result<Said, Unavailable>
-    requires order { AreInOrder holding.now.rules }
+    requires order { AreInOrder accession.now.rules }
     requires awake { IsClean S.Store store.old → IsOpen S.Store store.old }
     ensures { Looks S.Store store.old store.new result (λ said. (image : ImageRow) → get (desk S.Store store.old).images acc ≡ Some image
-        → holding.now.kind ≡ image.kind → IsFound image.kind image.bytes file
-        → IsRead (record { image = image; rules = holding.now.rules }) caller.now.audience caller.now.day file.slot said) }
+        → accession.now.kind ≡ image.kind → IsFound image.kind image.bytes file
+        → IsRead (record { image = image; rules = accession.now.rules }) caller.now.audience caller.now.day file.slot said) }
 {
     store.rests();
-    if let Some(refusal) = withheld(holding, caller, &file) {
+    if let Some(refusal) = withheld(accession, caller, &file) {
         return Ok(Said::Refused(refusal));
     }
     Ok(Said::File(contents(store, alloc, acc, file)?))
@@ -95,18 +94,18 @@ fn said_of<S: Alter>(
 fn read<S: Alter>(
     store: &mut Store<S>,
     alloc: Global,
-    holding: &Holding,
+    accession: &AccessionRules,
     caller: &Caller,
     acc: u32,
     slot: u16,
 ) -> Result<Said, Unavailable>
-    requires order { AreInOrder holding.now.rules }
+    requires order { AreInOrder accession.now.rules }
     ensures { Looks S.Store store.old store.new result (λ said. (image : ImageRow) → get (desk S.Store store.old).images acc ≡ Some image
-        → holding.now.kind ≡ image.kind
-        → IsRead (record { image = image; rules = holding.now.rules }) caller.now.audience caller.now.day slot said) }
+        → accession.now.kind ≡ image.kind
+        → IsRead (record { image = image; rules = accession.now.rules }) caller.now.audience caller.now.day slot said) }
 {
     match file_at(store, alloc, acc, slot)? {
-        Some(file) => said_of(store, alloc, holding, caller, acc, file),
+        Some(file) => said_of(store, alloc, accession, caller, acc, file),
         None => Ok(Said::Refused(Refusal::NoFile)),
     }
 }
@@ -116,19 +115,15 @@ fn bytes<S: Alter>(
     store: &mut Store<S>,
     alloc: Global,
     caller: &Caller,
-    badge: &Option<[u8; 32]>,
     acc: u32,
     slot: u16,
 ) -> Result<Said, Unavailable>
-    requires known { IsOpen S.Store store.old → audience_of (desk S.Store store.old) badge.now ≡ Some caller.now.audience }
-    ensures { Looks S.Store store.old store.new result (λ said.
-        IsAnswered (desk S.Store store.old) caller.now.day (record { badge = badge.now; what = What.Bytes acc slot }) said (desk S.Store store.old)) }
+    ensures { Looks S.Store store.old store.new result (IsSaidTo (desk S.Store store.old) caller.now.audience caller.now.day (What.Bytes acc slot)) }
 {
-    let _ = badge;
     match accession(store, acc)? {
-        Some(given) => {
-            let holding = hold(store, alloc, acc, given)?;
-            read(store, alloc, &holding, caller, acc, slot)
+        Some(found) => {
+            let accession = load_rules(store, alloc, acc, found)?;
+            read(store, alloc, &accession, caller, acc, slot)
         }
         None => Ok(Said::Refused(Refusal::NoAccession)),
     }
@@ -161,16 +156,16 @@ pub(crate) fn listed(
 fn lines<S: Alter>(
     store: &mut Store<S>,
     alloc: Global,
-    holding: &Holding,
+    accession: &AccessionRules,
     caller: &Caller,
     acc: u32,
 ) -> Result<Items<Line>, Unavailable>
-    requires order { AreInOrder holding.now.rules }
+    requires order { AreInOrder accession.now.rules }
     ensures { Looks S.Store store.old store.new result (λ lines. (image : ImageRow) → get (desk S.Store store.old).images acc ≡ Some image
-        → AreLines image holding.now.rules caller.now.audience caller.now.day lines) }
+        → AreLines image accession.now.rules caller.now.audience caller.now.day lines) }
 {
     let files = files(store, alloc, acc)?;
-    listed(alloc, &[], holding.rules.as_slice(), caller, files)
+    listed(alloc, &[], accession.rules.as_slice(), caller, files)
 }
 
 /// An accession that stands, of this kind and this deed, with its listed files.
@@ -179,17 +174,17 @@ fn listed_at<S: Alter>(
     alloc: Global,
     caller: &Caller,
     acc: u32,
-    given: Accession,
+    found: Accession,
 ) -> Result<Listing, Unavailable>
-    requires known { IsOpen S.Store store.old → IsRegistered (desk S.Store store.old) acc given }
+    requires known { IsOpen S.Store store.old → IsRegistered (desk S.Store store.old) acc found }
     ensures { Looks S.Store store.old store.new result (IsListing (desk S.Store store.old) caller.now.audience caller.now.day acc) }
 {
-    let holding = hold(store, alloc, acc, given)?;
-    let files = lines(store, alloc, &holding, caller, acc)?;
+    let accession = load_rules(store, alloc, acc, found)?;
+    let files = lines(store, alloc, &accession, caller, acc)?;
     Ok(Listing {
         accession: acc,
-        deed: holding.deed,
-        kind: holding.kind,
+        deed: accession.deed,
+        kind: accession.kind,
         files,
     })
 }
@@ -199,38 +194,31 @@ fn listing<S: Alter>(
     store: &mut Store<S>,
     alloc: Global,
     caller: &Caller,
-    badge: &Option<[u8; 32]>,
     acc: u32,
 ) -> Result<Said, Unavailable>
-    requires known { IsOpen S.Store store.old → audience_of (desk S.Store store.old) badge.now ≡ Some caller.now.audience }
-    ensures { Looks S.Store store.old store.new result (λ said.
-        IsAnswered (desk S.Store store.old) caller.now.day (record { badge = badge.now; what = What.Listing acc }) said (desk S.Store store.old)) }
+    ensures { Looks S.Store store.old store.new result (IsSaidTo (desk S.Store store.old) caller.now.audience caller.now.day (What.Listing acc)) }
 {
-    let _ = badge;
     match accession(store, acc)? {
-        Some(given) => Ok(Said::Listed(listed_at(store, alloc, caller, acc, given)?)),
+        Some(found) => Ok(Said::Listed(listed_at(store, alloc, caller, acc, found)?)),
         None => Ok(Said::Refused(Refusal::NoAccession)),
     }
 }
 
-/// Answers a query.
+/// Answers a query of a caller.
 pub(crate) fn query<S: Alter>(
     store: &mut Store<S>,
     alloc: Global,
     caller: &Caller,
-    request: &Request,
+    what: &What,
 ) -> Result<Said, Unavailable>
-    requires known { IsOpen S.Store store.old → audience_of (desk S.Store store.old) request.now.badge ≡ Some caller.now.audience }
-    requires query { ¬ IsForStaff request.now.what }
-    ensures { Looks S.Store store.old store.new result (λ said.
-        IsAnswered (desk S.Store store.old) caller.now.day request.now said (desk S.Store store.old)) }
+    requires query { ¬ IsForStaff what.now }
+    ensures { Looks S.Store store.old store.new result (IsSaidTo (desk S.Store store.old) caller.now.audience caller.now.day what.now) }
 {
-    let badge = &request.badge;
-    match &request.what {
-        What::Images => images(store, alloc, caller, badge),
-        What::Listing(acc) => listing(store, alloc, caller, badge, *acc),
-        What::Bytes(acc, slot) => bytes(store, alloc, caller, badge, *acc, *slot),
-        What::Catalogue => catalogue(store, alloc, caller, badge),
+    match what {
+        What::Images => images(store, alloc, caller),
+        What::Listing(acc) => listing(store, alloc, caller, *acc),
+        What::Bytes(acc, slot) => bytes(store, alloc, caller, *acc, *slot),
+        What::Catalogue => catalogue(store, alloc, caller),
         What::Survey(_)
         | What::Check(_)
         | What::PutImage { .. }

@@ -1,16 +1,15 @@
 //! What an image has on it, for the staff.
 
-ghost use Rattle.std.specs.Prelude.{◌≡◌, IfOk, Some, ℤ};
+ghost use Rattle.std.specs.Prelude.{IfOk, ℤ};
 ghost use Rattle.rd_policy.specs.Dates.{IsDateOf};
 ghost use Rattle.rd_volume.specs.Reports.{IsReport};
-ghost use Rattle.rd_store.specs.Held.{IsOpen, desk};
+ghost use Rattle.rd_store.specs.Held.{desk};
 ghost use Rattle.rd_desk.specs.Calls.{Carries, IsSurveyAt, Keeps, Looks};
-ghost use Rattle.rd_protocol.specs.Judged.{audience_of};
 ghost use Rattle.rd_protocol.specs.Replies.{IsSurveyOf};
 
 use crate::asking::{Unavailable, deed, image};
 use rd_geometry::{Image, Text};
-use rd_policy::{Audience, date_text, is_day};
+use rd_policy::{date_text, is_day};
 use rd_protocol::{Refusal, Said, Survey, What};
 use rd_store::{DeedRow, ImageRow, Store};
 use rd_volume::{Report, report};
@@ -75,19 +74,15 @@ fn survey_at<S: Alter>(
     Ok(Some(survey_of(alloc, acc, &image, deed)?))
 }
 
-/// The answer that says what the image of an accession has on it. The function's caller has
-/// checked that the staff asks.
+/// The answer to the staff that says what the image of an accession has on it.
 pub(crate) fn survey<S: Alter>(
     store: &mut Store<S>,
     alloc: Global,
-    badge: &Option<[u8; 32]>,
     acc: u32,
 ) -> Result<Said, Unavailable>
-    requires known { IsOpen S.Store store.old → audience_of (desk S.Store store.old) badge.now ≡ Some Audience.Staff }
-    ensures carries { (day : ℤ) → Carries S.Store store.old store.new day (record { badge = badge.now; what = What.Survey acc }) result }
+    ensures carries { (day : ℤ) → Carries S.Store store.old store.new day (What.Survey acc) result }
     ensures keeps { Keeps S.Store store.old store.new }
 {
-    let _ = badge;
     match survey_at(store, alloc, acc)? {
         Some(survey) => Ok(Said::Surveyed(survey)),
         None => Ok(Said::Refused(Refusal::NoAccession)),

@@ -19,22 +19,21 @@ listings-requires-clause-count g c = λ o. c.in_ok-accessions.ensures.looks.answ
 pub returns : goal.returns
 returns g c = record {
   keeps = search rules;
-  answer = λ o.
+  answer = λ o badge known.
       let d = desk g.S.Store c.args.store.now in
       let audience = c.args.caller.now.audience in
       let day = c.args.caller.now.day in
       let counted = c.listings.ensures.keeps.lasts.was_open o in
       let read = c.count.ensures.looks.keeps.lasts.was_open counted in
       let same = c.count.ensures.looks.keeps.same counted ∙ c.rulebook.ensures.looks.keeps.same read in
-      let known = c.requires.known (c.rulebook.ensures.looks.keeps.lasts.was_open read) in
       let listings = c.in_ok-listings.field-0 in
       let each = subst (λ (e : Desk). AllZip (IsListing e audience day) (keys e.images) listings) same (c.in_ok-listings.ensures.answer o) in
       record {
         file = None;
         audience = audience;
-        asked = question_asked d day c.args.badge.now _ catalogue_names_nothing;
+        asked = question_asked d day badge _ catalogue_names_nothing;
         caller = known;
-        accepted = question_accepted d c.args.badge.now audience _ catalogue_names_nothing known;
+        accepted = question_accepted d badge audience _ catalogue_names_nothing known;
         tells = listings_are d audience day listings each;
         after = refl;
       };

@@ -18,22 +18,21 @@ image_lines-requires-clause-count g c = λ o. c.in_ok-accessions.ensures.looks.a
 pub returns : goal.returns
 returns g c = record {
   keeps = search rules;
-  answer = λ o.
+  answer = λ o badge known.
       let d = desk g.S.Store c.args.store.now in
       let audience = c.args.caller.now.audience in
       let day = c.args.caller.now.day in
       let counted = c.image_lines.ensures.keeps.lasts.was_open o in
       let read = c.count.ensures.looks.keeps.lasts.was_open counted in
       let same = c.count.ensures.looks.keeps.same counted ∙ c.rulebook.ensures.looks.keeps.same read in
-      let known = c.requires.known (c.rulebook.ensures.looks.keeps.lasts.was_open read) in
       let lines = c.in_ok-image_lines.field-0 in
       let each = subst (λ (e : Desk). AreLinesOfEach e audience day (keys e.images) lines) same (c.in_ok-image_lines.ensures.answer o) in
       record {
         file = None;
         audience = audience;
-        asked = question_asked d day c.args.badge.now _ images_name_nothing;
+        asked = question_asked d day badge _ images_name_nothing;
         caller = known;
-        accepted = question_accepted d c.args.badge.now audience _ images_name_nothing known;
+        accepted = question_accepted d badge audience _ images_name_nothing known;
         tells = image_lines_are d audience day lines each;
         after = refl;
       };

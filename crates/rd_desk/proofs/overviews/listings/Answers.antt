@@ -13,7 +13,7 @@ loop-at-init g c = record { keeps = search rules; awake = search rules; told = �
 
 pub loop-at-preserved : goal.loop-at-preserved
 loop-at-preserved g c = record {
-  keeps = keeps_then g.S.Store c.args.store.now c.loop-at.store c.batch.new.store c.loop-at.invariant.keeps c.loop-at.invariant.awake c.batch.ensures.looks.keeps;
+  keeps = keeps_then g.S.Store c.args.store.now c.loop-at.store c.batch.new.store c.loop-at.invariant.keeps (λ was clean. c.loop-at.invariant.awake clean) c.batch.ensures.looks.keeps;
   awake = λ clean. c.in_ok-part.ensures.looks.ends_open clean;
   told = λ o.
       let was = c.batch.ensures.looks.keeps.lasts.was_open o in
