@@ -1,3 +1,4 @@
+-- ---- what a reader of a public clause believes
 pub mod Links
 pub mod Walks
 pub mod Counts
@@ -6,4 +7,5 @@ pub mod Files
 pub mod Faults
 pub mod BlockMap
 pub mod Listing
+-- ---- inside: what only private functions and proofs cite
 pub mod Marked

@@ -68,14 +68,14 @@ fn either_has_shared(uses: &Uses, contents: &Chain, sides: &Chain) -> bool
     has_shared(uses, sides.blocks.as_slice())
 }
 
-/// Whether an error byte tells of an error: any but 0 and 1 does.
+/// Whether an error byte reports an error: any but 0 and 1 does.
 fn is_error(mark: u8) -> bool
     ensures { IsTrue result ↔ IsError mark }
 {
     mark != 0 && mark != 1
 }
 
-/// Whether the error byte of a block of the list tells of an error.
+/// Whether the error byte of a block of the list reports an error.
 fn has_error(disk: &CbmDisk, blocks: &[u16]) -> bool
     requires { All (λ block. block < CBM_BLOCKS) blocks.now }
     ensures { IsTrue result ↔ SomeError (cbm_bytes disk.now) blocks.now }
@@ -88,7 +88,7 @@ fn has_error(disk: &CbmDisk, blocks: &[u16]) -> bool
     false
 }
 
-/// Whether the error byte of a block of either chain tells of an error.
+/// Whether the error byte of a block of either chain reports an error.
 fn either_has_error(disk: &CbmDisk, contents: &Chain, sides: &Chain) -> bool
     requires contents { All (λ block. block < CBM_BLOCKS) contents.now.blocks }
     requires sides { All (λ block. block < CBM_BLOCKS) sides.now.blocks }

@@ -1,3 +1,4 @@
+-- ---- what a reader of a public clause believes
 pub mod Words
 pub mod CommandLine
 pub mod Zones

@@ -1,4 +1,4 @@
-//! The files of a machine, and why it does not give what it is asked for.
+//! The files of a machine, and why it does not give one.
 
 ghost use Rattle.std.specs.Prelude.{◌↔◌, ◌≡◌};
 ghost use Rattle.std.specs.IoError.{error_kind};

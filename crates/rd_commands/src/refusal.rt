@@ -22,9 +22,9 @@ pub enum Refusal {
     ListedOnly,
     /// The file, of an image of a kind, has these faults, by bit.
     Faulty(Kind, u8),
-    /// A desk stands already in the store.
+    /// The store already has a desk, or another table named `desk`.
     Exists,
-    /// The store holds no desk.
+    /// The store has no desk.
     NotADesk,
     /// The store holds a desk of another version.
     Version,
@@ -40,7 +40,7 @@ pub enum Refusal {
     UnknownKey,
     /// Only the staff may do this, and the caller is not staff.
     StaffOnly,
-    /// No image stands at the accession.
+    /// There is no image at the accession.
     NoAccession,
 }
 

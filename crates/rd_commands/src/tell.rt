@@ -26,7 +26,7 @@ use rd_volume::{FaultWords, fault_words};
 use std::io::Write;
 use std::process::ExitCode;
 
-/// What it says of a text that is no rule for clocks.
+/// What it says about a text that is no rule for clocks.
 const ZONE_MISTAKE: &[u8] =
     b"error: --zone takes a rule as POSIX writes it, as in UTC0 or CET-1CEST,M3.5.0,M10.5.0/3\n\nFor more information, try '--help'.\n";
 

@@ -68,7 +68,7 @@ pub struct ServeAsk<'a> {
     pub zone: Zone,
 }
 
-/// When a command is done, and by which clocks.
+/// When to do a command, and by which clocks.
 #[derive(Clone, Copy, Debug)]
 pub struct WhenAsk {
     /// The seconds since 1970-01-01T00:00:00 UTC, if the words name them; otherwise those of the
@@ -109,7 +109,7 @@ pub struct OnceAsk<'a> {
     pub key: Option<&'a [u8]>,
     /// The question.
     pub question: Question,
-    /// When the desk is asked.
+    /// When to ask the desk.
     pub when: WhenAsk,
 }
 

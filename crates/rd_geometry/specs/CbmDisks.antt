@@ -1,3 +1,4 @@
+-- An image as that of a 1541 disk.
 use Rattle.std.specs.Prelude.{ℕ, List}
 use Rattle.rd_geometry.specs.declared.kind.Kind.{Kind}
 use Rattle.rd_geometry.specs.declared.cbm_disk.CbmDisk.{CbmDisk}

@@ -1,3 +1,4 @@
+-- An image as that of a CP/M disk.
 use Rattle.std.specs.Prelude.{ℕ, List}
 use Rattle.rd_geometry.specs.declared.cpm_disk.CpmDisk.{CpmDisk}
 

@@ -1,3 +1,4 @@
+-- An image, as contracts see it.
 use Rattle.std.specs.Prelude.{ℕ, List}
 use Rattle.rd_geometry.specs.declared.kind.Kind.{Kind}
 use Rattle.rd_geometry.specs.declared.image.Image.{Image}

@@ -94,7 +94,7 @@ impl<'a> CbmDisk<'a> {
         self.kind
     }
 
-    /// The error byte of block `n` (public D64 documentation): 1, which tells of no error, for an image
+    /// The error byte of block `n` (public D64 documentation): 1, which means no error, for an image
     /// without error bytes.
     pub fn mark(&self, n: u16) -> u8
         requires { n < CBM_BLOCKS }

@@ -30,7 +30,7 @@ impl Kind {
         }
     }
 
-    /// The number of bytes that the largest image has, which is that of a CP/M disk.
+    /// The number of bytes of the largest image, that of a CP/M disk.
     pub fn largest_size() -> usize
         ensures value { result ≡ CPM_SIZE }
         ensures largest { (kind : Kind) → size_of kind ≤ result }

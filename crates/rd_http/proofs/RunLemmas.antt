@@ -1,5 +1,5 @@
 -- Visits one after the other.
-use Rattle.std.proofs.Common.{◌≡◌, ◌↔◌, inl, inr, ℕ, ℤ, ◌+◌, List, [], ◌∷◌, ◌++◌, Bool, true, false, true≢false, Option, None, Some, Result, Ok, Err, IfSome, length, arith, refl, sym, subst, ap, append_assoc, append-nil, length-append, map, ◌∙◌}
+use Rattle.std.proofs.Common.{◌≡◌, ◌↔◌, inl, inr, ℕ, ℤ, ◌+◌, List, [], ◌∷◌, ◌++◌, Bool, true, false, Option, None, Some, Result, Ok, Err, IfSome, length, arith, refl, sym, subst, ap, append_assoc, append-nil, length-append, map, ◌∙◌}
 use Rattle.std.specs.List.{filter}
 use Rattle.std.proofs.lemmas.List.Elements.{filter-append}
 use Rattle.std.proofs.lemmas.List.{map-append}
@@ -8,13 +8,10 @@ use Rattle.sqlite.specs.Held.{Held}
 use Rattle.rd_policy.specs.Days.{HasDay}
 use Rattle.rd_policy.specs.Zones.{day_number}
 use Rattle.rd_policy.specs.declared.zone.Zone.{Zone}
-use Rattle.rd_store.specs.Held.{IsOpen, Lasts, desk}
-use Rattle.rd_protocol.specs.State.{Desk}
-use Rattle.rd_store.proofs.Laws.{lasts_still}
+use Rattle.rd_store.specs.Held.{IsOpen, desk}
 use Rattle.rd_protocol.specs.declared.request.Request.{Request}
 use Rattle.rd_messages.specs.Asked.{HasFramedHead, IsRequestOf, request, fault}
-use Rattle.rd_messages.specs.Framing.{IsFramed}
-use Rattle.rd_http.specs.Runs.{Ends, AreNext, NoneLeft, HasRun, IsCut, IsLast, IsTimeless, IsVisit, Runs, counted}
+use Rattle.rd_http.specs.Runs.{Ends, AreNext, NoneLeft, HasRun, IsLast, IsVisit, Runs, counted}
 use Rattle.rd_messages.specs.Told.{Admits, Coming, Leaves, NoneToCome, TakesNext, TellsToo, Told, Visit, coming_of}
 use Rattle.rd_http.specs.Visits.{IsAnswer, IsReplied, Visits}
 use Rattle.rd_http.specs.declared.serve.Ended.TheVariants as ended

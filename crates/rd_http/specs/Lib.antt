@@ -1,3 +1,4 @@
+-- ---- what a reader of a public clause believes
 pub mod Visits
 pub mod Hidden
 pub mod Runs
@@ -6,16 +7,18 @@ pub use Rattle.rd_messages.specs.Told
 pub use Rattle.rd_messages.specs.Faults
 pub use Rattle.rd_messages.specs.Asked
 pub use Rattle.rd_messages.specs.Answers
-pub use Rattle.rd_messages.specs.Readings
 pub use Rattle.rd_messages.specs.Fields
 pub use Rattle.rd_messages.specs.Framing
 pub use Rattle.rd_messages.specs.Heads
 pub use Rattle.rd_messages.specs.Taken
 pub use Rattle.rd_messages.specs.Patterns
 pub use Rattle.rd_messages.specs.Routes
-pub use Rattle.rd_messages.specs.Examples
 pub use Rattle.rd_messages.specs.Objects
 pub use Rattle.rd_messages.specs.RequestBodies
 pub use Rattle.rd_messages.specs.MemoryDoors
 pub use Rattle.rd_messages.specs.ReplyText
 pub use Rattle.rd_messages.specs.Sent
+-- ---- inside: what only private functions and proofs cite
+-- Only private functions and proofs cite what follows a line `inside` in a file.
+pub use Rattle.rd_messages.specs.Readings
+pub use Rattle.rd_messages.specs.Examples

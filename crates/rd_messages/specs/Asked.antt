@@ -86,6 +86,7 @@ pub record IsFaultOf (stream : List ℕ) (fault : RequestFault) : Type 0 where
 
 -- ---- what is asked
 
+-- What bytes may ask for: a request of the desk, or the reason why they are none.
 pub data Asked : Type 0 where
   request : Request → Asked
   fault : RequestFault → Asked

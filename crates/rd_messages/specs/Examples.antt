@@ -11,14 +11,17 @@ use Rattle.rd_messages.specs.declared.route.Method.TheVariants as method
 use Rattle.rd_messages.specs.declared.route.Methods.TheVariants as methods
 use Rattle.rd_messages.specs.declared.route.Route.TheVariants as route
 
+-- each pattern reads well, and conflicts with none before it
 pub each_goes_in : all_go_in patterns [] ≡ true
 unfolding matchit_on_literals
 each_goes_in = refl
 
+-- the path of a file has the pattern of files, and its parts are the accession and the slot
 pub file_matched : matched (codes "/images/12/files/0") ≡ Some (pattern.Bytes, codes "12" ∷ codes "0" ∷ [])
 unfolding matched pattern_rows matchit_on_literals
 file_matched = refl
 
+-- a path with the slot left out has no pattern
 pub nothing_matched : matched (codes "/images/12/files") ≡ None
 unfolding matched pattern_rows matchit_on_literals
 nothing_matched = refl
@@ -28,39 +31,48 @@ pub file_named : route_of (codes "/images/12/files/0?slot=1") ≡ Some (route.By
 unfolding matched pattern_rows matchit_on_literals
 file_named = refl
 
+-- the survey of accession 12
 pub survey_named : route_of (codes "/images/12/survey") ≡ Some (route.Survey 12)
 unfolding matched pattern_rows matchit_on_literals
 survey_named = refl
 
+-- the check of accession 12
 pub check_named : route_of (codes "/images/12/check") ≡ Some (route.Check 12)
 unfolding matched pattern_rows matchit_on_literals
 check_named = refl
 
+-- the catalogue
 pub catalogue_named : route_of (codes "/catalogue") ≡ Some route.Catalogue
 unfolding matched pattern_rows matchit_on_literals
 catalogue_named = refl
 
+-- the takedown of rank 10 of accession 12
 pub takedown_named : route_of (codes "/images/12/rules/10") ≡ Some (route.Rule band.Takedown 12 10)
 unfolding matched pattern_rows matchit_on_literals
 takedown_named = refl
 
+-- the rule of rank 10 of deed 7
 pub deed_rule_named : route_of (codes "/deeds/7/rules/10") ≡ Some (route.Rule band.Deed 7 10)
 unfolding matched pattern_rows matchit_on_literals
 deed_rule_named = refl
 
+-- the image of accession 12, a D64 that came by deed 7; its digest has small and capital letters
 pub image_named : route_of (codes "/accessions/12/d64/7/0a0A0a0A0a0A0a0A0a0A0a0A0a0A0a0A0a0A0a0A0a0A0a0A0a0A0a0A0a0A0a0A")
     ≡ Some (route.Accession 12 D64 7 (replicate 32 10))
 unfolding matched pattern_rows matchit_on_literals hex_on_literals
 image_named = refl
 
+-- the number of a deed has no zero in front
 pub leading_zero_refused : route_of (codes "/deeds/07") ≡ None
 unfolding matched pattern_rows matchit_on_literals
 leading_zero_refused = refl
 
+-- a number of an accession or a deed has at most six digits
 pub seven_digits_refused : route_of (codes "/deeds/1000000") ≡ None
 unfolding matched pattern_rows matchit_on_literals
 seven_digits_refused = refl
 
+-- slot 0 is written 0, and not 00
 pub slot_00_refused : route_of (codes "/images/12/files/00") ≡ None
 unfolding matched pattern_rows matchit_on_literals
 slot_00_refused = refl
@@ -75,8 +87,10 @@ pub other_byte_refused : route_of (codes "/deeds/7" ++ 200 ∷ []) ≡ None
 unfolding matched pattern_rows matchit_on_literals
 other_byte_refused = refl
 
+-- POST, where a route takes it
 pub post_named : method_named methods.Post (codes "POST") ≡ Some method.Post
 post_named = refl
 
+-- small and capital letters of a method differ (RFC 9110)
 pub small_letters_refused : method_named methods.Get (codes "get") ≡ None
 small_letters_refused = refl

@@ -19,6 +19,7 @@ number_of Framing = 2
 number_of NoRoute = 3
 number_of (Method methods) = 4
 
+-- the name that the reply gives
 abbrev pub name_of : RequestFault → List ℕ
 name_of BadHead = codes "bad-head"
 name_of Framing = codes "framing"

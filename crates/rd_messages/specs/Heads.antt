@@ -16,6 +16,8 @@ pub record BeginsWith (stream : List ℕ) (head : RequestHead) (rest : List ℕ)
 abbrev pub HasNoHead : List ℕ → Type 0
 HasNoHead stream = (head : RequestHead) (rest : List ℕ) → ¬ (BeginsWith stream head rest)
 
+-- ---- inside
+
 -- The bytes begin with a head, which stands whole in the buffer: the spans are where its parts are.
 pub record HasHead (stream buf : List ℕ) (spans : List HeaderSpan) (found : RequestSpans) : Type 0 where
   pub head : RequestHead

@@ -1,3 +1,4 @@
+-- ---- what a reader of a public clause believes
 pub mod Told
 pub mod Faults
 pub mod Asked
@@ -9,9 +10,11 @@ pub mod Heads
 pub mod Taken
 pub mod Patterns
 pub mod Routes
-pub mod Examples
 pub mod Objects
 pub mod RequestBodies
 pub mod MemoryDoors
 pub mod ReplyText
 pub mod Sent
+-- ---- inside: what only private functions and proofs cite
+-- Only private functions and proofs cite what follows a line `inside` in a file.
+pub mod Examples

@@ -1,4 +1,4 @@
--- What the functions of a visit pass to one another.
+-- What was read of the bytes of a visit, and whether its values are within their limits.
 use Rattle.std.specs.Prelude.{◌≡◌, ℕ, List, Option, Some, None, option_map, IsSomeAnd, MatchOption, ⊤}
 use Rattle.sha2.specs.Sha256.{sha256}
 use Rattle.rd_protocol.specs.Requests.{IsRequest}

@@ -34,14 +34,17 @@ pub record IsDeedBody (body donor : List ℕ) (signed : ℤ) : Type 0 where
   pub json : IsJson body value
   pub tells : TellsDeed value donor signed
 
+-- the value describes no deed
 abbrev pub TellsNoDeed : Data → Type 0
 TellsNoDeed value = (donor : List ℕ) (signed : ℤ) → ¬ TellsDeed value donor signed
 
+-- the body describes no deed
 abbrev pub IsNoDeedBody : List ℕ → Type 0
 IsNoDeedBody body = (donor : List ℕ) (signed : ℤ) → ¬ IsDeedBody body donor signed
 
 -- ---- keys
 
+-- the word for an audience
 abbrev pub audience_word : Audience → List ℕ
 audience_word Public = codes "public"
 audience_word Room = codes "room"
@@ -59,9 +62,11 @@ pub record IsKeyBody (body : List ℕ) (audience : Audience) : Type 0 where
   pub json : IsJson body value
   pub tells : TellsKey value audience
 
+-- the value is not one that says for whom a desk key is
 abbrev pub TellsNoKey : Data → Type 0
 TellsNoKey value = (audience : Audience) → ¬ TellsKey value audience
 
+-- the body is not one that says for whom a desk key is
 abbrev pub IsNoKeyBody : List ℕ → Type 0
 IsNoKeyBody body = (audience : Audience) → ¬ IsKeyBody body audience
 
@@ -90,6 +95,7 @@ HasDayAt key value (Some day) = (date : List ℕ) × (text_at key value ≡ Some
 
 -- ---- of which files
 
+-- the key of a selector, which says of which sort it is
 abbrev pub select_key : Select → List ℕ
 select_key AllFiles = codes "all"
 select_key (Slot slot) = codes "slot"
@@ -112,6 +118,7 @@ select_data select = one_member (select_key select) (select_value select)
 
 -- ---- rules
 
+-- the keys that the value of a rule may have
 abbrev pub RULE_KEYS : List (List ℕ)
 RULE_KEYS = codes "audiences" ∷ codes "effect" ∷ codes "from" ∷ codes "select" ∷ codes "until" ∷ []
 
@@ -138,9 +145,12 @@ pub record IsRuleBody (band : Band) (scope rank : ℕ) (body : List ℕ) (rule :
   pub tells : TellsRule value rule
   pub at : IsAt band scope rank rule
 
--- it describes no rule whose values are within their limits
+-- ---- inside
+
+-- the value describes no rule whose values are within their limits
 abbrev pub TellsNoRule : Data → Type 0
 TellsNoRule value = (rule : Rule) → TellsRule value rule → ¬ IsRule rule
 
+-- the body describes no rule of this place whose values are within their limits
 abbrev pub IsNoRuleBody : Band → ℕ → ℕ → List ℕ → Type 0
 IsNoRuleBody band scope rank body = (rule : Rule) → IsRuleBody band scope rank body rule → ¬ IsRule rule

@@ -10,6 +10,8 @@ pub record TakesUpTo (limit : ℕ) (old new : Option (List ℕ)) : Type 0 where
   pub few : length bytes ≤ limit
   pub taken : Consumes old new bytes
 
+-- ---- inside
+
 -- Bytes have grown by those that the wire has given.
 pub record GrowsByTaken (old new : Option (List ℕ)) (before after : List ℕ) : Type 0 where
   pub bytes : List ℕ

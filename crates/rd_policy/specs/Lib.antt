@@ -1,3 +1,4 @@
+-- ---- what a reader of a public clause believes
 pub mod Days
 pub mod DayFaults
 pub mod Zones
@@ -7,4 +8,5 @@ pub mod Audiences
 pub mod Rules
 pub mod Matches
 pub mod Verdicts
+-- ---- inside: what only private functions and proofs cite
 pub mod Neighbours

@@ -1,4 +1,4 @@
-/// A value that is like another but for some of its fields.
+/// A value that is like another except for some of its fields.
 macro_rules! like {
     ($type:ident, $other:expr, $($field:ident: $value:expr),+) => {
         $type { $($field: $value,)+ ..$other }

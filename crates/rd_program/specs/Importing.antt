@@ -69,8 +69,8 @@ IsRowRefusal refusal = (refusal ≡ Device) ⊎ ((refusal ≡ NoMemory) ⊎ (ref
 abbrev pub RefusesRow : Option (List ℕ) → Option (List ℕ) → Refusal → Type 0
 RefusesRow old new refusal = IsRowRefusal refusal × GainsFrontOfLine old new
 
--- Why a run over the rows of a sheet ends early, and what was written then: the lines of the rows before a row of another
--- length, or those of the rows before a failure and a front part of the next.
+-- Why a run over the rows of a sheet ends early, and what was written then: the lines of the rows before a row of
+-- another length, or those of the rows before a failure and a front part of the next.
 abbrev pub RefusesRows : Option (List ℕ) → Option (List ℕ) → Refusal → Type 0
 RefusesRows old new refusal = ((refusal ≡ BadSheet) × GainsLines IsRowLine old new) ⊎ (IsRowRefusal refusal × GainsFront old new)
 

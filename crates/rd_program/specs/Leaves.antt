@@ -121,7 +121,8 @@ pub record IsDayBy (moment : Option ℤ) (rule : List ℕ) (day : ℤ) : Type 0 
 abbrev pub IsSame : Desk → Desk → Type 0
 IsSame old new = new ≡ old
 
--- the desk is as it was, or after the step of one check of the accession, for a caller with this badge, on one of these days
+-- the desk is as it was, or after the step of one check of the accession, for a caller with this badge, on one of
+-- these days
 abbrev pub Checks : Option (List ℕ) → ℕ → (ℤ → Type 0) → Desk → Desk → Type 0
 Checks badge acc Days old new = (new ≡ old) ⊎ ((day : ℤ) × Days day × IsStep old day (record { badge = badge; what = request.Check acc }) new)
 
@@ -147,6 +148,8 @@ TakesInTurn badge day (asked ∷ more) old new =
 -- the desk is as it was, or images were taken in, in turn, on one of these days
 abbrev pub TakesIn : List ℕ → (ℤ → Type 0) → Desk → Desk → Type 0
 TakesIn badge Days old new = (new ≡ old) ⊎ ((day : ℤ) × Days day × ((asked : List What) × TakesInTurn badge day asked old new))
+
+-- ---- inside
 
 -- the desk is as it was, or after the step of one request to take in the image of this row, whatever its bytes
 abbrev pub TakesRow : List ℕ → ℤ → SheetRow → Desk → Desk → Type 0

@@ -1,4 +1,4 @@
-pub mod Faults
+-- ---- what a reader of a public clause believes
 pub mod Inits
 pub mod Serving
 pub mod Importing
@@ -16,5 +16,8 @@ pub use Rattle.rd_commands.specs.Cat
 pub use Rattle.rd_commands.specs.Printed
 pub use Rattle.rd_commands.specs.Listed
 pub use Rattle.rd_commands.specs.Told
-pub use Rattle.rd_commands.specs.Sheets
 pub use Rattle.rd_commands.specs.Versions
+-- ---- inside: what only private functions and proofs cite
+-- Only private functions and proofs cite what follows a line `inside` in a file.
+pub mod Faults
+pub use Rattle.rd_commands.specs.Sheets

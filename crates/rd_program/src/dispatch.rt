@@ -94,8 +94,8 @@ fn perform<R: Read, W: Write, M: Machine>(
 }
 
 /// Runs the program on its words, without its name, and gives its exit status: 0 if it did what
-/// the words ask for; 1 if it refuses the image, its file, a sheet, a row of it or a request, if a
-/// desk stands already, or if a check finds an image changed; 2 if the words are no command; and 3
+/// the words ask for; 1 if it refuses the image, its file, a sheet, a row of it or a request, if
+/// there is a desk already, or if a check finds an image changed; 2 if the words are no command; and 3
 /// if the device, the clock, memory or the store failed.
 ///
 /// It reads the image `-` from the input, and any other through the machine. It writes what the

@@ -1,4 +1,4 @@
-//! Why no desk is made or opened, as the program tells it.
+//! Why a command makes or opens no desk, as a refusal of the program.
 
 ghost use Rattle.std.specs.Prelude.{◌≡◌};
 ghost use Rattle.rd_program.specs.Faults.{refusal_to_create, refusal_to_open};
@@ -6,7 +6,7 @@ ghost use Rattle.rd_program.specs.Faults.{refusal_to_create, refusal_to_open};
 use rd_commands::Refusal;
 use rd_store::{CreateFault, OpenFault};
 
-/// The refusal of a command that makes no desk, by why none is made.
+/// The refusal of a command that cannot make a desk, by the reason.
 pub(crate) fn not_made(fault: CreateFault) -> Refusal
     ensures { result ≡ refusal_to_create fault }
 {
@@ -16,7 +16,7 @@ pub(crate) fn not_made(fault: CreateFault) -> Refusal
     }
 }
 
-/// The refusal of a command that opens no desk, by why none is opened.
+/// The refusal of a command that cannot open a desk, by the reason.
 pub(crate) fn not_opened(fault: OpenFault) -> Refusal
     ensures { result ≡ refusal_to_open fault }
 {

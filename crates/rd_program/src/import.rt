@@ -58,7 +58,7 @@ fn put_image<S: Alter + Drop>(
     desk.answer(alloc, giver.seconds, &Request { badge, what })
 }
 
-/// Writes a line that says this of an accession, and flushes the output.
+/// Writes a line that says this about an accession, and flushes the output.
 ///
 /// It fails with `NoMemory`, and with `Device` when a write or the flush fails.
 fn tell_said<W: Write>(alloc: Global, acc: u32, said: &str, output: &mut W) -> Result<(), Refusal>

@@ -76,7 +76,7 @@ fn refusal_told(alloc: Global, reply: &Reply) -> Refusal
     }
 }
 
-/// The line that says this of an accession.
+/// The line that says this about an accession.
 fn said_text(alloc: Global, acc: u32, said: &str) -> Result<String, Refusal>
     ensures line { IfOk result (λ line. string_bytes line ≡ said_line acc said.now) }
     ensures refused { IfErr result (λ refusal. refusal ≡ Refusal.NoMemory) }

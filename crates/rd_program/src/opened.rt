@@ -15,7 +15,7 @@ use rd_store::{Refused, Store};
 use sqlite::Alter;
 use std::alloc::Global;
 
-/// Opens the desk in the file of a store, with the clocks of a zone. A store of version 1 is of version 2 then.
+/// Opens the desk in the file of a store, with the clocks of a zone. It brings a store of version 1 to version 2.
 ///
 /// It fails with `NotADesk`, `Version`, `Inconsistent` and `Store`, and with `NoMemory`.
 pub(crate) fn open_desk<M: Machine>(

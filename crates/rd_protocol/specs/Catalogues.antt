@@ -12,6 +12,7 @@ use Rattle.rd_volume.specs.Words.{words_of}
 use Rattle.rd_protocol.specs.declared.said.Line.{Line}
 use Rattle.rd_protocol.specs.declared.said.Listing.{Listing}
 
+-- the word for an effect
 abbrev pub effect_word : Effect → List ℕ
 effect_word effect.Deny = codes "deny"
 effect_word effect.List = codes "list"

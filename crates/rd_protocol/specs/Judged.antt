@@ -36,6 +36,7 @@ abbrev pub accession_at : Band → ℕ → Option ℕ
 accession_at Takedown scope = Some scope
 accession_at Deed scope = None
 
+-- the deed that a rule of this band and number is about; none for a takedown
 abbrev pub deed_at : Band → ℕ → Option ℕ
 deed_at Takedown scope = None
 deed_at Deed scope = Some scope

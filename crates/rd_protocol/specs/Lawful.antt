@@ -19,6 +19,7 @@ pub record IsDonor (text : List ℕ) : Type 0 where
   pub short : length text ≤ 1_000
   pub plain : All (λ byte. 32 ≤ byte) text
 
+-- A deed has a number from 1 to 999,999, a donor, and the day on which it was signed.
 pub record IsDeed (num : ℕ) (deed : DeedRow) : Type 0 where
   pub scope : IsScope num
   pub donor : IsDonor deed.donor
@@ -30,10 +31,13 @@ pub record IsImage (acc : ℕ) (image : ImageRow) : Type 0 where
   pub digest : length image.digest ≡ 32
   pub bytes : length image.bytes ≡ size_of image.kind
 
+-- A key has a digest of 32 bytes, the length of a SHA-256 (FIPS 180-4), and is for the room or the staff.
 pub record IsKey (digest : List ℕ) (audience : Audience) : Type 0 where
   pub length_is : length digest ≡ 32
   pub not_public : audience ≢ Public
 
+-- The desk is lawful: all that it holds is within its limits; the deed of each image stands, and so does what each
+-- rule and each check is about; and there is a staff key.
 pub record IsLawful (desk : Desk) : Type 0 where
   pub deeds : (num : ℕ) (deed : DeedRow) → get desk.deeds num ≡ Some deed → IsDeed num deed
   pub images : (acc : ℕ) (image : ImageRow) → get desk.images acc ≡ Some image → IsImage acc image × IsSome (get desk.deeds image.deed)

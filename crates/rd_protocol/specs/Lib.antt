@@ -1,3 +1,4 @@
+-- ---- what a reader of a public clause believes
 pub mod State
 pub mod Lawful
 pub mod RulesFor
@@ -11,11 +12,12 @@ pub mod BodyPieces
 pub mod Texts
 pub mod Checks
 pub mod Catalogues
-pub mod Written
 pub mod Judged
 pub mod Replies
 pub mod Laws
 pub mod Shown
 pub mod Hidden
-pub mod Queries
 pub mod Parts
+-- ---- inside: what only private functions and proofs cite
+pub mod Written
+pub mod Queries

@@ -20,6 +20,7 @@ number_of WrongSize = 14
 number_of DigestDiffers = 15
 number_of Conflict = 16
 
+-- the name that the reply gives
 abbrev pub name_of : Refusal → List ℕ
 name_of UnknownKey = codes "unknown-key"
 name_of StaffOnly = codes "staff-only"

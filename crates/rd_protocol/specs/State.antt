@@ -44,6 +44,7 @@ pub record Terms : Type 0 where
   pub select : Select
   pub effect : Effect
 
+-- the rule with a place and terms
 abbrev pub rule_of : Place × Terms → Rule
 rule_of entry = record {
   band = entry.0.band;
@@ -56,9 +57,11 @@ rule_of entry = record {
   effect = entry.1.effect;
 }
 
+-- the place of a rule
 abbrev pub place_of : Rule → Place
 place_of rule = record { band = rule.band; scope = rule.scope; rank = rule.rank }
 
+-- the terms of a rule
 abbrev pub terms_of : Rule → Terms
 terms_of rule = record { audiences = rule.audiences; from = rule.from; until = rule.until; select = rule.select; effect = rule.effect }
 
@@ -67,6 +70,7 @@ pub record Checkup : Type 0 where
   pub acc : ℕ
   pub day : ℤ
 
+-- checks by the number of their accession, then by their day
 abbrev pub checkup_cmp : Checkup → Checkup → Ordering
 checkup_cmp = then_cmp (on (λ checkup. checkup.acc) nat_cmp) (on (λ checkup. checkup.day) int_cmp)
 
@@ -74,6 +78,8 @@ checkup_cmp = then_cmp (on (λ checkup. checkup.acc) nat_cmp) (on (λ checkup. c
 abbrev pub digest_cmp : List ℕ → List ℕ → Ordering
 digest_cmp = slice_cmp nat_cmp
 
+-- What a desk holds, with at most one entry for each number, place or digest, and for each accession and day of a
+-- check.
 pub record Desk : Type 0 where
   -- deeds by number, images by accession, rules by place
   pub deeds : FinMap nat_cmp DeedRow
@@ -115,6 +121,7 @@ HasOtherImage desk acc image = (standing : ImageRow) × (get desk.images acc ≡
 abbrev pub rules_at : Desk → Band → ℕ → List Rule
 rules_at desk band scope = map rule_of (entries (retain_keys desk.rules (λ place. is_at band scope place.band place.scope)))
 
+-- the rules for an accession with this image: its takedowns, then the rules of its deed; without an image none
 abbrev pub rules_with : Desk → ℕ → Option ImageRow → List Rule
 rules_with desk acc None = []
 rules_with desk acc (Some image) = rules_at desk Takedown acc ++ rules_at desk Deed image.deed
@@ -137,9 +144,11 @@ registered e = (e.0, accession_of e.1)
 
 -- ---- what the commands make of it
 
+-- a deed is put at its number, in place of one that stands there
 abbrev pub with_deed : ℕ → DeedRow → Desk → Desk
 with_deed num deed desk = record desk { deeds = insert desk.deeds num deed }
 
+-- an image is put where none stands, and one that stands is kept
 abbrev pub put_or_kept : Option ImageRow → ℕ → ImageRow → Desk → Desk
 put_or_kept None acc image desk = record desk { images = insert desk.images acc image }
 put_or_kept (Some standing) acc image desk = desk
@@ -148,12 +157,15 @@ put_or_kept (Some standing) acc image desk = desk
 abbrev pub with_image : ℕ → ImageRow → Desk → Desk
 with_image acc image desk = put_or_kept (get desk.images acc) acc image desk
 
+-- a rule is put at its place, in place of one that stands there
 abbrev pub with_rule : Place → Terms → Desk → Desk
 with_rule place terms desk = record desk { rules = insert desk.rules place terms }
 
+-- the rule at a place goes, if one stands there
 abbrev pub without_rule : Place → Desk → Desk
 without_rule place desk = record desk { rules = remove desk.rules place }
 
+-- the outcome of a check is put for its accession and day, in place of one of the same day
 abbrev pub with_check : ℕ → ℤ → Outcome → Desk → Desk
 with_check acc day outcome desk = record desk { checks = insert desk.checks (record { acc = acc; day = day }) outcome }
 
@@ -161,8 +173,10 @@ with_check acc day outcome desk = record desk { checks = insert desk.checks (rec
 abbrev pub without_check : ℕ → ℤ → Desk → Desk
 without_check acc day desk = record desk { checks = remove desk.checks (record { acc = acc; day = day }) }
 
+-- a key is put for an audience, in place of the audience that it had, if it had one
 abbrev pub with_key : List ℕ → Audience → Desk → Desk
 with_key digest audience desk = record desk { keys = insert desk.keys digest audience }
 
+-- a key goes, if it stands
 abbrev pub without_key : List ℕ → Desk → Desk
 without_key digest desk = record desk { keys = remove desk.keys digest }

@@ -31,6 +31,7 @@ use Rattle.rd_protocol.specs.declared.said.Survey.{Survey}
 
 -- ---- values
 
+-- a number, as JSON has it (RFC 8259)
 abbrev pub natural : ℕ → Data
 natural n = number (unsigned n)
 
@@ -39,11 +40,13 @@ abbrev pub natural_or_null : Option ℕ → Data
 natural_or_null None = null
 natural_or_null (Some n) = natural n
 
+-- an array of strings
 abbrev pub texts : List (List ℕ) → Data
 texts words = array (items_of (map (λ word. string word) words))
 
 -- ---- refusals
 
+-- the member `rule`, with a label
 abbrev pub rule_member : List ℕ → Members
 rule_member rule = member (codes "rule") (string rule) no_members
 
@@ -62,6 +65,7 @@ detail_of WrongSize = no_members
 detail_of DigestDiffers = no_members
 detail_of Conflict = no_members
 
+-- an object with the name of a refusal, and what else is said of it
 abbrev pub error_data : List ℕ → Members → Data
 error_data name detail = object (member (codes "error") (string name) detail)
 
@@ -85,6 +89,7 @@ abbrev pub line_data : Kind → Line → Data
 line_data kind line =
     file_data (effect_word line.verdict.effect) (texts (words_of kind line.file.faults)) (label_text line.verdict.label) line.file
 
+-- a listing: an accession, its deed, its kind and its files
 abbrev pub listing_data : Listing → Data
 listing_data listing =
     object
@@ -93,6 +98,7 @@ listing_data listing =
     (member (codes "files") (array (items_of (map (line_data listing.kind) listing.files)))
     (member (codes "kind") (string (word_of listing.kind)) no_members))))
 
+-- an accession in the list of images, with the number of its files that the caller may see
 abbrev pub image_data : ImageLine → Data
 image_data line =
     object
@@ -101,16 +107,19 @@ image_data line =
     (member (codes "files") (natural line.files)
     (member (codes "kind") (string (word_of line.kind)) no_members))))
 
+-- the list of images
 abbrev pub images_data : List ImageLine → Data
 images_data lines = object (member (codes "images") (array (items_of (map image_data lines))) no_members)
 
 -- ---- what is surveyed and checked
 
+-- the word for how the directory ends: at a last block, in a loop, or off the disk
 abbrev pub end_word : End → List ℕ
 end_word (end.Last byte) = codes "end"
 end_word end.Loop = codes "loop"
 end_word end.Off = codes "off"
 
+-- the three counts of a block map
 abbrev pub counts_data : MapReport → Data
 counts_data map =
     object
@@ -142,22 +151,27 @@ survey_data kind directory map survey =
     (member (codes "signed") (string survey.signed)
     (member (codes "size_differs") (natural survey.report.size_differs) no_members))))))))))))
 
+-- a survey, with the word for its kind, the word for how its directory ends, and the counts of its block map
 abbrev pub surveyed_data : Survey → Data
 surveyed_data survey =
     survey_data (word_of survey.kind) (end_word survey.report.directory) (map_data survey.kind survey.report.map) survey
 
+-- the word for the outcome of a check
 abbrev pub outcome_word : Outcome → List ℕ
 outcome_word outcome.Sound = codes "sound"
 outcome_word outcome.Changed = codes "changed"
 
+-- the outcome of a check
 abbrev pub outcome_data : Outcome → Data
 outcome_data found = object (member (codes "outcome") (string (outcome_word found)) no_members)
 
+-- what is said of a command that was carried out
 abbrev pub DONE : Data
 DONE = object (member (codes "done") (boolean true) no_members)
 
 -- ---- replies
 
+-- a reply with this status, whose body is the text of this value
 abbrev pub in_json : ℕ → Data → Reply
 in_json status said = record { status = status; form = Json; body = held (compact_text said) }
 

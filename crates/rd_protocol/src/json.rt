@@ -189,7 +189,7 @@ pub fn unavailable() -> Reply
     fixed_reply(503, "{\"error\":\"unavailable\"}")
 }
 
-/// The reply that says an answer: its status, and its body as JSON (RFC 8259), as CSV (RFC 4180)
+/// The reply that gives an answer: its status, and its body as JSON (RFC 8259), as CSV (RFC 4180)
 /// for a catalogue, or as the bytes of a file. It fails only when memory runs out.
 pub fn reply_to(alloc: Global, said: Said) -> Result<Reply, NoMemory>
     ensures { IfOk result (λ reply. reply ≡ reply_of said) }

@@ -40,9 +40,9 @@ pub fn hidden_bytes_are_not_told()
 /// the same keys and, at the same accessions, images of the same kinds and deeds, which show the
 /// same. An image shows at which slots its files are; of a file that is denied the label of the
 /// rule; of any other its description and its units, with the verdict on it; and of one that the
-/// caller may read the bytes, if it is sound. So the name, size, type and faults of a file that is
-/// denied to the caller show in no reply to them, but as far as the label of the rule or a crossed
-/// file tells of them. It says nothing of what only the staff may ask, where the staff asks it.
+/// caller may read the bytes, if it is sound. So no reply shows the caller more of the name, size,
+/// type and faults of a file that is denied to them than the label of the rule or a crossed file
+/// shows. It says nothing of what only the staff may ask, where the staff asks it.
 ///
 /// A desk shows the same as itself, and so does each desk that looks alike to the caller.
 pub fn what_is_shown_decides()

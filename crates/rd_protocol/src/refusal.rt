@@ -7,13 +7,13 @@ use rd_policy::Label;
 /// order.
 #[derive(Clone, Copy)]
 pub enum Refusal {
-    /// The museum does not know the caller's desk key.
+    /// The desk does not know the caller's desk key.
     UnknownKey,
     /// Only the staff may do this, and the caller is not staff.
     StaffOnly,
     /// The body of the command cannot be read.
     BadBody,
-    /// No image stands at the accession.
+    /// There is no image at the accession.
     NoAccession,
     /// The image has no file at the slot.
     NoFile,
@@ -30,7 +30,7 @@ pub enum Refusal {
     WrongSize,
     /// The SHA-256 of the image's bytes is not the one that was given for them.
     DigestDiffers,
-    /// Another image stands at the accession, or no staff key would be left.
+    /// There is another image at the accession, or no staff key would be left.
     Conflict,
 }
 

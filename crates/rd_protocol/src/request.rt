@@ -7,7 +7,7 @@ use rd_policy::{Audience, Band, Rule, is_day, is_rank, is_scope};
 /// A request: what the caller asks, and who they are.
 #[derive(Drop)]
 pub struct Request {
-    /// The SHA-256 of the caller's desk key; `None` if they show none, and so are the public.
+    /// The SHA-256 of the caller's desk key; `None` if they show none: then they are the public.
     pub badge: Option<[u8; 32]>,
     /// What they ask.
     pub what: What,

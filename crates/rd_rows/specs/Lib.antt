@@ -1,3 +1,4 @@
+-- ---- what a reader of a public clause believes
 pub mod Written
 pub mod CpmEntries
 pub mod CbmEntries

@@ -112,7 +112,7 @@ pub fn put_mark(image: &mut [u8], block: u16, mark: u8)
     put(image, SIZE + block as usize, &[mark]);
 }
 
-/// The four bytes that tell the free blocks of a track of an empty disk: how many, and a bit for
+/// The four bytes that count the free blocks of a track of an empty disk: how many, and a bit for
 /// each.
 fn free_blocks(track: u8) -> [u8; 4] {
     match track {

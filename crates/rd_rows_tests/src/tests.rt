@@ -1,4 +1,4 @@
-/// A value like another of its type, but for these fields.
+/// A value like another of its type, except for these fields.
 macro_rules! like {
     ($type:ident, $other:expr, $($field:ident: $value:expr),+) => {
         $type { $($field: $value,)+ ..$other }

@@ -26,7 +26,7 @@ struct Plan {
     question: Came,
     before: Wanted,
     after: Wanted,
-    /// Whether the visit takes no memory but for the bytes that go out.
+    /// Whether the visit takes no memory except for the bytes that go out.
     is_fixed: bool,
 }
 
@@ -629,7 +629,7 @@ fn failed(first: &MemoryVisit, second: &MemoryVisit) -> u32 {
     }
 }
 
-/// Both visits of a run ended as memory lets them, and the run tells so; one of them got its reply. Says whether both
+/// Both visits of a run ended as memory lets them, and the run says so; one of them got its reply. Says whether both
 /// did.
 fn assert_both(
     rt: &impl Abort,

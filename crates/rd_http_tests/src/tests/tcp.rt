@@ -27,7 +27,7 @@ impl Clock for Standing {
     }
 }
 
-/// A visit over TCP: its name, what the clock tells, what the client sends, how the run goes, and what the
+/// A visit over TCP: its name, what the clock shows, what the client sends, how the run goes, and what the
 /// client reads.
 type Call = (&'static str, Option<i64>, Came, Served, Wanted);
 

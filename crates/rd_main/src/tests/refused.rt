@@ -1,4 +1,4 @@
-//! Runs that a script makes under an allocator that refuses one growth. A run that tells that memory was
+//! Runs that a script makes under an allocator that refuses one growth. A run that says that memory was
 //! refused is made again, and then has to end as ever. Outputs are arrays, which ask for no memory.
 
 use super::fakes::{Bare, Museum, Sheet};
@@ -91,10 +91,10 @@ fn run_on_image(
     run(alloc, words, &mut input, &mut room, &mut told, &mut Bare)
 }
 
-/// A run on an image: its words, its status, and the line that it tells; a mistake in the words has a text of its own.
+/// A run on an image: its words, its status, and the line that it writes; a mistake in the words has a text of its own.
 type Telling = (Disk, &'static [&'static str], u8, &'static str);
 
-/// Runs words on an image, again if memory was refused, and gives the status and what it tells, with zeros after it. A
+/// Runs words on an image, again if memory was refused, and gives the status and what it says, with zeros after it. A
 /// run that was refused has to leave the output, which is all zeros, as it was.
 fn run_again(
     rt: &impl Abort,
@@ -115,8 +115,8 @@ fn run_again(
     (status, errors)
 }
 
-/// A run ends with the status and tells the line, once there is memory. A mistake in the words has a whole text, which
-/// a second run tells too.
+/// A run ends with the status and says the line, once there is memory. A mistake in the words has a whole text, which
+/// a second run says too.
 fn assert_run(
     rt: &impl Abort,
     alloc: Global,
@@ -278,7 +278,7 @@ fn list_when_memory_is_refused(rt: HostRuntime) -> Result<(), Fail> {
     Ok(())
 }
 
-/// Runs that are refused with nothing written, and what they tell.
+/// Runs that are refused with nothing written, and what they say.
 const REFUSALS: &[Telling] = table![
     (Disk::Faulty, &["cat", "cpm8", "-", "0"], 1, "desk: faulty hole\n");
     (Disk::Faulty, &["cat", "cpm8", "-", "9"], 1, "desk: no-file\n");
@@ -319,7 +319,7 @@ fn help_when_memory_is_refused(rt: HostRuntime) -> Result<(), Fail> {
     Ok(())
 }
 
-/// What a run on a museum left: its status, and what was written and told, with zeros after it.
+/// What a run on a museum left: its status, and what it wrote to its two outputs, with zeros after it.
 #[derive(Drop)]
 struct Left {
     status: u8,
@@ -348,12 +348,12 @@ fn says(bytes: &[u8], text: &str) -> bool {
     }
 }
 
-/// The run left this status, and wrote and told these texts.
+/// The run left this status, and wrote these texts to its two outputs.
 fn is_left(left: &Left, status: u8, output: &str, errors: &str) -> bool {
     left.status == status && says(&left.output, output) && says(&left.errors, errors)
 }
 
-/// Memory was refused, or the store failed, which cannot tell why; so much was written.
+/// Memory was refused, or the store failed, which cannot say why; so much was written.
 fn is_refused(left: &Left, output: &str) -> bool {
     is_left(left, 3, output, "desk: no-memory\n") || is_left(left, 3, output, "desk: store\n")
 }
@@ -620,8 +620,8 @@ fn stands(museum: &mut Museum) -> bool {
             .is_ok()
 }
 
-/// An `import` ends as ever, at the second time where memory is refused at the first, which tells what it did: a
-/// row that is told as done stands. The tables were left as they were, or with the image that was taken in.
+/// An `import` ends as ever, at the second time where memory is refused at the first, which says what it did: a
+/// row that it called done stands. The tables were left as they were, or with the image that was taken in.
 fn assert_import(
     rt: &impl Abort,
     museum: &mut Museum,

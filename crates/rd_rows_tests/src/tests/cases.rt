@@ -1,4 +1,4 @@
-//! Cases: an image, and what has to be told of it.
+//! Cases: an image, and what desk has to say of it.
 
 use super::built::{has_bytes, has_mark, has_unit};
 use super::cbm_directory::{has_entry, is_directory};
@@ -13,7 +13,7 @@ use rd_volume::{End, Image, NoMemory};
 use std::alloc::Global;
 use std::process::Abort;
 
-/// What has to be told.
+/// What desk has to say.
 #[derive(Clone, Copy)]
 pub(super) enum Wanted {
     /// How many bytes there are, and bytes from a place on.
@@ -46,10 +46,10 @@ pub(super) enum Wanted {
     Report((u16, u16, u16, u16), (u16, u16, u16), End, &'static [u8]),
 }
 
-/// A label, an image, and what has to be told of it.
+/// A label, an image, and what desk has to say of it.
 pub(super) type Case = (&'static str, Sample, Wanted);
 
-/// Whether it is told of an image.
+/// Whether desk says it of an image.
 fn is_told_of(alloc: Global, image: &Image<'_>, wanted: Wanted) -> Result<bool, NoMemory> {
     match wanted {
         Wanted::Bytes(size, place, bytes) => Ok(has_bytes(image.bytes(), size, place, bytes)),

@@ -1,4 +1,4 @@
-//! What `rd_cbm::directory` tells of a 1541 disk.
+//! What `rd_cbm::directory` says of a 1541 disk.
 
 use super::cases::{Case, Wanted, assert_cases};
 use super::sample::{

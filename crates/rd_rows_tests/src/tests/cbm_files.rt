@@ -1,4 +1,4 @@
-//! What `rd_cbm::files` tells of the files of a 1541 disk.
+//! What `rd_cbm::files` says of the files of a 1541 disk.
 
 use super::cases::{Case, Wanted, assert_cases};
 use super::sample::{
@@ -11,10 +11,10 @@ use rd_rows::bytes::padded;
 use rd_rows::cbm::{NewCbmEntry, PROGRAM};
 use std::alloc::Global;
 
-/// What has to be told of files in slots that follow one another.
+/// What desk has to say of files in slots that follow one another.
 #[derive(Clone, Copy)]
 pub(super) struct Told {
-    /// How many files are told so, and the slot of the first.
+    /// How many files have this description, and the slot of the first.
     count: usize,
     slot: u16,
     class: Class,
@@ -29,7 +29,7 @@ pub(super) struct Told {
     claimed: u16,
 }
 
-/// What is told of the program `FILE` at slot 0, where it has no blocks.
+/// What desk says of the program `FILE` at slot 0, where it has no blocks.
 const FILE: Told = Told {
     count: 1,
     slot: 0,
@@ -44,18 +44,18 @@ const FILE: Told = Told {
     claimed: 0,
 };
 
-/// What is told of the one program `HELLO`.
+/// What desk says of the one program `HELLO`.
 const HELLO_TOLD: Told =
     like!(Told, FILE, name: b"HELLO", blocks: &[(336, 1), (346, 1)], last: 5, size_field: 2, claimed: 2);
 
-/// What is told of `FILE`, where it is crossed with another of one block.
+/// What desk says of `FILE`, where it is crossed with another of one block.
 const SHARED: Told = like!(Told, FILE, faults: 8, claimed: 1);
 
 /// A closed relative file with its data from 17/0 on and its side sectors from 17/1 on.
 const RELATIVE: NewCbmEntry<'static> =
     like!(NewCbmEntry, PROGRAM, type_byte: 0x84, side: (17, 1), record_length: 10);
 
-/// What is told of it, where it is sound.
+/// What desk says of it, where it is sound.
 const RELATIVE_TOLD: Told = like!(Told, FILE, class: Class::Rel, claimed: 2);
 
 /// A formatted disk with these entries from slot 0 of 18/1 on.
@@ -146,7 +146,7 @@ const HOSTILE: &[Case] = table![
     ]));
 ];
 
-/// Whether a file of these blocks is told so, but for its slot.
+/// Whether a file of these blocks has this description, except for its slot.
 fn is_told(file: &CbmFile, told: &Told, blocks: &[u16]) -> bool {
     file.class == told.class
         && file.locked == told.locked
@@ -159,7 +159,7 @@ fn is_told(file: &CbmFile, told: &Told, blocks: &[u16]) -> bool {
         && file.blocks.as_slice() == blocks
 }
 
-/// Whether files in slots that follow one another, from the first on, are told so.
+/// Whether files in slots that follow one another, from the first on, have this description.
 fn are_told(alloc: Global, files: &[CbmFile], told: &Told) -> Result<bool, NoMemory> {
     let blocks = units_of(alloc, told.blocks)?;
     for (slot, file) in (told.slot..).zip(files) {
@@ -170,7 +170,7 @@ fn are_told(alloc: Global, files: &[CbmFile], told: &Told) -> Result<bool, NoMem
     Ok(true)
 }
 
-/// Whether the files of a 1541 disk are told so, each of them.
+/// Whether the files of a 1541 disk have these descriptions, each of them.
 pub(super) fn are_files(
     alloc: Global,
     image: &Image<'_>,

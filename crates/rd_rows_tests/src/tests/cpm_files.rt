@@ -1,4 +1,4 @@
-//! What `rd_cpm::files` tells of the files of a CP/M disk.
+//! What `rd_cpm::files` says of the files of a CP/M disk.
 
 use super::cases::{Case, Wanted, assert_cases};
 use super::sample::{
@@ -23,7 +23,7 @@ const OFF_DISK: u8 = 32;
 
 const CROSSED: u8 = 64;
 
-/// What has to be told of a file.
+/// What desk has to say of a file.
 #[derive(Clone, Copy)]
 pub(super) struct Told {
     slot: u8,
@@ -36,7 +36,7 @@ pub(super) struct Told {
     sectors: Runs,
 }
 
-/// What is told of the file `FILE`, where it has no records.
+/// What desk says of the file `FILE`, where it has no records.
 const EMPTY: Told = Told {
     slot: 0,
     user: 0,
@@ -47,7 +47,7 @@ const EMPTY: Told = Told {
     sectors: &[],
 };
 
-/// What is told of it, where it has one record in block 2.
+/// What desk says of it, where it has one record in block 2.
 const ONE_TOLD: Told = like!(Told, EMPTY, sectors: &[(16, 1)]);
 
 const HELLO_TOLD: Told = like!(Told, ONE_TOLD, name: b"HELLO   TXT");
@@ -161,7 +161,7 @@ fn is_told(file: &CpmFile, told: &Told, sectors: &[u16]) -> bool {
         && file.sectors.as_slice() == sectors
 }
 
-/// Whether the files of a CP/M disk are told so, each of them.
+/// Whether the files of a CP/M disk have these descriptions, each of them.
 pub(super) fn are_files(
     alloc: Global,
     image: &Image<'_>,

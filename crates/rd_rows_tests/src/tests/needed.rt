@@ -1,4 +1,4 @@
-//! Bytes of an image that show in what a survey tells or in the bytes of files, and bytes that do not.
+//! Bytes of an image that show in what a survey says or in the bytes of files, and bytes that do not.
 
 use super::cases::{Case, Wanted, assert_cases};
 use super::sample::{HELLO, MARKED, ONE_PROGRAM, Sample};

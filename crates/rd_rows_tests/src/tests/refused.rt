@@ -1,5 +1,5 @@
 //! Calls that allocate, which a script runs under an allocator that refuses one growth. A case of which
-//! memory was refused is told again, and must then hold as ever.
+//! memory was refused is made again, and must then hold as ever.
 
 use super::cases::{Case, holds};
 use super::cbm_directory::DIRECTORIES;

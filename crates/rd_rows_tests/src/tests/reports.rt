@@ -1,4 +1,4 @@
-//! What is told of a whole image: how the block map of a 1541 disk differs from the blocks in use, and a report.
+//! What desk says of a whole image: how the block map of a 1541 disk differs from the blocks in use, and a report.
 
 use super::cases::{Case, Wanted, assert_cases};
 use super::sample::{
@@ -39,7 +39,7 @@ fn is_so(map: MapReport, (wrong_counts, claimed_free, unclaimed_used): (u16, u16
         && map.unclaimed_used == unclaimed_used
 }
 
-/// Whether the block map of a 1541 disk is told so.
+/// Whether the block map of a 1541 disk has these counts.
 pub(super) fn is_map(
     alloc: Global,
     image: &Image<'_>,

@@ -96,7 +96,7 @@ pub(super) const ALL_PROGRAMS: Sample = like!(Sample, BLANK, base: Base::Circle(
 /// A 1541 disk whose directory is its own next block.
 pub(super) const NO_END: Sample = like!(Sample, FORMATTED, blocks: &[(358, &[18, 1])]);
 
-/// The disk of one program, whose image has error bytes that tell of no error.
+/// The disk of one program, whose image has error bytes that report no error.
 pub(super) const MARKED: Sample = like!(Sample, ONE_PROGRAM, marks: Some(&[]));
 
 /// The kind of an image.
@@ -199,7 +199,7 @@ fn put_bytes(image: &mut [u8], bytes: &[(usize, &[u8])]) {
     }
 }
 
-/// Adds error bytes to a 1541 image: 1, but for the blocks that are named with theirs.
+/// Adds error bytes to a 1541 image: 1, except for the blocks that are named with theirs.
 fn put_marks(image: &mut Vec<u8>, marks: &[(u16, u8)]) -> Result<(), NoMemory> {
     add_marks(image)?;
     for (block, mark) in marks {

@@ -1,4 +1,4 @@
-//! What a survey tells of an image, and what `find` tells of a slot.
+//! What a survey says of an image, and what `find` says of a slot.
 
 ghost use Rattle.std.specs.Prelude.{◌≡◌};
 ghost use Rattle.rd_geometry.specs.Images.{kind_of};
@@ -27,10 +27,10 @@ pub(super) enum Contents {
     Full,
 }
 
-/// What has to be told of files in slots that follow one another.
+/// What desk has to say of files in slots that follow one another.
 #[derive(Clone, Copy)]
 pub(super) struct Told {
-    /// How many files are told so, and the slot of the first.
+    /// How many files have this description, and the slot of the first.
     pub(super) count: usize,
     pub(super) slot: u16,
     pub(super) user: Option<u8>,
@@ -44,7 +44,7 @@ pub(super) struct Told {
     pub(super) contents: Contents,
 }
 
-/// What is told of the file `FILE` of a CP/M disk, where it is not sound.
+/// What desk says of the file `FILE` of a CP/M disk, where it is not sound.
 pub(super) const CPM_FILE: Told = Told {
     count: 1,
     slot: 0,
@@ -59,7 +59,7 @@ pub(super) const CPM_FILE: Told = Told {
     contents: Contents::None,
 };
 
-/// What is told of it, where it is sound and has no records.
+/// What desk says of it, where it is sound and has no records.
 const EMPTY: Told = like!(Told, CPM_FILE, size: Some(0), contents: Contents::Joined(&[]));
 
 pub(super) const HELLO_TXT: Told =
@@ -117,14 +117,14 @@ fn cpm_files_are_surveyed(rt: HostRuntime) {
     assert_cases(&rt, rt.alloc(), OF_CPM);
 }
 
-/// What is told of the program `FILE` of a 1541 disk, where it is not sound.
+/// What desk says of the program `FILE` of a 1541 disk, where it is not sound.
 pub(super) const CBM_FILE: Told = like!(Told, CPM_FILE, user: None, ty: b"PRG");
 
-/// What is told of the one program `HELLO`.
+/// What desk says of the one program `HELLO`.
 pub(super) const HELLO_TOLD: Told =
     like!(Told, CBM_FILE, name: b"HELLO", size: Some(258), units: &[(336, 1), (346, 1)], last_len: 4, contents: Contents::Joined(&[&[b'A'; 254], b"BCDE"]));
 
-/// What is told of the crossed programs.
+/// What desk says of the crossed programs.
 const A: Told = like!(Told, CBM_FILE, name: b"A", faults: 8);
 
 const B: Told = like!(Told, A, slot: 1, name: b"B");
@@ -132,7 +132,7 @@ const B: Told = like!(Told, A, slot: 1, name: b"B");
 const C: Told =
     like!(Told, CBM_FILE, slot: 2, name: b"C", size: Some(2), units: &[(338, 1)], last_len: 2, contents: Contents::Joined(&[b"XY"]));
 
-/// What is told of a deleted file whose name is of zeros.
+/// What desk says of a deleted file whose name is of zeros.
 const DELETED: Told =
     like!(Told, CBM_FILE, ty: b"DEL", name: b"%00%00%00%00%00%00%00%00%00%00%00%00%00%00%00%00", served: false);
 
@@ -188,7 +188,7 @@ fn files_of_large_directories_are_surveyed(rt: HostRuntime) {
     assert_cases(&rt, rt.alloc(), LARGE);
 }
 
-/// What is told of the one program where a block of it reads with an error.
+/// What desk says of the one program where a block of it reads with an error.
 pub(super) const HELLO_UNREAD: Told = like!(Told, CBM_FILE, name: b"HELLO", faults: 16);
 
 /// A sample with these blocks and their error bytes.
@@ -341,7 +341,7 @@ fn has_contents(
     Ok(pieces_joined(alloc, image, file)? == bytes && lent(alloc, image, file)? == bytes)
 }
 
-/// Whether a file of these units is told so, but for its slot.
+/// Whether a file of these units has this description, except for its slot.
 fn is_told(file: &Found, told: &Told, units: &[u16]) -> bool {
     file.user == told.user
         && file.served_class == told.served
@@ -353,7 +353,7 @@ fn is_told(file: &Found, told: &Told, units: &[u16]) -> bool {
         && file.units.as_slice() == units
 }
 
-/// Whether the file at a slot is told so.
+/// Whether the file at a slot has this description.
 fn is_file(
     alloc: Global,
     image: &Image<'_>,
@@ -368,7 +368,7 @@ fn is_file(
     has_contents(alloc, image, file, told.contents)
 }
 
-/// Whether files in slots that follow one another, from the first on, are told so.
+/// Whether files in slots that follow one another, from the first on, have this description.
 fn are_told(
     alloc: Global,
     image: &Image<'_>,
@@ -383,7 +383,7 @@ fn are_told(
     Ok(true)
 }
 
-/// Whether the files of an image are told so, each of them.
+/// Whether the files of an image have these descriptions, each of them.
 pub(super) fn is_survey(
     alloc: Global,
     image: &Image<'_>,
@@ -404,7 +404,7 @@ pub(super) fn is_survey(
     Ok(rest.is_empty())
 }
 
-/// Whether the file at a slot is told so; `None` where there is none.
+/// Whether the file at a slot has this description; `None` where there is none.
 pub(super) fn is_found(
     alloc: Global,
     image: &Image<'_>,

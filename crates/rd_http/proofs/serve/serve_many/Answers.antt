@@ -1,4 +1,4 @@
-use Rattle.std.proofs.Common.{◌≡◌, ◌↔◌, Err, FitsSigned, IfSome, None, arith, rules, subst, sym, w64, ◌∙◌}
+use Rattle.std.proofs.Common.{◌≡◌, ◌↔◌, Err, FitsSigned, IfSome, None, rules, subst, sym, w64, ◌∙◌}
 use Rattle.std.proofs.lemmas.Int.{to_z-of_z}
 use Rattle.rd_policy.specs.Days.{HasDay}
 use Rattle.rd_policy.specs.Zones.{day_number}
