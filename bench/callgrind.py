@@ -2,8 +2,8 @@
 """bench/callgrind.py NAME=PROGRAM [NAME=PROGRAM ..] [--tree]: which crates a visit's instructions are spent in.
 
 Each PROGRAM is a desk. The visits of bench/visits.py are made of it under valgrind's callgrind, and of the C program
-beside it (visits.c): 12 of them in one run and 2 in another, and the difference is that of 10 visits. It wants
-valgrind, gcc and the headers of SQLite; run as root, it installs them where they are missing.
+beside it (visits.c): 12 of them in one run and 2 in another, and the difference is that of 10 visits. You need
+valgrind, gcc and the headers of SQLite; as root, the script installs them if they are missing.
 
 Instructions are counted by the crate of the symbol that they lie in, so that what the compiler has moved into another
 function counts as that function's. Copies by the C library (memcpy, memmove) are told apart on both sides: callgrind

@@ -1,7 +1,7 @@
 #!/usr/bin/env python3
 """bench/run.py PROGRAM [KIND..]: measures `desk cat` and `desk list` beside cpmtools, cbmconvert, cc1541 and a C
-program that does the same work with the same checks (reference.c), all in one run. It wants valgrind and gcc too; run
-as root, it installs Debian's packages where one is missing.
+program that does the same work with the same checks (reference.c), all in one run. You need valgrind and gcc too; as
+root, the script installs Debian's packages if one is missing.
 
 It prints ratios of desk over the other program: instructions, which valgrind counts, and the least time of 1,000
 runs. Below 1, desk needs less. The programs are timed in turn, round after round, so that what else the machine does

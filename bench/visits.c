@@ -730,7 +730,7 @@ static const char *phrase_of(int status)
     }
 }
 
-/* Writes the head of a reply and the body. A visitor who has gone ends his visit alone. */
+/* Writes the head of a reply and the body. A visitor who has gone ends their own visit alone. */
 static void send_reply(int visitor, struct reply reply)
 {
     char head[256];

@@ -1,10 +1,10 @@
 #!/usr/bin/env python3
 """bench/visits.py NAME=PROGRAM [NAME=PROGRAM ..] [--runs N] [--thousand] [--part N]: what a visit costs.
 
-Each PROGRAM is a desk. In one run it measures them side by side, and beside a C program over SQLite's library that
-does the same work for a visit with the same tests, on a copy of the store of the first desk that keeps an index of
-files and a table for error bytes (visits.c). It wants gcc and the headers of SQLite (Debian's libsqlite3-dev); run as
-root, it installs them where they are missing.
+Each PROGRAM is a desk. In one run it measures them side by side, and beside a C program over SQLite's library that does
+the same work for a visit with the same tests, on a copy of the store of the first desk that keeps an index of files and
+a table for error bytes (visits.c). You need gcc and the headers of SQLite (Debian's libsqlite3-dev); as root, the
+script installs them if they are missing.
 
 Each desk makes and fills its own stores. Then servers that this script starts are visited over loopback, one visit
 after the other, by one visitor with a key of the reading room, and their processor time is read, of their own and of
@@ -16,8 +16,8 @@ With --thousand it also asks a store of 1,000 accessions for all of them; --part
 Before it measures, it sees that all programs reply with the same bytes, and with those that are due. Last it prints how
 the most memory that a server has had grows from the first to the tenth visit for the longest file.
 
-It fails where a desk that is not named first takes more than the first for a question in each of the runs. Of one desk
-alone it only tells ratios, and fails where a reply is not due."""
+It fails where a desk that is not named first takes more than the first for a question in each of the runs. With one
+desk alone it only prints ratios, and fails if a reply is not the one that is due."""
 
 import argparse
 import os

@@ -12,9 +12,8 @@ last run reads the filled store again.
 
 Refusals, and other cases that the trials of crates/rd_trials/data have too, are read from there.
 
-What is a client's own or the system's, as how long curl waits before it sends an image, is told in lines that begin
-with `observed`; of that only what has to be so is judged. Status 503 is not among the cases, for no client can bring
-it about."""
+Lines that begin with `observed` say what is a client's own or the system's, as how long curl waits before it sends an
+image; the script judges only what has to be so. Status 503 is not among the cases, for no client can bring it about."""
 
 import collections
 import contextlib

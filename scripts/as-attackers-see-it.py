@@ -2,16 +2,16 @@
 """scripts/as-attackers-see-it.py [--seed N] [--visits N] [PROGRAM]: sends 10,000 visits, made by mutation of good
 ones.
 
-Heads, lengths, paths, JSON, keys, images and cuts are mutated, by chance from the seed, 1 where none is told. A desk by
+Heads, lengths, paths, JSON, keys, images and cuts are mutated, by chance from the seed, 1 if you name none. A desk by
 plain functions (desk_by_hand.py) takes the same bytes: every reply has to be, byte for byte, the one that is due to
 them, so none is of status 503. Where bytes of a head were mutated, so that its grammar decides, `bad-head` is taken
 too. Each named refusal and each sort of answer has to come at least once. At the end the program has served all visits,
-and the desk is that of the commands that were told done: the stock SQLite reads each row of its tables but those of the
-index, and a second run tells the catalogue to each audience and a survey of each accession.
+and the desk is that of the commands that it called done: the ordinary SQLite reads each row of its tables except those
+of the index, and a second run gives the catalogue to each audience and a survey of each accession.
 
-A visit that sends fewer bytes than its head tells ends its sending. Replies that are cut by a reset, and resets that
+A visit that sends fewer bytes than its head says ends its sending. Replies that are cut by a reset, and resets that
 come after a whole reply, are counted; those of visits that send bytes beyond the request, or beyond what shows that
-there is none, are told by themselves. All four counts have to be 0.
+there is none, are counted by themselves. All four counts have to be 0.
 
 You need Python 3 with its standard library alone, its SQLite of 3.37 or later, and Linux. PROGRAM is
 crates/rd_main/out/rd_main of this repository where none is named."""

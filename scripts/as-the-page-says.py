@@ -66,7 +66,7 @@ def plain_blocks(page):
 
 
 def begun(seen, stack, folder, prompt, prepares):
-    """A shell that is prepared. An ordinary user has mounts of his own as the root of a namespace of users."""
+    """A shell that is prepared. An ordinary user has mounts of their own as the root of a namespace of users."""
     own = ["unshare", "--mount"] if os.geteuid() == 0 else ["unshare", "--user", "--map-root-user", "--mount"]
     shell = Shell(folder, *(own if prepares else []), "bash", "--norc")
     stack.callback(shell.close)

@@ -35,7 +35,7 @@ def command(*words):
 
 
 def install():
-    """What this wants of the machine that it runs on."""
+    """Installs what this needs on the machine that it runs on."""
     if os.geteuid():
         sys.exit("missing: the rights of root")
     tools.install(["debootstrap", "systemd-nspawn"], ["debootstrap", "systemd-container"])
@@ -106,7 +106,7 @@ class Machine:
         self.folder.rmdir()
 
     def boot(self):
-        """Starts the machine, and waits until it tells that it has started."""
+        """Starts the machine, and waits until it says that it has started."""
         own_group = ["sh", "-c", 'echo $$ >"$0/cgroup.procs" && exec "$@"', str(self.group)]
         words = [*ENDS_TOO, "TERM", *own_group, "systemd-nspawn", *OPTIONS, "-D", str(self.root)]
         with socket.socket(socket.AF_UNIX, socket.SOCK_DGRAM) as told, open(self.folder / "console", "ab") as out:

@@ -336,7 +336,7 @@ class Build:
         return f"desk: {len(self.done)} of {len(self.crates)} crates in {taken}; functions of {now}"
 
     def run(self):
-        """Proves all, or stops at the first crate that fails or when it is told to."""
+        """Proves all, or stops at the first crate that fails or when a signal stops it."""
         self.copies = copies_folder(self.crates)
         while len(self.done) < len(self.crates) and not self.failed and not self.stopped:
             self.start_some()

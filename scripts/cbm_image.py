@@ -22,7 +22,7 @@ def mark_place(track, sector):
 
 
 def marks_by_chance(random_, counts=(0, 1, 10, 40)):
-    """The error bytes of a disk, of which one of these counts tell of an error."""
+    """The error bytes of a disk, of which one of these counts report an error."""
     marks = bytearray(random_.choice([0, 1]) for _ in range(BLOCKS))
     for block in random_.sample(range(BLOCKS), random_.choice(counts)):
         marks[block] = random_.randint(2, 255)

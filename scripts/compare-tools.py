@@ -9,11 +9,11 @@ keeps these bytes: cc1541 lists the disk beside them, and cbmconvert takes the d
 
 CP/M: users and names are those that cpmls lists. The bytes of each file are those that the dump has where the entries
 name them (cpm_image.py), and those of cpmcp. 1541: names and types are those that cc1541 lists, in its order, and the
-bytes those of cbmconvert, which has to find no fault. In all of them desk has to tell no fault, and as many bytes as
-it writes; but of a file with a block whose error byte is neither 0 nor 1 it has to tell that it reads with an error.
-At least one file has to be such.
-docs/DECISIONS.md explains the four differences that are allowed: byte S1, blocks on track 76, the short
-images of mkfs.cpm, and DEL files. Run as root, it installs Debian's packages where one is missing."""
+bytes those of cbmconvert, which has to find no fault. For all of them desk has to report no fault, and as many bytes as
+it writes; but for a file with a block whose error byte is neither 0 nor 1 it has to report that it reads with an error.
+At least one file has to be such. docs/DECISIONS.md explains the four differences that are allowed: byte S1, blocks on
+track 76, the short images of mkfs.cpm, and DEL files. As root, the script installs Debian's packages if one is
+missing."""
 
 import os
 import random

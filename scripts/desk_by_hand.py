@@ -1,8 +1,8 @@
 """A desk by plain functions: what it holds, the reply that is due to the bytes of a visit, and what a command changes.
 
-What is on a disk it has from the program: `list` tells the files, `cat` their bytes, and what else a survey tells is
-taken from a desk that has the disk alone. So it shows what the desk makes of requests, keys and rules, and whose disk
-is told, and not how a disk is read."""
+What is on a disk it has from the program: `list` gives the files, `cat` their bytes, and all else of a survey comes
+from a desk that has the disk alone. So it shows what the desk makes of requests, keys and rules, and which disk it
+describes, and not how it reads a disk."""
 
 import collections
 import datetime

@@ -202,7 +202,8 @@ def see_refusals(seen, page, room):
     seen.same("a file that reads with an error", unread, page.go("26")["rows"][0])
     kinds = {row[0]: row[1] for row in page.go("")["rows"]}
     seen.same("its kind of disk", "Commodore 1541 with error bytes", kinds["Disk 26"])
-    listed = ["1", "-" * 16, "DEL", "", "", "see that it is there: its kind is not given out", "R9.20"]
+    words = "see that it is there: the desk does not give out this kind of file"
+    listed = ["1", "-" * 16, "DEL", "", "", words, "R9.20"]
     shown = page.go("16")
     seen.same("a file that is listed alone", listed, shown["rows"][1])
     seen.same("only what is read has a link", ["#/16/0", "#/16/2"], shown["links"])

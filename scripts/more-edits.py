@@ -318,7 +318,7 @@ def checked(rt, crate, texts, jobs, kept):
 def checked_over(rt, crate, texts, jobs, kept):
     """The same over a copy of what a folder keeps."""
     with tempfile.TemporaryDirectory(prefix="more-edits-") as room:
-        rt.linked(kept, f"{room}/kept")
+        shutil.copytree(kept, f"{room}/kept")
         return checked(rt, crate, texts, jobs, f"{room}/kept")
 
 

@@ -1,10 +1,10 @@
 #!/usr/bin/env python3
 """scripts/no-reply-is-lost.py [PROGRAM]: counts the replies that are lost to clients who send more than the desk reads.
 
-Where a program closes a connection with bytes unread, Linux tells the client of a reset, and throws away what it has
-not sent yet: so a reply can be lost though it was written. Three sorts of clients send such bytes, each 200 times: a
-plain socket that sends two bytes after its question, and reads a long file late; Python's http.client and curl, which
-send a body that is refused by its length. Every reply has to come whole: all its bytes are compared.
+Where a program closes a connection with bytes unread, Linux sends the client a reset, and throws away what it has not
+sent yet: so a reply can be lost though it was written. Three sorts of clients send such bytes, each 200 times: a plain
+socket that sends two bytes after its question, and reads a long file late; Python's http.client and curl, which send a
+body that is refused by its length. Every reply has to come whole: all its bytes are compared.
 
 You need Python 3 with its standard library alone, curl, and Linux. PROGRAM is ./desk of this repository where none is
 named."""

@@ -1,4 +1,4 @@
-"""What the rules of a desk say of a file, by a plain function, and the files of an image as `list` tells them.
+"""What the rules of a desk say of a file, by a plain function, and the files of an image as `list` gives them.
 
 A rule is a table: its rank, audiences and effect, the selector, and the days `from` and `until` as dates or None. A
 file is a table of texts, by the names of the catalogue's columns."""

@@ -179,7 +179,7 @@ def see_deed(seen, page, room):
     see_outside(seen, page, "a deed without disks", NONE, NONE)
 
 
-NO_KIND = "It is not sent: no kind of disk has 100 bytes. "
+NO_KIND = "The page does not send it: no kind of disk has 100 bytes. "
 NO_KIND += "CP/M, 8 inches has 256,256 bytes, Commodore 1541 has 174,848 bytes, "
 NO_KIND += "Commodore 1541 with error bytes has 175,531 bytes."
 
@@ -432,8 +432,8 @@ OTHERWISE = [
         "Refusal: unavailable",
     ),
     ("new Response('<html>', { status: 418 })", "The desk refuses that. Load this page again."),
-    ("new Response('<html>')", "The answer of the desk cannot be read."),
-    ("new Response('{\"done\":1}')", "The answer of the desk cannot be read."),
+    ("new Response('<html>')", "This page cannot read the desk's answer."),
+    ("new Response('{\"done\":1}')", "This page cannot read the desk's answer."),
 ]
 
 
@@ -453,7 +453,7 @@ def see_lost(seen, page, room):
     room.stop_desk()
     seen.same("lost: the desk is down", [f"{CLOSED} {AGAIN}"], page.press("deeds")[0])
     room.stop_nginx()
-    words = f"The desk cannot be reached. Check the connection, and try again. {AGAIN}"
+    words = f"This page cannot reach the desk. Check the connection, and try again. {AGAIN}"
     seen.same("lost: nobody answers", [words], page.press("deeds")[0])
     room.start_nginx()
     room.start_desk()
@@ -464,7 +464,7 @@ def see_lost(seen, page, room):
     page.choose(room.folder / "gone.d64")
     page.number(36, 35)
     (room.folder / "gone.d64").unlink()
-    words = "The file cannot be read: it is gone, or was changed after you chose it. Choose it again."
+    words = "Your browser cannot read the file: it is gone, or has changed since you chose it. Choose it again."
     seen.same("lost: a file", words, page.press("images")[1][0][6])
     seen.same("lost: no disk", 404, room.ask_desk(check(36))[0])
     page.browser.script("Object.defineProperty(crypto, 'subtle', { value: undefined });")

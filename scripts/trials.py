@@ -1,4 +1,4 @@
-"""Reads trials, in the form that docs/TRIALS.md tells: the visits of crates/rd_trials/data that a client can make.
+"""Reads trials, in the form that docs/TRIALS.md describes: the visits of crates/rd_trials/data that a client can make.
 
 A client cannot change the tables behind the desk, nor have a connection break at a byte that it names. A trial that
 does such a thing is refused."""

@@ -61,7 +61,7 @@ function permission(file) {
   const words = listOf(file.faults).map(textOf);
   if (file.effect !== "read") return "see that it is there";
   if (words.length) return `see that it is there: it is damaged, ${words.map(explained).join("; ")}`;
-  return file.size === null ? "see that it is there: its kind is not given out" : "read it";
+  return file.size === null ? "see that it is there: the desk does not give out this kind of file" : "read it";
 }
 
 async function showFiles(accession) {

@@ -37,8 +37,8 @@ const REFUSALS = {
 
 // The same for a reply without such a name: from nginx, from nobody, or from this page itself.
 const STATUSES = {
-  0: ["The desk cannot be reached.", "Check the connection, and try again."],
-  400: ["The request cannot be read.", "Your key may be too long."],
+  0: ["This page cannot reach the desk.", "Check the connection, and try again."],
+  400: ["The server cannot read the request.", "Your key may be too long."],
   403: ["Only the museum's own machine may do that.", "The staff works there, or through a tunnel."],
   404: ["There is nothing at that address.", "Check the numbers in it."],
   408: ["The request took too long.", "Try again."],
@@ -49,7 +49,7 @@ const STATUSES = {
   504: ["The desk took too long.", "Try again."],
   changed: ["What you may see has just changed.", "Try again."],
   digest: ["This browser cannot make a SHA-256 here.", "Open the page at 127.0.0.1, or in another browser."],
-  file: ["The file cannot be read: it is gone, or was changed after you chose it.", "Choose it again."],
+  file: ["Your browser cannot read the file: it is gone, or has changed since you chose it.", "Choose it again."],
   long: ["The list of all files is above 5 MB, so this page does not fetch it.", "Look for the file on its disk."],
 };
 const OTHERS = ["The desk refuses that.", "Load this page again."];
@@ -161,7 +161,7 @@ async function askObject(path, more) {
 function refusal(fault, more = "") {
   const made = element("div", null, { className: "refused" });
   if (!(fault instanceof Refused)) {
-    made.append(element("p", "The answer of the desk cannot be read."));
+    made.append(element("p", "This page cannot read the desk's answer."));
     return made;
   }
   const name = textOf(fault.said.error);

@@ -300,7 +300,7 @@ const kindOf = (length) => Object.keys(KINDS).find((kind) => KINDS[kind].length 
 
 function noKind(length) {
   const lengths = Object.values(KINDS).map((kind) => `${kind.words} has ${counted(kind.length, "byte")}`);
-  return `It is not sent: no kind of disk has ${counted(length, "byte")}. ${lengths.join(", ")}.`;
+  return `The page does not send it: no kind of disk has ${counted(length, "byte")}. ${lengths.join(", ")}.`;
 }
 
 function numberField(label, limits) {
