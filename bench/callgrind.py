@@ -118,8 +118,8 @@ def profile_of(bench, name, case, folder):
         before = ["valgrind", "--tool=callgrind", f"--callgrind-out-file={path}", "--compress-strings=no",
                   "--compress-pos=no", "--dump-line=no"]
         server = rooms.Server(bench.commands[name], bench.stores[name, case.shelf], count, before)
-        for _ in range(count):
-            server.visit(case.asked)
+        for number in range(count):
+            server.visit(case.asked(number))
         server.end()
         profiles.append(read_profile(path))
     return profiles[0].minus(profiles[1])

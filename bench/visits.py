@@ -32,17 +32,21 @@ C_NAME = "C program"
 
 
 class Case:
-    """A question: which store is asked, by which path, how the reply begins and ends, and how many visits of it are
-    left out and measured."""
+    """A question: which store is asked, by which path at a visit of some number, how the reply begins and ends, and how
+    many visits of it are left out and measured."""
 
-    def __init__(self, title, shelf, path, status, length, few=100, many=2000):
+    def __init__(self, title, shelf, path_at, status, length, few=100, many=2000):
         self.title = title
         self.shelf = shelf
-        self.asked = rooms.question("GET", path)
+        self.path_at = path_at
         self.status = status
         self.length = length
         self.few = few
         self.many = many
+
+    def asked(self, number):
+        """The bytes of the visit of a number, counted from 0."""
+        return rooms.question("GET", self.path_at(number))
 
     def is_due(self, reply):
         """Whether a reply has the status and a body as long as the case wants, where it wants a length."""
@@ -50,8 +54,24 @@ class Case:
         return reply.startswith(b"HTTP/1.1 %d " % self.status) and self.length in (None, len(body))
 
 
+def always(path):
+    """The same path at each visit."""
+    return lambda _: path
+
+
 def bytes_of(place):
-    return "/images/%d/files/%d" % place
+    """The path of a file, at each visit."""
+    return always("/images/%d/files/%d" % place)
+
+
+def file_after_file(number):
+    """The files of one disk that the reading room may read, one after the other."""
+    return "/images/50/files/%d" % (number % 7)
+
+
+def disk_after_disk(number):
+    """A file of each of 100 disks in turn."""
+    return "/images/%d/files/0" % (number % 100 + 1)
 
 
 def cases(thousand):
@@ -60,11 +80,13 @@ def cases(thousand):
         Case("a denied file", "few", bytes_of(rooms.DENIED), 403, denied),
         Case("a file of 258 bytes", "few", bytes_of(rooms.SHORT), 200, rooms.SHORT_SIZE),
         Case("a file of 168,656 bytes", "few", bytes_of(rooms.LONG), 200, rooms.LONG_SIZE),
-        Case("listing of 144 files", "few", f"/images/{rooms.CROWD}", 200, None),
-        Case("images, 100 accessions", "100", "/images", 200, None),
+        Case("listing of 144 files", "few", always(f"/images/{rooms.CROWD}"), 200, None),
+        Case("images, 100 accessions", "100", always("/images"), 200, None),
+        Case("file after file of a disk", "100", file_after_file, 200, None),
+        Case("100 disks, a file of each", "100", disk_after_disk, 200, None),
     ]
     if thousand:
-        told.append(Case("images, 1,000 accessions", "1000", "/images", 200, None, 10, 200))
+        told.append(Case("images, 1,000 accessions", "1000", always("/images"), 200, None, 10, 200))
     return told
 
 
@@ -102,7 +124,7 @@ class Bench:
         replies = {}
         for name in self.commands:
             server = self.serve(name, case.shelf, 1)
-            replies[name] = server.visit(case.asked)
+            replies[name] = server.visit(case.asked(0))
             server.end()
         for name, reply in replies.items():
             if not case.is_due(reply):
@@ -114,13 +136,13 @@ class Bench:
         """The processor time of a visit, without that of starting and of the first visits."""
         few, many = max(1, case.few // part), max(2, case.many // part)
         server = self.serve(name, case.shelf, few + many + 1)
-        for _ in range(few):
-            server.visit(case.asked)
+        for number in range(few):
+            server.visit(case.asked(number))
         before = server.spent()
-        for _ in range(many):
-            server.visit(case.asked)
+        for number in range(many):
+            server.visit(case.asked(few + number))
         spent = server.spent() - before
-        server.visit(case.asked)
+        server.visit(case.asked(0))
         server.end()
         return spent / many
 
@@ -128,10 +150,10 @@ class Bench:
         """How the most memory of a server grows from its start to the first visit, and from that to the tenth."""
         server = self.serve(name, case.shelf, 11)
         most = [server.most_memory()]
-        for _ in range(10):
-            server.visit(case.asked)
+        for number in range(10):
+            server.visit(case.asked(number))
             most.append(server.most_memory())
-        server.visit(case.asked)
+        server.visit(case.asked(0))
         server.end()
         return most[1] / most[0], most[10] / most[1]
 
