@@ -59,13 +59,18 @@ CROWDED_LISTING = told(accession=MANY_FROM, deed=50, files=CROWD, kind="cpm8")
 CROWDED_ROWS = [
     {**file, "accession": MANY_FROM + n, "deed": 50, "kind": "cpm8"} for n in range(MANY) for file in CROWD
 ]
-FILLED = [
-    *(asked for _, asked, _ in (*FIRST, *MORE, *LONG)), put("/deeds/50", DEED),
-    put_rule("/deeds/50/rules/1", "read", EVERY, "room"),
+TAKEN = b"HTTP/1.1 200 OK\r\n"
+CROWD_PUT = [
+    put("/deeds/50", DEED), put_rule("/deeds/50/rules/1", "read", EVERY, "room"),
     *(put_image(MANY_FROM + n, "cpm8", 50, CROWDED) for n in range(MANY)),
     put(badge("of the crowd"), {"audience": "room"}),
     # the room is shown the crowd alone
     *(put_rule(f"/deeds/{num}/rules/1", "deny", EVERY, "room") for num in (7, 9)),
+]
+# The visits that fill the store, and how the reply to each begins.
+FILLED = [
+    *((asked, (wanted or TAKEN)[: len(TAKEN)]) for _, asked, wanted in (*FIRST, *MORE, *LONG)),
+    *((asked, TAKEN) for asked in CROWD_PUT),
 ]
 CROWD_KEY = "Desk-Key: of the crowd"
 
@@ -205,9 +210,9 @@ class Stage:
         subprocess.run([self.program, "init", "--store", self.store, "--key", STAFF], check=True, capture_output=True)
         with Serving(self.program, self.store, len(FILLED)) as serving:
             serving.listens()
-            for asked in FILLED:
+            for asked, begins in FILLED:
                 came = by_client(serving.port, asked)
-                self.seen.same(f"filling: {asked.path}", b"HTTP/1.1 200 OK\r\n", came[:17])
+                self.seen.same(f"filling: {asked.path}", begins, came[: len(begins)])
             serving.end()
 
     @contextlib.contextmanager
