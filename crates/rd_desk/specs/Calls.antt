@@ -70,7 +70,7 @@ abbrev pub ForEachCaller : Desk → Audience → What → (Request → Type 0) �
 ForEachCaller desk audience what Is =
     (badge : Option (List ℕ)) → audience_of desk badge ≡ Some audience → Is (record { badge = badge; what = what })
 
--- what is said to a query of an audience on a day, after which the desk is the same
+-- this is said to each caller of an audience who asks this on a day, and the desk stays the same
 abbrev pub IsSaidTo : Desk → Audience → ℤ → What → Said → Type 0
 IsSaidTo desk audience day what said = ForEachCaller desk audience what (λ request. IsAnswered desk day request said desk)
 

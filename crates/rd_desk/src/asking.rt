@@ -19,7 +19,7 @@ use rd_volume::Found;
 use sqlite::Alter;
 use std::alloc::{AllocError, Global};
 
-/// An accession: the kind of its image, its deed, and the rules for its files in order.
+/// The rules for the files of an accession, in order, with the kind of its image and its deed.
 #[derive(Drop)]
 pub(crate) struct AccessionRules {
     pub kind: Kind,
@@ -124,7 +124,7 @@ pub(crate) fn image<S: Alter>(
     Ok(store.image(alloc, acc)?)
 }
 
-/// The same for a caller who may ask for one accession several times: the store keeps its image in memory.
+/// The image at an accession; `None` if there is none. The store keeps it in memory if it is asked for twice in a row.
 pub(crate) fn image_again<S: Alter>(
     store: &mut Store<S>,
     alloc: Global,

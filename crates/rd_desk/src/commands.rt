@@ -1,4 +1,4 @@
-//! What only the staff may do. Callers of these functions have checked that the staff asks.
+//! What only the staff may do. `respond` has checked that the staff asks.
 //! Each makes at most one transaction, as its last step, and says that it is done only after the
 //! commit.
 
@@ -21,7 +21,7 @@ use rd_store::{Store, StoreFault};
 use sqlite::Alter;
 use std::alloc::Global;
 
-/// The refusal when the accession of a takedown, or the deed of a rule, does not stand.
+/// The refusal when the accession of a takedown, or the deed of a rule, is not there.
 fn missing(band: Band) -> Refusal
     ensures { result ≡ missing_of band }
 {

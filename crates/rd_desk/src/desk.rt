@@ -48,7 +48,7 @@ fn respond<S: Alter>(
     command(store, alloc, &caller, &request.what)
 }
 
-/// The reply that says an answer; if there is no answer, or no memory for the reply, it says that
+/// The reply that gives an answer; if there is no answer, or no memory for the reply, it says that
 /// the desk is unavailable.
 fn reply_with(alloc: Global, said: Result<Said, Unavailable>) -> Reply
     ensures { IsWritten said result }

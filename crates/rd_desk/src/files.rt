@@ -24,8 +24,8 @@ fn contents_in(image: ImageRow, file: Found) -> Result<Contents, Unavailable>
     }
 }
 
-/// The contents of a file of an accession. A reader may ask for several files of one disk: the store keeps its image
-/// in memory.
+/// The contents of a file of an accession. A reader may ask for several files of one disk: the store keeps the disk's
+/// image in memory from the second one on.
 pub(crate) fn contents<S: Alter>(
     store: &mut Store<S>,
     alloc: Global,

@@ -1,4 +1,4 @@
-//! What a caller may see of all accessions. All rules are read at once, and the files of 16 accessions at a time.
+//! What a caller may see of all accessions. An overview reads all rules at once, and the files of 16 at a time.
 
 ghost use Rattle.std.specs.Prelude.{◌≡◌, ◌++◌, ℕ, All, IfOk, List, length, map};
 ghost use Rattle.std.specs.FinMap.{keys};

@@ -89,7 +89,7 @@ sql_part {S} {U} g a b stays Part P fault (Err other) is sql = subst (λ e. Test
 
 -- ---- what is read
 
--- without rows of which seven are shown there are none
+-- if the first seven of some rows are none, there are no rows
 none_shown : (rows : List Row) → take 7 rows ≡ [] → rows ≡ []
 none_shown [] is = refl
 none_shown (row ∷ rows) is = absurd (let wrong : row ∷ take 6 rows ≡ [] = is in cc)
@@ -108,7 +108,7 @@ batch_of (Some acc) trees rows starts rises = (
 pub read_of : (after : Option ℕ) (trees : Trees) (shown : Row) (more : List Row) → AreReadNext after trees (shown ∷ more) → IsReadOf trees shown
 read_of after trees shown more next = (next.0, comes_from (trees 2) (option_map pos after) next.0 next.1, next.2)
 
--- and the entry of what was judged
+-- and if it was judged, its entry is the next
 pub next_entry : (deeds marked : List ℕ) (after : Option ℕ) (trees : Trees) (shown : Row) (more : List Row) → AreReadNext after trees (shown ∷ more) → IsJudgedImage deeds marked shown trees → (entry : ℕ × Heading) → entry ≡ entry_in marked shown
     → IsNextEntry deeds marked after trees entry
 next_entry deeds marked after trees shown more next judged entry told = (next.0, next.1, subst (λ s. IsJudgedImage deeds marked s trees) next.2 judged, told ∙ ap (entry_in marked) next.2)

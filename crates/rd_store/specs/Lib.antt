@@ -14,7 +14,7 @@ pub use Rattle.rd_protocol.specs.RulesFor
 -- ---- inside: what only private functions and proofs cite
 -- Only private functions and proofs cite what follows a line `inside` in a file.
 -- An invariant of a type is proved of each value, and no caller has to believe it: so `Ruled` is here, which that of
--- `Rulebook` cites, and `Register`, which that of `Store` cites.
+-- `Rulebook` cites, and `Register` and `Last`, which that of `Store` cites.
 pub mod Shown
 pub mod Ruled
 pub mod Register

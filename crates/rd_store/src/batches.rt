@@ -138,9 +138,9 @@ fn bounds(entries: &[(u32, Heading)]) -> (u32, u32)
     (number_in(entries, 0), number_in(entries, entries.len() - 1))
 }
 
-/// The accessions from a place on, in their order and at most so many, each with its kind, its deed and its files. The
-/// answer is given only after the index has answered: that shows that the connection is open, and so that the register
-/// is that of the desk.
+/// The accessions from a place on, in their order and at most so many, each with its kind, its deed and its files. It
+/// answers only after the index has answered: that shows that the connection is open, and so that the register is that
+/// of the desk.
 pub(crate) fn batch<S: Alter>(
     alloc: Global,
     conn: &mut Connection<S>,

@@ -100,8 +100,8 @@ fn insert_deed<S: Alter>(
     )
 }
 
-/// Puts a deed, in place of the one with its number if it `stands`. The images that refer to it are not looked
-/// at: an UPDATE keeps its number, while REPLACE would take it out first and look for them.
+/// Puts a deed, in place of the one with its number if it `stands`. It does not look at the images that refer to
+/// it: an UPDATE keeps its number, while REPLACE would take it out first and look for them.
 fn write_deed<S: Alter>(
     conn: &mut Connection<S>,
     stands: bool,

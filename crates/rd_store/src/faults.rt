@@ -13,7 +13,7 @@ pub enum StoreFault {
     Conflict,
 }
 
-/// Why no desk is made.
+/// Why `create` makes no desk.
 #[derive(Clone, Copy, Debug, PartialEq, Eq, Hash)]
 pub enum CreateFault {
     /// There is a table `desk`, perhaps one whose columns SQL does not show, because it does not
@@ -23,7 +23,7 @@ pub enum CreateFault {
     Sql,
 }
 
-/// Why a database is not opened as a desk.
+/// Why `open` or `migrate` opens no desk.
 #[derive(Clone, Copy, Debug, PartialEq, Eq, Hash)]
 pub enum OpenFault {
     /// There is no table `desk` with the columns of one. A table `desk` whose columns SQL does not

@@ -1,4 +1,4 @@
-//! The index of the files: what is told of each file of the images that stand.
+//! The index of the files: what desk says of each file of the images that are there.
 
 ghost use Rattle.std.specs.Prelude.{◌≡◌, ◌<◌, ◌+◌, ◌∷◌, [], AllPairs, IfOk, IfErr, Option, get_or, length, map, pos};
 ghost use Rattle.std.specs.FinMap.{get};

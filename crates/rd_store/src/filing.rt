@@ -17,7 +17,7 @@ use rd_volume::Found;
 use sqlite::{Alter, Connection, Row};
 use std::alloc::Global;
 
-/// Whether a row shows where a file stands and what it is called.
+/// Whether a row shows at which slot a file is, and its name, type and user.
 fn shows_name(row: &Row, file: &Found) -> bool
     ensures { MatchBool result (IsNameRow file.now row.now) (¬ IsNameRow file.now row.now) }
 {
@@ -27,7 +27,7 @@ fn shows_name(row: &Row, file: &Found) -> bool
         && has_or_null(row, 3, codes::of_user(file.user))
 }
 
-/// Whether a row shows what else is told of a file, whose units are spelled by these bytes.
+/// Whether a row shows all else of a file; these bytes spell its units.
 fn shows_contents(row: &Row, file: &Found, units: &[u8]) -> bool
     requires { units.now ≡ units_code file.now.units }
     ensures { MatchBool result (IsContentsRow file.now row.now) (¬ IsContentsRow file.now row.now) }

@@ -133,7 +133,7 @@ pub(crate) fn read_numbers(alloc: Global, rows: &[Row]) -> Result<Vec<u32>, Stor
     Ok(numbers)
 }
 
-/// An accession without its image, `None` where it is not there. No row is read.
+/// An accession without its image, `None` where it is not there. It reads no row.
 pub(crate) fn accession<S: Alter>(
     conn: &mut Connection<S>,
     register: &Register,
@@ -152,7 +152,7 @@ pub(crate) fn accession<S: Alter>(
     }
 }
 
-/// Whether an accession is there. No row is read.
+/// Whether an accession is there. It reads no row.
 pub(crate) fn stands<S: Alter>(
     conn: &mut Connection<S>,
     register: &Register,
@@ -168,7 +168,7 @@ pub(crate) fn stands<S: Alter>(
     Ok(register.find(acc).is_some())
 }
 
-/// All accessions, ascending. No row is read.
+/// All accessions, ascending. It reads no row.
 pub(crate) fn accessions<S: Alter>(
     alloc: Global,
     conn: &mut Connection<S>,
@@ -184,7 +184,7 @@ pub(crate) fn accessions<S: Alter>(
     register.accessions(alloc)
 }
 
-/// All accessions, ascending, each with its kind and its deed. No row is read.
+/// All accessions, ascending, each with its kind and its deed. It reads no row.
 pub(crate) fn givens<S: Alter>(
     alloc: Global,
     conn: &mut Connection<S>,

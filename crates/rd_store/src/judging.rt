@@ -173,7 +173,7 @@ fn judge_each_tables<S: Alter>(
     Ok((version, register))
 }
 
-/// Whether a table `desk` with its columns stands, and none whose columns are not told.
+/// Whether there is a table `desk` with its columns, and none whose columns SQL does not show.
 fn find_desk<S: Alter>(conn: &Connection<S>) -> Result<(), OpenFault>
     ensures found { IfOk result (λ done. IsNamed (state S.Store conn.now).now.schema) }
     ensures none { IfErr result (λ fault. IsNoDesk fault (state S.Store conn.now).now.schema) }

@@ -23,7 +23,7 @@ pub(crate) enum Last {
     /// No image was asked for.
     Unasked,
     /// This accession was asked for last, and its image is not kept: another was asked for before it, or none, or
-    /// there was no memory for a copy.
+    /// there was no memory for a copy, or the accession has no image.
     Once(u32),
     /// This accession was asked for last, twice in a row or more, and has this image.
     Kept(u32, ImageRow),

@@ -87,7 +87,7 @@ pub(crate) fn with_marks(image: ImageRow, marks: Option<Items<u8>>) -> Result<Im
     })
 }
 
-/// The image of an accession whose row is this. Its error bytes are asked for where the row is that of a D64.
+/// The image of an accession whose row is this. It asks for its error bytes if the row is that of a D64.
 pub(crate) fn marked_image<S: Alter>(
     alloc: Global,
     conn: &mut Connection<S>,

@@ -1,4 +1,4 @@
-//! The register: of each accession what is asked of its image beside its bytes, in memory.
+//! The register: what desk keeps of each image in memory, without its bytes.
 
 ghost use Rattle.std.specs.Prelude.{◌≡◌, ◌<◌, ◌≤◌, ℕ, [], IfOk, IfErr, None, OnOk, drop, length, map, option_map, slice_index_or, take};
 ghost use Rattle.std.specs.List.{insert as insert_at};
@@ -64,7 +64,7 @@ fn numbers_in(alloc: Global, entries: &[(u32, Heading)]) -> Result<Vec<u32>, Sto
     Ok(numbers)
 }
 
-/// What is told of an accession beside its number.
+/// What desk says of an accession beside its number.
 pub(crate) fn given(heading: Heading) -> Accession
     ensures { result ≡ given_of heading }
 {

@@ -60,8 +60,8 @@ impl<S: Alter> Store<S> {
     /// Makes a desk with one staff key, given by its SHA-256, in a database without tables. The connection
     /// is outside a transaction.
     ///
-    /// It fails with `Exists` where a table `desk` stands, and with `Sql`, also where another table or a
-    /// view stands.
+    /// It fails with `Exists` if there is a table `desk`, and with `Sql`, also if there is another table or
+    /// a view.
     pub fn create(
         mut conn: Connection<S>,
         staff: &[u8; 32],
@@ -97,12 +97,12 @@ impl<S: Alter> Store<S> {
 
     /// Opens the desk that a database holds. The connection is outside a transaction.
     ///
-    /// It fails with `NotADesk` where no table `desk` with the columns of one stands; then with
-    /// `Version` where that table comes first and does not have its one row, or the row says
+    /// It fails with `NotADesk` if there is no table `desk` with the columns of one; then with
+    /// `Version` if that table comes first and does not have its one row, or the row says
     /// another version than 2 (`migrate` opens a desk of version 1 too); then with `Inconsistent`
-    /// where the rows are not those of a desk; and with `Sql`, also where another table stands,
-    /// where one is declared otherwise, and where SQL does not show the columns of a table `desk`,
-    /// because it does not understand something on it, such as a trigger.
+    /// if the rows are not those of a desk; and with `Sql`, also if there is another table, if one
+    /// is declared otherwise, and if SQL does not show the columns of a table `desk`, because it
+    /// does not understand something on it, such as a trigger.
     pub fn open(alloc: Global, mut conn: Connection<S>) -> Result<Store<S>, Refused<OpenFault, S>>
         requires outside { conn.in_transaction ≡ false }
         ensures opened { IfOk result (λ store. IsOpened S.Store conn store) }
@@ -191,8 +191,8 @@ impl<S: Alter> Store<S> {
 
     /// The image of an accession, 1 to 999,999; `None` where there is none. It is what `image` gives, for a caller
     /// who asks for one accession again and again, as for the files of a disk one after the other. An image that
-    /// is asked for twice in a row is kept in memory, and read from there as long as no other is asked for. Where
-    /// there is no memory to keep it, it is read from its row each time.
+    /// is asked for twice in a row is kept in memory, and read from there until this call is asked for another.
+    /// Where there is no memory to keep it, it is read from its row each time.
     ///
     /// It fails with `Sql`.
     pub fn image_again(&mut self, alloc: Global, acc: u32) -> Result<Option<ImageRow>, StoreFault>
@@ -301,14 +301,14 @@ impl<S: Alter> Store<S> {
         deeds::put_deed(&mut self.conn, num, donor, signed)
     }
 
-    /// Puts an image of its kind's length where none stands, at an accession, 1 to 999,999, under
+    /// Puts an image of its kind's length at an accession, 1 to 999,999, that has none, under
     /// the deed with a number, with the SHA-256 that was given for it. Putting the same kind, deed
     /// and digest again succeeds and changes nothing, whatever the bytes. The same transaction
     /// writes its error bytes, if it has any, and puts what `survey` gives of its files into the
     /// index.
     ///
-    /// It fails with `Missing` where there is no such deed, with `Conflict` where another kind, deed or
-    /// digest stands at the accession, and with `Sql`.
+    /// It fails with `Missing` if there is no such deed, with `Conflict` if the accession has an image of
+    /// another kind, deed or digest, and with `Sql`.
     pub fn put_image(
         &mut self,
         alloc: Global,

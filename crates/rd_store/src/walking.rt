@@ -68,7 +68,7 @@ fn next_rows<S: Alter>(conn: &mut Connection<S>, after: Option<u32>) -> Result<V
 
 /// The rows of the next seven images after an accession, or of the first seven; none after the last. A row with a higher
 /// accession shows that no other row has the accession of the one before it. So the eighth shows it of the seventh, and
-/// is read again with those that follow.
+/// is read again with those that follow. Where fewer than eight come, nothing stands after the last.
 fn next_images<S: Alter>(
     conn: &mut Connection<S>,
     after: Option<u32>,
@@ -264,8 +264,8 @@ fn walk_rows<S: Alter>(
 }
 
 /// The entries in the register of all images, if these are those of a desk with these deeds, and the rows of the index
-/// for each are those of its files. The marked accessions have error bytes. It asks 1,000,000 times at most: there are
-/// 999,999 accessions.
+/// for each are those of its files. The marked accessions have error bytes. It asks 1,000,000 times at most: each time
+/// but the last gives one image or more, and there are 999,999 accessions.
 pub(crate) fn walk_images<S: Alter>(
     alloc: Global,
     conn: &mut Connection<S>,

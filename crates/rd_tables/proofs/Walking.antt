@@ -257,7 +257,7 @@ module _ (tree : ℕ) (tests shown : List Term) (params : Row) (place : Option �
   above_first n row (other ∷ others) rises sorted number =
       all_above (id_in (rowid row)) other others (lt_above (rowid other) (id_in (rowid row)) (rises.numbers 1 [] (omega arith)) (rises.rise 0 (omega arith))) (later_sorted row (other ∷ others) sorted)
 
-  -- of rows that rise each but the last shows that the one before it is alone
+  -- of rows that rise each but the first shows that the one before it is alone
   one_by_one : (n : ℕ) (at : Option ℤ) (others : List Row) → IsPermutation (filter (is_after at) table) others → IsSorted (output_cmp asked) (map tells others) → AreRising (take (suc n) (map shown_of others))
       → AreNext shown_of table at (take n (map shown_of others))
   one_by_one zero at others h sorted rises = tt
