@@ -12,7 +12,6 @@ ghost use Rattle.rd_desk.specs.Calls.{Carries, IsOneChange, IsSaidOf, MakesOneCh
 ghost use Rattle.rd_protocol.specs.Requests.{IsForStaff, IsRequest};
 
 use crate::asking::{Unavailable, has_deed, image};
-use crate::queries::Caller;
 use crate::surveys::survey;
 use rd_geometry::{Items, Kind, Text};
 use rd_policy::{Audience, Band, Rule};
@@ -164,40 +163,40 @@ fn put_image<S: Alter>(
 fn check<S: Alter>(
     store: &mut Store<S>,
     alloc: Global,
-    caller: &Caller,
+    day: i32,
     acc: u32,
 ) -> Result<Said, Unavailable>
-    requires day { IsDay caller.now.day }
-    ensures carries { Carries S.Store store.old store.new caller.now.day (What.Check acc) result }
-    ensures one_change { MakesOneChange S.Store store.old store.new caller.now.day (What.Check acc) (λ told. IsSaidOf told result) }
+    requires day { IsDay day }
+    ensures carries { Carries S.Store store.old store.new day (What.Check acc) result }
+    ensures one_change { MakesOneChange S.Store store.old store.new day (What.Check acc) (λ told. IsSaidOf told result) }
 {
     let Some(image) = image(store, alloc, acc)? else {
         return Ok(Said::Refused(Refusal::NoAccession));
     };
     let outcome = check_row(image.bytes.as_slice(), &image.digest);
-    match store.put_check(acc, caller.day, outcome) {
+    match store.put_check(acc, day, outcome) {
         Ok(()) => Ok(Said::Checked(outcome)),
         Err(_) => Err(Unavailable),
     }
 }
 
-/// Does what the staff asks on the caller's day.
+/// Does what the staff asks on a day.
 pub(crate) fn command<S: Alter>(
     store: &mut Store<S>,
     alloc: Global,
-    caller: &Caller,
+    day: i32,
     what: &What,
 ) -> Result<Said, Unavailable>
-    requires day { IsDay caller.now.day }
+    requires day { IsDay day }
     requires fits { IsRequest what.now }
     requires staff { IsForStaff what.now }
-    ensures carries { Carries S.Store store.old store.new caller.now.day what.now result }
-    ensures one_change { MakesOneChange S.Store store.old store.new caller.now.day what.now (λ told. IsSaidOf told result) }
+    ensures carries { Carries S.Store store.old store.new day what.now result }
+    ensures one_change { MakesOneChange S.Store store.old store.new day what.now (λ told. IsSaidOf told result) }
 {
     store.rests();
     match what {
         What::Survey(acc) => survey(store, alloc, *acc),
-        What::Check(acc) => check(store, alloc, caller, *acc),
+        What::Check(acc) => check(store, alloc, day, *acc),
         What::PutImage {
             acc,
             kind,

@@ -45,7 +45,7 @@ fn respond<S: Alter>(
     if caller.audience != Audience::Staff {
         return Ok(Said::Refused(Refusal::StaffOnly));
     }
-    command(store, alloc, &caller, &request.what)
+    command(store, alloc, day, &request.what)
 }
 
 /// The reply that gives an answer; if there is no answer, or no memory for the reply, it says that

@@ -7,77 +7,85 @@ use Rattle.rd_desk.proofs.commands.command.Goals as goal
 
 pub returns-in-Survey-clause-carries : goal.returns-in-Survey-clause-carries
 returns-in-Survey-clause-carries g c =
-    subst (λ what. Carries g.S.Store c.args.store.now c.survey.new.store c.args.caller.now.day what c.survey.result)
-    (sym c.in-Survey.is) (c.survey.ensures.carries c.args.caller.now.day)
+    subst (λ what. Carries g.S.Store c.args.store.now c.survey.new.store c.args.day what c.survey.result)
+    (sym c.in-Survey.is) (c.survey.ensures.carries c.args.day)
+
+pub returns-in-Check-clause-carries : goal.returns-in-Check-clause-carries
+returns-in-Check-clause-carries g c =
+    let day = to_z-of_z w32 c.args.day c.ranges.day in
+    let carries = rw day at c.check.ensures.carries in
+    subst (λ what. Carries g.S.Store c.args.store.now c.check.new.store c.args.day what c.check.result) (sym c.in-Check.is) carries
 
 pub returns-in-PutImage-clause-carries : goal.returns-in-PutImage-clause-carries
 returns-in-PutImage-clause-carries g c =
-    subst (λ what. Carries g.S.Store c.args.store.now c.put_image.new.store c.args.caller.now.day what c.put_image.result)
-    (sym c.in-PutImage.is) (c.put_image.ensures.carries c.args.caller.now.day)
+    subst (λ what. Carries g.S.Store c.args.store.now c.put_image.new.store c.args.day what c.put_image.result)
+    (sym c.in-PutImage.is) (c.put_image.ensures.carries c.args.day)
 
 pub returns-in-PutDeed-clause-carries : goal.returns-in-PutDeed-clause-carries
 returns-in-PutDeed-clause-carries g c =
     let fits : FitsSigned w32 c.in-PutDeed.signed = search rules in
-    subst (λ what. Carries g.S.Store c.args.store.now c.put_deed.new.store c.args.caller.now.day what c.put_deed.result)
-    (ap (PutDeed c.in-PutDeed.num c.in-PutDeed.donor) (to_z-of_z w32 c.in-PutDeed.signed fits) ∙ sym c.in-PutDeed.is) (c.put_deed.ensures.carries c.args.caller.now.day)
+    subst (λ what. Carries g.S.Store c.args.store.now c.put_deed.new.store c.args.day what c.put_deed.result)
+    (ap (PutDeed c.in-PutDeed.num c.in-PutDeed.donor) (to_z-of_z w32 c.in-PutDeed.signed fits) ∙ sym c.in-PutDeed.is) (c.put_deed.ensures.carries c.args.day)
 
 pub returns-in-PutRule-clause-carries : goal.returns-in-PutRule-clause-carries
 returns-in-PutRule-clause-carries g c =
-    subst (λ what. Carries g.S.Store c.args.store.now c.put_rule.new.store c.args.caller.now.day what c.put_rule.result)
-    (sym c.in-PutRule.is) (c.put_rule.ensures.carries c.args.caller.now.day)
+    subst (λ what. Carries g.S.Store c.args.store.now c.put_rule.new.store c.args.day what c.put_rule.result)
+    (sym c.in-PutRule.is) (c.put_rule.ensures.carries c.args.day)
 
 pub returns-in-DropRule-clause-carries : goal.returns-in-DropRule-clause-carries
 returns-in-DropRule-clause-carries g c =
-    subst (λ what. Carries g.S.Store c.args.store.now c.drop_rule.new.store c.args.caller.now.day what c.drop_rule.result)
-    (sym c.in-DropRule.is) (c.drop_rule.ensures.carries c.args.caller.now.day)
+    subst (λ what. Carries g.S.Store c.args.store.now c.drop_rule.new.store c.args.day what c.drop_rule.result)
+    (sym c.in-DropRule.is) (c.drop_rule.ensures.carries c.args.day)
 
 pub returns-in-PutKey-clause-carries : goal.returns-in-PutKey-clause-carries
 returns-in-PutKey-clause-carries g c =
-    subst (λ what. Carries g.S.Store c.args.store.now c.put_key.new.store c.args.caller.now.day what c.put_key.result)
-    (sym c.in-PutKey.is) (c.put_key.ensures.carries c.args.caller.now.day)
+    subst (λ what. Carries g.S.Store c.args.store.now c.put_key.new.store c.args.day what c.put_key.result)
+    (sym c.in-PutKey.is) (c.put_key.ensures.carries c.args.day)
 
 pub returns-in-DropKey-clause-carries : goal.returns-in-DropKey-clause-carries
 returns-in-DropKey-clause-carries g c =
-    subst (λ what. Carries g.S.Store c.args.store.now c.drop_key.new.store c.args.caller.now.day what c.drop_key.result)
-    (sym c.in-DropKey.is) (c.drop_key.ensures.carries c.args.caller.now.day)
+    subst (λ what. Carries g.S.Store c.args.store.now c.drop_key.new.store c.args.day what c.drop_key.result)
+    (sym c.in-DropKey.is) (c.drop_key.ensures.carries c.args.day)
 
 pub returns-in-Survey-clause-one_change : goal.returns-in-Survey-clause-one_change
 returns-in-Survey-clause-one_change g c =
-    reads_alone g.S.Store c.args.caller.now.day _ _ c.args.store.now c.survey.new.store c.survey.ensures.keeps
+    reads_alone g.S.Store c.args.day _ _ c.args.store.now c.survey.new.store c.survey.ensures.keeps
 
 pub returns-in-Check-clause-one_change : goal.returns-in-Check-clause-one_change
 returns-in-Check-clause-one_change g c =
-    subst (λ what. MakesOneChange g.S.Store c.args.store.now c.check.new.store c.args.caller.now.day what (λ told. IsSaidOf told c.check.result)) (sym c.in-Check.is) c.check.ensures.one_change
+    let day = to_z-of_z w32 c.args.day c.ranges.day in
+    let change = rw day at c.check.ensures.one_change in
+    subst (λ what. MakesOneChange g.S.Store c.args.store.now c.check.new.store c.args.day what (λ told. IsSaidOf told c.check.result)) (sym c.in-Check.is) change
 
 pub returns-in-PutImage-clause-one_change : goal.returns-in-PutImage-clause-one_change
 returns-in-PutImage-clause-one_change g c =
-    subst (λ what. MakesOneChange g.S.Store c.args.store.now c.put_image.new.store c.args.caller.now.day what (λ told. IsSaidOf told c.put_image.result)) (sym c.in-PutImage.is) (c.put_image.ensures.one_change c.args.caller.now.day)
+    subst (λ what. MakesOneChange g.S.Store c.args.store.now c.put_image.new.store c.args.day what (λ told. IsSaidOf told c.put_image.result)) (sym c.in-PutImage.is) (c.put_image.ensures.one_change c.args.day)
 
 pub returns-in-PutDeed-clause-one_change : goal.returns-in-PutDeed-clause-one_change
 returns-in-PutDeed-clause-one_change g c =
     let fits : FitsSigned w32 c.in-PutDeed.signed = search rules in
-    subst (λ what. MakesOneChange g.S.Store c.args.store.now c.put_deed.new.store c.args.caller.now.day what (λ told. IsSaidOf told c.put_deed.result)) (ap (PutDeed c.in-PutDeed.num c.in-PutDeed.donor) (to_z-of_z w32 c.in-PutDeed.signed fits) ∙ sym c.in-PutDeed.is)
-    (change_alone g.S.Store c.args.caller.now.day _ _ c.args.store.now c.put_deed.new.store c.rests.ensures tt (c.put_deed.ensures.change c.args.caller.now.day))
+    subst (λ what. MakesOneChange g.S.Store c.args.store.now c.put_deed.new.store c.args.day what (λ told. IsSaidOf told c.put_deed.result)) (ap (PutDeed c.in-PutDeed.num c.in-PutDeed.donor) (to_z-of_z w32 c.in-PutDeed.signed fits) ∙ sym c.in-PutDeed.is)
+    (change_alone g.S.Store c.args.day _ _ c.args.store.now c.put_deed.new.store c.rests.ensures tt (c.put_deed.ensures.change c.args.day))
 
 pub returns-in-PutRule-clause-one_change : goal.returns-in-PutRule-clause-one_change
 returns-in-PutRule-clause-one_change g c =
-    subst (λ what. MakesOneChange g.S.Store c.args.store.now c.put_rule.new.store c.args.caller.now.day what (λ told. IsSaidOf told c.put_rule.result)) (sym c.in-PutRule.is)
-    (change_alone g.S.Store c.args.caller.now.day _ _ c.args.store.now c.put_rule.new.store c.rests.ensures tt (c.put_rule.ensures.change c.args.caller.now.day))
+    subst (λ what. MakesOneChange g.S.Store c.args.store.now c.put_rule.new.store c.args.day what (λ told. IsSaidOf told c.put_rule.result)) (sym c.in-PutRule.is)
+    (change_alone g.S.Store c.args.day _ _ c.args.store.now c.put_rule.new.store c.rests.ensures tt (c.put_rule.ensures.change c.args.day))
 
 pub returns-in-DropRule-clause-one_change : goal.returns-in-DropRule-clause-one_change
 returns-in-DropRule-clause-one_change g c =
-    subst (λ what. MakesOneChange g.S.Store c.args.store.now c.drop_rule.new.store c.args.caller.now.day what (λ told. IsSaidOf told c.drop_rule.result)) (sym c.in-DropRule.is)
-    (change_alone g.S.Store c.args.caller.now.day _ _ c.args.store.now c.drop_rule.new.store c.rests.ensures tt (c.drop_rule.ensures.change c.args.caller.now.day))
+    subst (λ what. MakesOneChange g.S.Store c.args.store.now c.drop_rule.new.store c.args.day what (λ told. IsSaidOf told c.drop_rule.result)) (sym c.in-DropRule.is)
+    (change_alone g.S.Store c.args.day _ _ c.args.store.now c.drop_rule.new.store c.rests.ensures tt (c.drop_rule.ensures.change c.args.day))
 
 pub returns-in-PutKey-clause-one_change : goal.returns-in-PutKey-clause-one_change
 returns-in-PutKey-clause-one_change g c =
-    subst (λ what. MakesOneChange g.S.Store c.args.store.now c.put_key.new.store c.args.caller.now.day what (λ told. IsSaidOf told c.put_key.result)) (sym c.in-PutKey.is)
-    (change_alone g.S.Store c.args.caller.now.day _ _ c.args.store.now c.put_key.new.store c.rests.ensures tt (c.put_key.ensures.change c.args.caller.now.day))
+    subst (λ what. MakesOneChange g.S.Store c.args.store.now c.put_key.new.store c.args.day what (λ told. IsSaidOf told c.put_key.result)) (sym c.in-PutKey.is)
+    (change_alone g.S.Store c.args.day _ _ c.args.store.now c.put_key.new.store c.rests.ensures tt (c.put_key.ensures.change c.args.day))
 
 pub returns-in-DropKey-clause-one_change : goal.returns-in-DropKey-clause-one_change
 returns-in-DropKey-clause-one_change g c =
-    subst (λ what. MakesOneChange g.S.Store c.args.store.now c.drop_key.new.store c.args.caller.now.day what (λ told. IsSaidOf told c.drop_key.result)) (sym c.in-DropKey.is)
-    (change_alone g.S.Store c.args.caller.now.day _ _ c.args.store.now c.drop_key.new.store c.rests.ensures tt (c.drop_key.ensures.change c.args.caller.now.day))
+    subst (λ what. MakesOneChange g.S.Store c.args.store.now c.drop_key.new.store c.args.day what (λ told. IsSaidOf told c.drop_key.result)) (sym c.in-DropKey.is)
+    (change_alone g.S.Store c.args.day _ _ c.args.store.now c.drop_key.new.store c.rests.ensures tt (c.drop_key.ensures.change c.args.day))
 
 pub returns-in-Unread-clause-one_change : goal.returns-in-Unread-clause-one_change
-returns-in-Unread-clause-one_change g c = no_call g.S.Store c.args.caller.now.day _ _ c.args.store.now c.rests.ensures
+returns-in-Unread-clause-one_change g c = no_call g.S.Store c.args.day _ _ c.args.store.now c.rests.ensures
