@@ -51,11 +51,11 @@ fn judge_in_turn(takedowns: &[Rule], rules: &[Rule], caller: &Caller, file: &Fou
 
 /// Why the caller may not read a file; `None` if they may. The verdict comes before the class and
 /// the faults.
-fn withheld(accession: &AccessionRules, caller: &Caller, file: &Found) -> Option<Refusal>
-    requires order { AreInOrder accession.now.rules }
-    ensures { IsWithheld accession.now.kind accession.now.rules caller.now.audience caller.now.day file.now result }
+fn withheld(loaded: &AccessionRules, caller: &Caller, file: &Found) -> Option<Refusal>
+    requires order { AreInOrder loaded.now.rules }
+    ensures { IsWithheld loaded.now.kind loaded.now.rules caller.now.audience caller.now.day file.now result }
 {
-    let verdict = judge(accession.rules.as_slice(), caller, file);
+    let verdict = judge(loaded.rules.as_slice(), caller, file);
     if verdict.effect != Effect::Read {
         return Some(Refusal::Denied(verdict.label));
     }
@@ -63,7 +63,7 @@ fn withheld(accession: &AccessionRules, caller: &Caller, file: &Found) -> Option
         return Some(Refusal::ListedOnly);
     }
     if file.faults != 0 {
-        return Some(Refusal::Faulty(accession.kind, file.faults));
+        return Some(Refusal::Faulty(loaded.kind, file.faults));
     }
     None
 }
@@ -72,19 +72,19 @@ fn withheld(accession: &AccessionRules, caller: &Caller, file: &Found) -> Option
 fn said_of<S: Alter>(
     store: &mut Store<S>,
     alloc: Global,
-    accession: &AccessionRules,
+    loaded: &AccessionRules,
     caller: &Caller,
     acc: u32,
     file: Found,
 ) -> Result<Said, Unavailable>
-    requires order { AreInOrder accession.now.rules }
+    requires order { AreInOrder loaded.now.rules }
     requires awake { IsClean S.Store store.old → IsOpen S.Store store.old }
     ensures { Looks S.Store store.old store.new result (λ said. (image : ImageRow) → get (desk S.Store store.old).images acc ≡ Some image
-        → accession.now.kind ≡ image.kind → IsFound image.kind image.bytes file
-        → IsRead (record { image = image; rules = accession.now.rules }) caller.now.audience caller.now.day file.slot said) }
+        → loaded.now.kind ≡ image.kind → IsFound image.kind image.bytes file
+        → IsRead (record { image = image; rules = loaded.now.rules }) caller.now.audience caller.now.day file.slot said) }
 {
     store.rests();
-    if let Some(refusal) = withheld(accession, caller, &file) {
+    if let Some(refusal) = withheld(loaded, caller, &file) {
         return Ok(Said::Refused(refusal));
     }
     Ok(Said::File(contents(store, alloc, acc, file)?))
@@ -94,18 +94,18 @@ fn said_of<S: Alter>(
 fn read<S: Alter>(
     store: &mut Store<S>,
     alloc: Global,
-    accession: &AccessionRules,
+    loaded: &AccessionRules,
     caller: &Caller,
     acc: u32,
     slot: u16,
 ) -> Result<Said, Unavailable>
-    requires order { AreInOrder accession.now.rules }
+    requires order { AreInOrder loaded.now.rules }
     ensures { Looks S.Store store.old store.new result (λ said. (image : ImageRow) → get (desk S.Store store.old).images acc ≡ Some image
-        → accession.now.kind ≡ image.kind
-        → IsRead (record { image = image; rules = accession.now.rules }) caller.now.audience caller.now.day slot said) }
+        → loaded.now.kind ≡ image.kind
+        → IsRead (record { image = image; rules = loaded.now.rules }) caller.now.audience caller.now.day slot said) }
 {
     match file_at(store, alloc, acc, slot)? {
-        Some(file) => said_of(store, alloc, accession, caller, acc, file),
+        Some(file) => said_of(store, alloc, loaded, caller, acc, file),
         None => Ok(Said::Refused(Refusal::NoFile)),
     }
 }
@@ -121,9 +121,9 @@ fn bytes<S: Alter>(
     ensures { Looks S.Store store.old store.new result (IsSaidTo (desk S.Store store.old) caller.now.audience caller.now.day (What.Bytes acc slot)) }
 {
     match accession(store, acc)? {
-        Some(found) => {
-            let accession = load_rules(store, alloc, acc, found)?;
-            read(store, alloc, &accession, caller, acc, slot)
+        Some(accession) => {
+            let loaded = load_rules(store, alloc, acc, accession)?;
+            read(store, alloc, &loaded, caller, acc, slot)
         }
         None => Ok(Said::Refused(Refusal::NoAccession)),
     }
@@ -156,16 +156,16 @@ pub(crate) fn listed(
 fn lines<S: Alter>(
     store: &mut Store<S>,
     alloc: Global,
-    accession: &AccessionRules,
+    loaded: &AccessionRules,
     caller: &Caller,
     acc: u32,
 ) -> Result<Items<Line>, Unavailable>
-    requires order { AreInOrder accession.now.rules }
+    requires order { AreInOrder loaded.now.rules }
     ensures { Looks S.Store store.old store.new result (λ lines. (image : ImageRow) → get (desk S.Store store.old).images acc ≡ Some image
-        → AreLines image accession.now.rules caller.now.audience caller.now.day lines) }
+        → AreLines image loaded.now.rules caller.now.audience caller.now.day lines) }
 {
     let files = files(store, alloc, acc)?;
-    listed(alloc, &[], accession.rules.as_slice(), caller, files)
+    listed(alloc, &[], loaded.rules.as_slice(), caller, files)
 }
 
 /// An accession that stands, of this kind and this deed, with its listed files.
@@ -174,17 +174,17 @@ fn listed_at<S: Alter>(
     alloc: Global,
     caller: &Caller,
     acc: u32,
-    found: Accession,
+    accession: Accession,
 ) -> Result<Listing, Unavailable>
-    requires known { IsOpen S.Store store.old → IsRegistered (desk S.Store store.old) acc found }
+    requires known { IsOpen S.Store store.old → IsRegistered (desk S.Store store.old) acc accession }
     ensures { Looks S.Store store.old store.new result (IsListing (desk S.Store store.old) caller.now.audience caller.now.day acc) }
 {
-    let accession = load_rules(store, alloc, acc, found)?;
-    let files = lines(store, alloc, &accession, caller, acc)?;
+    let loaded = load_rules(store, alloc, acc, accession)?;
+    let files = lines(store, alloc, &loaded, caller, acc)?;
     Ok(Listing {
         accession: acc,
-        deed: accession.deed,
-        kind: accession.kind,
+        deed: loaded.deed,
+        kind: loaded.kind,
         files,
     })
 }
@@ -199,7 +199,7 @@ fn listing<S: Alter>(
     ensures { Looks S.Store store.old store.new result (IsSaidTo (desk S.Store store.old) caller.now.audience caller.now.day (What.Listing acc)) }
 {
     match accession(store, acc)? {
-        Some(found) => Ok(Said::Listed(listed_at(store, alloc, caller, acc, found)?)),
+        Some(accession) => Ok(Said::Listed(listed_at(store, alloc, caller, acc, accession)?)),
         None => Ok(Said::Refused(Refusal::NoAccession)),
     }
 }

@@ -9,7 +9,7 @@ pub returns : goal.returns
 returns g c = record {
   keeps = search rules;
   answer = λ o.
-      let rules_are = c.args.accession.now.rules in
+      let rules_are = c.args.loaded.now.rules in
       let audience = c.args.caller.now.audience in
       let day = c.args.caller.now.day in
       let files = c.in_ok-files.files in
