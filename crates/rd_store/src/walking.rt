@@ -27,6 +27,9 @@ use sqlite::types::ToSql;
 use sqlite::{Alter, Connection, Row};
 use std::alloc::Global;
 
+/// How many rows the texts below ask for, as their LIMIT.
+const ROWS_AT_A_TIME: usize = 8;
+
 /// The rows of the first eight images.
 fn first_rows<S: Alter>(conn: &mut Connection<S>) -> Result<Vec<Row>, StoreFault>
     requires tables { HoldsCommonTables (state S.Store conn.old) }
@@ -79,7 +82,7 @@ fn next_images<S: Alter>(
 {
     match next_rows(conn, after) {
         Ok(mut rows) if are_rising(&rows) => {
-            rows.truncate(7);
+            rows.truncate(ROWS_AT_A_TIME - 1);
             Ok(rows)
         }
         _ => Err(OpenFault::Sql),
