@@ -20,7 +20,7 @@ use Rattle.rd_tables.specs.Asked.{AreRising, IsListed, greater}
 use Rattle.rd_tables.specs.Queries.{all_images_query, all_marks_query}
 use Rattle.rd_tables.specs.Schemas.{desk_with}
 use Rattle.rd_tables.specs.Sheets.{IsSpelled, Spells, entry_of, map_of, natural}
-use Rattle.rd_tables.specs.Walks.{AreNext, IsWalked, is_after}
+use Rattle.rd_tables.specs.Walks.{AreNext, ComesNext, IsWalked, is_after}
 use Rattle.rd_tables.proofs.Entries.{entry_got, got_entry}
 use Rattle.rd_tables.proofs.Listed.{all_in, row_got, rows_lawful}
 use Rattle.rd_tables.proofs.Lists.{and_true, from_map, in_map, map_map}
@@ -37,7 +37,7 @@ use Rattle.rd_store.specs.Opened.{AreFiledUnder, AreKeys, AreListed, HaveAccessi
 use Rattle.rd_store.specs.Register.{entry_in, number_of, register_of}
 use Rattle.rd_store.specs.Shown.{as_row}
 use Rattle.rd_store.specs.Spelled.{HasVersion, deed_sheet, image_sheet, images_of, marks_sheet, unmarked}
-use Rattle.rd_store.specs.Walked.{AreBatchOf, AreFiledOf, AreNextOf, AreReadNext, HasFilesOnce, IsJudgedImage, IsLawfulAt, IsNextEntry, IsReadOf, IsWalk, IsWalkTo, LawfulGivenWalk, LawfulWalk, SpellMarksIf, StandsOnce, image_read, image_told, last_number}
+use Rattle.rd_store.specs.Walked.{AreBatchOf, AreFiledOf, AreNextOf, AreReadNext, HasFilesOnce, IsJudgedImage, IsLawfulAt, IsReadOf, IsWalk, IsWalkTo, LawfulGivenWalk, LawfulWalk, SpellMarksIf, StandsOnce, image_read, image_told, last_number}
 use Rattle.rd_store.proofs.Columns.{number_shown, number_spelled, one_of_spelled}
 use Rattle.rd_store.proofs.FilesTold.{filed_at, have_accessions, lawful_files}
 use Rattle.rd_store.proofs.Found.{images_listed}
@@ -108,7 +108,12 @@ batch_of (Some acc) trees rows starts rises = (
 pub read_of : (after : Option ℕ) (trees : Trees) (shown : Row) (more : List Row) → AreReadNext after trees (shown ∷ more) → IsReadOf trees shown
 read_of after trees shown more next = (next.0, comes_from (trees 2) (option_map pos after) next.0 next.1, next.2)
 
--- and if it was judged, its entry is the next
+-- the entry of the image that comes next after an accession, or first, and was judged
+abbrev pub IsNextEntry : List ℕ → List ℕ → Option ℕ → Trees → ℕ × Heading → Type 0
+IsNextEntry deeds marked after trees entry =
+    (row : Row) × ComesNext (trees 2) (option_map pos after) row × IsJudgedImage deeds marked (image_read row) trees × (entry ≡ entry_in marked (image_read row))
+
+-- if the first of the rows that come next was judged, its entry is the next
 pub next_entry : (deeds marked : List ℕ) (after : Option ℕ) (trees : Trees) (shown : Row) (more : List Row) → AreReadNext after trees (shown ∷ more) → IsJudgedImage deeds marked shown trees → (entry : ℕ × Heading) → entry ≡ entry_in marked shown
     → IsNextEntry deeds marked after trees entry
 next_entry deeds marked after trees shown more next judged entry told = (next.0, next.1, subst (λ s. IsJudgedImage deeds marked s trees) next.2 judged, told ∙ ap (entry_in marked) next.2)

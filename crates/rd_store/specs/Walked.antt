@@ -10,7 +10,7 @@ use Rattle.sqlite_sql.specs.declared.ops.UnaryOp.TheVariants.{Length, TypeOf}
 use Rattle.rd_tables.specs.Asked.{IsStart}
 use Rattle.rd_tables.specs.Queries.{all_images_query, later_images_query}
 use Rattle.rd_tables.specs.Sheets.{Spells, map_of, natural}
-use Rattle.rd_tables.specs.Walks.{AreNext, ComesNext, IsWalked, is_after}
+use Rattle.rd_tables.specs.Walks.{AreNext, IsWalked, is_after}
 use Rattle.rd_store.specs.declared.images.Heading.{Heading}
 use Rattle.rd_protocol.specs.declared.rows.ImageRow.{ImageRow}
 use Rattle.rd_store.specs.Cells.{IsImageRow}
@@ -103,11 +103,6 @@ LawfulCommonWalk marked trees = LawfulCommon trees × AreFiledOf marked trees
 -- the accession of the last of these entries
 abbrev pub last_number : List (ℕ × Heading) → Option ℕ
 last_number listed = option_map number_of (slice_get listed (length listed - 1))
-
--- the entry of the image that comes next after an accession, or first, and was judged
-abbrev pub IsNextEntry : List ℕ → List ℕ → Option ℕ → Trees → ℕ × Heading → Type 0
-IsNextEntry deeds marked after trees entry =
-    (row : Row) × ComesNext (trees 2) (option_map pos after) row × IsJudgedImage deeds marked (image_read row) trees × (entry ≡ entry_in marked (image_read row))
 
 -- These are the entries of the images up to the last of them, all of which were judged.
 pub record IsWalkTo (deeds marked : List ℕ) (trees : Trees) (listed : List (ℕ × Heading)) : Type 0 where
