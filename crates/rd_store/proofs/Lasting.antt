@@ -4,13 +4,13 @@ use Rattle.std.specs.FinMap.{FinMap, get, insert}
 use Rattle.sqlite.specs.Store.{Ghosts}
 use Rattle.sqlite.specs.Effect.{Database}
 use Rattle.sqlite.specs.Held.{Held, state}
-use Rattle.rd_store.specs.declared.last.Last.{Last}
-use Rattle.rd_store.specs.declared.last.Last.TheVariants.{Unasked, Once, Kept}
+use Rattle.rd_store.specs.declared.last.KeptImage.{KeptImage}
+use Rattle.rd_store.specs.declared.last.KeptImage.TheVariants.{Unasked, AskedFor, Kept}
 use Rattle.rd_store.specs.declared.register.Register.{Register}
 use Rattle.rd_protocol.specs.declared.rows.ImageRow.{ImageRow}
 use Rattle.rd_protocol.specs.State.{Desk, put_or_kept, with_image}
 use Rattle.rd_store.specs.Held.{Changes, HoldsDesk, IsOpen, Stays, desk}
-use Rattle.rd_store.specs.Last.{IsAmong, IsKept, IsLastOf, image_in}
+use Rattle.rd_store.specs.Last.{IsAmong, IsLastOf}
 use Rattle.rd_store.specs.Register.{IsRegisterOf}
 use Rattle.rd_store.specs.Spelled.{desk_of}
 use Rattle.rd_store.proofs.Maps.{others_stay}
@@ -21,23 +21,21 @@ abbrev Images : Type 0
 Images = FinMap nat_cmp ImageRow
 
 -- the image that is kept for an accession is the one there
-pub kept_there : (last : Last) (acc : ℕ) (images : Images) → IsKept acc last → IsAmong last images → image_in last ≡ get images acc
-kept_there Unasked acc images key is = absurd key
-kept_there (Once at) acc images key is = absurd key
-kept_there (Kept at image) acc images key is = sym is ∙ ap (get images) key
+pub kept_there : (last : KeptImage) (acc : ℕ) (image : ImageRow) (images : Images) → last ≡ Kept acc image → IsAmong last images → get images acc ≡ Some image
+kept_there last acc image images kept is = subst (λ (l : KeptImage). IsAmong l images) kept is
 
 -- an image that is put where none stands leaves the others
 stands_still : (images : Images) (acc : ℕ) (image : ImageRow) (at : ℕ) (kept : ImageRow) → get images acc ≡ None → get images at ≡ Some kept → get (insert images acc image) at ≡ Some kept
 stands_still images acc image at kept free is =
     others_stay nat_cmp number_order images acc image at (λ same. let wrong : None ≡ Some kept = sym free ∙ ap (get images) (sym same) ∙ is in cc) ∙ is
 
-among_put : (d : Desk) (acc : ℕ) (image : ImageRow) (found : Option ImageRow) → get d.images acc ≡ found → (last : Last) → IsAmong last d.images → IsAmong last (put_or_kept found acc image d).images
+among_put : (d : Desk) (acc : ℕ) (image : ImageRow) (found : Option ImageRow) → get d.images acc ≡ found → (last : KeptImage) → IsAmong last d.images → IsAmong last (put_or_kept found acc image d).images
 among_put d acc image found there Unasked is = tt
-among_put d acc image found there (Once at) is = tt
+among_put d acc image found there (AskedFor at) is = tt
 among_put d acc image None there (Kept at kept) is = stands_still d.images acc image at kept there is
 among_put d acc image (Some standing) there (Kept at kept) is = is
 
-module _ {S : Type 0} (g : Ghosts S) (old new : Held S) (last : Last) where
+module _ {S : Type 0} (g : Ghosts S) (old new : Held S) (last : KeptImage) where
   -- queries
   pub among_stays : Stays g old new → IsOpen g new → IsAmong last (desk g old).images → IsAmong last (desk g new).images
   among_stays stays o is = subst (λ (db : Database). IsAmong last (desk_of db.trees).images) (sym (stays.now o)) is

@@ -18,7 +18,7 @@ ghost use Rattle.rd_protocol.specs.State.{HasOtherImage, IsLastStaff, Stands, al
 
 use crate::faults::{CreateFault, OpenFault, Refused, StoreFault};
 use crate::images::Heading;
-use crate::last::{Last, image_again};
+use crate::last::{KeptImage, image_again};
 use crate::register::Register;
 use crate::rulebook::Rulebook;
 use crate::{batches, checks, create, deeds, files, images, judging, keys, migrating, rules};
@@ -38,7 +38,7 @@ use std::marker::Model;
 pub struct Store<S: Alter> {
     conn: Connection<S>,
     register: Register,
-    last: Last,
+    last: KeptImage,
 }
 
 impl<S: Alter> Model for Store<S> {
@@ -86,7 +86,7 @@ impl<S: Alter> Store<S> {
             Ok(()) => Ok(Store {
                 conn,
                 register: Register::empty(),
-                last: Last::Unasked,
+                last: KeptImage::Unasked,
             }),
             Err(_) => Err(Refused {
                 fault: CreateFault::Sql,
@@ -113,7 +113,7 @@ impl<S: Alter> Store<S> {
             Ok(register) => Ok(Store {
                 conn,
                 register,
-                last: Last::Unasked,
+                last: KeptImage::Unasked,
             }),
             Err(fault) => Err(Refused { fault, conn }),
         }
@@ -141,7 +141,7 @@ impl<S: Alter> Store<S> {
             Ok(register) => Ok(Store {
                 conn,
                 register,
-                last: Last::Unasked,
+                last: KeptImage::Unasked,
             }),
             Err(fault) => Err(Refused { fault, conn }),
         }
