@@ -5,7 +5,8 @@ use Rattle.sqlite.specs.Tree.{Trees}
 use Rattle.sqlite.specs.Held.{Held}
 use Rattle.rd_policy.specs.declared.audience.Audience.{Audience}
 use Rattle.rd_policy.specs.declared.audience.Audience.TheVariants.{Staff}
-use Rattle.rd_store.specs.Held.{IsClean, IsLeft, IsOpen, LeavesOnly, Rests, desk}
+use Rattle.rd_store.specs.Held.{IsClean, IsLeft, IsOpen, LeavesOnly, Reads, Rests, desk}
+use Rattle.rd_store.specs.declared.faults.StoreFault.{StoreFault}
 use Rattle.rd_protocol.specs.Lawful.{IsLawful}
 use Rattle.rd_protocol.specs.State.{Desk}
 use Rattle.rd_store.proofs.Laws.{lasts_still, lasts_then}
@@ -55,6 +56,10 @@ left_step old day request left command staff lawful (inr (digest, after)) = elim
     )
   ]
 ]
+
+-- a call of the store that reads
+pub reads_keep : {S T : Type 0} {g : Ghosts S} {old new : Held S} {result : Result T StoreFault} {Answers : T → Type 0} → Reads g old new result Answers → Keeps g old new
+reads_keep reads = record { lasts = reads.lasts; same = reads.same; crash = reads.crash; durable = reads.durable }
 
 module _ {S : Type 0} (g : Ghosts S) where
   -- a call that is not made

@@ -11,7 +11,7 @@ ghost use Rattle.rd_protocol.specs.Lawful.{IsDeed};
 ghost use Rattle.rd_desk.specs.Calls.{Carries, IsOneChange, IsSaidOf, MakesOneChange, missing_of};
 ghost use Rattle.rd_protocol.specs.Requests.{IsForStaff, IsRequest};
 
-use crate::asking::{Unavailable, has_deed, image};
+use crate::asking::{Unavailable, has_deed};
 use crate::surveys::survey;
 use rd_geometry::{Items, Kind, Text};
 use rd_policy::{Audience, Band, Rule};
@@ -170,7 +170,7 @@ fn check<S: Alter>(
     ensures carries { Carries S.Store store.old store.new day (What.Check acc) result }
     ensures one_change { MakesOneChange S.Store store.old store.new day (What.Check acc) (λ told. IsSaidOf told result) }
 {
-    let Some(image) = image(store, alloc, acc)? else {
+    let Some(image) = store.image(alloc, acc)? else {
         return Ok(Said::Refused(Refusal::NoAccession));
     };
     let outcome = check_row(image.bytes.as_slice(), &image.digest);

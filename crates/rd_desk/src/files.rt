@@ -6,7 +6,7 @@ ghost use Rattle.rd_store.specs.Held.{desk};
 ghost use Rattle.rd_protocol.specs.declared.rows.ImageRow.{ImageRow as Row};
 ghost use Rattle.rd_desk.specs.Calls.{Looks};
 
-use crate::asking::{Unavailable, image_again};
+use crate::asking::Unavailable;
 use rd_protocol::Contents;
 use rd_store::{ImageRow, Store};
 use rd_volume::Found;
@@ -35,7 +35,7 @@ pub(crate) fn contents<S: Alter>(
     ensures { Looks S.Store store.old store.new result (λ lent. (row : Row) → get (desk S.Store store.old).images acc ≡ Some row
         → lent ≡ record { kind = row.kind; image = row.bytes; file = file }) }
 {
-    let Some(image) = image_again(store, alloc, acc)? else {
+    let Some(image) = store.image_again(alloc, acc)? else {
         return Err(Unavailable);
     };
     contents_in(image, file)

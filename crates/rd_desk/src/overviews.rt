@@ -9,7 +9,7 @@ ghost use Rattle.rd_desk.specs.Calls.{IsSaidTo, Looks, StandsAs};
 ghost use Rattle.rd_protocol.specs.Queries.{AreLinesOfEach, IsCounted};
 ghost use Rattle.rd_protocol.specs.Replies.{IsListing};
 
-use crate::asking::{Unavailable, batch, count, rulebook};
+use crate::asking::{Unavailable, count};
 use crate::queries::{Caller, listed};
 use rd_geometry::Items;
 use rd_protocol::{ImageLine, Listing, Said, What};
@@ -97,7 +97,7 @@ fn image_lines<S: Alter>(
     let mut lines = Vec::new(alloc);
     store.rests();
     for at in 0..accessions / BATCH + 1 {
-        let part = batch(store, alloc, BATCH * at, BATCH)?;
+        let part = store.batch(alloc, BATCH * at, BATCH)?;
         lines = with_lines(alloc, lines, rules, caller, part)?;
     }
     Ok(Items::of(lines))
@@ -111,7 +111,7 @@ pub(crate) fn images<S: Alter>(
 ) -> Result<Said, Unavailable>
     ensures { Looks S.Store store.old store.new result (IsSaidTo (desk S.Store store.old) caller.now.audience caller.now.day What.Images) }
 {
-    let rules = rulebook(store, alloc)?;
+    let rules = store.rulebook(alloc)?;
     let accessions = count(store, alloc)?;
     Ok(Said::Images(image_lines(store, alloc, caller, &rules, accessions)?))
 }
@@ -154,8 +154,8 @@ fn listings<S: Alter>(
     let mut listings = Vec::new(alloc);
     store.rests();
     for at in 0..accessions / BATCH + 1 {
-        let part = batch(store, alloc, BATCH * at, BATCH)?;
-        listings = with_listings(alloc, listings, rules, caller, part)?;
+        let batch = store.batch(alloc, BATCH * at, BATCH)?;
+        listings = with_listings(alloc, listings, rules, caller, batch)?;
     }
     Ok(Items::of(listings))
 }
@@ -168,7 +168,7 @@ pub(crate) fn catalogue<S: Alter>(
 ) -> Result<Said, Unavailable>
     ensures { Looks S.Store store.old store.new result (IsSaidTo (desk S.Store store.old) caller.now.audience caller.now.day What.Catalogue) }
 {
-    let rules = rulebook(store, alloc)?;
+    let rules = store.rulebook(alloc)?;
     let accessions = count(store, alloc)?;
     Ok(Said::Catalogue(listings(store, alloc, caller, &rules, accessions)?))
 }

@@ -11,7 +11,7 @@ ghost use Rattle.rd_protocol.specs.Queries.{AreLinesOf, IsRead, IsWithheld};
 ghost use Rattle.rd_protocol.specs.Replies.{AreLines, IsListing};
 ghost use Rattle.rd_protocol.specs.Requests.{IsForStaff};
 
-use crate::asking::{AccessionRules, Unavailable, accession, file_at, files, load_rules};
+use crate::asking::{AccessionRules, Unavailable, files, load_rules};
 use crate::files::contents;
 use crate::overviews::{catalogue, images};
 use rd_geometry::Items;
@@ -104,7 +104,7 @@ fn read<S: Alter>(
         → loaded.now.kind ≡ image.kind
         → IsRead (record { image = image; rules = loaded.now.rules }) caller.now.audience caller.now.day slot said) }
 {
-    match file_at(store, alloc, acc, slot)? {
+    match store.found_at(alloc, acc, slot)? {
         Some(file) => said_of(store, alloc, loaded, caller, acc, file),
         None => Ok(Said::Refused(Refusal::NoFile)),
     }
@@ -120,7 +120,7 @@ fn bytes<S: Alter>(
 ) -> Result<Said, Unavailable>
     ensures { Looks S.Store store.old store.new result (IsSaidTo (desk S.Store store.old) caller.now.audience caller.now.day (What.Bytes acc slot)) }
 {
-    match accession(store, acc)? {
+    match store.accession(acc)? {
         Some(accession) => {
             let loaded = load_rules(store, alloc, acc, accession)?;
             read(store, alloc, &loaded, caller, acc, slot)
@@ -198,10 +198,10 @@ fn listing<S: Alter>(
 ) -> Result<Said, Unavailable>
     ensures { Looks S.Store store.old store.new result (IsSaidTo (desk S.Store store.old) caller.now.audience caller.now.day (What.Listing acc)) }
 {
-    match accession(store, acc)? {
-        Some(accession) => Ok(Said::Listed(listed_at(store, alloc, caller, acc, accession)?)),
-        None => Ok(Said::Refused(Refusal::NoAccession)),
-    }
+    let Some(accession) = store.accession(acc)? else {
+        return Ok(Said::Refused(Refusal::NoAccession));
+    };
+    Ok(Said::Listed(listed_at(store, alloc, caller, acc, accession)?))
 }
 
 /// Answers a query of a caller.

@@ -7,7 +7,7 @@ ghost use Rattle.rd_store.specs.Held.{desk};
 ghost use Rattle.rd_desk.specs.Calls.{Carries, IsSurveyAt, Keeps, Looks};
 ghost use Rattle.rd_protocol.specs.Replies.{IsSurveyOf};
 
-use crate::asking::{Unavailable, deed, image};
+use crate::asking::Unavailable;
 use rd_geometry::{Image, Text};
 use rd_policy::{date_text, is_day};
 use rd_protocol::{Refusal, Said, Survey, What};
@@ -65,10 +65,10 @@ fn survey_at<S: Alter>(
 ) -> Result<Option<Survey>, Unavailable>
     ensures { Looks S.Store store.old store.new result (IsSurveyAt (desk S.Store store.old) acc) }
 {
-    let Some(image) = image(store, alloc, acc)? else {
+    let Some(image) = store.image(alloc, acc)? else {
         return Ok(None);
     };
-    let Some(deed) = deed(store, image.deed)? else {
+    let Some(deed) = store.deed(image.deed)? else {
         return Err(Unavailable);
     };
     Ok(Some(survey_of(alloc, acc, &image, deed)?))

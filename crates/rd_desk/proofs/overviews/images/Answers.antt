@@ -10,7 +10,7 @@ use Rattle.rd_desk.proofs.overviews.images.Goals as goal
 pub image_lines-requires-clause-rules : goal.image_lines-requires-clause-rules
 image_lines-requires-clause-rules g c = λ o.
     let read = c.count.ensures.looks.keeps.lasts.was_open o in
-    c.in_ok-rules.ensures.looks.answer read ∙ ap all_rules (sym (c.count.ensures.looks.keeps.same o ∙ c.rulebook.ensures.looks.keeps.same read))
+    c.in_ok-rules.ensures.reads.answer read ∙ ap all_rules (sym (c.count.ensures.looks.keeps.same o ∙ c.rulebook.ensures.reads.same read))
 
 pub image_lines-requires-clause-count : goal.image_lines-requires-clause-count
 image_lines-requires-clause-count g c = λ o. c.in_ok-accessions.ensures.looks.answer o ∙ ap (λ (e : Desk). length (keys e.images)) (sym (c.count.ensures.looks.keeps.same o))
@@ -24,7 +24,7 @@ returns g c = record {
       let day = c.args.caller.now.day in
       let counted = c.image_lines.ensures.keeps.lasts.was_open o in
       let read = c.count.ensures.looks.keeps.lasts.was_open counted in
-      let same = c.count.ensures.looks.keeps.same counted ∙ c.rulebook.ensures.looks.keeps.same read in
+      let same = c.count.ensures.looks.keeps.same counted ∙ c.rulebook.ensures.reads.same read in
       let lines = c.in_ok-image_lines.field-0 in
       let each = subst (λ (e : Desk). AreLinesOfEach e audience day (keys e.images) lines) same (c.in_ok-image_lines.ensures.answer o) in
       record {
