@@ -1,4 +1,5 @@
-//! What the desk asks its store. Each call fails with `Unavailable` when the store fails or memory
+//! What the desk asks its store and makes something else of. Where only the error changes, callers
+//! ask the store themselves. Each function fails with `Unavailable` if the store fails or memory
 //! runs out.
 
 ghost use Rattle.std.specs.Prelude.{◌≡◌, ◌≢◌, ◌++◌, IfOk, None, Ok, Some, is_some, length};
@@ -112,8 +113,8 @@ fn rules<S: Alter>(
     }
 }
 
-/// An accession that stands, with this kind and this deed, together with the rules for its files,
-/// in order.
+/// The rules for the files of an accession that is there, in order, with its kind and its deed, which
+/// the caller knows.
 pub(crate) fn load_rules<S: Alter>(
     store: &mut Store<S>,
     alloc: Global,

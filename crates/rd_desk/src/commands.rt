@@ -1,6 +1,5 @@
-//! What only the staff may do. `respond` has checked that the staff asks.
-//! Each makes at most one transaction, as its last step, and says that it is done only after the
-//! commit.
+//! What only the staff may do: `respond` calls `command` only for the staff. Each function makes at
+//! most one transaction, as its last step, and says that it is done only after the commit.
 
 ghost use Rattle.std.specs.Prelude.{◌≡◌, ◌≢◌, length, ℤ};
 ghost use Rattle.sha2.specs.Sha256.{sha256};
@@ -129,7 +128,7 @@ fn commit_image<S: Alter>(
 }
 
 /// Puts an image. It computes the SHA-256 of the bytes at most once, and asks for the deed once: the store asks as it
-/// puts the image, or the desk asks here where the bytes are wrong, because a missing deed is refused first.
+/// puts the image, or the desk asks here where the bytes are wrong, because `no-deed` comes before `wrong-size` and `digest-differs`.
 fn put_image<S: Alter>(
     store: &mut Store<S>,
     alloc: Global,

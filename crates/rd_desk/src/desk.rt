@@ -116,7 +116,8 @@ impl<S: Alter> Desk<S> {
     /// The reply to a request whose values are within their limits (`Request::fits`), at a moment
     /// in seconds since 1970-01-01T00:00:00 UTC that has a day (`Desk::day`). Its status is 200,
     /// that of a `Refusal`, or 503 when the store fails or `alloc` has no memory. The desk carries
-    /// out a command or a check whole or not at all, and changes nothing before a 503.
+    /// out a command or a check whole or not at all. Before a 503 it has changed nothing, unless a
+    /// fault has shut the connection to the database.
     pub fn answer(&mut self, alloc: Global, seconds: i64, request: &Request) -> Reply
         requires moment { HasDay seconds }
         requires fits { IsRequest request.now.what }

@@ -25,7 +25,7 @@ fn contents_in(image: ImageRow, file: Found) -> Result<Contents, Unavailable>
 }
 
 /// The contents of a file of an accession. A reader may ask for several files of one disk: the store keeps the disk's
-/// image in memory from the second one on.
+/// image in memory from the second one in a row on.
 pub(crate) fn contents<S: Alter>(
     store: &mut Store<S>,
     alloc: Global,

@@ -1,4 +1,5 @@
-//! What a caller may see of all accessions. An overview reads all rules at once, and the files of 16 at a time.
+//! What a caller may see of all accessions. An overview reads all rules at once, and the files of 16
+//! accessions at a time.
 
 ghost use Rattle.std.specs.Prelude.{◌≡◌, ◌++◌, ℕ, All, IfOk, List, length, map};
 ghost use Rattle.std.specs.FinMap.{keys};
@@ -81,7 +82,7 @@ fn with_lines(
     Ok(all)
 }
 
-/// The lines of those accessions that have at least one listed file. There are so many accessions.
+/// The lines of those accessions that have at least one listed file. `accessions` is how many there are in all.
 fn image_lines<S: Alter>(
     store: &mut Store<S>,
     alloc: Global,
