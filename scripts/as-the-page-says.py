@@ -54,8 +54,8 @@ PAGES = {
         [*reading_room.NEEDED, "curl", "/usr/bin/python3", ZONES, "/usr/sbin/logrotate", "adduser", "systemd-analyze"],
         [*reading_room.PACKAGES, "curl", "python3", "tzdata", "logrotate", "adduser", "systemd"],
     ),
-    "README.md": Page({"$": OWN_TMP}, [], ["sqlite3", "curl"], ["sqlite3", "curl"]),
-    "docs/COMMANDS.md": Page({"$": OWN_TMP}, [], ["curl", "cpmcp"], ["curl", "cpmtools"]),
+    "README.md": Page({"$": OWN_TMP}, [], ["curl"], ["curl"]),
+    "docs/COMMANDS.md": Page({"$": OWN_TMP}, [], ["curl", "sqlite3", "cpmcp"], ["curl", "sqlite3", "cpmtools"]),
 }
 
 
