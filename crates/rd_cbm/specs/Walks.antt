@@ -1,6 +1,6 @@
 -- The walk from a block along the links, and the ways in which it can end. No code follows these
 -- definitions step by step.
-use Rattle.std.specs.Prelude.{◌≡◌, ◌≢◌, ℕ, zero, suc, ◌<◌, ◌⊎◌, List, Option, Some, None, option_and_then, length, slice_index, AllPairs, Contains}
+use Rattle.std.specs.Prelude.{◌≡◌, ◌≢◌, ℕ, zero, suc, ◌<◌, ◌⊎◌, List, Option, Some, None, option_and_then, length, slice_index, AllPairs, Contains, codes}
 use Rattle.rd_cbm.specs.declared.chains.Link.{Link}
 use Rattle.rd_cbm.specs.declared.chains.Link.TheVariants.{Last, Next, Off}
 use Rattle.rd_cbm.specs.declared.chains.End.{End}
@@ -57,6 +57,12 @@ abbrev pub EndsBy : Links → Option ℕ → End → Type 0
 EndsBy link s (end.Last e) = Ends link s e
 EndsBy link s end.Off = GoesOff link s
 EndsBy link s end.Loop = Loops link s
+
+-- the word for the end of a walk
+abbrev pub end_word : End → List ℕ
+end_word (end.Last e) = codes "end"
+end_word end.Off = codes "off"
+end_word end.Loop = codes "loop"
 
 -- The walk ends in one way, and in no other.
 pub record EndsOnce (link : Links) (s : Option ℕ) : Type 0 where

@@ -1,3 +1,6 @@
+ghost use Rattle.std.specs.Prelude.{◌≡◌};
+ghost use Rattle.rd_cbm.specs.Walks.{end_word};
+
 use rd_geometry::Items;
 
 /// Where a block leads, by its bytes 0 and 1: track and sector of the next block (1541 User's
@@ -21,6 +24,20 @@ pub enum End {
     Off,
     /// Never: it comes to a block a second time.
     Loop,
+}
+
+impl End {
+    /// The word for this end. No function gives the end for a word, since `end` does not say the
+    /// byte of a last block.
+    pub fn word(self) -> &'static str
+        ensures { result.now ≡ end_word self }
+    {
+        match self {
+            End::Last(_) => "end",
+            End::Off => "off",
+            End::Loop => "loop",
+        }
+    }
 }
 
 /// The blocks that a walk along the links comes to, and how it ends.
