@@ -1,8 +1,14 @@
--- Who may make a request, and sets of them.
-use Rattle.std.specs.Prelude.{IsTrue}
+-- Who may make a request, the word for each, and sets of them.
+use Rattle.std.specs.Prelude.{ℕ, List, IsTrue, codes}
 use Rattle.rd_policy.specs.declared.audience.Audience.{Audience}
 use Rattle.rd_policy.specs.declared.audience.Audience.TheVariants.{Public, Room, Staff}
 use Rattle.rd_policy.specs.declared.audience.Audiences.{Audiences}
+
+-- the word for an audience
+abbrev pub audience_word : Audience → List ℕ
+audience_word Public = codes "public"
+audience_word Room = codes "room"
+audience_word Staff = codes "staff"
 
 -- the audience is in the set
 abbrev pub IsAmong : Audiences → Audience → Type 0

@@ -1,12 +1,19 @@
--- The limits of a rule's values: this project's.
-use Rattle.std.specs.Prelude.{◌≡◌, ◌≢◌, ℕ, ◌≤◌, List, All, length, IfSome}
+-- The words for what a rule does, and the limits of a rule's values: this project's.
+use Rattle.std.specs.Prelude.{◌≡◌, ◌≢◌, ℕ, ◌≤◌, List, All, codes, length, IfSome}
 use Rattle.rd_policy.specs.declared.rule.Band.TheVariants.{Takedown}
-use Rattle.rd_policy.specs.declared.rule.Effect.TheVariants.{Read}
+use Rattle.rd_policy.specs.declared.rule.Effect.{Effect}
+use Rattle.rd_policy.specs.declared.rule.Effect.TheVariants.{Deny, List as Listed, Read}
 use Rattle.rd_policy.specs.declared.rule.Rule.{Rule}
 use Rattle.rd_policy.specs.declared.select.Select.{Select}
 use Rattle.rd_policy.specs.declared.select.Select.TheVariants.{All as AllFiles, Slot, Prefix, User, Kind}
 use Rattle.rd_policy.specs.Audiences.{IsEmpty}
 use Rattle.rd_policy.specs.Days.{IsDay}
+
+-- the word for what a rule does
+abbrev pub effect_word : Effect → List ℕ
+effect_word Deny = codes "deny"
+effect_word Listed = codes "list"
+effect_word Read = codes "read"
 
 -- a number of an accession or a deed
 abbrev pub IsScope : ℕ → Type 0

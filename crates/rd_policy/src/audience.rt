@@ -1,4 +1,4 @@
-ghost use Rattle.std.specs.Prelude.{◌↔◌, IsTrue};
+ghost use Rattle.std.specs.Prelude.{◌≡◌, ◌≢◌, ◌↔◌, IsTrue, IfNone, IfSome};
 
 /// Who makes a request.
 #[derive(Clone, Copy, Debug, PartialEq, Eq, Hash)]
@@ -9,6 +9,34 @@ pub enum Audience {
     Room,
     /// The museum's staff.
     Staff,
+}
+
+impl Audience {
+    ghost use Rattle.rd_policy.specs.Audiences.{audience_word};
+
+    /// The word for this audience.
+    pub fn word(self) -> &'static str
+        ensures { result.now ≡ audience_word self }
+    {
+        match self {
+            Audience::Public => "public",
+            Audience::Room => "room",
+            Audience::Staff => "staff",
+        }
+    }
+
+    /// The audience that has this word, `None` if no audience has it.
+    pub fn from_word(word: &str) -> Option<Audience>
+        ensures found { IfSome result (λ audience. word.now ≡ audience_word audience) }
+        ensures none { IfNone result ((audience : Audience) → word.now ≢ audience_word audience) }
+    {
+        for audience in [Audience::Public, Audience::Room, Audience::Staff] {
+            if audience.word() == word {
+                return Some(audience);
+            }
+        }
+        None
+    }
 }
 
 /// A set of audiences.

@@ -1,4 +1,4 @@
-ghost use Rattle.std.specs.Prelude.{◌≡◌, ◌↔◌, ◌≤ℤ◌, ◌<ℤ◌, IsTrue, IfSome};
+ghost use Rattle.std.specs.Prelude.{◌≡◌, ◌≢◌, ◌↔◌, ◌≤ℤ◌, ◌<ℤ◌, IsTrue, IfNone, IfSome};
 ghost use Rattle.rd_policy.specs.Days.{IsDay};
 
 use crate::audience::{Audience, Audiences};
@@ -17,6 +17,34 @@ pub enum Effect {
     List,
     /// It is listed, and served if it is sound.
     Read,
+}
+
+impl Effect {
+    ghost use Rattle.rd_policy.specs.Rules.{effect_word};
+
+    /// The word for this effect.
+    pub fn word(self) -> &'static str
+        ensures { result.now ≡ effect_word self }
+    {
+        match self {
+            Effect::Deny => "deny",
+            Effect::List => "list",
+            Effect::Read => "read",
+        }
+    }
+
+    /// The effect that has this word, `None` if no effect has it.
+    pub fn from_word(word: &str) -> Option<Effect>
+        ensures found { IfSome result (λ effect. word.now ≡ effect_word effect) }
+        ensures none { IfNone result ((effect : Effect) → word.now ≢ effect_word effect) }
+    {
+        for effect in [Effect::Deny, Effect::List, Effect::Read] {
+            if effect.word() == word {
+                return Some(effect);
+            }
+        }
+        None
+    }
 }
 
 /// Where a rule comes from.
