@@ -5,18 +5,11 @@ use Rattle.std.specs.List.{flat_map, join_by}
 use Rattle.csv.specs.Writing.{default_writer, row_text}
 use Rattle.rd_geometry.specs.Kinds.{word_of}
 use Rattle.rd_geometry.specs.declared.kind.Kind.{Kind}
+pub use Rattle.rd_policy.specs.Rules.{effect_word}
 use Rattle.rd_policy.specs.Verdicts.{label_text}
-use Rattle.rd_policy.specs.declared.rule.Effect.{Effect}
-use Rattle.rd_policy.specs.declared.rule.Effect.TheVariants as effect
 use Rattle.rd_volume.specs.Words.{words_of}
 use Rattle.rd_protocol.specs.declared.said.Line.{Line}
 use Rattle.rd_protocol.specs.declared.said.Listing.{Listing}
-
--- the word for an effect
-abbrev pub effect_word : Effect → List ℕ
-effect_word effect.Deny = codes "deny"
-effect_word effect.List = codes "list"
-effect_word effect.Read = codes "read"
 
 -- a number, or nothing if there is none
 abbrev pub number_text : Option ℕ → List ℕ

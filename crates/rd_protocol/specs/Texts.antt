@@ -6,16 +6,15 @@ use Rattle.serde_json.specs.Written.{compact_text}
 use Rattle.rd_geometry.specs.Kinds.{word_of}
 use Rattle.rd_geometry.specs.declared.kind.Kind.{Kind}
 use Rattle.rd_geometry.specs.declared.kind.Kind.TheVariants.{Cpm8, D64, D64e}
+pub use Rattle.rd_policy.specs.Rules.{effect_word}
 use Rattle.rd_policy.specs.Verdicts.{label_text}
-use Rattle.rd_cbm.specs.declared.chains.End.{End}
-use Rattle.rd_cbm.specs.declared.chains.End.TheVariants as end
+pub use Rattle.rd_cbm.specs.Walks.{end_word}
 use Rattle.rd_cbm.specs.declared.report.MapReport.{MapReport}
 use Rattle.rd_volume.specs.Words.{words_of}
 use Rattle.rd_volume.specs.declared.found.Found.{Found}
 use Rattle.rd_protocol.specs.declared.rows.Outcome.{Outcome}
 use Rattle.rd_protocol.specs.declared.rows.Outcome.TheVariants as outcome
 use Rattle.rd_protocol.specs.Catalogues.{catalogue_text}
-pub use Rattle.rd_protocol.specs.Catalogues.{effect_word}
 use Rattle.rd_protocol.specs.Lent.{held, lent_out}
 use Rattle.rd_protocol.specs.Refusals.{name_of, status_of}
 use Rattle.rd_protocol.specs.declared.refusal.Refusal.{Refusal}
@@ -112,12 +111,6 @@ abbrev pub images_data : List ImageLine → Data
 images_data lines = object (member (codes "images") (array (items_of (map image_data lines))) no_members)
 
 -- ---- what is surveyed and checked
-
--- the word for how the directory ends: at a last block, in a loop, or off the disk
-abbrev pub end_word : End → List ℕ
-end_word (end.Last byte) = codes "end"
-end_word end.Loop = codes "loop"
-end_word end.Off = codes "off"
 
 -- the three counts of a block map
 abbrev pub counts_data : MapReport → Data

@@ -7,7 +7,6 @@ ghost use Rattle.rd_protocol.specs.Catalogues.{catalogue_text, faults_text, numb
 ghost use Rattle.rd_protocol.specs.Written.{HasWritten};
 
 use crate::said::{Line, Listing};
-use crate::words::effect_name;
 use csv::{Writer, WriterBuilder};
 use rd_geometry::{Items, Kind, NoMemory, Text};
 use rd_volume::fault_words;
@@ -77,7 +76,7 @@ fn cells(alloc: Global, listing: &Listing, line: &Line) -> Result<[Text; 11], No
     let size = number(alloc, line.file.size)?;
     let faults = faults(alloc, listing.kind, line.file.faults)?;
     let rule = Text::of(line.verdict.label.to_string(alloc)?);
-    let effect = cell(alloc, effect_name(line.verdict.effect))?;
+    let effect = cell(alloc, line.verdict.effect.word())?;
     Ok([
         accession, deed, kind, slot, user, name, ty, size, faults, rule, effect,
     ])

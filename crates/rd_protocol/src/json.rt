@@ -15,7 +15,6 @@ use crate::lists::{images_reply, listing_reply};
 use crate::refusal::Refusal;
 use crate::rows::Outcome;
 use crate::said::{Form, Reply, Said, Survey};
-use crate::words::end_name;
 use rd_geometry::{Kind, NoMemory, Text};
 use rd_volume::{MapReport, fault_words};
 use serde_json::{Value, json};
@@ -125,7 +124,7 @@ fn surveyed_value(alloc: Global, survey: &Survey) -> Result<Value, AllocError>
     ensures { IfOk result (λ value. view value ≡ surveyed_data survey.now) }
 {
     let map = map_value(alloc, survey.kind, &survey.report.map)?;
-    let directory = end_name(survey.report.directory);
+    let directory = survey.report.directory.word();
     survey_value(alloc, survey.kind.word(), directory, map, survey)
 }
 

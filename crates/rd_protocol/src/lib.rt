@@ -16,7 +16,6 @@ mod request;
 mod rows;
 mod rule_laws;
 mod said;
-mod words;
 
 pub use body::{Body, BodyPieces};
 pub use checks::{check_row, has_digest};

@@ -12,7 +12,6 @@ ghost use Rattle.rd_protocol.specs.Texts.{file_data, image_data, images_data, in
 
 use crate::body::Body;
 use crate::said::{Form, ImageLine, Line, Listing, Reply};
-use crate::words::effect_name;
 use rd_geometry::{Kind, NoMemory, Text};
 use rd_volume::{Found, fault_words};
 use serde::{Described, Serialize, Serializer};
@@ -126,7 +125,7 @@ impl Serialize for ListedFile<'_> {
         let Ok(rule) = verdict.label.to_string(self.alloc) else {
             return Err(out.custom("no memory"));
         };
-        let effect = effect_name(verdict.effect);
+        let effect = verdict.effect.word();
         send_file(out, effect, faults.as_slice(), rule.as_str(), file)
     }
 }

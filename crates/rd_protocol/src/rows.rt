@@ -1,3 +1,5 @@
+ghost use Rattle.std.specs.Prelude.{◌≡◌};
+
 use rd_geometry::{Items, Kind, Text};
 use rd_volume::Found;
 
@@ -52,4 +54,18 @@ pub enum Outcome {
     Sound,
     /// It is another.
     Changed,
+}
+
+impl Outcome {
+    ghost use Rattle.rd_protocol.specs.Texts.{outcome_word};
+
+    /// The word for this outcome.
+    pub fn word(self) -> &'static str
+        ensures { result.now ≡ outcome_word self }
+    {
+        match self {
+            Outcome::Sound => "sound",
+            Outcome::Changed => "changed",
+        }
+    }
 }

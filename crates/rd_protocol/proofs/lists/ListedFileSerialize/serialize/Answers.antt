@@ -8,7 +8,7 @@ use Rattle.rd_protocol.proofs.lists.ListedFileSerialize.serialize.Goals as goal
 pub returns : goal.returns
 returns g c =
     let line = c.args.self.now.line.now in
-    let effect : c.effect_name-effect.result.now ≡ effect_word line.verdict.effect = c.effect_name-effect.ensures in
+    let effect : c.word-effect.result.now ≡ effect_word line.verdict.effect = c.word-effect.ensures in
     let faults : map (λ word. word.now) c.as_slice.result.now ≡ words_of c.args.self.now.kind line.file.faults = search rules in
     let rule : c.as_str.result.now ≡ label_text line.verdict.label = search rules in
     subst (λ told. OnOk c.send_file.result (SendsValue told (g.S.Serializer.written c.args.out.now) (g.S.Serializer.written c.send_file.new.out)))
