@@ -6,11 +6,11 @@ use Rattle.std.proofs.lemmas.List.Elements.{Contains-append_left, Contains-push,
 use Rattle.std.proofs.lemmas.List.Quantifiers.{all_pairs_push}
 use Rattle.std.proofs.lemmas.Slice.Eq.{bytes_eq-Decides}
 use Rattle.serde_json.specs.Data.{Data, string}
-use Rattle.rd_policy.specs.Audiences.{IsAmong, IsEmpty}
+use Rattle.rd_policy.specs.Audiences.{IsAmong, IsEmpty, audience_word}
 use Rattle.rd_policy.specs.declared.audience.Audience.{Audience}
 use Rattle.rd_policy.specs.declared.audience.Audience.TheVariants.{Public, Room, Staff}
 use Rattle.rd_policy.specs.declared.audience.Audiences.{Audiences}
-use Rattle.rd_messages.specs.RequestBodies.{NameAudiences, audience_word}
+use Rattle.rd_messages.specs.RequestBodies.{NameAudiences}
 
 -- the value that an audience is written as
 abbrev pub word : Audience → Data

@@ -6,6 +6,7 @@ use Rattle.serde_json.specs.Data.{Data, array, null}
 use Rattle.serde_json.specs.Find.{as_str, get}
 use Rattle.serde_json.specs.View.{items_of}
 use Rattle.rd_policy.specs.Dates.{IsDateOf}
+use Rattle.rd_policy.specs.Rules.{effect_word}
 use Rattle.rd_policy.specs.declared.audience.Audience.{Audience}
 use Rattle.rd_policy.specs.declared.audience.Audiences.{Audiences}
 use Rattle.rd_policy.specs.declared.rule.Band.{Band}
@@ -15,7 +16,6 @@ use Rattle.rd_policy.specs.declared.rule.Rule.{Rule}
 use Rattle.rd_policy.specs.declared.select.Select.{Select}
 use Rattle.rd_policy.specs.declared.select.Select.TheVariants.{All as AllFiles, Slot, Prefix, User, Kind}
 use Rattle.rd_policy.proofs.DateLemmas.{one_day}
-use Rattle.rd_protocol.specs.Texts.{effect_word}
 use Rattle.rd_messages.specs.Objects.{IsJson, text_at}
 use Rattle.rd_messages.specs.RequestBodies.{HasAudiencesAt, HasDayAt, IsAt, IsDeedBody, IsKeyBody, IsRuleBody, NameAudiences, TellsDeed, TellsRule, select_data, select_key, select_value}
 use Rattle.rd_messages.proofs.Naming.{one_set, word_same}

@@ -5,16 +5,16 @@ use Rattle.serde_json.specs.Data.{Data, array, boolean, null, number, string, un
 use Rattle.serde_json.specs.Find.{get}
 use Rattle.serde_json.specs.View.{items_of}
 use Rattle.rd_policy.specs.Audiences.{IsAmong}
+pub use Rattle.rd_policy.specs.Audiences.{audience_word}
 use Rattle.rd_policy.specs.Dates.{IsDateOf}
-use Rattle.rd_policy.specs.Rules.{IsRule}
+use Rattle.rd_policy.specs.Rules.{IsRule, effect_word}
 use Rattle.rd_policy.specs.declared.audience.Audience.{Audience}
-use Rattle.rd_policy.specs.declared.audience.Audience.TheVariants.{Public, Room, Staff}
+use Rattle.rd_policy.specs.declared.audience.Audience.TheVariants.{Public}
 use Rattle.rd_policy.specs.declared.audience.Audiences.{Audiences}
 use Rattle.rd_policy.specs.declared.rule.Band.{Band}
 use Rattle.rd_policy.specs.declared.rule.Rule.{Rule}
 use Rattle.rd_policy.specs.declared.select.Select.{Select}
 use Rattle.rd_policy.specs.declared.select.Select.TheVariants.{All as AllFiles, Slot, Prefix, User, Kind}
-use Rattle.rd_protocol.specs.Texts.{effect_word}
 use Rattle.rd_messages.specs.Objects.{HasOnlyKeys, IsJson, one_member, text_at}
 
 -- ---- deeds
@@ -43,12 +43,6 @@ abbrev pub IsNoDeedBody : List ℕ → Type 0
 IsNoDeedBody body = (donor : List ℕ) (signed : ℤ) → ¬ IsDeedBody body donor signed
 
 -- ---- keys
-
--- the word for an audience
-abbrev pub audience_word : Audience → List ℕ
-audience_word Public = codes "public"
-audience_word Room = codes "room"
-audience_word Staff = codes "staff"
 
 -- The value says whether a desk key is for the reading room or for the staff: {"audience":"room"}
 -- or {"audience":"staff"}.

@@ -3,10 +3,10 @@
 ghost use Rattle.std.specs.Prelude.{◌≡◌, ◌≢◌, ◌↔◌, ◌⊎◌, IfNone, IfSome, map};
 ghost use Rattle.serde_json.specs.Data.{string};
 ghost use Rattle.serde_json.specs.View.{view};
-ghost use Rattle.rd_policy.specs.Audiences.{IsAmong};
+ghost use Rattle.rd_policy.specs.Audiences.{IsAmong, audience_word};
 ghost use Rattle.rd_policy.specs.declared.audience.Audience.{Audience};
 ghost use Rattle.rd_policy.specs.declared.audience.Audiences.{Audiences};
-ghost use Rattle.rd_messages.specs.RequestBodies.{HasAudiencesAt, NameAudiences, audience_word};
+ghost use Rattle.rd_messages.specs.RequestBodies.{HasAudiencesAt, NameAudiences};
 
 use rd_policy::{Audience, Audiences};
 use serde_json::Value;
@@ -24,12 +24,7 @@ pub(crate) fn audience_of(value: &Value) -> Option<Audience>
     ensures none { IfNone result
         ((audience : Audience) → view value.now ≢ string (audience_word audience)) }
 {
-    match value.as_str()? {
-        "public" => Some(Audience::Public),
-        "room" => Some(Audience::Room),
-        "staff" => Some(Audience::Staff),
-        _ => None,
-    }
+    Audience::from_word(value.as_str()?)
 }
 
 /// A set with one more audience.

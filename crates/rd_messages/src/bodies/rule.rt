@@ -1,7 +1,7 @@
 ghost use Rattle.std.specs.Prelude.{◌≡◌, ◌≢◌, Some, IfNone, IfOk, IfSome, codes};
 ghost use Rattle.serde_json.specs.View.{view};
+ghost use Rattle.rd_policy.specs.Rules.{effect_word};
 ghost use Rattle.rd_policy.specs.declared.rule.Effect.{Effect};
-ghost use Rattle.rd_protocol.specs.Texts.{effect_word};
 ghost use Rattle.rd_messages.specs.Objects.{text_at};
 ghost use Rattle.rd_messages.specs.RequestBodies.{IsAt, IsNoRuleBody, IsRuleBody, TellsNoRule, TellsRule};
 
@@ -20,12 +20,7 @@ fn effect_at(value: &Value, key: &str) -> Option<Effect>
     ensures none { IfNone result
         ((effect : Effect) → text_at key.now (view value.now) ≢ Some (effect_word effect)) }
 {
-    match text_at(value, key)? {
-        "deny" => Some(Effect::Deny),
-        "list" => Some(Effect::List),
-        "read" => Some(Effect::Read),
-        _ => None,
-    }
+    Effect::from_word(text_at(value, key)?)
 }
 
 /// The rule that a value describes, of a band, scope and rank; `None` if it describes none, or
