@@ -3,8 +3,8 @@ use Rattle.std.specs.Prelude.{◌≡◌, ◌≢◌, ◌⊎◌, ℕ, List, [], �
 use Rattle.std.specs.Fmt.{decimal}
 use Rattle.std.specs.Io.KnownBytes.{Appends, Keeps}
 use Rattle.std.specs.List.{flat_map}
+pub use Rattle.rd_cbm.specs.Walks.{end_word}
 use Rattle.rd_cbm.specs.declared.chains.End.{End}
-use Rattle.rd_cbm.specs.declared.chains.End.TheVariants as end
 use Rattle.rd_geometry.specs.Kinds.{size_of}
 use Rattle.rd_geometry.specs.declared.kind.Kind.{Kind}
 use Rattle.rd_volume.specs.Reports.{IsDirectoryEnd}
@@ -30,12 +30,6 @@ abbrev pub line_text : Kind → Found → List ℕ
 line_text kind file =
     decimal file.slot ++ (tab ++ (number_text file.user ++ (tab ++ (file.ty ++ (tab ++ (number_text file.size
     ++ (tab ++ (faults_text kind file.faults ++ (tab ++ (file.name ++ line_feed))))))))))
-
--- how a directory ends
-abbrev pub end_word : End → List ℕ
-end_word (end.Last used) = codes "end"
-end_word end.Loop = codes "loop"
-end_word end.Off = codes "off"
 
 -- the last line: how many files there are, and how the directory ends
 abbrev pub last_line : ℕ → End → List ℕ

@@ -16,17 +16,6 @@ use rd_volume::{End, Found, Image, Kind, directory_end, survey};
 use std::alloc::{AllocError, Global};
 use std::io::{Read, Write};
 
-/// The word for how a directory ends.
-fn end_word(end: End) -> &'static str
-    ensures { result.now ≡ spec.end_word end }
-{
-    match end {
-        End::Last(_) => "end",
-        End::Loop => "loop",
-        End::Off => "off",
-    }
-}
-
 /// A line for each file of an image of a kind, and one with their number and with how the
 /// directory ends. It fails when memory runs out.
 fn list_text(alloc: Global, kind: Kind, files: &[Found], end: End) -> Result<String, AllocError>
@@ -37,7 +26,7 @@ fn list_text(alloc: Global, kind: Kind, files: &[Found], end: End) -> Result<Str
         write!(text, "{}", Line(kind, file))?;
     }
     let count = files.len();
-    let end = end_word(end);
+    let end = end.word();
     write!(text, "files\t{count}\t{end}\n")?;
     Ok(text)
 }

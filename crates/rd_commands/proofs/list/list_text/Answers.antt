@@ -19,4 +19,4 @@ returns c =
     let all : take c.loop-file.file-index files ≡ files = take_all c.loop-file.file-index files (omega arith) in
     c.in_ok-write-2.ensures.bytes
     ∙ ap₂ (λ lines word. lines ++ (codes "files" ++ (tab ++ (decimal (length files) ++ (tab ++ (word ++ line_feed))))))
-    (c.loop-file.invariant ∙ ap (flat_map (line_text c.args.kind)) all) c.end_word-end.ensures
+    (c.loop-file.invariant ∙ ap (flat_map (line_text c.args.kind)) all) c.word-end.ensures
