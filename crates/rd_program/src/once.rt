@@ -7,6 +7,7 @@ ghost use Rattle.rd_policy.specs.Days.{HasDay};
 ghost use Rattle.rd_policy.specs.Rules.{IsScope};
 ghost use Rattle.rd_policy.specs.Zones.{day_number};
 ghost use Rattle.rd_protocol.specs.Requests.{IsRequest};
+ghost use Rattle.rd_protocol.specs.Texts.{outcome_word};
 ghost use Rattle.rd_desk.specs.Served.{Serves};
 ghost use Rattle.rd_program.specs.Asking.{IsReplyRefusal, RefusesOnce, TellsCheck};
 ghost use Rattle.rd_commands.specs.Asks.{IsAskable, IsCheck, IsCheckOf};
@@ -17,7 +18,7 @@ use crate::machine::Machine;
 use crate::opened::{moment, open_desk};
 use crate::replied::{bytes_of, error_name, is_text, value_of};
 use rd_commands::{Done, OnceAsk, Question, Refusal, write_whole};
-use rd_desk::{Desk, Reply, Request, What};
+use rd_desk::{Desk, Outcome, Refusal as DeskRefusal, Reply, Request, What};
 use sha2::{Digest, Sha256};
 use sqlite::Alter;
 use std::alloc::Global;
@@ -68,20 +69,21 @@ fn refusal_told(alloc: Global, reply: &Reply) -> Refusal
         Ok(value) => value,
         Err(refused) => return refused,
     };
-    match error_name(&value) {
-        Some("unknown-key") => Refusal::UnknownKey,
-        Some("staff-only") => Refusal::StaffOnly,
-        Some("no-accession") => Refusal::NoAccession,
+    match error_name(&value).and_then(DeskRefusal::from_name) {
+        Some(DeskRefusal::UnknownKey) => Refusal::UnknownKey,
+        Some(DeskRefusal::StaffOnly) => Refusal::StaffOnly,
+        Some(DeskRefusal::NoAccession) => Refusal::NoAccession,
         _ => Refusal::Store,
     }
 }
 
-/// The line that says this about an accession.
-fn said_text(alloc: Global, acc: u32, said: &str) -> Result<String, Refusal>
-    ensures line { IfOk result (λ line. string_bytes line ≡ said_line acc said.now) }
+/// The line that says what a check of the image of an accession found.
+fn found_text(alloc: Global, acc: u32, found: Outcome) -> Result<String, Refusal>
+    ensures line { IfOk result (λ line. string_bytes line ≡ said_line acc (outcome_word found)) }
     ensures refused { IfErr result (λ refusal. refusal ≡ Refusal.NoMemory) }
 {
     let mut line = String::new(alloc);
+    let said = found.word();
     write!(line, "{acc} {said}\n")?;
     Ok(line)
 }
@@ -141,8 +143,8 @@ fn check<S: Alter + Drop, W: Write>(
     ensures checks { LeavesDesk S.Store (Checks asker.badge acc (λ day. day ≡ day_number asker.seconds desk.old.zone))
         desk.old.store desk.new.store }
 {
-    let sound = said_text(alloc, acc, "sound")?;
-    let changed = said_text(alloc, acc, "changed")?;
+    let sound = found_text(alloc, acc, Outcome::Sound)?;
+    let changed = found_text(alloc, acc, Outcome::Changed)?;
     let reply = reply_to(alloc, What::Check(acc), asker, desk);
     if is_text(&reply.body, SOUND) {
         write_whole(output, sound.as_bytes())?;
