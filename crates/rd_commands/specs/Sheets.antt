@@ -1,7 +1,12 @@
 -- A sheet: a table as CSV, with a row for each image to take in.
-use Rattle.std.specs.Prelude.{◌≡◌, ◌⊎◌, ℕ, List, [], ◌∷◌, Option, Some, None, codes, if◌then◌else◌, option_and_then}
+use Rattle.std.specs.Prelude.{◌≡◌, ◌≢◌, ◌⊎◌, ℕ, List, [], ◌∷◌, Option, Some, None, codes, false, if◌then◌else◌, length, option_and_then}
+use Rattle.std.specs.Borrow.{Bor}
 use Rattle.std.specs.Str.{is_utf8}
+use Rattle.csv.specs.Reading.{TookRecord, expected_len, is_flexible}
 use Rattle.csv.specs.Records.{field_at}
+use Rattle.csv.specs.declared.error.ErrorKind.{ErrorKind}
+use Rattle.csv.specs.declared.error.ErrorKind.TheVariants as kind
+use Rattle.csv.specs.declared.reader.Reader.{Reader}
 use Rattle.rd_geometry.specs.declared.kind.Kind.{Kind}
 use Rattle.rd_protocol.specs.Parts.{digest_of, kind_of, scope_of}
 use Rattle.rd_policy.specs.Rules.{IsScope}
@@ -64,3 +69,21 @@ IsWithin row = IsScope row.acc × IsScope row.deed
 -- why a row is not read: it has another length, the device failed, or memory ran out
 abbrev pub IsReadRefusal : Refusal → Type 0
 IsReadRefusal refusal = (refusal ≡ BadSheet) ⊎ ((refusal ≡ Device) ⊎ (refusal ≡ NoMemory))
+
+-- the refusal for an error of the reader
+abbrev pub refusal_of : ErrorKind → Refusal
+refusal_of (kind.UnequalLengths pos expected len) = BadSheet
+refusal_of kind.OutOfMemory = NoMemory
+refusal_of (kind.Io error) = Device
+refusal_of (kind.Utf8 pos error) = Device
+refusal_of (kind.Serialize text) = Device
+refusal_of (kind.Deserialize pos error) = Device
+
+-- The next row has another number of fields than the first.
+pub record HasOtherLength (old new : Reader (Bor (List ℕ))) : Type 0 where
+  pub expected : ℕ
+  pub fields : List (List ℕ)
+  pub strict : is_flexible old ≡ false
+  pub first : expected_len old ≡ Some expected
+  pub took : TookRecord (λ rest. Some rest.now) old new fields
+  pub other : expected ≢ length fields

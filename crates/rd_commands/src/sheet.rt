@@ -1,11 +1,13 @@
 //! The rows of a sheet: a table as CSV with the columns `accession`, `kind`, `deed`, `sha256` and
 //! `file`, and in each row an image to take in.
 
-ghost use Rattle.std.specs.Prelude.{◌≡◌, ◌↔◌, IfErr, IfNone, IfSome, IsTrue, Some, option_map};
+ghost use Rattle.std.specs.Prelude.{◌≡◌, ◌↔◌, IfErr, IfNone, IfOk, IfSome, IsTrue, Some, option_map};
+ghost use Rattle.csv.specs.Reading.{ReadRecord, Ready, reader_trim};
 ghost use Rattle.csv.specs.Records.{field_at, fields_of};
+ghost use Rattle.csv.specs.declared.reader.Trim.TheVariants as trim;
 ghost use Rattle.rd_policy.specs.Rules.{IsScope};
 ghost use Rattle.rd_commands.specs.Sheets as spec;
-ghost use Rattle.rd_commands.specs.Sheets.{IsBad, IsReadRefusal, IsWithin, Says, header};
+ghost use Rattle.rd_commands.specs.Sheets.{HasOtherLength, IsBad, IsReadRefusal, IsWithin, Says, header};
 
 use crate::refusal::Refusal;
 use csv::{ByteRecord, ErrorKind, Reader};
@@ -114,20 +116,30 @@ pub fn is_header(fields: &ByteRecord) -> bool
     is_named(fields, 4, "file")
 }
 
+/// Why a row is not read: `BadSheet` if it has another number of fields, `NoMemory`, and `Device` for any other error.
+fn refusal_of(kind: &ErrorKind) -> Refusal
+    ensures { result ≡ spec.refusal_of kind.now }
+{
+    match kind {
+        ErrorKind::UnequalLengths { .. } => Refusal::BadSheet,
+        ErrorKind::OutOfMemory => Refusal::NoMemory,
+        _ => Refusal::Device,
+    }
+}
+
 /// Reads the next row of a sheet, and gives whether there is one. If there is, it has as many
 /// fields as the first row read.
 ///
 /// It fails with `BadSheet` when a row has another number of fields, with `NoMemory`, and with
 /// `Device` when the reader fails, which one over a slice never does.
 pub fn next_row(reader: &mut Reader<&[u8]>, fields: &mut ByteRecord) -> Result<bool, Refusal>
-    ensures { IfErr result IsReadRefusal }
+    ensures refused { IfErr result IsReadRefusal }
+    ensures read { IfOk result (λ found. reader_trim reader.old ≡ trim.None → Ready reader.old
+        → ReadRecord (λ rest. Some rest.now) reader.old reader.new found (fields_of fields.new)) }
+    ensures length { IfErr result (λ refusal. Ready reader.old → refusal ≡ Refusal.BadSheet → HasOtherLength reader.old reader.new) }
 {
     match reader.read_byte_record(fields) {
         Ok(found) => Ok(found),
-        Err(error) => Err(match error.kind() {
-            ErrorKind::UnequalLengths { .. } => Refusal::BadSheet,
-            ErrorKind::OutOfMemory => Refusal::NoMemory,
-            _ => Refusal::Device,
-        }),
+        Err(error) => Err(refusal_of(error.kind())),
     }
 }

@@ -138,6 +138,7 @@ pub fn tell_unread<W: Write, E: Write>(unread: Unread, output: &mut W, errors: &
     ensures mistake { (error : Error) → unread ≡ Unread.Told error → kind_of error ≢ DisplayHelp
         → kind_of error ≢ DisplayVersion → result ≡ 2 }
     ensures mistaken { unread ≡ Unread.Usage → result ≡ 2 }
+    ensures mistake_told { unread ≡ Unread.Usage → AppendsPart (E.contents errors.old) (E.contents errors.new) ZONE_MISTAKE.now }
     ensures memory { unread ≡ Unread.NoMemory
         → (result ≡ 3) × Keeps (W.contents output.old) (W.contents output.new) }
     ensures no_memory { unread ≡ Unread.NoMemory

@@ -1,6 +1,8 @@
 //! Visits over TCP.
 
-ghost use Rattle.std.specs.Prelude.{◌≡◌, ◌↔◌, ◌≤◌, None, true, false, length, vec_len, IfOk, IsErr};
+ghost use Rattle.std.specs.Duration.{as_nanos};
+ghost use Rattle.std.specs.Io.KnownBytes.{Appends};
+ghost use Rattle.std.specs.Prelude.{◌≡◌, ◌↔◌, ◌≤◌, ◌*◌, ◌<◌, None, true, false, length, vec_len, IfOk, IfSome, IsErr, OnOk};
 
 use crate::wire::{Broken, Door, Shut, Wire};
 use std::alloc::Global;
@@ -42,8 +44,10 @@ pub struct TcpWire {
     ghost within: { vec_len held ≤ 16384 },
 }
 
-/// Sends bytes over a stream. It fails with `Broken` when a write fails or takes no byte.
-fn send(mut stream: &TcpStream, bytes: &[u8]) -> Result<(), Broken> {
+/// Writes bytes, all of them and in their order. It fails with `Broken` when a write fails or takes no byte.
+fn send<W: Write>(stream: &mut W, bytes: &[u8]) -> Result<(), Broken>
+    ensures { OnOk result (Appends (W.contents stream.old) (W.contents stream.new) bytes.now) }
+{
     let mut sent = 0;
     while sent < bytes.len() {
         match stream.write(&bytes[sent..]) {
@@ -95,7 +99,7 @@ impl TcpWire {
         ensures take_kept { self.new.take_failed ≡ self.old.take_failed }
     {
         self.flush()?;
-        let sent = send(&self.stream, bytes);
+        let sent = send(&mut &self.stream, bytes);
         self.tell(sent)?;
         Ok(bytes.len())
     }
@@ -136,7 +140,7 @@ impl Wire for TcpWire {
     }
 
     fn flush(&mut self) -> Result<(), Broken> {
-        let sent = send(&self.stream, self.held.as_slice());
+        let sent = send(&mut &self.stream, self.held.as_slice());
         self.held.clear();
         self.tell(sent)
     }
@@ -184,7 +188,9 @@ fn next_visitor<C: Clock>(listener: &TcpListener, clock: &mut C) -> Option<(i64,
 
 /// What is left of the time that a connection lingers, which began at this millisecond; `None` if
 /// it is over, or if the clock fails or has gone back.
-fn time_left<C: Clock>(clock: &mut C, began: u64) -> Option<Duration> {
+fn time_left<C: Clock>(clock: &mut C, began: u64) -> Option<Duration>
+    ensures { IfSome result (λ left. as_nanos left ≤ 200 * 1_000_000) }
+{
     let passed = clock.milliseconds()?.checked_sub(began)?;
     match LINGER_MILLISECONDS.checked_sub(passed)? {
         0 => None,
@@ -194,7 +200,9 @@ fn time_left<C: Clock>(clock: &mut C, began: u64) -> Option<Duration> {
 
 /// Reads what a peer still sends into a buffer, and gives how many bytes came; `None` if the peer
 /// has ended, nothing has come in this time, or the connection fails.
-fn read_within(stream: &mut TcpStream, buffer: &mut [u8], time: Duration) -> Option<usize> {
+fn read_within(stream: &mut TcpStream, buffer: &mut [u8], time: Duration) -> Option<usize>
+    ensures { IfSome result (λ count. (0 < count) × (count ≤ length buffer.old)) }
+{
     stream.set_read_timeout(Some(time)).ok()?;
     match stream.read(buffer) {
         Ok(count) if count > 0 => Some(count),

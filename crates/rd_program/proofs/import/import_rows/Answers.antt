@@ -11,11 +11,11 @@ use Rattle.rd_program.proofs.import.import_rows.Goals as goal
 pub returns-in_err-next_row-clause-refused : goal.returns-in_err-next_row-clause-refused
 returns-in_err-next_row-clause-refused g c =
     let old = g.W.Write.contents c.args.output.now in
-    let refused = ends_between Whole _ old old (no_rows IsDoneLine old) c.in_err-next_row.ensures in search rules
+    let refused = ends_between Whole _ old old (no_rows IsDoneLine old) c.in_err-next_row.ensures.refused in search rules
 
 pub returns-in_err-next_row-2-clause-refused : goal.returns-in_err-next_row-2-clause-refused
 returns-in_err-next_row-2-clause-refused g c =
-    let refused = ends_between c.loop-number.done _ _ _ c.loop-number.invariant.told c.in_err-next_row-2.ensures in search rules
+    let refused = ends_between c.loop-number.done _ _ _ c.loop-number.invariant.told c.in_err-next_row-2.ensures.refused in search rules
 
 pub returns-in_err-row-clause-refused : goal.returns-in_err-row-clause-refused
 returns-in_err-row-clause-refused g c =
