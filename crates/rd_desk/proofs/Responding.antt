@@ -57,7 +57,7 @@ left_step old day request left command staff lawful (inr (digest, after)) = elim
   ]
 ]
 
--- a call of the store that reads
+-- a call of the store that reads keeps the desk
 pub reads_keep : {S T : Type 0} {g : Ghosts S} {old new : Held S} {result : Result T StoreFault} {Answers : T → Type 0} → Reads g old new result Answers → Keeps g old new
 reads_keep reads = record { lasts = reads.lasts; same = reads.same; crash = reads.crash; durable = reads.durable }
 

@@ -1,5 +1,5 @@
 -- What one query shows of the files of accessions that follow each other.
-use Rattle.std.proofs.Common.{◌≡◌, inl, inr, ℕ, zero, suc, ◌-◌, ◌<◌, ◌≤◌, pos, List, [], ◌∷◌, ◌++◌, map, filter, take, drop, length, slice_index_or, Bool, true, false, not, T, ◌&&◌, ◌==◌, Some, refl, sym, ap, ap₂, subst, ◌∙◌, arith, nat_cmp, nat_le, int_cmp, int_le, int_lt, is_lt, is_eq, Less}
+use Rattle.std.proofs.Common.{◌≡◌, inl, inr, ℕ, zero, suc, ◌-◌, ◌<◌, ◌≤◌, pos, List, [], ◌∷◌, ◌++◌, map, take, drop, length, slice_index_or, Bool, true, false, not, T, ◌&&◌, ◌==◌, Some, refl, sym, ap, ap₂, subst, ◌∙◌, arith, nat_cmp, int_cmp, int_le, int_lt, is_lt, is_eq, Less}
 use Rattle.std.specs.FinMap.{FinMap, entries, entries_sorted, get, retain_keys}
 use Rattle.std.specs.FinMap.Entries.{is_sorted}
 use Rattle.std.specs.List.{AllZip}
@@ -34,7 +34,7 @@ use Rattle.rd_protocol.specs.declared.rows.ImageRow.{ImageRow}
 use Rattle.rd_protocol.specs.declared.rows.Indexed.{Indexed}
 use Rattle.rd_store.specs.Batched.{IsIndexed, IsIndexedBy, filed_shown, files_at, is_from_to, is_number_below, is_number_up_to}
 use Rattle.rd_store.specs.Index.{AreFilesIn, FileAt, IsIndexOf, file_cmp}
-use Rattle.rd_store.specs.Register.{kept_of, register_of}
+use Rattle.rd_store.specs.Register.{entry_for, register_of}
 use Rattle.rd_store.specs.Spelled.{file_in, file_sheet, later}
 use Rattle.rd_store.proofs.FilesFound.{files_in}
 use Rattle.rd_store.proofs.Orders.{file_back, file_order, number_order}
@@ -134,16 +134,16 @@ module _ (es : List (ℕ × ImageRow)) (sorted : T (is_sorted nat_cmp es)) where
     | inr differ ↦ not_above _ _ (pairs_rise nat_cmp es sorted i j d (omega (arith, low, differ)) within)
   ]
 
-  bounded : (e : ℕ × ImageRow) → Has es e → (first last : ℕ) → AreEnds first last (map kept_of es) → (first ≤ e.0) × (e.0 ≤ last)
+  bounded : (e : ℕ × ImageRow) → Has es e → (first last : ℕ) → AreEnds first last (map entry_for es) → (first ≤ e.0) × (e.0 ≤ last)
   bounded e here first last ends =
       let at = contains_had es e here in
-      let same : length (map kept_of es) ≡ length es = length-map es kept_of in
-      let some : 0 < length (map kept_of es) = omega (arith, same, at.1) in
-      let both = ends (kept_of e) some in
-      let end : length (map kept_of es) - 1 ≡ length es - 1 = ap (λ n. n - 1) same in
-      let low : first ≡ (slice_index_or es 0 e).0 = both.0 ∙ ap (λ (h : ℕ × Heading). h.0) (get_or-map kept_of es 0 e (kept_of e) (omega (arith, at.1))) in
+      let same : length (map entry_for es) ≡ length es = length-map es entry_for in
+      let some : 0 < length (map entry_for es) = omega (arith, same, at.1) in
+      let both = ends (entry_for e) some in
+      let end : length (map entry_for es) - 1 ≡ length es - 1 = ap (λ n. n - 1) same in
+      let low : first ≡ (slice_index_or es 0 e).0 = both.0 ∙ ap (λ (h : ℕ × Heading). h.0) (get_or-map entry_for es 0 e (entry_for e) (omega (arith, at.1))) in
       let high : last ≡ (slice_index_or es (length es - 1) e).0 =
-      both.1 ∙ ap (λ n. (slice_index_or (map kept_of es) n (kept_of e)).0) end ∙ ap (λ (h : ℕ × Heading). h.0) (get_or-map kept_of es (length es - 1) e (kept_of e) (omega (arith, at.1))) in
+      both.1 ∙ ap (λ n. (slice_index_or (map entry_for es) n (entry_for e)).0) end ∙ ap (λ (h : ℕ × Heading). h.0) (get_or-map entry_for es (length es - 1) e (entry_for e) (omega (arith, at.1))) in
       let is : (slice_index_or es at.0 e).0 ≡ e.0 = ap (λ (f : ℕ × ImageRow). f.0) at.2 in
       let after = no_later 0 at.0 e (omega arith) at.1 in
       let before = no_later at.0 (length es - 1) e (omega (arith, at.1)) (omega (arith, at.1)) in
@@ -163,7 +163,7 @@ in_rest (suc n) [] x here = absurd here
 in_rest (suc n) (y ∷ xs) x here = inr (in_rest n xs x here)
 
 module _ (images : Images) (index : Index) (is : IsIndexOf images index) (first last : ℕ) (rows : List Row) (shown : rows ≡ map filed_shown (entries (retain_keys index (is_inside first last)))) where
-  one_told : (e : ℕ × ImageRow) (one : Indexed) → get images e.0 ≡ Some e.1 → first ≤ e.0 → e.0 ≤ last → IsIndexedBy rows (kept_of e) one → IsIndexed e one
+  one_told : (e : ℕ × ImageRow) (one : Indexed) → get images e.0 ≡ Some e.1 → first ≤ e.0 → e.0 ≤ last → IsIndexedBy rows (entry_for e) one → IsIndexed e one
   one_told e one given low high by =
       let these = map (λ (f : FileAt × Found). f.1) (entries (retain_keys index (λ at. at.acc == e.0))) in
       let told = by.files _ (entries_sorted (retain_keys index (is_inside first last))) shown ∙ ap (map (λ (f : FileAt × Found). f.1)) (files_of_one first last index e.0 low high) in
@@ -174,7 +174,7 @@ module _ (images : Images) (index : Index) (is : IsIndexOf images index) (first 
         files = subst (AreFounds e.1.kind e.1.bytes) (sym told) (subst (λ found. AreFilesIn found these) given (files_in (get images e.0) index e.0 (is e.0)));
       }
 
-  all_told : (es : List (ℕ × ImageRow)) (batch : List Indexed) → ((e : ℕ × ImageRow) → Has es e → (get images e.0 ≡ Some e.1) × (first ≤ e.0) × (e.0 ≤ last)) → AllZip (IsIndexedBy rows) (map kept_of es) batch → AllZip IsIndexed es batch
+  all_told : (es : List (ℕ × ImageRow)) (batch : List Indexed) → ((e : ℕ × ImageRow) → Has es e → (get images e.0 ≡ Some e.1) × (first ≤ e.0) × (e.0 ≤ last)) → AllZip (IsIndexedBy rows) (map entry_for es) batch → AllZip IsIndexed es batch
   all_told [] [] each zip = tt
   all_told [] (one ∷ batch) each zip = absurd zip
   all_told (e ∷ es) [] each zip = absurd zip
@@ -184,7 +184,7 @@ module _ (images : Images) (index : Index) (is : IsIndexOf images index) (first 
       → AllZip IsIndexed (take most (drop from (entries images))) batch
   batch_told from most heads batch are ends zip =
       let es = take most (drop from (entries images)) in
-      let same : heads ≡ map kept_of es = are ∙ ap (take most) (drop-map kept_of from (entries images)) ∙ take-map kept_of most (drop from (entries images)) in
+      let same : heads ≡ map entry_for es = are ∙ ap (take most) (drop-map entry_for from (entries images)) ∙ take-map entry_for most (drop from (entries images)) in
       let sorted : T (is_sorted nat_cmp es) = sorted_before nat_cmp most (drop from (entries images)) (sorted_after nat_cmp from (entries images) (entries_sorted images)) in
       let given : (e : ℕ × ImageRow) → Has es e → get images e.0 ≡ Some e.1 = λ e here. entry_got nat_cmp number_order images e.0 e.1 (in_rest from (entries images) e (in_front most (drop from (entries images)) e here)) in
       let inside : (e : ℕ × ImageRow) → Has es e → (first ≤ e.0) × (e.0 ≤ last) = λ e here. bounded es sorted e here first last (subst (AreEnds first last) same ends) in

@@ -31,7 +31,7 @@ use Rattle.rd_store.specs.Held.{Changes, IsOf, IsOpen, Judges, Stays, desk}
 use Rattle.rd_store.specs.Marks.{joined, kind_with, with_marks}
 use Rattle.rd_store.specs.Migrated.{first_desk}
 use Rattle.rd_store.specs.Opened.{AreKeys}
-use Rattle.rd_store.specs.Register.{IsPlaceIn, IsRegisterOf, IsSameHeading, entry_in, given_in, given_of, kept_of, listed, number_of, register_of}
+use Rattle.rd_store.specs.Register.{IsPlaceIn, IsRegisterOf, IsSameHeading, entry_in, given_in, given_of, entry_for, listed, number_of, register_of}
 use Rattle.rd_store.specs.Shown.{as_row, heading_of}
 use Rattle.rd_store.specs.Spelled.{desk_of, image_sheet, marks_sheet}
 use Rattle.rd_protocol.specs.State.{Desk, HasOtherImage, put_or_kept, with_image, accession_of, registered}
@@ -60,7 +60,7 @@ is_true false h = absurd h
 below_next : (a b : ℕ) → is_lt (nat_cmp a b) ≡ true → a ≤ b
 below_next a b low = grind (arith, nat_tests)
 
-rises : (es : Entries) → T (is_sorted nat_cmp es) → (k : ℕ) (d : ℕ × Heading) → suc k < length es → (slice_index_or (map kept_of es) k d).0 ≤ (slice_index_or (map kept_of es) (suc k) d).0
+rises : (es : Entries) → T (is_sorted nat_cmp es) → (k : ℕ) (d : ℕ × Heading) → suc k < length es → (slice_index_or (map entry_for es) k d).0 ≤ (slice_index_or (map entry_for es) (suc k) d).0
 rises [] sorted k d low = absurd (omega (arith, low))
 rises (e ∷ []) sorted k d low = absurd (omega (arith, low))
 rises (e ∷ f ∷ es) sorted zero d low =
@@ -73,18 +73,18 @@ rises (e ∷ f ∷ es) sorted (suc k) d low =
 index_rises : (a b n : ℕ) → a ≤ b → ordering_index (nat_cmp a n) ≤ ordering_index (nat_cmp b n)
 index_rises a b n low = grind (arith, nat_tests)
 
-next_rises : (es : Entries) → T (is_sorted nat_cmp es) → (acc k : ℕ) (d : ℕ × Heading) → k + 1 < length (map kept_of es)
-    → ordering_index (nat_cmp (slice_index_or (map kept_of es) k d).0 acc) ≤ ordering_index (nat_cmp (slice_index_or (map kept_of es) (k + 1) d).0 acc)
+next_rises : (es : Entries) → T (is_sorted nat_cmp es) → (acc k : ℕ) (d : ℕ × Heading) → k + 1 < length (map entry_for es)
+    → ordering_index (nat_cmp (slice_index_or (map entry_for es) k d).0 acc) ≤ ordering_index (nat_cmp (slice_index_or (map entry_for es) (k + 1) d).0 acc)
 next_rises es sorted acc k d low =
-    let within : suc k < length es = omega (arith, low, length-map es kept_of) in
+    let within : suc k < length es = omega (arith, low, length-map es entry_for) in
     rw add-one (index_rises _ _ acc (rises es sorted k d within))
 
-ascend : (es : Entries) → T (is_sorted nat_cmp es) → (acc : ℕ) → IsNonDecreasingBy (λ (e : ℕ × Heading). ordering_index (nat_cmp e.0 acc)) (map kept_of es)
-ascend es sorted acc = IsNonDecreasingBy-from_all_adjacent (λ (e : ℕ × Heading). ordering_index (nat_cmp e.0 acc)) (map kept_of es) (λ k d low. next_rises es sorted acc k d low)
+ascend : (es : Entries) → T (is_sorted nat_cmp es) → (acc : ℕ) → IsNonDecreasingBy (λ (e : ℕ × Heading). ordering_index (nat_cmp e.0 acc)) (map entry_for es)
+ascend es sorted acc = IsNonDecreasingBy-from_all_adjacent (λ (e : ℕ × Heading). ordering_index (nat_cmp e.0 acc)) (map entry_for es) (λ k d low. next_rises es sorted acc k d low)
 
 -- ---- a place among them
 
-item_at : (es : Entries) (k : ℕ) (d : ℕ × Heading) → k < length es → (e : ℕ × ImageRow) × Has es e × (slice_index_or (map kept_of es) k d ≡ kept_of e)
+item_at : (es : Entries) (k : ℕ) (d : ℕ × Heading) → k < length es → (e : ℕ × ImageRow) × Has es e × (slice_index_or (map entry_for es) k d ≡ entry_for e)
 item_at [] k d low = absurd (omega (arith, low))
 item_at (e ∷ es) zero d low = (e, inl refl, refl)
 item_at (e ∷ es) (suc k) d low = let it = item_at es k d (omega (arith, low)) in (it.0, inr it.1, it.2)
@@ -98,45 +98,45 @@ less_turned a b below = grind (arith, nat_tests)
 -- where the numbers before a place are below, and those from it on are above
 module _ (cmp : ℕ → ℕ → Ordering) (up : (a b : ℕ) → cmp a b ≡ Greater → cmp b a ≡ Less) (down : (a b : ℕ) → cmp a b ≡ Less → cmp b a ≡ Greater) (acc : ℕ) where
   abbrev AreBelow : Entries → ℕ → Type 0
-  AreBelow es at = (k : ℕ) (d : ℕ × Heading) → k < at → cmp (slice_index_or (map kept_of es) k d).0 acc ≡ Less
+  AreBelow es at = (k : ℕ) (d : ℕ × Heading) → k < at → cmp (slice_index_or (map entry_for es) k d).0 acc ≡ Less
 
   abbrev AreAbove : Entries → ℕ → Type 0
-  AreAbove es at = (k : ℕ) (d : ℕ × Heading) → at ≤ k → k < length es → cmp (slice_index_or (map kept_of es) k d).0 acc ≡ Greater
+  AreAbove es at = (k : ℕ) (d : ℕ × Heading) → at ≤ k → k < length es → cmp (slice_index_or (map entry_for es) k d).0 acc ≡ Greater
 
   none_found : (es : Entries) (at : ℕ) → at ≤ length es → AreBelow es at → AreAbove es at → find cmp acc es ≡ None
   none_found [] at low before after = refl
   none_found (e ∷ es) zero low before after =
-      let above : cmp acc e.0 ≡ Less = up e.0 acc (after 0 (kept_of e) (omega arith) (omega arith)) in
+      let above : cmp acc e.0 ≡ Less = up e.0 acc (after 0 (entry_for e) (omega arith) (omega arith)) in
       rw above (none_found es zero (omega arith) (λ k d under. absurd (omega (arith, under))) (λ k d from under. after (suc k) d (omega arith) (omega (arith, under))))
   none_found (e ∷ es) (suc at) low before after =
-      let below : cmp acc e.0 ≡ Greater = down e.0 acc (before 0 (kept_of e) (omega arith)) in
+      let below : cmp acc e.0 ≡ Greater = down e.0 acc (before 0 (entry_for e) (omega arith)) in
       rw below (none_found es at (omega (arith, low)) (λ k d under. before (suc k) d (omega (arith, under))) (λ k d from under. after (suc k) d (omega (arith, from)) (omega (arith, under))))
 
-  goes_there : (image : ImageRow) (es : Entries) (at : ℕ) → at ≤ length es → AreBelow es at → AreAbove es at → insert_at (map kept_of es) at (kept_of (acc, image)) ≡ map kept_of (put cmp acc image es)
+  goes_there : (image : ImageRow) (es : Entries) (at : ℕ) → at ≤ length es → AreBelow es at → AreAbove es at → insert_at (map entry_for es) at (entry_for (acc, image)) ≡ map entry_for (put cmp acc image es)
   goes_there image [] zero low before after = refl
   goes_there image [] (suc at) low before after = absurd (omega (arith, low))
   goes_there image (e ∷ es) zero low before after =
-      let above : cmp acc e.0 ≡ Less = up e.0 acc (after 0 (kept_of e) (omega arith) (omega arith)) in
+      let above : cmp acc e.0 ≡ Less = up e.0 acc (after 0 (entry_for e) (omega arith) (omega arith)) in
       rw above refl
   goes_there image (e ∷ es) (suc at) low before after =
-      let below : cmp acc e.0 ≡ Greater = down e.0 acc (before 0 (kept_of e) (omega arith)) in
-      rw below (ap (λ more. kept_of e ∷ more) (goes_there image es at (omega (arith, low)) (λ k d under. before (suc k) d (omega (arith, under))) (λ k d from under. after (suc k) d (omega (arith, from)) (omega (arith, under)))))
+      let below : cmp acc e.0 ≡ Greater = down e.0 acc (before 0 (entry_for e) (omega arith)) in
+      rw below (ap (λ more. entry_for e ∷ more) (goes_there image es at (omega (arith, low)) (λ k d under. before (suc k) d (omega (arith, under))) (λ k d from under. after (suc k) d (omega (arith, from)) (omega (arith, under)))))
 
 module _ (images : Images) (acc : ℕ) where
   pub placed : (found : Result ℕ ℕ) → IsSearchInRange found (length (register_of images)) → IsBinarySearchResult (λ (e : ℕ × Heading). nat_cmp e.0 acc) (register_of images) found → IsPlaceIn images acc found
   placed (Ok at) low equal = λ d.
-      let it = item_at (entries images) at d (omega (arith, low, length-map (entries images) kept_of)) in
+      let it = item_at (entries images) at d (omega (arith, low, length-map (entries images) entry_for)) in
       let key : it.0.0 ≡ acc = number_order.same it.0.0 acc (subst (λ (e : ℕ × Heading). nat_cmp e.0 acc ≡ Equal) it.2 (equal d)) in
       let there : get images acc ≡ Some it.0.1 = ap (get images) (sym key) ∙ entry_got nat_cmp number_order images it.0.0 it.0.1 it.1 in
       ap (option_map heading_of) there ∙ sym (ap (λ (e : ℕ × Heading). Some e.1) it.2)
   placed (Err at) low parted =
       let split = parted (ascend (entries images) (entries_sorted images) acc) in
-      let same = length-map (entries images) kept_of in
+      let same = length-map (entries images) entry_for in
       let within : at ≤ length (entries images) = omega (arith, low, same) in
       let before = λ (k : ℕ) (d : ℕ × Heading) (under : k < at). split.0 k d (omega arith) under in
       let after = λ (k : ℕ) (d : ℕ × Heading) (from : at ≤ k) (under : k < length (entries images)). split.1 k d from (omega (arith, under, same)) in (
         get-entries images acc ∙ none_found nat_cmp greater_turned less_turned acc (entries images) at within before after,
-        λ image. goes_there nat_cmp greater_turned less_turned acc image (entries images) at within before after ∙ ap (map kept_of) (sym (entries-insert number_order.total images acc image)),
+        λ image. goes_there nat_cmp greater_turned less_turned acc image (entries images) at within before after ∙ ap (map entry_for) (sym (entries-insert number_order.total images acc image)),
       )
 
 -- a place that is none, since the accession is nowhere
@@ -149,7 +149,7 @@ abbrev no_images : Images
 no_images = from_entries []
 
 pub register_empty : [] ≡ register_of no_images
-register_empty = sym (ap (map kept_of) (empty_by_length (entries no_images) (sym (len-entries no_images) ∙ len-empty nat_cmp ImageRow)))
+register_empty = sym (ap (map entry_for) (empty_by_length (entries no_images) (sym (len-entries no_images) ∙ len-empty nat_cmp ImageRow)))
 
 pub given_told : (images : Images) (acc : ℕ) (found : Option Heading) → found ≡ option_map heading_of (get images acc) → option_map given_of found ≡ option_map accession_of (get images acc)
 given_told images acc found is = ap (option_map given_of) is ∙ both (get images acc)
@@ -170,10 +170,10 @@ told_some true found is = sym is
 told_some false found is = λ some. true≢false (sym some ∙ sym is)
 
 pub numbers_told : (images : Images) → map number_of (register_of images) ≡ keys images
-numbers_told images = map_map number_of kept_of (entries images)
+numbers_told images = map_map number_of entry_for (entries images)
 
 pub givens_told : (images : Images) → map given_in (register_of images) ≡ map registered (entries images)
-givens_told images = map_map given_in kept_of (entries images)
+givens_told images = map_map given_in entry_for (entries images)
 
 -- the deed of an accession
 pub deed_found : (images : Images) (acc : ℕ) (heading : Heading) → Some heading ≡ option_map heading_of (get images acc) → (image : ImageRow) × (get images acc ≡ Some image) × (heading ≡ heading_of image)
@@ -268,7 +268,7 @@ module _ (table : List Row) (marks : FinMap nat_cmp (List ℕ)) (marked : List �
   abbrev images : Images
   images = map_of image_sheet table
 
-  one_entry : (e : ℕ × ImageRow) → as_row e.1 ≡ e.1 → entry_in marked (image_told e) ≡ kept_of (e.0, with_marks (get marks e.0) e.1)
+  one_entry : (e : ℕ × ImageRow) → as_row e.1 ≡ e.1 → entry_in marked (image_told e) ≡ entry_for (e.0, with_marks (get marks e.0) e.1)
   one_entry e back = λ i. (
     e.0,
     record {
@@ -278,12 +278,12 @@ module _ (table : List Row) (marks : FinMap nat_cmp (List ℕ)) (marked : List �
     },
   )
 
-  all_entries : (es : Entries) → ((e : ℕ × ImageRow) → Has es e → as_row e.1 ≡ e.1) → map (entry_in marked) (map image_told es) ≡ map kept_of (map (λ e. (e.0, with_marks (get marks e.0) e.1)) es)
+  all_entries : (es : Entries) → ((e : ℕ × ImageRow) → Has es e → as_row e.1 ≡ e.1) → map (entry_in marked) (map image_told es) ≡ map entry_for (map (λ e. (e.0, with_marks (get marks e.0) e.1)) es)
   all_entries [] back = refl
   all_entries (e ∷ es) back = ap₂ (λ r rs. r ∷ rs) (one_entry e (back e (inl refl))) (all_entries es (λ other there. back other (inr there)))
 
   pub entries_told : map (entry_in marked) (map image_told (entries images)) ≡ register_of (joined images marks)
-  entries_told = all_entries (entries images) (λ e here. row_back table e.0 e.1 (entry_got nat_cmp number_order images e.0 e.1 here)) ∙ ap (map kept_of) (sym (entries_joined images marks))
+  entries_told = all_entries (entries images) (λ e here. row_back table e.0 e.1 (entry_got nat_cmp number_order images e.0 e.1 here)) ∙ ap (map entry_for) (sym (entries_joined images marks))
 
 -- the accessions with error bytes, where these are the keys of their table
 pub one_marked : (marks : FinMap nat_cmp (List ℕ)) (marked : List ℕ) → AreKeys marks marked → (n : ℕ) → is_one_of marked (Int (pos n)) ≡ is_some (get marks n)

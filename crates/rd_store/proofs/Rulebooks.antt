@@ -1,6 +1,6 @@
 -- All rules in one list: that they ascend, and where those of one band and number are among them.
-use Rattle.std.proofs.Common.{◌≡◌, ℕ, ◌+◌, ◌<◌, ◌≤◌, List, [], ◌∷◌, map, filter, take, drop, length, slice_index_or, Bool, true, false, not, T, ◌&&◌, ◌==◌, refl, sym, ap, subst, subst₂, ◌∙◌, arith, Ordering, nat_cmp, is_le, is_lt, Less}
-use Rattle.std.specs.FinMap.{entries, entries-from_sorted, entries_sorted, from_entries, from_sorted, retain_keys}
+use Rattle.std.proofs.Common.{◌≡◌, ℕ, ◌+◌, ◌<◌, ◌≤◌, List, [], ◌∷◌, map, take, drop, length, Bool, true, not, T, ◌&&◌, ◌==◌, refl, sym, ap, subst, subst₂, ◌∙◌, arith, Ordering, nat_cmp, is_le, is_lt, Less}
+use Rattle.std.specs.FinMap.{entries, entries-from_sorted, from_entries, from_sorted}
 use Rattle.std.specs.FinMap.Entries.{is_sorted}
 use Rattle.std.specs.List.{AllAdjacentBelow}
 use Rattle.std.specs.List.Sorted.{IsPartitionedBy, IsStrictlySortedBy}

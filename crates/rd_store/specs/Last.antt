@@ -16,10 +16,10 @@ IsKept acc (AskedFor last) = ⊥
 IsKept acc (Kept last image) = last ≡ acc
 
 -- an accession was asked for last, and its image is not kept
-abbrev pub IsAskedFor : ℕ → KeptImage → Type 0
-IsAskedFor acc Unasked = ⊥
-IsAskedFor acc (AskedFor last) = last ≡ acc
-IsAskedFor acc (Kept last image) = ⊥
+abbrev pub IsOnlyAskedFor : ℕ → KeptImage → Type 0
+IsOnlyAskedFor acc Unasked = ⊥
+IsOnlyAskedFor acc (AskedFor last) = last ≡ acc
+IsOnlyAskedFor acc (Kept last image) = ⊥
 
 -- an image that is kept is the one at its accession
 abbrev pub IsAmong : KeptImage → FinMap nat_cmp ImageRow → Type 0

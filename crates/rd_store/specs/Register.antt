@@ -29,12 +29,12 @@ abbrev pub listed : Register → List (ℕ × Heading)
 listed register = listed_in register.entries
 
 -- an accession, with what is kept of its image
-abbrev pub kept_of : ℕ × ImageRow → ℕ × Heading
-kept_of e = (e.0, heading_of e.1)
+abbrev pub entry_for : ℕ × ImageRow → ℕ × Heading
+entry_for e = (e.0, heading_of e.1)
 
 -- the register of these images, ascending
 abbrev pub register_of : FinMap nat_cmp ImageRow → List (ℕ × Heading)
-register_of images = map kept_of (entries images)
+register_of images = map entry_for (entries images)
 
 -- while the connection is open, the register is that of the desk
 abbrev pub IsRegisterOf : {S : Type 0} → Ghosts S → Held S → Register → Type 0
@@ -79,4 +79,4 @@ HasRoom register = HasRoomIn register.entries
 -- where an accession is, or where it would go
 abbrev pub IsPlaceIn : FinMap nat_cmp ImageRow → ℕ → Result ℕ ℕ → Type 0
 IsPlaceIn images acc (Ok at) = (d : ℕ × Heading) → option_map heading_of (get images acc) ≡ Some (slice_index_or (register_of images) at d).1
-IsPlaceIn images acc (Err at) = (get images acc ≡ None) × ((image : ImageRow) → insert_at (register_of images) at (kept_of (acc, image)) ≡ register_of (insert images acc image))
+IsPlaceIn images acc (Err at) = (get images acc ≡ None) × ((image : ImageRow) → insert_at (register_of images) at (entry_for (acc, image)) ≡ register_of (insert images acc image))

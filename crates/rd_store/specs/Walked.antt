@@ -33,8 +33,8 @@ image_told e = Int (pos e.0) ∷ Int (pos (kind_code e.1.kind)) ∷ Int (pos e.1
 abbrev pub IsReadOf : Trees → Row → Type 0
 IsReadOf trees shown = (row : Row) × Has (trees 2) row × (shown ≡ image_read row)
 
--- the first rows after an accession, or of all: eight at most, as the texts of Queries say; `next_images` gives seven
--- of them
+-- the first rows after an accession, or of all: eight at most, as the texts of Queries say; `next_images` gives at
+-- most seven of them
 abbrev pub AreNextOf : Option ℕ → Trees → List Row → Type 0
 AreNextOf None trees rows = IsStart all_images_query 8 [] (trees 2) rows
 AreNextOf (Some acc) trees rows = IsStart later_images_query 8 (Int (pos acc) ∷ []) (trees 2) rows
@@ -43,7 +43,7 @@ AreNextOf (Some acc) trees rows = IsStart later_images_query 8 (Int (pos acc) �
 abbrev pub AreReadNext : Option ℕ → Trees → List Row → Type 0
 AreReadNext after trees rows = AreNext image_read (trees 2) (option_map pos after) rows
 
--- and where there are none, no row stands after it
+-- and where there are none, no row stands after the accession, or none at all
 abbrev pub AreBatchOf : Option ℕ → Trees → List Row → Type 0
 AreBatchOf after trees rows = AreReadNext after trees rows × (rows ≡ [] → filter (is_after (option_map pos after)) (trees 2) ≡ [])
 

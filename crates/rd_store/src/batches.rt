@@ -8,7 +8,7 @@ ghost use Rattle.std.specs.FinMap.Entries.{is_sorted};
 ghost use Rattle.sqlite.specs.Held.{state};
 ghost use Rattle.sqlite.specs.Order.{column};
 ghost use Rattle.rd_volume.specs.declared.found.Found.{Found as FoundFile};
-ghost use Rattle.rd_store.specs.declared.images.Heading.{Heading as Kept};
+ghost use Rattle.rd_store.specs.declared.images.Heading.{Heading as Entry};
 ghost use Rattle.rd_store.specs.Batched.{IsIndexed, IsIndexedBy, filed_shown, files_at, is_from_to, is_number_below, is_number_up_to};
 ghost use Rattle.rd_store.specs.Held.{Asks, HoldsDesk, desk};
 ghost use Rattle.rd_store.specs.Index.{FileAt, file_cmp};
@@ -122,14 +122,14 @@ fn index_each(
 /// The accession at a place.
 fn number_in(entries: &[(u32, Heading)], at: usize) -> u32
     requires { at < length entries.now }
-    ensures { (d : ℕ × Kept) → result ≡ (slice_index_or entries.now at d).0 }
+    ensures { (d : ℕ × Entry) → result ≡ (slice_index_or entries.now at d).0 }
 {
     entries[at].0
 }
 
 /// The first and the last of ascending accessions. Where there are none, the two numbers mean nothing.
 fn bounds(entries: &[(u32, Heading)]) -> (u32, u32)
-    ensures { (d : ℕ × Kept) → 0 < length entries.now
+    ensures { (d : ℕ × Entry) → 0 < length entries.now
         → (result.0 ≡ (slice_index_or entries.now 0 d).0) × (result.1 ≡ (slice_index_or entries.now (length entries.now - 1) d).0) }
 {
     if entries.is_empty() {

@@ -12,9 +12,9 @@ ghost use Rattle.rd_protocol.specs.State.{Desk};
 
 use crate::faults::OpenFault;
 
-/// Law: what a crash leaves of a desk is consistent: `open` and `migrate` refuse a database of these rows by `Sql`
-/// alone. So does `migrate` each database of consistent tables of version 1 or of version 2, one of which a crash of it
-/// leaves.
+/// Law: what a crash leaves of a desk is consistent, so `open` and `migrate` refuse a database of these rows by `Sql`
+/// alone. By `Sql` alone `migrate` also refuses each database of consistent tables of version 1 or 2, and a crash of
+/// `migrate` leaves one of these.
 pub fn left_desks_open()
     ensures consistent { (desk : Desk) (left : Trees) → IsLeft desk left → IsConsistent left }
     ensures opened { (desk : Desk) (left : Trees) → IsLeft desk left → (fault : Fault)

@@ -1,4 +1,4 @@
-//! The index of the files: what desk says of each file of the images that are there.
+//! The index of the files: a row for each file of each image.
 
 ghost use Rattle.std.specs.Prelude.{◌≡◌, ◌<◌, ◌+◌, ◌∷◌, [], AllPairs, IfOk, IfErr, Option, get_or, length, map, pos};
 ghost use Rattle.std.specs.FinMap.{get};

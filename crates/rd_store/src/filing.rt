@@ -27,7 +27,7 @@ fn shows_name(row: &Row, file: &Found) -> bool
         && has_or_null(row, 3, codes::of_user(file.user))
 }
 
-/// Whether a row shows all else of a file; these bytes spell its units.
+/// Whether a row shows the rest of a file, whose units these bytes spell.
 fn shows_contents(row: &Row, file: &Found, units: &[u8]) -> bool
     requires { units.now ≡ units_code file.now.units }
     ensures { MatchBool result (IsContentsRow file.now row.now) (¬ IsContentsRow file.now row.now) }

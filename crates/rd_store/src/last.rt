@@ -6,7 +6,7 @@ ghost use Rattle.std.specs.Ordering.{nat_cmp};
 ghost use Rattle.sqlite.specs.Held.{state};
 ghost use Rattle.rd_protocol.specs.declared.rows.ImageRow.{ImageRow as Image};
 ghost use Rattle.rd_store.specs.Held.{Asks, HoldsDesk, desk};
-ghost use Rattle.rd_store.specs.Last.{IsAmong, IsAskedFor, IsKept, IsLastOf};
+ghost use Rattle.rd_store.specs.Last.{IsAmong, IsOnlyAskedFor, IsKept, IsLastOf};
 
 use crate::faults::StoreFault;
 use crate::images::image;
@@ -16,8 +16,8 @@ use rd_protocol::ImageRow;
 use sqlite::{Alter, Connection};
 use std::alloc::Global;
 
-/// What is kept of the image that was asked for last. It is copied only where it is asked for twice in a row: a
-/// reader who goes from disk to disk costs no copy.
+/// What is kept of the image that was read last, or copied from memory. It is copied only where it is asked for twice
+/// in a row: a reader who goes from disk to disk costs no copy. A read that fails changes nothing here.
 #[derive(Drop)]
 pub(crate) enum KeptImage {
     /// No image was asked for.
@@ -56,9 +56,9 @@ impl KeptImage {
         }
     }
 
-    /// Whether an accession was asked for last, and its image is not kept.
-    fn was_asked_for(&self, acc: u32) -> bool
-        ensures { MatchBool result (IsAskedFor acc self.now) (¬ IsAskedFor acc self.now) }
+    /// Whether an accession was asked for last and its image is not kept.
+    fn was_only_asked_for(&self, acc: u32) -> bool
+        ensures { MatchBool result (IsOnlyAskedFor acc self.now) (¬ IsOnlyAskedFor acc self.now) }
     {
         match self {
             KeptImage::AskedFor(last) => *last == acc,
@@ -81,7 +81,7 @@ impl KeptImage {
         ensures { (images : FinMap nat_cmp Image) → found.now ≡ get images acc → IsAmong self.new images }
     {
         *self = match found {
-            Some(image) if self.was_asked_for(acc) => KeptImage::again(alloc, acc, image),
+            Some(image) if self.was_only_asked_for(acc) => KeptImage::again(alloc, acc, image),
             _ => KeptImage::AskedFor(acc),
         };
     }

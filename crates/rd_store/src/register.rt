@@ -1,13 +1,13 @@
-//! The register: what desk keeps of each image in memory, without its bytes.
+//! The register: what the store keeps in memory of each image, which is all but its bytes.
 
 ghost use Rattle.std.specs.Prelude.{◌≡◌, ◌<◌, ◌≤◌, ℕ, [], IfOk, IfErr, None, OnOk, drop, length, map, option_map, slice_index_or, take};
 ghost use Rattle.std.specs.List.{insert as insert_at};
 ghost use Rattle.std.specs.List.Sorted.{IsSearchInRange};
 ghost use Rattle.std.specs.Ordering.{nat_cmp};
 ghost use Rattle.std.specs.FinMap.{FinMap, get, insert};
-ghost use Rattle.rd_store.specs.declared.images.Heading.{Heading as Kept};
+ghost use Rattle.rd_store.specs.declared.images.Heading.{Heading as Entry};
 ghost use Rattle.rd_protocol.specs.declared.rows.ImageRow.{ImageRow};
-ghost use Rattle.rd_store.specs.Register.{HasRoom, IsPlaceIn, given_in, given_of, kept_of, listed, number_of, register_of};
+ghost use Rattle.rd_store.specs.Register.{HasRoom, IsPlaceIn, given_in, given_of, entry_for, listed, number_of, register_of};
 ghost use Rattle.rd_store.specs.Shown.{heading_of};
 
 use crate::faults::StoreFault;
@@ -34,7 +34,7 @@ fn place(entries: &[(u32, Heading)], acc: u32) -> Result<usize, usize>
 fn place_for(entries: &[(u32, Heading)], acc: u32) -> usize
     ensures bound { result ≤ length entries.now }
     ensures place { (images : FinMap nat_cmp ImageRow) (image : ImageRow) → entries.now ≡ register_of images → get images acc ≡ None
-        → insert_at entries.now result (kept_of (acc, image)) ≡ register_of (insert images acc image) }
+        → insert_at entries.now result (entry_for (acc, image)) ≡ register_of (insert images acc image) }
 {
     match place(entries, acc) {
         Ok(at) => at,
@@ -45,7 +45,7 @@ fn place_for(entries: &[(u32, Heading)], acc: u32) -> usize
 /// What is kept at a place.
 fn heading_in(entries: &[(u32, Heading)], at: usize) -> Heading
     requires { at < length entries.now }
-    ensures { (d : ℕ × Kept) → result ≡ (slice_index_or entries.now at d).1 }
+    ensures { (d : ℕ × Entry) → result ≡ (slice_index_or entries.now at d).1 }
 {
     entries[at].1
 }
@@ -64,7 +64,7 @@ fn numbers_in(alloc: Global, entries: &[(u32, Heading)]) -> Result<Vec<u32>, Sto
     Ok(numbers)
 }
 
-/// What desk says of an accession beside its number.
+/// The kind and the deed of an accession.
 pub(crate) fn given(heading: Heading) -> Accession
     ensures { result ≡ given_of heading }
 {

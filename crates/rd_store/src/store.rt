@@ -191,7 +191,7 @@ impl<S: Alter> Store<S> {
 
     /// The image of an accession, 1 to 999,999; `None` where there is none. It is what `image` gives, for a caller
     /// who asks for one accession again and again, as for the files of a disk one after the other. An image that
-    /// is asked for twice in a row is kept in memory, and read from there until this call is asked for another.
+    /// is asked for twice in a row is kept in memory and read from there, until a caller asks here for another.
     /// Where there is no memory to keep it, it is read from its row each time.
     ///
     /// It fails with `Sql`.

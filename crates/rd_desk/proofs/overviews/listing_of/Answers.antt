@@ -1,7 +1,6 @@
 use Rattle.std.proofs.Common.{◌≡◌, ◌∙◌, ◌++◌, ap, ap₂, refl, subst, sym}
-use Rattle.std.specs.FinMap.{get}
 use Rattle.rd_policy.specs.Verdicts.{AreInOrder}
-use Rattle.rd_policy.specs.declared.rule.Band.TheVariants.{Takedown, Deed}
+use Rattle.rd_policy.specs.declared.rule.Band.TheVariants.{Deed}
 use Rattle.rd_protocol.specs.State.{rules_at, rules_for, rules_with}
 use Rattle.rd_protocol.specs.Queries.{AreLinesOf}
 use Rattle.rd_protocol.proofs.Selecting.{lines_are}

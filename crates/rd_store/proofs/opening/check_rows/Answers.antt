@@ -13,7 +13,7 @@ use Rattle.rd_store.proofs.FilesTold.{filed_in}
 use Rattle.rd_store.proofs.Laws.{common_tables, stays_common, stays_tables, stays_then}
 use Rattle.rd_store.proofs.Sequels.{common_in, files_in, marks_in}
 use Rattle.rd_store.proofs.Verdicts.{marks_told}
-use Rattle.rd_store.proofs.Walked.{checked_second, filed_second, firsts, known_marks, part_refused, register_second, sql_part, then_part, walked_keys}
+use Rattle.rd_store.proofs.Walked.{checked_second, filed_second, firsts, known_marks, part_refused, register_second, then_part, walked_keys}
 use Rattle.rd_store.proofs.opening.check_rows.Goals as goal
 
 pub returns-in_err-rows-clause-tests : goal.returns-in_err-rows-clause-tests

@@ -1,6 +1,6 @@
 use Rattle.std.proofs.Common.{◌≡◌, ◌∙◌, ◌<◌, ap, is_ok, subst, sym, true, vec_capacity, vec_len}
 use Rattle.std.specs.List.{insert as insert_at}
-use Rattle.rd_store.specs.Register.{HasRoomIn, kept_of, listed_in}
+use Rattle.rd_store.specs.Register.{HasRoomIn, entry_for, listed_in}
 use Rattle.rd_store.proofs.register.Register.insert.Goals as goal
 
 pub returns-in_default : goal.returns-in_default
@@ -16,5 +16,5 @@ returns c = record {
       let ok : is_ok c.insert-inserted.result ≡ true = c.insert-inserted.ensures.succeeds room in
       let put_in : c.insert-inserted.new.self.items ≡ insert_at old.items c.place_for-at.result (c.args.acc, c.args.heading) = rw ok at c.insert-inserted.ensures.items in
       put_in ∙ ap (λ h. insert_at old.items c.place_for-at.result (c.args.acc, h)) same
-      ∙ sym (ap (λ l. insert_at l c.place_for-at.result (kept_of (c.args.acc, image))) c.as_slice.ensures.value) ∙ c.place_for-at.ensures.place images image (c.as_slice.ensures.value ∙ there) free;
+      ∙ sym (ap (λ l. insert_at l c.place_for-at.result (entry_for (c.args.acc, image))) c.as_slice.ensures.value) ∙ c.place_for-at.ensures.place images image (c.as_slice.ensures.value ∙ there) free;
 }
