@@ -22,10 +22,10 @@ ghost use Rattle.rd_commands.specs.Told.{Tells};
 ghost use Rattle.rd_commands.specs.Versions.{RefusesVersion, version_line};
 ghost use Rattle.rd_commands.specs.Words.{AsksCat, AsksList, AsksOfKind, AsksVersion};
 
+use crate::export_check::ask_once;
 use crate::import::import;
 use crate::init::init;
 use crate::machine::Machine;
-use crate::once::ask_once;
 use crate::serve::serve;
 use rd_commands::cat::cat;
 use rd_commands::list::list;

@@ -14,8 +14,8 @@ ghost use Rattle.rd_commands.specs.Refusals.{IsOfDevice};
 ghost use Rattle.rd_commands.specs.Sheets.{IsWithin};
 
 use crate::machine::Machine;
-use crate::opened::{moment, open_desk};
-use crate::replied::{error_name, value_of};
+use crate::open_desk::{moment, open_desk};
+use crate::reply_body::{error_name, value_of};
 use csv::{ByteRecord, ReaderBuilder};
 use rd_commands::{Done, ImportAsk, Refusal, SheetRow, is_header, next_row, row_of, write_whole};
 use rd_desk::{Desk, Items, Reply, Request, What};

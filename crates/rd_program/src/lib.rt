@@ -2,13 +2,13 @@
 #![tactic(auto)]
 
 mod dispatch;
+mod export_check;
 mod faults;
 mod import;
 mod init;
 mod machine;
-mod once;
-mod opened;
-mod replied;
+mod open_desk;
+mod reply_body;
 mod serve;
 
 pub use dispatch::run;

@@ -7,7 +7,7 @@ ghost use Rattle.rd_commands.specs.Refusals.{IsOfDevice};
 ghost use Rattle.rd_program.specs.Serving.{RefusesServe, RefusesToEnd, listening_line, serve_text, served_line};
 
 use crate::machine::Machine;
-use crate::opened::open_desk;
+use crate::open_desk::open_desk;
 use rd_commands::{Refusal, ServeAsk, write_whole};
 use rd_desk::Desk;
 use rd_http::{Ended, Served, serve_many};

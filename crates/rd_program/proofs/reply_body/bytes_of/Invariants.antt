@@ -1,7 +1,7 @@
 use Rattle.std.proofs.Common.{◌≡◌, ◌++◌}
 use Rattle.std.specs.List.{concat}
 use Rattle.rd_protocol.specs.BodyPieces.{pieces_left}
-use Rattle.rd_program.proofs.replied.bytes_of.Given as goal
+use Rattle.rd_program.proofs.reply_body.bytes_of.Given as goal
 
 -- the pieces so far, and those that are left, are the body
 abbrev pub invariant-loop-piece : goal.invariant-loop-piece

@@ -1,6 +1,6 @@
 use Rattle.rd_policy.specs.Zones.{day_number}
 use Rattle.rd_program.proofs.Stepped.{check_made}
-use Rattle.rd_program.proofs.once.check.Goals as goal
+use Rattle.rd_program.proofs.export_check.check.Goals as goal
 
 pub returns-in_err-write_whole-clause-checks : goal.returns-in_err-write_whole-clause-checks
 returns-in_err-write_whole-clause-checks g c =

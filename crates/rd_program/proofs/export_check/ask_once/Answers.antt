@@ -2,7 +2,7 @@ use Rattle.std.proofs.Common.{option_map, subst, ◌∙◌}
 use Rattle.sha2.specs.Sha256.{sha256}
 use Rattle.rd_program.specs.Leaves.{IsDayAt, LeavesDesk, StepsOf}
 use Rattle.rd_program.proofs.Left.{desk_left, unopened_left}
-use Rattle.rd_program.proofs.once.ask_once.Goals as goal
+use Rattle.rd_program.proofs.export_check.ask_once.Goals as goal
 
 pub returns-clause-steps : goal.returns-clause-steps
 returns-clause-steps g c =

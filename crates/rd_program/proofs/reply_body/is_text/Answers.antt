@@ -1,7 +1,7 @@
 use Rattle.std.proofs.Common.{◌≡◌, false, true}
 use Rattle.rd_protocol.specs.BodyPieces.{pieces_left}
 use Rattle.rd_program.proofs.Pieces.{left_after, not_same}
-use Rattle.rd_program.proofs.replied.is_text.Goals as goal
+use Rattle.rd_program.proofs.reply_body.is_text.Goals as goal
 
 pub loop-piece-preserved : goal.loop-piece-preserved
 loop-piece-preserved c =

@@ -15,8 +15,8 @@ ghost use Rattle.rd_program.specs.Importing.{said_line};
 ghost use Rattle.rd_program.specs.Leaves.{Checks, IsDayAt, IsOfOpenDesk, IsSame, Leaves, LeavesDesk, LeavesStore, NamesOpening, StepsOf};
 
 use crate::machine::Machine;
-use crate::opened::{moment, open_desk};
-use crate::replied::{bytes_of, error_name, is_text, value_of};
+use crate::open_desk::{moment, open_desk};
+use crate::reply_body::{bytes_of, error_name, is_text, value_of};
 use rd_commands::{Done, OnceAsk, Question, Refusal, write_whole};
 use rd_desk::{Desk, Outcome, Refusal as DeskRefusal, Reply, Request, What};
 use sha2::{Digest, Sha256};
