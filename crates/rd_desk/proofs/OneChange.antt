@@ -4,12 +4,12 @@ use Rattle.std.specs.Prelude.{⊤}
 use Rattle.std.specs.FinMap.{get}
 use Rattle.sqlite.specs.Store.{Ghosts}
 use Rattle.sqlite.specs.Held.{Held}
-use Rattle.rd_store.specs.Held.{Changes, IsClean, IsLeft, IsOpen, Rests, desk}
+use Rattle.rd_store.specs.Held.{Changes, IsClean, IsLeft, IsOpen, Keeps, Rests, desk}
 use Rattle.rd_protocol.specs.State.{Desk, with_check}
 use Rattle.rd_store.specs.declared.faults.StoreFault.{StoreFault}
 use Rattle.rd_protocol.specs.declared.rows.ImageRow.{ImageRow}
 use Rattle.rd_protocol.specs.declared.rows.Outcome.{Outcome}
-use Rattle.rd_desk.specs.Calls.{IsOneChange, IsSaidOf, IsWritten, Keeps, MakesOneChange}
+use Rattle.rd_desk.specs.Calls.{IsOneChange, IsSaidOf, IsWritten, MakesOneChange}
 use Rattle.rd_protocol.specs.Replies.{with_checked}
 use Rattle.rd_protocol.specs.Checks.{outcome_of}
 use Rattle.rd_protocol.specs.Refusals.{status_of}

@@ -5,12 +5,11 @@ use Rattle.sqlite.specs.Tree.{Trees}
 use Rattle.sqlite.specs.Held.{Held}
 use Rattle.rd_policy.specs.declared.audience.Audience.{Audience}
 use Rattle.rd_policy.specs.declared.audience.Audience.TheVariants.{Staff}
-use Rattle.rd_store.specs.Held.{IsClean, IsLeft, IsOpen, LeavesOnly, Reads, Rests, desk}
-use Rattle.rd_store.specs.declared.faults.StoreFault.{StoreFault}
+use Rattle.rd_store.specs.Held.{IsClean, IsLeft, IsOpen, Keeps, LeavesOnly, Reads, Rests, desk}
 use Rattle.rd_protocol.specs.Lawful.{IsLawful}
 use Rattle.rd_protocol.specs.State.{Desk}
 use Rattle.rd_store.proofs.Laws.{lasts_still, lasts_then}
-use Rattle.rd_desk.specs.Calls.{Carries, HasItsDigest, IsCarriedOut, IsResponse, IsSaidTo, Keeps, Looks, Responds}
+use Rattle.rd_desk.specs.Calls.{Carries, HasItsDigest, IsCarriedOut, IsResponse, IsSaidTo, Responds}
 use Rattle.rd_protocol.specs.Judged.{IsAccepted, audience_of}
 use Rattle.rd_protocol.specs.Replies.{IsAnswered, IsDone, IsStep, Tells, carried_out}
 use Rattle.rd_protocol.specs.Requests.{IsForStaff}
@@ -57,10 +56,6 @@ left_step old day request left command staff lawful (inr (digest, after)) = elim
   ]
 ]
 
--- a call of the store that reads keeps the desk
-pub reads_keep : {S T : Type 0} {g : Ghosts S} {old new : Held S} {result : Result T StoreFault} {Answers : T → Type 0} → Reads g old new result Answers → Keeps g old new
-reads_keep reads = record { lasts = reads.lasts; same = reads.same; crash = reads.crash; durable = reads.durable }
-
 module _ {S : Type 0} (g : Ghosts S) where
   -- a call that is not made
   pub keeps_still : (h : Held S) → Rests g h → Keeps g h h
@@ -94,13 +89,13 @@ module _ {S : Type 0} (g : Ghosts S) where
     answered audience old new (Err fault) same known told = same
 
     -- a query of a caller of this audience, as a request
-    pub looks_respond : (a b : Held S) (audience : Audience) → (IsOpen g a → audience_of (desk g a) request.badge ≡ Some audience) → Looks g a b result (IsSaidTo (desk g a) audience day request.what)
+    pub reads_respond : (a b : Held S) (audience : Audience) → (IsOpen g a → audience_of (desk g a) request.badge ≡ Some audience) → Reads g a b result (IsSaidTo (desk g a) audience day request.what)
         → Responds g a b day request result
-    looks_respond a b audience known looks = record {
-      lasts = looks.keeps.lasts;
-      judged = λ o. answered audience (desk g a) (desk g b) result (looks.keeps.same o) (known (looks.keeps.lasts.was_open o)) (looks.answer o);
-      crash = λ was clean left may. inl (looks.keeps.crash was clean left may);
-      durable = looks.keeps.durable;
+    reads_respond a b audience known reads = record {
+      lasts = reads.keeps.lasts;
+      judged = λ o. answered audience (desk g a) (desk g b) result (reads.keeps.same o) (known (reads.keeps.lasts.was_open o)) (reads.answer o);
+      crash = λ was clean left may. inl (reads.keeps.crash was clean left may);
+      durable = reads.keeps.durable;
     }
 
     -- what was done for the staff, as a request

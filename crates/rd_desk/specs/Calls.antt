@@ -1,5 +1,5 @@
 -- What the functions that make up an answer say of the store.
-use Rattle.std.specs.Prelude.{◌≡◌, ◌≢◌, ◌⊎◌, ℕ, ℤ, List, Option, Some, None, IsSomeAnd, Result, Ok, Err, IfOk, MatchOption, option_map, ⊤}
+use Rattle.std.specs.Prelude.{◌≡◌, ◌≢◌, ◌⊎◌, ℕ, ℤ, List, Option, Some, None, IsSomeAnd, Result, Ok, Err, MatchOption, option_map, ⊤}
 use Rattle.std.specs.FinMap.{get}
 use Rattle.sqlite.specs.Store.{Ghosts}
 use Rattle.sqlite.specs.Tree.{Trees}
@@ -10,7 +10,7 @@ use Rattle.rd_policy.specs.declared.audience.Audience.TheVariants.{Staff}
 use Rattle.rd_policy.specs.declared.rule.Band.{Band}
 use Rattle.rd_policy.specs.declared.rule.Band.TheVariants.{Takedown, Deed}
 use Rattle.rd_store.specs.Batched.{IsIndexed}
-use Rattle.rd_store.specs.Held.{Changes, IsClean, IsLeft, IsOpen, Lasts, LeavesOnly, LeavesOpen, desk}
+use Rattle.rd_store.specs.Held.{Changes, IsClean, IsLeft, IsOpen, Keeps, Lasts, LeavesOnly, LeavesOpen, desk}
 use Rattle.rd_protocol.specs.State.{Desk, rules_for, accession_of}
 use Rattle.rd_store.specs.declared.faults.StoreFault.{StoreFault}
 use Rattle.rd_protocol.specs.declared.rows.Accession.{Accession}
@@ -29,19 +29,6 @@ use Rattle.rd_protocol.specs.declared.said.Reply.{Reply}
 use Rattle.rd_protocol.specs.declared.said.Said.{Said}
 use Rattle.rd_protocol.specs.declared.said.Survey.{Survey}
 use Rattle.rd_protocol.specs.declared.said.Said.TheVariants.{Refused, Done, Checked}
-
--- Calls that read: the desk stays, and a crash leaves it.
-pub record Keeps {S : Type 0} (g : Ghosts S) (old new : Held S) : Type 0 where
-  pub lasts : Lasts g old new
-  pub same : IsOpen g new → desk g new ≡ desk g old
-  pub crash : IsOpen g old → IsClean g new → LeavesOnly g new (desk g old)
-  pub durable : IsOpen g new → LeavesOnly g new (desk g new)
-
--- A call that reads, and answers this of the desk.
-pub record Looks {S T X : Type 0} (g : Ghosts S) (old new : Held S) (result : Result T X) (Answers : T → Type 0) : Type 0 where
-  pub keeps : Keeps g old new
-  pub answer : IsOpen g new → IfOk result Answers
-  pub ends_open : LeavesOpen g new result
 
 -- the accession stands, and its image is of this kind and came by this deed
 abbrev pub IsRegistered : Desk → ℕ → Accession → Type 0

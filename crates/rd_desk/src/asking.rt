@@ -5,11 +5,11 @@
 ghost use Rattle.std.specs.Prelude.{◌≡◌, ◌≢◌, ◌++◌, IfOk, None, Ok, Some, is_some, length};
 ghost use Rattle.std.specs.FinMap.{get, keys};
 ghost use Rattle.rd_policy.specs.Verdicts.{AreInOrder};
-ghost use Rattle.rd_store.specs.Held.{IsOpen, LeavesOpen, desk};
+ghost use Rattle.rd_store.specs.Held.{IsOpen, Keeps, LeavesOpen, Reads, desk};
 ghost use Rattle.rd_store.specs.Index.{AreFilesIn};
 ghost use Rattle.rd_protocol.specs.Judged.{audience_of};
 ghost use Rattle.rd_protocol.specs.State.{rules_at};
-ghost use Rattle.rd_desk.specs.Calls.{AreAccessionRules, IsRegistered, Keeps, Looks};
+ghost use Rattle.rd_desk.specs.Calls.{AreAccessionRules, IsRegistered};
 
 use rd_geometry::{Items, Kind, NoMemory};
 use rd_policy::{Audience, Band, Rule, in_order};
@@ -70,14 +70,14 @@ pub(crate) fn audience<S: Alter>(
 
 /// Whether there is a deed with a number.
 pub(crate) fn has_deed<S: Alter>(store: &mut Store<S>, num: u32) -> Result<bool, Unavailable>
-    ensures looks { Looks S.Store store.old store.new result (λ found. found ≡ is_some (get (desk S.Store store.old).deeds num)) }
+    ensures reads { Reads S.Store store.old store.new result (λ found. found ≡ is_some (get (desk S.Store store.old).deeds num)) }
 {
     Ok(store.deed(num)?.is_some())
 }
 
 /// How many accessions there are.
 pub(crate) fn count<S: Alter>(store: &mut Store<S>, alloc: Global) -> Result<usize, Unavailable>
-    ensures looks { Looks S.Store store.old store.new result (λ count. count ≡ length (keys (desk S.Store store.old).images)) }
+    ensures reads { Reads S.Store store.old store.new result (λ count. count ≡ length (keys (desk S.Store store.old).images)) }
 {
     Ok(store.accessions(alloc)?.len())
 }
@@ -88,7 +88,7 @@ pub(crate) fn files<S: Alter>(
     alloc: Global,
     acc: u32,
 ) -> Result<Items<Found>, Unavailable>
-    ensures looks { Looks S.Store store.old store.new result (AreFilesIn (get (desk S.Store store.old).images acc)) }
+    ensures reads { Reads S.Store store.old store.new result (AreFilesIn (get (desk S.Store store.old).images acc)) }
 {
     Ok(Items::of(store.found(alloc, acc)?))
 }
@@ -101,7 +101,7 @@ fn rules<S: Alter>(
     acc: u32,
     deed: u32,
 ) -> Result<Items<Rule>, Unavailable>
-    ensures looks { Looks S.Store store.old store.new result (λ rules.
+    ensures reads { Reads S.Store store.old store.new result (λ rules.
         rules ≡ rules_at (desk S.Store store.old) Band.Takedown acc ++ rules_at (desk S.Store store.old) Band.Deed deed) }
     ensures order { IfOk result AreInOrder }
 {
@@ -122,7 +122,7 @@ pub(crate) fn load_rules<S: Alter>(
     accession: Accession,
 ) -> Result<AccessionRules, Unavailable>
     requires known { IsOpen S.Store store.old → IsRegistered (desk S.Store store.old) acc accession }
-    ensures looks { Looks S.Store store.old store.new result (AreAccessionRules (desk S.Store store.old) acc) }
+    ensures reads { Reads S.Store store.old store.new result (AreAccessionRules (desk S.Store store.old) acc) }
     ensures order { IfOk result (λ loaded. AreInOrder loaded.rules) }
 {
     let Accession { kind, deed } = accession;

@@ -2,9 +2,8 @@
 
 ghost use Rattle.std.specs.Prelude.{◌≡◌, IfOk, Some};
 ghost use Rattle.std.specs.FinMap.{get};
-ghost use Rattle.rd_store.specs.Held.{desk};
+ghost use Rattle.rd_store.specs.Held.{Reads, desk};
 ghost use Rattle.rd_protocol.specs.declared.rows.ImageRow.{ImageRow as Row};
-ghost use Rattle.rd_desk.specs.Calls.{Looks};
 
 use crate::asking::Unavailable;
 use rd_protocol::Contents;
@@ -32,7 +31,7 @@ pub(crate) fn contents<S: Alter>(
     acc: u32,
     file: Found,
 ) -> Result<Contents, Unavailable>
-    ensures { Looks S.Store store.old store.new result (λ lent. (row : Row) → get (desk S.Store store.old).images acc ≡ Some row
+    ensures { Reads S.Store store.old store.new result (λ lent. (row : Row) → get (desk S.Store store.old).images acc ≡ Some row
         → lent ≡ record { kind = row.kind; image = row.bytes; file = file }) }
 {
     let Some(image) = store.image_again(alloc, acc)? else {

@@ -4,9 +4,9 @@
 ghost use Rattle.std.specs.Prelude.{◌≡◌, ◌++◌, ℕ, All, IfOk, List, length, map};
 ghost use Rattle.std.specs.FinMap.{keys};
 ghost use Rattle.std.specs.List.{AllZip};
-ghost use Rattle.rd_store.specs.Held.{IsClean, IsOpen, desk};
+ghost use Rattle.rd_store.specs.Held.{IsClean, IsOpen, Reads, desk};
 ghost use Rattle.rd_protocol.specs.State.{Desk, all_rules};
-ghost use Rattle.rd_desk.specs.Calls.{IsSaidTo, Looks, StandsAs};
+ghost use Rattle.rd_desk.specs.Calls.{IsSaidTo, StandsAs};
 ghost use Rattle.rd_protocol.specs.Queries.{AreLinesOfEach, IsCounted};
 ghost use Rattle.rd_protocol.specs.Replies.{IsListing};
 
@@ -93,7 +93,7 @@ fn image_lines<S: Alter>(
     requires awake { IsClean S.Store store.old → IsOpen S.Store store.old }
     requires rules { IsOpen S.Store store.old → rules.now ≡ all_rules (desk S.Store store.old) }
     requires count { IsOpen S.Store store.old → accessions ≡ length (keys (desk S.Store store.old).images) }
-    ensures { Looks S.Store store.old store.new result (AreLinesOfEach (desk S.Store store.old) caller.now.audience caller.now.day (keys (desk S.Store store.old).images)) }
+    ensures { Reads S.Store store.old store.new result (AreLinesOfEach (desk S.Store store.old) caller.now.audience caller.now.day (keys (desk S.Store store.old).images)) }
 {
     let mut lines = Vec::new(alloc);
     store.rests();
@@ -110,7 +110,7 @@ pub(crate) fn images<S: Alter>(
     alloc: Global,
     caller: &Caller,
 ) -> Result<Said, Unavailable>
-    ensures { Looks S.Store store.old store.new result (IsSaidTo (desk S.Store store.old) caller.now.audience caller.now.day What.Images) }
+    ensures { Reads S.Store store.old store.new result (IsSaidTo (desk S.Store store.old) caller.now.audience caller.now.day What.Images) }
 {
     let rules = store.rulebook(alloc)?;
     let accessions = count(store, alloc)?;
@@ -150,7 +150,7 @@ fn listings<S: Alter>(
     requires awake { IsClean S.Store store.old → IsOpen S.Store store.old }
     requires rules { IsOpen S.Store store.old → rules.now ≡ all_rules (desk S.Store store.old) }
     requires count { IsOpen S.Store store.old → accessions ≡ length (keys (desk S.Store store.old).images) }
-    ensures { Looks S.Store store.old store.new result (AllZip (IsListing (desk S.Store store.old) caller.now.audience caller.now.day) (keys (desk S.Store store.old).images)) }
+    ensures { Reads S.Store store.old store.new result (AllZip (IsListing (desk S.Store store.old) caller.now.audience caller.now.day) (keys (desk S.Store store.old).images)) }
 {
     let mut listings = Vec::new(alloc);
     store.rests();
@@ -167,7 +167,7 @@ pub(crate) fn catalogue<S: Alter>(
     alloc: Global,
     caller: &Caller,
 ) -> Result<Said, Unavailable>
-    ensures { Looks S.Store store.old store.new result (IsSaidTo (desk S.Store store.old) caller.now.audience caller.now.day What.Catalogue) }
+    ensures { Reads S.Store store.old store.new result (IsSaidTo (desk S.Store store.old) caller.now.audience caller.now.day What.Catalogue) }
 {
     let rules = store.rulebook(alloc)?;
     let accessions = count(store, alloc)?;

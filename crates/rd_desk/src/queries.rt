@@ -3,10 +3,10 @@
 ghost use Rattle.std.specs.Prelude.{◌≡◌, ◌++◌, Contains, IfOk, Some};
 ghost use Rattle.std.specs.FinMap.{get};
 ghost use Rattle.rd_policy.specs.Verdicts.{AreInOrder, IsVerdict};
-ghost use Rattle.rd_store.specs.Held.{IsClean, IsOpen, desk};
+ghost use Rattle.rd_store.specs.Held.{IsClean, IsOpen, Reads, desk};
 ghost use Rattle.rd_protocol.specs.declared.rows.ImageRow.{ImageRow};
 ghost use Rattle.rd_volume.specs.Volumes.{IsFound};
-ghost use Rattle.rd_desk.specs.Calls.{IsRegistered, IsSaidTo, Looks};
+ghost use Rattle.rd_desk.specs.Calls.{IsRegistered, IsSaidTo};
 ghost use Rattle.rd_protocol.specs.Queries.{AreLinesOf, IsRead, IsWithheld};
 ghost use Rattle.rd_protocol.specs.Replies.{AreLines, IsListing};
 ghost use Rattle.rd_protocol.specs.Requests.{IsForStaff};
@@ -79,7 +79,7 @@ fn said_of<S: Alter>(
 ) -> Result<Said, Unavailable>
     requires order { AreInOrder loaded.now.rules }
     requires awake { IsClean S.Store store.old → IsOpen S.Store store.old }
-    ensures { Looks S.Store store.old store.new result (λ said. (image : ImageRow) → get (desk S.Store store.old).images acc ≡ Some image
+    ensures { Reads S.Store store.old store.new result (λ said. (image : ImageRow) → get (desk S.Store store.old).images acc ≡ Some image
         → loaded.now.kind ≡ image.kind → IsFound image.kind image.bytes file
         → IsRead (record { image = image; rules = loaded.now.rules }) caller.now.audience caller.now.day file.slot said) }
 {
@@ -100,7 +100,7 @@ fn read<S: Alter>(
     slot: u16,
 ) -> Result<Said, Unavailable>
     requires order { AreInOrder loaded.now.rules }
-    ensures { Looks S.Store store.old store.new result (λ said. (image : ImageRow) → get (desk S.Store store.old).images acc ≡ Some image
+    ensures { Reads S.Store store.old store.new result (λ said. (image : ImageRow) → get (desk S.Store store.old).images acc ≡ Some image
         → loaded.now.kind ≡ image.kind
         → IsRead (record { image = image; rules = loaded.now.rules }) caller.now.audience caller.now.day slot said) }
 {
@@ -118,7 +118,7 @@ fn bytes<S: Alter>(
     acc: u32,
     slot: u16,
 ) -> Result<Said, Unavailable>
-    ensures { Looks S.Store store.old store.new result (IsSaidTo (desk S.Store store.old) caller.now.audience caller.now.day (What.Bytes acc slot)) }
+    ensures { Reads S.Store store.old store.new result (IsSaidTo (desk S.Store store.old) caller.now.audience caller.now.day (What.Bytes acc slot)) }
 {
     match store.accession(acc)? {
         Some(accession) => {
@@ -161,7 +161,7 @@ fn lines<S: Alter>(
     acc: u32,
 ) -> Result<Items<Line>, Unavailable>
     requires order { AreInOrder loaded.now.rules }
-    ensures { Looks S.Store store.old store.new result (λ lines. (image : ImageRow) → get (desk S.Store store.old).images acc ≡ Some image
+    ensures { Reads S.Store store.old store.new result (λ lines. (image : ImageRow) → get (desk S.Store store.old).images acc ≡ Some image
         → AreLines image loaded.now.rules caller.now.audience caller.now.day lines) }
 {
     let files = files(store, alloc, acc)?;
@@ -177,7 +177,7 @@ fn listed_at<S: Alter>(
     accession: Accession,
 ) -> Result<Listing, Unavailable>
     requires known { IsOpen S.Store store.old → IsRegistered (desk S.Store store.old) acc accession }
-    ensures { Looks S.Store store.old store.new result (IsListing (desk S.Store store.old) caller.now.audience caller.now.day acc) }
+    ensures { Reads S.Store store.old store.new result (IsListing (desk S.Store store.old) caller.now.audience caller.now.day acc) }
 {
     let loaded = load_rules(store, alloc, acc, accession)?;
     let files = lines(store, alloc, &loaded, caller, acc)?;
@@ -196,7 +196,7 @@ fn listing<S: Alter>(
     caller: &Caller,
     acc: u32,
 ) -> Result<Said, Unavailable>
-    ensures { Looks S.Store store.old store.new result (IsSaidTo (desk S.Store store.old) caller.now.audience caller.now.day (What.Listing acc)) }
+    ensures { Reads S.Store store.old store.new result (IsSaidTo (desk S.Store store.old) caller.now.audience caller.now.day (What.Listing acc)) }
 {
     let Some(accession) = store.accession(acc)? else {
         return Ok(Said::Refused(Refusal::NoAccession));
@@ -212,7 +212,7 @@ pub(crate) fn query<S: Alter>(
     what: &What,
 ) -> Result<Said, Unavailable>
     requires query { ¬ IsForStaff what.now }
-    ensures { Looks S.Store store.old store.new result (IsSaidTo (desk S.Store store.old) caller.now.audience caller.now.day what.now) }
+    ensures { Reads S.Store store.old store.new result (IsSaidTo (desk S.Store store.old) caller.now.audience caller.now.day what.now) }
 {
     match what {
         What::Images => images(store, alloc, caller),

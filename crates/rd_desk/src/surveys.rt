@@ -3,8 +3,8 @@
 ghost use Rattle.std.specs.Prelude.{IfOk, ℤ};
 ghost use Rattle.rd_policy.specs.Dates.{IsDateOf};
 ghost use Rattle.rd_volume.specs.Reports.{IsReport};
-ghost use Rattle.rd_store.specs.Held.{desk};
-ghost use Rattle.rd_desk.specs.Calls.{Carries, IsSurveyAt, Keeps, Looks};
+ghost use Rattle.rd_store.specs.Held.{Keeps, Reads, desk};
+ghost use Rattle.rd_desk.specs.Calls.{Carries, IsSurveyAt};
 ghost use Rattle.rd_protocol.specs.Replies.{IsSurveyOf};
 
 use crate::asking::Unavailable;
@@ -63,7 +63,7 @@ fn survey_at<S: Alter>(
     alloc: Global,
     acc: u32,
 ) -> Result<Option<Survey>, Unavailable>
-    ensures { Looks S.Store store.old store.new result (IsSurveyAt (desk S.Store store.old) acc) }
+    ensures { Reads S.Store store.old store.new result (IsSurveyAt (desk S.Store store.old) acc) }
 {
     let Some(image) = store.image(alloc, acc)? else {
         return Ok(None);

@@ -7,12 +7,10 @@ use Rattle.sqlite.specs.State.{State, Survives}
 use Rattle.sqlite.specs.Held.{Held, state}
 use Rattle.sqlite.proofs.StateLemmas.{clean_if_open}
 use Rattle.rd_tables.specs.Schemas.{marks_table}
-use Rattle.rd_store.specs.declared.faults.StoreFault.{StoreFault}
-use Rattle.rd_store.specs.declared.faults.StoreFault.TheVariants.{Sql}
 use Rattle.rd_protocol.specs.State.{Desk}
 use Rattle.rd_store.specs.Spelled.{desk_of}
 use Rattle.rd_store.specs.Opened.{HoldsMarksIf}
-use Rattle.rd_store.specs.Held.{Holds, IsLeft, HoldsDesk, HoldsTables, HoldsCommonTables, Asks, Changes, Lasts, LeavesOnly, LeavesOpen, Reads, Rests, Stays, IsOpen, IsClean, desk}
+use Rattle.rd_store.specs.Held.{Holds, IsLeft, HoldsDesk, HoldsTables, HoldsCommonTables, Changes, Lasts, LeavesOnly, LeavesOpen, Rests, Stays, IsOpen, IsClean, desk}
 
 pub record Laws {S : Type 0} (g : Ghosts S) : Type 0 where
   -- while the store is open, a crash leaves the last commit
@@ -119,18 +117,6 @@ module _ {S : Type 0} (g : Ghosts S) (old new : Held S) (stays : Stays g old new
       err : (q : Result T X) → desk g new ≡ desk g old → OnErr q (desk g new ≡ desk g old)
       err (Ok value) e = tt
       err (Err fault) e = e
-
--- what a query answers, as a call that reads
-pub asks_reads : {S T : Type 0} (g : Ghosts S) → Laws g → (old new : Held S) → HoldsDesk (state g old) → (r : Result T StoreFault) (Answers : T → Type 0) → Asks g old new r Sql Answers → Reads g old new r Answers
-asks_reads g laws old new holds r Answers asks = record {
-  lasts = asks.stays.lasts;
-  answer = asks.answer;
-  ends_open = asks.ends_open;
-  same = desk_same g old new asks.stays;
-  crash = crash_same g old new asks.stays laws holds;
-  durable = λ o. leaves_only g laws new (stays_desk g old new asks.stays holds) o;
-  fault = asks.fault;
-}
 
 -- no query at all
 pub stays_here : {S : Type 0} (g : Ghosts S) (h : Held S) → (IsOpen g h → (state g h).in_transaction ≡ false) → Stays g h h

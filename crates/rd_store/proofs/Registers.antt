@@ -31,7 +31,7 @@ use Rattle.rd_store.specs.Held.{Changes, IsOf, IsOpen, Judges, Stays, desk}
 use Rattle.rd_store.specs.Marks.{joined, kind_with, with_marks}
 use Rattle.rd_store.specs.Migrated.{first_desk}
 use Rattle.rd_store.specs.Opened.{AreKeys}
-use Rattle.rd_store.specs.Register.{IsPlaceIn, IsRegisterOf, IsSameHeading, entry_in, given_in, given_of, entry_for, listed, number_of, register_of}
+use Rattle.rd_store.specs.Register.{IsPlaceIn, IsRegisterOf, IsSameHeading, entry_for, entry_in, given_in, given_of, listed, number_of, register_of}
 use Rattle.rd_store.specs.Shown.{as_row, heading_of}
 use Rattle.rd_store.specs.Spelled.{desk_of, image_sheet, marks_sheet}
 use Rattle.rd_protocol.specs.State.{Desk, HasOtherImage, put_or_kept, with_image, accession_of, registered}

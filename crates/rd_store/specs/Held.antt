@@ -137,17 +137,20 @@ pub record Changes {S T X : Type 0} (g : Ghosts S) (old new : Held S) (after : D
   pub crash : IsOpen g old → IsClean g new → (left : Trees) → g.recovers new.store left → IsLeft (desk g old) left ⊎ IsLeft after left
   pub durable : IsOpen g new → LeavesOnly g new (desk g new)
 
--- A call that reads, and answers this of the desk, or Sql. Where the connection is open at the end, the desk
--- is as it was, and a crash leaves it and nothing else; so it does where the connection was open at the
--- beginning, and the disk has returned what was written.
-pub record Reads {S T : Type 0} (g : Ghosts S) (old new : Held S) (result : Result T StoreFault) (Answers : T → Type 0) : Type 0 where
+-- A call that leaves the desk as it was. Where the connection is open at the end, a crash leaves this desk and
+-- nothing else; so it does where the connection was open at the beginning, and the disk has returned what was
+-- written.
+pub record Keeps {S : Type 0} (g : Ghosts S) (old new : Held S) : Type 0 where
   pub lasts : Lasts g old new
-  pub answer : IsOpen g new → IfOk result Answers
-  pub ends_open : LeavesOpen g new result
   pub same : IsOpen g new → desk g new ≡ desk g old
   pub crash : IsOpen g old → IsClean g new → LeavesOnly g new (desk g old)
   pub durable : IsOpen g new → LeavesOnly g new (desk g new)
-  pub fault : IfErr result (λ fault. fault ≡ Sql)
+
+-- A call that reads, and answers this of the desk, or fails.
+pub record Reads {S T X : Type 0} (g : Ghosts S) (old new : Held S) (result : Result T X) (Answers : T → Type 0) : Type 0 where
+  pub keeps : Keeps g old new
+  pub answer : IsOpen g new → IfOk result Answers
+  pub ends_open : LeavesOpen g new result
 
 -- Missing exactly where something is not there, then Conflict exactly where something conflicts.
 abbrev pub IsJudged : {T : Type 0} → Type 0 → Type 0 → Result T StoreFault → Type 0

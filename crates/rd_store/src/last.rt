@@ -6,7 +6,7 @@ ghost use Rattle.std.specs.Ordering.{nat_cmp};
 ghost use Rattle.sqlite.specs.Held.{state};
 ghost use Rattle.rd_protocol.specs.declared.rows.ImageRow.{ImageRow as Image};
 ghost use Rattle.rd_store.specs.Held.{Asks, HoldsDesk, desk};
-ghost use Rattle.rd_store.specs.Last.{IsAmong, IsOnlyAskedFor, IsKept, IsLastOf};
+ghost use Rattle.rd_store.specs.Last.{IsAmong, IsKept, IsLastOf, IsOnlyAskedFor};
 
 use crate::faults::StoreFault;
 use crate::images::image;

@@ -175,6 +175,7 @@ impl<S: Alter> Store<S> {
     pub fn deed(&mut self, num: u32) -> Result<Option<DeedRow>, StoreFault>
         ensures reads { Reads S.Store self.old self.new result (λ found.
             found ≡ get (desk S.Store self.old).deeds num) }
+        ensures fault { IfErr result (λ fault. fault ≡ StoreFault.Sql) }
     {
         deeds::deed(&mut self.conn, num)
     }
@@ -185,6 +186,7 @@ impl<S: Alter> Store<S> {
     pub fn image(&mut self, alloc: Global, acc: u32) -> Result<Option<ImageRow>, StoreFault>
         ensures reads { Reads S.Store self.old self.new result (λ found.
             found ≡ get (desk S.Store self.old).images acc) }
+        ensures fault { IfErr result (λ fault. fault ≡ StoreFault.Sql) }
     {
         images::image(alloc, &mut self.conn, acc)
     }
@@ -198,6 +200,7 @@ impl<S: Alter> Store<S> {
     pub fn image_again(&mut self, alloc: Global, acc: u32) -> Result<Option<ImageRow>, StoreFault>
         ensures reads { Reads S.Store self.old self.new result (λ found.
             found ≡ get (desk S.Store self.old).images acc) }
+        ensures fault { IfErr result (λ fault. fault ≡ StoreFault.Sql) }
     {
         image_again(alloc, &mut self.conn, &mut self.last, acc)
     }
@@ -209,6 +212,7 @@ impl<S: Alter> Store<S> {
     pub fn accession(&mut self, acc: u32) -> Result<Option<Accession>, StoreFault>
         ensures reads { Reads S.Store self.old self.new result (λ found.
             found ≡ option_map accession_of (get (desk S.Store self.old).images acc)) }
+        ensures fault { IfErr result (λ fault. fault ≡ StoreFault.Sql) }
     {
         images::accession(&mut self.conn, &self.register, acc)
     }
@@ -220,6 +224,7 @@ impl<S: Alter> Store<S> {
     pub fn found(&mut self, alloc: Global, acc: u32) -> Result<Vec<Found>, StoreFault>
         ensures reads { Reads S.Store self.old self.new result (λ files.
             AreFilesIn (get (desk S.Store self.old).images acc) files.items) }
+        ensures fault { IfErr result (λ fault. fault ≡ StoreFault.Sql) }
     {
         files::found(alloc, &mut self.conn, acc)
     }
@@ -236,6 +241,7 @@ impl<S: Alter> Store<S> {
         slot: u16,
     ) -> Result<Option<Found>, StoreFault>
         ensures reads { Reads S.Store self.old self.new result (IsFileIn (get (desk S.Store self.old).images acc) slot) }
+        ensures fault { IfErr result (λ fault. fault ≡ StoreFault.Sql) }
     {
         files::found_at(alloc, &mut self.conn, acc, slot)
     }
@@ -246,6 +252,7 @@ impl<S: Alter> Store<S> {
     pub fn accessions(&mut self, alloc: Global) -> Result<Vec<u32>, StoreFault>
         ensures reads { Reads S.Store self.old self.new result (λ numbers.
             numbers.items ≡ keys (desk S.Store self.old).images) }
+        ensures fault { IfErr result (λ fault. fault ≡ StoreFault.Sql) }
     {
         images::accessions(alloc, &mut self.conn, &self.register)
     }
@@ -257,6 +264,7 @@ impl<S: Alter> Store<S> {
     pub fn register(&mut self, alloc: Global) -> Result<Vec<(u32, Accession)>, StoreFault>
         ensures reads { Reads S.Store self.old self.new result (λ register.
             register.items ≡ map registered (entries (desk S.Store self.old).images)) }
+        ensures fault { IfErr result (λ fault. fault ≡ StoreFault.Sql) }
     {
         images::givens(alloc, &mut self.conn, &self.register)
     }
@@ -273,6 +281,7 @@ impl<S: Alter> Store<S> {
     ) -> Result<Vec<Indexed>, StoreFault>
         ensures reads { Reads S.Store self.old self.new result (λ batch.
             AllZip IsIndexed (take most (drop from (entries (desk S.Store self.old).images))) batch.items) }
+        ensures fault { IfErr result (λ fault. fault ≡ StoreFault.Sql) }
     {
         batches::batch(alloc, &mut self.conn, &self.register, from, most)
     }
@@ -283,6 +292,7 @@ impl<S: Alter> Store<S> {
     pub fn audience_of(&mut self, digest: &[u8; 32]) -> Result<Option<Audience>, StoreFault>
         ensures reads { Reads S.Store self.old self.new result (λ found.
             found ≡ get (desk S.Store self.old).keys digest.now) }
+        ensures fault { IfErr result (λ fault. fault ≡ StoreFault.Sql) }
     {
         keys::audience_of(&mut self.conn, digest)
     }
@@ -410,6 +420,7 @@ impl<S: Alter> Store<S> {
     pub fn rules_for(&mut self, alloc: Global, acc: u32) -> Result<Vec<Rule>, StoreFault>
         ensures reads { Reads S.Store self.old self.new result (λ rules.
             rules.items ≡ rules_for (desk S.Store self.old) acc) }
+        ensures fault { IfErr result (λ fault. fault ≡ StoreFault.Sql) }
         ensures order { IsOpen S.Store self.new → IfOk result (λ rules. AreInOrder rules.items) }
     {
         rules::rules_for(alloc, &mut self.conn, &self.register, acc)
@@ -428,6 +439,7 @@ impl<S: Alter> Store<S> {
     ) -> Result<Vec<Rule>, StoreFault>
         ensures reads { Reads S.Store self.old self.new result (λ rules.
             rules.items ≡ rules_at (desk S.Store self.old) Band.Takedown acc ++ rules_at (desk S.Store self.old) Band.Deed deed) }
+        ensures fault { IfErr result (λ fault. fault ≡ StoreFault.Sql) }
         ensures order { IsOpen S.Store self.new → IfOk result (λ rules. AreInOrder rules.items) }
     {
         rules::rules_of_both(alloc, &mut self.conn, acc, deed)
@@ -439,6 +451,7 @@ impl<S: Alter> Store<S> {
     pub fn rulebook(&mut self, alloc: Global) -> Result<Rulebook, StoreFault>
         ensures reads { Reads S.Store self.old self.new result (λ rules.
             rules ≡ all_rules (desk S.Store self.old)) }
+        ensures fault { IfErr result (λ fault. fault ≡ StoreFault.Sql) }
     {
         rules::all_rules(alloc, &mut self.conn)
     }

@@ -71,8 +71,8 @@ fn next_rows<S: Alter>(conn: &mut Connection<S>, after: Option<u32>) -> Result<V
 
 /// The rows of the next seven images after an accession, or of the first seven; none after the last. A row with a higher
 /// accession shows that no other row has the accession of the one before it. So the eighth shows it of the seventh, and
-/// is read again with those that follow. Where fewer than eight come, no row follows the
-/// last of them, so it is alone too, and all of them are given.
+/// is read again with those that follow. Where fewer than eight come, no row follows the last of them, so it is alone
+/// too, and all of them are given.
 fn next_images<S: Alter>(
     conn: &mut Connection<S>,
     after: Option<u32>,

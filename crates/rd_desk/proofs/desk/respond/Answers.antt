@@ -3,7 +3,7 @@ use Rattle.std.proofs.lemmas.Int.{to_z-of_z}
 use Rattle.rd_policy.specs.declared.audience.Audience.TheVariants.{Staff}
 use Rattle.rd_desk.specs.Calls.{Responds}
 use Rattle.rd_desk.proofs.OneChange.{reads_alone, reads_first}
-use Rattle.rd_desk.proofs.Responding.{carries_respond, keeps_respond, known_still, looks_respond, still_open}
+use Rattle.rd_desk.proofs.Responding.{carries_respond, keeps_respond, known_still, reads_respond, still_open}
 use Rattle.rd_desk.proofs.desk.respond.Goals as goal
 
 pub returns-then-not-is_for_staff-clause-responds : goal.returns-then-not-is_for_staff-clause-responds
@@ -15,7 +15,7 @@ returns-then-not-is_for_staff-clause-responds g c =
     subst (λ day. Responds g.S.Store old c.query.new.store day c.args.request.now c.query.result) (to_z-of_z w32 c.args.day c.ranges.day)
     (keeps_respond g.S.Store _ c.args.request.now c.query.result old found c.query.new.store c.audience.ensures.keeps
     (still_open g.S.Store old found badge c.in_ok-audience.ensures.ends_open (λ none. (c.audience.ensures.untouched none).1))
-    (looks_respond g.S.Store _ c.args.request.now c.query.result found c.query.new.store c.in-Some.audience known c.query.ensures))
+    (reads_respond g.S.Store _ c.args.request.now c.query.result found c.query.new.store c.in-Some.audience known c.query.ensures))
 
 pub returns-clause-responds : goal.returns-clause-responds
 returns-clause-responds g c =

@@ -10,11 +10,11 @@ use Rattle.rd_desk.proofs.overviews.catalogue.Goals as goal
 
 pub listings-requires-clause-rules : goal.listings-requires-clause-rules
 listings-requires-clause-rules g c = λ o.
-    let read = c.count.ensures.looks.keeps.lasts.was_open o in
-    c.in_ok-rules.ensures.reads.answer read ∙ ap all_rules (sym (c.count.ensures.looks.keeps.same o ∙ c.rulebook.ensures.reads.same read))
+    let read = c.count.ensures.reads.keeps.lasts.was_open o in
+    c.in_ok-rules.ensures.reads.answer read ∙ ap all_rules (sym (c.count.ensures.reads.keeps.same o ∙ c.rulebook.ensures.reads.keeps.same read))
 
 pub listings-requires-clause-count : goal.listings-requires-clause-count
-listings-requires-clause-count g c = λ o. c.in_ok-accessions.ensures.looks.answer o ∙ ap (λ (e : Desk). length (keys e.images)) (sym (c.count.ensures.looks.keeps.same o))
+listings-requires-clause-count g c = λ o. c.in_ok-accessions.ensures.reads.answer o ∙ ap (λ (e : Desk). length (keys e.images)) (sym (c.count.ensures.reads.keeps.same o))
 
 pub returns : goal.returns
 returns g c = record {
@@ -24,8 +24,8 @@ returns g c = record {
       let audience = c.args.caller.now.audience in
       let day = c.args.caller.now.day in
       let counted = c.listings.ensures.keeps.lasts.was_open o in
-      let read = c.count.ensures.looks.keeps.lasts.was_open counted in
-      let same = c.count.ensures.looks.keeps.same counted ∙ c.rulebook.ensures.reads.same read in
+      let read = c.count.ensures.reads.keeps.lasts.was_open counted in
+      let same = c.count.ensures.reads.keeps.same counted ∙ c.rulebook.ensures.reads.keeps.same read in
       let listings = c.in_ok-listings.field-0 in
       let each = subst (λ (e : Desk). AllZip (IsListing e audience day) (keys e.images) listings) same (c.in_ok-listings.ensures.answer o) in
       record {

@@ -1,6 +1,5 @@
 use Rattle.std.proofs.Common.{◌*◌}
-use Rattle.rd_store.specs.Held.{IsClean, IsOpen, desk}
-use Rattle.rd_desk.specs.Calls.{Keeps}
+use Rattle.rd_store.specs.Held.{IsClean, IsOpen, Keeps, desk}
 use Rattle.rd_protocol.specs.Queries.{AreLinesOfEach}
 use Rattle.rd_desk.proofs.Batching.{accs_before}
 use Rattle.rd_desk.proofs.overviews.image_lines.Given as goal

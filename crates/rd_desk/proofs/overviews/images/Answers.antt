@@ -9,11 +9,11 @@ use Rattle.rd_desk.proofs.overviews.images.Goals as goal
 
 pub image_lines-requires-clause-rules : goal.image_lines-requires-clause-rules
 image_lines-requires-clause-rules g c = λ o.
-    let read = c.count.ensures.looks.keeps.lasts.was_open o in
-    c.in_ok-rules.ensures.reads.answer read ∙ ap all_rules (sym (c.count.ensures.looks.keeps.same o ∙ c.rulebook.ensures.reads.same read))
+    let read = c.count.ensures.reads.keeps.lasts.was_open o in
+    c.in_ok-rules.ensures.reads.answer read ∙ ap all_rules (sym (c.count.ensures.reads.keeps.same o ∙ c.rulebook.ensures.reads.keeps.same read))
 
 pub image_lines-requires-clause-count : goal.image_lines-requires-clause-count
-image_lines-requires-clause-count g c = λ o. c.in_ok-accessions.ensures.looks.answer o ∙ ap (λ (e : Desk). length (keys e.images)) (sym (c.count.ensures.looks.keeps.same o))
+image_lines-requires-clause-count g c = λ o. c.in_ok-accessions.ensures.reads.answer o ∙ ap (λ (e : Desk). length (keys e.images)) (sym (c.count.ensures.reads.keeps.same o))
 
 pub returns : goal.returns
 returns g c = record {
@@ -23,8 +23,8 @@ returns g c = record {
       let audience = c.args.caller.now.audience in
       let day = c.args.caller.now.day in
       let counted = c.image_lines.ensures.keeps.lasts.was_open o in
-      let read = c.count.ensures.looks.keeps.lasts.was_open counted in
-      let same = c.count.ensures.looks.keeps.same counted ∙ c.rulebook.ensures.reads.same read in
+      let read = c.count.ensures.reads.keeps.lasts.was_open counted in
+      let same = c.count.ensures.reads.keeps.same counted ∙ c.rulebook.ensures.reads.keeps.same read in
       let lines = c.in_ok-image_lines.field-0 in
       let each = subst (λ (e : Desk). AreLinesOfEach e audience day (keys e.images) lines) same (c.in_ok-image_lines.ensures.answer o) in
       record {

@@ -5,7 +5,7 @@ use Rattle.rd_store.specs.Batched.{IsIndexed}
 use Rattle.rd_store.specs.Held.{desk}
 use Rattle.rd_protocol.specs.Replies.{IsListing}
 use Rattle.rd_desk.proofs.Batching.{accs_before, batch_next, batch_stands, batches_end}
-use Rattle.rd_desk.proofs.Responding.{keeps_then, reads_keep}
+use Rattle.rd_desk.proofs.Responding.{keeps_then}
 use Rattle.rd_desk.proofs.overviews.listings.Goals as goal
 
 pub loop-at-init : goal.loop-at-init
@@ -13,10 +13,10 @@ loop-at-init g c = record { keeps = search rules; awake = search rules; told = �
 
 pub loop-at-preserved : goal.loop-at-preserved
 loop-at-preserved g c = record {
-  keeps = keeps_then g.S.Store c.args.store.now c.loop-at.store c.batch.new.self c.loop-at.invariant.keeps (λ was clean. c.loop-at.invariant.awake clean) (reads_keep c.batch.ensures.reads);
+  keeps = keeps_then g.S.Store c.args.store.now c.loop-at.store c.batch.new.self c.loop-at.invariant.keeps (λ was clean. c.loop-at.invariant.awake clean) c.batch.ensures.reads.keeps;
   awake = λ clean. c.in_ok-batch.ensures.reads.ends_open clean;
   told = λ o.
-      let was = c.batch.ensures.reads.lasts.was_open o in
+      let was = c.batch.ensures.reads.keeps.lasts.was_open o in
       let first = c.loop-at.invariant.keeps.lasts.was_open was in
       let d = desk g.S.Store c.args.store.now in
       let from = 16 * c.loop-at.at in

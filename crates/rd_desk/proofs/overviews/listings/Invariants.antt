@@ -1,7 +1,6 @@
 use Rattle.std.proofs.Common.{◌*◌}
 use Rattle.std.specs.List.{AllZip}
-use Rattle.rd_store.specs.Held.{IsClean, IsOpen, desk}
-use Rattle.rd_desk.specs.Calls.{Keeps}
+use Rattle.rd_store.specs.Held.{IsClean, IsOpen, Keeps, desk}
 use Rattle.rd_protocol.specs.Replies.{IsListing}
 use Rattle.rd_desk.proofs.Batching.{accs_before}
 use Rattle.rd_desk.proofs.overviews.listings.Given as goal

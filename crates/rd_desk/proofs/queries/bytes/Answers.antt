@@ -16,9 +16,9 @@ returns-in_ok-loaded-in-Some g c = record {
       let day = c.args.caller.now.day in
       let loaded = c.in_ok-loaded-in-Some.loaded in
       let held_open = c.read.ensures.keeps.lasts.was_open o in
-      let found_open = c.load_rules.ensures.looks.keeps.lasts.was_open held_open in
-      let same = c.load_rules.ensures.looks.keeps.same held_open ∙ c.accession.ensures.reads.same found_open in
-      let held = subst (λ (e : Desk). AreAccessionRules e c.args.acc loaded) (c.accession.ensures.reads.same found_open) (c.in_ok-loaded-in-Some.ensures.looks.answer held_open) in
+      let found_open = c.load_rules.ensures.reads.keeps.lasts.was_open held_open in
+      let same = c.load_rules.ensures.reads.keeps.same held_open ∙ c.accession.ensures.reads.keeps.same found_open in
+      let held = subst (λ (e : Desk). AreAccessionRules e c.args.acc loaded) (c.accession.ensures.reads.keeps.same found_open) (c.in_ok-loaded-in-Some.ensures.reads.answer held_open) in
       let standing : Standing = record { image = held.0; rules = loaded.rules } in
       if_ok c.read.result _ _
       (λ said is badge known. read_answered d day badge audience c.args.acc c.args.slot standing known held.1 held.4 said (is held.0 (subst (λ (e : Desk). get e.images c.args.acc ≡ Some held.0) (sym same) held.1) held.2))

@@ -14,7 +14,7 @@ returns g c = record {
       let day = c.args.caller.now.day in
       let files = c.in_ok-files.files in
       if_ok c.listed.result (AreLinesOf c.as_slice.result.now audience day files) _
-      (λ lines of image standing. lines_are image rules_are audience day files lines c.requires.order (subst (λ i. AreFilesIn i files) standing (c.in_ok-files.ensures.looks.answer o)) (subst (λ r. AreLinesOf r audience day files lines) c.as_slice.ensures of))
+      (λ lines of image standing. lines_are image rules_are audience day files lines c.requires.order (subst (λ i. AreFilesIn i files) standing (c.in_ok-files.ensures.reads.answer o)) (subst (λ r. AreLinesOf r audience day files lines) c.as_slice.ensures of))
       c.listed.ensures;
   ends_open = search rules;
 }
