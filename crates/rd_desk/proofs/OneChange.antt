@@ -4,7 +4,7 @@ use Rattle.std.specs.Prelude.{⊤}
 use Rattle.std.specs.FinMap.{get}
 use Rattle.sqlite.specs.Store.{Ghosts}
 use Rattle.sqlite.specs.Held.{Held}
-use Rattle.rd_store.specs.Held.{Changes, IsClean, IsLeft, IsOpen, Keeps, Rests, desk}
+use Rattle.rd_store.specs.Held.{Changes, IsAtRest, IsClean, IsLeft, IsOpen, Keeps, desk}
 use Rattle.rd_protocol.specs.State.{Desk, with_check}
 use Rattle.rd_store.specs.declared.faults.StoreFault.{StoreFault}
 use Rattle.rd_protocol.specs.declared.rows.ImageRow.{ImageRow}
@@ -28,7 +28,7 @@ module _ {S : Type 0} (g : Ghosts S) (day : ℤ) (what : What) (Returned : Resul
   reads_alone a b keeps = record { middle = b; reads = keeps; last = inl refl }
 
   -- no call at all
-  pub no_call : (a : Held S) → Rests g a → MakesOneChange g a a day what Returned
+  pub no_call : (a : Held S) → IsAtRest g a → MakesOneChange g a a day what Returned
   no_call a rests = reads_alone a a (keeps_still g a rests)
 
   -- calls that read, and then one that changes the desk
@@ -36,7 +36,7 @@ module _ {S : Type 0} (g : Ghosts S) (day : ℤ) (what : What) (Returned : Resul
   change_last a b c keeps may change = record { middle = b; reads = keeps; last = inr (may, change) }
 
   -- one that changes the desk
-  pub change_alone : (a b : Held S) → Rests g a → MayChange what → IsOneChange g a b day what Returned → MakesOneChange g a b day what Returned
+  pub change_alone : (a b : Held S) → IsAtRest g a → MayChange what → IsOneChange g a b day what Returned → MakesOneChange g a b day what Returned
   change_alone a b rests may change = change_last a a b (keeps_still g a rests) may change
 
   -- more calls that read, before all others

@@ -5,7 +5,7 @@ use Rattle.sqlite.specs.Tree.{Trees}
 use Rattle.sqlite.specs.Held.{Held}
 use Rattle.rd_policy.specs.declared.audience.Audience.{Audience}
 use Rattle.rd_policy.specs.declared.audience.Audience.TheVariants.{Staff}
-use Rattle.rd_store.specs.Held.{IsClean, IsLeft, IsOpen, Keeps, LeavesOnly, Reads, Rests, desk}
+use Rattle.rd_store.specs.Held.{IsAtRest, IsClean, IsLeft, IsOpen, Keeps, LeavesOnly, Reads, desk}
 use Rattle.rd_protocol.specs.Lawful.{IsLawful}
 use Rattle.rd_protocol.specs.State.{Desk}
 use Rattle.rd_store.proofs.Laws.{lasts_still, lasts_then}
@@ -58,7 +58,7 @@ left_step old day request left command staff lawful (inr (digest, after)) = elim
 
 module _ {S : Type 0} (g : Ghosts S) where
   -- a call that is not made
-  pub keeps_still : (h : Held S) → Rests g h → Keeps g h h
+  pub keeps_still : (h : Held S) → IsAtRest g h → Keeps g h h
   keeps_still h rests = record { lasts = lasts_still g h; same = λ o. refl; crash = λ was clean. rests.leaves was; durable = rests.leaves }
 
   -- one reading call after another
@@ -99,7 +99,7 @@ module _ {S : Type 0} (g : Ghosts S) where
     }
 
     -- what was done for the staff, as a request
-    pub carries_respond : (a b : Held S) → IsForStaff request.what → (IsOpen g a → audience_of (desk g a) request.badge ≡ Some Staff) → Rests g a
+    pub carries_respond : (a b : Held S) → IsForStaff request.what → (IsOpen g a → audience_of (desk g a) request.badge ≡ Some Staff) → IsAtRest g a
         → Carries g a b day request.what result → Responds g a b day request result
     carries_respond a b command staff rests carries = record {
       lasts = carries.lasts;

@@ -3,7 +3,7 @@ use Rattle.std.proofs.Common.{◌≡◌, ◌≢◌, ◌⊎◌, inl, inr, ◌∙�
 use Rattle.sqlite.specs.Store.{Ghosts}
 use Rattle.sqlite.specs.Held.{Held}
 use Rattle.rd_policy.specs.declared.audience.Audience.{Audience}
-use Rattle.rd_store.specs.Held.{IsOpen, LeavesOpen, Rests, desk}
+use Rattle.rd_store.specs.Held.{IsAtRest, IsOpen, LeavesOpen, desk}
 use Rattle.rd_protocol.specs.State.{Desk}
 use Rattle.rd_desk.specs.Calls.{IsOfChange, IsResponse, IsSaidOf, IsWritten, MakesOneChange, Responds}
 use Rattle.rd_protocol.specs.Judged.{JudgedFile, audience_of}
@@ -71,7 +71,7 @@ module _ {S : Type 0} (g : Ghosts S) (old new : Held S) (day : ℤ) (request : R
       go (inl is) = is
       go (inr none) = absurd (told none.0)
 
-  pub serves : {X : Type 0} (result : Result Said X) → Responds g old new day request result → Rests g new → IsWritten result reply
+  pub serves : {X : Type 0} (result : Result Said X) → Responds g old new day request result → IsAtRest g new → IsWritten result reply
       → MakesOneChange g old new day request.what (λ told. IsSaidOf told result)
       → LeavesOpen g new result ⊎ ((request.badge ≡ None) × IsForStaff request.what × (result ≡ Ok (said.Refused StaffOnly)) × (new ≡ old))
       → Serves g old new day request reply

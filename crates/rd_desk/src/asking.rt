@@ -62,7 +62,7 @@ pub(crate) fn audience<S: Alter>(
     match badge {
         Some(digest) => Ok(store.audience_of(digest)?),
         None => {
-            store.rests();
+            store.at_rest();
             Ok(Some(Audience::Public))
         }
     }

@@ -142,7 +142,7 @@ fn put_image<S: Alter>(
     ensures carries { (day : ℤ) → Carries S.Store store.old store.new day (What.PutImage acc kind deed digest.now bytes.now) result }
     ensures one_change { (day : ℤ) → MakesOneChange S.Store store.old store.new day (What.PutImage acc kind deed digest.now bytes.now) (λ told. IsSaidOf told result) }
 {
-    store.rests();
+    store.at_rest();
     if bytes.as_slice().len() != kind.size() {
         if has_deed(store, deed)? {
             return Ok(Said::Refused(Refusal::WrongSize));
@@ -192,7 +192,7 @@ pub(crate) fn command<S: Alter>(
     ensures carries { Carries S.Store store.old store.new day what.now result }
     ensures one_change { MakesOneChange S.Store store.old store.new day what.now (λ told. IsSaidOf told result) }
 {
-    store.rests();
+    store.at_rest();
     match what {
         What::Survey(acc) => survey(store, alloc, *acc),
         What::Check(acc) => check(store, alloc, day, *acc),

@@ -41,7 +41,7 @@ fn respond<S: Alter>(
     if !request.what.is_for_staff() {
         return query(store, alloc, &caller, &request.what);
     }
-    store.rests();
+    store.at_rest();
     if caller.audience != Audience::Staff {
         return Ok(Said::Refused(Refusal::StaffOnly));
     }
@@ -71,7 +71,7 @@ fn reply_on<S: Alter>(store: &mut Store<S>, alloc: Global, day: i32, request: &R
     ensures serves { Serves S.Store store.old store.new day request.now result }
 {
     let said = respond(store, alloc, day, request);
-    store.rests();
+    store.at_rest();
     reply_with(alloc, said)
 }
 

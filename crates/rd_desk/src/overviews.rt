@@ -96,7 +96,7 @@ fn image_lines<S: Alter>(
     ensures { Reads S.Store store.old store.new result (AreLinesOfEach (desk S.Store store.old) caller.now.audience caller.now.day (keys (desk S.Store store.old).images)) }
 {
     let mut lines = Vec::new(alloc);
-    store.rests();
+    store.at_rest();
     for at in 0..accessions / BATCH + 1 {
         let part = store.batch(alloc, BATCH * at, BATCH)?;
         lines = with_lines(alloc, lines, rules, caller, part)?;
@@ -153,7 +153,7 @@ fn listings<S: Alter>(
     ensures { Reads S.Store store.old store.new result (AllZip (IsListing (desk S.Store store.old) caller.now.audience caller.now.day) (keys (desk S.Store store.old).images)) }
 {
     let mut listings = Vec::new(alloc);
-    store.rests();
+    store.at_rest();
     for at in 0..accessions / BATCH + 1 {
         let batch = store.batch(alloc, BATCH * at, BATCH)?;
         listings = with_listings(alloc, listings, rules, caller, batch)?;

@@ -83,7 +83,7 @@ fn said_of<S: Alter>(
         → loaded.now.kind ≡ image.kind → IsFound image.kind image.bytes file
         → IsRead (record { image = image; rules = loaded.now.rules }) caller.now.audience caller.now.day file.slot said) }
 {
-    store.rests();
+    store.at_rest();
     if let Some(refusal) = withheld(loaded, caller, &file) {
         return Ok(Said::Refused(refusal));
     }

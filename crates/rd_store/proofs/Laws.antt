@@ -10,7 +10,7 @@ use Rattle.rd_tables.specs.Schemas.{marks_table}
 use Rattle.rd_protocol.specs.State.{Desk}
 use Rattle.rd_store.specs.Spelled.{desk_of}
 use Rattle.rd_store.specs.Opened.{HoldsMarksIf}
-use Rattle.rd_store.specs.Held.{Holds, IsLeft, HoldsDesk, HoldsTables, HoldsCommonTables, Changes, Lasts, LeavesOnly, LeavesOpen, Rests, Stays, IsOpen, IsClean, desk}
+use Rattle.rd_store.specs.Held.{Holds, IsAtRest, IsLeft, HoldsDesk, HoldsTables, HoldsCommonTables, Changes, Lasts, LeavesOnly, LeavesOpen, Stays, IsOpen, IsClean, desk}
 
 pub record Laws {S : Type 0} (g : Ghosts S) : Type 0 where
   -- while the store is open, a crash leaves the last commit
@@ -30,8 +30,8 @@ module _ {S : Type 0} (g : Ghosts S) (laws : Laws g) where
       let at = holds is_open in
       left_is (desk g h) (state g h).now left at.holds (laws.settles h.store left is_open may ∙ ap (λ (db : Database). db.trees) at.tables.settled)
 
-  pub rests_at : (h : Held S) → HoldsDesk (state g h) → Rests g h
-  rests_at h holds = record {
+  pub is_at_rest : (h : Held S) → HoldsDesk (state g h) → IsAtRest g h
+  is_at_rest h holds = record {
     tables = λ is_open. (holds is_open).tables.schema;
     lawful = λ is_open. (holds is_open).holds.lawful;
     leaves = λ is_open. leaves_only h holds is_open;

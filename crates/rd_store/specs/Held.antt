@@ -121,7 +121,7 @@ LeavesOld g old new = IsOpen g old → IsClean g new → (left : Trees) → g.re
 
 -- A connection at rest. While it is open, its tables are those of a desk, the desk is a lawful one, and a
 -- crash leaves that desk and nothing else.
-pub record Rests {S : Type 0} (g : Ghosts S) (h : Held S) : Type 0 where
+pub record IsAtRest {S : Type 0} (g : Ghosts S) (h : Held S) : Type 0 where
   pub tables : IsOpen g h → (state g h).now.schema ≡ desk_schema
   pub lawful : IsOpen g h → IsLawful (desk g h)
   pub leaves : IsOpen g h → LeavesOnly g h (desk g h)

@@ -9,7 +9,7 @@ ghost use Rattle.rd_policy.specs.Verdicts.{AreInOrder};
 ghost use Rattle.rd_store.specs.Batched.{IsIndexed};
 ghost use Rattle.rd_store.specs.Created.{IsCreated, IsNotCreated};
 ghost use Rattle.sqlite.specs.Steps.{over_memory};
-ghost use Rattle.rd_store.specs.Held.{Changes, HoldsDesk, IsClean, IsOpen, Judges, Reads, Rests, desk};
+ghost use Rattle.rd_store.specs.Held.{Changes, HoldsDesk, IsAtRest, IsClean, IsOpen, Judges, Reads, desk};
 ghost use Rattle.rd_store.specs.Index.{AreFilesIn, IsFileIn};
 ghost use Rattle.rd_store.specs.Migrated.{IsMigrated, IsNotMigrated};
 ghost use Rattle.rd_store.specs.Opened.{IsNotOpened, IsOpened};
@@ -163,8 +163,8 @@ impl<S: Alter> Store<S> {
     /// Does nothing. Its contract says what holds between two calls: while the connection is open,
     /// its tables are those of a desk, the desk is a lawful one, and a crash leaves that desk and
     /// nothing else.
-    pub fn rests(&self)
-        ensures { Rests S.Store self.now }
+    pub fn at_rest(&self)
+        ensures { IsAtRest S.Store self.now }
     {
         let _ = &self.conn;
     }

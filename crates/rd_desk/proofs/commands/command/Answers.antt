@@ -65,27 +65,27 @@ pub returns-in-PutDeed-clause-one_change : goal.returns-in-PutDeed-clause-one_ch
 returns-in-PutDeed-clause-one_change g c =
     let fits : FitsSigned w32 c.in-PutDeed.signed = search rules in
     subst (λ what. MakesOneChange g.S.Store c.args.store.now c.put_deed.new.store c.args.day what (λ told. IsSaidOf told c.put_deed.result)) (ap (PutDeed c.in-PutDeed.num c.in-PutDeed.donor) (to_z-of_z w32 c.in-PutDeed.signed fits) ∙ sym c.in-PutDeed.is)
-    (change_alone g.S.Store c.args.day _ _ c.args.store.now c.put_deed.new.store c.rests.ensures tt (c.put_deed.ensures.change c.args.day))
+    (change_alone g.S.Store c.args.day _ _ c.args.store.now c.put_deed.new.store c.at_rest.ensures tt (c.put_deed.ensures.change c.args.day))
 
 pub returns-in-PutRule-clause-one_change : goal.returns-in-PutRule-clause-one_change
 returns-in-PutRule-clause-one_change g c =
     subst (λ what. MakesOneChange g.S.Store c.args.store.now c.put_rule.new.store c.args.day what (λ told. IsSaidOf told c.put_rule.result)) (sym c.in-PutRule.is)
-    (change_alone g.S.Store c.args.day _ _ c.args.store.now c.put_rule.new.store c.rests.ensures tt (c.put_rule.ensures.change c.args.day))
+    (change_alone g.S.Store c.args.day _ _ c.args.store.now c.put_rule.new.store c.at_rest.ensures tt (c.put_rule.ensures.change c.args.day))
 
 pub returns-in-DropRule-clause-one_change : goal.returns-in-DropRule-clause-one_change
 returns-in-DropRule-clause-one_change g c =
     subst (λ what. MakesOneChange g.S.Store c.args.store.now c.drop_rule.new.store c.args.day what (λ told. IsSaidOf told c.drop_rule.result)) (sym c.in-DropRule.is)
-    (change_alone g.S.Store c.args.day _ _ c.args.store.now c.drop_rule.new.store c.rests.ensures tt (c.drop_rule.ensures.change c.args.day))
+    (change_alone g.S.Store c.args.day _ _ c.args.store.now c.drop_rule.new.store c.at_rest.ensures tt (c.drop_rule.ensures.change c.args.day))
 
 pub returns-in-PutKey-clause-one_change : goal.returns-in-PutKey-clause-one_change
 returns-in-PutKey-clause-one_change g c =
     subst (λ what. MakesOneChange g.S.Store c.args.store.now c.put_key.new.store c.args.day what (λ told. IsSaidOf told c.put_key.result)) (sym c.in-PutKey.is)
-    (change_alone g.S.Store c.args.day _ _ c.args.store.now c.put_key.new.store c.rests.ensures tt (c.put_key.ensures.change c.args.day))
+    (change_alone g.S.Store c.args.day _ _ c.args.store.now c.put_key.new.store c.at_rest.ensures tt (c.put_key.ensures.change c.args.day))
 
 pub returns-in-DropKey-clause-one_change : goal.returns-in-DropKey-clause-one_change
 returns-in-DropKey-clause-one_change g c =
     subst (λ what. MakesOneChange g.S.Store c.args.store.now c.drop_key.new.store c.args.day what (λ told. IsSaidOf told c.drop_key.result)) (sym c.in-DropKey.is)
-    (change_alone g.S.Store c.args.day _ _ c.args.store.now c.drop_key.new.store c.rests.ensures tt (c.drop_key.ensures.change c.args.day))
+    (change_alone g.S.Store c.args.day _ _ c.args.store.now c.drop_key.new.store c.at_rest.ensures tt (c.drop_key.ensures.change c.args.day))
 
 pub returns-in-Unread-clause-one_change : goal.returns-in-Unread-clause-one_change
-returns-in-Unread-clause-one_change g c = no_call g.S.Store c.args.day _ _ c.args.store.now c.rests.ensures
+returns-in-Unread-clause-one_change g c = no_call g.S.Store c.args.day _ _ c.args.store.now c.at_rest.ensures

@@ -8,6 +8,6 @@ pub returns : goal.returns
 returns g c = record {
   serves = subst (λ day. Serves g.S.Store c.args.store.now c.respond-said.new.store day c.args.request.now c.reply_with.result) (to_z-of_z w32 c.args.day c.ranges.day)
       (serves g.S.Store c.args.store.now c.respond-said.new.store _ c.args.request.now c.reply_with.result c.respond-said.result
-      c.respond-said.ensures.responds c.rests.ensures c.reply_with.ensures c.respond-said.ensures.one_change
+      c.respond-said.ensures.responds c.at_rest.ensures c.reply_with.ensures c.respond-said.ensures.one_change
       (ending g.S.Store c.args.store.now c.respond-said.new.store c.args.request.now c.respond-said.result c.respond-said.ensures.ends_open c.respond-said.ensures.turned_away));
 }
