@@ -105,7 +105,7 @@ RECORD_DISK = record_disk()
 MARKED_DISK = marked_disk(PROGRAM_DISK)
 LONG_PROGRAM, LONG_FILE = pattern(254 * len(FILE_BLOCKS)), pattern(128 * 1928)
 
-# What the SHA-256 of the same images is in rd_http_tests, and of the image that rd_main is run on.
+# What the SHA-256 of the same images is in rd_tests, and of the image that rd_main is run on.
 SAMPLES = [
     ("a program", PROGRAM_DISK, "ee352834e06f2b572e65490eb845939724cc38542aed18acdf81eded76912afb"),
     ("a loop", LOOP_DISK, "29bd47500627f934d50bff9380a0fc11913e6155e446d32ea79b7ecc5f7a6c17"),

@@ -2,10 +2,10 @@
 # Makes a desk in a file by the store's test, reads it with the sqlite3 shell, and has the store open it
 # again after VACUUM, and after ANALYZE, whose tables it refuses until they are dropped. Then tables, views
 # and triggers named desk: what the store answers where it is to open them, and to make a desk beside them.
-# You need the shell sqlite3, and `rt test` in crates/rd_store_tests, or the store's built tests as an argument.
+# You need the shell sqlite3, and `rt test` in crates/rd_tests, or the built tests of that crate as an argument.
 set -u
 cd "$(dirname "$0")/.." || exit 1
-tests=${1:-crates/rd_store_tests/out/rd_store_tests_tests}
+tests=${1:-crates/rd_tests/out/rd_tests_tests}
 work=$(mktemp -d) || exit 1
 trap 'rm -rf "$work"' EXIT
 file=$work/desk-0.sqlite
@@ -35,11 +35,11 @@ passes() {
 }
 
 make_file() {
-    TMPDIR=$work KEEP_DESK=1 passes tests::files::a_desk_in_a_file_opens_again && [ -s "$file" ]
+    TMPDIR=$work KEEP_DESK=1 passes tests::store::files::a_desk_in_a_file_opens_again && [ -s "$file" ]
 }
 
 opens() {
-    DESK_FILE=$file passes tests::files::opens_a_file_again
+    DESK_FILE=$file passes tests::store::files::opens_a_file_again
 }
 
 # the store has to refuse to open the file with this fault
@@ -54,7 +54,7 @@ makes_none() {
 
 # the test of this name fails on the file with this fault
 fails_with() {
-    if DESK_FILE=$file "$tests" "tests::files::$1" >"$work/test" 2>&1; then
+    if DESK_FILE=$file "$tests" "tests::store::files::$1" >"$work/test" 2>&1; then
         echo "it is not refused"
         return 1
     fi

@@ -1,0 +1,5 @@
+//! The tests of the store, of the desk and of the reading room over HTTP, on their public calls alone.
+#![tactic(auto)]
+
+#[cfg(test)]
+mod tests;

@@ -1,0 +1,10 @@
+mod bodies;
+mod cases;
+mod checks;
+mod images;
+mod limits;
+mod refused;
+mod requests;
+mod rows;
+mod state;
+mod texts;

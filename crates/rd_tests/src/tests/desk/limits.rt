@@ -1,0 +1,201 @@
+//! Which requests are within their limits, and which moments have days.
+
+use super::images::{NewImage, PROGRAM_12, Picture};
+use super::requests::{Ask, Files, NewRule, digest_of, digest_of_picture, request_of};
+use super::state::{CLOSED, OPEN, OPENING, TAKEDOWN};
+use crate::tests::desks::{AFTER, BEFORE, CENTRAL, new_store};
+use crate::tests::keys::{PROGRAM_DIGEST, PUBLIC, ROOM_DIGEST, STAFF_DIGEST};
+use rd_desk::{Desk, Request, What};
+use rd_geometry::{NoMemory, Text};
+use rd_policy::{Audience, Audiences, Band, DayFault, Effect, Zone};
+use sqlite::MemStore;
+use std::alloc::Global;
+use std::process::Abort;
+use std::test::Fail;
+
+const NOBODY_AT_ALL: Audiences = Audiences {
+    public: false,
+    room: false,
+    staff: false,
+};
+
+const SIXTEEN: &str = "ABCDEFGHIJKLMNOP";
+
+const SEVENTEEN: &str = "ABCDEFGHIJKLMNOPQ";
+
+const SIXTY_FOUR: &str = "ABCDEFGHIJKLMNOPABCDEFGHIJKLMNOPABCDEFGHIJKLMNOPABCDEFGHIJKLMNOP";
+
+const SIXTY_FIVE: &str = "ABCDEFGHIJKLMNOPABCDEFGHIJKLMNOPABCDEFGHIJKLMNOPABCDEFGHIJKLMNOPQ";
+
+/// What is asked, and whether its values are within their limits.
+type Limit = (&'static str, Ask, bool);
+
+const QUESTIONS: &[Limit] = table![
+    ("images", Ask::Images, true);
+    ("listing of 0", Ask::Listing(0), false);
+    ("listing of 1", Ask::Listing(1), true);
+    ("listing of 999,999", Ask::Listing(999_999), true);
+    ("listing of 1,000,000", Ask::Listing(1_000_000), false);
+    ("bytes of 0", Ask::Bytes(0, 0), false);
+    ("bytes of 1,000,000", Ask::Bytes(1_000_000, 0), false);
+    ("slot 9,999", Ask::Bytes(999_999, 9_999), true);
+    ("slot 10,000", Ask::Bytes(12, 10_000), false);
+    ("catalogue", Ask::Catalogue, true);
+    ("survey of 0", Ask::Survey(0), false);
+    ("survey of 1", Ask::Survey(1), true);
+    ("survey of 999,999", Ask::Survey(999_999), true);
+    ("survey of 1,000,000", Ask::Survey(1_000_000), false);
+    ("check of 0", Ask::Check(0), false);
+    ("check of 1", Ask::Check(1), true);
+    ("check of 999,999", Ask::Check(999_999), true);
+    ("check of 1,000,000", Ask::Check(1_000_000), false);
+    ("unread", Ask::Unread, true);
+];
+
+const COMMANDS: &[Limit] = table![
+    ("image", Ask::PutImage(PROGRAM_12), true);
+    ("image of another size", Ask::PutImage(like!(NewImage, PROGRAM_12, bytes: Picture::Cut)), true);
+    ("image 0", Ask::PutImage(like!(NewImage, PROGRAM_12, acc: 0)), false);
+    ("image 1,000,000", Ask::PutImage(like!(NewImage, PROGRAM_12, acc: 1_000_000)), false);
+    ("image under deed 0", Ask::PutImage(like!(NewImage, PROGRAM_12, deed: 0)), false);
+    ("image under deed 1,000,000", Ask::PutImage(like!(NewImage, PROGRAM_12, deed: 1_000_000)), false);
+    ("deed 8", Ask::PutDeed(8, "B. Donor", 18_321), true);
+    ("deed 0", Ask::PutDeed(0, "B. Donor", 18_321), false);
+    ("deed 1,000,000", Ask::PutDeed(1_000_000, "B. Donor", 18_321), false);
+    ("no donor", Ask::PutDeed(8, "", 18_321), false);
+    ("donor of two lines", Ask::PutDeed(8, "B.\nDonor", 18_321), false);
+    ("donor with a DEL", Ask::PutDeed(8, "B.\u{7f}\u{dc}", 18_321), true);
+    ("signed on the first day", Ask::PutDeed(8, "B. Donor", -719_162), true);
+    ("signed on the day before", Ask::PutDeed(8, "B. Donor", -719_163), false);
+    ("signed on the last day", Ask::PutDeed(8, "B. Donor", 2_932_896), true);
+    ("signed on the day after", Ask::PutDeed(8, "B. Donor", 2_932_897), false);
+    ("rank 9,999 dropped", Ask::DropRule(Band::Deed, 999_999, 9_999), true);
+    ("rank 0 dropped", Ask::DropRule(Band::Deed, 7, 0), false);
+    ("rank 10,000 dropped", Ask::DropRule(Band::Takedown, 12, 10_000), false);
+    ("rule of deed 0 dropped", Ask::DropRule(Band::Deed, 0, 1), false);
+    ("takedown of 1,000,000 dropped", Ask::DropRule(Band::Takedown, 1_000_000, 1), false);
+    ("key of the room", Ask::PutKey("hello", Audience::Room), true);
+    ("key of the staff", Ask::PutKey("hello", Audience::Staff), true);
+    ("key of the public", Ask::PutKey("hello", Audience::Public), false);
+    ("key dropped", Ask::DropKey("hello"), true);
+];
+
+const RULES: &[Limit] = table![
+    ("takedown", Ask::PutRule(TAKEDOWN), true);
+    ("takedown that lists", Ask::PutRule(like!(NewRule, TAKEDOWN, effect: Effect::List)), true);
+    ("takedown that lets read", Ask::PutRule(like!(NewRule, TAKEDOWN, effect: Effect::Read)), false);
+    ("takedown of rank 0", Ask::PutRule(like!(NewRule, TAKEDOWN, rank: 0)), false);
+    ("rule of rank 9,999", Ask::PutRule(like!(NewRule, OPEN, rank: 9_999)), true);
+    ("rule of rank 10,000", Ask::PutRule(like!(NewRule, OPEN, rank: 10_000)), false);
+    ("rule of deed 0", Ask::PutRule(like!(NewRule, OPEN, scope: 0)), false);
+    ("rule of deed 1,000,000", Ask::PutRule(like!(NewRule, OPEN, scope: 1_000_000)), false);
+    ("rule for nobody", Ask::PutRule(like!(NewRule, OPEN, audiences: NOBODY_AT_ALL)), false);
+    ("from the first day", Ask::PutRule(like!(NewRule, OPEN, from: Some(-719_162))), true);
+    ("from the day before", Ask::PutRule(like!(NewRule, OPEN, from: Some(-719_163))), false);
+    ("until the last day", Ask::PutRule(like!(NewRule, OPEN, until: Some(2_932_896))), true);
+    ("until the day after", Ask::PutRule(like!(NewRule, OPEN, until: Some(2_932_897))), false);
+    ("end before beginning", Ask::PutRule(like!(NewRule, CLOSED, from: Some(OPENING + 1))), true);
+    ("slot 9,999", Ask::PutRule(like!(NewRule, OPEN, files: Files::Slot(9_999))), true);
+    ("slot 10,000", Ask::PutRule(like!(NewRule, OPEN, files: Files::Slot(10_000))), false);
+    ("user 15", Ask::PutRule(like!(NewRule, OPEN, files: Files::User(15))), true);
+    ("user 16", Ask::PutRule(like!(NewRule, OPEN, files: Files::User(16))), false);
+    ("empty prefix", Ask::PutRule(like!(NewRule, OPEN, files: Files::Prefix(""))), true);
+    ("prefix of 64", Ask::PutRule(like!(NewRule, OPEN, files: Files::Prefix(SIXTY_FOUR))), true);
+    ("prefix of 65", Ask::PutRule(like!(NewRule, OPEN, files: Files::Prefix(SIXTY_FIVE))), false);
+    ("prefix with a tab", Ask::PutRule(like!(NewRule, OPEN, files: Files::Prefix("A\t"))), false);
+    ("prefix with a DEL", Ask::PutRule(like!(NewRule, OPEN, files: Files::Prefix("\u{7f}"))), false);
+    ("empty type", Ask::PutRule(like!(NewRule, OPEN, files: Files::Kind(""))), true);
+    ("type of 16", Ask::PutRule(like!(NewRule, OPEN, files: Files::Kind(SIXTEEN))), true);
+    ("type of 17", Ask::PutRule(like!(NewRule, OPEN, files: Files::Kind(SEVENTEEN))), false);
+];
+
+fn fits(alloc: Global, ask: Ask) -> Result<bool, NoMemory> {
+    Ok(request_of(alloc, PUBLIC, ask)?.fits())
+}
+
+fn assert_limits(rt: &impl Abort, alloc: Global, cases: &[Limit]) -> Result<(), Fail> {
+    for (label, ask, wanted) in cases {
+        assert_eq!(rt; fits(alloc, *ask)?, *wanted, "{label}");
+    }
+    Ok(())
+}
+
+#[test]
+fn requests_fit(rt: HostRuntime) -> Result<(), Fail> {
+    assert_limits(&rt, rt.alloc(), QUESTIONS)?;
+    assert_limits(&rt, rt.alloc(), COMMANDS)?;
+    assert_limits(&rt, rt.alloc(), RULES)
+}
+
+/// Donors by the number of their bytes, and whether each is within the limits.
+const DONORS: &[(usize, bool)] = &[(1, true), (1_000, true), (1_001, false)];
+
+fn has_donor(alloc: Global, count: usize) -> Result<bool, NoMemory> {
+    let donor = Text::of("D".repeat(alloc, count)?);
+    let what = What::PutDeed {
+        num: 8,
+        donor,
+        signed: 0,
+    };
+    Ok(Request { badge: None, what }.fits())
+}
+
+fn assert_donors(rt: &impl Abort, alloc: Global, cases: &[(usize, bool)]) -> Result<(), Fail> {
+    for (count, wanted) in cases {
+        assert_eq!(rt; has_donor(alloc, *count)?, *wanted, "{count} bytes");
+    }
+    Ok(())
+}
+
+#[test]
+fn donors_have_a_thousand_bytes_at_most(rt: HostRuntime) -> Result<(), Fail> {
+    assert_donors(&rt, rt.alloc(), DONORS)
+}
+
+/// A rule, and the days of moments by the clocks of its zone.
+type Clock = (&'static str, &'static [(i64, Result<i32, DayFault>)]);
+
+const NO_DAY: Result<i32, DayFault> = Err(DayFault::OutOfRange);
+
+const CLOCKS: &[Clock] = table![
+    (CENTRAL, &[(BEFORE, Ok(21_914)), (AFTER, Ok(21_915)), (253_402_128_000, NO_DAY), (i64::MAX, NO_DAY), (i64::MIN, NO_DAY)]);
+    (CENTRAL, &[(1_909_087_199, Ok(22_095)), (1_909_087_200, Ok(22_096))]);
+    ("UTC0", &[(AFTER, Ok(21_914)), (1_909_087_200, Ok(22_095)), (-1, Ok(-1)), (0, Ok(0))]);
+    ("<+2359>-23:59", &[(59, Ok(0)), (60, Ok(1)), (-62_135_424_000, Ok(-719_160)), (-62_135_424_001, NO_DAY)]);
+    ("<-2359>23:59", &[(86_339, Ok(-1)), (86_340, Ok(0)), (253_402_127_999, Ok(2_932_894)), (253_402_128_000, NO_DAY)]);
+];
+
+fn assert_days(rt: &impl Abort, desk: &Desk<MemStore>, days: &[(i64, Result<i32, DayFault>)]) {
+    for (seconds, wanted) in days {
+        assert_eq!(rt; desk.day(*seconds), *wanted, "at {seconds}");
+    }
+}
+
+fn assert_clock(rt: &impl Abort, alloc: Global, (rule, days): Clock) -> Result<(), Fail> {
+    let desk = Desk::new(new_store(rt, alloc)?, Zone::read(rule)?);
+    assert_days(rt, &desk, days);
+    Ok(())
+}
+
+fn assert_clocks(rt: &impl Abort, alloc: Global, cases: &[Clock]) -> Result<(), Fail> {
+    for case in cases {
+        assert_clock(rt, alloc, *case)?;
+    }
+    Ok(())
+}
+
+#[test]
+fn clocks_have_days(rt: HostRuntime) -> Result<(), Fail> {
+    assert_clocks(&rt, rt.alloc(), CLOCKS)
+}
+
+#[test]
+fn digests_are_those_of_other_programs(rt: HostRuntime) -> Result<(), Fail> {
+    assert_eq!(rt; digest_of(b"abc"), STAFF_DIGEST);
+    assert_eq!(rt; digest_of(b"hello"), ROOM_DIGEST);
+    assert_eq!(rt;
+        digest_of_picture(rt.alloc(), Picture::Program)?,
+        PROGRAM_DIGEST
+    );
+    Ok(())
+}

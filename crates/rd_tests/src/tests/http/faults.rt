@@ -1,0 +1,144 @@
+//! Runs of visits of which reads or writes fail, or whose moment has no day, and requests that are cut.
+
+use super::cases::{
+    BAD_HEAD, Came, DONE, FRAMING, NO_DEED, Visit, assert_visits, filled_desk, text_of,
+};
+use super::doors::{add_visit, new_door, out_of, run};
+use super::fakes::{Plan, Visitors};
+use crate::tests::desks::{AFTER, Memory, new_desk};
+use crate::tests::keys::STAFF;
+use rd_http::{Ended, MemoryDoor, Served};
+use std::alloc::{AllocError, Global};
+use std::process::Abort;
+use std::test::Fail;
+
+/// A request of 102 bytes, of which 60 are its head.
+const REQUEST: &[u8] =
+    b"PUT /deeds/9 HTTP/1.1\r\nDesk-Key: abc\r\nContent-Length: 42\r\n\r\n{\"donor\":\"C. Donor\",\"signed\":\"2021-01-01\"}";
+
+/// Its reply, of 103 bytes.
+const REPLY: &[u8] =
+    b"HTTP/1.1 200 OK\r\nContent-Type: application/json\r\nContent-Length: 13\r\nConnection: close\r\n\r\n{\"done\":true}";
+
+/// More bytes, reads and writes than any visit has.
+const ALL: usize = 10_000;
+
+const WHOLE: Plan = (AFTER, ALL, 1, ALL, ALL);
+
+const UNREAD: Plan = (AFTER, 1, 50, ALL, ALL);
+
+const UNWRITTEN: Plan = (AFTER, ALL, 1, 1, 50);
+
+const DAYLESS: Plan = (i64::MAX, ALL, 1, ALL, ALL);
+
+/// A run of visits: its name, their connections, up to how many are served, how it goes, and how many leave.
+type Run = (&'static str, &'static [Plan], u32, Served, usize);
+
+const RUNS: &[Run] = table![
+    ("faults end their visit alone", &[UNREAD, UNWRITTEN, WHOLE], 3, served!(3, 1, 1, Count), 3);
+    ("faults are counted", &[UNREAD, WHOLE, UNREAD, UNWRITTEN, UNREAD], 5, served!(5, 3, 1, Count), 5);
+    ("a moment without a day ends the run", &[WHOLE, DAYLESS, WHOLE], 3, served!(1, 0, 0, Clock), 2);
+    ("the first moment without a day", &[DAYLESS], 1, served!(0, 0, 0, Clock), 1);
+    ("fewer are asked for", &[WHOLE, DAYLESS], 1, served!(1, 0, 0, Count), 1);
+    ("none is asked for", &[WHOLE], 0, served!(0, 0, 0, Count), 0);
+    ("the door shuts", &[WHOLE, UNREAD], 3, served!(2, 1, 0, Shut), 2);
+    ("none comes", &[], 1, served!(0, 0, 0, Shut), 0);
+];
+
+fn assert_run(rt: &impl Abort, alloc: Global, desk: &mut Memory, case: &Run) {
+    let (label, plans, count, wanted, left) = case;
+    let mut door = Visitors::new(alloc, REQUEST, *plans);
+    assert_eq!(rt; run(alloc, &mut door, desk, *count), *wanted, "{label}");
+    assert_eq!(rt; door.over.len(), *left, "{label}");
+}
+
+/// Shows that there is no deed 9.
+const NONE: &[Visit] =
+    table![("no deed", AFTER, Came::Asked("DELETE /deeds/9/rules/1", STAFF, ""), NO_DEED);];
+
+/// Shows that there is a deed 9, and makes it again.
+const STANDS: &[Visit] = table![
+    ("a deed", AFTER, Came::Asked("DELETE /deeds/9/rules/1", STAFF, ""), DONE);
+    ("the deed again", AFTER, Came::Asked("PUT /deeds/9", STAFF, r#"{"donor":"C. Donor","signed":"2021-01-01"}"#), DONE);
+];
+
+/// Connections that give and take one byte at a time: each has one read, and one write, more than the one
+/// before.
+fn failing(alloc: Global, of_reads: bool, count: usize) -> Result<Vec<Plan>, AllocError> {
+    let mut plans = Vec::new(alloc);
+    for n in 0..count {
+        plans.push((
+            AFTER,
+            1,
+            if of_reads { n } else { ALL },
+            1,
+            if of_reads { ALL } else { n },
+        ))?;
+    }
+    Ok(plans)
+}
+
+/// Of visits that fail at each read, none changes anything. Each that fails at a write has done what was
+/// asked, and the front of its reply goes out; the last of them puts all of it, and fails as it is flushed.
+fn assert_failing(rt: &impl Abort, alloc: Global, desk: &mut Memory) -> Result<(), Fail> {
+    let plans = failing(alloc, true, 102)?;
+    let mut door = Visitors::new(alloc, REQUEST, plans.as_slice());
+    assert_eq!(rt;
+        run(alloc, &mut door, desk, 200),
+        served!(102, 102, 0, Shut)
+    );
+    for conn in &door.over {
+        assert!(rt; conn.out.is_empty());
+    }
+    assert_visits(rt, alloc, desk, NONE)?;
+    let plans = failing(alloc, false, 104)?;
+    let mut door = Visitors::new(alloc, REQUEST, plans.as_slice());
+    assert_eq!(rt;
+        run(alloc, &mut door, desk, 200),
+        served!(104, 0, 104, Shut)
+    );
+    for (n, conn) in door.over.iter().enumerate() {
+        assert!(rt; conn.out.len() == n && REPLY.starts_with(&conn.out), "{n}");
+    }
+    assert_visits(rt, alloc, desk, STANDS)
+}
+
+/// A door of visits at which only the front of a request comes: at each one byte more.
+fn door_of_fronts(alloc: Global) -> Result<MemoryDoor, Fail> {
+    let mut visits = Vec::new(alloc);
+    for n in 0..REQUEST.len() {
+        add_visit(&mut visits, AFTER, Vec::from_slice(alloc, &REQUEST[..n])?)?;
+    }
+    Ok(new_door(alloc, visits)?)
+}
+
+#[test]
+fn a_run_ends_as_it_says(rt: HostRuntime) -> Result<(), Fail> {
+    let mut desk = new_desk(&rt, rt.alloc())?;
+    for case in RUNS {
+        assert_run(&rt, rt.alloc(), &mut desk, case);
+    }
+    Ok(())
+}
+
+#[test]
+fn each_read_and_each_write_may_fail(rt: HostRuntime) -> Result<(), Fail> {
+    let mut desk = filled_desk(&rt, rt.alloc())?;
+    assert_failing(&rt, rt.alloc(), &mut desk)
+}
+
+#[test]
+fn a_request_may_be_cut_anywhere(rt: HostRuntime) -> Result<(), Fail> {
+    let alloc = rt.alloc();
+    let mut desk = new_desk(&rt, alloc)?;
+    let mut door = door_of_fronts(alloc)?;
+    assert_eq!(rt;
+        run(alloc, &mut door, &mut desk, 102),
+        served!(102, 0, 0, Count)
+    );
+    for n in 0..102 {
+        let wanted = if n < 60 { BAD_HEAD } else { FRAMING };
+        assert_eq!(rt; out_of(alloc, &door, n)?, text_of(alloc, wanted)?, "{n}");
+    }
+    assert_visits(&rt, alloc, &mut desk, NONE)
+}

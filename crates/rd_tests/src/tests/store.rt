@@ -1,0 +1,196 @@
+mod checks;
+mod creating;
+mod files;
+mod found;
+mod images;
+mod keys;
+mod refused;
+mod rules;
+mod steps;
+mod told;
+
+use crate::tests::desks::new_store;
+use rd_policy::{Audience, Audiences, Rule, is_day, is_scope};
+use rd_store::{OpenFault, Outcome, Refused, Store, StoreFault, is_donor};
+use sqlite::{Alter, Connection, Error, MemStore};
+use std::alloc::Global;
+use std::process::Abort;
+use std::test::Fail;
+use steps::{COMMODORE, Call, DONE, Digest, Given, Named, Picture, Question, Step, assert_steps};
+use told::HELLO;
+
+/// A desk in memory.
+type Desk = Store<MemStore>;
+
+/// The SHA-256 of the 1541 image with a loop, and of no desk key.
+const OTHER_DIGEST: [u8; 32] = [
+    0x29, 0xbd, 0x47, 0x50, 0x06, 0x27, 0xf9, 0x34, 0xd5, 0x0b, 0xff, 0x93, 0x80, 0xa0, 0xfc, 0x11,
+    0x91, 0x3e, 0x61, 0x55, 0xe4, 0x46, 0xd3, 0x2e, 0xa7, 0x9b, 0x7e, 0xcc, 0x5f, 0x7a, 0x6c, 0x17,
+];
+
+const ALL: Audiences = Audiences {
+    public: true,
+    room: true,
+    staff: true,
+};
+
+const ROOM_ALONE: Audiences = Audiences {
+    public: false,
+    room: true,
+    staff: false,
+};
+
+const NOT_STAFF: Audiences = Audiences {
+    public: true,
+    room: true,
+    staff: false,
+};
+
+// The calls of a store have a helper each, without a clause, so that the proof of a test does not carry what
+// all its calls say.
+
+fn into_connection<S: Alter>(desk: Store<S>) -> Connection<S> {
+    desk.into_connection()
+}
+
+/// The desk that a database holds, which may be one of version 1, or why it is not opened as one, and the connection.
+fn migrate<S: Alter>(
+    rt: &impl Abort,
+    alloc: Global,
+    conn: Connection<S>,
+) -> Result<Store<S>, (OpenFault, Connection<S>)> {
+    assert!(rt; conn.is_autocommit());
+    match Store::migrate(alloc, conn) {
+        Ok(desk) => Ok(desk),
+        Err(Refused { fault, conn }) => Err((fault, conn)),
+    }
+}
+
+fn put_deed<S: Alter>(
+    rt: &impl Abort,
+    desk: &mut Store<S>,
+    num: u32,
+    donor: &str,
+    signed: i32,
+) -> Result<(), StoreFault> {
+    assert!(rt; is_scope(num));
+    assert!(rt; is_donor(donor));
+    assert!(rt; is_day(signed));
+    desk.put_deed(num, donor, signed)
+}
+
+fn put_rule<S: Alter>(rt: &impl Abort, desk: &mut Store<S>, rule: &Rule) -> Result<(), StoreFault> {
+    assert!(rt; rule.fits());
+    desk.put_rule(rule)
+}
+
+fn put_check<S: Alter>(
+    rt: &impl Abort,
+    desk: &mut Store<S>,
+    acc: u32,
+    day: i32,
+    outcome: Outcome,
+) -> Result<(), StoreFault> {
+    assert!(rt; is_day(day));
+    desk.put_check(acc, day, outcome)
+}
+
+/// The image with one program, under deed 7.
+const PROGRAM: Given = (Picture::Program, 7, Digest::Program);
+
+/// The image with a loop, under deed 7.
+const LOOPED: Given = (Picture::Looped, 7, Digest::Other);
+
+/// The image with one program and error bytes, under deed 7.
+const MARKED: Given = (Picture::Marked, 7, Digest::Other);
+
+/// The CP/M image with one file, under deed 7.
+const CPM: Given = (Picture::Hello, 7, Digest::Other);
+
+/// Puts deed 7, and images 12, 14 and 15 under it.
+const SHELVE: &[Step<'static>] = &[
+    Step::Does(Call::PutDeed(7, "A. Curator", 18_020), DONE),
+    Step::Does(Call::PutImage(12, PROGRAM), DONE),
+    Step::Does(Call::PutImage(14, LOOPED), DONE),
+    Step::Does(Call::PutImage(15, CPM), DONE),
+];
+
+/// Puts deeds 7 and 8, a key for the room, two rules of deed 7, and image 12 under it.
+const FILL: &[Step<'static>] = &[
+    Step::Does(Call::PutDeed(7, "A. Curator", 18_020), DONE),
+    Step::Does(Call::PutDeed(8, "B. Donor", 18_321), DONE),
+    Step::Does(Call::PutRoomKey(Digest::Room), DONE),
+    Step::Does(Call::PutRule(Named::Open, 7), DONE),
+    Step::Does(Call::PutRule(Named::Closed, 7), DONE),
+    Step::Does(Call::PutImage(12, PROGRAM), DONE),
+];
+
+/// Asks for all that `FILL` puts.
+const FILLED: &[Step<'static>] = &[
+    Step::Tells(Question::Deed(7, Some(("A. Curator", 18_020)))),
+    Step::Tells(Question::Deed(8, Some(("B. Donor", 18_321)))),
+    Step::Tells(Question::Image(12, Some(PROGRAM))),
+    Step::Tells(Question::AudienceOf(Digest::Staff, Some(Audience::Staff))),
+    Step::Tells(Question::AudienceOf(Digest::Room, Some(Audience::Room))),
+    Step::Tells(Question::AudienceOf(Digest::Other, None)),
+    Step::Tells(Question::RulesFor(12, &[(Named::Closed, 7), (Named::Open, 7)])),
+    Step::Tells(Question::RulesUnder(12, 7, &[(Named::Closed, 7), (Named::Open, 7)])),
+    Step::Tells(Question::Accession(12, Some(COMMODORE))),
+    Step::Tells(Question::Accessions(&[12])),
+    Step::Tells(Question::Register(&[(12, COMMODORE)])),
+    Step::Tells(Question::Files(12, &[HELLO])),
+    Step::Tells(Question::FileAt(12, 0, Some(HELLO))),
+    Step::Tells(Question::Batch(0, 16, &[(12, COMMODORE, &[HELLO])])),
+    Step::Tells(Question::RulesAmong(12, 7, &[], &[(Named::Closed, 7), (Named::Open, 7)])),
+];
+
+/// Puts what `FILL` puts.
+fn fill<S: Alter>(rt: &impl Abort, alloc: Global, desk: &mut Store<S>) -> Result<(), Fail> {
+    assert_steps(rt, alloc, desk, "what is put", FILL)
+}
+
+/// All reads of a desk answer what `FILL` puts.
+fn assert_filled<S: Alter>(
+    rt: &impl Abort,
+    alloc: Global,
+    desk: &mut Store<S>,
+) -> Result<(), Fail> {
+    assert_steps(rt, alloc, desk, "what was put", FILLED)
+}
+
+/// A new desk, filled.
+fn filled(rt: &impl Abort, alloc: Global) -> Result<Desk, Fail> {
+    let mut desk = new_store(rt, alloc)?;
+    fill(rt, alloc, &mut desk)?;
+    Ok(desk)
+}
+
+/// A new desk with three images.
+fn shelved(rt: &impl Abort, alloc: Global) -> Result<Desk, Fail> {
+    let mut desk = new_store(rt, alloc)?;
+    assert_steps(rt, alloc, &mut desk, "images", SHELVE)?;
+    Ok(desk)
+}
+
+fn run(conn: &mut Connection<MemStore>, sql: &str) -> Result<usize, Error> {
+    conn.execute(sql, &[])
+}
+
+/// Texts, and whether each may be a donor's name.
+const DONORS: &[(&str, bool)] = &[
+    ("A. Curator", true),
+    (" ", true),
+    ("", false),
+    ("A. Curator\n", false),
+];
+
+fn assert_donors(rt: &impl Abort, cases: &[(&str, bool)]) {
+    for (text, is_one) in cases {
+        assert_eq!(rt; is_donor(*text), *is_one, "{text:?}");
+    }
+}
+
+#[test]
+fn donors_have_names(rt: HostRuntime) {
+    assert_donors(&rt, DONORS);
+}

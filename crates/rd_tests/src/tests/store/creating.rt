@@ -1,0 +1,116 @@
+//! Making a desk, and giving its connection back.
+
+use super::steps::{Case, Digest, Question, Start, Step, assert_cases, started};
+use super::{assert_filled, filled, into_connection, run};
+use crate::tests::desks::{new_connection, open};
+use crate::tests::keys::ROOM_DIGEST;
+use crate::tests::tables::number;
+use rd_policy::Audience;
+use rd_store::{CreateFault, Refused, Store};
+use sqlite::{Connection, MemStore};
+use std::alloc::Global;
+use std::process::Abort;
+use std::test::Fail;
+
+/// Why no desk is made over a connection, and the connection.
+fn refusal(
+    rt: &impl Abort,
+    conn: Connection<MemStore>,
+) -> Result<(CreateFault, Connection<MemStore>), Fail> {
+    assert!(rt; conn.is_autocommit());
+    match Store::create(conn, &ROOM_DIGEST) {
+        Ok(_) => Err(Fail::new("a desk")),
+        Err(Refused { fault, conn }) => Ok((fault, conn)),
+    }
+}
+
+const NEW: &[Case] = &[Case {
+    label: "a new desk has its staff key",
+    start: Start::New,
+    steps: &[
+        Step::Tells(Question::AudienceOf(Digest::Staff, Some(Audience::Staff))),
+        Step::Tells(Question::AudienceOf(Digest::Room, None)),
+        Step::Tells(Question::Deed(7, None)),
+    ],
+}];
+
+#[test]
+fn a_new_desk_has_its_staff_key(rt: HostRuntime) -> Result<(), Fail> {
+    assert_cases(&rt, rt.alloc(), NEW)
+}
+
+/// Questions of the connection of a desk that is given back, and what each tells.
+const ROWS: &[(Start, &str, i64)] = &[
+    (Start::New, "SELECT version FROM desk", 2),
+    (Start::New, "SELECT count(*) FROM badge", 1),
+    (Start::New, "SELECT count(*) FROM found", 0),
+    (Start::New, "SELECT count(*) FROM marks", 0),
+    (Start::Filled, "SELECT count(*) FROM found", 1),
+    (Start::Filled, "SELECT count(*) FROM marks", 0),
+    (Start::Filled, "SELECT count(*) FROM rule", 2),
+    (
+        Start::Filled,
+        "SELECT signed FROM deed WHERE donor = 'B. Donor'",
+        18_321,
+    ),
+    (
+        Start::Filled,
+        "SELECT length(bytes) FROM image WHERE acc = 12",
+        174_848,
+    ),
+];
+
+fn assert_rows(rt: &impl Abort, alloc: Global, cases: &[(Start, &str, i64)]) -> Result<(), Fail> {
+    for (start, sql, wanted) in cases {
+        let mut conn = into_connection(started(rt, alloc, *start)?);
+        assert_eq!(rt; number(&mut conn, *sql)?, *wanted, "{sql}");
+    }
+    Ok(())
+}
+
+#[test]
+fn the_connection_has_the_rows(rt: HostRuntime) -> Result<(), Fail> {
+    assert_rows(&rt, rt.alloc(), ROWS)
+}
+
+#[test]
+fn a_desk_that_stands_is_kept(rt: HostRuntime) -> Result<(), Fail> {
+    let desk = filled(&rt, rt.alloc())?;
+    let (fault, conn) = refusal(&rt, into_connection(desk))?;
+    assert_eq!(rt; fault, CreateFault::Exists);
+    let Ok(mut again) = open(&rt, rt.alloc(), conn) else {
+        return Err(Fail::new("no desk"));
+    };
+    assert_filled(&rt, rt.alloc(), &mut again)
+}
+
+/// What stands in a database, and why no desk is made beside it.
+const OTHERS: &[(&str, CreateFault)] = &[
+    ("CREATE TABLE Desk (a INTEGER) STRICT", CreateFault::Exists),
+    (
+        "CREATE TABLE note (id INTEGER PRIMARY KEY) STRICT",
+        CreateFault::Sql,
+    ),
+    ("CREATE VIEW one AS SELECT 1", CreateFault::Sql),
+];
+
+/// No desk is made beside what a statement makes, which stands alone afterwards.
+fn assert_refused(
+    rt: &impl Abort,
+    alloc: Global,
+    cases: &[(&str, CreateFault)],
+) -> Result<(), Fail> {
+    for (sql, wanted) in cases {
+        let mut conn = new_connection(alloc)?;
+        run(&mut conn, *sql)?;
+        let (fault, mut conn) = refusal(rt, conn)?;
+        let count = number(&mut conn, "SELECT count(*) FROM sqlite_master")?;
+        assert_eq!(rt; (fault, count), (*wanted, 1), "{sql}");
+    }
+    Ok(())
+}
+
+#[test]
+fn no_desk_beside_other_tables(rt: HostRuntime) -> Result<(), Fail> {
+    assert_refused(&rt, rt.alloc(), OTHERS)
+}
