@@ -1,17 +1,42 @@
-//! Plays trials: texts that describe visits of a desk in memory and changes of its tables, and
-//! what each must give.
+//! Plays trials: texts that describe visits of a desk in memory and changes of its tables, or runs of the program
+//! on a machine in memory, and what each must give.
+//!
+//! A call fails when memory runs out, when it cannot read a file or write the output, and when a line is not as
+//! `docs/TRIALS.md` says.
 #![tactic(auto)]
 
-mod desk;
-mod player;
-mod visit;
-mod wire;
+mod bytes;
+mod change;
+mod escapes;
+mod image;
+mod message;
+mod repeats;
+mod runs;
+mod script;
+mod tables;
+mod tally;
+mod visits;
 
 use anyhow::Result;
-use player::play_file;
-use rd_played::Tally;
+use script::{Line, parts_of, script_of};
 use std::env;
 use std::process::ExitCode;
+use tally::Tally;
+
+/// Whether a trial is one of the program: it has a run.
+fn has_run(lines: &[Line]) -> bool {
+    lines.iter().any(|line| matches!(parts_of(line.text.as_str()).0, "run" | "no-command"))
+}
+
+/// Plays the trial of a file, and adds its cases.
+fn play_file(rt: &HostRuntime, file: &str, tally: &mut Tally) -> Result<()> {
+    let lines = script_of(rt, file)?;
+    if has_run(&lines) {
+        runs::play(rt, &lines, tally)
+    } else {
+        visits::play(rt, &lines, tally)
+    }
+}
 
 /// Plays the trials of the files that the arguments name.
 fn play_all(rt: &HostRuntime) -> Result<Tally> {

@@ -1,13 +1,15 @@
 //! Runs as a trial describes them.
 
-use crate::machine::{Lack, Museum};
-use crate::output::Output;
-use crate::visitor::{Visitor, outcome_at};
-use crate::wanted::{Ran, Wanted};
+use super::machine::{Lack, Museum};
+use super::output::Output;
+use super::visitor::{Visitor, outcome_at};
+use super::wanted::{Ran, Wanted};
+use crate::escapes::bytes_of;
+use crate::image::build_with;
+use crate::tally::Tally;
 use anyhow::{Context, Result, bail};
 use rd_geometry::{Items, NoMemory};
 use rd_http::MemoryDoor;
-use rd_played::{Tally, build_with, bytes_of};
 use rd_program::{MachineFault, run};
 use std::alloc::{AllocError, Global};
 

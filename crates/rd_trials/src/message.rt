@@ -7,12 +7,12 @@ use std::alloc::{AllocError, Global};
 /// A request or a reply: its first line, the fields that a trial gives, and its body. Without a
 /// first line the body is all its bytes.
 #[derive(Drop)]
-pub struct Message<'a> {
-    pub first: Option<&'a str>,
+pub(crate) struct Message<'a> {
+    pub(crate) first: Option<&'a str>,
     /// The media type of a reply.
-    pub media: &'static str,
-    pub fields: String,
-    pub body: Vec<u8>,
+    pub(crate) media: &'static str,
+    pub(crate) fields: String,
+    pub(crate) body: Vec<u8>,
 }
 
 /// A head and a body as one.
@@ -24,7 +24,7 @@ fn whole(head: String, body: &[u8]) -> Result<Vec<u8>, AllocError> {
 
 impl<'a> Message<'a> {
     /// A message without a first line, fields and body.
-    pub fn new(alloc: Global) -> Message<'a> {
+    pub(crate) fn new(alloc: Global) -> Message<'a> {
         Message {
             first: None,
             media: "",
@@ -34,17 +34,17 @@ impl<'a> Message<'a> {
     }
 
     /// Whether a trial gives nothing of it.
-    pub fn is_empty(&self) -> bool {
+    pub(crate) fn is_empty(&self) -> bool {
         self.first.is_none() && self.body.is_empty()
     }
 
     /// Adds a line to the head.
-    pub fn add_field(&mut self, name: &str, value: &str) -> Result<(), AllocError> {
+    pub(crate) fn add_field(&mut self, name: &str, value: &str) -> Result<(), AllocError> {
         write!(self.fields, "{name}{value}\r\n")
     }
 
     /// Reads a line about a request: its method and path, the desk key, or a part of the body.
-    pub fn read_request(&mut self, word: &str, text: &'a str) -> Result<(), AllocError> {
+    pub(crate) fn read_request(&mut self, word: &str, text: &'a str) -> Result<(), AllocError> {
         match word {
             "ask" => self.first = Some(text),
             "key" => self.add_field("Desk-Key: ", text)?,
@@ -55,7 +55,7 @@ impl<'a> Message<'a> {
 
     /// Reads a line about the head of a reply: its status and its phrase and, for JSON, the body
     /// too.
-    pub fn read_head(&mut self, word: &str, text: &'a str) -> Result<(), AllocError> {
+    pub(crate) fn read_head(&mut self, word: &str, text: &'a str) -> Result<(), AllocError> {
         match word {
             "field" => return self.add_field("", text),
             "csv" => self.media = "text/csv",
@@ -95,7 +95,7 @@ impl<'a> Message<'a> {
     }
 
     /// The bytes of a request.
-    pub fn request(&self, rt: &HostRuntime) -> Result<Vec<u8>> {
+    pub(crate) fn request(&self, rt: &HostRuntime) -> Result<Vec<u8>> {
         let Some(first) = self.first else {
             return Ok(self.body.clone()?);
         };
@@ -109,7 +109,7 @@ impl<'a> Message<'a> {
     }
 
     /// The bytes of a reply.
-    pub fn reply(&self, alloc: Global) -> Result<Vec<u8>, AllocError> {
+    pub(crate) fn reply(&self, alloc: Global) -> Result<Vec<u8>, AllocError> {
         let Some(first) = self.first else {
             return self.body.clone();
         };

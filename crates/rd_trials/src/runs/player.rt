@@ -1,12 +1,13 @@
 //! Trials of the program, played line by line.
 
-use crate::machine::{File, Museum};
-use crate::run::Run;
-use crate::visitor::Visitor;
+use super::machine::{File, Museum};
+use super::run::Run;
+use super::visitor::Visitor;
+use crate::change::{Change, Effect, Question};
+use crate::script::{Line, parts_of};
+use crate::tables::{KeptTables, contents_of};
+use crate::tally::Tally;
 use anyhow::{Context, Result, bail};
-use rd_played::{
-    Change, Effect, KeptTables, Line, Question, Tally, contents_of, parts_of, script_of,
-};
 use std::mem;
 
 /// A part of a trial that takes more than one line.
@@ -156,11 +157,10 @@ impl<'a> Player<'a> {
     }
 }
 
-/// Plays the trial of a file, and adds its cases.
-pub(crate) fn play_file(rt: &HostRuntime, file: &str, tally: &mut Tally) -> Result<()> {
-    let lines = script_of(rt, file)?;
+/// Plays a trial, and adds its cases.
+pub(crate) fn play(rt: &HostRuntime, lines: &[Line], tally: &mut Tally) -> Result<()> {
     let mut player = Player::new(rt)?;
-    for line in &lines {
+    for line in lines {
         player.play(rt, line)?;
     }
     player.finish(rt)?;

@@ -2,10 +2,10 @@
 
 ghost use Rattle.std.specs.Prelude.{None};
 
+use crate::image::build_with;
 use anyhow::Result;
 use rd_geometry::{Kind, NoMemory};
 use rd_http::MemoryDoor;
-use rd_played::build_with;
 use rd_program::{Files, Machine, MachineFault};
 use sqlite::{Connection, MemStore};
 use std::alloc::Global;

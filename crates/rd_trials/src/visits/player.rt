@@ -1,15 +1,16 @@
-//! Trials, played line by line.
+//! Trials of a desk, played line by line.
 
-use crate::desk::{
+use super::desk::{
     CENTRAL, Opening, Stage, Way, new_connection, new_desk, open, visit as make_visit,
     visit_in_memory, with_zone,
 };
-use crate::visit::{Likeness, Visit, outcome_of};
-use crate::wire::WHOLE;
+use super::visit::{Likeness, Visit, outcome_of};
+use super::wire::WHOLE;
+use crate::change::{Change, Effect, Question};
+use crate::script::{Line, parts_of};
+use crate::tables::{KeptTables, contents_of};
+use crate::tally::Tally;
 use anyhow::{Context, Result, bail};
-use rd_played::{
-    Change, Effect, KeptTables, Line, Question, Tally, contents_of, parts_of, script_of,
-};
 use rd_policy::Zone;
 use rd_store::OpenFault;
 use sqlite::{Connection, MemStore};
@@ -322,11 +323,10 @@ impl<'a> Player<'a> {
     }
 }
 
-/// Plays the trial of a file, and adds its cases.
-pub(crate) fn play_file(rt: &HostRuntime, file: &str, tally: &mut Tally) -> Result<()> {
-    let lines = script_of(rt, file)?;
+/// Plays a trial, and adds its cases.
+pub(crate) fn play(rt: &HostRuntime, lines: &[Line], tally: &mut Tally) -> Result<()> {
     let mut player = Player::new(rt)?;
-    for line in &lines {
+    for line in lines {
         player.play(rt, line)?;
     }
     player.finish(rt)?;

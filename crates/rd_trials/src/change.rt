@@ -10,7 +10,7 @@ use std::alloc::{AllocError, Global};
 
 /// What a statement must do.
 #[derive(Clone, Copy, PartialEq, Eq)]
-pub enum Effect {
+pub(crate) enum Effect {
     /// It changes rows.
     Rows,
     /// It changes none.
@@ -30,7 +30,7 @@ impl Effect {
     }
 
     /// The effect for the word of a line.
-    pub fn of(word: &str) -> Effect {
+    pub(crate) fn of(word: &str) -> Effect {
         match word {
             "sql-idle" => Effect::Idle,
             "sql-refused" => Effect::Refused,
@@ -41,8 +41,8 @@ impl Effect {
 
 /// A statement, its place, what it must do, and the bytes that stand for `?1` in it.
 #[derive(Drop)]
-pub struct Change<'a> {
-    pub place: &'a str,
+pub(crate) struct Change<'a> {
+    pub(crate) place: &'a str,
     statement: &'a str,
     wanted: Effect,
     value: Option<Vec<u8>>,
@@ -50,7 +50,7 @@ pub struct Change<'a> {
 
 impl<'a> Change<'a> {
     /// The change by a statement at a place of a trial, without bytes for `?1`.
-    pub fn new(place: &'a str, wanted: Effect, statement: &'a str) -> Change<'a> {
+    pub(crate) fn new(place: &'a str, wanted: Effect, statement: &'a str) -> Change<'a> {
         Change {
             place,
             statement,
@@ -60,7 +60,7 @@ impl<'a> Change<'a> {
     }
 
     /// Reads a line about the bytes for `?1`: its first word, and the text after it.
-    pub fn read(&mut self, rt: &HostRuntime, word: &str, text: &str) -> Result<()> {
+    pub(crate) fn read(&mut self, rt: &HostRuntime, word: &str, text: &str) -> Result<()> {
         let mut bytes = match self.value.take() {
             Some(bytes) => bytes,
             None => Vec::new(rt.alloc()),
@@ -72,7 +72,7 @@ impl<'a> Change<'a> {
 
     /// Changes tables. A statement that SQL must refuse is a case; if any other statement does not
     /// do what it must, the trial ends.
-    pub fn play(
+    pub(crate) fn play(
         &self,
         rt: &HostRuntime,
         conn: &mut Connection<MemStore>,
@@ -113,15 +113,15 @@ fn execute_with(conn: &mut Connection<MemStore>, sql: &str, value: &[u8]) -> Res
 
 /// A question in SQL, its place, and the rows that it must give, each ended by a line feed.
 #[derive(Drop)]
-pub struct Question<'a> {
-    pub place: &'a str,
+pub(crate) struct Question<'a> {
+    pub(crate) place: &'a str,
     statement: &'a str,
     rows: String,
 }
 
 impl<'a> Question<'a> {
     /// The question that a statement at a place of a trial asks, without rows yet.
-    pub fn new(alloc: Global, place: &'a str, statement: &'a str) -> Question<'a> {
+    pub(crate) fn new(alloc: Global, place: &'a str, statement: &'a str) -> Question<'a> {
         Question {
             place,
             statement,
@@ -130,7 +130,7 @@ impl<'a> Question<'a> {
     }
 
     /// Asks tables for the rows.
-    pub fn play(
+    pub(crate) fn play(
         &self,
         rt: &HostRuntime,
         conn: &mut Connection<MemStore>,
@@ -147,7 +147,7 @@ impl<'a> Question<'a> {
     }
 
     /// Reads a line: its first word, and the text after it.
-    pub fn read(&mut self, word: &str, text: &str) -> Result<()> {
+    pub(crate) fn read(&mut self, word: &str, text: &str) -> Result<()> {
         match word {
             "row" => Ok(self.add_row(text)?),
             _ => bail!("no such word"),

@@ -56,7 +56,7 @@ fn add_lines(rt: &HostRuntime, bytes: &mut Vec<u8>, text: &str) -> Result<()> {
 }
 
 /// The image that a file of this name builds.
-pub fn image_of(rt: &HostRuntime, name: &str) -> Result<Vec<u8>> {
+pub(crate) fn image_of(rt: &HostRuntime, name: &str) -> Result<Vec<u8>> {
     let texts = texts_of(rt, name)?;
     let mut bytes = Vec::new(rt.alloc());
     for text in texts.iter().rev() {
@@ -66,7 +66,12 @@ pub fn image_of(rt: &HostRuntime, name: &str) -> Result<Vec<u8>> {
 }
 
 /// Builds bytes by a line, which may add an image: its word, and the text after it.
-pub fn build_with(rt: &HostRuntime, bytes: &mut Vec<u8>, word: &str, text: &str) -> Result<()> {
+pub(crate) fn build_with(
+    rt: &HostRuntime,
+    bytes: &mut Vec<u8>,
+    word: &str,
+    text: &str,
+) -> Result<()> {
     match word {
         "image" => Ok(bytes.extend_from_slice(image_of(rt, text)?.as_slice())?),
         _ => build(rt.alloc(), bytes, word, text),
@@ -74,6 +79,6 @@ pub fn build_with(rt: &HostRuntime, bytes: &mut Vec<u8>, word: &str, text: &str)
 }
 
 /// The SHA-256 of some bytes, as its 64 digits.
-pub fn digest_of(rt: &HostRuntime, bytes: &[u8]) -> Result<String> {
+pub(crate) fn digest_of(rt: &HostRuntime, bytes: &[u8]) -> Result<String> {
     Ok(hex::encode(rt.alloc(), Sha256::digest(bytes))?)
 }

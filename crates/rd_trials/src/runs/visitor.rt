@@ -1,9 +1,11 @@
 //! Visitors at the door of the machine.
 
+use crate::bytes::add_out;
+use crate::image::build_with;
+use crate::message::Message;
 use anyhow::{Context, Result, bail};
 use rd_geometry::Items;
 use rd_http::MemoryDoor;
-use rd_played::{Message, add_out, build_with};
 use std::alloc::{AllocError, Global};
 
 /// How a visit must end.

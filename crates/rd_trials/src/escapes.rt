@@ -39,7 +39,7 @@ fn step(place: Place, byte: u8) -> Option<(Place, Option<u8>)> {
 
 /// Adds the bytes that a text stands for: `\r`, `\n`, `\t` and `\\` are one byte each, and so is `\x` with two
 /// hexadecimal digits in small letters.
-pub fn add_bytes(bytes: &mut Vec<u8>, text: &str) -> Result<()> {
+pub(crate) fn add_bytes(bytes: &mut Vec<u8>, text: &str) -> Result<()> {
     let mut place = Place::Plain;
     for byte in text.bytes() {
         let (next, ended) = step(place, byte).context("no such escape")?;
@@ -55,14 +55,14 @@ pub fn add_bytes(bytes: &mut Vec<u8>, text: &str) -> Result<()> {
 }
 
 /// The bytes that a text stands for.
-pub fn bytes_of(alloc: Global, text: &str) -> Result<Vec<u8>> {
+pub(crate) fn bytes_of(alloc: Global, text: &str) -> Result<Vec<u8>> {
     let mut bytes = Vec::new(alloc);
     add_bytes(&mut bytes, text)?;
     Ok(bytes)
 }
 
 /// A text that stands for these bytes. It writes a blank at the end as `\x20`.
-pub fn escaped(alloc: Global, bytes: &[u8]) -> Result<String, AllocError> {
+pub(crate) fn escaped(alloc: Global, bytes: &[u8]) -> Result<String, AllocError> {
     let mut text = String::new(alloc);
     let (bytes, end) = match bytes {
         [rest @ .., b' '] => (rest, "\\x20"),

@@ -74,7 +74,7 @@ fn cut(bytes: &mut Vec<u8>, text: &str) -> Result<()> {
 }
 
 /// Builds bytes by a line: its word, and the text after it.
-pub fn build(alloc: Global, bytes: &mut Vec<u8>, word: &str, text: &str) -> Result<()> {
+pub(crate) fn build(alloc: Global, bytes: &mut Vec<u8>, word: &str, text: &str) -> Result<()> {
     match word {
         "send" => add_bytes(bytes, text),
         "fill" => fill(alloc, bytes, text),
@@ -86,7 +86,7 @@ pub fn build(alloc: Global, bytes: &mut Vec<u8>, word: &str, text: &str) -> Resu
 }
 
 /// Adds bytes that must go out, by a line: its word, `out` or `out-fill`, and the text after it.
-pub fn add_out(alloc: Global, bytes: &mut Vec<u8>, word: &str, text: &str) -> Result<()> {
+pub(crate) fn add_out(alloc: Global, bytes: &mut Vec<u8>, word: &str, text: &str) -> Result<()> {
     match word {
         "out" => add_bytes(bytes, text),
         _ => fill(alloc, bytes, text),

@@ -2,7 +2,7 @@
 
 ghost use Rattle.std.specs.Prelude.{◌≡◌, false, IfOk};
 
-use crate::wire::{Plan, Tape};
+use super::wire::{Plan, Tape};
 use anyhow::{Context, Result, bail};
 use rd_desk::{Desk, Items};
 use rd_geometry::NoMemory;

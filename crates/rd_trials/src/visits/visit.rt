@@ -1,9 +1,11 @@
 //! Visits as a trial describes them.
 
-use crate::wire::{Plan, WHOLE};
+use super::wire::{Plan, WHOLE};
+use crate::bytes::add_out;
+use crate::image::build_with;
+use crate::message::Message;
 use anyhow::{Context, Result, bail};
 use rd_http::WireFault;
-use rd_played::{Message, add_out, build_with};
 use std::alloc::{AllocError, Global};
 
 /// How a reply must compare with that of the first visit in the file that is `alike` a name.

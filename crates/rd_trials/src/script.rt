@@ -7,9 +7,9 @@ use std::fs;
 
 /// A line: its place, as a file and a number, and its text.
 #[derive(Drop)]
-pub struct Line {
-    pub place: String,
-    pub text: String,
+pub(crate) struct Line {
+    pub(crate) place: String,
+    pub(crate) text: String,
 }
 
 impl Line {
@@ -22,7 +22,7 @@ impl Line {
 }
 
 /// The first word of a line, and the text after it.
-pub fn parts_of(line: &str) -> (&str, &str) {
+pub(crate) fn parts_of(line: &str) -> (&str, &str) {
     line.split_once(' ').unwrap_or((line, ""))
 }
 
@@ -83,7 +83,7 @@ fn with_played(rt: &HostRuntime, lines: Vec<Line>) -> Result<Vec<Line>> {
 }
 
 /// The lines of a trial in the order of play.
-pub fn script_of(rt: &HostRuntime, file: &str) -> Result<Vec<Line>> {
+pub(crate) fn script_of(rt: &HostRuntime, file: &str) -> Result<Vec<Line>> {
     let lines = with_played(rt, lines_of(rt, file)?)?;
     repeated(rt.alloc(), &lines)
 }

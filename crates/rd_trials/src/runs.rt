@@ -1,0 +1,10 @@
+//! Trials of the program: its runs on a machine in memory.
+
+mod machine;
+mod output;
+mod player;
+mod run;
+mod visitor;
+mod wanted;
+
+pub(crate) use player::play;

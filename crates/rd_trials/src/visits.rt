@@ -1,0 +1,8 @@
+//! Trials of a desk in memory: its visits, its tables, and how it opens.
+
+mod desk;
+mod player;
+mod visit;
+mod wire;
+
+pub(crate) use player::play;
