@@ -5,6 +5,5 @@ mod images;
 mod limits;
 mod refused;
 mod requests;
-mod rows;
 mod state;
 mod texts;

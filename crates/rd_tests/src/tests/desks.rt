@@ -15,7 +15,7 @@ use std::test::Fail;
 pub(super) type Memory = Desk<MemStore>;
 
 /// The rule of its clocks, those of central Europe.
-pub(super) const CENTRAL: &str = "CET-1CEST,M3.5.0,M10.5.0/3";
+const CENTRAL: &str = "CET-1CEST,M3.5.0,M10.5.0/3";
 
 /// The last second of 2029 by these clocks.
 pub(super) const BEFORE: i64 = 1_893_452_399;
@@ -96,26 +96,16 @@ pub(super) fn new_desk_again(rt: &impl Abort, alloc: Global) -> Result<Memory, F
     desk_over(store_again(rt, alloc)?)
 }
 
-pub(super) fn into_connection(desk: Memory) -> Connection<MemStore> {
+fn into_connection(desk: Memory) -> Connection<MemStore> {
     desk.into_store().into_connection()
 }
 
 /// The desk over the store that a database holds.
-pub(super) fn opened(
-    rt: &impl Abort,
-    alloc: Global,
-    conn: Connection<MemStore>,
-) -> Result<Memory, Fail> {
+fn opened(rt: &impl Abort, alloc: Global, conn: Connection<MemStore>) -> Result<Memory, Fail> {
     match open(rt, alloc, conn) {
         Ok(store) => desk_over(store),
         Err((fault, _)) => Err(Fail::from(fault)),
     }
-}
-
-/// The rows of all tables behind a desk, in words.
-pub(super) fn rows_of(alloc: Global, desk: Memory) -> Result<String, Fail> {
-    let mut conn = into_connection(desk);
-    tables_of(alloc, &mut conn)
 }
 
 /// A desk has the tables of another.

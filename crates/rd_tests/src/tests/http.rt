@@ -53,7 +53,6 @@ mod cases;
 mod doors;
 mod fakes;
 mod faults;
-mod parts;
 mod refused;
 mod runs;
 mod tcp;

@@ -175,22 +175,3 @@ fn shelved(rt: &impl Abort, alloc: Global) -> Result<Desk, Fail> {
 fn run(conn: &mut Connection<MemStore>, sql: &str) -> Result<usize, Error> {
     conn.execute(sql, &[])
 }
-
-/// Texts, and whether each may be a donor's name.
-const DONORS: &[(&str, bool)] = &[
-    ("A. Curator", true),
-    (" ", true),
-    ("", false),
-    ("A. Curator\n", false),
-];
-
-fn assert_donors(rt: &impl Abort, cases: &[(&str, bool)]) {
-    for (text, is_one) in cases {
-        assert_eq!(rt; is_donor(*text), *is_one, "{text:?}");
-    }
-}
-
-#[test]
-fn donors_have_names(rt: HostRuntime) {
-    assert_donors(&rt, DONORS);
-}

@@ -1,15 +1,11 @@
-//! Cases: what is asked of a desk, and what it has to answer.
+//! What is asked of a desk, and what it has to answer.
 
 use super::requests::Ask;
-use super::state::{desk_with, reply_to};
-use crate::tests::desks::{AFTER, BEFORE, Memory, rows_of};
-use crate::tests::keys::{Key, NOBODY, PUBLIC, ROOM, STAFF};
+use crate::tests::keys::Key;
 use crate::tests::{Texts, repeated};
 use rd_desk::{Form, Reply};
 use rd_geometry::NoMemory;
 use std::alloc::Global;
-use std::process::Abort;
-use std::test::Fail;
 
 /// A reply that is wanted.
 #[derive(Clone, Copy)]
@@ -25,15 +21,6 @@ pub(super) enum Wanted {
 /// Who asks, by the desk key, at which moment, for what, and the reply that is wanted.
 pub(super) type Visit = (Key, i64, Ask, Wanted);
 
-/// Visits of a desk, which leave its tables as they were.
-#[derive(Clone, Copy)]
-pub(super) struct Case {
-    pub(super) label: &'static str,
-    /// What the staff has done before, beside what a desk is given.
-    pub(super) before: &'static [Ask],
-    pub(super) visits: &'static [Visit],
-}
-
 pub(super) const DONE: Wanted = Wanted::Json(200, r#"{"done":true}"#);
 
 pub(super) const UNKNOWN_KEY: Wanted = Wanted::Json(401, r#"{"error":"unknown-key","rule":"K0"}"#);
@@ -45,8 +32,6 @@ pub(super) const BAD_BODY: Wanted = Wanted::Json(400, r#"{"error":"bad-body"}"#)
 pub(super) const NO_ACCESSION: Wanted = Wanted::Json(404, r#"{"error":"no-accession"}"#);
 
 pub(super) const NO_FILE: Wanted = Wanted::Json(404, r#"{"error":"no-file"}"#);
-
-pub(super) const LOOPED: Wanted = Wanted::Json(422, r#"{"error":"faulty","faults":["loop"]}"#);
 
 /// Where memory or the store fails.
 pub(super) const UNAVAILABLE: Wanted = Wanted::Json(503, r#"{"error":"unavailable"}"#);
@@ -63,9 +48,6 @@ pub(super) const TAKEN_DOWN: Wanted = Wanted::Json(403, r#"{"error":"denied","ru
 /// The bytes of the program `HELLO`.
 pub(super) const HELLO: Wanted = Wanted::File(&[("A", 254), ("BCDE", 1)]);
 
-/// The bytes of `HELLO.TXT`.
-pub(super) const RECORD: Wanted = Wanted::File(&[("HELLO FROM CP/M\r\n", 1), ("\x1a", 111)]);
-
 pub(super) const NO_IMAGES: Wanted = Wanted::Json(200, r#"{"images":[]}"#);
 
 /// Accession 12 alone, with its one file.
@@ -78,12 +60,6 @@ pub(super) const ONE_IMAGE: Wanted = Wanted::Json(
 pub(super) const NONE_OF_12: Wanted = Wanted::Json(
     200,
     r#"{"accession":12,"deed":7,"files":[],"kind":"d64"}"#,
-);
-
-/// Accession 13, of which no file is listed.
-pub(super) const NONE_OF_13: Wanted = Wanted::Json(
-    200,
-    r#"{"accession":13,"deed":8,"files":[],"kind":"d64"}"#,
 );
 
 /// Accession 12 with its file, which deed 7 lets read.
@@ -149,92 +125,4 @@ pub(super) fn wanted_of(alloc: Global, wanted: Wanted) -> Result<Told, NoMemory>
         Wanted::Table(lines) => (200, Form::Csv, ended(alloc, lines)?),
     };
     Ok((status, form, text.len(), text))
-}
-
-/// A visit gets the reply that is wanted.
-pub(super) fn assert_visit(
-    rt: &impl Abort,
-    alloc: Global,
-    desk: &mut Memory,
-    (key, seconds, ask, wanted): Visit,
-    label: &str,
-    n: usize,
-) -> Result<(), Fail> {
-    let reply = reply_to(rt, alloc, desk, (key, seconds, ask))?;
-    assert_eq!(rt;
-        told(alloc, &reply)?,
-        wanted_of(alloc, wanted)?,
-        "{label}: visit {n}"
-    );
-    Ok(())
-}
-
-/// All visits, in turn, get the replies that are wanted. They are counted from 0.
-pub(super) fn assert_visits(
-    rt: &impl Abort,
-    alloc: Global,
-    desk: &mut Memory,
-    label: &str,
-    visits: &[Visit],
-) -> Result<(), Fail> {
-    for (n, visit) in visits.iter().enumerate() {
-        assert_visit(rt, alloc, desk, *visit, label, n)?;
-    }
-    Ok(())
-}
-
-/// What is asked of a desk that has to answer as another does.
-const QUESTIONS: &[(Key, i64, Ask)] = &[
-    (PUBLIC, BEFORE, Ask::Images),
-    (ROOM, AFTER, Ask::Listing(12)),
-    (STAFF, AFTER, Ask::Images),
-    (STAFF, BEFORE, Ask::Listing(14)),
-    (PUBLIC, AFTER, Ask::Bytes(12, 0)),
-    (ROOM, AFTER, Ask::Catalogue),
-    (STAFF, AFTER, Ask::Survey(12)),
-    (NOBODY, AFTER, Ask::Unread),
-    (ROOM, AFTER, Ask::Unread),
-    (STAFF, AFTER, Ask::Unread),
-];
-
-/// Two desks give the same replies.
-fn assert_alike(
-    rt: &impl Abort,
-    alloc: Global,
-    first: &mut Memory,
-    second: &mut Memory,
-    label: &str,
-) -> Result<(), Fail> {
-    for (n, question) in QUESTIONS.iter().enumerate() {
-        let reply = reply_to(rt, alloc, first, *question)?;
-        let again = reply_to(rt, alloc, second, *question)?;
-        assert_eq!(rt;
-            told(alloc, &again)?,
-            told(alloc, &reply)?,
-            "{label}: question {n}"
-        );
-    }
-    Ok(())
-}
-
-/// The visits of a case get the replies that are wanted, and the tables stay.
-fn assert_case(rt: &impl Abort, alloc: Global, case: &Case) -> Result<(), Fail> {
-    let label = case.label;
-    let mut kept = desk_with(rt, alloc, label, case.before)?;
-    let mut desk = desk_with(rt, alloc, label, case.before)?;
-    assert_visits(rt, alloc, &mut desk, label, case.visits)?;
-    assert_alike(rt, alloc, &mut kept, &mut desk, label)?;
-    assert_eq!(rt;
-        rows_of(alloc, desk)?,
-        rows_of(alloc, kept)?,
-        "{label}: the tables"
-    );
-    Ok(())
-}
-
-pub(super) fn assert_cases(rt: &impl Abort, alloc: Global, cases: &[Case]) -> Result<(), Fail> {
-    for case in cases {
-        assert_case(rt, alloc, case)?;
-    }
-    Ok(())
 }

@@ -3,10 +3,9 @@
 use rd_geometry::{Kind, NoMemory};
 use rd_rows::bytes::put;
 use rd_rows::cbm::{
-    DIRECTORY, NewCbmEntry, PROGRAM, add_marks, crossed, formatted, full, looped, mixed,
-    one_program, put_cbm_entry,
+    DIRECTORY, NewCbmEntry, PROGRAM, add_marks, formatted, full, looped, one_program, put_cbm_entry,
 };
-use rd_rows::cpm::{NewEntry, filled, hello, with_entries};
+use rd_rows::cpm::{NewEntry, hello, with_entries};
 use std::alloc::Global;
 
 /// Bytes that are written over those of an image, each from a place on.
@@ -21,16 +20,10 @@ pub(super) enum Picture {
     Cut,
     /// A 1541 disk with the program `LOOP`, whose chain does not end.
     Looped,
-    /// A 1541 disk with `A` and `B`, which share a block, and `C`, which has one of its own.
-    Crossed,
-    /// A 1541 disk with the relative file `DATA`, a separator, and `LOST`, which was never closed.
-    Mixed,
     /// A 1541 disk with two empty programs, whose names have a quotation mark and a backslash.
     Quoted,
     /// A CP/M disk with `HELLO.TXT` of one record.
     Hello,
-    /// A CP/M disk whose bytes are all 1.
-    Ones,
     /// The disk with the program `HELLO`, with these bytes over its own.
     Altered(Patches),
     /// The disk with the program `HELLO` and with error bytes, which tell of no error but for these bytes over its own.
@@ -76,17 +69,8 @@ pub(super) const LOOPED_14: NewImage =
 pub(super) const HELLO_15: NewImage =
     like!(NewImage, PROGRAM_12, acc: 15, kind: Kind::Cpm8, bytes: Picture::Hello, digest: Picture::Hello);
 
-pub(super) const MIXED_16: NewImage =
-    like!(NewImage, PROGRAM_12, acc: 16, bytes: Picture::Mixed, digest: Picture::Mixed);
-
-pub(super) const CROSSED_17: NewImage =
-    like!(NewImage, PROGRAM_12, acc: 17, bytes: Picture::Crossed, digest: Picture::Crossed);
-
 pub(super) const QUOTED_18: NewImage =
     like!(NewImage, PROGRAM_12, acc: 18, bytes: Picture::Quoted, digest: Picture::Quoted);
-
-pub(super) const ONES_19: NewImage =
-    like!(NewImage, HELLO_15, acc: 19, bytes: Picture::Ones, digest: Picture::Ones);
 
 const QUOTE: NewCbmEntry<'static> = like!(NewCbmEntry, PROGRAM, name: b"HI\xa0\"");
 
@@ -145,11 +129,8 @@ pub(super) fn bytes_of(alloc: Global, picture: Picture) -> Result<Vec<u8>, NoMem
         Picture::Program => one_program(alloc),
         Picture::Cut => cut(alloc),
         Picture::Looped => looped(alloc),
-        Picture::Crossed => crossed(alloc),
-        Picture::Mixed => mixed(alloc),
         Picture::Quoted => quoted(alloc),
         Picture::Hello => hello(alloc),
-        Picture::Ones => filled(alloc, 1),
         Picture::Altered(patches) => altered(alloc, patches),
         Picture::Marked(patches) => marked(alloc, patches),
         Picture::Full(patches) => full_with(alloc, patches),

@@ -1,14 +1,11 @@
-//! Which requests are within their limits, and which moments have days.
+//! Which requests are within their limits.
 
 use super::images::{NewImage, PROGRAM_12, Picture};
-use super::requests::{Ask, Files, NewRule, digest_of, digest_of_picture, request_of};
+use super::requests::{Ask, Files, NewRule, request_of};
 use super::state::{CLOSED, OPEN, OPENING, TAKEDOWN};
-use crate::tests::desks::{AFTER, BEFORE, CENTRAL, new_store};
-use crate::tests::keys::{PROGRAM_DIGEST, PUBLIC, ROOM_DIGEST, STAFF_DIGEST};
-use rd_desk::{Desk, Request, What};
-use rd_geometry::{NoMemory, Text};
-use rd_policy::{Audience, Audiences, Band, DayFault, Effect, Zone};
-use sqlite::MemStore;
+use crate::tests::keys::PUBLIC;
+use rd_geometry::NoMemory;
+use rd_policy::{Audience, Audiences, Band, Effect};
 use std::alloc::Global;
 use std::process::Abort;
 use std::test::Fail;
@@ -125,77 +122,4 @@ fn requests_fit(rt: HostRuntime) -> Result<(), Fail> {
     assert_limits(&rt, rt.alloc(), QUESTIONS)?;
     assert_limits(&rt, rt.alloc(), COMMANDS)?;
     assert_limits(&rt, rt.alloc(), RULES)
-}
-
-/// Donors by the number of their bytes, and whether each is within the limits.
-const DONORS: &[(usize, bool)] = &[(1, true), (1_000, true), (1_001, false)];
-
-fn has_donor(alloc: Global, count: usize) -> Result<bool, NoMemory> {
-    let donor = Text::of("D".repeat(alloc, count)?);
-    let what = What::PutDeed {
-        num: 8,
-        donor,
-        signed: 0,
-    };
-    Ok(Request { badge: None, what }.fits())
-}
-
-fn assert_donors(rt: &impl Abort, alloc: Global, cases: &[(usize, bool)]) -> Result<(), Fail> {
-    for (count, wanted) in cases {
-        assert_eq!(rt; has_donor(alloc, *count)?, *wanted, "{count} bytes");
-    }
-    Ok(())
-}
-
-#[test]
-fn donors_have_a_thousand_bytes_at_most(rt: HostRuntime) -> Result<(), Fail> {
-    assert_donors(&rt, rt.alloc(), DONORS)
-}
-
-/// A rule, and the days of moments by the clocks of its zone.
-type Clock = (&'static str, &'static [(i64, Result<i32, DayFault>)]);
-
-const NO_DAY: Result<i32, DayFault> = Err(DayFault::OutOfRange);
-
-const CLOCKS: &[Clock] = table![
-    (CENTRAL, &[(BEFORE, Ok(21_914)), (AFTER, Ok(21_915)), (253_402_128_000, NO_DAY), (i64::MAX, NO_DAY), (i64::MIN, NO_DAY)]);
-    (CENTRAL, &[(1_909_087_199, Ok(22_095)), (1_909_087_200, Ok(22_096))]);
-    ("UTC0", &[(AFTER, Ok(21_914)), (1_909_087_200, Ok(22_095)), (-1, Ok(-1)), (0, Ok(0))]);
-    ("<+2359>-23:59", &[(59, Ok(0)), (60, Ok(1)), (-62_135_424_000, Ok(-719_160)), (-62_135_424_001, NO_DAY)]);
-    ("<-2359>23:59", &[(86_339, Ok(-1)), (86_340, Ok(0)), (253_402_127_999, Ok(2_932_894)), (253_402_128_000, NO_DAY)]);
-];
-
-fn assert_days(rt: &impl Abort, desk: &Desk<MemStore>, days: &[(i64, Result<i32, DayFault>)]) {
-    for (seconds, wanted) in days {
-        assert_eq!(rt; desk.day(*seconds), *wanted, "at {seconds}");
-    }
-}
-
-fn assert_clock(rt: &impl Abort, alloc: Global, (rule, days): Clock) -> Result<(), Fail> {
-    let desk = Desk::new(new_store(rt, alloc)?, Zone::read(rule)?);
-    assert_days(rt, &desk, days);
-    Ok(())
-}
-
-fn assert_clocks(rt: &impl Abort, alloc: Global, cases: &[Clock]) -> Result<(), Fail> {
-    for case in cases {
-        assert_clock(rt, alloc, *case)?;
-    }
-    Ok(())
-}
-
-#[test]
-fn clocks_have_days(rt: HostRuntime) -> Result<(), Fail> {
-    assert_clocks(&rt, rt.alloc(), CLOCKS)
-}
-
-#[test]
-fn digests_are_those_of_other_programs(rt: HostRuntime) -> Result<(), Fail> {
-    assert_eq!(rt; digest_of(b"abc"), STAFF_DIGEST);
-    assert_eq!(rt; digest_of(b"hello"), ROOM_DIGEST);
-    assert_eq!(rt;
-        digest_of_picture(rt.alloc(), Picture::Program)?,
-        PROGRAM_DIGEST
-    );
-    Ok(())
 }

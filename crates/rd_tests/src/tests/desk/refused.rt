@@ -2,13 +2,12 @@
 //! desk that is unavailable, nothing has changed, and the same request again, with memory, gets the usual one.
 
 use super::cases::{
-    ALL_OF_12, BAD_BODY, COLUMNS, DONE, HELLO, NO_ACCESSION, NO_FILE, NO_IMAGES, NO_RULE,
-    ONE_IMAGE, SOUND, STAFF_ONLY, SURVEY_OF_12, TAKEN_DOWN, Told, UNAVAILABLE, UNKNOWN_KEY,
-    UNTIL_2030, Visit, Wanted, told, wanted_of,
+    ALL_OF_12, BAD_BODY, COLUMNS, DONE, FILE_OF_12, HELLO, NO_ACCESSION, NO_FILE, NO_FILES,
+    NO_IMAGES, NO_RULE, NONE_OF_12, ONE_IMAGE, SOUND, STAFF_ONLY, SURVEY_OF_12, TAKEN_DOWN, Told,
+    UNAVAILABLE, UNKNOWN_KEY, UNTIL_2030, Visit, Wanted, told, wanted_of,
 };
 use super::images::{LOOPED_14, MARKED_12, NewImage, PROGRAM_12, PROGRAM_13, Picture, QUOTED_18};
 use super::requests::{Ask, request_of};
-use super::rows::OPENING;
 use super::state::{CLOSED, GIVEN, OPEN, TAKEDOWN, answer};
 use crate::tests::desks::{AFTER, BEFORE, Memory, assert_tables, new_desk_again};
 use crate::tests::keys::{Key, NOBODY, PUBLIC, ROOM, STAFF};
@@ -330,6 +329,19 @@ const UNREAD: Plan = Plan {
 fn a_body_that_was_not_read_when_memory_is_refused(rt: HostRuntime) -> Result<(), Fail> {
     assert_plan(&rt, rt.alloc(), &UNREAD)
 }
+
+/// What a caller may ask, before the file is open and after.
+const OPENING: &[Visit] = &[
+    (PUBLIC, BEFORE, Ask::Bytes(12, 0), UNTIL_2030),
+    (PUBLIC, AFTER, Ask::Bytes(12, 0), HELLO),
+    (PUBLIC, BEFORE, Ask::Images, NO_IMAGES),
+    (PUBLIC, AFTER, Ask::Images, ONE_IMAGE),
+    (PUBLIC, AFTER, Ask::Listing(12), ALL_OF_12),
+    (PUBLIC, BEFORE, Ask::Listing(12), NONE_OF_12),
+    (PUBLIC, AFTER, Ask::Catalogue, FILE_OF_12),
+    (PUBLIC, BEFORE, Ask::Catalogue, NO_FILES),
+    (STAFF, AFTER, Ask::Survey(12), SURVEY_OF_12),
+];
 
 #[test]
 fn questions_when_memory_is_refused(rt: HostRuntime) -> Result<(), Fail> {

@@ -62,11 +62,11 @@ pub(super) enum Ask {
     Unread,
 }
 
-pub(super) fn digest_of(bytes: &[u8]) -> [u8; 32] {
+fn digest_of(bytes: &[u8]) -> [u8; 32] {
     Sha256::digest(bytes)
 }
 
-pub(super) fn digest_of_picture(alloc: Global, picture: Picture) -> Result<[u8; 32], NoMemory> {
+fn digest_of_picture(alloc: Global, picture: Picture) -> Result<[u8; 32], NoMemory> {
     let bytes = bytes_of(alloc, picture)?;
     Ok(digest_of(bytes.as_slice()))
 }

@@ -2,7 +2,7 @@
 
 use super::images::PROGRAM_12;
 use super::requests::{ALL, Ask, Files, NOT_STAFF, NewRule, request_of};
-use crate::tests::desks::{AFTER, Memory, into_connection, new_desk, opened};
+use crate::tests::desks::{AFTER, Memory, new_desk};
 use crate::tests::keys::{Key, STAFF};
 use rd_desk::{Reply, Request};
 use rd_geometry::NoMemory;
@@ -95,9 +95,4 @@ pub(super) fn desk_with(
     carry_out(rt, alloc, &mut desk, label, GIVEN)?;
     carry_out(rt, alloc, &mut desk, label, commands)?;
     Ok(desk)
-}
-
-/// The desk over the store that the database of a desk holds.
-pub(super) fn reopened(rt: &impl Abort, alloc: Global, desk: Memory) -> Result<Memory, Fail> {
-    opened(rt, alloc, into_connection(desk))
 }

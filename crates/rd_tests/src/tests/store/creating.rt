@@ -1,6 +1,6 @@
 //! Making a desk, and giving its connection back.
 
-use super::steps::{Case, Digest, Question, Start, Step, assert_cases, started};
+use super::steps::{Case, Digest, Question, Start, Step, assert_cases};
 use super::{assert_filled, filled, into_connection, run};
 use crate::tests::desks::{new_connection, open};
 use crate::tests::keys::ROOM_DIGEST;
@@ -37,40 +37,6 @@ const NEW: &[Case] = &[Case {
 #[test]
 fn a_new_desk_has_its_staff_key(rt: HostRuntime) -> Result<(), Fail> {
     assert_cases(&rt, rt.alloc(), NEW)
-}
-
-/// Questions of the connection of a desk that is given back, and what each tells.
-const ROWS: &[(Start, &str, i64)] = &[
-    (Start::New, "SELECT version FROM desk", 2),
-    (Start::New, "SELECT count(*) FROM badge", 1),
-    (Start::New, "SELECT count(*) FROM found", 0),
-    (Start::New, "SELECT count(*) FROM marks", 0),
-    (Start::Filled, "SELECT count(*) FROM found", 1),
-    (Start::Filled, "SELECT count(*) FROM marks", 0),
-    (Start::Filled, "SELECT count(*) FROM rule", 2),
-    (
-        Start::Filled,
-        "SELECT signed FROM deed WHERE donor = 'B. Donor'",
-        18_321,
-    ),
-    (
-        Start::Filled,
-        "SELECT length(bytes) FROM image WHERE acc = 12",
-        174_848,
-    ),
-];
-
-fn assert_rows(rt: &impl Abort, alloc: Global, cases: &[(Start, &str, i64)]) -> Result<(), Fail> {
-    for (start, sql, wanted) in cases {
-        let mut conn = into_connection(started(rt, alloc, *start)?);
-        assert_eq!(rt; number(&mut conn, *sql)?, *wanted, "{sql}");
-    }
-    Ok(())
-}
-
-#[test]
-fn the_connection_has_the_rows(rt: HostRuntime) -> Result<(), Fail> {
-    assert_rows(&rt, rt.alloc(), ROWS)
 }
 
 #[test]

@@ -299,12 +299,6 @@ fn no_others_are_found(rt: HostRuntime) -> Result<(), Fail> {
 }
 
 #[test]
-fn the_index_has_the_rows(rt: HostRuntime) -> Result<(), Fail> {
-    let mut conn = into_connection(started(&rt, rt.alloc(), Start::Shelved)?);
-    assert_rows(&rt, &mut conn, ROWS)
-}
-
-#[test]
 fn the_index_keeps_the_rows(rt: HostRuntime) -> Result<(), Fail> {
     let mut desk = started(&rt, rt.alloc(), Start::Shelved)?;
     assert_steps(&rt, rt.alloc(), &mut desk, "calls", AGAIN)?;

@@ -7,7 +7,7 @@ use super::steps::{
 };
 use super::told::{HELLO, HELLO_TXT, LOOP};
 use super::{CPM, Desk, LOOPED, MARKED, PROGRAM, into_connection, migrate, run};
-use crate::tests::desks::{connection_again, create, new_connection, open};
+use crate::tests::desks::{connection_again, create, open};
 use crate::tests::tables::{first_tables_of, number, others_of, tables_of};
 use rd_geometry::{Kind, NoMemory};
 use rd_policy::{Audience, Band};
@@ -612,14 +612,6 @@ fn no_migration_when_memory_is_refused(rt: HostRuntime) -> Result<(), Fail> {
     for case in UNMIGRATED {
         assert_unmigrated(&rt, rt.alloc(), *case)?;
     }
-    Ok(())
-}
-
-/// An empty database is no desk. The call takes no memory, so there is nothing to refuse.
-#[test]
-fn an_empty_database_is_no_desk(rt: HostRuntime) -> Result<(), Fail> {
-    let (fault, _) = fault_of(&rt, rt.alloc(), new_connection(rt.alloc())?)?;
-    assert_eq!(rt; fault, OpenFault::NotADesk);
     Ok(())
 }
 
