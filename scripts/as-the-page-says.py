@@ -5,8 +5,8 @@ page shows.
 PAGE is docs/OPERATING.md, README.md or docs/COMMANDS.md; without one it is the first. PROGRAM is a built desk; without
 one it is ./desk of this repository. You need Linux, Python 3 with its standard library alone, and packages of Debian,
 which the script installs as root: for the first page nginx, openssl, sqlite3, curl, python3, tzdata, logrotate, adduser
-and systemd, for README.md sqlite3 and curl, for docs/COMMANDS.md curl and cpmtools. The ports 8041, 8042, 8043, 8080
-and 8443 have to be free.
+and systemd, for README.md curl, for docs/COMMANDS.md curl, sqlite3 and cpmtools. The ports 8041, 8042, 8043, 8080 and
+8443 have to be free.
 
 Commands after `$` run in one shell, in a copy of what they need of this repository; those of README.md and
 docs/COMMANDS.md have a /tmp of their own. Commands after `#` need the rights of root. Where it has them, they run in
