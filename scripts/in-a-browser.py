@@ -256,7 +256,7 @@ def see_found(seen, page, room):
     page.browser.type("#find", "welcome")
     page.browser.press(ENTER)
     shown = wait_for_place(page, "#/find/welcome")
-    seen.same("found: by typing", ("You may see 1 file with it in the name.", ["#/18", "#/18/0"]), told_of(shown))
+    seen.same("found: by typing", ("You may see 1 file with this in the name.", ["#/18", "#/18/0"]), told_of(shown))
 
 
 def see_words(seen, page, label, files):
@@ -308,9 +308,9 @@ def see_fetched(seen, page, room):
 # Replies in the place of the desk's: their length as it is told, how many files they have, and what the page says.
 LONG = "The list of all files is above 5 MB, so this page does not fetch it. Look for the file on its disk."
 LENGTHS = [
-    (5000000, 1, "You may see 1 file with it in the name.", 1, False), (5000001, 1, "Refused.", 0, True),
-    (100, 500, "You may see 500 files with it in the name.", 500, False),
-    (100, 501, "You may see 501 files with it in the name. The first 500 are shown.", 500, False),
+    (5000000, 1, "You may see 1 file with this in the name.", 1, False), (5000001, 1, "Refused.", 0, True),
+    (100, 500, "You may see 500 files with this in the name.", 500, False),
+    (100, 501, "You may see 501 files with this in the name. The first 500 are shown.", 500, False),
 ]
 INSTEAD = """
 const [length, files] = arguments;

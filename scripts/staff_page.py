@@ -279,7 +279,7 @@ def see_other_key(seen, page, number):
 
 # What a survey tells of a disk whose map and sizes are right.
 EXACT = [
-    "0 blocks in use are marked free, 0 others are not; 0 tracks have a wrong count",
+    "0 blocks in use are marked free, 0 unused ones not; 0 tracks have a wrong count",
     "0 files with another size than the directory says",
 ]
 
@@ -369,8 +369,8 @@ def see_fields(seen, page, room):
     seen.same("fields: a takedown lets nobody read", ["", "list", "deny"], page.browser.script(effects))
 
 
-CONFLICT = "Another image, kind or deed stands at this accession, or no key of the staff would be left. "
-CONFLICT += "Give the disk another accession; put another key of the staff first."
+CONFLICT = "This accession has another disk, or this disk under another deed or kind; or no key of the staff would be "
+CONFLICT += "left. Give the disk another accession; or first put another key of the staff."
 
 
 def see_refused(seen, page, room):
@@ -401,7 +401,7 @@ def see_refused(seen, page, room):
 OTHERWISE = [
     (
         "asked(path.replace(/[0-9a-f]{64}/, '0'.repeat(64)), options)",
-        "The desk got other bytes than you sent. Send them again.Refusal: digest-differs",
+        "The desk received other bytes than you sent. Send them again.Refusal: digest-differs",
     ),
     (
         "asked(path.replace('d64', 'cpm8'), options)",
@@ -428,8 +428,7 @@ OTHERWISE = [
     ("new Response('', { status: 504 })", f"The desk took too long. Try again. {AGAIN}"),
     (
         "new Response('{\"error\":\"unavailable\"}', { status: 503 })",
-        "The desk cannot answer now, and has changed nothing. Try again. If that fails, call whoever runs it."
-        "Refusal: unavailable",
+        f"The desk cannot do this now. Try again. If that fails, call whoever runs it. {AGAIN}Refusal: unavailable",
     ),
     ("new Response('<html>', { status: 418 })", "The desk refuses that. Load this page again."),
     ("new Response('<html>')", "This page cannot read the desk's answer."),

@@ -146,14 +146,14 @@ async function showFound(words) {
   const time = at.toLocaleTimeString("en-GB", { hour: "2-digit", minute: "2-digit" });
   const more = found.length > shown.length ? ` The first ${MOST_FOUND} are shown.` : "";
   const none = `There is no file with \u201c${words}\u201d in its name that you may see. ${asker()}`;
-  const told = found.length ? `You may see ${counted(found.length, "file")} with it in the name.${more}` : none;
-  const parts = [findForm(words), element("p", `The list of all files is that of ${time}.`), anewButton()];
+  const told = found.length ? `You may see ${counted(found.length, "file")} with this in the name.${more}` : none;
+  const parts = [findForm(words), element("p", `This page fetched the list of all files at ${time}.`), anewButton()];
   if (shown.length) parts.push(table("Files", ["Disk", ...FILE_COLUMNS], shown.map(foundRow)));
   return { heading: `\u201c${words}\u201d`, told, parts };
 }
 
 function anewButton() {
-  const made = element("button", "Fetch the list anew", { id: "anew", type: "button" });
+  const made = element("button", "Fetch the list again", { id: "anew", type: "button" });
   made.addEventListener("click", () => {
     catalogue = null;
     show(true);
@@ -229,7 +229,7 @@ function choices(bytes, text, name) {
 function showBytes(bytes, text, asText) {
   part("as-text").setAttribute("aria-pressed", String(asText));
   part("as-hex").setAttribute("aria-pressed", String(!asText));
-  part("told").textContent = asText ? "Shown as text." : "Shown as bytes: where, in hexadecimal digits, and as ASCII.";
+  part("told").textContent = asText ? "Shown as text." : "Shown as bytes: the place, hexadecimal digits, and ASCII.";
   part("bytes").textContent = asText ? text : hexText(bytes);
 }
 

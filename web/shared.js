@@ -24,15 +24,12 @@ const REFUSALS = {
     "The image does not have the length of its kind.",
     "Check that the file is whole, and choose it again.",
   ],
-  "digest-differs": ["The desk got other bytes than you sent.", "Send them again."],
+  "digest-differs": ["The desk received other bytes than you sent.", "Send them again."],
   conflict: [
-    "Another image, kind or deed stands at this accession, or no key of the staff would be left.",
-    "Give the disk another accession; put another key of the staff first.",
+    "This accession has another disk, or this disk under another deed or kind; or no key of the staff would be left.",
+    "Give the disk another accession; or first put another key of the staff.",
   ],
-  unavailable: [
-    "The desk cannot answer now, and has changed nothing.",
-    "Try again. If that fails, call whoever runs it.",
-  ],
+  unavailable: ["The desk cannot do this now.", "Try again. If that fails, call whoever runs it."],
 };
 
 // The same for a reply without such a name: from nginx, from nobody, or from this page itself.

@@ -83,8 +83,8 @@ const OUTCOMES = {
   changed: "Changed: the disk no longer has the SHA-256 that came with it. Restore a backup.",
 };
 
-// Where the connection ends early, nobody here knows what the desk has done. A command sent twice is done once.
-const UNSURE = [0, 502, 504];
+// After these nobody here knows whether the desk has done what was sent. A command that is sent twice is done once.
+const UNSURE = [0, 502, 503, 504];
 const AGAIN = "The desk may have done it all the same. You can safely send it again.";
 
 // What this page has put and not dropped since it got the key, by section and path.
@@ -408,7 +408,7 @@ function surveyed(survey) {
   };
   if (map !== null) {
     const { claimed_free: free, unclaimed_used: used, wrong_counts: wrong } = map;
-    pairs.Map = `${free} blocks in use are marked free, ${used} others are not; ${wrong} tracks have a wrong count`;
+    pairs.Map = `${free} blocks in use are marked free, ${used} unused ones not; ${wrong} tracks have a wrong count`;
     pairs.Sizes = `${counted(survey.size_differs, "file")} with another size than the directory says`;
   }
   const made = element("dl", null);
