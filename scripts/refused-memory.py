@@ -4,7 +4,7 @@ each growth of memory that the test or command asks for, with that growth refuse
 
 N runs go on at a time, four without it. You need Linux, Python 3.11 with its standard library alone, gcc with the C
 library's headers, the shell sqlite3, and the crates' built tests and program: `rt test` in crates/rd_policy_tests,
-crates/rd_rows_tests, crates/rd_tests and crates/rd_main, and `rt run` in crates/rd_main.
+crates/rd_disk_tests, crates/rd_tests and crates/rd_main, and `rt run` in crates/rd_main.
 
 A test has to pass with each growth refused. A command has to do its work, or to say that memory was refused and leave
 the store as it was; a second run then does the work. What a store holds is what sqlite3 dumps of it: wal_pages.py says
@@ -31,7 +31,7 @@ import wal_pages
 from client_cases import ROOT
 from reading_room import free_ports
 
-CRATES = ("rd_policy_tests", "rd_rows_tests", "rd_tests", "rd_main")
+CRATES = ("rd_policy_tests", "rd_disk_tests", "rd_tests", "rd_main")
 # After how many seconds a run is given up.
 LIMIT = 600
 WHEN = ["--at", "1893452400", "--zone", "CET-1CEST,M3.5.0,M10.5.0/3"]

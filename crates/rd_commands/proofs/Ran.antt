@@ -9,7 +9,7 @@ use Rattle.rd_commands.specs.Cat.{HasNoSoundFile, IsCut, Refuses}
 use Rattle.rd_commands.specs.Output.{AppendsPart}
 use Rattle.rd_commands.specs.Printed.{refusal_line}
 use Rattle.rd_commands.specs.Refusals.{status_of}
-use Rattle.rd_commands.specs.Told.{Tells}
+use Rattle.rd_commands.specs.RefusalLines.{Tells}
 use Rattle.rd_commands.specs.Commands.{AsksOfStore, IsAskOf}
 use Rattle.rd_commands.specs.Words.{AsksOfKind}
 use Rattle.rd_commands.specs.declared.words.Ask.{Ask}

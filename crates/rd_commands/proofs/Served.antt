@@ -6,7 +6,7 @@ use Rattle.rd_geometry.specs.declared.kind.Kind.{Kind}
 use Rattle.rd_geometry.specs.declared.kind.Kind.TheVariants.{Cpm8}
 use Rattle.rd_volume.specs.Volumes.{AreBytesOf, IsFound, IsFoundAt, IsSlotOfFile}
 use Rattle.rd_volume.specs.declared.found.Found.{Found}
-use Rattle.rd_volume.proofs.Told.{told_faults, told_served, told_slot}
+use Rattle.rd_volume.proofs.FoundFile.{told_faults, told_served, told_slot}
 use Rattle.rd_commands.specs.Cat.{AreFaultsOf, HasFaultyFile, IsCat, IsFaultyBy, IsListedOnly, Refuses, Serves, ServesPart}
 use Rattle.rd_commands.specs.Output.{AppendsPart}
 use Rattle.rd_commands.specs.declared.refusal.Refusal.{Refusal}

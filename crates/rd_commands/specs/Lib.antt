@@ -10,6 +10,6 @@ pub mod Input
 pub mod Cat
 pub mod Printed
 pub mod Listed
-pub mod Told
+pub mod RefusalLines
 pub mod Sheets
 pub mod Versions

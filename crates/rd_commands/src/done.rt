@@ -1,5 +1,5 @@
 ghost use Rattle.std.specs.Prelude.{◌≡◌, ◌≢◌, ◌≤◌};
-ghost use Rattle.rd_commands.specs.Told as spec;
+ghost use Rattle.rd_commands.specs.RefusalLines as spec;
 ghost use Rattle.rd_commands.specs.declared.done.Done.TheVariants as done;
 
 use crate::refusal::Refusal;

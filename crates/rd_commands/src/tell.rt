@@ -11,7 +11,7 @@ ghost use Rattle.rd_commands.specs.Asks.{IsHelp, IsVersion};
 ghost use Rattle.rd_commands.specs.Output.{AppendsPart};
 ghost use Rattle.rd_commands.specs.Printed.{blanked, refusal_line, words_after};
 ghost use Rattle.rd_commands.specs.Refusals.{status_of};
-ghost use Rattle.rd_commands.specs.Told.{Tells};
+ghost use Rattle.rd_commands.specs.RefusalLines.{Tells};
 ghost use Rattle.rd_commands.specs.Versions.{RefusesVersion, version_line};
 ghost use Rattle.rd_commands.specs.declared.refusal.Refusal.TheVariants.{NoMemory};
 ghost use Rattle.rd_commands.specs.declared.words.Unread.TheVariants as Unread;

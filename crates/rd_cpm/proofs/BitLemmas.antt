@@ -5,7 +5,7 @@ use Rattle.std.proofs.lemmas.Bool.{agree_below_at, cases_eq}
 use Rattle.std.specs.Int.Bits.{and_zero_l}
 use Rattle.rd_cpm.specs.Entries.{rc_of}
 use Rattle.rd_cpm.specs.Gathered.{LacksPredecessor, EndsEarly, AreTwice, IsHole, SomePlace, IsOffDiskIn, IsCrossedIn}
-use Rattle.rd_cpm.specs.Told.{AreTold}
+use Rattle.rd_cpm.specs.EntryTests.{AreTold}
 
 -- the digit of a flag
 pub digit : Bool → ℕ

@@ -10,7 +10,7 @@ use Rattle.rd_cpm.specs.Entries.{IsOfFile, extent_number_of, first_of, name_of, 
 use Rattle.rd_cpm.specs.Faults.{AreFaults, HasBadCount, HasDuplicate, HasGap, HasHole, HasOtherClaim, IsCrossed, IsOffDisk, IsShort, IsSound}
 use Rattle.rd_cpm.specs.Files.{Claims, Directory, IsEntryOf, IsFileSlot}
 use Rattle.rd_cpm.specs.Gathered.{AreGathered, HasExtent}
-use Rattle.rd_cpm.specs.Told.{AreInOrder, AreRecords}
+use Rattle.rd_cpm.specs.EntryTests.{AreInOrder, AreRecords}
 use Rattle.rd_cpm.proofs.BitLemmas.{digit, seven}
 use Rattle.rd_cpm.proofs.FaultLemmas.{faults_by_bits, sectors_as, sound_in_order}
 use Rattle.rd_cpm.proofs.GatherLemmas.{any_to_entry, entry_to_any}

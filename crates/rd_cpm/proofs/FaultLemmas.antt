@@ -12,7 +12,7 @@ use Rattle.rd_cpm.specs.Faults.{HasBadCount, HasDuplicate, HasGap, IsShort, HasH
 use Rattle.rd_cpm.specs.Contents.{AreSectors}
 use Rattle.rd_cpm.specs.Claimed.{IsClaimedBefore, IsSharedBefore, AreClaims}
 use Rattle.rd_cpm.specs.Gathered.{AreGathered, LacksPredecessor, EndsEarly, AreTwice, IsHole, SomePlace, IsOffDiskIn, IsSharedBlock, IsCrossedIn}
-use Rattle.rd_cpm.specs.Told.{AreInOrder, AreTold, AreRecords, AreJudged}
+use Rattle.rd_cpm.specs.EntryTests.{AreInOrder, AreTold, AreRecords, AreJudged}
 use Rattle.rd_cpm.proofs.BitLemmas.{TellSeven, no_bit, no_bits}
 use Rattle.rd_cpm.proofs.ClaimLemmas.{numbered}
 use Rattle.rd_cpm.proofs.OwnerLemmas.{of_file}

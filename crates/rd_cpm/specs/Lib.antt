@@ -8,4 +8,4 @@ pub mod Listing
 pub mod Owners
 pub mod Claimed
 pub mod Gathered
-pub mod Told
+pub mod EntryTests

@@ -1,7 +1,7 @@
 ghost use Rattle.std.specs.Prelude.{◌≡◌, ◌↔◌, ◌<◌, ◌+◌, ◌*◌, IsTrue, Any, if◌then◌else◌};
 ghost use Rattle.rd_cpm.specs.Entries.{rc_of, extent_number_of};
 ghost use Rattle.rd_cpm.specs.Gathered.{HasExtent, HasLater, LacksPredecessor, EndsEarly, AreTwice, IsHole, SomePlace, IsOffDiskIn, IsSharedBlock, IsCrossedIn};
-ghost use Rattle.rd_cpm.specs.Told.{AreTold};
+ghost use Rattle.rd_cpm.specs.EntryTests.{AreTold};
 
 use crate::claims::Claims;
 use crate::fields::Entry;

@@ -1,7 +1,7 @@
 ghost use Rattle.std.specs.Prelude.{◌≡◌, ◌<◌, ◌≤◌, ◌+◌, ◌*◌, ◌/◌, ◌%◌, ℕ, IfOk, OnOk, IfSome, IfNone, Contains, length, take, slice_index};
 ghost use Rattle.rd_cpm.specs.Entries.{rc_of, extent_number_of, pointer_of};
 ghost use Rattle.rd_cpm.specs.Gathered.{HasExtent};
-ghost use Rattle.rd_cpm.specs.Told.{AreInOrder, AreRecords};
+ghost use Rattle.rd_cpm.specs.EntryTests.{AreInOrder, AreRecords};
 
 use crate::fields::Entry;
 use rd_geometry::NoMemory;

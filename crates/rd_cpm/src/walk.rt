@@ -4,7 +4,7 @@ ghost use Rattle.rd_cpm.specs.Entries.{slot_of};
 ghost use Rattle.rd_cpm.specs.Files.{IsFileSlot};
 ghost use Rattle.rd_cpm.specs.Owners.{AreOwners};
 ghost use Rattle.rd_cpm.specs.Claimed.{AreClaims};
-ghost use Rattle.rd_cpm.specs.Told.{AreJudged};
+ghost use Rattle.rd_cpm.specs.EntryTests.{AreJudged};
 ghost use Rattle.rd_cpm.specs.Listing.{Describes, AreFiles};
 
 use crate::claims::{Claims, claims_of};

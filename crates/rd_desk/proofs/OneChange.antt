@@ -17,9 +17,9 @@ use Rattle.rd_protocol.specs.Requests.{MayChange}
 use Rattle.rd_protocol.specs.declared.refusal.Refusal.{Refusal}
 use Rattle.rd_protocol.specs.declared.refusal.Refusal.TheVariants.{UnknownKey}
 use Rattle.rd_protocol.specs.declared.request.What.{What}
-use Rattle.rd_protocol.specs.declared.said.Reply.{Reply}
-use Rattle.rd_protocol.specs.declared.said.Said.{Said}
-use Rattle.rd_protocol.specs.declared.said.Said.TheVariants as said
+use Rattle.rd_protocol.specs.declared.response.Reply.{Reply}
+use Rattle.rd_protocol.specs.declared.response.Response.{Response}
+use Rattle.rd_protocol.specs.declared.response.Response.TheVariants as response
 use Rattle.rd_desk.proofs.Responding.{keeps_still, keeps_then}
 
 module _ {S : Type 0} (g : Ghosts S) (day : ℤ) (what : What) (Returned : Result ⊤ StoreFault → Type 0) where
@@ -61,7 +61,7 @@ check_recorded desk acc day found image outcome read is told =
     ap (λ (o : Outcome). with_check acc day o desk) told ∙ ap (λ (it : Option ImageRow). with_checked it acc day desk) (sym is ∙ read)
 
 -- a call that failed, and no answer after it
-pub failed_is_said : {X : Type 0} (told : Result ⊤ StoreFault) (fault : StoreFault) (result : Result Said X) → told ≡ Err fault → IsErr result → IsSaidOf told result
+pub failed_is_said : {X : Type 0} (told : Result ⊤ StoreFault) (fault : StoreFault) (result : Result Response X) → told ≡ Err fault → IsErr result → IsSaidOf told result
 failed_is_said (Ok done) fault result is none = cc
 failed_is_said (Err why) fault (Ok answer) is none = let e : false ≡ true = none in cc
 failed_is_said (Err why) fault (Err other) is none = tt
@@ -71,14 +71,14 @@ refused_status UnknownKey is = omega (arith, is)
 refused_status other is = omega (arith, is)
 
 -- the status is 200 exactly if the answer is one after Ok
-ok_status : {X : Type 0} (result : Result Said X) (reply : Reply) (told : Result ⊤ StoreFault) → IsWritten result reply → IsSaidOf told result → IsOk told ↔ (reply.status ≡ 200)
-ok_status (Ok said.Done) reply (Ok done) (inl is) of = (λ ok. ap (λ (r : Reply). r.status) is, λ status. refl)
-ok_status (Ok said.Done) reply (Ok done) (inr none) of = absurd (none.1 tt)
-ok_status (Ok (said.Checked outcome)) reply (Ok done) (inl is) of = (λ ok. ap (λ (r : Reply). r.status) is, λ status. refl)
-ok_status (Ok (said.Checked outcome)) reply (Ok done) (inr none) of = absurd (none.1 tt)
-ok_status (Ok (said.Refused refusal)) reply (Err fault) (inl is) of =
+ok_status : {X : Type 0} (result : Result Response X) (reply : Reply) (told : Result ⊤ StoreFault) → IsWritten result reply → IsSaidOf told result → IsOk told ↔ (reply.status ≡ 200)
+ok_status (Ok response.Done) reply (Ok done) (inl is) of = (λ ok. ap (λ (r : Reply). r.status) is, λ status. refl)
+ok_status (Ok response.Done) reply (Ok done) (inr none) of = absurd (none.1 tt)
+ok_status (Ok (response.Checked outcome)) reply (Ok done) (inl is) of = (λ ok. ap (λ (r : Reply). r.status) is, λ status. refl)
+ok_status (Ok (response.Checked outcome)) reply (Ok done) (inr none) of = absurd (none.1 tt)
+ok_status (Ok (response.Refused refusal)) reply (Err fault) (inl is) of =
     (λ ok. cc, λ status. absurd (refused_status refusal (sym (ap (λ (r : Reply). r.status) is) ∙ status)))
-ok_status (Ok (said.Refused refusal)) reply (Err fault) (inr none) of =
+ok_status (Ok (response.Refused refusal)) reply (Err fault) (inr none) of =
     (λ ok. cc, λ status. let e : 503 ≡ 200 = sym (ap (λ (r : Reply). r.status) none.0) ∙ status in absurd (omega (arith, e)))
 ok_status (Err none) reply (Err fault) is of =
     (λ ok. cc, λ status. let e : 503 ≡ 200 = sym (ap (λ (r : Reply). r.status) is) ∙ status in absurd (omega (arith, e)))
@@ -86,7 +86,7 @@ ok_status result reply (Ok done) is of = absurd of
 ok_status result reply (Err fault) is of = absurd of
 
 -- what was said, as it is written
-pub one_change_written : {S X : Type 0} (g : Ghosts S) (old new : Held S) (day : ℤ) (what : What) (result : Result Said X) (reply : Reply) → IsWritten result reply
+pub one_change_written : {S X : Type 0} (g : Ghosts S) (old new : Held S) (day : ℤ) (what : What) (result : Result Response X) (reply : Reply) → IsWritten result reply
     → MakesOneChange g old new day what (λ told. IsSaidOf told result) → MakesOneChange g old new day what (λ told. IsOk told ↔ (reply.status ≡ 200))
 one_change_written g old new day what result reply written makes = record {
   middle = makes.middle;

@@ -14,12 +14,12 @@ use Rattle.rd_protocol.specs.Judged.{IsAccepted, audience_of}
 use Rattle.rd_protocol.specs.Replies.{IsAnswered, IsDone, IsStep, Tells, carried_out}
 use Rattle.rd_protocol.specs.Requests.{IsForStaff}
 use Rattle.rd_protocol.specs.declared.request.Request.{Request}
-use Rattle.rd_protocol.specs.declared.said.Said.{Said}
-use Rattle.rd_protocol.specs.declared.said.Said.TheVariants as said
+use Rattle.rd_protocol.specs.declared.response.Response.{Response}
+use Rattle.rd_protocol.specs.declared.response.Response.TheVariants as response
 use Rattle.rd_protocol.proofs.Accepting.{nothing_asked, is_unread}
 use Rattle.rd_protocol.proofs.Crashes.{left_accepted}
 
-carried : (old : Desk) (day : ℤ) (request : Request) (answer : Said) (new : Desk) → IsForStaff request.what → audience_of old request.badge ≡ Some Staff
+carried : (old : Desk) (day : ℤ) (request : Request) (answer : Response) (new : Desk) → IsForStaff request.what → audience_of old request.badge ≡ Some Staff
     → (IsAccepted old request None × Tells old Staff day None answer request.what × (new ≡ carried_out day request.what old)) → IsDone old day request answer new
 carried old day request answer new command staff is = record {
   file = None;
@@ -32,12 +32,12 @@ carried old day request answer new command staff is = record {
 }
 
 -- what is carried out, or why it is refused, is what is answered
-response : {X : Type 0} (old : Desk) (day : ℤ) (request : Request) (result : Result Said X) (new : Desk) → IsForStaff request.what → audience_of old request.badge ≡ Some Staff
+responded : {X : Type 0} (old : Desk) (day : ℤ) (request : Request) (result : Result Response X) (new : Desk) → IsForStaff request.what → audience_of old request.badge ≡ Some Staff
     → IsCarriedOut old day request.what result new → IsResponse old day request result new
-response old day request (Ok (said.Refused refusal)) new command staff is =
+responded old day request (Ok (response.Refused refusal)) new command staff is =
     (record { file = None; asked = nothing_asked old day request command; refused = is.0 request.badge staff }, is.1)
-response old day request (Ok answer) new command staff is = carried old day request answer new command staff (is.0 request.badge staff, is.1, is.2)
-response old day request (Err fault) new command staff same = same
+responded old day request (Ok answer) new command staff is = carried old day request answer new command staff (is.0 request.badge staff, is.1, is.2)
+responded old day request (Err fault) new command staff same = same
 
 -- a lawful desk that a crash left of such a request is the one before it, or the one after the step
 left_step : (old : Desk) (day : ℤ) (request : Request) (left : Trees) → IsForStaff request.what → audience_of old request.badge ≡ Some Staff → IsLawful old
@@ -82,8 +82,8 @@ module _ {S : Type 0} (g : Ghosts S) where
       → IsOpen g b → audience_of (desk g b) badge ≡ Some audience
   known_still a b badge found audience keeps answer is o = subst (λ (d : Desk). audience_of d badge ≡ Some audience) (sym (keeps.same o)) (sym (answer o) ∙ is)
 
-  module _ {X : Type 0} (day : ℤ) (request : Request) (result : Result Said X) where
-    answered : (audience : Audience) (old new : Desk) (r : Result Said X) → new ≡ old → audience_of old request.badge ≡ Some audience → IfOk r (IsSaidTo old audience day request.what)
+  module _ {X : Type 0} (day : ℤ) (request : Request) (result : Result Response X) where
+    answered : (audience : Audience) (old new : Desk) (r : Result Response X) → new ≡ old → audience_of old request.badge ≡ Some audience → IfOk r (IsSaidTo old audience day request.what)
         → IsResponse old day request r new
     answered audience old new (Ok answer) same known told = subst (IsAnswered old day request answer) (sym same) (told request.badge known)
     answered audience old new (Err fault) same known told = same
@@ -103,7 +103,7 @@ module _ {S : Type 0} (g : Ghosts S) where
         → Carries g a b day request.what result → Responds g a b day request result
     carries_respond a b command staff rests carries = record {
       lasts = carries.lasts;
-      judged = λ o. let was = carries.lasts.was_open o in response (desk g a) day request result (desk g b) command (staff was) (carries.judged o);
+      judged = λ o. let was = carries.lasts.was_open o in responded (desk g a) day request result (desk g b) command (staff was) (carries.judged o);
       crash = λ was clean left may. left_step (desk g a) day request left command (staff was) (rests.lawful was) (carries.crash was clean left may);
       durable = carries.durable;
     }

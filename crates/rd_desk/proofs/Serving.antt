@@ -15,9 +15,9 @@ use Rattle.rd_protocol.specs.declared.refusal.Refusal.TheVariants.{StaffOnly}
 use Rattle.rd_protocol.specs.declared.request.Request.{Request}
 use Rattle.rd_protocol.specs.declared.request.What.{What}
 use Rattle.rd_protocol.specs.declared.request.What.TheVariants.{Images, Listing, Bytes, Catalogue, Survey}
-use Rattle.rd_protocol.specs.declared.said.Reply.{Reply}
-use Rattle.rd_protocol.specs.declared.said.Said.{Said}
-use Rattle.rd_protocol.specs.declared.said.Said.TheVariants as said
+use Rattle.rd_protocol.specs.declared.response.Reply.{Reply}
+use Rattle.rd_protocol.specs.declared.response.Response.{Response}
+use Rattle.rd_protocol.specs.declared.response.Response.TheVariants as response
 use Rattle.rd_protocol.proofs.Accepting.{is_for_staff}
 use Rattle.rd_protocol.proofs.Again.{same_again}
 use Rattle.rd_protocol.proofs.Hiding.{hides}
@@ -25,29 +25,29 @@ use Rattle.rd_desk.proofs.OneChange.{one_change_written}
 use Rattle.rd_protocol.proofs.Showing.{tells_what_is_shown}
 
 -- what is said and is no command's end changes nothing
-changes_nothing : (old : Desk) (audience : Audience) (day : ℤ) (file : Option JudgedFile) (answer : Said) (what : What) → ¬ IsOfChange answer
+changes_nothing : (old : Desk) (audience : Audience) (day : ℤ) (file : Option JudgedFile) (answer : Response) (what : What) → ¬ IsOfChange answer
     → Tells old audience day file answer what → carried_out day what old ≡ old
-changes_nothing old audience day file said.Done what other tells = absurd (other tt)
-changes_nothing old audience day file (said.Checked outcome) what other tells = absurd (other tt)
-changes_nothing old audience day file (said.Refused refusal) what other tells = absurd tells
-changes_nothing old audience day file (said.Images lines) Images other tells = refl
-changes_nothing old audience day file (said.Images lines) what other tells = absurd tells
-changes_nothing old audience day file (said.Listed listing) (Listing acc) other tells = refl
-changes_nothing old audience day file (said.Listed listing) what other tells = absurd tells
-changes_nothing old audience day file (said.File bytes) (Bytes acc slot) other tells = refl
-changes_nothing old audience day file (said.File bytes) what other tells = absurd tells
-changes_nothing old audience day file (said.Catalogue listings) Catalogue other tells = refl
-changes_nothing old audience day file (said.Catalogue listings) what other tells = absurd tells
-changes_nothing old audience day file (said.Surveyed survey) (Survey acc) other tells = refl
-changes_nothing old audience day file (said.Surveyed survey) what other tells = absurd tells
+changes_nothing old audience day file response.Done what other tells = absurd (other tt)
+changes_nothing old audience day file (response.Checked outcome) what other tells = absurd (other tt)
+changes_nothing old audience day file (response.Refused refusal) what other tells = absurd tells
+changes_nothing old audience day file (response.Images lines) Images other tells = refl
+changes_nothing old audience day file (response.Images lines) what other tells = absurd tells
+changes_nothing old audience day file (response.Listed listing) (Listing acc) other tells = refl
+changes_nothing old audience day file (response.Listed listing) what other tells = absurd tells
+changes_nothing old audience day file (response.File bytes) (Bytes acc slot) other tells = refl
+changes_nothing old audience day file (response.File bytes) what other tells = absurd tells
+changes_nothing old audience day file (response.Catalogue listings) Catalogue other tells = refl
+changes_nothing old audience day file (response.Catalogue listings) what other tells = absurd tells
+changes_nothing old audience day file (response.Surveyed survey) (Survey acc) other tells = refl
+changes_nothing old audience day file (response.Surveyed survey) what other tells = absurd tells
 
-untold : (old : Desk) (day : ℤ) (request : Request) (answer : Said) (new : Desk) → ¬ IsOfChange answer → IsAnswered old day request answer new → new ≡ old
-untold old day request (said.Refused refusal) new other answered = answered.1
+untold : (old : Desk) (day : ℤ) (request : Request) (answer : Response) (new : Desk) → ¬ IsOfChange answer → IsAnswered old day request answer new → new ≡ old
+untold old day request (response.Refused refusal) new other answered = answered.1
 untold old day request answer new other answered =
     answered.after ∙ changes_nothing old answered.audience day answered.file answer request.what other answered.tells
 
 -- what is written is the reply, or that it is unavailable
-replied : {X : Type 0} (old : Desk) (day : ℤ) (request : Request) (result : Result Said X) (reply : Reply) (new : Desk) → IsWritten result reply → IsResponse old day request result new
+replied : {X : Type 0} (old : Desk) (day : ℤ) (request : Request) (result : Result Response X) (reply : Reply) (new : Desk) → IsWritten result reply → IsResponse old day request result new
     → Answers old day request reply new
 replied old day request (Ok answer) reply new (inl written) answered = inl (record { answer = answer; answered = answered; written = written })
 replied old day request (Ok answer) reply new (inr (written, other)) answered = inr (record { written = written; after = untold old day request answer new other answered })
@@ -60,20 +60,20 @@ answered_again old day request reply new (inl answered) told command key = same_
 answered_again old day request reply new (inr unavailable) told command key = absurd (told unavailable.written)
 
 module _ {S : Type 0} (g : Ghosts S) (old new : Held S) (day : ℤ) (request : Request) (reply : Reply) where
-  ends : {X : Type 0} (result : Result Said X) → IsWritten result reply → OnOk result (IsOpen g new) → reply ≢ UNAVAILABLE → IsOpen g new
+  ends : {X : Type 0} (result : Result Response X) → IsWritten result reply → OnOk result (IsOpen g new) → reply ≢ UNAVAILABLE → IsOpen g new
   ends (Ok answer) written opens told = opens
   ends (Err fault) written opens told = absurd (told written)
 
-  turned : {X : Type 0} (result : Result Said X) → IsWritten result reply → result ≡ Ok (said.Refused StaffOnly) → reply ≢ UNAVAILABLE → reply ≡ reply_of (said.Refused StaffOnly)
-  turned {X = X} result written is told = go (subst (λ (r : Result Said X). IsWritten r reply) is written)
+  turned : {X : Type 0} (result : Result Response X) → IsWritten result reply → result ≡ Ok (response.Refused StaffOnly) → reply ≢ UNAVAILABLE → reply ≡ reply_of (response.Refused StaffOnly)
+  turned {X = X} result written is told = go (subst (λ (r : Result Response X). IsWritten r reply) is written)
     where
-      go : IsWritten {X = X} (Ok (said.Refused StaffOnly)) reply → reply ≡ reply_of (said.Refused StaffOnly)
+      go : IsWritten {X = X} (Ok (response.Refused StaffOnly)) reply → reply ≡ reply_of (response.Refused StaffOnly)
       go (inl is) = is
       go (inr none) = absurd (told none.0)
 
-  pub serves : {X : Type 0} (result : Result Said X) → Responds g old new day request result → IsAtRest g new → IsWritten result reply
+  pub serves : {X : Type 0} (result : Result Response X) → Responds g old new day request result → IsAtRest g new → IsWritten result reply
       → MakesOneChange g old new day request.what (λ told. IsSaidOf told result)
-      → LeavesOpen g new result ⊎ ((request.badge ≡ None) × IsForStaff request.what × (result ≡ Ok (said.Refused StaffOnly)) × (new ≡ old))
+      → LeavesOpen g new result ⊎ ((request.badge ≡ None) × IsForStaff request.what × (result ≡ Ok (response.Refused StaffOnly)) × (new ≡ old))
       → Serves g old new day request reply
   serves result responds rests written makes ending = record {
     lasts = responds.lasts;
@@ -93,16 +93,16 @@ module _ {S : Type 0} (g : Ghosts S) (old new : Held S) (day : ℤ) (request : R
   }
 
 -- the store is open after Ok, or the caller was turned away
-pub ending : {S X : Type 0} (g : Ghosts S) (old new : Held S) (request : Request) (result : Result Said X)
+pub ending : {S X : Type 0} (g : Ghosts S) (old new : Held S) (request : Request) (result : Result Response X)
     → ((request.badge ≡ None → ¬ IsForStaff request.what) → LeavesOpen g new result)
-    → (request.badge ≡ None → IsForStaff request.what → (result ≡ Ok (said.Refused StaffOnly)) × (new ≡ old))
-    → LeavesOpen g new result ⊎ ((request.badge ≡ None) × IsForStaff request.what × (result ≡ Ok (said.Refused StaffOnly)) × (new ≡ old))
+    → (request.badge ≡ None → IsForStaff request.what → (result ≡ Ok (response.Refused StaffOnly)) × (new ≡ old))
+    → LeavesOpen g new result ⊎ ((request.badge ≡ None) × IsForStaff request.what × (result ≡ Ok (response.Refused StaffOnly)) × (new ≡ old))
 ending {X = X} g old new request result opens away = elim (is_for_staff request.what) [
   | inl command ↦ at command request.badge refl
   | inr query ↦ inl (opens (λ nobody. query))
 ]
   where
     at : IsForStaff request.what → (badge : Option (List ℕ)) → request.badge ≡ badge
-        → LeavesOpen g new result ⊎ ((request.badge ≡ None) × IsForStaff request.what × (result ≡ Ok (said.Refused StaffOnly)) × (new ≡ old))
+        → LeavesOpen g new result ⊎ ((request.badge ≡ None) × IsForStaff request.what × (result ≡ Ok (response.Refused StaffOnly)) × (new ≡ old))
     at command None is = let turned = away is command in inr (is, command, turned.0, turned.1)
     at command (Some digest) is = inl (opens (λ nobody for_staff. cc))

@@ -25,10 +25,10 @@ use Rattle.rd_protocol.specs.declared.refusal.Refusal.TheVariants.{NoAccession, 
 use Rattle.rd_protocol.specs.declared.request.Request.{Request}
 use Rattle.rd_protocol.specs.declared.request.What.{What}
 use Rattle.rd_protocol.specs.Texts.{UNAVAILABLE, reply_of}
-use Rattle.rd_protocol.specs.declared.said.Reply.{Reply}
-use Rattle.rd_protocol.specs.declared.said.Said.{Said}
-use Rattle.rd_protocol.specs.declared.said.Survey.{Survey}
-use Rattle.rd_protocol.specs.declared.said.Said.TheVariants.{Refused, Done, Checked}
+use Rattle.rd_protocol.specs.declared.response.Reply.{Reply}
+use Rattle.rd_protocol.specs.declared.response.Response.{Response}
+use Rattle.rd_protocol.specs.declared.response.Survey.{Survey}
+use Rattle.rd_protocol.specs.declared.response.Response.TheVariants.{Refused, Done, Checked}
 
 -- the accession stands, and its image is of this kind and came by this deed
 abbrev pub IsRegistered : Desk → ℕ → Accession → Type 0
@@ -58,12 +58,12 @@ ForEachCaller desk audience what Is =
     (badge : Option (List ℕ)) → audience_of desk badge ≡ Some audience → Is (record { badge = badge; what = what })
 
 -- this is said to each caller of an audience who asks this on a day, and the desk stays the same
-abbrev pub IsSaidTo : Desk → Audience → ℤ → What → Said → Type 0
+abbrev pub IsSaidTo : Desk → Audience → ℤ → What → Response → Type 0
 IsSaidTo desk audience day what said = ForEachCaller desk audience what (λ request. IsAnswered desk day request said desk)
 
 -- the desk after what the staff asks, by its answer: the next one if it is carried out, and the old
 -- one if it is refused or has no answer
-abbrev pub IsCarriedOut : {X : Type 0} → Desk → ℤ → What → Result Said X → Desk → Type 0
+abbrev pub IsCarriedOut : {X : Type 0} → Desk → ℤ → What → Result Response X → Desk → Type 0
 IsCarriedOut old day what (Ok (Refused refusal)) new =
     ForEachCaller old Staff what (λ request. IsRefused old request None refusal) × (new ≡ old)
 IsCarriedOut old day what (Ok answer) new =
@@ -77,7 +77,7 @@ HasItsDigest what = ¬ IsSomeAnd (image_of what) (λ image. sha256 image.bytes �
 -- What the staff asks on a day. A crash leaves either the old desk or the one after it, and
 -- then an image that was put has the digest given for it. (The other reasons to refuse it do not
 -- need to be named: the desk after it is lawful.)
-pub record Carries {S X : Type 0} (g : Ghosts S) (old new : Held S) (day : ℤ) (what : What) (result : Result Said X) : Type 0 where
+pub record Carries {S X : Type 0} (g : Ghosts S) (old new : Held S) (day : ℤ) (what : What) (result : Result Response X) : Type 0 where
   pub lasts : Lasts g old new
   pub judged : IsOpen g new → IsCarriedOut (desk g old) day what result (desk g new)
   pub stays_open : IsOpen g old → LeavesOpen g new result
@@ -86,7 +86,7 @@ pub record Carries {S X : Type 0} (g : Ghosts S) (old new : Held S) (day : ℤ) 
   pub durable : IsOpen g new → LeavesOnly g new (desk g new)
 
 -- an answer, or none and the desk as before
-abbrev pub IsResponse : {X : Type 0} → Desk → ℤ → Request → Result Said X → Desk → Type 0
+abbrev pub IsResponse : {X : Type 0} → Desk → ℤ → Request → Result Response X → Desk → Type 0
 IsResponse old day request (Ok answer) new = IsAnswered old day request answer new
 IsResponse old day request (Err fault) new = new ≡ old
 
@@ -96,27 +96,27 @@ LeavesStep g old new day request = (left : Trees) → g.recovers new.store left
     → IsLeft (desk g old) left ⊎ ((after : Desk) × IsStep (desk g old) day request after × IsLeft after left)
 
 -- Any request, which makes at most one transaction.
-pub record Responds {S X : Type 0} (g : Ghosts S) (old new : Held S) (day : ℤ) (request : Request) (result : Result Said X) : Type 0 where
+pub record Responds {S X : Type 0} (g : Ghosts S) (old new : Held S) (day : ℤ) (request : Request) (result : Result Response X) : Type 0 where
   pub lasts : Lasts g old new
   pub judged : IsOpen g new → IsResponse (desk g old) day request result (desk g new)
   pub crash : IsOpen g old → IsClean g new → LeavesStep g old new day request
   pub durable : IsOpen g new → LeavesOnly g new (desk g new)
 
 -- the answers after which the desk may have changed
-abbrev pub IsOfChange : Said → Type 0
+abbrev pub IsOfChange : Response → Type 0
 IsOfChange Done = Unit {0}
 IsOfChange (Checked outcome) = Unit {0}
 IsOfChange other = ⊥
 
 -- the reply says the answer; if there is no answer, or no memory for the reply, it says that the
 -- desk is unavailable, but never after the desk has changed
-abbrev pub IsWritten : {X : Type 0} → Result Said X → Reply → Type 0
+abbrev pub IsWritten : {X : Type 0} → Result Response X → Reply → Type 0
 IsWritten (Ok answer) reply = (reply ≡ reply_of answer) ⊎ ((reply ≡ UNAVAILABLE) × ¬ IsOfChange answer)
 IsWritten (Err fault) reply = reply ≡ UNAVAILABLE
 
 -- the answer after a call that changes the desk: that it is done, or what a check found, exactly
 -- after Ok
-abbrev pub IsSaidOf : {X : Type 0} → Result ⊤ StoreFault → Result Said X → Type 0
+abbrev pub IsSaidOf : {X : Type 0} → Result ⊤ StoreFault → Result Response X → Type 0
 IsSaidOf (Ok done) (Ok Done) = Unit {0}
 IsSaidOf (Ok done) (Ok (Checked outcome)) = Unit {0}
 IsSaidOf (Err fault) (Ok (Refused refusal)) = Unit {0}

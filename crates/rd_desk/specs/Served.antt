@@ -12,8 +12,8 @@ use Rattle.rd_protocol.specs.Requests.{IsForStaff}
 use Rattle.rd_protocol.specs.Texts.{UNAVAILABLE, reply_of}
 use Rattle.rd_protocol.specs.declared.refusal.Refusal.TheVariants.{StaffOnly}
 use Rattle.rd_protocol.specs.declared.request.Request.{Request}
-use Rattle.rd_protocol.specs.declared.said.Reply.{Reply}
-use Rattle.rd_protocol.specs.declared.said.Said.TheVariants.{Refused}
+use Rattle.rd_protocol.specs.declared.response.Reply.{Reply}
+use Rattle.rd_protocol.specs.declared.response.Response.TheVariants.{Refused}
 
 -- A staff request without a badge: the reply says that only the staff may ask it, and the store is
 -- not touched.

@@ -14,7 +14,7 @@ use crate::asking::{Unavailable, has_deed};
 use crate::surveys::survey;
 use rd_geometry::{Items, Kind, Text};
 use rd_policy::{Audience, Band, Rule};
-use rd_protocol::{Refusal, Said, What, check_row, has_digest};
+use rd_protocol::{Refusal, Response, What, check_row, has_digest};
 use rd_store::{Store, StoreFault};
 use sqlite::Alter;
 use std::alloc::Global;
@@ -35,24 +35,24 @@ fn put_deed<S: Alter>(
     num: u32,
     donor: &Text,
     signed: i32,
-) -> Result<Said, Unavailable>
+) -> Result<Response, Unavailable>
     requires deed { IsDeed num (record { donor = donor.now; signed = signed }) }
     ensures carries { (day : ℤ) → Carries S.Store store.old store.new day (What.PutDeed num donor.now signed) result }
     ensures change { (day : ℤ) → IsOneChange S.Store store.old store.new day (What.PutDeed num donor.now signed) (λ told. IsSaidOf told result) }
 {
     store.put_deed(num, donor.as_str(), signed)?;
-    Ok(Said::Done)
+    Ok(Response::Done)
 }
 
 /// Puts a rule.
-fn put_rule<S: Alter>(store: &mut Store<S>, rule: &Rule) -> Result<Said, Unavailable>
+fn put_rule<S: Alter>(store: &mut Store<S>, rule: &Rule) -> Result<Response, Unavailable>
     requires rule { IsRule rule.now }
     ensures carries { (day : ℤ) → Carries S.Store store.old store.new day (What.PutRule rule.now) result }
     ensures change { (day : ℤ) → IsOneChange S.Store store.old store.new day (What.PutRule rule.now) (λ told. IsSaidOf told result) }
 {
     match store.put_rule(rule) {
-        Ok(()) => Ok(Said::Done),
-        Err(StoreFault::Missing) => Ok(Said::Refused(missing(rule.band))),
+        Ok(()) => Ok(Response::Done),
+        Err(StoreFault::Missing) => Ok(Response::Refused(missing(rule.band))),
         Err(StoreFault::Conflict | StoreFault::Sql) => Err(Unavailable),
     }
 }
@@ -63,13 +63,13 @@ fn drop_rule<S: Alter>(
     band: Band,
     scope: u32,
     rank: u16,
-) -> Result<Said, Unavailable>
+) -> Result<Response, Unavailable>
     ensures carries { (day : ℤ) → Carries S.Store store.old store.new day (What.DropRule band scope rank) result }
     ensures change { (day : ℤ) → IsOneChange S.Store store.old store.new day (What.DropRule band scope rank) (λ told. IsSaidOf told result) }
 {
     match store.drop_rule(band, scope, rank) {
-        Ok(()) => Ok(Said::Done),
-        Err(StoreFault::Missing) => Ok(Said::Refused(missing(band))),
+        Ok(()) => Ok(Response::Done),
+        Err(StoreFault::Missing) => Ok(Response::Refused(missing(band))),
         Err(StoreFault::Conflict | StoreFault::Sql) => Err(Unavailable),
     }
 }
@@ -79,26 +79,26 @@ fn put_key<S: Alter>(
     store: &mut Store<S>,
     digest: &[u8; 32],
     audience: Audience,
-) -> Result<Said, Unavailable>
+) -> Result<Response, Unavailable>
     requires key { audience ≢ Audience.Public }
     ensures carries { (day : ℤ) → Carries S.Store store.old store.new day (What.PutKey digest.now audience) result }
     ensures change { (day : ℤ) → IsOneChange S.Store store.old store.new day (What.PutKey digest.now audience) (λ told. IsSaidOf told result) }
 {
     match store.put_key(digest, audience) {
-        Ok(()) => Ok(Said::Done),
-        Err(StoreFault::Conflict) => Ok(Said::Refused(Refusal::Conflict)),
+        Ok(()) => Ok(Response::Done),
+        Err(StoreFault::Conflict) => Ok(Response::Refused(Refusal::Conflict)),
         Err(StoreFault::Missing | StoreFault::Sql) => Err(Unavailable),
     }
 }
 
 /// Takes a desk key away.
-fn drop_key<S: Alter>(store: &mut Store<S>, digest: &[u8; 32]) -> Result<Said, Unavailable>
+fn drop_key<S: Alter>(store: &mut Store<S>, digest: &[u8; 32]) -> Result<Response, Unavailable>
     ensures carries { (day : ℤ) → Carries S.Store store.old store.new day (What.DropKey digest.now) result }
     ensures change { (day : ℤ) → IsOneChange S.Store store.old store.new day (What.DropKey digest.now) (λ told. IsSaidOf told result) }
 {
     match store.drop_key(digest) {
-        Ok(()) => Ok(Said::Done),
-        Err(StoreFault::Conflict) => Ok(Said::Refused(Refusal::Conflict)),
+        Ok(()) => Ok(Response::Done),
+        Err(StoreFault::Conflict) => Ok(Response::Refused(Refusal::Conflict)),
         Err(StoreFault::Missing | StoreFault::Sql) => Err(Unavailable),
     }
 }
@@ -112,7 +112,7 @@ fn commit_image<S: Alter>(
     deed: u32,
     digest: &[u8; 32],
     bytes: &Items<u8>,
-) -> Result<Said, Unavailable>
+) -> Result<Response, Unavailable>
     requires scope { IsScope acc }
     requires sized { length bytes.now ≡ size_of kind }
     requires same { sha256 bytes.now ≡ digest.now }
@@ -120,9 +120,9 @@ fn commit_image<S: Alter>(
     ensures change { (day : ℤ) → IsOneChange S.Store store.old store.new day (What.PutImage acc kind deed digest.now bytes.now) (λ told. IsSaidOf told result) }
 {
     match store.put_image(alloc, acc, kind, deed, digest, bytes.as_slice()) {
-        Ok(()) => Ok(Said::Done),
-        Err(StoreFault::Missing) => Ok(Said::Refused(Refusal::NoDeed)),
-        Err(StoreFault::Conflict) => Ok(Said::Refused(Refusal::Conflict)),
+        Ok(()) => Ok(Response::Done),
+        Err(StoreFault::Missing) => Ok(Response::Refused(Refusal::NoDeed)),
+        Err(StoreFault::Conflict) => Ok(Response::Refused(Refusal::Conflict)),
         Err(StoreFault::Sql) => Err(Unavailable),
     }
 }
@@ -137,7 +137,7 @@ fn put_image<S: Alter>(
     deed: u32,
     digest: &[u8; 32],
     bytes: &Items<u8>,
-) -> Result<Said, Unavailable>
+) -> Result<Response, Unavailable>
     requires scope { IsScope acc }
     ensures carries { (day : ℤ) → Carries S.Store store.old store.new day (What.PutImage acc kind deed digest.now bytes.now) result }
     ensures one_change { (day : ℤ) → MakesOneChange S.Store store.old store.new day (What.PutImage acc kind deed digest.now bytes.now) (λ told. IsSaidOf told result) }
@@ -145,15 +145,15 @@ fn put_image<S: Alter>(
     store.at_rest();
     if bytes.as_slice().len() != kind.size() {
         if has_deed(store, deed)? {
-            return Ok(Said::Refused(Refusal::WrongSize));
+            return Ok(Response::Refused(Refusal::WrongSize));
         }
-        return Ok(Said::Refused(Refusal::NoDeed));
+        return Ok(Response::Refused(Refusal::NoDeed));
     }
     if !has_digest(bytes.as_slice(), digest) {
         if has_deed(store, deed)? {
-            return Ok(Said::Refused(Refusal::DigestDiffers));
+            return Ok(Response::Refused(Refusal::DigestDiffers));
         }
-        return Ok(Said::Refused(Refusal::NoDeed));
+        return Ok(Response::Refused(Refusal::NoDeed));
     }
     commit_image(store, alloc, acc, kind, deed, digest, bytes)
 }
@@ -164,17 +164,17 @@ fn check<S: Alter>(
     alloc: Global,
     day: i32,
     acc: u32,
-) -> Result<Said, Unavailable>
+) -> Result<Response, Unavailable>
     requires day { IsDay day }
     ensures carries { Carries S.Store store.old store.new day (What.Check acc) result }
     ensures one_change { MakesOneChange S.Store store.old store.new day (What.Check acc) (λ told. IsSaidOf told result) }
 {
     let Some(image) = store.image(alloc, acc)? else {
-        return Ok(Said::Refused(Refusal::NoAccession));
+        return Ok(Response::Refused(Refusal::NoAccession));
     };
     let outcome = check_row(image.bytes.as_slice(), &image.digest);
     match store.put_check(acc, day, outcome) {
-        Ok(()) => Ok(Said::Checked(outcome)),
+        Ok(()) => Ok(Response::Checked(outcome)),
         Err(_) => Err(Unavailable),
     }
 }
@@ -185,7 +185,7 @@ pub(crate) fn command<S: Alter>(
     alloc: Global,
     day: i32,
     what: &What,
-) -> Result<Said, Unavailable>
+) -> Result<Response, Unavailable>
     requires day { IsDay day }
     requires fits { IsRequest what.now }
     requires staff { IsForStaff what.now }
@@ -208,7 +208,7 @@ pub(crate) fn command<S: Alter>(
         What::DropRule { band, scope, rank } => drop_rule(store, *band, *scope, *rank),
         What::PutKey { digest, audience } => put_key(store, digest, *audience),
         What::DropKey { digest } => drop_key(store, digest),
-        What::Unread => Ok(Said::Refused(Refusal::BadBody)),
+        What::Unread => Ok(Response::Refused(Refusal::BadBody)),
         What::Images | What::Listing(_) | What::Bytes(_, _) | What::Catalogue => unreachable!(),
     }
 }

@@ -14,7 +14,7 @@ use crate::asking::{Unavailable, audience};
 use crate::commands::command;
 use crate::queries::{Caller, query};
 use rd_policy::{Audience, DayFault, Zone, day_of};
-use rd_protocol::{Refusal, Reply, Request, Said, json};
+use rd_protocol::{Refusal, Reply, Request, Response, json};
 use rd_store::{Store, memory_stays_open};
 use sqlite::{Alter, MemStore};
 use std::alloc::Global;
@@ -26,16 +26,16 @@ fn respond<S: Alter>(
     alloc: Global,
     day: i32,
     request: &Request,
-) -> Result<Said, Unavailable>
+) -> Result<Response, Unavailable>
     requires fits { IsRequest request.now.what }
     requires day { IsDay day }
     ensures responds { Responds S.Store store.old store.new day request.now result }
     ensures one_change { MakesOneChange S.Store store.old store.new day request.now.what (λ told. IsSaidOf told result) }
     ensures ends_open { (request.now.badge ≡ None → ¬ IsForStaff request.now.what) → LeavesOpen S.Store store.new result }
-    ensures turned_away { request.now.badge ≡ None → IsForStaff request.now.what → (result ≡ Ok (Said.Refused Refusal.StaffOnly)) × (store.new ≡ store.old) }
+    ensures turned_away { request.now.badge ≡ None → IsForStaff request.now.what → (result ≡ Ok (Response.Refused Refusal.StaffOnly)) × (store.new ≡ store.old) }
 {
     let Some(audience) = audience(store, &request.badge)? else {
-        return Ok(Said::Refused(Refusal::UnknownKey));
+        return Ok(Response::Refused(Refusal::UnknownKey));
     };
     let caller = Caller { audience, day };
     if !request.what.is_for_staff() {
@@ -43,19 +43,19 @@ fn respond<S: Alter>(
     }
     store.at_rest();
     if caller.audience != Audience::Staff {
-        return Ok(Said::Refused(Refusal::StaffOnly));
+        return Ok(Response::Refused(Refusal::StaffOnly));
     }
     command(store, alloc, day, &request.what)
 }
 
 /// The reply that gives an answer; if there is no answer, or no memory for the reply, it says that
 /// the desk is unavailable.
-fn reply_with(alloc: Global, said: Result<Said, Unavailable>) -> Reply
+fn reply_with(alloc: Global, said: Result<Response, Unavailable>) -> Reply
     ensures { IsWritten said result }
 {
     match said {
-        Ok(Said::Done) => json::done(),
-        Ok(Said::Checked(outcome)) => json::checked(outcome),
+        Ok(Response::Done) => json::done(),
+        Ok(Response::Checked(outcome)) => json::checked(outcome),
         Ok(said) => match json::reply_to(alloc, said) {
             Ok(reply) => reply,
             Err(_) => json::unavailable(),

@@ -12,7 +12,7 @@ mod surveys;
 pub use desk::{Desk, answer_in_memory};
 pub use rd_geometry::{Items, Kind, NoMemory, Text};
 pub use rd_protocol::{
-    Body, BodyPieces, Contents, Form, ImageLine, Line, Listing, Refusal, Reply, Request, Said,
+    Body, BodyPieces, Contents, Form, ImageLine, Line, Listing, Refusal, Reply, Request, Response,
     Survey, What, answers_step, check_row, each_request_has_a_reply, fixed_reply,
     hidden_bytes_are_not_told, one_reply, reply_to, same_again, unavailable, what_is_shown_decides,
 };

@@ -13,7 +13,7 @@ ghost use Rattle.rd_protocol.specs.Replies.{IsListing};
 use crate::asking::{Unavailable, count};
 use crate::queries::{Caller, listed};
 use rd_geometry::Items;
-use rd_protocol::{ImageLine, Listing, Said, What};
+use rd_protocol::{ImageLine, Listing, Response, What};
 use rd_store::{Indexed, Rulebook, Store};
 use sqlite::Alter;
 use std::alloc::Global;
@@ -109,12 +109,12 @@ pub(crate) fn images<S: Alter>(
     store: &mut Store<S>,
     alloc: Global,
     caller: &Caller,
-) -> Result<Said, Unavailable>
+) -> Result<Response, Unavailable>
     ensures { Reads S.Store store.old store.new result (IsSaidTo (desk S.Store store.old) caller.now.audience caller.now.day What.Images) }
 {
     let rules = store.rulebook(alloc)?;
     let accessions = count(store, alloc)?;
-    Ok(Said::Images(image_lines(store, alloc, caller, &rules, accessions)?))
+    Ok(Response::Images(image_lines(store, alloc, caller, &rules, accessions)?))
 }
 
 /// These listings, and then those of the accessions of a batch.
@@ -166,10 +166,10 @@ pub(crate) fn catalogue<S: Alter>(
     store: &mut Store<S>,
     alloc: Global,
     caller: &Caller,
-) -> Result<Said, Unavailable>
+) -> Result<Response, Unavailable>
     ensures { Reads S.Store store.old store.new result (IsSaidTo (desk S.Store store.old) caller.now.audience caller.now.day What.Catalogue) }
 {
     let rules = store.rulebook(alloc)?;
     let accessions = count(store, alloc)?;
-    Ok(Said::Catalogue(listings(store, alloc, caller, &rules, accessions)?))
+    Ok(Response::Catalogue(listings(store, alloc, caller, &rules, accessions)?))
 }

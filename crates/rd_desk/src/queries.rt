@@ -16,7 +16,7 @@ use crate::files::contents;
 use crate::overviews::{catalogue, images};
 use rd_geometry::Items;
 use rd_policy::{Audience, Effect, Label, Rule, Verdict, decide};
-use rd_protocol::{Line, Listing, Refusal, Said, What};
+use rd_protocol::{Line, Listing, Refusal, Response, What};
 use rd_store::{Accession, Store};
 use rd_volume::Found;
 use sqlite::Alter;
@@ -76,7 +76,7 @@ fn said_of<S: Alter>(
     caller: &Caller,
     acc: u32,
     file: Found,
-) -> Result<Said, Unavailable>
+) -> Result<Response, Unavailable>
     requires order { AreInOrder loaded.now.rules }
     requires awake { IsClean S.Store store.old → IsOpen S.Store store.old }
     ensures { Reads S.Store store.old store.new result (λ said. (image : ImageRow) → get (desk S.Store store.old).images acc ≡ Some image
@@ -85,9 +85,9 @@ fn said_of<S: Alter>(
 {
     store.at_rest();
     if let Some(refusal) = withheld(loaded, caller, &file) {
-        return Ok(Said::Refused(refusal));
+        return Ok(Response::Refused(refusal));
     }
-    Ok(Said::File(contents(store, alloc, acc, file)?))
+    Ok(Response::File(contents(store, alloc, acc, file)?))
 }
 
 /// The answer about the file at a slot of an accession.
@@ -98,7 +98,7 @@ fn read<S: Alter>(
     caller: &Caller,
     acc: u32,
     slot: u16,
-) -> Result<Said, Unavailable>
+) -> Result<Response, Unavailable>
     requires order { AreInOrder loaded.now.rules }
     ensures { Reads S.Store store.old store.new result (λ said. (image : ImageRow) → get (desk S.Store store.old).images acc ≡ Some image
         → loaded.now.kind ≡ image.kind
@@ -106,7 +106,7 @@ fn read<S: Alter>(
 {
     match store.found_at(alloc, acc, slot)? {
         Some(file) => said_of(store, alloc, loaded, caller, acc, file),
-        None => Ok(Said::Refused(Refusal::NoFile)),
+        None => Ok(Response::Refused(Refusal::NoFile)),
     }
 }
 
@@ -117,7 +117,7 @@ fn bytes<S: Alter>(
     caller: &Caller,
     acc: u32,
     slot: u16,
-) -> Result<Said, Unavailable>
+) -> Result<Response, Unavailable>
     ensures { Reads S.Store store.old store.new result (IsSaidTo (desk S.Store store.old) caller.now.audience caller.now.day (What.Bytes acc slot)) }
 {
     match store.accession(acc)? {
@@ -125,7 +125,7 @@ fn bytes<S: Alter>(
             let loaded = load_rules(store, alloc, acc, accession)?;
             read(store, alloc, &loaded, caller, acc, slot)
         }
-        None => Ok(Said::Refused(Refusal::NoAccession)),
+        None => Ok(Response::Refused(Refusal::NoAccession)),
     }
 }
 
@@ -195,13 +195,13 @@ fn listing<S: Alter>(
     alloc: Global,
     caller: &Caller,
     acc: u32,
-) -> Result<Said, Unavailable>
+) -> Result<Response, Unavailable>
     ensures { Reads S.Store store.old store.new result (IsSaidTo (desk S.Store store.old) caller.now.audience caller.now.day (What.Listing acc)) }
 {
     let Some(accession) = store.accession(acc)? else {
-        return Ok(Said::Refused(Refusal::NoAccession));
+        return Ok(Response::Refused(Refusal::NoAccession));
     };
-    Ok(Said::Listed(listed_at(store, alloc, caller, acc, accession)?))
+    Ok(Response::Listed(listed_at(store, alloc, caller, acc, accession)?))
 }
 
 /// Answers a query of a caller.
@@ -210,7 +210,7 @@ pub(crate) fn query<S: Alter>(
     alloc: Global,
     caller: &Caller,
     what: &What,
-) -> Result<Said, Unavailable>
+) -> Result<Response, Unavailable>
     requires query { ¬ IsForStaff what.now }
     ensures { Reads S.Store store.old store.new result (IsSaidTo (desk S.Store store.old) caller.now.audience caller.now.day what.now) }
 {

@@ -10,7 +10,7 @@ ghost use Rattle.rd_protocol.specs.Replies.{IsSurveyOf};
 use crate::asking::Unavailable;
 use rd_geometry::{Image, Text};
 use rd_policy::{date_text, is_day};
-use rd_protocol::{Refusal, Said, Survey, What};
+use rd_protocol::{Refusal, Response, Survey, What};
 use rd_store::{DeedRow, ImageRow, Store};
 use rd_volume::{Report, report};
 use sqlite::Alter;
@@ -79,12 +79,12 @@ pub(crate) fn survey<S: Alter>(
     store: &mut Store<S>,
     alloc: Global,
     acc: u32,
-) -> Result<Said, Unavailable>
+) -> Result<Response, Unavailable>
     ensures carries { (day : ℤ) → Carries S.Store store.old store.new day (What.Survey acc) result }
     ensures keeps { Keeps S.Store store.old store.new }
 {
     match survey_at(store, alloc, acc)? {
-        Some(survey) => Ok(Said::Surveyed(survey)),
-        None => Ok(Said::Refused(Refusal::NoAccession)),
+        Some(survey) => Ok(Response::Surveyed(survey)),
+        None => Ok(Response::Refused(Refusal::NoAccession)),
     }
 }

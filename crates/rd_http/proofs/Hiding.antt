@@ -7,13 +7,13 @@ use Rattle.rd_policy.specs.declared.zone.Zone.{Zone}
 use Rattle.rd_store.specs.Held.{IsOpen, desk}
 use Rattle.rd_protocol.specs.State.{Desk}
 use Rattle.rd_protocol.specs.Hidden.{ReadsTheSame}
-use Rattle.rd_protocol.specs.declared.said.Reply.{Reply}
+use Rattle.rd_protocol.specs.declared.response.Reply.{Reply}
 use Rattle.rd_protocol.proofs.Showing.{shown_decides}
 use Rattle.rd_messages.specs.Asked.{request, fault}
 use Rattle.rd_http.specs.Hidden.{HiddenBytesReachNoVisitor, HidesFromVisitor, RepliesAndHides}
 use Rattle.rd_messages.specs.ReplyText.{challenge_of, head_text, reply_bytes}
 use Rattle.rd_http.specs.Runs.{Ends, HasRun, Runs}
-use Rattle.rd_messages.specs.Told.{Coming, Told, Visit}
+use Rattle.rd_messages.specs.DoorVisits.{Coming, Told, Visit}
 use Rattle.rd_http.specs.Visits.{IsAnswer, IsReplied}
 use Rattle.rd_http.specs.declared.serve.Served.{Served}
 use Rattle.rd_http.proofs.RunLemmas.{replied}

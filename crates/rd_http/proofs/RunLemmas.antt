@@ -12,7 +12,7 @@ use Rattle.rd_store.specs.Held.{IsOpen, desk}
 use Rattle.rd_protocol.specs.declared.request.Request.{Request}
 use Rattle.rd_messages.specs.Asked.{HasFramedHead, IsRequestOf, request, fault}
 use Rattle.rd_http.specs.Runs.{Ends, AreNext, NoneLeft, HasRun, IsLast, IsVisit, Runs, counted}
-use Rattle.rd_messages.specs.Told.{Admits, Coming, Leaves, NoneToCome, TakesNext, TellsToo, Told, Visit, coming_of}
+use Rattle.rd_messages.specs.DoorVisits.{Admits, Coming, Leaves, NoneToCome, TakesNext, TellsToo, Told, Visit, coming_of}
 use Rattle.rd_http.specs.Visits.{IsAnswer, IsReplied, Visits}
 use Rattle.rd_http.specs.declared.serve.Ended.TheVariants as ended
 use Rattle.rd_http.specs.declared.serve.Served.{Served}

@@ -3,7 +3,7 @@ pub mod Visits
 pub mod Hidden
 pub mod Runs
 pub use Rattle.rd_protocol.specs.Parts
-pub use Rattle.rd_messages.specs.Told
+pub use Rattle.rd_messages.specs.DoorVisits
 pub use Rattle.rd_messages.specs.Faults
 pub use Rattle.rd_messages.specs.Asked
 pub use Rattle.rd_messages.specs.Answers

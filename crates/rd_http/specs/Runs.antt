@@ -4,7 +4,7 @@ use Rattle.std.specs.List.{filter}
 use Rattle.rd_policy.specs.Days.{HasDay}
 use Rattle.rd_policy.specs.Zones.{day_number}
 use Rattle.rd_policy.specs.declared.zone.Zone.{Zone}
-use Rattle.rd_messages.specs.Told.{Coming, Told, Visit, coming_of}
+use Rattle.rd_messages.specs.DoorVisits.{Coming, Told, Visit, coming_of}
 use Rattle.rd_http.specs.declared.serve.Ended.{Ended}
 use Rattle.rd_http.specs.declared.serve.Ended.TheVariants.{Clock}
 use Rattle.rd_http.specs.declared.serve.Served.{Served}

@@ -7,7 +7,7 @@ use Rattle.rd_protocol.specs.State.{Desk}
 use Rattle.rd_protocol.specs.Replies.{IsReply}
 use Rattle.rd_desk.specs.Served.{Serves}
 use Rattle.rd_protocol.specs.Texts.{UNAVAILABLE}
-use Rattle.rd_protocol.specs.declared.said.Reply.{Reply}
+use Rattle.rd_protocol.specs.declared.response.Reply.{Reply}
 use Rattle.rd_messages.specs.Asked.{Asked, HasFramedHead, IsAsked, request, fault}
 use Rattle.rd_messages.specs.Sent.{SendsPart}
 use Rattle.rd_http.specs.declared.visit.WireFault.{WireFault}

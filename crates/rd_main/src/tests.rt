@@ -22,7 +22,7 @@ mod visits;
 
 use fakes::{Bare, End, Narrow, Tape};
 use rd_program::run;
-use rd_rows::cpm::hello;
+use rd_samples::cpm::hello;
 use rd_volume::NoMemory;
 use std::alloc::{Alloc, AllocGlobal, Global};
 use std::process::Abort;

@@ -1,6 +1,6 @@
 -- The bytes that go: those of a reply, and those that say why there is no request.
 use Rattle.std.specs.Prelude.{ℕ, List}
-use Rattle.rd_protocol.specs.declared.said.Reply.{Reply}
+use Rattle.rd_protocol.specs.declared.response.Reply.{Reply}
 use Rattle.rd_messages.specs.Faults.{allow_line, fault_reply}
 use Rattle.rd_messages.specs.ReplyText.{challenge_of, reply_bytes}
 use Rattle.rd_messages.specs.declared.fault.RequestFault.{RequestFault}

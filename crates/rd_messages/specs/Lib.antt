@@ -1,5 +1,5 @@
 -- ---- what a reader of a public clause believes
-pub mod Told
+pub mod DoorVisits
 pub mod Faults
 pub mod Asked
 pub mod Answers

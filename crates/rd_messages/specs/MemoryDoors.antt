@@ -1,6 +1,6 @@
 -- A door in memory, as contracts see it.
 use Rattle.std.specs.Prelude.{List, [], Bool, false, None}
-use Rattle.rd_messages.specs.Told.{Coming, Told}
+use Rattle.rd_messages.specs.DoorVisits.{Coming, Told}
 
 -- What a door in memory shows: its visits so far, those to come, in order, and whether it has
 -- shut.

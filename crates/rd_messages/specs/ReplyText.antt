@@ -1,9 +1,9 @@
 -- The bytes of a reply.
 use Rattle.std.specs.Prelude.{ℕ, List, [], ◌++◌, ◌==◌, codes, length, if◌then◌else◌}
 use Rattle.std.specs.Fmt.{decimal}
-use Rattle.rd_protocol.specs.declared.said.Form.{Form}
-use Rattle.rd_protocol.specs.declared.said.Form.TheVariants.{Json, Csv, Octets}
-use Rattle.rd_protocol.specs.declared.said.Reply.{Reply}
+use Rattle.rd_protocol.specs.declared.response.Form.{Form}
+use Rattle.rd_protocol.specs.declared.response.Form.TheVariants.{Json, Csv, Octets}
+use Rattle.rd_protocol.specs.declared.response.Reply.{Reply}
 
 -- the media type of a body, as a head names it
 abbrev pub type_of : Form → List ℕ

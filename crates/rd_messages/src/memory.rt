@@ -77,7 +77,7 @@ pub struct MemoryVisit {
 
 impl Model for MemoryVisit {
     ghost use Rattle.std.specs.Prelude.{false};
-    ghost use Rattle.rd_messages.specs.Told.{Visit};
+    ghost use Rattle.rd_messages.specs.DoorVisits.{Visit};
 
     ghost Value = { Visit };
 

@@ -4,7 +4,7 @@ ghost use Rattle.std.specs.Prelude.{◌≡◌, ◌↔◌, ℕ, ℤ, List, Option
 ghost use Rattle.std.specs.Result.{result_ok};
 ghost use Rattle.std.specs.Io.{ReadsAtMost, WritesAtMost};
 ghost use Rattle.std.specs.Io.KnownBytes.{ReadConsumes, WriteAppends};
-ghost use Rattle.rd_messages.specs.Told.{Admits, Coming, Leaves, NoneToCome, TakesNext, TellsToo, Told};
+ghost use Rattle.rd_messages.specs.DoorVisits.{Admits, Coming, Leaves, NoneToCome, TakesNext, TellsToo, Told};
 
 /// A read or a write of a connection failed, or a write took no byte.
 #[derive(Clone, Copy, Debug, PartialEq, Eq)]

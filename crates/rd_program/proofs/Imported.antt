@@ -12,7 +12,7 @@ use Rattle.rd_commands.specs.Output.{AppendsPart}
 use Rattle.rd_commands.specs.Refusals.{IsOfDevice, refusal_for, status_of}
 use Rattle.rd_program.specs.Serving.{IsOpenRefusal}
 use Rattle.rd_commands.specs.Sheets.{IsReadRefusal}
-use Rattle.rd_commands.specs.Told.{both, whole}
+use Rattle.rd_commands.specs.RefusalLines.{both, whole}
 use Rattle.rd_commands.specs.Words.{AsksCat, AsksList}
 use Rattle.rd_commands.specs.declared.done.Done.{Done}
 use Rattle.rd_commands.specs.declared.done.Done.TheVariants.{InPart, Whole}

@@ -9,9 +9,9 @@ use Rattle.rd_desk.specs.Served.{Serves}
 use Rattle.rd_protocol.specs.declared.request.Request.{Request}
 use Rattle.rd_protocol.specs.declared.request.What.{What}
 use Rattle.rd_protocol.specs.declared.request.What.TheVariants as request
-use Rattle.rd_protocol.specs.declared.said.Reply.{Reply}
-use Rattle.rd_protocol.specs.declared.said.Said.{Said}
-use Rattle.rd_protocol.specs.declared.said.Said.TheVariants as said
+use Rattle.rd_protocol.specs.declared.response.Reply.{Reply}
+use Rattle.rd_protocol.specs.declared.response.Response.{Response}
+use Rattle.rd_protocol.specs.declared.response.Response.TheVariants as response
 use Rattle.rd_program.specs.Leaves.{Checks, IsPutImage, LeavesDesk, StepsOf, TakesFields, TakesIn, TakesInTurn, TakesRow}
 use Rattle.rd_commands.specs.declared.sheet.SheetRow.{SheetRow}
 use Rattle.rd_commands.specs.declared.words.Question.{Question}
@@ -20,8 +20,8 @@ use Rattle.rd_program.proofs.Left.{desk_then}
 
 -- ---- after a reply
 
-answered_step : (old : Desk) (day : ℤ) (request : Request) (answer : Said) (new : Desk) → IsAnswered old day request answer new → IsStep old day request new
-answered_step old day request (said.Refused refusal) new is = inr ((refusal, is.0), is.1)
+answered_step : (old : Desk) (day : ℤ) (request : Request) (answer : Response) (new : Desk) → IsAnswered old day request answer new → IsStep old day request new
+answered_step old day request (response.Refused refusal) new is = inr ((refusal, is.0), is.1)
 answered_step old day request answer new is = inl (record { file = is.file; asked = is.asked; accepted = is.accepted }, is.after)
 
 reply_step : (old : Desk) (day : ℤ) (request : Request) (reply : Reply) (new : Desk) → Answers old day request reply new

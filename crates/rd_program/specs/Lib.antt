@@ -15,7 +15,7 @@ pub use Rattle.rd_commands.specs.Input
 pub use Rattle.rd_commands.specs.Cat
 pub use Rattle.rd_commands.specs.Printed
 pub use Rattle.rd_commands.specs.Listed
-pub use Rattle.rd_commands.specs.Told
+pub use Rattle.rd_commands.specs.RefusalLines
 pub use Rattle.rd_commands.specs.Versions
 -- ---- inside: what only private functions and proofs cite
 -- Only private functions and proofs cite what follows a line `inside` in a file.

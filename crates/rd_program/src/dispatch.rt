@@ -18,7 +18,7 @@ ghost use Rattle.rd_program.specs.Leaves.{Checks, IsDayBy, IsSame, Leaves, Leave
 ghost use Rattle.rd_commands.specs.Listed.{Lists, RefusesList};
 ghost use Rattle.rd_commands.specs.Refusals.{status_of};
 ghost use Rattle.rd_program.specs.Serving.{RefusesServe, serve_text};
-ghost use Rattle.rd_commands.specs.Told.{Tells};
+ghost use Rattle.rd_commands.specs.RefusalLines.{Tells};
 ghost use Rattle.rd_commands.specs.Versions.{RefusesVersion, version_line};
 ghost use Rattle.rd_commands.specs.Words.{AsksCat, AsksList, AsksOfKind, AsksVersion};
 

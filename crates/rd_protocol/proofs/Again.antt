@@ -14,8 +14,8 @@ use Rattle.rd_protocol.specs.declared.refusal.Refusal.TheVariants.{UnknownKey, S
 use Rattle.rd_protocol.specs.declared.request.Request.{Request}
 use Rattle.rd_protocol.specs.declared.request.What.{What}
 use Rattle.rd_protocol.specs.declared.request.What.TheVariants.{Images, Listing, Bytes, Catalogue, Survey, Check, PutImage, PutDeed, PutRule, DropRule, PutKey, DropKey}
-use Rattle.rd_protocol.specs.declared.said.Said.{Said}
-use Rattle.rd_protocol.specs.declared.said.Said.TheVariants as said
+use Rattle.rd_protocol.specs.declared.response.Response.{Response}
+use Rattle.rd_protocol.specs.declared.response.Response.TheVariants as response
 use Rattle.rd_protocol.proofs.Accepting.{no_file}
 use Rattle.rd_protocol.proofs.Checking.{checked_again, same_images}
 use Rattle.rd_protocol.proofs.Maps.{get_inserted, get_removed, insert_again, remove_again}
@@ -90,15 +90,15 @@ module _ (day : ℤ) where
   -- ---- what is told
 
   -- what is told of the desk as it was is told of it as it is
-  told_again : (desk : Desk) (audience : Audience) (file : Option JudgedFile) (what : What) (answer : Said) → IsForStaff what
+  told_again : (desk : Desk) (audience : Audience) (file : Option JudgedFile) (what : What) (answer : Response) → IsForStaff what
       → Tells desk audience day file answer what → Tells (carried_out day what desk) audience day None answer what
   told_again desk audience file Images answer command told = absurd command
   told_again desk audience file (Listing acc) answer command told = absurd command
   told_again desk audience file (Bytes acc slot) answer command told = absurd command
   told_again desk audience file Catalogue answer command told = absurd command
-  told_again desk audience file (Survey acc) (said.Surveyed survey) command told = told
+  told_again desk audience file (Survey acc) (response.Surveyed survey) command told = told
   told_again desk audience file (Survey acc) other command told = absurd told
-  told_again desk audience file (Check acc) (said.Checked outcome) command told =
+  told_again desk audience file (Check acc) (response.Checked outcome) command told =
       subst (λ images. IsSomeAnd (get images acc) (λ image. outcome ≡ outcome_of image.bytes image.digest)) (sym (same_images acc day desk (get desk.images acc))) told
   told_again desk audience file (Check acc) other command told = absurd told
   told_again desk audience file what answer command told =
@@ -122,7 +122,7 @@ module _ (day : ℤ) where
     accepted_again stays other h = h
 
     -- and it is done again
-    done_again : (answer : Said) → audience_of after request.badge ≡ audience_of desk request.badge
+    done_again : (answer : Response) → audience_of after request.badge ≡ audience_of desk request.badge
         → (audience : Audience) → audience_of desk request.badge ≡ Some audience → Tells desk audience day file answer request.what
         → IsDone after day request answer after
     done_again answer stays audience caller told = record {
@@ -141,8 +141,8 @@ module _ (day : ℤ) where
 pub same_again : SameAgain
 same_again old day request reply new command stays is = record { answer = is.answer; answered = again is.answer is.answered; written = is.written }
   where
-    again : (answer : Said) → IsAnswered old day request answer new → IsAnswered new day request answer new
-    again (said.Refused refusal) refused = (subst (λ desk. IsRefusedOn desk day request refusal) (sym refused.1) refused.0, refl)
+    again : (answer : Response) → IsAnswered old day request answer new → IsAnswered new day request answer new
+    again (response.Refused refusal) refused = (subst (λ desk. IsRefusedOn desk day request refusal) (sym refused.1) refused.0, refl)
     again answer done =
         subst (λ desk. IsDone desk day request answer desk) (sym done.after)
         (done_again day old request command done.file done.accepted answer

@@ -7,7 +7,7 @@ use Rattle.std.specs.FinMap.{keys}
 use Rattle.rd_policy.specs.declared.audience.Audience.{Audience}
 use Rattle.rd_protocol.specs.State.{Desk}
 use Rattle.rd_protocol.specs.Replies.{AreListings, IsListing}
-use Rattle.rd_protocol.specs.declared.said.Listing.{Listing}
+use Rattle.rd_protocol.specs.declared.response.Listing.{Listing}
 use Rattle.rd_protocol.proofs.Numbers.{among_keys, keys_ascend}
 use Rattle.rd_protocol.proofs.OneAnswer.{one_listing}
 

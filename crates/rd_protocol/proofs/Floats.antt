@@ -8,10 +8,10 @@ use Rattle.rd_geometry.specs.declared.kind.Kind.{Kind}
 use Rattle.rd_geometry.specs.declared.kind.Kind.TheVariants.{Cpm8}
 use Rattle.rd_volume.specs.Words.{words_of}
 use Rattle.rd_protocol.specs.Texts.{image_data, images_data, line_data, listing_data, map_data, natural_or_null, surveyed_data}
-use Rattle.rd_protocol.specs.declared.said.ImageLine.{ImageLine}
-use Rattle.rd_protocol.specs.declared.said.Line.{Line}
-use Rattle.rd_protocol.specs.declared.said.Listing.{Listing}
-use Rattle.rd_protocol.specs.declared.said.Survey.{Survey}
+use Rattle.rd_protocol.specs.declared.response.ImageLine.{ImageLine}
+use Rattle.rd_protocol.specs.declared.response.Line.{Line}
+use Rattle.rd_protocol.specs.declared.response.Listing.{Listing}
+use Rattle.rd_protocol.specs.declared.response.Survey.{Survey}
 
 in_number : (number : Option ℕ) → has_float (natural_or_null number) ≡ false
 in_number None = refl

@@ -16,8 +16,8 @@ use Rattle.rd_protocol.specs.Hidden.{HiddenBytesAreNotTold, HidesTheRest, LooksA
 use Rattle.rd_protocol.specs.Replies.{Answers, IsLine}
 use Rattle.rd_protocol.specs.Shown.{AreReadAt, HasBytes, HasFile, IsDenied, IsListed, IsShown, IsShownAt, Shown}
 use Rattle.rd_protocol.specs.declared.request.Request.{Request}
-use Rattle.rd_protocol.specs.declared.said.Line.{Line}
-use Rattle.rd_protocol.specs.declared.said.Reply.{Reply}
+use Rattle.rd_protocol.specs.declared.response.Line.{Line}
+use Rattle.rd_protocol.specs.declared.response.Reply.{Reply}
 use Rattle.rd_protocol.proofs.Showing.{shown_decides, tells_what_is_shown}
 
 -- ---- images that look alike

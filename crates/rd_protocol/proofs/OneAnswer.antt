@@ -15,7 +15,7 @@ use Rattle.rd_volume.specs.Founds.{IsSoundFile}
 use Rattle.rd_volume.specs.Reports.{IsSoundSlot}
 use Rattle.rd_volume.specs.Volumes.{IsFound}
 use Rattle.rd_volume.proofs.OneFound.{one_found}
-use Rattle.rd_volume.proofs.Told.{told_sound}
+use Rattle.rd_volume.proofs.FoundFile.{told_sound}
 use Rattle.rd_protocol.specs.State.{Desk, rules_for}
 use Rattle.rd_protocol.specs.declared.rows.ImageRow.{ImageRow}
 use Rattle.rd_protocol.specs.declared.rows.Outcome.{Outcome}
@@ -32,11 +32,11 @@ use Rattle.rd_protocol.specs.declared.refusal.Refusal.TheVariants.{UnknownKey, S
 use Rattle.rd_protocol.specs.declared.request.Request.{Request}
 use Rattle.rd_protocol.specs.declared.request.What.{What}
 use Rattle.rd_protocol.specs.declared.request.What.TheVariants.{Images, Listing, Bytes, Catalogue, Survey, Check}
-use Rattle.rd_protocol.specs.declared.said.ImageLine.{ImageLine}
-use Rattle.rd_protocol.specs.declared.said.Line.{Line}
-use Rattle.rd_protocol.specs.declared.said.Listing.{Listing as Lines}
-use Rattle.rd_protocol.specs.declared.said.Said.{Said}
-use Rattle.rd_protocol.specs.declared.said.Said.TheVariants as said
+use Rattle.rd_protocol.specs.declared.response.ImageLine.{ImageLine}
+use Rattle.rd_protocol.specs.declared.response.Line.{Line}
+use Rattle.rd_protocol.specs.declared.response.Listing.{Listing as Lines}
+use Rattle.rd_protocol.specs.declared.response.Response.{Response}
+use Rattle.rd_protocol.specs.declared.response.Response.TheVariants as response
 use Rattle.rd_protocol.proofs.Ascending.{one_list}
 use Rattle.rd_protocol.proofs.OneReport.{one_survey}
 use Rattle.rd_protocol.proofs.Telling.{told_bytes, told_catalogue, told_check, told_done, told_images, told_listing, told_survey}
@@ -184,7 +184,7 @@ module _ (desk : Desk) (day : ℤ) (badge : Option (List ℕ)) where
 
   -- ---- what is told
 
-  module _ (audience : Audience) (file : Option JudgedFile) (one other : Said) where
+  module _ (audience : Audience) (file : Option JudgedFile) (one other : Response) where
     abbrev Asks : What → Request
     Asks what = record { badge = badge; what = what }
 
@@ -193,27 +193,27 @@ module _ (desk : Desk) (day : ℤ) (badge : Option (List ℕ)) where
     one_told Images asked accepted first second =
         let a = told_images desk audience day file one first in
         let b = told_images desk audience day file other second in
-        a.1 ∙ ap said.Images (one_images audience day desk a.0 b.0 a.2 b.2) ∙ sym b.1
+        a.1 ∙ ap response.Images (one_images audience day desk a.0 b.0 a.2 b.2) ∙ sym b.1
     one_told (Listing acc) asked accepted first second =
         let a = told_listing desk audience day file acc one first in
         let b = told_listing desk audience day file acc other second in
-        a.1 ∙ ap said.Listed (one_listing audience day desk acc a.0 b.0 a.2 b.2) ∙ sym b.1
+        a.1 ∙ ap response.Listed (one_listing audience day desk acc a.0 b.0 a.2 b.2) ∙ sym b.1
     one_told (Bytes acc slot) asked accepted first second =
         let a = told_bytes desk audience day file acc slot one first in
         let b = told_bytes desk audience day file acc slot other second in
-        a.1 ∙ ap said.File (one_lent acc slot a.0 b.0 a.3 b.3) ∙ sym b.1
+        a.1 ∙ ap response.File (one_lent acc slot a.0 b.0 a.3 b.3) ∙ sym b.1
     one_told Catalogue asked accepted first second =
         let a = told_catalogue desk audience day file one first in
         let b = told_catalogue desk audience day file other second in
-        a.1 ∙ ap said.Catalogue (one_listings audience day desk a.0 b.0 a.2 b.2) ∙ sym b.1
+        a.1 ∙ ap response.Catalogue (one_listings audience day desk a.0 b.0 a.2 b.2) ∙ sym b.1
     one_told (Survey acc) asked accepted first second =
         let a = told_survey desk audience day file acc one first in
         let b = told_survey desk audience day file acc other second in
-        a.1 ∙ ap said.Surveyed (one_survey desk acc a.0 b.0 a.2 b.2) ∙ sym b.1
+        a.1 ∙ ap response.Surveyed (one_survey desk acc a.0 b.0 a.2 b.2) ∙ sym b.1
     one_told (Check acc) asked accepted first second =
         let a = told_check desk audience day file acc one first in
         let b = told_check desk audience day file acc other second in
-        a.1 ∙ ap said.Checked (one_outcome (get desk.images acc) a.0 b.0 a.2 b.2) ∙ sym b.1
+        a.1 ∙ ap response.Checked (one_outcome (get desk.images acc) a.0 b.0 a.2 b.2) ∙ sym b.1
     one_told what asked accepted first second = told_done desk audience day file one what tt first ∙ sym (told_done desk audience day file other what tt second)
 
 -- ---- the reply
@@ -224,12 +224,12 @@ module _ (desk : Desk) (day : ℤ) (request : Request) where
       let file = one_asked desk day request first.file second.file first.asked second.asked in
       one_refusal desk request second.file one other (subst (λ f. IsRefused desk request f one) file first.refused) second.refused
 
-  refused_or_done : (refusal : Refusal) (answer : Said) (after : Desk) → IsRefusedOn desk day request refusal → ¬ IsDone desk day request answer after
+  refused_or_done : (refusal : Refusal) (answer : Response) (after : Desk) → IsRefusedOn desk day request refusal → ¬ IsDone desk day request answer after
   refused_or_done refusal answer after refused done =
       let file = one_asked desk day request refused.file done.file refused.asked done.asked in
       done.accepted refusal (subst (λ f. IsRefused desk request f refusal) file refused.refused).holds
 
-  both_done : (one other : Said) (after later : Desk) → IsDone desk day request one after → IsDone desk day request other later → (one ≡ other) × (after ≡ later)
+  both_done : (one other : Response) (after later : Desk) → IsDone desk day request one after → IsDone desk day request other later → (one ≡ other) × (after ≡ later)
   both_done one other after later first second =
       let file = one_asked desk day request first.file second.file first.asked second.asked in
       let audience : first.audience ≡ second.audience = cc (first.caller, second.caller) in
@@ -237,12 +237,12 @@ module _ (desk : Desk) (day : ℤ) (request : Request) where
       (subst (λ f. Tells desk second.audience day f other request.what) (sym file) second.tells) in
       (one_told desk day request.badge first.audience first.file one other request.what first.asked first.accepted first.tells told, first.after ∙ sym second.after)
 
-  one_answer : (one other : Said) (after later : Desk) → IsAnswered desk day request one after → IsAnswered desk day request other later
+  one_answer : (one other : Response) (after later : Desk) → IsAnswered desk day request one after → IsAnswered desk day request other later
       → (one ≡ other) × (after ≡ later)
-  one_answer (said.Refused one) (said.Refused other) after later first second =
-      (ap said.Refused (both_refused one other first.0 second.0), first.1 ∙ sym second.1)
-  one_answer (said.Refused refusal) answer after later refused done = absurd (refused_or_done refusal answer later refused.0 done)
-  one_answer answer (said.Refused refusal) after later done refused = absurd (refused_or_done refusal answer after refused.0 done)
+  one_answer (response.Refused one) (response.Refused other) after later first second =
+      (ap response.Refused (both_refused one other first.0 second.0), first.1 ∙ sym second.1)
+  one_answer (response.Refused refusal) answer after later refused done = absurd (refused_or_done refusal answer later refused.0 done)
+  one_answer answer (response.Refused refusal) after later done refused = absurd (refused_or_done refusal answer after refused.0 done)
   one_answer one other after later first second = both_done one other after later first second
 
 -- a request on a day has one reply and one desk after it

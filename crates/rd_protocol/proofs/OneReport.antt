@@ -21,7 +21,7 @@ use Rattle.rd_protocol.specs.State.{Desk}
 use Rattle.rd_protocol.specs.declared.rows.DeedRow.{DeedRow}
 use Rattle.rd_protocol.specs.declared.rows.ImageRow.{ImageRow}
 use Rattle.rd_protocol.specs.Replies.{IsSurvey, IsSurveyOf}
-use Rattle.rd_protocol.specs.declared.said.Survey.{Survey}
+use Rattle.rd_protocol.specs.declared.response.Survey.{Survey}
 
 one_map : (kind : Kind) (image : List ℕ) (one other : MapReport) → IsMapReport kind image one → IsMapReport kind image other → one ≡ other
 one_map Cpm8 image one other first second = first ∙ sym second

@@ -8,7 +8,7 @@ use Rattle.rd_volume.specs.Founds.{IsSoundFile}
 use Rattle.rd_geometry.specs.declared.kind.Kind.{Kind}
 use Rattle.rd_volume.specs.Volumes.{AreBytesOf, IsFound, IsSlotOfFile, contents_of}
 use Rattle.rd_volume.specs.declared.found.Found.{Found}
-use Rattle.rd_volume.proofs.Told.{told_bytes, told_slot}
+use Rattle.rd_volume.proofs.FoundFile.{told_bytes, told_slot}
 use Rattle.rd_protocol.specs.State.{Desk, rules_for}
 use Rattle.rd_protocol.specs.declared.rows.ImageRow.{ImageRow}
 use Rattle.rd_protocol.specs.Judged.{Conflicts, IsAccepted, IsAsked, IsJudgedFile, IsRefused, JudgedFile, PassesTo, accession_of, audience_of, deed_of, file_of, image_of}
@@ -21,8 +21,8 @@ use Rattle.rd_protocol.specs.Requests.{IsForStaff}
 use Rattle.rd_protocol.specs.declared.request.Request.{Request}
 use Rattle.rd_protocol.specs.declared.request.What.{What}
 use Rattle.rd_protocol.specs.declared.request.What.TheVariants.{Bytes, Catalogue, Images, Unread}
-use Rattle.rd_protocol.specs.declared.said.Said.{Said}
-use Rattle.rd_protocol.specs.declared.said.Said.TheVariants.{Refused, Done, Images as Told, Listed, File, Catalogue as Catalogued, Surveyed, Checked}
+use Rattle.rd_protocol.specs.declared.response.Response.{Response}
+use Rattle.rd_protocol.specs.declared.response.Response.TheVariants.{Refused, Done, Images as Told, Listed, File, Catalogue as Catalogued, Surveyed, Checked}
 use Rattle.rd_protocol.proofs.Passes.{to_6, to_7, to_8, to_9, to_10, to_11, to_12, to_13, to_14, to_15, to_16, accepted}
 
 pub if_ok : {T X : Type 0} → (r : Result T X) → (P Q : T → Type 0) → ((value : T) → P value → Q value) → IfOk r P → IfOk r Q
@@ -141,7 +141,7 @@ module _ (desk : Desk) (day : ℤ) (badge : Option (List ℕ)) (audience : Audie
       none (there judged.file (subst (λ (i : ImageRow). IsFound i.kind i.bytes judged.file) same asked.told) at)
 
   -- the answer to the request is what is said of its file
-  pub read_answered : (said : Said) → IsRead holding audience day slot said → IsAnswered desk day (record { badge = badge; what = Bytes acc slot }) said desk
+  pub read_answered : (said : Response) → IsRead holding audience day slot said → IsAnswered desk day (record { badge = badge; what = Bytes acc slot }) said desk
   read_answered (Refused NoFile) none = (
     record {
       file = None;

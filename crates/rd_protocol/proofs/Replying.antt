@@ -22,7 +22,7 @@ use Rattle.rd_volume.specs.Founds.{IsSoundFile}
 use Rattle.rd_volume.specs.Volumes.{AreBytesOf, IsFound, IsSlotOfFile}
 use Rattle.rd_volume.specs.declared.found.Found.{Found}
 use Rattle.rd_volume.proofs.Existence.{decided_slot, file_at, report_of, survey_of}
-use Rattle.rd_volume.proofs.Told.{told_bytes as told_file_bytes, told_slot}
+use Rattle.rd_volume.proofs.FoundFile.{told_bytes as told_file_bytes, told_slot}
 use Rattle.rd_protocol.specs.Lawful.{IsLawful}
 use Rattle.rd_protocol.specs.State.{Desk, HasOtherImage, HasOtherStaff, IsLastStaff, IsSameImage, rules_for}
 use Rattle.rd_protocol.specs.declared.rows.DeedRow.{DeedRow}
@@ -42,13 +42,13 @@ use Rattle.rd_protocol.specs.declared.refusal.Refusal.TheVariants.{UnknownKey, S
 use Rattle.rd_protocol.specs.declared.request.Request.{Request}
 use Rattle.rd_protocol.specs.declared.request.What.{What}
 use Rattle.rd_protocol.specs.declared.request.What.TheVariants.{Images, Listing, Bytes, Catalogue, Survey, Check, PutImage, PutKey, DropKey, Unread}
-use Rattle.rd_protocol.specs.declared.said.ImageLine.{ImageLine}
-use Rattle.rd_protocol.specs.declared.said.Line.{Line}
-use Rattle.rd_protocol.specs.declared.said.Listing.{Listing as Lines}
-use Rattle.rd_protocol.specs.declared.said.Reply.{Reply}
-use Rattle.rd_protocol.specs.declared.said.Said.{Said}
-use Rattle.rd_protocol.specs.declared.said.Said.TheVariants as said
-use Rattle.rd_protocol.specs.declared.said.Survey.{Survey as Surveyed}
+use Rattle.rd_protocol.specs.declared.response.ImageLine.{ImageLine}
+use Rattle.rd_protocol.specs.declared.response.Line.{Line}
+use Rattle.rd_protocol.specs.declared.response.Listing.{Listing as Lines}
+use Rattle.rd_protocol.specs.declared.response.Reply.{Reply}
+use Rattle.rd_protocol.specs.declared.response.Response.{Response}
+use Rattle.rd_protocol.specs.declared.response.Response.TheVariants as response
+use Rattle.rd_protocol.specs.declared.response.Survey.{Survey as Surveyed}
 use Rattle.rd_protocol.proofs.Accepting.{is_for_staff, not_none, is_unread}
 use Rattle.rd_protocol.proofs.Cataloguing.{listings_are}
 use Rattle.rd_protocol.proofs.Numbers.{each_found}
@@ -387,7 +387,7 @@ module _ (desk : Desk) (bytes : HoldsBytes desk) (audience : Audience) (day : �
       Asks what = record { badge = badge; what = what }
 
       abbrev IsToldTo : What → Type 0
-      IsToldTo what = (answer : Said) × Tells desk audience day file answer what
+      IsToldTo what = (answer : Response) × Tells desk audience day file answer what
 
       -- the image of an accession that is named and not refused
       standing_at : (what : What) (acc : ℕ) → accession_of what ≡ Some acc → IsAccepted desk (Asks what) file → (image : ImageRow) × (get desk.images acc ≡ Some image)
@@ -397,7 +397,7 @@ module _ (desk : Desk) (bytes : HoldsBytes desk) (audience : Audience) (day : �
       -- the contents of the file that is asked for
       file_said : (acc slot : ℕ) (found : Option JudgedFile) → IsAsked desk day (Asks (Bytes acc slot)) found → IsAccepted desk (Asks (Bytes acc slot)) found
           → (image : ImageRow) → get desk.images acc ≡ Some image → (caller : audience_of desk badge ≡ Some audience)
-          → (answer : Said) × Tells desk audience day found answer (Bytes acc slot)
+          → (answer : Response) × Tells desk audience day found answer (Bytes acc slot)
       file_said acc slot None none accepted image stands caller =
           absurd (accepted NoFile (subst (λ o. IsSomeAnd o (λ row. IsSlotOfFile row.kind row.bytes slot → ⊥)) (sym stands) (λ is.
           let found = file_at image.kind image.bytes (bytes acc image stands) slot is in
@@ -424,7 +424,7 @@ module _ (desk : Desk) (bytes : HoldsBytes desk) (audience : Audience) (day : �
           let read : judged.verdict.effect ≡ Read = by_decision (decided_read judged.verdict.effect) (λ other. accepted (Denied judged.verdict.label) (other, refl)) in
           let lent : Lent = record { kind = image.kind; image = image.bytes; file = judged.file } in
           let at_slot : judged.file.slot ≡ slot = sym (ap (λ (p : ℕ × ℕ). p.1) at) in (
-            said.File lent,
+            response.File lent,
             (
               read,
               record {
@@ -440,22 +440,22 @@ module _ (desk : Desk) (bytes : HoldsBytes desk) (audience : Audience) (day : �
           )
 
       told_to : (what : What) → IsAsked desk day (Asks what) file → IsAccepted desk (Asks what) file → audience_of desk badge ≡ Some audience → IsToldTo what
-      told_to Images asked accepted caller = (said.Images images_said.0, images_said.1)
+      told_to Images asked accepted caller = (response.Images images_said.0, images_said.1)
       told_to (Listing acc) asked accepted caller =
           let image = standing_at (Listing acc) acc refl accepted in
-          let listing = listing_at acc image.0 image.1 in (said.Listed listing.0, listing.1)
+          let listing = listing_at acc image.0 image.1 in (response.Listed listing.0, listing.1)
       told_to (Bytes acc slot) asked accepted caller =
           let image = standing_at (Bytes acc slot) acc refl accepted in file_said acc slot file asked accepted image.0 image.1 caller
-      told_to Catalogue asked accepted caller = (said.Catalogue catalogue_said.0, catalogue_said.1)
+      told_to Catalogue asked accepted caller = (response.Catalogue catalogue_said.0, catalogue_said.1)
       told_to (Survey acc) asked accepted caller =
           let image = standing_at (Survey acc) acc refl accepted in
-          let survey = survey_said acc image.0 image.1 in (said.Surveyed survey.0, survey.1)
+          let survey = survey_said acc image.0 image.1 in (response.Surveyed survey.0, survey.1)
       told_to (Check acc) asked accepted caller =
           let image = standing_at (Check acc) acc refl accepted in (
-            said.Checked (outcome_of image.0.bytes image.0.digest),
+            response.Checked (outcome_of image.0.bytes image.0.digest),
             subst (λ o. IsSomeAnd o (λ row. outcome_of image.0.bytes image.0.digest ≡ outcome_of row.bytes row.digest)) (sym image.1) refl,
           )
-      told_to what asked accepted caller = (said.Done, tt)
+      told_to what asked accepted caller = (response.Done, tt)
 
 -- ---- the reply
 
@@ -463,11 +463,11 @@ module _ (desk : Desk) (day : ℤ) (request : Request) (lawful : IsLawful desk) 
   abbrev HasReply : Type 0
   HasReply = (reply : Reply) × (after : Desk) × IsReply desk day request reply after
 
-  answered : (answer : Said) (after : Desk) → IsAnswered desk day request answer after → HasReply
+  answered : (answer : Response) (after : Desk) → IsAnswered desk day request answer after → HasReply
   answered answer after is = (reply_of answer, after, record { answer = answer; answered = is; written = refl })
 
   by_judgement : (file : Option JudgedFile) → IsAsked desk day request file → IsJudged desk request file → HasReply
-  by_judgement file asked (inl (refusal, refused)) = answered (said.Refused refusal) desk (record { file = file; asked = asked; refused = refused }, refl)
+  by_judgement file asked (inl (refusal, refused)) = answered (response.Refused refusal) desk (record { file = file; asked = asked; refused = refused }, refl)
   by_judgement file asked (inr accepted) =
       let caller = some_of (audience_of desk request.badge) (accepted UnknownKey) in
       let told = told_to desk bytes caller.0 day lawful request.badge file request.what asked accepted caller.1 in

@@ -14,15 +14,15 @@ use Rattle.rd_policy.specs.declared.verdict.Verdict.{Verdict}
 use Rattle.rd_volume.specs.Volumes.{AreFounds, IsFound}
 use Rattle.rd_volume.specs.declared.found.Found.{Found}
 use Rattle.rd_volume.proofs.OneFound.{one_found}
-use Rattle.rd_volume.proofs.Told.{told_slot}
+use Rattle.rd_volume.proofs.FoundFile.{told_slot}
 use Rattle.rd_protocol.specs.declared.rows.ImageRow.{ImageRow}
 use Rattle.rd_protocol.specs.State.{Desk, rules_for}
 use Rattle.rd_protocol.specs.Queries.{AreLinesOf, AreLinesOfEach, IsCounted}
 use Rattle.rd_protocol.specs.Replies.{AreImageLines, AreLines, IsImageLine}
-use Rattle.rd_protocol.specs.declared.said.ImageLine.{ImageLine}
+use Rattle.rd_protocol.specs.declared.response.ImageLine.{ImageLine}
 use Rattle.rd_protocol.proofs.Numbers.{among_keys, keys_ascend}
 use Rattle.rd_protocol.proofs.OneAnswer.{one_lines}
-use Rattle.rd_protocol.specs.declared.said.Line.{Line}
+use Rattle.rd_protocol.specs.declared.response.Line.{Line}
 
 module _ (rules : List Rule) (audience : Audience) (day : ℤ) where
   abbrev line_of : Found → Verdict → Line

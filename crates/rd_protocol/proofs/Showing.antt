@@ -17,7 +17,7 @@ use Rattle.rd_volume.specs.Volumes.{AreBytesOf, IsFound, IsSlotOfFile}
 use Rattle.rd_volume.specs.declared.found.Found.{Found}
 use Rattle.rd_volume.proofs.OneContents.{one_contents}
 use Rattle.rd_volume.proofs.OneFound.{one_found}
-use Rattle.rd_volume.proofs.Told.{told_sound, told_bytes as told_file_bytes}
+use Rattle.rd_volume.proofs.FoundFile.{told_sound, told_bytes as told_file_bytes}
 use Rattle.rd_protocol.specs.State.{Desk, rules_for, accession_of as given_of}
 use Rattle.rd_protocol.specs.declared.rows.Accession.{Accession}
 use Rattle.rd_protocol.specs.declared.rows.ImageRow.{ImageRow}
@@ -34,12 +34,12 @@ use Rattle.rd_protocol.specs.declared.refusal.Refusal.TheVariants.{UnknownKey, S
 use Rattle.rd_protocol.specs.declared.request.Request.{Request}
 use Rattle.rd_protocol.specs.declared.request.What.{What}
 use Rattle.rd_protocol.specs.declared.request.What.TheVariants.{Images, Listing, Bytes, Catalogue}
-use Rattle.rd_protocol.specs.declared.said.ImageLine.{ImageLine}
-use Rattle.rd_protocol.specs.declared.said.Line.{Line}
-use Rattle.rd_protocol.specs.declared.said.Listing.{Listing as Lines}
-use Rattle.rd_protocol.specs.declared.said.Reply.{Reply}
-use Rattle.rd_protocol.specs.declared.said.Said.{Said}
-use Rattle.rd_protocol.specs.declared.said.Said.TheVariants as said
+use Rattle.rd_protocol.specs.declared.response.ImageLine.{ImageLine}
+use Rattle.rd_protocol.specs.declared.response.Line.{Line}
+use Rattle.rd_protocol.specs.declared.response.Listing.{Listing as Lines}
+use Rattle.rd_protocol.specs.declared.response.Reply.{Reply}
+use Rattle.rd_protocol.specs.declared.response.Response.{Response}
+use Rattle.rd_protocol.specs.declared.response.Response.TheVariants as response
 use Rattle.rd_protocol.proofs.Accepting.{is_for_staff, nothing_asked}
 use Rattle.rd_protocol.proofs.OneAnswer.{named, sound_slot}
 use Rattle.rd_protocol.proofs.Passes.{to_5}
@@ -370,19 +370,19 @@ record LendTheSame (lent other : Lent) : Type 0 where
   bytes : bytes_lent lent ≡ bytes_lent other
 
 -- they read the same
-contents_read : (answer : Said) (lent other : Lent) → answer ≡ said.File lent → LendTheSame lent other → ReadsTheSame (reply_of answer) (reply_of (said.File other))
+contents_read : (answer : Response) (lent other : Lent) → answer ≡ response.File lent → LendTheSame lent other → ReadsTheSame (reply_of answer) (reply_of (response.File other))
 contents_read answer lent other is same =
-    subst (λ told. ReadsTheSame (reply_of told) (reply_of (said.File other))) (sym is)
+    subst (λ told. ReadsTheSame (reply_of told) (reply_of (response.File other))) (sym is)
     (record { status = refl; form = refl; bytes = same.bytes; lent = λ i. Some (same.kind i, same.file i) })
 
 -- what is done is answered
-pub done_answered : (desk : Desk) (day : ℤ) (request : Request) (answer : Said) (new : Desk) → IsDone desk day request answer new → IsAnswered desk day request answer new
-done_answered desk day request (said.Refused refusal) new done = absurd done.tells
+pub done_answered : (desk : Desk) (day : ℤ) (request : Request) (answer : Response) (new : Desk) → IsDone desk day request answer new → IsAnswered desk day request answer new
+done_answered desk day request (response.Refused refusal) new done = absurd done.tells
 done_answered desk day request answer new done = done
 
 -- an answer that reads the same
-abbrev AnswersToo : Desk → ℤ → Request → Said → Type 0
-AnswersToo other day request answer = (same : Said) × ReadsTheSame (reply_of answer) (reply_of same) × IsAnswered other day request same other
+abbrev AnswersToo : Desk → ℤ → Request → Response → Type 0
+AnswersToo other day request answer = (same : Response) × ReadsTheSame (reply_of answer) (reply_of same) × IsAnswered other day request same other
 
 -- the contents of a file that is read are lent, by its description
 lent_there : (other : Desk) (acc : ℕ) (row : ImageRow) (rules : List Rule) (audience : Audience) (day : ℤ) (slot : ℕ) (lent : Lent) → get other.images acc ≡ Some row
@@ -453,12 +453,12 @@ module _ (desk other : Desk) (audience : Audience) (day : ℤ) (same : ShowsTheS
         lent_there other acc row.0 (rules_for other acc) audience day slot lent row.1 there (lends.kind ∙ row.2) lends.at_slot
         (subst (λ (f : Found). IsFound row.0.kind row.0.bytes f) file line_there.told)
 
-  module _ (badge : Option (List ℕ)) (caller : audience_of desk badge ≡ Some audience) (file : Option JudgedFile) (answer : Said) where
+  module _ (badge : Option (List ℕ)) (caller : audience_of desk badge ≡ Some audience) (file : Option JudgedFile) (answer : Response) where
     abbrev Asks : What → Request
     Asks what = record { badge = badge; what = what }
 
     abbrev TellsToo : What → Type 0
-    TellsToo what = (same : Said) × ReadsTheSame (reply_of answer) (reply_of same) × Tells other audience day file same what
+    TellsToo what = (same : Response) × ReadsTheSame (reply_of answer) (reply_of same) × Tells other audience day file same what
 
     tells_too : (what : What) → ¬ IsForStaff what → IsAsked desk day (Asks what) file → IsAccepted desk (Asks what) file
         → Tells desk audience day file answer what → TellsToo what
@@ -471,14 +471,14 @@ module _ (desk other : Desk) (audience : Audience) (day : ℤ) (same : ShowsTheS
     tells_too (Bytes acc slot) question asked accepted tells =
         let told = told_bytes desk audience day file acc slot answer tells in
         let there = file_too badge caller acc slot file told.0 asked accepted told.2 told.3 in
-        (said.File there.0, contents_read answer told.0 there.0 told.1 there.1, (told.2, there.2))
+        (response.File there.0, contents_read answer told.0 there.0 told.1 there.1, (told.2, there.2))
     tells_too Catalogue question asked accepted tells =
         let told = told_catalogue desk audience day file answer tells in
         (answer, reads_itself (reply_of answer), subst (λ said. Tells other audience day file said Catalogue) (sym told.1) (listings_too told.0 told.2))
     tells_too what question asked accepted tells = absurd (question tt)
 
   module _ (request : Request) (of_caller : IsCallerOf desk request audience) (question : ¬ IsForStaff request.what) where
-    done_too : (answer : Said) (new : Desk) → IsDone desk day request answer new → AnswersToo other day request answer
+    done_too : (answer : Response) (new : Desk) → IsDone desk day request answer new → AnswersToo other day request answer
     done_too answer new done =
         let there = asked_too desk other audience day same request of_caller done.file done.asked in
         let one : done.file ≡ there.0 = accepted_one desk other audience day same request question done.file there.0 there.2 done.accepted in
@@ -499,10 +499,10 @@ module _ (desk other : Desk) (audience : Audience) (day : ℤ) (same : ShowsTheS
           }),
         )
 
-    answered_too : (answer : Said) (new : Desk) → IsAnswered desk day request answer new → AnswersToo other day request answer
-    answered_too (said.Refused refusal) new answered = (
-      said.Refused refusal,
-      reads_itself (reply_of (said.Refused refusal)),
+    answered_too : (answer : Response) (new : Desk) → IsAnswered desk day request answer new → AnswersToo other day request answer
+    answered_too (response.Refused refusal) new answered = (
+      response.Refused refusal,
+      reads_itself (reply_of (response.Refused refusal)),
       (refused_too desk other audience day same request question refusal of_caller answered.0, refl),
     )
     answered_too answer new done = done_too answer new done
@@ -526,17 +526,17 @@ module _ (desk other : Desk) (day : ℤ) (request : Request) (same : other.keys 
       known lower below h = absurd (omega (arith, below))
   away_refused file refusal is = absurd (is.lowest StaffOnly (omega arith) (command, away))
 
-  away_answered : (answer : Said) (new : Desk) → IsAnswered desk day request answer new → AnswersToo other day request answer
-  away_answered (said.Refused refusal) new answered = (
-    said.Refused refusal,
-    reads_itself (reply_of (said.Refused refusal)),
+  away_answered : (answer : Response) (new : Desk) → IsAnswered desk day request answer new → AnswersToo other day request answer
+  away_answered (response.Refused refusal) new answered = (
+    response.Refused refusal,
+    reads_itself (reply_of (response.Refused refusal)),
     (record { file = None; asked = nothing_asked other day request command; refused = away_refused answered.0.file refusal answered.0.refused }, refl),
   )
   away_answered answer new done = absurd (done.accepted StaffOnly (command, away))
 
 -- ---- any request but one of the staff
 
-any_answered : (desk other : Desk) (audience : Audience) (day : ℤ) (request : Request) (answer : Said) (new : Desk) → ¬ IsOfStaff desk request → IsCallerOf desk request audience
+any_answered : (desk other : Desk) (audience : Audience) (day : ℤ) (request : Request) (answer : Response) (new : Desk) → ¬ IsOfStaff desk request → IsCallerOf desk request audience
     → ShowsTheSame desk audience day other → IsAnswered desk day request answer new → AnswersToo other day request answer
 any_answered desk other audience day request answer new open_to_him caller same is = elim (is_for_staff request.what) [
   | inl command ↦ away_answered desk other day request same.keys command (λ staff. open_to_him (command, staff)) answer new is

@@ -8,8 +8,8 @@ use Rattle.rd_geometry.specs.declared.kind.Kind.{Kind}
 pub use Rattle.rd_policy.specs.Rules.{effect_word}
 use Rattle.rd_policy.specs.Verdicts.{label_text}
 use Rattle.rd_volume.specs.Words.{words_of}
-use Rattle.rd_protocol.specs.declared.said.Line.{Line}
-use Rattle.rd_protocol.specs.declared.said.Listing.{Listing}
+use Rattle.rd_protocol.specs.declared.response.Line.{Line}
+use Rattle.rd_protocol.specs.declared.response.Listing.{Listing}
 
 -- a number, or nothing if there is none
 abbrev pub number_text : Option ℕ → List ℕ

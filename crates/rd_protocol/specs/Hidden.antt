@@ -19,7 +19,7 @@ use Rattle.rd_protocol.specs.Replies.{Answers, IsReply}
 use Rattle.rd_protocol.specs.Requests.{IsForStaff}
 use Rattle.rd_protocol.specs.Shown.{ShowsTheSame}
 use Rattle.rd_protocol.specs.declared.request.Request.{Request}
-use Rattle.rd_protocol.specs.declared.said.Reply.{Reply}
+use Rattle.rd_protocol.specs.declared.response.Reply.{Reply}
 
 -- ---- images and desks that look alike to a caller
 

@@ -8,7 +8,7 @@ use Rattle.rd_protocol.specs.Judged.{audience_of}
 use Rattle.rd_protocol.specs.Replies.{IsReply, IsStep}
 use Rattle.rd_protocol.specs.Requests.{IsForStaff}
 use Rattle.rd_protocol.specs.declared.request.Request.{Request}
-use Rattle.rd_protocol.specs.declared.said.Reply.{Reply}
+use Rattle.rd_protocol.specs.declared.response.Reply.{Reply}
 
 -- a request on a day has one reply and one desk after it
 abbrev pub OneReply : Type 0

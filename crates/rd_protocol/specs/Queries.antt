@@ -16,10 +16,10 @@ use Rattle.rd_protocol.specs.declared.rows.ImageRow.{ImageRow}
 use Rattle.rd_protocol.specs.Replies.{AreLines}
 use Rattle.rd_protocol.specs.declared.refusal.Refusal.{Refusal}
 use Rattle.rd_protocol.specs.declared.refusal.Refusal.TheVariants.{NoFile, Denied, ListedOnly, Faulty}
-use Rattle.rd_protocol.specs.declared.said.ImageLine.{ImageLine}
-use Rattle.rd_protocol.specs.declared.said.Line.{Line}
-use Rattle.rd_protocol.specs.declared.said.Said.{Said}
-use Rattle.rd_protocol.specs.declared.said.Said.TheVariants.{Refused, File}
+use Rattle.rd_protocol.specs.declared.response.ImageLine.{ImageLine}
+use Rattle.rd_protocol.specs.declared.response.Line.{Line}
+use Rattle.rd_protocol.specs.declared.response.Response.{Response}
+use Rattle.rd_protocol.specs.declared.response.Response.TheVariants.{Refused, File}
 
 -- ---- one file
 
@@ -54,7 +54,7 @@ OfFile holding audience day slot P =
     (file : Found) × (verdict : Verdict) × IsAtSlot holding audience day slot file verdict × P file verdict
 
 -- what is said of the file at a slot
-abbrev pub IsRead : Standing → Audience → ℤ → ℕ → Said → Type 0
+abbrev pub IsRead : Standing → Audience → ℤ → ℕ → Response → Type 0
 IsRead holding audience day slot (Refused NoFile) = ¬ IsSlotOfFile holding.image.kind holding.image.bytes slot
 IsRead holding audience day slot (Refused (Denied label)) =
     OfFile holding audience day slot (λ file verdict. (verdict.effect ≢ Read) × (verdict.label ≡ label))

@@ -20,13 +20,13 @@ use Rattle.rd_protocol.specs.declared.refusal.Refusal.{Refusal}
 use Rattle.rd_protocol.specs.declared.request.Request.{Request}
 use Rattle.rd_protocol.specs.declared.request.What.{What}
 use Rattle.rd_protocol.specs.declared.request.What.TheVariants.{Images, Listing, Bytes, Catalogue, Survey, Check, PutImage, PutDeed, PutRule, DropRule, PutKey, DropKey}
-use Rattle.rd_protocol.specs.declared.said.ImageLine.{ImageLine}
-use Rattle.rd_protocol.specs.declared.said.Line.{Line}
-use Rattle.rd_protocol.specs.declared.said.Listing.{Listing as Lines}
-use Rattle.rd_protocol.specs.declared.said.Reply.{Reply}
-use Rattle.rd_protocol.specs.declared.said.Said.{Said}
-use Rattle.rd_protocol.specs.declared.said.Said.TheVariants as said
-use Rattle.rd_protocol.specs.declared.said.Survey.{Survey as Surveyed}
+use Rattle.rd_protocol.specs.declared.response.ImageLine.{ImageLine}
+use Rattle.rd_protocol.specs.declared.response.Line.{Line}
+use Rattle.rd_protocol.specs.declared.response.Listing.{Listing as Lines}
+use Rattle.rd_protocol.specs.declared.response.Reply.{Reply}
+use Rattle.rd_protocol.specs.declared.response.Response.{Response}
+use Rattle.rd_protocol.specs.declared.response.Response.TheVariants as response
+use Rattle.rd_protocol.specs.declared.response.Survey.{Survey as Surveyed}
 
 -- ---- what is listed
 
@@ -107,15 +107,15 @@ pub record IsSurvey (desk : Desk) (acc : ℕ) (survey : Surveyed) : Type 0 where
   pub told : IsSurveyOf acc image deed survey
 
 -- the answer to an accepted request; the desk serves a file only if the verdict on it is to read
-abbrev pub Tells : Desk → Audience → ℤ → Option JudgedFile → Said → What → Type 0
-Tells desk audience day file said.Done what = IsPutOrDrop what
-Tells desk audience day file (said.Images lines) Images = AreImageLines desk audience day lines
-Tells desk audience day file (said.Listed listing) (Listing acc) = IsListing desk audience day acc listing
-Tells desk audience day file (said.File contents) (Bytes acc slot) =
+abbrev pub Tells : Desk → Audience → ℤ → Option JudgedFile → Response → What → Type 0
+Tells desk audience day file response.Done what = IsPutOrDrop what
+Tells desk audience day file (response.Images lines) Images = AreImageLines desk audience day lines
+Tells desk audience day file (response.Listed listing) (Listing acc) = IsListing desk audience day acc listing
+Tells desk audience day file (response.File contents) (Bytes acc slot) =
     IsSomeAnd file (λ judged. judged.verdict.effect ≡ Read) × LendsFile desk acc slot contents
-Tells desk audience day file (said.Catalogue listings) Catalogue = AreListings desk audience day listings
-Tells desk audience day file (said.Surveyed survey) (Survey acc) = IsSurvey desk acc survey
-Tells desk audience day file (said.Checked outcome) (Check acc) =
+Tells desk audience day file (response.Catalogue listings) Catalogue = AreListings desk audience day listings
+Tells desk audience day file (response.Surveyed survey) (Survey acc) = IsSurvey desk acc survey
+Tells desk audience day file (response.Checked outcome) (Check acc) =
     IsSomeAnd (get desk.images acc) (λ image. outcome ≡ outcome_of image.bytes image.digest)
 Tells desk audience day file answer what = ⊥
 
@@ -147,7 +147,7 @@ IsStep old day request new =
 -- ---- answers
 
 -- The request is accepted and carried out, and this is said.
-pub record IsDone (old : Desk) (day : ℤ) (request : Request) (answer : Said) (new : Desk) : Type 0 where
+pub record IsDone (old : Desk) (day : ℤ) (request : Request) (answer : Response) (new : Desk) : Type 0 where
   pub file : Option JudgedFile
   pub audience : Audience
   pub asked : IsAsked old day request file
@@ -157,13 +157,13 @@ pub record IsDone (old : Desk) (day : ℤ) (request : Request) (answer : Said) (
   pub after : new ≡ carried_out day request.what old
 
 -- the answer to a request on a day, and the desk after it
-abbrev pub IsAnswered : Desk → ℤ → Request → Said → Desk → Type 0
-IsAnswered old day request (said.Refused refusal) new = IsRefusedOn old day request refusal × (new ≡ old)
+abbrev pub IsAnswered : Desk → ℤ → Request → Response → Desk → Type 0
+IsAnswered old day request (response.Refused refusal) new = IsRefusedOn old day request refusal × (new ≡ old)
 IsAnswered old day request answer new = IsDone old day request answer new
 
 -- A request has a reply: there is an answer, and the reply is its text.
 pub record IsReply (old : Desk) (day : ℤ) (request : Request) (reply : Reply) (new : Desk) : Type 0 where
-  pub answer : Said
+  pub answer : Response
   pub answered : IsAnswered old day request answer new
   pub written : reply ≡ reply_of answer
 

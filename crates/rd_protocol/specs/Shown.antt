@@ -12,7 +12,7 @@ use Rattle.rd_volume.specs.declared.found.Found.{Found}
 use Rattle.rd_protocol.specs.State.{Desk, rules_for, accession_of}
 use Rattle.rd_protocol.specs.declared.rows.ImageRow.{ImageRow}
 use Rattle.rd_protocol.specs.Replies.{IsLine}
-use Rattle.rd_protocol.specs.declared.said.Line.{Line}
+use Rattle.rd_protocol.specs.declared.response.Line.{Line}
 
 -- The rule with this label denies the file at a slot; or it is the default that denies it.
 pub record IsDeniedAt (image : ImageRow) (rules : List Rule) (audience : Audience) (day : ℤ) (slot : ℕ) (label : Label) : Type 0 where

@@ -19,14 +19,14 @@ use Rattle.rd_protocol.specs.Lent.{held, lent_out}
 use Rattle.rd_protocol.specs.Refusals.{name_of, status_of}
 use Rattle.rd_protocol.specs.declared.refusal.Refusal.{Refusal}
 use Rattle.rd_protocol.specs.declared.refusal.Refusal.TheVariants.{UnknownKey, StaffOnly, BadBody, NoAccession, NoFile, NoDeed, Denied, ListedOnly, Faulty, WrongSize, DigestDiffers, Conflict}
-use Rattle.rd_protocol.specs.declared.said.Form.TheVariants.{Json, Csv, Octets}
-use Rattle.rd_protocol.specs.declared.said.ImageLine.{ImageLine}
-use Rattle.rd_protocol.specs.declared.said.Line.{Line}
-use Rattle.rd_protocol.specs.declared.said.Listing.{Listing}
-use Rattle.rd_protocol.specs.declared.said.Reply.{Reply}
-use Rattle.rd_protocol.specs.declared.said.Said.{Said}
-use Rattle.rd_protocol.specs.declared.said.Said.TheVariants.{Refused, Done, Images, Listed, File, Catalogue, Surveyed, Checked}
-use Rattle.rd_protocol.specs.declared.said.Survey.{Survey}
+use Rattle.rd_protocol.specs.declared.response.Form.TheVariants.{Json, Csv, Octets}
+use Rattle.rd_protocol.specs.declared.response.ImageLine.{ImageLine}
+use Rattle.rd_protocol.specs.declared.response.Line.{Line}
+use Rattle.rd_protocol.specs.declared.response.Listing.{Listing}
+use Rattle.rd_protocol.specs.declared.response.Reply.{Reply}
+use Rattle.rd_protocol.specs.declared.response.Response.{Response}
+use Rattle.rd_protocol.specs.declared.response.Response.TheVariants.{Refused, Done, Images, Listed, File, Catalogue, Surveyed, Checked}
+use Rattle.rd_protocol.specs.declared.response.Survey.{Survey}
 
 -- ---- values
 
@@ -169,7 +169,7 @@ abbrev pub in_json : ℕ → Data → Reply
 in_json status said = record { status = status; form = Json; body = held (compact_text said) }
 
 -- the reply that says the answer
-abbrev pub reply_of : Said → Reply
+abbrev pub reply_of : Response → Reply
 reply_of (Refused refusal) = in_json (status_of refusal) (error_data (name_of refusal) (detail_of refusal))
 reply_of Done = in_json 200 DONE
 reply_of (Images lines) = in_json 200 (images_data lines)

@@ -6,7 +6,7 @@ ghost use Rattle.csv.specs.Writing.{default_writer, row_text};
 ghost use Rattle.rd_protocol.specs.Catalogues.{catalogue_text, faults_text, number_text, record_of, records_text};
 ghost use Rattle.rd_protocol.specs.Written.{HasWritten};
 
-use crate::said::{Line, Listing};
+use crate::response::{Line, Listing};
 use csv::{Writer, WriterBuilder};
 use rd_geometry::{Items, Kind, NoMemory, Text};
 use rd_volume::fault_words;

@@ -13,8 +13,8 @@ use crate::body::Body;
 use crate::catalogue::table;
 use crate::lists::{images_reply, listing_reply};
 use crate::refusal::Refusal;
+use crate::response::{Form, Reply, Response, Survey};
 use crate::rows::Outcome;
-use crate::said::{Form, Reply, Said, Survey};
 use rd_geometry::{Kind, NoMemory, Text};
 use rd_volume::{MapReport, fault_words};
 use serde_json::{Value, json};
@@ -190,27 +190,27 @@ pub fn unavailable() -> Reply
 
 /// The reply that gives an answer: its status, and its body as JSON (RFC 8259), as CSV (RFC 4180)
 /// for a catalogue, or as the bytes of a file. It fails only when memory runs out.
-pub fn reply_to(alloc: Global, said: Said) -> Result<Reply, NoMemory>
+pub fn reply_to(alloc: Global, said: Response) -> Result<Reply, NoMemory>
     ensures { IfOk result (λ reply. reply ≡ reply_of said) }
 {
     match said {
-        Said::Refused(refusal) => {
+        Response::Refused(refusal) => {
             json_reply(alloc, refusal.status(), &refusal_value(alloc, refusal)?)
         }
-        Said::Done => Ok(done()),
-        Said::Images(lines) => images_reply(alloc, lines.as_slice()),
-        Said::Listed(listing) => listing_reply(alloc, &listing),
-        Said::File(contents) => Ok(Reply {
+        Response::Done => Ok(done()),
+        Response::Images(lines) => images_reply(alloc, lines.as_slice()),
+        Response::Listed(listing) => listing_reply(alloc, &listing),
+        Response::File(contents) => Ok(Reply {
             status: 200,
             form: Form::Octets,
             body: Body::file(contents),
         }),
-        Said::Catalogue(listings) => Ok(Reply {
+        Response::Catalogue(listings) => Ok(Reply {
             status: 200,
             form: Form::Csv,
             body: Body::table(table(alloc, listings.as_slice())?),
         }),
-        Said::Surveyed(survey) => json_reply(alloc, 200, &surveyed_value(alloc, &survey)?),
-        Said::Checked(outcome) => Ok(checked(outcome)),
+        Response::Surveyed(survey) => json_reply(alloc, 200, &surveyed_value(alloc, &survey)?),
+        Response::Checked(outcome) => Ok(checked(outcome)),
     }
 }

@@ -13,9 +13,9 @@ mod lists;
 pub mod parts;
 mod refusal;
 mod request;
+mod response;
 mod rows;
 mod rule_laws;
-mod said;
 
 pub use body::{Body, BodyPieces};
 pub use checks::{check_row, has_digest};
@@ -29,6 +29,6 @@ pub use limits::is_donor;
 pub use parts::{digest, scope};
 pub use refusal::Refusal;
 pub use request::{Request, What};
+pub use response::{Form, ImageLine, Line, Listing, Reply, Response, Survey};
 pub use rows::{Accession, DeedRow, ImageRow, Indexed, Outcome};
 pub use rule_laws::{rules_are_in_order, rules_are_those};
-pub use said::{Form, ImageLine, Line, Listing, Reply, Said, Survey};

@@ -11,7 +11,7 @@ ghost use Rattle.rd_protocol.specs.Lent.{held};
 ghost use Rattle.rd_protocol.specs.Texts.{file_data, image_data, images_data, in_json, line_data, listing_data, texts};
 
 use crate::body::Body;
-use crate::said::{Form, ImageLine, Line, Listing, Reply};
+use crate::response::{Form, ImageLine, Line, Listing, Reply};
 use rd_geometry::{Kind, NoMemory, Text};
 use rd_volume::{Found, fault_words};
 use serde::{Described, Serialize, Serializer};

@@ -1,7 +1,7 @@
 mod PrintedLemmas
 mod WordLemmas
 mod ToldLemmas
-pub mod Told
+pub mod FoundFile
 mod CpmLemmas
 mod CbmLemmas
 mod PieceLemmas

@@ -6,7 +6,7 @@ use Rattle.rd_geometry.specs.declared.kind.Kind.{Kind}
 use Rattle.rd_volume.specs.Volumes.{AreFounds, IsFound, IsSlotOfFile}
 use Rattle.rd_volume.specs.declared.found.Found.{Found}
 use Rattle.rd_volume.proofs.OneFound.{one_found}
-use Rattle.rd_volume.proofs.Told.{told_slot}
+use Rattle.rd_volume.proofs.FoundFile.{told_slot}
 use Rattle.rd_volume.proofs.ToldLemmas.{numbers_ascend}
 
 -- a member of ascending numbers is the first, or above it

@@ -11,7 +11,7 @@ use Rattle.rd_volume.specs.Kinds.{room_of, unit_count_of}
 use Rattle.rd_volume.specs.Parts.{part_of_unit, parts_of, place_of_body}
 use Rattle.rd_volume.specs.Volumes.{AreBytesOf, IsFound, body_of, pieces_of}
 use Rattle.rd_volume.specs.declared.found.Found.{Found}
-use Rattle.rd_volume.proofs.Told.{told_bytes}
+use Rattle.rd_volume.proofs.FoundFile.{told_bytes}
 
 -- a piece before the last is all that its unit holds
 before_last : (kind : Kind) (image units : List ℕ) (last i : ℕ) → i + 1 < length units

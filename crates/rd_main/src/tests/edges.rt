@@ -5,7 +5,7 @@ use super::sheets::HEADER;
 use super::{Ran, is_refused};
 use crate::host::Host;
 use rd_program::{Files, MachineFault, run};
-use rd_rows::cpm::hello;
+use rd_samples::cpm::hello;
 use std::alloc::{Alloc, Global};
 use std::test::Fail;
 use std::{env, fs};

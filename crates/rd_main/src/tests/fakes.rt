@@ -4,7 +4,7 @@ ghost use Rattle.std.specs.Prelude.{None};
 
 use rd_http::MemoryDoor;
 use rd_program::{Files, Machine, MachineFault};
-use rd_rows::cbm::one_program;
+use rd_samples::cbm::one_program;
 use sqlite::{Alter, Connection, MemStore};
 use std::alloc::{AllocError, Global};
 use std::io;

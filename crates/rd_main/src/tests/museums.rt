@@ -3,8 +3,8 @@
 use super::fakes::{Museum, Sheet};
 use rd_http::MemoryDoor;
 use rd_program::{MachineFault, run};
-use rd_rows::bytes::put;
-use rd_rows::cbm::one_program;
+use rd_samples::bytes::put;
+use rd_samples::cbm::one_program;
 use rd_volume::NoMemory;
 use sqlite::{Alter, Connection, Error, MemStore, Row, params};
 use std::alloc::Global;

@@ -7,11 +7,11 @@ use super::sheets::{EMPTY, HEADER, HELLO_12, OTHER_DIGEST};
 use super::visits::{Visit, door_of};
 use rd_http::MemoryDoor;
 use rd_program::run;
-use rd_rows::bytes::put;
-use rd_rows::cbm::{
+use rd_samples::bytes::put;
+use rd_samples::cbm::{
     DIRECTORY, add_marks, formatted, full, full_file, looped, mixed, one_program, put_block,
 };
-use rd_rows::cpm::{FILE, NewEntry, blank, hello, with_entries};
+use rd_samples::cpm::{FILE, NewEntry, blank, hello, with_entries};
 use rd_volume::NoMemory;
 use sqlite::{Connection, Error, MemStore, Row};
 use std::alloc::{Alloc, Global};

@@ -4,7 +4,7 @@ use Rattle.rd_program.specs.Asking.{TellsCheck}
 use Rattle.rd_commands.specs.Input.{ReadsUpTo}
 use Rattle.rd_commands.specs.Refusals.{status_of}
 use Rattle.rd_program.specs.Serving.{serve_text}
-use Rattle.rd_commands.specs.Told.{Tells}
+use Rattle.rd_commands.specs.RefusalLines.{Tells}
 use Rattle.rd_commands.specs.Versions.{RefusesVersion}
 use Rattle.rd_commands.specs.declared.refusal.Refusal.TheVariants.{NoMemory}
 use Rattle.rd_commands.specs.declared.words.Question.TheVariants.{Catalogue, Check}

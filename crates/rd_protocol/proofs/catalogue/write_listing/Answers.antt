@@ -2,7 +2,7 @@ use Rattle.std.proofs.Common.{◌++◌, List, rules, take, ℕ}
 use Rattle.std.specs.List.{flat_map}
 use Rattle.csv.specs.Writing.{default_writer, row_text}
 use Rattle.rd_protocol.specs.Catalogues.{record_of}
-use Rattle.rd_protocol.specs.declared.said.Line.{Line}
+use Rattle.rd_protocol.specs.declared.response.Line.{Line}
 use Rattle.rd_protocol.proofs.Tables.{written_all, written_more}
 use Rattle.rd_protocol.proofs.catalogue.write_listing.Goals as goal
 

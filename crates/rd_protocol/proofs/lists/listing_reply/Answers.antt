@@ -2,7 +2,7 @@ use Rattle.std.proofs.Common.{◌∙◌, ap, string_bytes}
 use Rattle.serde_json.proofs.FreeTexts.{text_of_value}
 use Rattle.rd_protocol.specs.Lent.{held}
 use Rattle.rd_protocol.specs.Texts.{listing_data}
-use Rattle.rd_protocol.specs.declared.said.Form.TheVariants.{Json}
+use Rattle.rd_protocol.specs.declared.response.Form.TheVariants.{Json}
 use Rattle.rd_protocol.proofs.Floats.{listing_has_no_float}
 use Rattle.rd_protocol.proofs.lists.listing_reply.Goals as goal
 

@@ -11,7 +11,7 @@ use crate::tests::desks::{AFTER, BEFORE};
 use crate::tests::keys::{NOBODY, PUBLIC, STAFF};
 use rd_desk::{Body, Contents, Form};
 use rd_geometry::{Items, Kind, NoMemory, Text};
-use rd_rows::cpm::{FILE, NewEntry};
+use rd_samples::cpm::{FILE, NewEntry};
 use rd_volume::Found;
 use std::alloc::{AllocError, Global};
 use std::process::Abort;

@@ -1,11 +1,11 @@
 //! Images of disks, and the accessions at which they are put.
 
 use rd_geometry::{Kind, NoMemory};
-use rd_rows::bytes::put;
-use rd_rows::cbm::{
+use rd_samples::bytes::put;
+use rd_samples::cbm::{
     DIRECTORY, NewCbmEntry, PROGRAM, add_marks, formatted, full, looped, one_program, put_cbm_entry,
 };
-use rd_rows::cpm::{NewEntry, hello, with_entries};
+use rd_samples::cpm::{NewEntry, hello, with_entries};
 use std::alloc::Global;
 
 /// Bytes that are written over those of an image, each from a place on.

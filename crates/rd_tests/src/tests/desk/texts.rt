@@ -2,13 +2,13 @@
 //! growth: a reply that is then not made is made again, and must be as ever.
 
 use rd_desk::{
-    Body, Contents, Form, ImageLine, Line, Listing, Outcome, Refusal, Reply, Said, Survey,
+    Body, Contents, Form, ImageLine, Line, Listing, Outcome, Refusal, Reply, Response, Survey,
     fixed_reply, reply_to, unavailable,
 };
 use rd_geometry::{Items, Kind, NoMemory, Text};
 use rd_policy::{Effect, Label, Verdict};
-use rd_rows::bytes::put;
-use rd_rows::cbm::formatted;
+use rd_samples::bytes::put;
+use rd_samples::cbm::formatted;
 use rd_volume::{End, Found, MapReport, Report};
 use std::alloc::Global;
 use std::process::Abort;
@@ -459,16 +459,16 @@ fn reply(alloc: Global, told: Told<'_>) -> Result<Reply, NoMemory> {
     let said = match told {
         Told::Unavailable => return Ok(unavailable()),
         Told::Fixed(status, text) => return Ok(fixed_reply(status, text)),
-        Told::Refused(refusal) => Said::Refused(refusal),
-        Told::Done => Said::Done,
-        Told::Images(images) => Said::Images(image_lines(alloc, images)?),
+        Told::Refused(refusal) => Response::Refused(refusal),
+        Told::Done => Response::Done,
+        Told::Images(images) => Response::Images(image_lines(alloc, images)?),
         Told::Listed(accession, deed, kind, files) => {
-            Said::Listed(listing(alloc, (accession, deed, kind, files))?)
+            Response::Listed(listing(alloc, (accession, deed, kind, files))?)
         }
-        Told::File(text) => Said::File(contents(alloc, text)?),
-        Told::Catalogue(accessions) => Said::Catalogue(listings(alloc, accessions)?),
-        Told::Surveyed(counts) => Said::Surveyed(survey(alloc, &counts)?),
-        Told::Checked(outcome) => Said::Checked(outcome),
+        Told::File(text) => Response::File(contents(alloc, text)?),
+        Told::Catalogue(accessions) => Response::Catalogue(listings(alloc, accessions)?),
+        Told::Surveyed(counts) => Response::Surveyed(survey(alloc, &counts)?),
+        Told::Checked(outcome) => Response::Checked(outcome),
     };
     reply_to(alloc, said)
 }

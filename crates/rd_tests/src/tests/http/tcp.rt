@@ -6,7 +6,7 @@ use super::cases::{
 };
 use crate::tests::desks::{AFTER, BEFORE, Memory};
 use rd_http::{Clock, Ended, Served, TcpDoor, serve_in_memory};
-use rd_rows::cpm::scattered_file;
+use rd_samples::cpm::scattered_file;
 use std::alloc::AllocGlobal;
 use std::io::{Read, Write};
 use std::net::{Net, Shutdown, TcpListener, TcpStream};

@@ -1,4 +1,4 @@
-use Rattle.rd_volume.proofs.Told.{told_slot, told_sound}
+use Rattle.rd_volume.proofs.FoundFile.{told_slot, told_sound}
 use Rattle.rd_volume.proofs.laws.each_file_told_is_at_its_slot.Goals as goal
 
 pub returns-clause-slot : goal.returns-clause-slot

@@ -3,8 +3,8 @@
 
 ghost use Rattle.std.specs.Prelude.{◌≡◌, ◌<◌, ◌≤◌, ◌+◌, ◌++◌, ◌∷◌, [], length, replicate, vec_len, IfOk, OnErr, OnOk};
 ghost use Rattle.rd_geometry.specs.Blocks.{place_of_block, place_of_mark};
-ghost use Rattle.rd_rows.specs.CbmEntries.{place_of_entry, with_entry};
-ghost use Rattle.rd_rows.specs.Written.{written};
+ghost use Rattle.rd_samples.specs.CbmEntries.{place_of_entry, with_entry};
+ghost use Rattle.rd_samples.specs.Written.{written};
 
 use crate::bytes::{numbered, padded, put, zeroed};
 use rd_geometry::NoMemory;

@@ -3,7 +3,7 @@ use Rattle.std.proofs.Common.{◌≡◌, ◌∙◌, append-nil, ℕ, ◌+◌, �
 use Rattle.std.proofs.lemmas.List.{drop_all, length-replicate}
 use Rattle.std.proofs.lemmas.List.Edits.{paste_all, paste-paste}
 use lib.Seq.{paste}
-use Rattle.rd_rows.specs.Written.{padded, written}
+use Rattle.rd_samples.specs.Written.{padded, written}
 
 -- bytes that are written behind others are written with them
 pub written_next : (image : List ℕ) (place : ℕ) (old new : List ℕ) → place + length old ≤ length image

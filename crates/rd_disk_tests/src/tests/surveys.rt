@@ -9,8 +9,8 @@ use super::sample::{
     FULL, HELLO, LOOPED, MARKED, MIXED, NO_END, ONE_PROGRAM, Runs, SCATTERED, Sample, TWO_EXTENTS,
     units_of,
 };
-use rd_rows::cbm::{NewCbmEntry, PROGRAM, full_file};
-use rd_rows::cpm::{FILE, NewEntry, scattered_file};
+use rd_samples::cbm::{NewCbmEntry, PROGRAM, full_file};
+use rd_samples::cpm::{FILE, NewEntry, scattered_file};
 use rd_volume::{CbmDisk, CpmDisk, Found, Image, NoMemory, Volume, find, pieces, survey};
 use std::alloc::Global;
 

@@ -30,7 +30,7 @@ pub enum Form {
 
 /// What a reply says, before it is written.
 #[derive(Drop)]
-pub enum Said {
+pub enum Response {
     /// The request is refused.
     Refused(Refusal),
     /// The command is done.

@@ -7,8 +7,8 @@ use super::sample::{
 };
 use rd_cbm::{CbmFile, Class, files};
 use rd_geometry::{CbmDisk, Image, NoMemory};
-use rd_rows::bytes::padded;
-use rd_rows::cbm::{NewCbmEntry, PROGRAM};
+use rd_samples::bytes::padded;
+use rd_samples::cbm::{NewCbmEntry, PROGRAM};
 use std::alloc::Global;
 
 /// What desk has to say of files in slots that follow one another.

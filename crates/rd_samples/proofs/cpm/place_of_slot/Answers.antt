@@ -1,7 +1,7 @@
 use Rattle.std.proofs.Common.{◌≡◌, ◌%◌, ◌/◌, ℕ, ◌<◌, List, [], ◌∷◌, slice_index_or, arith, true, refl, eqb, eqb-true}
 use Rattle.std.proofs.lemmas.Bool.{agree_below_at}
 use Rattle.rd_geometry.specs.Places.{skewed}
-use Rattle.rd_rows.proofs.cpm.place_of_slot.Goals as goal
+use Rattle.rd_samples.proofs.cpm.place_of_slot.Goals as goal
 
 abbrev table : List ℕ
 table = 0 ∷ 6 ∷ 12 ∷ 18 ∷ 24 ∷ 4 ∷ 10 ∷ 16 ∷ 22 ∷ 2 ∷ 8 ∷ 14 ∷ 20 ∷ 1 ∷ 7 ∷ 13 ∷ []

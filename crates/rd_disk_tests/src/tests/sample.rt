@@ -3,12 +3,12 @@
 ghost use Rattle.std.specs.Prelude.{◌≡◌, ◌<◌, length, vec_len, IfOk};
 
 use rd_geometry::{CbmDisk, Kind, NoMemory};
-use rd_rows::bytes::put;
-use rd_rows::cbm::{
+use rd_samples::bytes::put;
+use rd_samples::cbm::{
     NewCbmEntry, add_marks, crossed, formatted, full, looped, mixed, one_program, put_block,
     put_cbm_entry, put_mark,
 };
-use rd_rows::cpm::{
+use rd_samples::cpm::{
     NewEntry, blank, filled, hello, put_entry, scattered, two_extents, with_entries,
 };
 use std::alloc::Global;

@@ -4,7 +4,7 @@ use super::cases::{Case, Wanted, assert_cases};
 use super::sample::{BLANK, Base, Sample};
 use rd_cpm::entry;
 use rd_geometry::{CpmDisk, Image};
-use rd_rows::cpm::{FILE, NewEntry};
+use rd_samples::cpm::{FILE, NewEntry};
 
 /// What the readers of an entry have to give.
 #[derive(Clone, Copy)]

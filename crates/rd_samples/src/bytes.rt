@@ -1,7 +1,7 @@
 //! Bytes of images of any kind.
 
 ghost use Rattle.std.specs.Prelude.{◌≡◌, ◌<◌, ◌≤◌, ◌+◌, length, vec_len, IfOk};
-ghost use Rattle.rd_rows.specs.Written.{padded, written};
+ghost use Rattle.rd_samples.specs.Written.{padded, written};
 
 use rd_geometry::NoMemory;
 use std::alloc::Global;

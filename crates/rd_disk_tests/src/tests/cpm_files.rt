@@ -6,7 +6,7 @@ use super::sample::{
 };
 use rd_cpm::{CpmFile, files};
 use rd_geometry::{CpmDisk, Image, NoMemory};
-use rd_rows::cpm::{FILE, NewEntry};
+use rd_samples::cpm::{FILE, NewEntry};
 use std::alloc::Global;
 
 const BAD_COUNT: u8 = 1;

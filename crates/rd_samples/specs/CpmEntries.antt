@@ -1,8 +1,8 @@
 -- Entries of a CP/M directory, as builders write them.
 use Rattle.std.specs.Prelude.{ℕ, List, [], ◌∷◌, ◌++◌, ◌+◌, ◌*◌, ◌/◌, ◌%◌}
 use Rattle.rd_geometry.specs.Places.{place_of_cpm_unit}
-use Rattle.rd_rows.specs.Written.{padded}
-use Rattle.rd_rows.specs.declared.cpm.NewEntry.{NewEntry}
+use Rattle.rd_samples.specs.Written.{padded}
+use Rattle.rd_samples.specs.declared.cpm.NewEntry.{NewEntry}
 
 -- the byte at which the entry of a slot begins: the directory has four entries a sector
 abbrev pub place_of_slot : ℕ → ℕ

@@ -1,7 +1,7 @@
 use Rattle.std.proofs.Common.{◌≡◌, ◌∙◌, ℕ, ◌+◌, ◌*◌, ◌/◌, ◌%◌, ◌≤◌, List, [], ◌∷◌, ◌++◌, length, length-append, append_assoc, ap, arith, refl}
-use Rattle.rd_rows.specs.Written.{written}
-use Rattle.rd_rows.proofs.WrittenLemmas.{Puts, length-padded, put_on}
-use Rattle.rd_rows.proofs.cbm.put_cbm_entry.Goals as goal
+use Rattle.rd_samples.specs.Written.{written}
+use Rattle.rd_samples.proofs.WrittenLemmas.{Puts, length-padded, put_on}
+use Rattle.rd_samples.proofs.cbm.put_cbm_entry.Goals as goal
 
 -- three fields that are put one behind the other are written as one, and a fourth apart
 four_fields : (image image1 image2 image3 image4 : List ℕ) (place : ℕ) (a b c d : List ℕ) → place + 32 ≤ length image

@@ -2,8 +2,8 @@
 
 ghost use Rattle.std.specs.Prelude.{◌≡◌, ◌<◌, ◌≤◌, ◌+◌, length, vec_len, IfOk};
 ghost use Rattle.rd_geometry.specs.Places.{place_of_cpm_unit};
-ghost use Rattle.rd_rows.specs.CpmEntries.{entry_bytes, place_of_slot};
-ghost use Rattle.rd_rows.specs.Written.{written};
+ghost use Rattle.rd_samples.specs.CpmEntries.{entry_bytes, place_of_slot};
+ghost use Rattle.rd_samples.specs.Written.{written};
 
 use crate::bytes::{numbered, padded, put, zeroed};
 use rd_geometry::NoMemory;

@@ -6,7 +6,7 @@ use super::sample::{
 };
 use rd_cbm::{CbmEntry, End, directory};
 use rd_geometry::{CbmDisk, Image, NoMemory};
-use rd_rows::cbm::PROGRAM;
+use rd_samples::cbm::PROGRAM;
 use std::alloc::Global;
 
 /// The entry of the program `FILE`.

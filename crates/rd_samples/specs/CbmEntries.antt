@@ -1,8 +1,8 @@
 -- Entries of the directory of a 1541 disk, as builders write them.
 use Rattle.std.specs.Prelude.{ℕ, List, [], ◌∷◌, ◌++◌, ◌+◌, ◌*◌, ◌/◌, ◌%◌}
 use Rattle.rd_geometry.specs.Blocks.{place_of_block}
-use Rattle.rd_rows.specs.Written.{padded, written}
-use Rattle.rd_rows.specs.declared.cbm.NewCbmEntry.{NewCbmEntry}
+use Rattle.rd_samples.specs.Written.{padded, written}
+use Rattle.rd_samples.specs.declared.cbm.NewCbmEntry.{NewCbmEntry}
 
 -- the byte at which an entry begins: a block of the directory has eight
 abbrev pub place_of_entry : ℕ → ℕ → ℕ

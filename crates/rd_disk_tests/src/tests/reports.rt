@@ -6,7 +6,7 @@ use super::sample::{
     FULL, HELLO, LOOPED, MARKED, MIXED, NO_END, ONE_PROGRAM, Sample,
 };
 use rd_cbm::block_map;
-use rd_rows::cbm::{DIRECTORY, NewCbmEntry, PROGRAM};
+use rd_samples::cbm::{DIRECTORY, NewCbmEntry, PROGRAM};
 use rd_volume::{CbmDisk, End, Image, MapReport, NoMemory, directory_end, report};
 use std::alloc::Global;
 

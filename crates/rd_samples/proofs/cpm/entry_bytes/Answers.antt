@@ -1,6 +1,6 @@
 use Rattle.std.proofs.Common.{◌≡◌, ◌∙◌, ℕ, List, [], ◌∷◌, ◌++◌, length, length-append, append_assoc, ap, arith, refl, replicate}
-use Rattle.rd_rows.proofs.WrittenLemmas.{Puts, length-padded, put_on, written_whole}
-use Rattle.rd_rows.proofs.cpm.entry_bytes.Goals as goal
+use Rattle.rd_samples.proofs.WrittenLemmas.{Puts, length-padded, put_on, written_whole}
+use Rattle.rd_samples.proofs.cpm.entry_bytes.Goals as goal
 
 -- five fields that are put one behind the other, to 32 bytes, are those bytes
 five_fields : (image image1 image2 image3 image4 image5 : List ℕ) (a b c d e : List ℕ) → length image ≡ 32
