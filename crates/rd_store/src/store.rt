@@ -33,7 +33,7 @@ use std::marker::Model;
 
 /// The tables of a desk over a connection: deeds, images, some with error bytes, an index of their files, rules,
 /// desk keys and checks. Beside them it keeps a register in memory, 44 bytes for each accession: the kind of its
-/// image, its deed and its SHA-256; and the image that was asked for last, where it was asked for twice in a row.
+/// image, its deed and its SHA-256; and the image that was asked for last, if it was asked for twice in a row.
 #[derive(Drop)]
 pub struct Store<S: Alter> {
     conn: Connection<S>,
@@ -60,8 +60,8 @@ impl<S: Alter> Store<S> {
     /// Makes a desk with one staff key, given by its SHA-256, in a database without tables. The connection
     /// is outside a transaction.
     ///
-    /// It fails with `Exists` if there is a table `desk`, and with `Sql`, also if there is another table or
-    /// a view.
+    /// It fails with `Exists` if there is a table `desk`, and with `Sql` if there is another table or a view,
+    /// if the database fails, or if memory runs out.
     pub fn create(
         mut conn: Connection<S>,
         staff: &[u8; 32],
@@ -100,9 +100,10 @@ impl<S: Alter> Store<S> {
     /// It fails with `NotADesk` if there is no table `desk` with the columns of one; then with
     /// `Version` if that table comes first and does not have its one row, or the row says
     /// another version than 2 (`migrate` opens a desk of version 1 too); then with `Inconsistent`
-    /// if the rows are not those of a desk; and with `Sql`, also if there is another table, if one
-    /// is declared otherwise, and if SQL does not show the columns of a table `desk`, because it
-    /// does not understand something on it, such as a trigger.
+    /// if the rows are not those of a desk. It fails with `Sql` if the database fails or memory runs
+    /// out, if there is another table, if one is declared in another way, and if SQL does not show
+    /// the columns of a table `desk`, because it does not understand something on it, such as a
+    /// trigger.
     pub fn open(alloc: Global, mut conn: Connection<S>) -> Result<Store<S>, Refused<OpenFault, S>>
         requires outside { conn.in_transaction ≡ false }
         ensures opened { IfOk result (λ store. IsOpened S.Store conn store) }
@@ -120,13 +121,13 @@ impl<S: Alter> Store<S> {
     }
 
     /// Opens the desk that a database holds, after bringing tables of version 1 to version 2. It tests the rows as
-    /// `open` does, and walks each image once. Then in one transaction it makes the table of error bytes, without
-    /// rows, and sets the version. The desk is the same, and a crash leaves it too, in tables of version 1 or in
-    /// those of version 2. There is no way back to version 1. Tables of version 2 it leaves as they are. The
-    /// connection is outside a transaction.
+    /// `open` does, and walks each image once. Then in one transaction it makes an empty table of error bytes and
+    /// sets the version. The desk stays the same, and a crash leaves it in tables of version 1 or of version 2.
+    /// There is no way back to version 1. It leaves tables of version 2 as they are. The connection is outside a
+    /// transaction.
     ///
-    /// It fails as `open` does: with `Version` where the row says neither 1 nor 2, with `Inconsistent` where the
-    /// rows are not those of a desk of their version, and with `Sql` also where the tables are not those of the
+    /// It fails as `open` does: with `Version` if the row says neither 1 nor 2, with `Inconsistent` if the rows are
+    /// not those of a desk of their version, and with `Sql`, for instance if the tables are not those of the
     /// version that the row says. The database is then as it was.
     pub fn migrate(
         alloc: Global,
@@ -297,9 +298,9 @@ impl<S: Alter> Store<S> {
         keys::audience_of(&mut self.conn, digest)
     }
 
-    /// Puts a deed, in place of one with its number: the number 1 to 999,999, a donor of 1 to 1,000 bytes,
-    /// none below 20 hex (`is_donor`), and the day on which it was signed, counted from 1970-01-01, of the
-    /// years 1 to 9999.
+    /// Puts a deed, in place of the one with its number, if there is one. The number is 1 to 999,999, the donor
+    /// a text of 1 to 1,000 bytes, none below 20 hex (`is_donor`), and the day on which they signed, counted
+    /// from 1970-01-01, is of the years 1 to 9999.
     ///
     /// It fails with `Sql`.
     pub fn put_deed(&mut self, num: u32, donor: &str, signed: i32) -> Result<(), StoreFault>
@@ -349,8 +350,8 @@ impl<S: Alter> Store<S> {
         )
     }
 
-    /// Puts a rule, in place of one of its band, number and rank. Its values are within their limits
-    /// (`Rule::fits`).
+    /// Puts a rule, in place of the one with its band, number and rank, if there is one. Its values are
+    /// within their limits (`Rule::fits`).
     ///
     /// It fails with `Missing` where there is no such accession or deed, and with `Sql`.
     pub fn put_rule(&mut self, rule: &Rule) -> Result<(), StoreFault>
@@ -363,8 +364,7 @@ impl<S: Alter> Store<S> {
         rules::put_rule(&mut self.conn, &self.register, rule)
     }
 
-    /// Takes away the takedown of an accession, or the rule of a deed, that has a rank, 1 to 9,999, if it is
-    /// there.
+    /// Takes away the takedown of an accession or the rule of a deed at a rank, 1 to 9,999, if there is one.
     ///
     /// It fails with `Missing` where there is no such accession or deed, and with `Sql`.
     pub fn drop_rule(&mut self, band: Band, scope: u32, rank: u16) -> Result<(), StoreFault>
@@ -376,9 +376,10 @@ impl<S: Alter> Store<S> {
         rules::drop_rule(&mut self.conn, &self.register, band, scope, rank)
     }
 
-    /// Puts a desk key by its digest, for the reading room or the staff, in place of one with it.
+    /// Puts a desk key by its digest, for the reading room or the staff, in place of the one with this digest,
+    /// if there is one.
     ///
-    /// It fails with `Conflict` where the last staff key would go, and with `Sql`.
+    /// It fails with `Conflict` if no staff key would be left, and with `Sql`.
     pub fn put_key(&mut self, digest: &[u8; 32], audience: Audience) -> Result<(), StoreFault>
         requires key { IsKey digest.now audience }
         ensures changes { Changes S.Store self.old self.new (with_key digest.now audience (desk S.Store self.old)) result }
@@ -391,7 +392,7 @@ impl<S: Alter> Store<S> {
 
     /// Takes a desk key away by its digest, if it is there.
     ///
-    /// It fails with `Conflict` where it is the last staff key, and with `Sql`.
+    /// It fails with `Conflict` if it is the last staff key, and with `Sql`.
     pub fn drop_key(&mut self, digest: &[u8; 32]) -> Result<(), StoreFault>
         ensures changes { Changes S.Store self.old self.new (without_key digest.now (desk S.Store self.old)) result }
         ensures judges { Judges S.Store self.new result ⊤ (IsLastStaff (desk S.Store self.old) digest.now) }
@@ -428,7 +429,7 @@ impl<S: Alter> Store<S> {
 
     /// The rules that decide on the files of an accession whose deed is known, both numbers 1 to
     /// 999,999: its takedowns by rank, and then the rules of the deed by rank. It does not look up
-    /// whether the accession is there, and of that deed.
+    /// whether the accession is there and has that deed.
     ///
     /// It fails with `Sql`.
     pub fn rules_under(
@@ -457,8 +458,8 @@ impl<S: Alter> Store<S> {
     }
 }
 
-/// In memory no disk can fail: each connection is open at all times, and what a call promises for
-/// one that is open and clean it promises for this one.
+/// Law: in memory no disk can fail, so each connection is open at all times. What a call promises of a
+/// connection that is open and clean then holds without a premise.
 pub fn memory_stays_open()
     ensures open { (conn : Held MemStore) → IsOpen over_memory conn }
     ensures clean { (conn : Held MemStore) → IsClean over_memory conn }
