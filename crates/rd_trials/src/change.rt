@@ -1,9 +1,8 @@
 //! Changes of the tables of a desk by SQL, and SQL questions about them.
 
 use crate::image::build_with;
-use crate::tables::answer_of;
-use crate::tally::Tally;
 use anyhow::{Result, bail};
+use rd_played::{Tally, answer_of};
 use sqlite::types::ValueRef;
 use sqlite::{Connection, Error, MemStore};
 use std::alloc::{AllocError, Global};

@@ -7,21 +7,18 @@
 
 mod bytes;
 mod change;
-mod escapes;
 mod image;
 mod message;
 mod repeats;
 mod runs;
 mod script;
-mod tables;
-mod tally;
 mod visits;
 
 use anyhow::Result;
+use rd_played::Tally;
 use script::{Line, parts_of, script_of};
 use std::env;
 use std::process::ExitCode;
-use tally::Tally;
 
 /// Whether a trial is one of the program: it has a run.
 fn has_run(lines: &[Line]) -> bool {

@@ -5,9 +5,8 @@ use super::run::Run;
 use super::visitor::Visitor;
 use crate::change::{Change, Effect, Question};
 use crate::script::{Line, parts_of};
-use crate::tables::{KeptTables, contents_of};
-use crate::tally::Tally;
 use anyhow::{Context, Result, bail};
+use rd_played::{KeptTables, Tally, contents_of};
 use std::mem;
 
 /// A part of a trial that takes more than one line.

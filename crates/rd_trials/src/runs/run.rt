@@ -4,12 +4,11 @@ use super::machine::{Lack, Museum};
 use super::output::Output;
 use super::visitor::{Visitor, outcome_at};
 use super::wanted::{Ran, Wanted};
-use crate::escapes::bytes_of;
 use crate::image::build_with;
-use crate::tally::Tally;
 use anyhow::{Context, Result, bail};
 use rd_geometry::{Items, NoMemory};
 use rd_http::MemoryDoor;
+use rd_played::{Tally, bytes_of};
 use rd_program::{MachineFault, run};
 use std::alloc::{AllocError, Global};
 

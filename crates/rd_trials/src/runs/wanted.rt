@@ -1,9 +1,8 @@
 //! What a run must leave.
 
 use crate::bytes::add_out;
-use crate::escapes::add_bytes;
-use crate::tally::Tally;
 use anyhow::Result;
+use rd_played::{Tally, add_bytes};
 use std::alloc::{AllocError, Global};
 
 /// What a run left.

@@ -39,7 +39,7 @@ fn step(place: Place, byte: u8) -> Option<(Place, Option<u8>)> {
 
 /// Adds the bytes that a text stands for: `\r`, `\n`, `\t` and `\\` are one byte each, and so is `\x` with two
 /// hexadecimal digits in small letters.
-pub(crate) fn add_bytes(bytes: &mut Vec<u8>, text: &str) -> Result<()> {
+pub fn add_bytes(bytes: &mut Vec<u8>, text: &str) -> Result<()> {
     let mut place = Place::Plain;
     for byte in text.bytes() {
         let (next, ended) = step(place, byte).context("no such escape")?;
@@ -55,7 +55,7 @@ pub(crate) fn add_bytes(bytes: &mut Vec<u8>, text: &str) -> Result<()> {
 }
 
 /// The bytes that a text stands for.
-pub(crate) fn bytes_of(alloc: Global, text: &str) -> Result<Vec<u8>> {
+pub fn bytes_of(alloc: Global, text: &str) -> Result<Vec<u8>> {
     let mut bytes = Vec::new(alloc);
     add_bytes(&mut bytes, text)?;
     Ok(bytes)

@@ -65,11 +65,7 @@ fn add_row(alloc: Global, text: &mut String, row: &Row) -> Result<()> {
 }
 
 /// The rows that a question in SQL gives, each ended by a line feed.
-pub(crate) fn answer_of<S: Alter>(
-    alloc: Global,
-    conn: &mut Connection<S>,
-    sql: &str,
-) -> Result<String> {
+pub fn answer_of<S: Alter>(alloc: Global, conn: &mut Connection<S>, sql: &str) -> Result<String> {
     let mut text = String::new(alloc);
     for row in &rows_of(conn, sql)? {
         add_row(alloc, &mut text, row)?;
@@ -78,7 +74,7 @@ pub(crate) fn answer_of<S: Alter>(
 }
 
 /// The rows of all tables of a desk, as text. A missing table gives `no table`.
-pub(crate) fn contents_of<S: Alter>(alloc: Global, conn: &mut Connection<S>) -> Result<String> {
+pub fn contents_of<S: Alter>(alloc: Global, conn: &mut Connection<S>) -> Result<String> {
     let mut text = String::new(alloc);
     for sql in TABLES {
         match answer_of(alloc, conn, *sql) {
@@ -92,14 +88,14 @@ pub(crate) fn contents_of<S: Alter>(alloc: Global, conn: &mut Connection<S>) -> 
 
 /// What tables held, kept to compare it later.
 #[derive(Default, Drop)]
-pub(crate) struct KeptTables {
+pub struct KeptTables {
     contents: Option<String>,
 }
 
 impl KeptTables {
     /// Keeps what tables hold, or compares it with what it has kept, by the text of a line
     /// `tables`.
-    pub(crate) fn play(
+    pub fn play(
         &mut self,
         rt: &HostRuntime,
         (place, word): (&str, &str),

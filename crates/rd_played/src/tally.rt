@@ -6,7 +6,7 @@ use std::process::ExitCode;
 
 /// How many cases hold, and how many do not.
 #[derive(Default, Drop)]
-pub(crate) struct Tally {
+pub struct Tally {
     held: u64,
     lost: u64,
 }
@@ -21,14 +21,14 @@ impl Tally {
     }
 
     /// Adds the cases of another.
-    pub(crate) fn add(&mut self, other: &Tally) {
+    pub fn add(&mut self, other: &Tally) {
         self.held = self.held.saturating_add(other.held);
         self.lost = self.lost.saturating_add(other.lost);
     }
 
     /// Counts a case, which holds if what came is what was expected. If not, it reports the case's
     /// place, its name and both texts.
-    pub(crate) fn judge(
+    pub fn judge(
         &mut self,
         rt: &HostRuntime,
         (place, name): (&str, &str),
@@ -46,7 +46,7 @@ impl Tally {
     }
 
     /// Counts a case, which holds if what came is not this.
-    pub(crate) fn judge_other(
+    pub fn judge_other(
         &mut self,
         rt: &HostRuntime,
         (place, name): (&str, &str),
@@ -63,7 +63,7 @@ impl Tally {
     }
 
     /// Writes how many cases hold, and how many do not. The status is 1 if any does not.
-    pub(crate) fn tell(&self, rt: &HostRuntime) -> Result<ExitCode> {
+    pub fn tell(&self, rt: &HostRuntime) -> Result<ExitCode> {
         let (held, lost) = (self.held, self.lost);
         println!(rt; "{held} cases hold")?;
         if lost == 0 {
