@@ -1,0 +1,253 @@
+//! The databases from which runs start. Each but the empty one has its last changes in its log
+//! alone.
+
+use crate::commands::{Command, Sample, SampleRule};
+use crate::desk::{
+    create, desk_over, give_each, into_connection, into_store, migrate, words_of_create,
+    words_of_open,
+};
+use crate::drive::Sort;
+use crate::files::{FilesStore, Pair, USUAL_FRAMES, close, connect, into_files, options};
+use anyhow::{Result, bail, ensure};
+use rd_desk::Desk;
+use rd_policy::Audience;
+use sqlite::{Alter, Connection, Error};
+use std::alloc::Global;
+
+/// The number from which the bases make the salts of their logs.
+const SALT: u64 = 1;
+
+/// A database from which runs start.
+#[derive(Clone, Copy)]
+pub(crate) enum Base {
+    /// Two empty files.
+    Empty,
+    /// Files whose tables were dropped. The drops are in the log.
+    Bare,
+    /// A desk with two keys, two deeds and two rules. The last rule is in the log.
+    Desk,
+    /// The same files, and behind the log a piece of a page that was not written whole.
+    Torn,
+    /// The desk with an image. The last rule is in the log.
+    Image,
+    /// The same rows. The image is in the log.
+    Logged,
+    /// The same with a check of the image on the day of the requests. The check is in the log.
+    Checked,
+    /// The desk with three images and a third deed, in the tables of version 1. The deed is in the
+    /// log.
+    First,
+}
+
+/// The commands for a new desk, but for the last one.
+const NEW_DESK: &[Command] = &[
+    Command::PutKey("hello", Audience::Room),
+    Command::PutDeed {
+        num: 7,
+        donor: "A. Curator",
+        signed: 18_020,
+    },
+    Command::PutDeed {
+        num: 8,
+        donor: "B. Donor",
+        signed: 18_321,
+    },
+    Command::PutRule(SampleRule::Closed),
+];
+
+/// The last command for a new desk.
+const LAST_RULE: &[Command] = &[Command::PutRule(SampleRule::Open)];
+
+/// The command for an image.
+const FIRST_IMAGE: &[Command] = &[Command::PutImage(12, Sample::Program)];
+
+/// The commands for two images more.
+const MORE_IMAGES: &[Command] = &[
+    Command::PutImage(13, Sample::Looped),
+    Command::PutImage(15, Sample::Record),
+];
+
+/// The command for a check of the image.
+const CHECK: &[Command] = &[Command::Check(12)];
+
+/// Statements that drop all tables.
+const DROPS: &[&str] = &[
+    "DROP TABLE marks",
+    "DROP TABLE found",
+    "DROP TABLE checked",
+    "DROP TABLE badge",
+    "DROP TABLE rule",
+    "DROP TABLE image",
+    "DROP TABLE deed",
+    "DROP TABLE desk",
+];
+
+/// Statements that make the tables those of version 1.
+const TO_VERSION_1: &[&str] = &["DROP TABLE marks", "UPDATE desk SET version = 1"];
+
+/// A statement that puts a third deed.
+const THIRD_DEED: &[&str] = &[
+    "INSERT INTO deed (num, donor, signed) VALUES (9, 'C. Donor', 18628)",
+];
+
+/// Connects to the database in two files.
+fn connection(alloc: Global, pair: &Pair) -> Result<Connection<FilesStore>> {
+    let files = pair.files(alloc, Sort::AnyBytes, None)?;
+    match connect(alloc, files, options(SALT, USUAL_FRAMES)) {
+        Ok(conn) => Ok(conn),
+        Err((error, _)) => bail!("no database: {error}"),
+    }
+}
+
+/// The desk that is made over a connection.
+fn made<S: Alter + Drop>(conn: Connection<S>) -> Result<Desk<S>> {
+    match create(conn) {
+        Ok(store) => desk_over(store),
+        Err((fault, _)) => bail!("no desk: {}", words_of_create(fault)),
+    }
+}
+
+/// Connects to a database in new files.
+fn new_connection(alloc: Global) -> Result<Connection<FilesStore>> {
+    let empty = Pair::empty(alloc);
+    connection(alloc, &empty)
+}
+
+/// A desk with one key in new files.
+fn new_desk(alloc: Global) -> Result<Desk<FilesStore>> {
+    let conn = new_connection(alloc)?;
+    made(conn)
+}
+
+/// The desk that opens over a connection.
+fn opened<S: Alter + Drop>(alloc: Global, conn: Connection<S>) -> Result<Desk<S>> {
+    match migrate(alloc, conn) {
+        Ok(store) => desk_over(store),
+        Err((fault, _)) => bail!("no desk: {}", words_of_open(fault)),
+    }
+}
+
+/// The desk in two files.
+fn standing_desk(alloc: Global, pair: &Pair) -> Result<Desk<FilesStore>> {
+    let conn = connection(alloc, pair)?;
+    opened(alloc, conn)
+}
+
+/// The files of a connection, with all pages in the database.
+fn copied(conn: Connection<FilesStore>) -> Result<Pair> {
+    let pair = Pair::kept(&close(conn))?;
+    ensure!(!pair.has_logged(), "pages are left in the log");
+    Ok(pair)
+}
+
+/// The files of a connection, with its pages in the log.
+fn logged(conn: Connection<FilesStore>) -> Result<Pair> {
+    let pair = Pair::kept(&into_files(conn))?;
+    ensure!(pair.has_logged(), "no pages are in the log");
+    Ok(pair)
+}
+
+/// Has a desk carry out commands that stand in several lists, and gives its connection.
+fn after_each<S: Alter + Drop>(
+    alloc: Global,
+    mut desk: Desk<S>,
+    lists: &[&[Command]],
+) -> Result<Connection<S>> {
+    give_each(alloc, &mut desk, lists)?;
+    Ok(into_connection(into_store(desk)))
+}
+
+/// The files of a new desk after commands, with all pages in the database.
+fn copied_desk(alloc: Global, lists: &[&[Command]]) -> Result<Pair> {
+    let desk = new_desk(alloc)?;
+    let conn = after_each(alloc, desk, lists)?;
+    copied(conn)
+}
+
+/// The files of a desk after commands, whose pages are in the log.
+fn logged_commands(alloc: Global, pair: &Pair, commands: &[Command]) -> Result<Pair> {
+    let desk = standing_desk(alloc, pair)?;
+    let conn = after_each(alloc, desk, &[commands])?;
+    logged(conn)
+}
+
+fn execute<S: Alter>(conn: &mut Connection<S>, sql: &str) -> Result<usize, Error> {
+    conn.execute(sql, &[])
+}
+
+/// A connection after statements.
+fn after_all<S: Alter + Drop>(
+    mut conn: Connection<S>,
+    statements: &[&str],
+) -> Result<Connection<S>> {
+    for sql in statements {
+        execute(&mut conn, *sql)?;
+    }
+    Ok(conn)
+}
+
+/// A connection to the database in two files after statements.
+fn after_statements(
+    alloc: Global,
+    pair: &Pair,
+    statements: &[&str],
+) -> Result<Connection<FilesStore>> {
+    let conn = connection(alloc, pair)?;
+    after_all(conn, statements)
+}
+
+/// The files of a desk from which statements dropped all tables.
+fn bare(alloc: Global) -> Result<Pair> {
+    let desk = copied_desk(alloc, &[NEW_DESK, LAST_RULE])?;
+    logged(after_statements(alloc, &desk, DROPS)?)
+}
+
+/// The files of a desk with two keys, two deeds and two rules.
+fn desk(alloc: Global) -> Result<Pair> {
+    let begun = copied_desk(alloc, &[NEW_DESK])?;
+    logged_commands(alloc, &begun, LAST_RULE)
+}
+
+/// The same files, and behind the log a piece of a page.
+fn torn(alloc: Global) -> Result<Pair> {
+    Ok(desk(alloc)?.torn()?)
+}
+
+/// The files of the desk with an image, where the last rule is in the log.
+fn with_image(alloc: Global) -> Result<Pair> {
+    let begun = copied_desk(alloc, &[NEW_DESK, FIRST_IMAGE])?;
+    logged_commands(alloc, &begun, LAST_RULE)
+}
+
+/// The files of the desk with an image, where the image is in the log.
+fn with_logged_image(alloc: Global) -> Result<Pair> {
+    let desk = copied_desk(alloc, &[NEW_DESK, LAST_RULE])?;
+    logged_commands(alloc, &desk, FIRST_IMAGE)
+}
+
+/// The files of the desk with an image and a check of it.
+fn checked(alloc: Global) -> Result<Pair> {
+    let desk = copied_desk(alloc, &[NEW_DESK, LAST_RULE, FIRST_IMAGE])?;
+    logged_commands(alloc, &desk, CHECK)
+}
+
+/// The files of a desk with three images and a third deed, in the tables of version 1.
+fn first_version(alloc: Global) -> Result<Pair> {
+    let desk = copied_desk(alloc, &[NEW_DESK, LAST_RULE, FIRST_IMAGE, MORE_IMAGES])?;
+    let first = copied(after_statements(alloc, &desk, TO_VERSION_1)?)?;
+    logged(after_statements(alloc, &first, THIRD_DEED)?)
+}
+
+/// The files of a base.
+pub(crate) fn files_of(alloc: Global, base: Base) -> Result<Pair> {
+    match base {
+        Base::Empty => Ok(Pair::empty(alloc)),
+        Base::Bare => bare(alloc),
+        Base::Desk => desk(alloc),
+        Base::Torn => torn(alloc),
+        Base::Image => with_image(alloc),
+        Base::Logged => with_logged_image(alloc),
+        Base::Checked => checked(alloc),
+        Base::First => first_version(alloc),
+    }
+}

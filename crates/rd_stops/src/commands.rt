@@ -1,0 +1,180 @@
+//! Commands of the staff.
+
+use rd_desk::{Request, What};
+use rd_geometry::{Items, Kind, NoMemory, Text};
+use rd_policy::{Audience, Audiences, Band, Effect, Rule, Select};
+use rd_samples::cbm::{add_marks, looped, one_program};
+use rd_samples::cpm::hello;
+use sha2::{Digest, Sha256};
+use std::alloc::Global;
+
+/// The desk key of the staff.
+pub(crate) const STAFF_KEY: &str = "abc";
+
+/// The SHA-256 of the desk key of the staff.
+pub(crate) fn staff_digest() -> [u8; 32] {
+    Sha256::digest(STAFF_KEY.as_bytes())
+}
+
+/// A sample image.
+#[derive(Clone, Copy)]
+pub(crate) enum Sample {
+    /// The 1541 image with the program `HELLO`.
+    Program,
+    /// The 1541 image with a program whose chain is a loop.
+    Looped,
+    /// The same with error bytes, all of them 1.
+    LoopedWithMarks,
+    /// The CP/M image with the file `HELLO.TXT`.
+    Record,
+}
+
+/// A sample rule.
+#[derive(Clone, Copy)]
+pub(crate) enum SampleRule {
+    /// Of deed 7, rank 10: only the staff may read until 2030.
+    Closed,
+    /// The same, without an end.
+    ClosedWithoutEnd,
+    /// Of deed 7, rank 20: everyone may read.
+    Open,
+    /// Of accession 12, rank 1: only the staff may read the file at slot 0.
+    Takedown,
+}
+
+/// A command.
+#[derive(Clone, Copy)]
+pub(crate) enum Command {
+    /// A desk key and its audience.
+    PutKey(&'static str, Audience),
+    DropKey(&'static str),
+    /// A deed: its number, its donor, and the day on which they signed it.
+    PutDeed {
+        num: u32,
+        donor: &'static str,
+        /// In days since 1970-01-01.
+        signed: i32,
+    },
+    PutRule(SampleRule),
+    /// The rank of a rule of deed 7.
+    DropRule(u16),
+    /// An accession under deed 7, and its image.
+    PutImage(u32, Sample),
+    Check(u32),
+}
+
+/// The bytes of a sample image.
+pub(crate) fn bytes_of(alloc: Global, sample: Sample) -> Result<Vec<u8>, NoMemory> {
+    match sample {
+        Sample::Program => one_program(alloc),
+        Sample::Looped => looped(alloc),
+        Sample::LoopedWithMarks => {
+            let mut image = looped(alloc)?;
+            add_marks(&mut image)?;
+            Ok(image)
+        }
+        Sample::Record => hello(alloc),
+    }
+}
+
+fn kind_of(sample: Sample) -> Kind {
+    match sample {
+        Sample::Program | Sample::Looped => Kind::D64,
+        Sample::LoopedWithMarks => Kind::D64e,
+        Sample::Record => Kind::Cpm8,
+    }
+}
+
+/// The rule of deed 7 that lets everyone read every file.
+fn open_rule() -> Rule {
+    Rule {
+        band: Band::Deed,
+        scope: 7,
+        rank: 20,
+        audiences: Audiences {
+            public: true,
+            room: true,
+            staff: true,
+        },
+        from: None,
+        until: None,
+        select: Select::All,
+        effect: Effect::Read,
+    }
+}
+
+/// The same with another rank, which denies files to all but the staff.
+fn denied(rank: u16) -> Rule {
+    Rule {
+        rank,
+        audiences: Audiences {
+            public: true,
+            room: true,
+            staff: false,
+        },
+        effect: Effect::Deny,
+        ..open_rule()
+    }
+}
+
+fn rule_of(sample: SampleRule) -> Rule {
+    match sample {
+        SampleRule::Closed => Rule {
+            until: Some(21_915),
+            ..denied(10)
+        },
+        SampleRule::ClosedWithoutEnd => denied(10),
+        SampleRule::Open => open_rule(),
+        SampleRule::Takedown => Rule {
+            band: Band::Takedown,
+            scope: 12,
+            select: Select::Slot(0),
+            ..denied(1)
+        },
+    }
+}
+
+fn put_deed(alloc: Global, num: u32, donor: &str, signed: i32) -> Result<What, NoMemory> {
+    let donor = Text::of(String::from_str(alloc, donor)?);
+    Ok(What::PutDeed { num, donor, signed })
+}
+
+fn put_image(alloc: Global, acc: u32, sample: Sample) -> Result<What, NoMemory> {
+    let bytes = bytes_of(alloc, sample)?;
+    Ok(What::PutImage {
+        acc,
+        kind: kind_of(sample),
+        deed: 7,
+        digest: Sha256::digest(bytes.as_slice()),
+        bytes: Items::of(bytes),
+    })
+}
+
+fn what_of(alloc: Global, command: Command) -> Result<What, NoMemory> {
+    Ok(match command {
+        Command::PutKey(key, audience) => What::PutKey {
+            digest: Sha256::digest(key.as_bytes()),
+            audience,
+        },
+        Command::DropKey(key) => What::DropKey {
+            digest: Sha256::digest(key.as_bytes()),
+        },
+        Command::PutDeed { num, donor, signed } => put_deed(alloc, num, donor, signed)?,
+        Command::PutRule(rule) => What::PutRule(rule_of(rule)),
+        Command::DropRule(rank) => What::DropRule {
+            band: Band::Deed,
+            scope: 7,
+            rank,
+        },
+        Command::PutImage(acc, sample) => put_image(alloc, acc, sample)?,
+        Command::Check(acc) => What::Check(acc),
+    })
+}
+
+/// The request by which the staff gives a command.
+pub(crate) fn request_of(alloc: Global, command: Command) -> Result<Request, NoMemory> {
+    Ok(Request {
+        badge: Some(staff_digest()),
+        what: what_of(alloc, command)?,
+    })
+}

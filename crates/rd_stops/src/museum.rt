@@ -1,0 +1,143 @@
+//! A machine whose store is a database on two files in memory, and `desk import` on it.
+
+ghost use Rattle.std.specs.Prelude.{None};
+
+use crate::commands::{STAFF_KEY, Sample, bytes_of};
+use crate::desk::MOMENT;
+use anyhow::{Result, bail};
+use rd_geometry::NoMemory;
+use rd_http::MemoryDoor;
+use rd_program::{Files, Machine, MachineFault, run};
+use sqlite::{Alter, Connection};
+use std::alloc::{AllocError, Global};
+
+/// The words of an import.
+const WORDS: &[&str] = &[
+    "import",
+    "--store",
+    "museum.sqlite",
+    "--key",
+    STAFF_KEY,
+    "--sheet",
+    "images.csv",
+];
+
+/// The accession of the first row of the sheet.
+const FIRST_ACC: usize = 21;
+
+/// A machine with a store, a sheet of some rows, and the one image that all rows name.
+#[derive(Drop)]
+struct Museum<S: Alter + Drop> {
+    /// The store; `None` while the program has it.
+    conn: Option<Connection<S>>,
+    door: MemoryDoor,
+    rows: usize,
+}
+
+/// A sheet of some rows, each with an accession of its own.
+fn sheet(alloc: Global, rows: usize) -> Result<String, AllocError> {
+    let mut text = String::from_str(alloc, "accession,kind,deed,sha256,file\n")?;
+    for row in 0..rows {
+        let acc = FIRST_ACC.saturating_add(row);
+        write!(
+            text,
+            "{acc},d64,7,ee352834e06f2b572e65490eb845939724cc38542aed18acdf81eded76912afb,hello.d64\n"
+        )?;
+    }
+    Ok(text)
+}
+
+impl<S: Alter + Drop> Files for Museum<S> {
+    fn read_file(&mut self, alloc: Global, _path: &str) -> Result<Vec<u8>, MachineFault> {
+        bytes_of(alloc, Sample::Program).map_err(|_| MachineFault::NoMemory)
+    }
+
+    fn read_sheet(&mut self, alloc: Global, _path: &str) -> Result<Vec<u8>, MachineFault> {
+        match sheet(alloc, self.rows) {
+            Ok(text) => Ok(text.into_bytes()),
+            Err(_) => Err(MachineFault::NoMemory),
+        }
+    }
+}
+
+impl<S: Alter + Drop> Machine for Museum<S> {
+    type Disk = S;
+
+    type Door = MemoryDoor;
+
+    ghost stands = { λ _ _. None };
+
+    ghost left = { λ _. None };
+
+    fn connect(&mut self, _path: &str) -> Result<Connection<S>, MachineFault> {
+        match self.conn.take() {
+            Some(conn) if conn.is_autocommit() => Ok(conn),
+            _ => Err(MachineFault::Failed),
+        }
+    }
+
+    /// It closes nothing: the one that runs the program does.
+    fn release(&mut self, conn: &mut Option<Connection<S>>) {
+        self.conn = conn.take();
+    }
+
+    fn now(&mut self) -> Result<i64, MachineFault> {
+        Ok(MOMENT)
+    }
+
+    fn listen(&mut self, _port: u16) -> Result<&mut MemoryDoor, MachineFault> {
+        Ok(&mut self.door)
+    }
+}
+
+fn new_door(alloc: Global) -> Result<MemoryDoor, NoMemory> {
+    MemoryDoor::new(alloc, Vec::new(alloc))
+}
+
+/// The status of an import, and what it wrote to both outputs.
+#[derive(Drop)]
+pub(crate) struct Imported {
+    pub(crate) status: u8,
+    pub(crate) output: Vec<u8>,
+    pub(crate) errors: Vec<u8>,
+}
+
+fn run_on<S: Alter + Drop>(
+    alloc: Global,
+    output: &mut Vec<u8>,
+    errors: &mut Vec<u8>,
+    museum: &mut Museum<S>,
+) -> u8 {
+    run(alloc, WORDS, &mut [].as_slice(), output, errors, museum)
+}
+
+/// Has a machine import its sheet.
+fn import_on<S: Alter + Drop>(alloc: Global, museum: &mut Museum<S>) -> Imported {
+    let mut output = Vec::new(alloc);
+    let mut errors = Vec::new(alloc);
+    let status = run_on(alloc, &mut output, &mut errors, museum);
+    Imported {
+        status,
+        output,
+        errors,
+    }
+}
+
+/// Imports a sheet of some rows into the store of a connection, and gives the connection back.
+pub(crate) fn import<S: Alter + Drop>(
+    alloc: Global,
+    conn: Connection<S>,
+    rows: usize,
+) -> Result<(Imported, Connection<S>)> {
+    let door = new_door(alloc)?;
+    let mut museum = Museum {
+        conn: Some(conn),
+        door,
+        rows,
+    };
+    let imported = import_on(alloc, &mut museum);
+    match museum.conn.take() {
+        Some(conn) => Ok((imported, conn)),
+        None => bail!("the program did not give the store back"),
+    }
+}

@@ -1,0 +1,307 @@
+//! Runs whose files stop at each of their calls, one file after the other.
+
+use crate::drive::Sort;
+use crate::files::{File, Pair, Stop, syncs_of};
+use crate::judging::{Counts, Outcome, Stopped, outcome_of};
+use crate::leavings::{Kept, Left, leavings};
+use crate::running::{Ending, Ran, Report, carry_out};
+use crate::runs::{Run, Wanted};
+use crate::seen::Seen;
+use anyhow::{Context, Result, bail, ensure};
+use rand_pcg::Pcg32;
+use std::alloc::Global;
+
+/// A run on files of a sort, and the files from which it starts.
+#[derive(Clone, Copy)]
+struct Start<'a> {
+    run: &'a Run,
+    sort: Sort,
+    base: &'a Pair,
+}
+
+impl Start<'_> {
+    /// What a database of the run holds.
+    fn seen(&self, alloc: Global, pair: &Pair) -> Result<Seen> {
+        Seen::of(alloc, pair, self.sort, self.run.question)
+    }
+
+    /// What the database of the run holds in two files.
+    fn opened(&self, alloc: Global, pair: Pair) -> Result<Opened> {
+        let seen = self.seen(alloc, &pair)?;
+        Ok(Opened { pair, seen })
+    }
+
+    /// The run under a stop.
+    fn stopped(&self, alloc: Global, stop: Stop) -> Result<Ran> {
+        let files = self.base.files(alloc, self.sort, Some(stop))?;
+        carry_out(alloc, self.run, self.run.action, files)
+    }
+
+    /// The run with its first changes alone, and without a stop.
+    fn ran(&self, alloc: Global, changes: usize) -> Result<Ran> {
+        let files = self.base.files(alloc, self.sort, None)?;
+        let ran = carry_out(alloc, self.run, self.run.action.first(changes), files)?;
+        check_done(&ran.report, changes)?;
+        Ok(ran)
+    }
+
+    /// What the run needs without a stop.
+    fn needed(&self, alloc: Global) -> Result<Needed> {
+        let ran = self.ran(alloc, self.run.action.changes())?;
+        Ok(Needed {
+            db: File::Database.calls(&ran.files),
+            log: File::Log.calls(&ran.files),
+            syncs: syncs_of(&ran.files),
+        })
+    }
+}
+
+/// Fails where a run does not report that it is done with so many changes.
+fn check_done(report: &Report, changes: usize) -> Result<()> {
+    let is_done = report.ending == Ending::Done && report.changes == changes;
+    ensure!(is_done, "it is not done: {}", report.words);
+    Ok(())
+}
+
+/// Fails where the change that syncs least does not sync as often as it must. After each change the
+/// files have synced so often.
+fn check_syncs(run: &Run, syncs: &[u64]) -> Result<()> {
+    let Some(wanted) = run.least_syncs else {
+        return Ok(());
+    };
+    let mut least = u64::MAX;
+    let mut last = 0u64;
+    for count in syncs {
+        least = least.min(count.saturating_sub(last));
+        last = *count;
+    }
+    ensure!(least == wanted, "a change syncs {least} times");
+    Ok(())
+}
+
+/// What the database holds after so many changes of a run, and how often the files have synced then.
+fn state_after(alloc: Global, start: &Start<'_>, changes: usize) -> Result<(Seen, u64)> {
+    let ran = start.ran(alloc, changes)?;
+    let syncs = syncs_of(&ran.files);
+    let kept = Pair::kept(&ran.files)?;
+    Ok((start.seen(alloc, &kept)?, syncs))
+}
+
+/// Adds what the database holds after each change of a run, and how often the files have synced then.
+fn add_states(
+    alloc: Global,
+    start: &Start<'_>,
+    states: &mut Vec<Seen>,
+    syncs: &mut Vec<u64>,
+) -> Result<()> {
+    for changes in 1..=start.run.action.changes() {
+        let (seen, count) = state_after(alloc, start, changes)?;
+        states.push(seen)?;
+        syncs.push(count)?;
+    }
+    Ok(())
+}
+
+/// Adds what the database holds after each change of a run. Fails where the change that syncs least
+/// does not sync as often as it must.
+fn add_later_states(alloc: Global, start: &Start<'_>, states: &mut Vec<Seen>) -> Result<()> {
+    let mut syncs = Vec::new(alloc);
+    add_states(alloc, start, states, &mut syncs)?;
+    check_syncs(start.run, syncs.as_slice())
+}
+
+/// What the database holds before a run, and after each of its changes.
+fn states_of(alloc: Global, start: &Start<'_>) -> Result<Vec<Seen>> {
+    let mut states = Vec::new(alloc);
+    states.push(start.seen(alloc, start.base)?)?;
+    add_later_states(alloc, start, &mut states)?;
+    Ok(states)
+}
+
+/// Fails where a run does not begin with this or end with that, or where both are not told apart.
+fn check_first_and_last(run: &Run, first: &Seen, last: &Seen) -> Result<()> {
+    let (before, after) = (first.short.as_str(), last.short.as_str());
+    ensure!(before == run.before, "before: {before}");
+    ensure!(after == run.after, "after: {after}");
+    let is_right = first.has_tables_of(last) == run.has_same_tables();
+    ensure!(is_right, "the tables are not as they must be");
+    Ok(())
+}
+
+/// Fails where a run does not begin or end with what it must, or where both are not told apart.
+fn check_ends(run: &Run, states: &[Seen]) -> Result<()> {
+    match (states.first(), states.last()) {
+        (Some(first), Some(last)) => check_first_and_last(run, first, last),
+        _ => bail!("no states"),
+    }
+}
+
+/// What a crash left, and what the database holds there.
+#[derive(Drop)]
+struct Opened {
+    pair: Pair,
+    seen: Seen,
+}
+
+/// How many calls of each file a run without a stop needs, and how often both sync.
+#[derive(Clone, Copy)]
+struct Needed {
+    db: u64,
+    log: u64,
+    syncs: u64,
+}
+
+/// A run that is played.
+#[derive(Drop)]
+struct Player<'a> {
+    start: Start<'a>,
+    draws: Pcg32,
+    /// What the database holds before the run, and after each of its changes.
+    states: Vec<Seen>,
+    /// What the last crash left that kept nothing.
+    lost: Opened,
+    counts: Counts,
+}
+
+impl<'a> Player<'a> {
+    fn new(alloc: Global, start: Start<'a>, draws: Pcg32) -> Result<Player<'a>> {
+        let states = states_of(alloc, &start)?;
+        check_ends(start.run, states.as_slice())?;
+        let lost = start.opened(alloc, Pair::empty(alloc))?;
+        Ok(Player {
+            start,
+            draws,
+            states,
+            lost,
+            counts: Counts::default(),
+        })
+    }
+
+    /// The outcome where a crash after a run kept this, and the database then holds that.
+    fn judged(
+        &self,
+        rt: &HostRuntime,
+        stopped: &Stopped<'_>,
+        kept: Kept,
+        seen: &Seen,
+    ) -> Result<Outcome> {
+        let states = self.states.as_slice();
+        let outcome = outcome_of(&stopped.ran.report, states, seen);
+        if outcome == Outcome::Wrong && self.start.run.wanted == Wanted::Right {
+            stopped.print_wrong(rt, kept, states, seen)?;
+        }
+        Ok(outcome)
+    }
+
+    /// Opens the database where a crash kept nothing and left this, unless the crash before left the
+    /// same.
+    fn open_lost(&mut self, alloc: Global, pair: &Pair) -> Result<()> {
+        if !self.lost.pair.is_same(pair) {
+            self.lost = self.start.opened(alloc, pair.copy()?)?;
+        }
+        Ok(())
+    }
+
+    /// The outcome where a crash after a run left this.
+    fn outcome(&mut self, rt: &HostRuntime, stopped: &Stopped<'_>, left: &Left) -> Result<Outcome> {
+        if left.kept == Kept::Nothing {
+            self.open_lost(rt.alloc(), &left.pair)?;
+            return self.judged(rt, stopped, left.kept, &self.lost.seen);
+        }
+        let seen = self.start.seen(rt.alloc(), &left.pair)?;
+        self.judged(rt, stopped, left.kept, &seen)
+    }
+
+    /// Judges one of the things that a crash may leave after a run.
+    fn judge_left(&mut self, rt: &HostRuntime, stopped: &Stopped<'_>, left: &Left) -> Result<()> {
+        let outcome = self.outcome(rt, stopped, left)?;
+        self.counts.count(left.kept, outcome);
+        Ok(())
+    }
+
+    /// Judges how a run under a stop went.
+    fn judge_run(&mut self, rt: &HostRuntime, stopped: &Stopped<'_>) -> Result<()> {
+        if let Some(fault) = stopped.fault() {
+            stopped.print_fault(rt, fault)?;
+            self.counts.count(Kept::All, Outcome::Wrong);
+        }
+        Ok(())
+    }
+
+    /// Judges each thing that a crash may leave after a run.
+    fn judge_each(&mut self, rt: &HostRuntime, stopped: &Stopped<'_>, all: &[Left]) -> Result<()> {
+        for left in all {
+            self.judge_left(rt, stopped, left)?;
+        }
+        Ok(())
+    }
+
+    /// Judges a run under a stop, and each thing that a crash may leave then.
+    fn judge(&mut self, rt: &HostRuntime, stopped: &Stopped<'_>) -> Result<()> {
+        self.judge_run(rt, stopped)?;
+        let all = leavings(rt.alloc(), &stopped.ran.files, &mut self.draws)?;
+        self.judge_each(rt, stopped, all.as_slice())
+    }
+
+    /// Plays the run with a stop of a file.
+    fn stop_at(&mut self, rt: &HostRuntime, stop: Stop) -> Result<()> {
+        let run = self.start.run;
+        let ran = self.start.stopped(rt.alloc(), stop)?;
+        self.judge(rt, &Stopped { run, stop, ran })
+    }
+
+    /// Plays the run with a stop of a file after 0, 1, 2 and more of its calls, up to as many as a
+    /// run without a stop needs.
+    fn stop_each_call(&mut self, rt: &HostRuntime, file: File, needed: u64) -> Result<()> {
+        for calls in 0..needed {
+            self.stop_at(rt, Stop { file, calls })?;
+        }
+        Ok(())
+    }
+
+    /// Prints the line of the run, which without a stop needs so much.
+    fn print(&self, rt: &HostRuntime, needed: Needed) -> Result<()> {
+        let Needed { db, log, syncs } = needed;
+        let (name, sort) = (self.start.run.name, self.start.sort.words());
+        let changes = self.start.run.action.changes();
+        let counts = self.counts;
+        let (before, after, wrong) = (counts.before, counts.after, counts.wrong);
+        println!(rt;
+            "{name}, {sort}: {db} stops of the database file, {log} of the log; the desk before {before} times, after {after}, neither {wrong}; {syncs} syncs for {changes} changes"
+        )?;
+        Ok(())
+    }
+
+    /// Plays the run with stops of one file and then of the other, and prints a line. Gives whether
+    /// what came is what was wanted.
+    fn play(&mut self, rt: &HostRuntime) -> Result<bool> {
+        let needed = self.start.needed(rt.alloc())?;
+        self.stop_each_call(rt, File::Database, needed.db)?;
+        self.stop_each_call(rt, File::Log, needed.log)?;
+        self.print(rt, needed)?;
+        ensure!(
+            self.counts.parts > 0,
+            "no part of the changes differs from all and nothing"
+        );
+        let is_wrong = self.counts.wrong > 0;
+        Ok(is_wrong == (self.start.run.wanted == Wanted::Wrong))
+    }
+}
+
+/// Plays a run. Gives whether what came is what was wanted.
+fn played(rt: &HostRuntime, start: Start<'_>, draws: Pcg32) -> Result<bool> {
+    let mut player = Player::new(rt.alloc(), start, draws)?;
+    player.play(rt)
+}
+
+/// Plays a run from the files of its base, on files of a sort. Gives whether what came is what was
+/// wanted. An error names the run.
+pub(crate) fn play_on(
+    rt: &HostRuntime,
+    run: &Run,
+    sort: Sort,
+    base: &Pair,
+    draws: Pcg32,
+) -> Result<bool> {
+    played(rt, Start { run, sort, base }, draws).context(run.name)
+}
