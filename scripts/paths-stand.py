@@ -11,8 +11,8 @@ there and is the one that the link's text names; and then, by the column:
 - Defined: the file in specs/ has a definition of the name. NAME.FIELD is a field of a record.
 - Proved: the proof is of a function that Coded names, and each of these is there, with a proof or as automatic. For
   an automatic one proofs/ has no folder.
-- Tested: the label is a visit, a run or a note of the trial; in Rattle it is a text or a function of the file. A
-  script of scripts/ needs no label.
+- Tested: the label is a visit, a run or a note of the trial; in Rattle it is a text or a function of a file of tests,
+  or the name of a run of rd_stops. A script of scripts/ needs no label.
 - Refused: what the edit changes is in a function that Coded names.
 
 It does not see whether a step or a rule is described rightly. You need Python 3.11 with its standard library alone."""
@@ -30,6 +30,8 @@ GRAPH = "The crates"
 WAY = "The way of "
 RULES = "The rules of the domain"
 COLUMNS = ["Rule", "Defined", "Coded", "Proved", "Tested", "Refused"]
+# The one file in a crate's src/ outside its tests whose texts are labels, and only the names of its runs are.
+RUNS = "rd_stops/runs.rt"
 # A link, a name, or the word that stands before names without a file.
 TOKEN = re.compile(r"\[([^\]]+)\]\(([^)\s]+)\)|`([^`]+)`|\b(automatic)\b")
 
@@ -158,6 +160,11 @@ def has_definition(text, name):
     return re.search(rf"(?m)^(?: *(?:abbrev|unfoldable) pub| *pub (?:record|data)|pub) {word}(?=[ :])", text)
 
 
+def has_run(text, name):
+    """Whether a run of rd_stops has this name."""
+    return re.search(rf'(?m)^ +name: "{re.escape(name)}",$', text)
+
+
 def has_label(text, name):
     """Whether a trial has this visit, run or note, or a test in Rattle this text or function."""
     word = re.escape(name)
@@ -242,13 +249,24 @@ def edit_faults(row):
     return found
 
 
+def label_faults(cell):
+    """What is wrong with the tests of a cell."""
+    links = [link.group() for link in re.finditer(r"\[[^\]]+\]\([^)\s]+\)[^\[]*", cell)]
+    runs = [link for link in links if link.startswith(f"[{RUNS}]")]
+    tests = [link for link in links if link not in runs]
+    return [
+        *(name_faults("".join(runs), ["src"], has_run, "run") if runs else []),
+        *(name_faults("".join(tests), ["src/tests", "data"], has_label, "label") if tests or not runs else []),
+    ]
+
+
 def rule_faults(row):
     """What is wrong with a row of the table of rules."""
     coded = name_faults(row["Coded"], ["src"], has_function, "function")
     found = [
         *name_faults(row["Defined"], ["specs"], has_definition, "definition"),
         *(coded or [*proof_faults(row), *edit_faults(row)]),
-        *name_faults(row["Tested"], ["src/tests", "data"], has_label, "label"),
+        *label_faults(row["Tested"]),
     ]
     return [f"{row['Rule']}: {fault}" for fault in found]
 
