@@ -26,6 +26,8 @@ pub(crate) struct Counts {
     pub(crate) wrong: u64,
     /// How many of these were seen where a part of the changes was kept.
     pub(crate) parts: u64,
+    /// How many stops were not as they must be.
+    pub(crate) faults: u64,
 }
 
 impl Counts {
@@ -55,7 +57,7 @@ fn words_of(ending: Ending) -> &'static str {
     match ending {
         Ending::Done => "done",
         Ending::Unavailable => "unavailable",
-        Ending::Other => "ended otherwise",
+        Ending::Other => "ended in another way",
     }
 }
 
@@ -93,7 +95,7 @@ impl Stopped<'_> {
         if calls != self.stop.calls {
             Some("the file stops at another call")
         } else if report.ending == Ending::Other {
-            Some("the run ends otherwise")
+            Some("the run ends in another way")
         } else if is_done && report.changes != self.run.action.changes() {
             Some("the run is done, but not with all changes")
         } else {

@@ -25,6 +25,11 @@ const WORDS: &[&str] = &[
 /// The accession of the first row of the sheet.
 const FIRST_ACC: usize = 21;
 
+/// The accession of a row of the sheet, counted from 0.
+pub(crate) fn accession_of(row: usize) -> usize {
+    FIRST_ACC.saturating_add(row)
+}
+
 /// A machine with a store, a sheet of some rows, and the one image that all rows name.
 #[derive(Drop)]
 struct Museum<S: Alter + Drop> {
@@ -38,7 +43,7 @@ struct Museum<S: Alter + Drop> {
 fn sheet(alloc: Global, rows: usize) -> Result<String, AllocError> {
     let mut text = String::from_str(alloc, "accession,kind,deed,sha256,file\n")?;
     for row in 0..rows {
-        let acc = FIRST_ACC.saturating_add(row);
+        let acc = accession_of(row);
         write!(
             text,
             "{acc},d64,7,ee352834e06f2b572e65490eb845939724cc38542aed18acdf81eded76912afb,hello.d64\n"

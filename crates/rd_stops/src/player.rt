@@ -223,7 +223,7 @@ impl<'a> Player<'a> {
     fn judge_run(&mut self, rt: &HostRuntime, stopped: &Stopped<'_>) -> Result<()> {
         if let Some(fault) = stopped.fault() {
             stopped.print_fault(rt, fault)?;
-            self.counts.count(Kept::All, Outcome::Wrong);
+            self.counts.faults = self.counts.faults.saturating_add(1);
         }
         Ok(())
     }
@@ -272,6 +272,30 @@ impl<'a> Player<'a> {
         Ok(())
     }
 
+    /// Fails where one of the outcomes that must come never came.
+    fn check_outcomes(&self) -> Result<()> {
+        let changes = self.start.run.action.changes();
+        let Counts {
+            before,
+            after,
+            parts,
+            ..
+        } = self.counts;
+        ensure!(
+            parts > 0,
+            "no part of the changes differs from all and nothing"
+        );
+        ensure!(before > 0, "the desk before never came");
+        ensure!(after > 0 || changes == 0, "the desk after never came");
+        Ok(())
+    }
+
+    /// Whether what came is what was wanted. A stop that is not as it must be is never wanted.
+    fn is_as_wanted(&self) -> bool {
+        let is_wrong = self.counts.wrong > 0;
+        self.counts.faults == 0 && is_wrong == (self.start.run.wanted == Wanted::Wrong)
+    }
+
     /// Plays the run with stops of one file and then of the other, and prints a line. Gives whether
     /// what came is what was wanted.
     fn play(&mut self, rt: &HostRuntime) -> Result<bool> {
@@ -279,12 +303,8 @@ impl<'a> Player<'a> {
         self.stop_each_call(rt, File::Database, needed.db)?;
         self.stop_each_call(rt, File::Log, needed.log)?;
         self.print(rt, needed)?;
-        ensure!(
-            self.counts.parts > 0,
-            "no part of the changes differs from all and nothing"
-        );
-        let is_wrong = self.counts.wrong > 0;
-        Ok(is_wrong == (self.start.run.wanted == Wanted::Wrong))
+        self.check_outcomes()?;
+        Ok(self.is_as_wanted())
     }
 }
 

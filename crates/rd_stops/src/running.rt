@@ -6,13 +6,13 @@ use crate::desk::{
     words_of_open,
 };
 use crate::files::{Drives, FilesStore, close, connect, into_files, options, pages_of};
-use crate::museum::{Imported, import};
+use crate::museum::{Imported, accession_of, import};
 use crate::runs::{Action, Run};
 use anyhow::{Result, bail};
 use rd_desk::Desk;
 use rd_store::{CreateFault, OpenFault, Store};
 use sqlite::{Alter, Connection, Error, Options};
-use std::alloc::Global;
+use std::alloc::{AllocError, Global};
 
 /// The number from which a run makes the salts of its log.
 const SALT: u64 = 3;
@@ -229,15 +229,24 @@ fn run_as_one<S: Alter + Drop>(
     Ok(Acted { report, conn })
 }
 
-/// How many lines of a text end with `done`.
-fn count_done(text: &str) -> usize {
-    let mut count = 0usize;
+/// The line of a row of the sheet that was imported.
+fn done_line(alloc: Global, row: usize) -> Result<String, AllocError> {
+    let acc = accession_of(row);
+    format!(in alloc; "{acc} done")
+}
+
+/// How many rows an import reports as done; `None` if its lines are not those of the first rows, in
+/// their order.
+fn rows_done(alloc: Global, text: &str) -> Result<Option<usize>, AllocError> {
+    let mut rows = 0usize;
     for line in text.lines() {
-        if line.ends_with(" done") {
-            count = count.saturating_add(1);
+        let wanted = done_line(alloc, rows)?;
+        if line != wanted.as_str() {
+            return Ok(None);
         }
+        rows = rows.saturating_add(1);
     }
-    count
+    Ok(Some(rows))
 }
 
 /// How a run ends after an import with this status that wrote these errors.
@@ -254,9 +263,14 @@ fn ending_of(status: u8, errors: &str) -> Ending {
 /// What a run reports after an import with this status that wrote these texts.
 fn report_with(alloc: Global, status: u8, output: &str, errors: &str) -> Result<Report> {
     let words = format!(in alloc; "status {status} {errors}")?;
+    let rows = rows_done(alloc, output)?;
+    let ending = match rows {
+        Some(_) => ending_of(status, errors),
+        None => Ending::Other,
+    };
     Ok(Report {
-        ending: ending_of(status, errors),
-        changes: count_done(output),
+        ending,
+        changes: rows.unwrap_or(0),
         words,
     })
 }

@@ -115,7 +115,7 @@ const MADE: Run = Run {
 /// An image with error bytes is put.
 const IMAGE_PUT: Run = Run {
     name: "an image with error bytes is put",
-    base: Base::Desk,
+    base: Base::Image,
     action: Action::Ask(&[Command::PutImage(14, Sample::LoopedWithMarks)]),
     question: "SELECT 'image' FROM image WHERE acc = 14 UNION ALL SELECT name FROM found WHERE acc = 14 UNION ALL SELECT length(bytes) FROM marks WHERE acc = 14",
     before: "version 2\n",
