@@ -1,9 +1,9 @@
 #!/bin/sh
 # Prints how many proofs run side by side: one for each processor, but no more than the free memory holds.
 
-# MB at their peaks, measured from nothing: the largest proof, that of the tests of `rd_tests`, and a large one beside it.
+# MB at their peaks, measured from nothing: the largest proof, that of `rd_stops`, with some room, and a large one beside it.
 largest_memory=8700
-lane_memory=4500
+lane_memory=6500
 
 processors=$(nproc)
 free_memory=$(awk '$1 == "MemAvailable:" { print int($2 / 1024) }' /proc/meminfo)
