@@ -1,7 +1,7 @@
 #!/bin/sh
 # Prints how many proofs run side by side: one for each processor, but no more than the free memory holds.
 
-# MB at their peaks, measured from nothing: the largest proof, that of `rd_stops`, with some room, and a large one beside it.
+# MB at their peaks, measured from nothing: the largest proof, that of `rd_tests`, with some room, and a large one beside it.
 largest_memory=8700
 lane_memory=6500
 
