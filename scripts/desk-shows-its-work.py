@@ -420,10 +420,11 @@ def what_stops_it(seen):
 
 
 def lanes(seen):
-    """lanes.sh counts a lane a processor, as far as 8,700 MB for the first and 4,500 MB for each other one are free."""
+    """lanes.sh counts a lane a processor, as far as 8,700 MB for the first and 6,500 MB for each other one are free."""
     with repository() as made:
         seen.same(".ci/run asks scripts/lanes.sh", "lanes: 3\n", made.says("bash", ".ci/run"))
-        for processors, memory, wanted in ((4, 22, 4), (4, 21, 3), (8, 13, 2), (8, 12, 1), (2, 64, 2), (8, 4, 1)):
+        counted = [(4, 28, 4), (4, 27, 3), (4, 22, 3), (4, 21, 2), (8, 15, 2), (8, 14, 1), (2, 64, 2), (8, 4, 1)]
+        for processors, memory, wanted in counted:
             made.command("nproc", f"echo {processors}")
             made.command("awk", f"echo MemAvailable: {memory * 1048576} kB | /usr/bin/awk \"$1\"")
             came = made.says("sh", ROOT / "scripts" / "lanes.sh")
