@@ -2,18 +2,20 @@
 """bench/callgrind.py NAME=PROGRAM [NAME=PROGRAM ..] [--tree]: which crates a visit's instructions are spent in.
 
 Each PROGRAM is a desk. The visits of bench/visits.py are made of it under valgrind's callgrind, and of the C program
-beside it (visits.c): 12 of them in one run and 2 in another, and the difference is that of 10 visits. You need
-valgrind, gcc and the headers of SQLite; as root, the script installs them if they are missing.
+beside it (visits.c): 12 of them in one run and 2 in another, and the difference is that of 10 visits. Takedowns are
+made of desks alone, because the C program only reads. You need valgrind, gcc and the headers of SQLite; as root, the
+script installs them if they are missing.
 
 Instructions are counted by the crate of the symbol that they lie in, so that what the compiler has moved into another
 function counts as that function's. Copies by the C library (memcpy, memmove) are told apart on both sides: callgrind
 counts one instruction for each byte of `rep movsb`, so a copy looks dearer than it is. What is printed are shares of
-the whole of the C program, its copies left out. --tree also prints the functions of each crate.
+the whole of the C program, its copies left out; of takedowns, shares of the desk's own whole. --tree also prints the
+functions of each crate.
 
 It fails where, of the desk that is named last, the crates of its own take more than the whole of the C program for a
 question, or a function of rd_cpm or rd_cbm is called at such a visit; and where there is no C program beside it. Where
-two desks are named, it also prints the ratio of the last to the first, of their own crates alone, and of all without
-what reading rows of the table `image` takes."""
+two desks are named, it also prints the ratio of the last to the first: of their own crates alone, of the whole without
+and with copies, and of all without what reading rows of the table `image` takes."""
 
 import argparse
 import collections
@@ -142,7 +144,8 @@ def whole_of(told):
 
 
 def tell_desk(case, name, told, beside):
-    """Prints what a desk spends, as shares of the whole of the C program; gives whether its own crates take more."""
+    """Prints what a desk spends, as shares of the whole of the C program, or of its own where there is none beside it;
+    gives whether its own crates take more than the C program."""
     base = whole_of(beside) if beside else whole_of(told)
     copies = f"copies {told['copies'] / base:.2f}" + (f" and {beside['copies'] / base:.2f}" if beside else "")
     print(f"{case.title}: {name}: own crates {own_of(told) / base:.2f}, whole {whole_of(told) / base:.2f}, {copies}")
@@ -174,6 +177,10 @@ def tell_pair(case, profiles):
     first, last = names[0], names[-1]
     own = {name: own_of(by_crate(profiles[name])) for name in names}
     print(f"    own crates: {last} over {first} {own[last] / own[first]:.3f}")
+    whole = {name: whole_of(by_crate(profiles[name])) for name in names}
+    all_of = {name: sum(profiles[name].own.values()) for name in names}
+    with_copies = f"with copies {all_of[last] / all_of[first]:.2f}"
+    print(f"    whole: {last} over {first} {whole[last] / whole[first]:.2f}, {with_copies}")
     shares = ", ".join(f"{share:.0%} of {name}" for name, share in reads.items())
     print(f"    beside the rows of images ({shares}): {last} over {first} {rest[last] / rest[first]:.2f}")
 
@@ -181,10 +188,10 @@ def tell_pair(case, profiles):
 def measure(bench, case, folder, shows_tree):
     """Prints what the programs spend at visits of a case, and gives what is missed."""
     missed = []
-    profiles = {name: profile_of(bench, name, case, folder) for name in bench.commands}
+    profiles = {name: profile_of(bench, name, case, folder) for name in bench.names_for(case)}
     told = {name: by_crate(profile) for name, profile in profiles.items()}
     beside = told.get(visits.C_NAME)
-    if beside is None:
+    if beside is None and not isinstance(case, visits.Takedown):
         missed.append(f"{case.title}: there is no C program to compare with")
     desks = [name for name in profiles if name != visits.C_NAME]
     for name in desks:
@@ -208,7 +215,7 @@ def main():
     parser.add_argument("--tree", action="store_true")
     words = parser.parse_args()
     tools.install(NEEDED, PACKAGES)
-    told = visits.cases(False)
+    told = visits.cases(False) + visits.takedowns()
     missed = []
     with tempfile.TemporaryDirectory() as folder:
         shelves = list(dict.fromkeys(case.shelf for case in told))

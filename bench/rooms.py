@@ -161,17 +161,20 @@ def rule(audiences, effect, **select):
     return json.dumps({"audiences": audiences.split(), "effect": effect, "select": select}).encode()
 
 
+EVERYBODY = "public room staff"
+TAKEDOWN = rule(EVERYBODY, "deny", slot=150)
+
+
 def filling(accessions):
     """The requests that fill a store: a deed with its rules, a key, images, and a takedown of each."""
-    everybody = "public room staff"
     yield "PUT", f"/deeds/{DEED}", b'{"donor":"A. Curator","signed":"2019-05-04"}'
     yield "PUT", f"/deeds/{DEED}/rules/10", rule("public room", "deny", prefix="SECRET")
     yield "PUT", f"/deeds/{DEED}/rules/20", rule("public", "list", type="USR")
-    yield "PUT", f"/deeds/{DEED}/rules/30", rule(everybody, "read", all=True)
+    yield "PUT", f"/deeds/{DEED}/rules/30", rule(EVERYBODY, "read", all=True)
     yield "PUT", f"/badges/{hashlib.sha256(ROOM.encode()).hexdigest()}", b'{"audience":"room"}'
     for acc, image in accessions.items():
         yield "PUT", f"/accessions/{acc}/d64/{DEED}/{hashlib.sha256(image).hexdigest()}", image
-        yield "PUT", f"/images/{acc}/rules/1", rule(everybody, "deny", slot=150)
+        yield "PUT", f"/images/{acc}/rules/1", TAKEDOWN
 
 
 def fill(program, store, accessions):

@@ -74,6 +74,25 @@ def disk_after_disk(number):
     return "/images/%d/files/0" % (number % 100 + 1)
 
 
+class Takedown(Case):
+    """A takedown in place of the one that each accession of a shelf has, of the accession that is given for a visit of
+    some number. It is the same takedown, so the store stays as it is. Only desks do this: the C program only reads."""
+
+    def __init__(self, title, accession_at):
+        done = len('{"done":true}')
+        super().__init__(title, "100", lambda number: f"/images/{accession_at(number)}/rules/1", 200, done)
+
+    def asked(self, number):
+        return rooms.question("PUT", self.path_at(number), rooms.STAFF, rooms.TAKEDOWN)
+
+
+def takedowns():
+    return [
+        Takedown("takedowns, 100 disks", lambda number: number % 100 + 1),
+        Takedown("takedowns of one disk", lambda _: 50),
+    ]
+
+
 def cases(thousand):
     denied = len('{"error":"denied","rule":"R7.10"}')
     told = [
@@ -116,13 +135,17 @@ class Bench:
                 return
         print(f"no desk keeps an index of files and error bytes: none is measured beside the {C_NAME}")
 
+    def names_for(self, case):
+        """The programs that a case is for."""
+        return [name for name in self.commands if name != C_NAME or not isinstance(case, Takedown)]
+
     def serve(self, name, shelf, count):
         return rooms.Server(self.commands[name], self.stores[name, shelf], count)
 
     def check(self, case):
         """Ends the script where a reply is not due, or two programs reply with different bytes."""
         replies = {}
-        for name in self.commands:
+        for name in self.names_for(case):
             server = self.serve(name, case.shelf, 1)
             replies[name] = server.visit(case.asked(0))
             server.end()
