@@ -9,7 +9,7 @@ use Rattle.rd_protocol.specs.State.{Desk, with_check}
 use Rattle.rd_store.specs.declared.faults.StoreFault.{StoreFault}
 use Rattle.rd_protocol.specs.declared.rows.ImageRow.{ImageRow}
 use Rattle.rd_protocol.specs.declared.rows.Outcome.{Outcome}
-use Rattle.rd_desk.specs.Calls.{IsOneChange, IsSaidOf, IsWritten, MakesOneChange}
+use Rattle.rd_desk.specs.Calls.{IsOneChange, IsResponseAfter, IsWritten, MakesOneChange}
 use Rattle.rd_protocol.specs.Replies.{with_checked}
 use Rattle.rd_protocol.specs.Checks.{outcome_of}
 use Rattle.rd_protocol.specs.Refusals.{status_of}
@@ -61,7 +61,7 @@ check_recorded desk acc day found image outcome read is told =
     ap (λ (o : Outcome). with_check acc day o desk) told ∙ ap (λ (it : Option ImageRow). with_checked it acc day desk) (sym is ∙ read)
 
 -- a call that failed, and no answer after it
-pub failed_is_said : {X : Type 0} (told : Result ⊤ StoreFault) (fault : StoreFault) (result : Result Response X) → told ≡ Err fault → IsErr result → IsSaidOf told result
+pub failed_is_said : {X : Type 0} (told : Result ⊤ StoreFault) (fault : StoreFault) (result : Result Response X) → told ≡ Err fault → IsErr result → IsResponseAfter told result
 failed_is_said (Ok done) fault result is none = cc
 failed_is_said (Err why) fault (Ok answer) is none = let e : false ≡ true = none in cc
 failed_is_said (Err why) fault (Err other) is none = tt
@@ -71,7 +71,7 @@ refused_status UnknownKey is = omega (arith, is)
 refused_status other is = omega (arith, is)
 
 -- the status is 200 exactly if the answer is one after Ok
-ok_status : {X : Type 0} (result : Result Response X) (reply : Reply) (told : Result ⊤ StoreFault) → IsWritten result reply → IsSaidOf told result → IsOk told ↔ (reply.status ≡ 200)
+ok_status : {X : Type 0} (result : Result Response X) (reply : Reply) (told : Result ⊤ StoreFault) → IsWritten result reply → IsResponseAfter told result → IsOk told ↔ (reply.status ≡ 200)
 ok_status (Ok response.Done) reply (Ok done) (inl is) of = (λ ok. ap (λ (r : Reply). r.status) is, λ status. refl)
 ok_status (Ok response.Done) reply (Ok done) (inr none) of = absurd (none.1 tt)
 ok_status (Ok (response.Checked outcome)) reply (Ok done) (inl is) of = (λ ok. ap (λ (r : Reply). r.status) is, λ status. refl)
@@ -85,9 +85,9 @@ ok_status (Err none) reply (Err fault) is of =
 ok_status result reply (Ok done) is of = absurd of
 ok_status result reply (Err fault) is of = absurd of
 
--- what was said, as it is written
+-- the answer after one call, as it is written
 pub one_change_written : {S X : Type 0} (g : Ghosts S) (old new : Held S) (day : ℤ) (what : What) (result : Result Response X) (reply : Reply) → IsWritten result reply
-    → MakesOneChange g old new day what (λ told. IsSaidOf told result) → MakesOneChange g old new day what (λ told. IsOk told ↔ (reply.status ≡ 200))
+    → MakesOneChange g old new day what (λ told. IsResponseAfter told result) → MakesOneChange g old new day what (λ told. IsOk told ↔ (reply.status ≡ 200))
 one_change_written g old new day what result reply written makes = record {
   middle = makes.middle;
   reads = makes.reads;

@@ -9,7 +9,7 @@ use Rattle.rd_store.specs.Held.{IsAtRest, IsClean, IsLeft, IsOpen, Keeps, Leaves
 use Rattle.rd_protocol.specs.Lawful.{IsLawful}
 use Rattle.rd_protocol.specs.State.{Desk}
 use Rattle.rd_store.proofs.Laws.{lasts_still, lasts_then}
-use Rattle.rd_desk.specs.Calls.{Carries, HasItsDigest, IsCarriedOut, IsResponse, IsSaidTo, Responds}
+use Rattle.rd_desk.specs.Calls.{Carries, HasItsDigest, IsCarriedOut, IsResponse, IsResponseTo, Responds}
 use Rattle.rd_protocol.specs.Judged.{IsAccepted, audience_of}
 use Rattle.rd_protocol.specs.Replies.{IsAnswered, IsDone, IsStep, Tells, carried_out}
 use Rattle.rd_protocol.specs.Requests.{IsForStaff}
@@ -83,13 +83,13 @@ module _ {S : Type 0} (g : Ghosts S) where
   known_still a b badge found audience keeps answer is o = subst (λ (d : Desk). audience_of d badge ≡ Some audience) (sym (keeps.same o)) (sym (answer o) ∙ is)
 
   module _ {X : Type 0} (day : ℤ) (request : Request) (result : Result Response X) where
-    answered : (audience : Audience) (old new : Desk) (r : Result Response X) → new ≡ old → audience_of old request.badge ≡ Some audience → IfOk r (IsSaidTo old audience day request.what)
+    answered : (audience : Audience) (old new : Desk) (r : Result Response X) → new ≡ old → audience_of old request.badge ≡ Some audience → IfOk r (IsResponseTo old audience day request.what)
         → IsResponse old day request r new
     answered audience old new (Ok answer) same known told = subst (IsAnswered old day request answer) (sym same) (told request.badge known)
     answered audience old new (Err fault) same known told = same
 
     -- a query of a caller of this audience, as a request
-    pub reads_respond : (a b : Held S) (audience : Audience) → (IsOpen g a → audience_of (desk g a) request.badge ≡ Some audience) → Reads g a b result (IsSaidTo (desk g a) audience day request.what)
+    pub reads_respond : (a b : Held S) (audience : Audience) → (IsOpen g a → audience_of (desk g a) request.badge ≡ Some audience) → Reads g a b result (IsResponseTo (desk g a) audience day request.what)
         → Responds g a b day request result
     reads_respond a b audience known reads = record {
       lasts = reads.keeps.lasts;

@@ -1,11 +1,11 @@
--- A request and its reply, from what is said.
+-- A request and its reply, from its answer.
 use Rattle.std.proofs.Common.{◌≡◌, ◌≢◌, ◌⊎◌, inl, inr, ◌∙◌, ℕ, ℤ, List, Option, Some, None, Result, Ok, Err, OnOk, refl, subst}
 use Rattle.sqlite.specs.Store.{Ghosts}
 use Rattle.sqlite.specs.Held.{Held}
 use Rattle.rd_policy.specs.declared.audience.Audience.{Audience}
 use Rattle.rd_store.specs.Held.{IsAtRest, IsOpen, LeavesOpen, desk}
 use Rattle.rd_protocol.specs.State.{Desk}
-use Rattle.rd_desk.specs.Calls.{IsOfChange, IsResponse, IsSaidOf, IsWritten, MakesOneChange, Responds}
+use Rattle.rd_desk.specs.Calls.{IsOfChange, IsResponse, IsResponseAfter, IsWritten, MakesOneChange, Responds}
 use Rattle.rd_protocol.specs.Judged.{JudgedFile, audience_of}
 use Rattle.rd_protocol.specs.Replies.{Answers, IsAnswered, IsReply, Tells, carried_out}
 use Rattle.rd_protocol.specs.Requests.{IsForStaff}
@@ -24,7 +24,7 @@ use Rattle.rd_protocol.proofs.Hiding.{hides}
 use Rattle.rd_desk.proofs.OneChange.{one_change_written}
 use Rattle.rd_protocol.proofs.Showing.{tells_what_is_shown}
 
--- what is said and is no command's end changes nothing
+-- an answer after which the desk cannot have changed changes nothing
 changes_nothing : (old : Desk) (audience : Audience) (day : ℤ) (file : Option JudgedFile) (answer : Response) (what : What) → ¬ IsOfChange answer
     → Tells old audience day file answer what → carried_out day what old ≡ old
 changes_nothing old audience day file response.Done what other tells = absurd (other tt)
@@ -72,7 +72,7 @@ module _ {S : Type 0} (g : Ghosts S) (old new : Held S) (day : ℤ) (request : R
       go (inr none) = absurd (told none.0)
 
   pub serves : {X : Type 0} (result : Result Response X) → Responds g old new day request result → IsAtRest g new → IsWritten result reply
-      → MakesOneChange g old new day request.what (λ told. IsSaidOf told result)
+      → MakesOneChange g old new day request.what (λ told. IsResponseAfter told result)
       → LeavesOpen g new result ⊎ ((request.badge ≡ None) × IsForStaff request.what × (result ≡ Ok (response.Refused StaffOnly)) × (new ≡ old))
       → Serves g old new day request reply
   serves result responds rests written makes ending = record {

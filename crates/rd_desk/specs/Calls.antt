@@ -57,9 +57,9 @@ abbrev pub ForEachCaller : Desk → Audience → What → (Request → Type 0) �
 ForEachCaller desk audience what Is =
     (badge : Option (List ℕ)) → audience_of desk badge ≡ Some audience → Is (record { badge = badge; what = what })
 
--- this is said to each caller of an audience who asks this on a day, and the desk stays the same
-abbrev pub IsSaidTo : Desk → Audience → ℤ → What → Response → Type 0
-IsSaidTo desk audience day what said = ForEachCaller desk audience what (λ request. IsAnswered desk day request said desk)
+-- this is the answer to each caller of an audience who asks this on a day, and the desk stays the same
+abbrev pub IsResponseTo : Desk → Audience → ℤ → What → Response → Type 0
+IsResponseTo desk audience day what answer = ForEachCaller desk audience what (λ request. IsAnswered desk day request answer desk)
 
 -- the desk after what the staff asks, by its answer: the next one if it is carried out, and the old
 -- one if it is refused or has no answer
@@ -116,12 +116,12 @@ IsWritten (Err fault) reply = reply ≡ UNAVAILABLE
 
 -- the answer after a call that changes the desk: that it is done, or what a check found, exactly
 -- after Ok
-abbrev pub IsSaidOf : {X : Type 0} → Result ⊤ StoreFault → Result Response X → Type 0
-IsSaidOf (Ok done) (Ok Done) = Unit {0}
-IsSaidOf (Ok done) (Ok (Checked outcome)) = Unit {0}
-IsSaidOf (Err fault) (Ok (Refused refusal)) = Unit {0}
-IsSaidOf (Err fault) (Err none) = Unit {0}
-IsSaidOf told answer = ⊥
+abbrev pub IsResponseAfter : {X : Type 0} → Result ⊤ StoreFault → Result Response X → Type 0
+IsResponseAfter (Ok done) (Ok Done) = Unit {0}
+IsResponseAfter (Ok done) (Ok (Checked outcome)) = Unit {0}
+IsResponseAfter (Err fault) (Ok (Refused refusal)) = Unit {0}
+IsResponseAfter (Err fault) (Err none) = Unit {0}
+IsResponseAfter told answer = ⊥
 
 -- One call that carries out a request on a day, or changes nothing, and what it returned.
 pub record IsOneChange {S : Type 0} (g : Ghosts S) (old new : Held S) (day : ℤ) (what : What) (Returned : Result ⊤ StoreFault → Type 0) : Type 0 where

@@ -7,7 +7,7 @@ ghost use Rattle.rd_geometry.specs.Kinds.{size_of};
 ghost use Rattle.rd_policy.specs.Days.{IsDay};
 ghost use Rattle.rd_policy.specs.Rules.{IsRule, IsScope};
 ghost use Rattle.rd_protocol.specs.Lawful.{IsDeed};
-ghost use Rattle.rd_desk.specs.Calls.{Carries, IsOneChange, IsSaidOf, MakesOneChange, missing_of};
+ghost use Rattle.rd_desk.specs.Calls.{Carries, IsOneChange, IsResponseAfter, MakesOneChange, missing_of};
 ghost use Rattle.rd_protocol.specs.Requests.{IsForStaff, IsRequest};
 
 use crate::asking::{Unavailable, has_deed};
@@ -38,7 +38,7 @@ fn put_deed<S: Alter>(
 ) -> Result<Response, Unavailable>
     requires deed { IsDeed num (record { donor = donor.now; signed = signed }) }
     ensures carries { (day : ℤ) → Carries S.Store store.old store.new day (What.PutDeed num donor.now signed) result }
-    ensures change { (day : ℤ) → IsOneChange S.Store store.old store.new day (What.PutDeed num donor.now signed) (λ told. IsSaidOf told result) }
+    ensures change { (day : ℤ) → IsOneChange S.Store store.old store.new day (What.PutDeed num donor.now signed) (λ told. IsResponseAfter told result) }
 {
     store.put_deed(num, donor.as_str(), signed)?;
     Ok(Response::Done)
@@ -48,7 +48,7 @@ fn put_deed<S: Alter>(
 fn put_rule<S: Alter>(store: &mut Store<S>, rule: &Rule) -> Result<Response, Unavailable>
     requires rule { IsRule rule.now }
     ensures carries { (day : ℤ) → Carries S.Store store.old store.new day (What.PutRule rule.now) result }
-    ensures change { (day : ℤ) → IsOneChange S.Store store.old store.new day (What.PutRule rule.now) (λ told. IsSaidOf told result) }
+    ensures change { (day : ℤ) → IsOneChange S.Store store.old store.new day (What.PutRule rule.now) (λ told. IsResponseAfter told result) }
 {
     match store.put_rule(rule) {
         Ok(()) => Ok(Response::Done),
@@ -65,7 +65,7 @@ fn drop_rule<S: Alter>(
     rank: u16,
 ) -> Result<Response, Unavailable>
     ensures carries { (day : ℤ) → Carries S.Store store.old store.new day (What.DropRule band scope rank) result }
-    ensures change { (day : ℤ) → IsOneChange S.Store store.old store.new day (What.DropRule band scope rank) (λ told. IsSaidOf told result) }
+    ensures change { (day : ℤ) → IsOneChange S.Store store.old store.new day (What.DropRule band scope rank) (λ told. IsResponseAfter told result) }
 {
     match store.drop_rule(band, scope, rank) {
         Ok(()) => Ok(Response::Done),
@@ -82,7 +82,7 @@ fn put_key<S: Alter>(
 ) -> Result<Response, Unavailable>
     requires key { audience ≢ Audience.Public }
     ensures carries { (day : ℤ) → Carries S.Store store.old store.new day (What.PutKey digest.now audience) result }
-    ensures change { (day : ℤ) → IsOneChange S.Store store.old store.new day (What.PutKey digest.now audience) (λ told. IsSaidOf told result) }
+    ensures change { (day : ℤ) → IsOneChange S.Store store.old store.new day (What.PutKey digest.now audience) (λ told. IsResponseAfter told result) }
 {
     match store.put_key(digest, audience) {
         Ok(()) => Ok(Response::Done),
@@ -94,7 +94,7 @@ fn put_key<S: Alter>(
 /// Takes a desk key away.
 fn drop_key<S: Alter>(store: &mut Store<S>, digest: &[u8; 32]) -> Result<Response, Unavailable>
     ensures carries { (day : ℤ) → Carries S.Store store.old store.new day (What.DropKey digest.now) result }
-    ensures change { (day : ℤ) → IsOneChange S.Store store.old store.new day (What.DropKey digest.now) (λ told. IsSaidOf told result) }
+    ensures change { (day : ℤ) → IsOneChange S.Store store.old store.new day (What.DropKey digest.now) (λ told. IsResponseAfter told result) }
 {
     match store.drop_key(digest) {
         Ok(()) => Ok(Response::Done),
@@ -117,7 +117,7 @@ fn commit_image<S: Alter>(
     requires sized { length bytes.now ≡ size_of kind }
     requires same { sha256 bytes.now ≡ digest.now }
     ensures carries { (day : ℤ) → Carries S.Store store.old store.new day (What.PutImage acc kind deed digest.now bytes.now) result }
-    ensures change { (day : ℤ) → IsOneChange S.Store store.old store.new day (What.PutImage acc kind deed digest.now bytes.now) (λ told. IsSaidOf told result) }
+    ensures change { (day : ℤ) → IsOneChange S.Store store.old store.new day (What.PutImage acc kind deed digest.now bytes.now) (λ told. IsResponseAfter told result) }
 {
     match store.put_image(alloc, acc, kind, deed, digest, bytes.as_slice()) {
         Ok(()) => Ok(Response::Done),
@@ -140,7 +140,7 @@ fn put_image<S: Alter>(
 ) -> Result<Response, Unavailable>
     requires scope { IsScope acc }
     ensures carries { (day : ℤ) → Carries S.Store store.old store.new day (What.PutImage acc kind deed digest.now bytes.now) result }
-    ensures one_change { (day : ℤ) → MakesOneChange S.Store store.old store.new day (What.PutImage acc kind deed digest.now bytes.now) (λ told. IsSaidOf told result) }
+    ensures one_change { (day : ℤ) → MakesOneChange S.Store store.old store.new day (What.PutImage acc kind deed digest.now bytes.now) (λ told. IsResponseAfter told result) }
 {
     store.at_rest();
     if bytes.as_slice().len() != kind.size() {
@@ -167,7 +167,7 @@ fn check<S: Alter>(
 ) -> Result<Response, Unavailable>
     requires day { IsDay day }
     ensures carries { Carries S.Store store.old store.new day (What.Check acc) result }
-    ensures one_change { MakesOneChange S.Store store.old store.new day (What.Check acc) (λ told. IsSaidOf told result) }
+    ensures one_change { MakesOneChange S.Store store.old store.new day (What.Check acc) (λ told. IsResponseAfter told result) }
 {
     let Some(image) = store.image(alloc, acc)? else {
         return Ok(Response::Refused(Refusal::NoAccession));
@@ -190,7 +190,7 @@ pub(crate) fn command<S: Alter>(
     requires fits { IsRequest what.now }
     requires staff { IsForStaff what.now }
     ensures carries { Carries S.Store store.old store.new day what.now result }
-    ensures one_change { MakesOneChange S.Store store.old store.new day what.now (λ told. IsSaidOf told result) }
+    ensures one_change { MakesOneChange S.Store store.old store.new day what.now (λ told. IsResponseAfter told result) }
 {
     store.at_rest();
     match what {

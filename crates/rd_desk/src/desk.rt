@@ -5,7 +5,7 @@ ghost use Rattle.sqlite.specs.Steps.{over_memory};
 ghost use Rattle.rd_policy.specs.Days.{HasDay, IsDay};
 ghost use Rattle.rd_policy.specs.Zones.{day_number};
 ghost use Rattle.rd_store.specs.Held.{IsClean, IsOpen, LeavesOpen, desk as tables};
-ghost use Rattle.rd_desk.specs.Calls.{IsSaidOf, IsWritten, MakesOneChange, Responds};
+ghost use Rattle.rd_desk.specs.Calls.{IsResponseAfter, IsWritten, MakesOneChange, Responds};
 ghost use Rattle.rd_protocol.specs.Replies.{Answers};
 ghost use Rattle.rd_protocol.specs.Requests.{IsForStaff, IsRequest};
 ghost use Rattle.rd_desk.specs.Served.{Serves};
@@ -30,7 +30,7 @@ fn respond<S: Alter>(
     requires fits { IsRequest request.now.what }
     requires day { IsDay day }
     ensures responds { Responds S.Store store.old store.new day request.now result }
-    ensures one_change { MakesOneChange S.Store store.old store.new day request.now.what (λ told. IsSaidOf told result) }
+    ensures one_change { MakesOneChange S.Store store.old store.new day request.now.what (λ told. IsResponseAfter told result) }
     ensures ends_open { (request.now.badge ≡ None → ¬ IsForStaff request.now.what) → LeavesOpen S.Store store.new result }
     ensures turned_away { request.now.badge ≡ None → IsForStaff request.now.what → (result ≡ Ok (Response.Refused Refusal.StaffOnly)) × (store.new ≡ store.old) }
 {
@@ -50,13 +50,13 @@ fn respond<S: Alter>(
 
 /// The reply that gives an answer; if there is no answer, or no memory for the reply, it says that
 /// the desk is unavailable.
-fn reply_with(alloc: Global, said: Result<Response, Unavailable>) -> Reply
-    ensures { IsWritten said result }
+fn reply_with(alloc: Global, answer: Result<Response, Unavailable>) -> Reply
+    ensures { IsWritten answer result }
 {
-    match said {
+    match answer {
         Ok(Response::Done) => json::done(),
         Ok(Response::Checked(outcome)) => json::checked(outcome),
-        Ok(said) => match json::reply_to(alloc, said) {
+        Ok(response) => match json::reply_to(alloc, response) {
             Ok(reply) => reply,
             Err(_) => json::unavailable(),
         },
@@ -70,9 +70,9 @@ fn reply_on<S: Alter>(store: &mut Store<S>, alloc: Global, day: i32, request: &R
     requires day { IsDay day }
     ensures serves { Serves S.Store store.old store.new day request.now result }
 {
-    let said = respond(store, alloc, day, request);
+    let answer = respond(store, alloc, day, request);
     store.at_rest();
-    reply_with(alloc, said)
+    reply_with(alloc, answer)
 }
 
 /// The desk over its store, and the zone of its clocks.

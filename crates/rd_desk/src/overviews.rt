@@ -6,7 +6,7 @@ ghost use Rattle.std.specs.FinMap.{keys};
 ghost use Rattle.std.specs.List.{AllZip};
 ghost use Rattle.rd_store.specs.Held.{IsClean, IsOpen, Reads, desk};
 ghost use Rattle.rd_protocol.specs.State.{Desk, all_rules};
-ghost use Rattle.rd_desk.specs.Calls.{IsSaidTo, StandsAs};
+ghost use Rattle.rd_desk.specs.Calls.{IsResponseTo, StandsAs};
 ghost use Rattle.rd_protocol.specs.Queries.{AreLinesOfEach, IsCounted};
 ghost use Rattle.rd_protocol.specs.Replies.{IsListing};
 
@@ -110,7 +110,7 @@ pub(crate) fn images<S: Alter>(
     alloc: Global,
     caller: &Caller,
 ) -> Result<Response, Unavailable>
-    ensures { Reads S.Store store.old store.new result (IsSaidTo (desk S.Store store.old) caller.now.audience caller.now.day What.Images) }
+    ensures { Reads S.Store store.old store.new result (IsResponseTo (desk S.Store store.old) caller.now.audience caller.now.day What.Images) }
 {
     let rules = store.rulebook(alloc)?;
     let accessions = count(store, alloc)?;
@@ -167,7 +167,7 @@ pub(crate) fn catalogue<S: Alter>(
     alloc: Global,
     caller: &Caller,
 ) -> Result<Response, Unavailable>
-    ensures { Reads S.Store store.old store.new result (IsSaidTo (desk S.Store store.old) caller.now.audience caller.now.day What.Catalogue) }
+    ensures { Reads S.Store store.old store.new result (IsResponseTo (desk S.Store store.old) caller.now.audience caller.now.day What.Catalogue) }
 {
     let rules = store.rulebook(alloc)?;
     let accessions = count(store, alloc)?;

@@ -6,7 +6,7 @@ ghost use Rattle.rd_policy.specs.Verdicts.{AreInOrder, IsVerdict};
 ghost use Rattle.rd_store.specs.Held.{IsClean, IsOpen, Reads, desk};
 ghost use Rattle.rd_protocol.specs.declared.rows.ImageRow.{ImageRow};
 ghost use Rattle.rd_volume.specs.Volumes.{IsFound};
-ghost use Rattle.rd_desk.specs.Calls.{IsRegistered, IsSaidTo};
+ghost use Rattle.rd_desk.specs.Calls.{IsRegistered, IsResponseTo};
 ghost use Rattle.rd_protocol.specs.Queries.{AreLinesOf, IsRead, IsWithheld};
 ghost use Rattle.rd_protocol.specs.Replies.{AreLines, IsListing};
 ghost use Rattle.rd_protocol.specs.Requests.{IsForStaff};
@@ -69,7 +69,7 @@ fn withheld(loaded: &AccessionRules, caller: &Caller, file: &Found) -> Option<Re
 }
 
 /// The answer about a file of an accession. It reads the image only if it serves the file.
-fn said_of<S: Alter>(
+fn read_found<S: Alter>(
     store: &mut Store<S>,
     alloc: Global,
     loaded: &AccessionRules,
@@ -79,9 +79,9 @@ fn said_of<S: Alter>(
 ) -> Result<Response, Unavailable>
     requires order { AreInOrder loaded.now.rules }
     requires awake { IsClean S.Store store.old → IsOpen S.Store store.old }
-    ensures { Reads S.Store store.old store.new result (λ said. (image : ImageRow) → get (desk S.Store store.old).images acc ≡ Some image
+    ensures { Reads S.Store store.old store.new result (λ response. (image : ImageRow) → get (desk S.Store store.old).images acc ≡ Some image
         → loaded.now.kind ≡ image.kind → IsFound image.kind image.bytes file
-        → IsRead (record { image = image; rules = loaded.now.rules }) caller.now.audience caller.now.day file.slot said) }
+        → IsRead (record { image = image; rules = loaded.now.rules }) caller.now.audience caller.now.day file.slot response) }
 {
     store.at_rest();
     if let Some(refusal) = withheld(loaded, caller, &file) {
@@ -100,12 +100,12 @@ fn read<S: Alter>(
     slot: u16,
 ) -> Result<Response, Unavailable>
     requires order { AreInOrder loaded.now.rules }
-    ensures { Reads S.Store store.old store.new result (λ said. (image : ImageRow) → get (desk S.Store store.old).images acc ≡ Some image
+    ensures { Reads S.Store store.old store.new result (λ response. (image : ImageRow) → get (desk S.Store store.old).images acc ≡ Some image
         → loaded.now.kind ≡ image.kind
-        → IsRead (record { image = image; rules = loaded.now.rules }) caller.now.audience caller.now.day slot said) }
+        → IsRead (record { image = image; rules = loaded.now.rules }) caller.now.audience caller.now.day slot response) }
 {
     match store.found_at(alloc, acc, slot)? {
-        Some(file) => said_of(store, alloc, loaded, caller, acc, file),
+        Some(file) => read_found(store, alloc, loaded, caller, acc, file),
         None => Ok(Response::Refused(Refusal::NoFile)),
     }
 }
@@ -118,7 +118,7 @@ fn bytes<S: Alter>(
     acc: u32,
     slot: u16,
 ) -> Result<Response, Unavailable>
-    ensures { Reads S.Store store.old store.new result (IsSaidTo (desk S.Store store.old) caller.now.audience caller.now.day (What.Bytes acc slot)) }
+    ensures { Reads S.Store store.old store.new result (IsResponseTo (desk S.Store store.old) caller.now.audience caller.now.day (What.Bytes acc slot)) }
 {
     match store.accession(acc)? {
         Some(accession) => {
@@ -196,7 +196,7 @@ fn listing<S: Alter>(
     caller: &Caller,
     acc: u32,
 ) -> Result<Response, Unavailable>
-    ensures { Reads S.Store store.old store.new result (IsSaidTo (desk S.Store store.old) caller.now.audience caller.now.day (What.Listing acc)) }
+    ensures { Reads S.Store store.old store.new result (IsResponseTo (desk S.Store store.old) caller.now.audience caller.now.day (What.Listing acc)) }
 {
     let Some(accession) = store.accession(acc)? else {
         return Ok(Response::Refused(Refusal::NoAccession));
@@ -212,7 +212,7 @@ pub(crate) fn query<S: Alter>(
     what: &What,
 ) -> Result<Response, Unavailable>
     requires query { ¬ IsForStaff what.now }
-    ensures { Reads S.Store store.old store.new result (IsSaidTo (desk S.Store store.old) caller.now.audience caller.now.day what.now) }
+    ensures { Reads S.Store store.old store.new result (IsResponseTo (desk S.Store store.old) caller.now.audience caller.now.day what.now) }
 {
     match what {
         What::Images => images(store, alloc, caller),

@@ -1,7 +1,7 @@
 //! Opens the desk in the file of a store, and finds the moment at which to ask it.
 
 ghost use Rattle.std.specs.Prelude.{◌≡◌, Err, IfErr, IfOk, IfSome, Ok};
-ghost use Rattle.rd_program.specs.Leaves.{IsOfOpenDesk, LeavesUnopened};
+ghost use Rattle.rd_program.specs.Leaves.{LeavesUnopened};
 ghost use Rattle.rd_program.specs.Serving.{IsClockRefusal, IsOpenRefusal};
 ghost use Rattle.rd_store.specs.Migrated.{IsMigrated};
 ghost use Rattle.rd_policy.specs.Days.{HasDay};

@@ -1,7 +1,6 @@
 //! What the body of a reply says in JSON.
 
 ghost use Rattle.std.specs.Prelude.{◌≡◌, ◌↔◌, IfErr, IfOk, IsTrue, codes, option_map};
-ghost use Rattle.std.specs.List.{concat};
 ghost use Rattle.serde_json.specs.View.{view};
 ghost use Rattle.rd_messages.specs.Objects.{IsJson, text_at};
 ghost use Rattle.rd_program.specs.Importing.{IsRowRefusal};

@@ -6,8 +6,8 @@ use Rattle.rd_desk.proofs.desk.reply_on.Goals as goal
 
 pub returns : goal.returns
 returns g c = record {
-  serves = subst (λ day. Serves g.S.Store c.args.store.now c.respond-said.new.store day c.args.request.now c.reply_with.result) (to_z-of_z w32 c.args.day c.ranges.day)
-      (serves g.S.Store c.args.store.now c.respond-said.new.store _ c.args.request.now c.reply_with.result c.respond-said.result
-      c.respond-said.ensures.responds c.at_rest.ensures c.reply_with.ensures c.respond-said.ensures.one_change
-      (ending g.S.Store c.args.store.now c.respond-said.new.store c.args.request.now c.respond-said.result c.respond-said.ensures.ends_open c.respond-said.ensures.turned_away));
+  serves = subst (λ day. Serves g.S.Store c.args.store.now c.respond-answer.new.store day c.args.request.now c.reply_with.result) (to_z-of_z w32 c.args.day c.ranges.day)
+      (serves g.S.Store c.args.store.now c.respond-answer.new.store _ c.args.request.now c.reply_with.result c.respond-answer.result
+      c.respond-answer.ensures.responds c.at_rest.ensures c.reply_with.ensures c.respond-answer.ensures.one_change
+      (ending g.S.Store c.args.store.now c.respond-answer.new.store c.args.request.now c.respond-answer.result c.respond-answer.ensures.ends_open c.respond-answer.ensures.turned_away));
 }
