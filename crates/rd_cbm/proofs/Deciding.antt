@@ -1,6 +1,6 @@
 -- What a directory says of its slots, its claims and its blocks: each fact holds or does not, each file has faults, and each property that few
 -- numbers have has a count.
-use Rattle.std.proofs.Common.{◌≡◌, ◌≢◌, ◌⊎◌, inl, inr, ◌∙◌, ◌+◌, ◌*◌, ◌/◌, ◌%◌, ◌^◌, ◌<◌, ◌≤◌, ℕ, zero, suc, Bool, true, false, All, List, Contains, IfSome, IsBitSet, Option, Some, None, ap, arith, bit_and, if◌then◌else◌, length, nat_lt, refl, slice_index, subst, sym}
+use Rattle.std.proofs.Common.{◌≡◌, ◌⊎◌, inl, inr, ◌∙◌, ◌+◌, ◌*◌, ◌/◌, ◌%◌, ◌^◌, ◌<◌, ◌≤◌, ℕ, zero, suc, Bool, true, false, All, List, Contains, IfSome, IsBitSet, Option, Some, None, ap, arith, bit_and, if◌then◌else◌, length, nat_lt, refl, slice_index, subst, sym}
 use Rattle.std.proofs.Math.ListN.{get_or-eq_default}
 use Rattle.std.proofs.lemmas.Bool.{cases_lt}
 use Rattle.std.proofs.lemmas.List.{get_or_default}
@@ -12,7 +12,7 @@ use Rattle.rd_cbm.specs.BlockMap.{HasWrongCount, IsClaimedFree, IsFreeBlock, IsM
 use Rattle.rd_cbm.specs.Counts.{IsCount}
 use Rattle.rd_cbm.specs.Entries.{ClaimsBy, Data, IsClosed, IsServed, Side, Way, entry_at, kind_of, start_of, type_of}
 use Rattle.rd_cbm.specs.Faults.{AreFaults, HasNoFault, HasReadError, IsCrossed, IsError, IsLooped, IsNotClosed, IsOffDisk, IsSound}
-use Rattle.rd_cbm.specs.Files.{AreDirectoryBlocks, Claims, HasOtherClaim, IsClaimed, IsFileSlot, IsInUse, IsSystem}
+use Rattle.rd_cbm.specs.Files.{Claims, HasOtherClaim, IsFileSlot, IsInUse, IsSystem}
 use Rattle.rd_cbm.specs.Links.{link_of, link_to}
 use Rattle.rd_cbm.specs.Listing.{AreCounts}
 use Rattle.rd_cbm.specs.Walks.{Ends, EndsBy, GoesOff, IsChain, Links, Loops, Reaches, at, next_of}

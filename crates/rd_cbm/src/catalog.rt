@@ -1,8 +1,8 @@
-ghost use Rattle.std.specs.Prelude.{◌≡◌, ◌≢◌, ◌↔◌, ◌<◌, ◌≤◌, ◌*◌, All, IfOk, IsTrue, length};
+ghost use Rattle.std.specs.Prelude.{◌≡◌, ◌↔◌, ◌<◌, ◌*◌, All, IfOk, IsTrue, length};
 ghost use Rattle.rd_geometry.specs.Blocks.{CBM_BLOCKS};
 ghost use Rattle.rd_geometry.specs.CbmDisks.{cbm_bytes};
 ghost use Rattle.rd_cbm.specs.Entries as entries;
-ghost use Rattle.rd_cbm.specs.Entries.{IsLocked, IsServed, entry_at, type_of};
+ghost use Rattle.rd_cbm.specs.Entries.{IsLocked, IsServed};
 ghost use Rattle.rd_cbm.specs.Files.{IsFileSlot};
 ghost use Rattle.rd_cbm.specs.Marked.{AreToldBlocks, AreUses};
 ghost use Rattle.rd_cbm.specs.Listing.{AreFiles, Describes};

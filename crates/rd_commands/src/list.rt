@@ -1,5 +1,5 @@
-ghost use Rattle.std.specs.Prelude.{◌≡◌, ◌≢◌, ◌+◌, IfErr, IfOk, IfSome, OnErr, OnOk, codes, string_bytes};
-ghost use Rattle.std.specs.Io.KnownBytes.{Appends, Keeps};
+ghost use Rattle.std.specs.Prelude.{◌≡◌, ◌≢◌, ◌+◌, IfErr, IfOk, IfSome, OnOk, codes, string_bytes};
+ghost use Rattle.std.specs.Io.KnownBytes.{Keeps};
 ghost use Rattle.rd_geometry.specs.Kinds.{size_of};
 ghost use Rattle.rd_commands.specs.Input.{ReadsUpTo};
 ghost use Rattle.rd_commands.specs.Listed as spec;

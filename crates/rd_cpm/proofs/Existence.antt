@@ -1,10 +1,10 @@
 -- Each slot of a directory is a file's or not, and each file has faults and, where it is sound, sectors.
-use Rattle.std.proofs.Common.{◌≡◌, ◌⊎◌, ◌∙◌, ◌+◌, ◌*◌, ◌/◌, ◌%◌, ◌<◌, ◌≤◌, ◌↔◌, ◌++◌, ℕ, zero, suc, List, [], Any, Contains, IsTrue, arith, length, map, refl, slice_index, subst, sym}
+use Rattle.std.proofs.Common.{◌≡◌, ◌⊎◌, ◌∙◌, ◌+◌, ◌*◌, ◌/◌, ◌%◌, ◌<◌, ◌≤◌, ◌++◌, ℕ, zero, suc, List, [], Contains, arith, length, map, refl, slice_index, subst, sym}
 use Rattle.std.specs.List.{range_with_len}
 use Rattle.std.proofs.Math.Seq.{take-append_seam}
 use Rattle.std.proofs.lemmas.List.{get_or-append-add, length-append}
 use Rattle.std.proofs.lemmas.List.FromFn.{get_or-map-range_with_len, length-map-range_with_len}
-use Rattle.rd_geometry.proofs.Deciding.{AreThose, Decided, apart, decided_as, decided_at_most, decided_both, decided_either, decided_if, decided_less, decided_not, decided_same, decided_text, each_below, fails, flag, flag_is, holds, some_below, those}
+use Rattle.rd_geometry.proofs.Deciding.{Decided, apart, decided_as, decided_at_most, decided_both, decided_either, decided_if, decided_less, decided_not, decided_same, decided_text, each_below, fails, flag, flag_is, holds, some_below, those}
 use Rattle.rd_cpm.specs.Contents.{AreEntries, AreSectors}
 use Rattle.rd_cpm.specs.Entries.{IsOfFile, extent_number_of, first_of, name_of, plain, pointer_of, rc_of}
 use Rattle.rd_cpm.specs.Faults.{AreFaults, HasBadCount, HasDuplicate, HasGap, HasHole, HasOtherClaim, IsCrossed, IsOffDisk, IsShort, IsSound}

@@ -1,4 +1,4 @@
-ghost use Rattle.std.specs.Prelude.{◌≡◌, ◌<◌, ◌+◌, ◌*◌, true, slice_set, length};
+ghost use Rattle.std.specs.Prelude.{◌≡◌, ◌<◌, ◌+◌, ◌*◌, true, slice_set};
 ghost use Rattle.rd_geometry.specs.CpmDisks.{cpm_bytes};
 ghost use Rattle.rd_cpm.specs.Entries.{slot_of, IsOfFile};
 ghost use Rattle.rd_cpm.specs.Claimed.{AreClaims, shared_after};

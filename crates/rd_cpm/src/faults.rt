@@ -1,5 +1,5 @@
 ghost use Rattle.std.specs.Prelude.{◌≡◌, ◌↔◌, ◌<◌, ◌+◌, ◌*◌, IsTrue, Any, if◌then◌else◌};
-ghost use Rattle.rd_cpm.specs.Entries.{rc_of, extent_number_of};
+ghost use Rattle.rd_cpm.specs.Entries.{rc_of};
 ghost use Rattle.rd_cpm.specs.Gathered.{HasExtent, HasLater, LacksPredecessor, EndsEarly, AreTwice, IsHole, SomePlace, IsOffDiskIn, IsSharedBlock, IsCrossedIn};
 ghost use Rattle.rd_cpm.specs.EntryTests.{AreTold};
 

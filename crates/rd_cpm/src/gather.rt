@@ -1,4 +1,4 @@
-ghost use Rattle.std.specs.Prelude.{◌≡◌, ◌<◌, IfOk};
+ghost use Rattle.std.specs.Prelude.{◌<◌, IfOk};
 ghost use Rattle.rd_geometry.specs.CpmDisks.{cpm_bytes};
 ghost use Rattle.rd_cpm.specs.Entries.{slot_of};
 ghost use Rattle.rd_cpm.specs.Files.{IsFileSlot};

@@ -1,4 +1,4 @@
-ghost use Rattle.std.specs.Prelude.{◌≡◌, ◌<◌, ◌+◌};
+ghost use Rattle.std.specs.Prelude.{◌<◌};
 ghost use Rattle.rd_geometry.specs.CpmDisks.{cpm_bytes};
 ghost use Rattle.rd_cpm.specs.Entries.{slot_of};
 ghost use Rattle.rd_cpm.specs.Owners.{IsOwner, AreOwners};

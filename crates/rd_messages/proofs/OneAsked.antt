@@ -1,5 +1,5 @@
 -- Bytes ask for one thing.
-use Rattle.std.proofs.Common.{◌≡◌, inl, inr, ℕ, ◌<◌, List, Option, Some, None, IsSomeAnd, MatchOption, ◌⊎◌, arith, ap, option_map, refl, subst, sym, ◌∙◌, get_or, [], ◌∷◌, ◌-◌}
+use Rattle.std.proofs.Common.{◌≡◌, inl, inr, ℕ, ◌<◌, List, Option, Some, None, IsSomeAnd, MatchOption, ◌⊎◌, arith, ap, option_map, refl, subst, sym, ◌∙◌}
 use Rattle.httparse.specs.Grammar.{RequestHead}
 use Rattle.httparse.proofs.GrammarLemmas.{request_unique}
 use Rattle.sha2.specs.Sha256.{sha256}
@@ -7,7 +7,7 @@ use Rattle.rd_protocol.specs.Requests.{IsRequest}
 use Rattle.rd_protocol.specs.declared.request.Request.{Request}
 use Rattle.rd_protocol.specs.declared.request.What.{What}
 use Rattle.rd_protocol.specs.declared.request.What.TheVariants as what
-use Rattle.rd_messages.specs.Asked.{Asked, Asks, Fails, Holds, IsAsked, IsFaultOf, IsRequestOf, IsWhat, OneAsked, request, fault}
+use Rattle.rd_messages.specs.Asked.{Asks, Fails, Holds, IsFaultOf, IsRequestOf, IsWhat, OneAsked, request, fault}
 use Rattle.rd_messages.specs.Faults.{number_of}
 use Rattle.rd_messages.specs.Framing.{IsWhole}
 use Rattle.rd_messages.specs.Heads.{BeginsWith}

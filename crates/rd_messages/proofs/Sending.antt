@@ -1,5 +1,5 @@
 -- What of a text has gone out.
-use Rattle.std.proofs.Common.{◌≡◌, ◌∙◌, ℕ, ◌+◌, ◌-◌, ◌<◌, ◌≤◌, List, [], ◌∷◌, ◌++◌, IfSome, IsErr, IsOk, None, Option, Result, Some, Ok, Err, append-nil, append_assoc, codes, drop, length, length-append, length-drop, refl, take, subst, sym, ap, arith}
+use Rattle.std.proofs.Common.{◌≡◌, ◌∙◌, ℕ, ◌+◌, ◌-◌, ◌<◌, ◌≤◌, List, [], ◌∷◌, ◌++◌, IfSome, IsErr, IsOk, None, Option, Result, Some, Ok, Err, append-nil, append_assoc, drop, length, length-append, length-drop, refl, take, subst, sym, ap, arith}
 use Rattle.std.specs.List.{concat}
 use Rattle.std.specs.Io.KnownBytes.{Appends, Keeps}
 use Rattle.std.proofs.KnownBytes.{Appends-kept, Appends-trans}

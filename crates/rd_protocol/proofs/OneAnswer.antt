@@ -6,7 +6,6 @@ use Rattle.rd_geometry.specs.declared.kind.Kind.{Kind}
 use Rattle.rd_geometry.specs.declared.kind.Kind.TheVariants.{Cpm8}
 use Rattle.rd_policy.specs.Verdicts.{IsVerdict}
 use Rattle.rd_policy.specs.declared.audience.Audience.{Audience}
-use Rattle.rd_policy.specs.declared.rule.Effect.TheVariants.{Read}
 use Rattle.rd_policy.specs.declared.rule.Rule.{Rule}
 use Rattle.rd_policy.specs.declared.verdict.Label.{Label}
 use Rattle.rd_policy.specs.declared.verdict.Label.TheVariants.{Default}

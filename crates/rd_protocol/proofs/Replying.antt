@@ -1,5 +1,5 @@
 -- Each request has a reply: the file that it asks for, the first reason to refuse it or none, and what is said to it.
-use Rattle.std.proofs.Common.{◌≡◌, ◌≢◌, ◌⊎◌, inl, inr, ◌∙◌, ◌<◌, ℕ, ℤ, List, [], ◌∷◌, All, Bool, true, false, Contains, IsSomeAnd, Option, Some, None, ap, length, map, refl, subst, sym}
+use Rattle.std.proofs.Common.{◌≡◌, ◌≢◌, ◌⊎◌, inl, inr, ◌∙◌, ℕ, ℤ, List, [], ◌∷◌, All, Bool, true, false, Contains, IsSomeAnd, Option, Some, None, ap, length, map, refl, subst, sym}
 use Rattle.std.specs.FinMap.{entries, entries_sorted, get, get-entries, keys}
 use Rattle.std.specs.List.{AllZip}
 use Rattle.std.proofs.lemmas.Bool.{cases_eq}
@@ -13,7 +13,7 @@ use Rattle.rd_policy.specs.Verdicts.{AreInOrder, IsVerdict}
 use Rattle.rd_policy.specs.declared.audience.Audience.{Audience}
 use Rattle.rd_policy.specs.declared.audience.Audience.TheVariants.{Staff}
 use Rattle.rd_policy.specs.declared.rule.Effect.{Effect}
-use Rattle.rd_policy.specs.declared.rule.Effect.TheVariants.{Deny, Read}
+use Rattle.rd_policy.specs.declared.rule.Effect.TheVariants.{Read}
 use Rattle.rd_policy.specs.declared.rule.Rule.{Rule}
 use Rattle.rd_policy.specs.declared.verdict.Label.{Label}
 use Rattle.rd_policy.specs.declared.verdict.Verdict.{Verdict}
@@ -29,12 +29,12 @@ use Rattle.rd_protocol.specs.declared.rows.DeedRow.{DeedRow}
 use Rattle.rd_protocol.specs.declared.rows.ImageRow.{ImageRow}
 use Rattle.rd_protocol.proofs.RulesFor.{for_in_order, key_listed, key_stands}
 use Rattle.rd_protocol.specs.Checks.{outcome_of}
-use Rattle.rd_protocol.specs.Judged.{Conflicts, Holds, IsAccepted, IsAsked, IsJudgedFile, IsRefused, IsRefusedOn, JudgedFile, PassesTo, accession_of, audience_of, deed_of, file_of, image_of}
+use Rattle.rd_protocol.specs.Judged.{Conflicts, Holds, IsAccepted, IsAsked, IsJudgedFile, IsRefused, JudgedFile, PassesTo, accession_of, audience_of, deed_of, file_of, image_of}
 use Rattle.rd_protocol.specs.Laws.{EachReply, HoldsBytes}
 use Rattle.rd_protocol.specs.Lent.{Lent, bytes_lent}
 use Rattle.rd_protocol.specs.Queries.{AreLinesOf, AreLinesOfEach, IsCounted}
 use Rattle.rd_protocol.specs.Refusals.{number_of}
-use Rattle.rd_protocol.specs.Replies.{AreImageLines, AreLines, AreListings, IsAnswered, IsDone, IsListing, IsReply, IsSurvey, LendsFile, Tells, carried_out}
+use Rattle.rd_protocol.specs.Replies.{AreImageLines, AreLines, AreListings, IsAnswered, IsListing, IsReply, IsSurvey, Tells, carried_out}
 use Rattle.rd_protocol.specs.Requests.{IsForStaff}
 use Rattle.rd_protocol.specs.Texts.{reply_of}
 use Rattle.rd_protocol.specs.declared.refusal.Refusal.{Refusal}

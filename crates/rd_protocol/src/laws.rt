@@ -27,24 +27,22 @@ pub fn same_again()
     ensures { SameAgain }
 {}
 
-/// Law: a request has the same reply in each desk that looks alike to its caller: one that has the
-/// same keys and rules, and, at the same accessions, images of the same kinds and deeds that agree on
-/// the bytes needed to describe their files and to serve those that the caller may read. So no other
-/// byte of an image reaches the caller in a reply. It says nothing of what only the staff may ask,
-/// where the staff asks it.
+/// Law: two desks that look alike to a caller give the same reply to their request. Desks look alike to a caller if they
+/// have the same keys and rules and, at the same accessions, images of the same kinds and deeds. These images have the
+/// same bytes wherever a byte is needed to describe the files, or to serve a file that the caller may read. So no other
+/// byte of an image reaches the caller in a reply. The law leaves out what the staff asks and only the staff may ask.
 pub fn hidden_bytes_are_not_told()
     ensures { HiddenBytesAreNotTold }
 {}
 
-/// Law: a request has the same reply in each desk that shows the same to its caller: one that has
-/// the same keys and, at the same accessions, images of the same kinds and deeds, which show the
-/// same. An image shows at which slots its files are; of a file that is denied the label of the
-/// rule; of any other its description and its units, with the verdict on it; and of one that the
-/// caller may read the bytes, if it is sound. So no reply shows the caller more of the name, size,
-/// type and faults of a file that is denied to them than the label of the rule or a crossed file
-/// shows. It says nothing of what only the staff may ask, where the staff asks it.
+/// Law: two desks that show the same to a caller give the same reply to their request. Desks show the same to a caller if
+/// they have the same keys and, at the same accessions, images of the same kinds and deeds that show the same. An image
+/// shows the slots of its files. Of a file that is denied it shows the label of the rule, and of any other file its
+/// description, its units and the verdict on it. Of a sound file that the caller may read it also shows the bytes. So a
+/// reply shows of the name, size, type and faults of a denied file only what the label of the rule or a crossed file
+/// shows. The law leaves out what the staff asks and only the staff may ask.
 ///
-/// A desk shows the same as itself, and so does each desk that looks alike to the caller.
+/// A desk shows the same as itself, and so do two desks that look alike to the caller.
 pub fn what_is_shown_decides()
     ensures decides { WhatIsShownDecides }
     ensures itself { ShowsItself }

@@ -12,9 +12,9 @@ ghost use Rattle.rd_protocol.specs.State.{Desk};
 
 use crate::faults::OpenFault;
 
-/// Law: what a crash leaves of a desk is consistent, so `open` and `migrate` refuse a database of these rows by `Sql`
-/// alone. By `Sql` alone `migrate` also refuses each database of consistent tables of version 1 or 2, and a crash of
-/// `migrate` leaves one of these.
+/// Law: what a crash leaves of a desk is consistent. So `open` and `migrate` refuse a database with these rows only by
+/// `Sql`. `migrate` also refuses a database with consistent tables of version 1 or 2 only by `Sql`, and a crash of
+/// `migrate` leaves such a database.
 pub fn left_desks_open()
     ensures consistent { (desk : Desk) (left : Trees) → IsLeft desk left → IsConsistent left }
     ensures opened { (desk : Desk) (left : Trees) → IsLeft desk left → (fault : Fault)

@@ -3,7 +3,6 @@ ghost use Rattle.sqlite.specs.declared.types.Value.TheVariants.{Int, Text as Wor
 ghost use Rattle.sqlite.specs.Order.{column};
 ghost use Rattle.sqlite.specs.Values.{or_null};
 ghost use Rattle.sqlite_value.specs.Order.{bytes};
-ghost use Rattle.rd_tables.specs.Sheets.{natural};
 ghost use Rattle.rd_store.specs.Codes.{kind_in, band_in, effect_in, audiences_in, audience_in, class_in, select_in, units_in};
 
 use crate::faults::StoreFault;

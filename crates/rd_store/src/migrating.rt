@@ -1,8 +1,7 @@
 //! Bringing a desk from the tables of version 1 to those of version 2.
 
-ghost use Rattle.std.specs.Prelude.{◌≡◌, ◌≢◌, IfOk, IfErr, MatchBool, false, true};
+ghost use Rattle.std.specs.Prelude.{◌≡◌, IfOk, IfErr, false};
 ghost use Rattle.sqlite.specs.Held.{state};
-ghost use Rattle.rd_tables.specs.Schemas.{has_desk_columns, has_foreign_desk, may_be_desk};
 ghost use Rattle.rd_store.specs.Created.{IsAt, Turns};
 ghost use Rattle.rd_store.specs.Held.{HoldsDesk, IsOf, IsOpen, Moves};
 ghost use Rattle.rd_store.specs.Migrated.{IsFirst, IsHalfway, IsMigrated, IsNotMigrated, first_desk};

@@ -192,10 +192,10 @@ impl<S: Alter> Store<S> {
         images::image(alloc, &mut self.conn, acc)
     }
 
-    /// The image of an accession, 1 to 999,999; `None` where there is none. It is what `image` gives, for a caller
-    /// who asks for one accession again and again, as for the files of a disk one after the other. An image that
-    /// is asked for twice in a row is kept in memory and read from there, until a caller asks here for another.
-    /// Where there is no memory to keep it, it is read from its row each time.
+    /// The image of an accession, 1 to 999,999; `None` where there is none. The answer is that of `image`. This
+    /// function is for callers who ask for one accession again and again, as for one file of a disk after the other:
+    /// an image that is asked for twice in a row stays in memory, and is read from there until a caller asks here for
+    /// another. If there is no memory to keep it, it is read from its row each time.
     ///
     /// It fails with `Sql`.
     pub fn image_again(&mut self, alloc: Global, acc: u32) -> Result<Option<ImageRow>, StoreFault>

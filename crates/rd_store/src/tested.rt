@@ -1,4 +1,4 @@
-ghost use Rattle.std.specs.Prelude.{◌≡◌, ◌↔◌, All, Any, MatchBool};
+ghost use Rattle.std.specs.Prelude.{◌≡◌, All, Any, MatchBool};
 ghost use Rattle.std.specs.List.Sorted.{IsNonDecreasing};
 ghost use Rattle.sqlite.specs.Order.{column};
 ghost use Rattle.rd_store.specs.Cells.{HasErrorBytes, HasParts, IsCheckRow, IsDeedRow, IsFiledRow, IsImageRow, IsKeyRow, IsMarksRow, IsRuleRow, IsSelectAt, IsStaffRow, is_band, is_size_of};

@@ -1,20 +1,16 @@
 -- Each image of bytes has a survey and a report, and each slot is a file's or not.
 use Rattle.std.proofs.Common.{◌≡◌, ◌-◌, ◌*◌, ◌<◌, ℕ, List, [], All, None, Some, length, refl, subst, true}
-use Rattle.rd_geometry.specs.Blocks.{index_of}
 use Rattle.rd_geometry.specs.declared.kind.Kind.{Kind}
 use Rattle.rd_geometry.specs.declared.kind.Kind.TheVariants.{Cpm8, D64}
 use Rattle.rd_geometry.proofs.Deciding.{Decided, decided_as, decided_both, decided_not, decided_same, fails, flag, flag_is, holds, items_below}
 use Rattle.rd_cbm.specs.Counts.{IsCount}
-use Rattle.rd_cbm.specs.Entries.{ClaimsBy, Data, IsServed, Way, class_of, entry_at, name_of as cbm_name, size_field_of, start_of, type_of}
+use Rattle.rd_cbm.specs.Entries.{Data, IsServed, Way, class_of, entry_at, name_of as cbm_name, size_field_of, start_of, type_of}
 use Rattle.rd_cbm.specs.Faults.{HasNoFault, IsSound as IsSoundCbm}
 use Rattle.rd_cbm.specs.Files.{AreDirectoryBlocks, Claims, IsFileSlot as IsCbmSlot}
-use Rattle.rd_cbm.specs.Links.{link_of}
-use Rattle.rd_cbm.specs.Walks.{EndsBy}
 use Rattle.rd_cbm.specs.declared.chains.End.{End}
 use Rattle.rd_cbm.specs.declared.chains.End.TheVariants as end
 use Rattle.rd_cbm.specs.declared.report.MapReport.{MapReport}
 use Rattle.rd_cbm.proofs.Deciding as cbm
-use Rattle.rd_cbm.proofs.Existence.{HasEnd}
 use Rattle.rd_cbm.proofs.MapLemmas.{count_once}
 use Rattle.rd_cpm.specs.Contents.{bytes_of_sectors}
 use Rattle.rd_cpm.specs.Entries.{first_of, name_of as cpm_name, plain, slot_of}

@@ -1,4 +1,4 @@
-use Rattle.std.proofs.Common.{◌≡◌, ◌∙◌, inl, inr, map, refl, subst, sym}
+use Rattle.std.proofs.Common.{◌≡◌, ◌∙◌, inl, inr, map, subst, sym}
 use Rattle.clap.specs.Words.{app_of, subcommand_rows_of}
 use Rattle.rd_commands.specs.Asks.{IsFaultOf}
 use Rattle.rd_commands.specs.Commands.{TellsARule}

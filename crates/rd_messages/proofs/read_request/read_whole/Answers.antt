@@ -1,6 +1,5 @@
-use Rattle.std.proofs.Common.{◌≡◌, ◌∙◌, List, Option, None, Some, ap, option_map, refl, sym, rules}
-use Rattle.sha2.specs.Sha256.{sha256}
-use Rattle.rd_messages.specs.Routes.{method_named, methods_of}
+use Rattle.std.proofs.Common.{◌∙◌, Some, ap, sym, rules}
+use Rattle.rd_messages.specs.Routes.{method_named}
 use Rattle.rd_messages.proofs.OneAsked.{what_asked}
 use Rattle.rd_messages.proofs.read_request.read_whole.Goals as goal
 
