@@ -2,15 +2,15 @@
 """bench/callgrind.py NAME=PROGRAM [NAME=PROGRAM ..] [--tree]: which crates a visit's instructions are spent in.
 
 Each PROGRAM is a desk. The visits of bench/visits.py are made of it under valgrind's callgrind, and of the C program
-beside it (visits.c): 12 of them in one run and 2 in another, and the difference is that of 10 visits. Takedowns are
-made of desks alone, because the C program only reads. You need valgrind, gcc and the headers of SQLite; as root, the
-script installs them if they are missing.
+beside it (visits.c): 12 of them in one run and 2 in another, and the difference is that of 10 visits. Desks alone are
+asked for the catalogue and for takedowns, because the C program answers no such request. You need valgrind, gcc and
+the headers of SQLite; as root, the script installs them if they are missing.
 
 Instructions are counted by the crate of the symbol that they lie in, so that what the compiler has moved into another
 function counts as that function's. Copies by the C library (memcpy, memmove) are told apart on both sides: callgrind
 counts one instruction for each byte of `rep movsb`, so a copy looks dearer than it is. What is printed are shares of
-the whole of the C program, its copies left out; of takedowns, shares of the desk's own whole. --tree also prints the
-functions of each crate.
+the whole of the C program, its copies left out; where desks alone are asked, shares of the desk's own whole. --tree
+also prints the functions of each crate.
 
 It fails where, of the desk that is named last, the crates of its own take more than the whole of the C program for a
 question, or a function of rd_cpm or rd_cbm is called at such a visit; and where there is no C program beside it. Where
@@ -191,7 +191,7 @@ def measure(bench, case, folder, shows_tree):
     profiles = {name: profile_of(bench, name, case, folder) for name in bench.names_for(case)}
     told = {name: by_crate(profile) for name, profile in profiles.items()}
     beside = told.get(visits.C_NAME)
-    if beside is None and not isinstance(case, visits.Takedown):
+    if beside is None and not case.for_desks:
         missed.append(f"{case.title}: there is no C program to compare with")
     desks = [name for name in profiles if name != visits.C_NAME]
     for name in desks:
@@ -215,7 +215,7 @@ def main():
     parser.add_argument("--tree", action="store_true")
     words = parser.parse_args()
     tools.install(NEEDED, PACKAGES)
-    told = visits.cases(False) + visits.takedowns()
+    told = visits.cases(False) + visits.cases_for_desks()
     missed = []
     with tempfile.TemporaryDirectory() as folder:
         shelves = list(dict.fromkeys(case.shelf for case in told))

@@ -32,10 +32,11 @@ C_NAME = "C program"
 
 
 class Case:
-    """A question: which store is asked, by which path at a visit of some number, how the reply begins and ends, and how
-    many visits of it are left out and measured."""
+    """A question: which store is asked, by which path at a visit of some number, how the reply begins and ends, how
+    many visits of it are left out and measured, and whether it is one for desks alone, which the C program has no
+    answer to."""
 
-    def __init__(self, title, shelf, path_at, status, length, few=100, many=2000):
+    def __init__(self, title, shelf, path_at, status, length, few=100, many=2000, for_desks=False):
         self.title = title
         self.shelf = shelf
         self.path_at = path_at
@@ -43,6 +44,7 @@ class Case:
         self.length = length
         self.few = few
         self.many = many
+        self.for_desks = for_desks
 
     def asked(self, number):
         """The bytes of the visit of a number, counted from 0."""
@@ -76,18 +78,20 @@ def disk_after_disk(number):
 
 class Takedown(Case):
     """A takedown in place of the one that each accession of a shelf has, of the accession that is given for a visit of
-    some number. It is the same takedown, so the store stays as it is. Only desks do this: the C program only reads."""
+    some number. It is the same takedown, so the store stays as it is."""
 
     def __init__(self, title, accession_at):
-        done = len('{"done":true}')
-        super().__init__(title, "100", lambda number: f"/images/{accession_at(number)}/rules/1", 200, done)
+        path_at, done = lambda number: f"/images/{accession_at(number)}/rules/1", len('{"done":true}')
+        super().__init__(title, "100", path_at, 200, done, for_desks=True)
 
     def asked(self, number):
         return rooms.question("PUT", self.path_at(number), rooms.STAFF, rooms.TAKEDOWN)
 
 
-def takedowns():
+def cases_for_desks():
+    """Questions that the C program has no answer to: it only reads, and writes no CSV."""
     return [
+        Case("catalogue, 100 accessions", "100", always("/catalogue"), 200, None, for_desks=True),
         Takedown("takedowns, 100 disks", lambda number: number % 100 + 1),
         Takedown("takedowns of one disk", lambda _: 50),
     ]
@@ -137,7 +141,7 @@ class Bench:
 
     def names_for(self, case):
         """The programs that a case is for."""
-        return [name for name in self.commands if name != C_NAME or not isinstance(case, Takedown)]
+        return [name for name in self.commands if name != C_NAME or not case.for_desks]
 
     def serve(self, name, shelf, count):
         return rooms.Server(self.commands[name], self.stores[name, shelf], count)
