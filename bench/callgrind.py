@@ -12,10 +12,10 @@ counts one instruction for each byte of `rep movsb`, so a copy looks dearer than
 the whole of the C program, its copies left out; where desks alone are asked, shares of the desk's own whole. --tree
 also prints the functions of each crate.
 
-It fails where, of the desk that is named last, the crates of its own take more than the whole of the C program for a
-question, or a function of rd_cpm or rd_cbm is called at such a visit; and where there is no C program beside it. Where
-two desks are named, it also prints the ratio of the last to the first: of their own crates alone, of the whole without
-and with copies, and of all without what reading rows of the table `image` takes."""
+It fails where the desk that is named last takes more in its own crates than the whole of the C program for a question
+that both answer, where that desk calls a function of rd_cpm or rd_cbm for any question, and where no C program stands
+beside it. Where two desks are named, it also prints the ratio of the last to the first: of their own crates alone, of
+the whole without and with copies, and of all without what reading rows of the table `image` takes."""
 
 import argparse
 import collections
@@ -168,7 +168,8 @@ def tell_tree(profile):
 
 
 def tell_pair(case, profiles):
-    """Prints the ratio of the last desk to the first, of their own crates and without the reading of images' rows."""
+    """Prints the ratios of the last desk to the first: of their own crates, of the whole without and with copies, and of
+    all without the reading of images' rows."""
     names = [name for name in profiles if name != visits.C_NAME]
     if len(names) < 2:
         return

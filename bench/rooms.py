@@ -66,10 +66,21 @@ def few_files():
     return {1: disk([(b"LONG", numbered(LONG_SIZE))]), 2: disk(short), CROWD: images.crowded_d64()}
 
 
-def shelf(count):
-    """As many accessions, each of a 1541 disk with eight files."""
-    image = disk([(b"FILE %d" % n, numbered(2000 + 500 * n, n + 3)) for n in range(7)] + [(b"SECRET", numbered(900))])
-    return {acc: marked(image, acc) for acc in range(1, count + 1)}
+class Shelf:
+    """As many accessions, from 1 on, each of a 1541 disk with eight files. Its images are made as they are asked for,
+    so that a long shelf takes little memory."""
+
+    def __init__(self, count):
+        self.count = count
+        files = [(b"FILE %d" % n, numbered(2000 + 500 * n, n + 3)) for n in range(7)]
+        self.image = disk(files + [(b"SECRET", numbered(900))])
+
+    def __getitem__(self, acc):
+        return marked(self.image, acc)
+
+    def items(self):
+        """The accessions and their images."""
+        return ((acc, self[acc]) for acc in range(1, self.count + 1))
 
 
 # Visits
@@ -180,9 +191,8 @@ def filling(accessions):
 def fill(program, store, accessions):
     """Makes a store and fills it, by the desk's own commands."""
     subprocess.run([program, "init", "--store", store, "--key", STAFF], check=True, stdout=subprocess.DEVNULL)
-    asked = list(filling(accessions))
-    server = Server(desk_serves(program), store, len(asked))
-    for method, path, body in asked:
+    server = Server(desk_serves(program), store, sum(1 for _ in filling(accessions)))
+    for method, path, body in filling(accessions):
         reply = server.visit(question(method, path, STAFF, body))
         if body_of(reply) != b'{"done":true}':
             sys.exit(f"{method} {path}: {reply[:500]!r}")

@@ -41,7 +41,7 @@ def questions(size):
     """What is asked of a store of a size."""
     acc = size // 2
     rule = rooms.rule("public", "deny", slot=3)
-    image = rooms.shelf(1)[1]
+    image = rooms.Shelf(1).image
     return [
         Question("a denied file", lambda n: ("GET", f"/images/{acc}/files/7", None), rooms.ROOM, 403),
         Question("a file of 2,000 bytes", lambda n: ("GET", f"/images/{acc}/files/0", None)),
@@ -94,7 +94,7 @@ def size_of(store):
 def measure(program, size, visits, folder):
     """What a store of a size costs, by what it is, and its memory for each byte of its files."""
     store = os.path.join(folder, f"{size}.sqlite")
-    rooms.fill(program, store, rooms.shelf(size))
+    rooms.fill(program, store, rooms.Shelf(size))
     seconds, memory = opening(program, store)
     costs = {"opening: time": seconds, "opening: memory": memory}
     for_each_byte = memory / size_of(store)

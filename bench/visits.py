@@ -78,11 +78,15 @@ def disk_after_disk(number):
 
 class Takedown(Case):
     """A takedown in place of the one that each accession of a shelf has, of the accession that is given for a visit of
-    some number. It is the same takedown, so the store stays as it is."""
+    some number. It is the same takedown, so the desk stays as it is; its row moves to the end of its table."""
 
     def __init__(self, title, accession_at):
-        path_at, done = lambda number: f"/images/{accession_at(number)}/rules/1", len('{"done":true}')
-        super().__init__(title, "100", path_at, 200, done, for_desks=True)
+        done = len('{"done":true}')
+        super().__init__(title, "100", self.path_of, 200, done, for_desks=True)
+        self.accession_at = accession_at
+
+    def path_of(self, number):
+        return f"/images/{self.accession_at(number)}/rules/1"
 
     def asked(self, number):
         return rooms.question("PUT", self.path_at(number), rooms.STAFF, rooms.TAKEDOWN)
@@ -92,7 +96,7 @@ def cases_for_desks():
     """Questions that the C program has no answer to: it only reads, and writes no CSV."""
     return [
         Case("catalogue, 100 accessions", "100", always("/catalogue"), 200, None, for_desks=True),
-        Takedown("takedowns, 100 disks", lambda number: number % 100 + 1),
+        Takedown("takedowns, disk after disk", lambda number: number % 100 + 1),
         Takedown("takedowns of one disk", lambda _: 50),
     ]
 
@@ -113,7 +117,7 @@ def cases(thousand):
     return told
 
 
-SHELVES = {"few": rooms.few_files, "100": lambda: rooms.shelf(100), "1000": lambda: rooms.shelf(1000)}
+SHELVES = {"few": rooms.few_files, "100": lambda: rooms.Shelf(100), "1000": lambda: rooms.Shelf(1000)}
 
 
 class Bench:
@@ -210,7 +214,7 @@ def measure(bench, told, runs, part):
     print(f"{'question':26} {'desk':12} {'over':12} {'median':>7}  (least to most of {runs} runs)")
     for case in told:
         bench.check(case)
-        times = {name: [] for name in bench.commands}
+        times = {name: [] for name in bench.names_for(case)}
         for run in range(runs):
             names = list(times)
             for name in names[run % len(names) :] + names[: run % len(names)]:

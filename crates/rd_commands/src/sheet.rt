@@ -1,8 +1,8 @@
 //! The rows of a sheet: a table as CSV with the columns `accession`, `kind`, `deed`, `sha256` and
 //! `file`, and in each row an image to take in.
 
-ghost use Rattle.std.specs.Prelude.{◌≡◌, ◌≢◌, ◌↔◌, [], IfErr, IfNone, IfOk, IfSome, IsTrue, Ok, Some, false, option_map, true};
-ghost use Rattle.csv.specs.Reading.{ReadRecord, Ready, has_failed, reader_trim};
+ghost use Rattle.std.specs.Prelude.{◌≡◌, ◌≢◌, ◌↔◌, [], IfErr, IfNone, IfOk, IfSome, IsTrue, Ok, OnOk, Some, false, option_map, true};
+ghost use Rattle.csv.specs.Reading.{ReadRecord, ReadsOn, Ready, has_failed, reader_trim, took_first};
 ghost use Rattle.csv.specs.Records.{field_at, fields_of};
 ghost use Rattle.csv.specs.declared.reader.Trim.TheVariants as trim;
 ghost use Rattle.rd_policy.specs.Rules.{IsScope};
@@ -131,13 +131,17 @@ fn refusal_of(kind: &ErrorKind) -> Refusal
 /// fields as the first row read.
 ///
 /// It fails with `BadSheet` when a row has another number of fields, with `NoMemory`, and with
-/// `Device` when the reader fails, which one over a slice never does. After `BadSheet` the rows behind
-/// that one can still be read; after `NoMemory` or `Device` there are no more rows.
+/// `Device` when the reader fails, which one over a slice never does. After `BadSheet` the reader goes
+/// on with the row after that one. After `NoMemory` or `Device` it has failed: each later call gives
+/// `false` and empties the fields.
 pub fn next_row(reader: &mut Reader<&[u8]>, fields: &mut ByteRecord) -> Result<bool, Refusal>
     ensures refused { IfErr result IsReadRefusal }
     ensures read { IfOk result (λ found. reader_trim reader.old ≡ trim.None → Ready reader.old
         → ReadRecord (λ rest. Some rest.now) reader.old reader.new found (fields_of fields.new)) }
     ensures length { IfErr result (λ refusal. Ready reader.old → refusal ≡ Refusal.BadSheet → HasOtherLength reader.old reader.new) }
+    ensures goes_on { IfErr result (λ refusal. refusal ≡ Refusal.BadSheet → (has_failed reader.new ≡ false) × ReadsOn reader.old reader.new) }
+    ensures ready { reader_trim reader.old ≡ trim.None → OnOk result (took_first reader.new ≡ true) }
+    ensures kept { OnOk result (has_failed reader.new ≡ has_failed reader.old) }
     ensures stopped { IfErr result (λ refusal. Ready reader.old → refusal ≢ Refusal.BadSheet → has_failed reader.new ≡ true) }
     ensures over { has_failed reader.old ≡ true → (result ≡ Ok false) × (fields_of fields.new ≡ []) }
 {

@@ -61,10 +61,10 @@ check_recorded desk acc day found image outcome read is told =
     ap (λ (o : Outcome). with_check acc day o desk) told ∙ ap (λ (it : Option ImageRow). with_checked it acc day desk) (sym is ∙ read)
 
 -- a call that failed, and no answer after it
-pub failed_is_said : {X : Type 0} (told : Result ⊤ StoreFault) (fault : StoreFault) (result : Result Response X) → told ≡ Err fault → IsErr result → IsResponseAfter told result
-failed_is_said (Ok done) fault result is none = cc
-failed_is_said (Err why) fault (Ok answer) is none = let e : false ≡ true = none in cc
-failed_is_said (Err why) fault (Err other) is none = tt
+pub failed_after : {X : Type 0} (told : Result ⊤ StoreFault) (fault : StoreFault) (result : Result Response X) → told ≡ Err fault → IsErr result → IsResponseAfter told result
+failed_after (Ok done) fault result is none = cc
+failed_after (Err why) fault (Ok answer) is none = let e : false ≡ true = none in cc
+failed_after (Err why) fault (Err other) is none = tt
 
 refused_status : (refusal : Refusal) → status_of refusal ≢ 200
 refused_status UnknownKey is = omega (arith, is)

@@ -1,4 +1,4 @@
--- A request and its reply, from its answer.
+-- The reply to a request, from the answer.
 use Rattle.std.proofs.Common.{◌≡◌, ◌≢◌, ◌⊎◌, inl, inr, ◌∙◌, ℕ, ℤ, List, Option, Some, None, Result, Ok, Err, OnOk, refl, subst}
 use Rattle.sqlite.specs.Store.{Ghosts}
 use Rattle.sqlite.specs.Held.{Held}
@@ -24,7 +24,7 @@ use Rattle.rd_protocol.proofs.Hiding.{hides}
 use Rattle.rd_desk.proofs.OneChange.{one_change_written}
 use Rattle.rd_protocol.proofs.Showing.{tells_what_is_shown}
 
--- an answer after which the desk cannot have changed changes nothing
+-- a request whose answer is not of a change changes nothing
 changes_nothing : (old : Desk) (audience : Audience) (day : ℤ) (file : Option JudgedFile) (answer : Response) (what : What) → ¬ IsOfChange answer
     → Tells old audience day file answer what → carried_out day what old ≡ old
 changes_nothing old audience day file response.Done what other tells = absurd (other tt)

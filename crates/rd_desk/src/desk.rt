@@ -56,7 +56,7 @@ fn reply_with(alloc: Global, answer: Result<Response, Unavailable>) -> Reply
     match answer {
         Ok(Response::Done) => json::done(),
         Ok(Response::Checked(outcome)) => json::checked(outcome),
-        Ok(response) => match json::reply_to(alloc, response) {
+        Ok(answer) => match json::reply_to(alloc, answer) {
             Ok(reply) => reply,
             Err(_) => json::unavailable(),
         },

@@ -69,7 +69,7 @@ fn withheld(loaded: &AccessionRules, caller: &Caller, file: &Found) -> Option<Re
 }
 
 /// The answer about a file of an accession. It reads the image only if it serves the file.
-fn read_found<S: Alter>(
+fn answer_about<S: Alter>(
     store: &mut Store<S>,
     alloc: Global,
     loaded: &AccessionRules,
@@ -79,9 +79,9 @@ fn read_found<S: Alter>(
 ) -> Result<Response, Unavailable>
     requires order { AreInOrder loaded.now.rules }
     requires awake { IsClean S.Store store.old → IsOpen S.Store store.old }
-    ensures { Reads S.Store store.old store.new result (λ response. (image : ImageRow) → get (desk S.Store store.old).images acc ≡ Some image
+    ensures { Reads S.Store store.old store.new result (λ answer. (image : ImageRow) → get (desk S.Store store.old).images acc ≡ Some image
         → loaded.now.kind ≡ image.kind → IsFound image.kind image.bytes file
-        → IsRead (record { image = image; rules = loaded.now.rules }) caller.now.audience caller.now.day file.slot response) }
+        → IsRead (record { image = image; rules = loaded.now.rules }) caller.now.audience caller.now.day file.slot answer) }
 {
     store.at_rest();
     if let Some(refusal) = withheld(loaded, caller, &file) {
@@ -100,12 +100,12 @@ fn read<S: Alter>(
     slot: u16,
 ) -> Result<Response, Unavailable>
     requires order { AreInOrder loaded.now.rules }
-    ensures { Reads S.Store store.old store.new result (λ response. (image : ImageRow) → get (desk S.Store store.old).images acc ≡ Some image
+    ensures { Reads S.Store store.old store.new result (λ answer. (image : ImageRow) → get (desk S.Store store.old).images acc ≡ Some image
         → loaded.now.kind ≡ image.kind
-        → IsRead (record { image = image; rules = loaded.now.rules }) caller.now.audience caller.now.day slot response) }
+        → IsRead (record { image = image; rules = loaded.now.rules }) caller.now.audience caller.now.day slot answer) }
 {
     match store.found_at(alloc, acc, slot)? {
-        Some(file) => read_found(store, alloc, loaded, caller, acc, file),
+        Some(file) => answer_about(store, alloc, loaded, caller, acc, file),
         None => Ok(Response::Refused(Refusal::NoFile)),
     }
 }

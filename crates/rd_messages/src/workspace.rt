@@ -1,8 +1,8 @@
 use crate::kept_router::KeptRouter;
 use httparse::spans::{EMPTY_HEADER_SPAN, HeaderSpan};
 
-/// What one visit leaves to the next, so that none makes it anew: room for the head of a request and for its fields, and
-/// the router of paths. No visit reads what an earlier one left in the room.
+/// What visits use one after the other, so that none makes it anew: room for the head of a request and for its fields,
+/// and the router of paths. No visit reads what an earlier one left in the room.
 #[derive(Drop)]
 pub struct Workspace {
     pub(crate) head: [u8; 8_192],

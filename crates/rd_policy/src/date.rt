@@ -53,8 +53,8 @@ pub fn date_text(alloc: Global, day: i32) -> Result<String, NoMemory>
 /// The day of a date written as `2030-01-01`, counted from 1970-01-01.
 ///
 /// It fails with `BadDate` when the text is not a date of that form, from 0001-01-01 to 9999-12-31. It fails with
-/// `NoMemory` when memory runs out, which can happen only if `jiff` reads a date of these years in the text, perhaps in
-/// another form: the function then writes this date, and compares it with the text.
+/// `NoMemory` when memory runs out, which can happen only if `jiff` reads the text as a date of these years, in this form
+/// or another: the function then writes this date, and compares it with the text.
 pub fn date_read(alloc: Global, text: &str) -> Result<i32, DateFault>
     ensures day { IfOk result (λ day. IsDateOf day text.now) }
     ensures bad { IfErr result (λ fault. fault ≡ DateFault.BadDate → IsNoDate text.now) }

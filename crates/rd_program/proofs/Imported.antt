@@ -7,7 +7,7 @@ use Rattle.std.proofs.KnownBytes.{Appends-nil, Keeps-refl}
 use Rattle.rd_geometry.specs.declared.kind.Kind.{Kind}
 use Rattle.rd_commands.specs.Asks.{TellsInRows, TellsOnOutput}
 use Rattle.rd_commands.specs.Commands.{AsksInit, AsksServe, IsAskOf, IsImport}
-use Rattle.rd_program.specs.Importing.{GainsFront, GainsFrontOfLine, GainsLine, GainsLines, IsDoneLine, IsImportRefusal, IsRowLine, IsRowRefusal, RefusesImport, RefusesRow, RefusesRows, TellsRow, TellsRows, bad_row_line, word_line}
+use Rattle.rd_program.specs.Importing.{GainsFront, GainsFrontOfLine, GainsLine, GainsLines, IsDoneLine, IsImportRefusal, IsRowLine, IsRowRefusal, RefusesImport, RefusesRow, RefusesRows, TellsRow, TellsRows, bad_row_line, accession_line}
 use Rattle.rd_commands.specs.Output.{AppendsPart}
 use Rattle.rd_commands.specs.Refusals.{IsOfDevice, refusal_for, status_of}
 use Rattle.rd_program.specs.Serving.{IsOpenRefusal}
@@ -66,7 +66,7 @@ front_of old mid new rows front = record {
 
 -- nothing of a line
 pub none_of_line : (old : Option (List ℕ)) → GainsFrontOfLine old old
-none_of_line old = record { line = word_line 0 []; is = inl (0, [], refl); gained = none_written old old (word_line 0 []) (Keeps-refl old) }
+none_of_line old = record { line = accession_line 0 []; is = inl (0, [], refl); gained = none_written old old (accession_line 0 []) (Keeps-refl old) }
 
 -- nothing of any line
 front_kept : (old new : Option (List ℕ)) → GainsLines IsRowLine old new → GainsFront old new
@@ -75,8 +75,8 @@ front_kept old new rows = front_of old new new rows (none_of_line new)
 -- ---- one row
 
 -- what an accession's line is cut to
-pub word_front : (acc : ℕ) (word : List ℕ) (old new : Option (List ℕ)) → AppendsPart old new (word_line acc word) → GainsFrontOfLine old new
-word_front acc word old new part = record { line = word_line acc word; is = inl (acc, word, refl); gained = part }
+pub accession_front : (acc : ℕ) (word : List ℕ) (old new : Option (List ℕ)) → AppendsPart old new (accession_line acc word) → GainsFrontOfLine old new
+accession_front acc word old new part = record { line = accession_line acc word; is = inl (acc, word, refl); gained = part }
 
 of_device : (refusal : Refusal) → IsOfDevice refusal → IsRowRefusal refusal
 of_device Device is = inl refl
@@ -84,9 +84,9 @@ of_device NoMemory is = inr (inl refl)
 of_device refusal is = absurd is
 
 -- a line that fails
-pub word_refused : (acc : ℕ) (word : List ℕ) (refusal : Refusal) (old new : Option (List ℕ)) → IsOfDevice refusal → AppendsPart old new (word_line acc word)
+pub accession_refused : (acc : ℕ) (word : List ℕ) (refusal : Refusal) (old new : Option (List ℕ)) → IsOfDevice refusal → AppendsPart old new (accession_line acc word)
     → RefusesRow old new refusal
-word_refused acc word refusal old new is part = (of_device refusal is, word_front acc word old new part)
+accession_refused acc word refusal old new is part = (of_device refusal is, accession_front acc word old new part)
 
 pub bad_refused : (number : ℕ) (refusal : Refusal) (old new : Option (List ℕ)) → IsOfDevice refusal → AppendsPart old new (bad_row_line number)
     → RefusesRow old new refusal

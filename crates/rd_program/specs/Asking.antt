@@ -1,7 +1,7 @@
 -- What the commands `export` and `check` give.
 use Rattle.std.specs.Prelude.{◌≡◌, ◌⊎◌, ℕ, List, Option, codes}
 use Rattle.std.specs.Io.KnownBytes.{Appends, Keeps}
-use Rattle.rd_program.specs.Importing.{IsRowRefusal, word_line}
+use Rattle.rd_program.specs.Importing.{IsRowRefusal, accession_line}
 use Rattle.rd_program.specs.Serving.{IsClockRefusal, IsOpenRefusal}
 use Rattle.rd_commands.specs.declared.done.Done.{Done}
 use Rattle.rd_commands.specs.declared.done.Done.TheVariants.{InPart, Whole}
@@ -24,5 +24,5 @@ RefusesOnce old new refusal = (IsAskRefusal refusal × Keeps old new) ⊎ (refus
 
 -- the line of a check of an accession: its image is sound, or changed
 abbrev pub TellsCheck : ℕ → Option (List ℕ) → Option (List ℕ) → Done → Type 0
-TellsCheck acc old new Whole = Appends old new (word_line acc (codes "sound"))
-TellsCheck acc old new InPart = Appends old new (word_line acc (codes "changed"))
+TellsCheck acc old new Whole = Appends old new (accession_line acc (codes "sound"))
+TellsCheck acc old new InPart = Appends old new (accession_line acc (codes "changed"))

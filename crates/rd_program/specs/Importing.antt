@@ -11,9 +11,9 @@ use Rattle.rd_commands.specs.declared.done.Done.TheVariants.{InPart, Whole}
 use Rattle.rd_commands.specs.declared.refusal.Refusal.{Refusal}
 use Rattle.rd_commands.specs.declared.refusal.Refusal.TheVariants.{BadSheet, Device, NoMemory, Store}
 
--- the line of an accession and a word
-abbrev pub word_line : ℕ → List ℕ → List ℕ
-word_line acc word = decimal acc ++ (codes " " ++ (word ++ line_feed))
+-- the line of an accession, which says in a word what became of it
+abbrev pub accession_line : ℕ → List ℕ → List ℕ
+accession_line acc word = decimal acc ++ (codes " " ++ (word ++ line_feed))
 
 -- the line that says that the row with this number, from 1, is bad
 abbrev pub bad_row_line : ℕ → List ℕ
@@ -21,11 +21,11 @@ bad_row_line number = codes "row " ++ (decimal number ++ (codes " bad-row" ++ li
 
 -- a line that says that an image was taken in
 abbrev pub IsDoneLine : List ℕ → Type 0
-IsDoneLine line = (acc : ℕ) × (line ≡ word_line acc (codes "done"))
+IsDoneLine line = (acc : ℕ) × (line ≡ accession_line acc (codes "done"))
 
 -- a line that says what became of a row
 abbrev pub IsRowLine : List ℕ → Type 0
-IsRowLine line = ((acc : ℕ) × (word : List ℕ) × (line ≡ word_line acc word)) ⊎ ((number : ℕ) × (line ≡ bad_row_line number))
+IsRowLine line = ((acc : ℕ) × (word : List ℕ) × (line ≡ accession_line acc word)) ⊎ ((number : ℕ) × (line ≡ bad_row_line number))
 
 -- A writer has gained lines for which this holds.
 pub record GainsLines (P : List ℕ → Type 0) (old new : Option (List ℕ)) : Type 0 where

@@ -11,7 +11,7 @@ ghost use Rattle.rd_protocol.specs.Texts.{outcome_word};
 ghost use Rattle.rd_desk.specs.Served.{Serves};
 ghost use Rattle.rd_program.specs.Asking.{IsReplyRefusal, RefusesOnce, TellsCheck};
 ghost use Rattle.rd_commands.specs.Asks.{IsAskable, IsCheck, IsCheckOf};
-ghost use Rattle.rd_program.specs.Importing.{word_line};
+ghost use Rattle.rd_program.specs.Importing.{accession_line};
 ghost use Rattle.rd_program.specs.Leaves.{Checks, IsDayAt, IsOfOpenDesk, IsSame, Leaves, LeavesDesk, LeavesStore, NamesOpening, StepsOf};
 
 use crate::machine::Machine;
@@ -79,7 +79,7 @@ fn refusal_told(alloc: Global, reply: &Reply) -> Refusal
 
 /// The line that says what a check of the image of an accession found.
 fn found_text(alloc: Global, acc: u32, found: Outcome) -> Result<String, Refusal>
-    ensures line { IfOk result (λ line. string_bytes line ≡ word_line acc (outcome_word found)) }
+    ensures line { IfOk result (λ line. string_bytes line ≡ accession_line acc (outcome_word found)) }
     ensures refused { IfErr result (λ refusal. refusal ≡ Refusal.NoMemory) }
 {
     let mut line = String::new(alloc);

@@ -7,7 +7,7 @@ ghost use Rattle.sha2.specs.Sha256.{sha256};
 ghost use Rattle.rd_policy.specs.Days.{HasDay};
 ghost use Rattle.rd_policy.specs.Zones.{day_number};
 ghost use Rattle.rd_desk.specs.Served.{Serves};
-ghost use Rattle.rd_program.specs.Importing.{RefusesImport, RefusesRow, RefusesRows, TellsRow, TellsRows, bad_row_line, word_line};
+ghost use Rattle.rd_program.specs.Importing.{RefusesImport, RefusesRow, RefusesRows, TellsRow, TellsRows, bad_row_line, accession_line};
 ghost use Rattle.rd_program.specs.Leaves.{IsDayAt, IsOfOpenDesk, Leaves, LeavesDesk, LeavesStore, NamesOpening, TakesFields, TakesIn, TakesRow};
 ghost use Rattle.rd_commands.specs.Output.{AppendsPart};
 ghost use Rattle.rd_commands.specs.Refusals.{IsOfDevice};
@@ -58,12 +58,12 @@ fn put_image<S: Alter + Drop>(
     desk.answer(alloc, giver.seconds, &Request { badge, what })
 }
 
-/// Writes the line of an accession and a word, and flushes the output.
+/// Writes the line of an accession, which says in a word what became of its row, and flushes the output.
 ///
 /// It fails with `NoMemory`, and with `Device` when a write or the flush fails.
-fn tell_word<W: Write>(alloc: Global, acc: u32, word: &str, output: &mut W) -> Result<(), Refusal>
-    ensures done { OnOk result (Appends (W.contents output.old) (W.contents output.new) (word_line acc word.now)) }
-    ensures cut { OnErr result (AppendsPart (W.contents output.old) (W.contents output.new) (word_line acc word.now)) }
+fn tell_accession<W: Write>(alloc: Global, acc: u32, word: &str, output: &mut W) -> Result<(), Refusal>
+    ensures done { OnOk result (Appends (W.contents output.old) (W.contents output.new) (accession_line acc word.now)) }
+    ensures cut { OnErr result (AppendsPart (W.contents output.old) (W.contents output.new) (accession_line acc word.now)) }
     ensures refused { IfErr result IsOfDevice }
 {
     let mut line = String::new(alloc);
@@ -101,7 +101,7 @@ fn tell_refused<W: Write>(
     let Some(name) = error_name(&value) else {
         return Err(Refusal::Store);
     };
-    tell_word(alloc, acc, name, output)?;
+    tell_accession(alloc, acc, name, output)?;
     Ok(Done::InPart)
 }
 
@@ -120,7 +120,7 @@ fn tell_reply<W: Write>(
 {
     match reply.status {
         200 => {
-            tell_word(alloc, acc, "done", output)?;
+            tell_accession(alloc, acc, "done", output)?;
             Ok(Done::Whole)
         }
         503 => Err(Refusal::Store),

@@ -141,7 +141,7 @@ module _ (desk : Desk) (day : ℤ) (badge : Option (List ℕ)) (audience : Audie
       none (there judged.file (subst (λ (i : ImageRow). IsFound i.kind i.bytes judged.file) same asked.told) at)
 
   -- the answer to the request is what is said of its file
-  pub read_answered : (said : Response) → IsRead holding audience day slot said → IsAnswered desk day (record { badge = badge; what = Bytes acc slot }) said desk
+  pub read_answered : (answer : Response) → IsRead holding audience day slot answer → IsAnswered desk day (record { badge = badge; what = Bytes acc slot }) answer desk
   read_answered (Refused NoFile) none = (
     record {
       file = None;

@@ -464,17 +464,17 @@ module _ (desk other : Desk) (audience : Audience) (day : ℤ) (same : ShowsTheS
         → Tells desk audience day file answer what → TellsToo what
     tells_too Images question asked accepted tells =
         let told = told_images desk audience day file answer tells in
-        (answer, reads_itself (reply_of answer), subst (λ said. Tells other audience day file said Images) (sym told.1) (images_too told.0 told.2))
+        (answer, reads_itself (reply_of answer), subst (λ answer. Tells other audience day file answer Images) (sym told.1) (images_too told.0 told.2))
     tells_too (Listing acc) question asked accepted tells =
         let told = told_listing desk audience day file acc answer tells in
-        (answer, reads_itself (reply_of answer), subst (λ said. Tells other audience day file said (Listing acc)) (sym told.1) (listing_too desk other audience day same acc told.0 told.2))
+        (answer, reads_itself (reply_of answer), subst (λ answer. Tells other audience day file answer (Listing acc)) (sym told.1) (listing_too desk other audience day same acc told.0 told.2))
     tells_too (Bytes acc slot) question asked accepted tells =
         let told = told_bytes desk audience day file acc slot answer tells in
         let there = file_too badge caller acc slot file told.0 asked accepted told.2 told.3 in
         (response.File there.0, contents_read answer told.0 there.0 told.1 there.1, (told.2, there.2))
     tells_too Catalogue question asked accepted tells =
         let told = told_catalogue desk audience day file answer tells in
-        (answer, reads_itself (reply_of answer), subst (λ said. Tells other audience day file said Catalogue) (sym told.1) (listings_too told.0 told.2))
+        (answer, reads_itself (reply_of answer), subst (λ answer. Tells other audience day file answer Catalogue) (sym told.1) (listings_too told.0 told.2))
     tells_too what question asked accepted tells = absurd (question tt)
 
   module _ (request : Request) (of_caller : IsCallerOf desk request audience) (question : ¬ IsForStaff request.what) where

@@ -166,7 +166,7 @@ DONE = object (member (codes "done") (boolean true) no_members)
 
 -- a reply with this status, whose body is the text of this value
 abbrev pub in_json : ℕ → Data → Reply
-in_json status said = record { status = status; form = Json; body = held (compact_text said) }
+in_json status value = record { status = status; form = Json; body = held (compact_text value) }
 
 -- the reply that says the answer
 abbrev pub reply_of : Response → Reply

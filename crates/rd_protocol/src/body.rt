@@ -12,8 +12,8 @@ use rd_volume::Pieces;
 use std::marker::Model;
 use std::mem;
 
-/// The body of a reply. Contracts see its bytes. Of a file, they also see the image and the file from which the body
-/// lends its bytes; of any other body they see neither, because the bytes are its own.
+/// The body of a reply. Contracts see its bytes. Of a body that gives a file, they also see the image and the file from
+/// which it lends its bytes; of any other body they see neither, because the bytes are its own.
 #[derive(Drop)]
 pub struct Body {
     inner: Inner,

@@ -12,9 +12,9 @@ ghost use Rattle.rd_protocol.specs.State.{Desk};
 
 use crate::faults::OpenFault;
 
-/// Law: what a crash leaves of a desk is consistent. So `open` and `migrate` refuse a database with these rows only by
-/// `Sql`. `migrate` also refuses a database with consistent tables of version 1 or 2 only by `Sql`, and a crash of
-/// `migrate` leaves such a database.
+/// Law: what a crash leaves of a desk is consistent. So `open` and `migrate` can refuse a database with these rows with no
+/// fault but `Sql`. The same holds of `migrate` and a database with consistent tables of version 1 or 2; what a crash of
+/// `migrate` leaves is one, as its clause `crash` says.
 pub fn left_desks_open()
     ensures consistent { (desk : Desk) (left : Trees) → IsLeft desk left → IsConsistent left }
     ensures opened { (desk : Desk) (left : Trees) → IsLeft desk left → (fault : Fault)

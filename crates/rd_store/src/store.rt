@@ -193,9 +193,9 @@ impl<S: Alter> Store<S> {
     }
 
     /// The image of an accession, 1 to 999,999; `None` where there is none. The answer is that of `image`. This
-    /// function is for callers who ask for one accession again and again, as for one file of a disk after the other:
-    /// an image that is asked for twice in a row stays in memory, and is read from there until a caller asks here for
-    /// another. If there is no memory to keep it, it is read from its row each time.
+    /// function is for callers who ask for one accession again and again, as a reader does who takes file after file
+    /// of a disk: an image that is asked for twice in a row is kept in memory from then on, and read from there until
+    /// a caller asks here for another. If there is no memory to keep it, it is read from its row each time.
     ///
     /// It fails with `Sql`.
     pub fn image_again(&mut self, alloc: Global, acc: u32) -> Result<Option<ImageRow>, StoreFault>

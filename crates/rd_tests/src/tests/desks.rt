@@ -1,7 +1,7 @@
 //! Stores, and desks over a store in memory.
 
 use super::keys::STAFF_DIGEST;
-use super::tables::tables_of;
+use super::tables::{number, tables_of};
 use rd_desk::Desk;
 use rd_geometry::NoMemory;
 use rd_policy::Zone;
@@ -17,6 +17,9 @@ pub(super) type Memory = Desk<MemStore>;
 /// The rule of its clocks, those of central Europe.
 const CENTRAL: &str = "CET-1CEST,M3.5.0,M10.5.0/3";
 
+/// Asks how many tables and indexes stand.
+const MADE: &str = "SELECT count(*) FROM sqlite_master";
+
 /// The last second of 2029 by these clocks.
 pub(super) const BEFORE: i64 = 1_893_452_399;
 
@@ -30,7 +33,7 @@ pub(super) fn new_connection(alloc: Global) -> Result<Connection<MemStore>, NoMe
     Ok(Connection::open_in_memory(alloc)?)
 }
 
-pub(super) fn connection_again(alloc: Global) -> Result<Connection<MemStore>, NoMemory> {
+fn connection_again(alloc: Global) -> Result<Connection<MemStore>, NoMemory> {
     match new_connection(alloc) {
         Ok(conn) => Ok(conn),
         Err(NoMemory) => new_connection(alloc),
@@ -70,15 +73,25 @@ pub(super) fn new_store(rt: &impl Abort, alloc: Global) -> Result<Store<MemStore
     }
 }
 
-/// The same. What memory is refused for is tried once more.
-fn store_again(rt: &impl Abort, alloc: Global) -> Result<Store<MemStore>, Fail> {
-    match create(rt, connection_again(alloc)?) {
+/// The store that is made over a connection, at the second time where memory was refused at the first, which left no
+/// table.
+fn create_again(rt: &impl Abort, conn: Connection<MemStore>) -> Result<Store<MemStore>, Fail> {
+    match create(rt, conn) {
         Ok(store) => Ok(store),
-        Err((_, conn)) => match create(rt, conn) {
-            Ok(store) => Ok(store),
-            Err((fault, _)) => Err(Fail::from(fault)),
-        },
+        Err((fault, mut conn)) => {
+            assert_eq!(rt; fault, CreateFault::Sql);
+            assert_eq!(rt; number(&mut conn, MADE)?, 0);
+            match create(rt, conn) {
+                Ok(store) => Ok(store),
+                Err((fault, _)) => Err(Fail::from(fault)),
+            }
+        }
     }
+}
+
+/// The store of a new desk with one staff key. What memory is refused for is tried once more.
+pub(super) fn new_store_again(rt: &impl Abort, alloc: Global) -> Result<Store<MemStore>, Fail> {
+    create_again(rt, connection_again(alloc)?)
 }
 
 /// The desk over a store.
@@ -93,7 +106,7 @@ pub(super) fn new_desk(rt: &impl Abort, alloc: Global) -> Result<Memory, Fail> {
 
 /// The same. What memory is refused for is tried once more.
 pub(super) fn new_desk_again(rt: &impl Abort, alloc: Global) -> Result<Memory, Fail> {
-    desk_over(store_again(rt, alloc)?)
+    desk_over(new_store_again(rt, alloc)?)
 }
 
 fn into_connection(desk: Memory) -> Connection<MemStore> {

@@ -21,7 +21,7 @@ returns-in_ok-loaded-in-Some g c = record {
       let held = subst (λ (e : Desk). AreAccessionRules e c.args.acc loaded) (c.accession.ensures.reads.keeps.same found_open) (c.in_ok-loaded-in-Some.ensures.reads.answer held_open) in
       let standing : Standing = record { image = held.0; rules = loaded.rules } in
       if_ok c.read.result _ _
-      (λ said is badge known. read_answered d day badge audience c.args.acc c.args.slot standing known held.1 held.4 said (is held.0 (subst (λ (e : Desk). get e.images c.args.acc ≡ Some held.0) (sym same) held.1) held.2))
+      (λ answer is badge known. read_answered d day badge audience c.args.acc c.args.slot standing known held.1 held.4 answer (is held.0 (subst (λ (e : Desk). get e.images c.args.acc ≡ Some held.0) (sym same) held.1) held.2))
       (c.read.ensures.answer o);
   ends_open = search rules;
 }

@@ -7,7 +7,7 @@ use super::steps::{
 };
 use super::told::{HELLO, HELLO_TXT, LOOP};
 use super::{CPM, Desk, LOOPED, MARKED, PROGRAM, into_connection, migrate, run};
-use crate::tests::desks::{connection_again, create, open};
+use crate::tests::desks::{create, new_store_again, open};
 use crate::tests::tables::{first_tables_of, number, others_of, tables_of};
 use rd_geometry::{Kind, NoMemory};
 use rd_policy::{Audience, Band};
@@ -16,28 +16,6 @@ use sqlite::{Connection, Error, MemStore};
 use std::alloc::Global;
 use std::process::Abort;
 use std::test::Fail;
-
-/// Asks how many tables and indexes stand.
-const MADE: &str = "SELECT count(*) FROM sqlite_master";
-
-/// A desk that is made, at the second time where memory was refused at the first, which left no table.
-fn create_again(rt: &impl Abort, conn: Connection<MemStore>) -> Result<Desk, Fail> {
-    match create(rt, conn) {
-        Ok(desk) => Ok(desk),
-        Err((fault, mut conn)) => {
-            assert_eq!(rt; fault, CreateFault::Sql);
-            assert_eq!(rt; number(&mut conn, MADE)?, 0);
-            match create(rt, conn) {
-                Ok(desk) => Ok(desk),
-                Err((fault, _)) => Err(Fail::from(fault)),
-            }
-        }
-    }
-}
-
-fn new_desk_again(rt: &impl Abort, alloc: Global) -> Result<Desk, Fail> {
-    create_again(rt, connection_again(alloc)?)
-}
 
 /// Whether a step answers what it has to, or that memory was refused.
 fn taken(
@@ -73,7 +51,7 @@ fn assert_step_again(
 
 /// A new desk after the first steps, so many. They are counted from 0.
 fn made(rt: &impl Abort, alloc: Global, steps: &[Step<'_>], count: usize) -> Result<Desk, Fail> {
-    let mut desk = new_desk_again(rt, alloc)?;
+    let mut desk = new_store_again(rt, alloc)?;
     for (n, step) in steps.iter().enumerate() {
         if n < count {
             assert_step_again(rt, alloc, &mut desk, n, step)?;
@@ -140,7 +118,7 @@ fn assert_next(
 /// From a new desk on, each step answers as it must. A step at which memory is refused is taken once more. Steps are
 /// counted from 0.
 fn assert_steps_again(rt: &impl Abort, alloc: Global, steps: &[Step<'_>]) -> Result<Desk, Fail> {
-    let mut desk = new_desk_again(rt, alloc)?;
+    let mut desk = new_store_again(rt, alloc)?;
     for (n, step) in steps.iter().enumerate() {
         desk = assert_next(rt, alloc, desk, steps, (n, step))?;
     }

@@ -1,7 +1,7 @@
 use Rattle.std.proofs.Common.{rules, subst}
 use Rattle.rd_protocol.specs.Queries.{IsWithheld}
 use Rattle.rd_protocol.proofs.Reading.{served_read, withheld_read}
-use Rattle.rd_desk.proofs.queries.read_found.Goals as goal
+use Rattle.rd_desk.proofs.queries.answer_about.Goals as goal
 
 pub returns-in-Some : goal.returns-in-Some
 returns-in-Some g c = record {
