@@ -61,7 +61,12 @@ fn put_image<S: Alter + Drop>(
 /// Writes the line of an accession, which says in a word what became of its row, and flushes the output.
 ///
 /// It fails with `NoMemory`, and with `Device` when a write or the flush fails.
-fn tell_accession<W: Write>(alloc: Global, acc: u32, word: &str, output: &mut W) -> Result<(), Refusal>
+fn tell_accession<W: Write>(
+    alloc: Global,
+    acc: u32,
+    word: &str,
+    output: &mut W,
+) -> Result<(), Refusal>
     ensures done { OnOk result (Appends (W.contents output.old) (W.contents output.new) (accession_line acc word.now)) }
     ensures cut { OnErr result (AppendsPart (W.contents output.old) (W.contents output.new) (accession_line acc word.now)) }
     ensures refused { IfErr result IsOfDevice }
