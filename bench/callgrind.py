@@ -121,7 +121,7 @@ def profile_of(bench, name, case, folder):
                   "--compress-pos=no", "--dump-line=no"]
         server = rooms.Server(bench.commands[name], bench.stores[name, case.shelf], count, before)
         for number in range(count):
-            server.visit(case.asked(number))
+            bench.visit(server, case, number)
         server.end()
         profiles.append(read_profile(path))
     return profiles[0].minus(profiles[1])
@@ -168,8 +168,8 @@ def tell_tree(profile):
 
 
 def tell_pair(case, profiles):
-    """Prints the ratios of the last desk to the first: of their own crates, of the whole without and with copies, and of
-    all without the reading of images' rows."""
+    """Prints the ratios of the last desk to the first: of their own crates, of the whole without and with copies, and
+    of all without the reading of images' rows."""
     names = [name for name in profiles if name != visits.C_NAME]
     if len(names) < 2:
         return

@@ -23,7 +23,8 @@ LIMIT = 600
 C_PACKAGES = ["gcc", "libc6-dev", "libsqlite3-dev"]
 C_NEEDED = ["gcc", "/usr/include/stdio.h", "/usr/include/sqlite3.h"]
 
-# The files of the store for the questions about one accession: which slot of which, and what it is.
+# The files of the store for the questions about one accession: the accession and the slot of each, and of the crowded
+# disk the accession.
 LONG, SHORT, DENIED, CROWD = (1, 0), (2, 0), (2, 1), 3
 LONG_SIZE, SHORT_SIZE = 168656, 258
 
@@ -66,21 +67,29 @@ def few_files():
     return {1: disk([(b"LONG", numbered(LONG_SIZE))]), 2: disk(short), CROWD: images.crowded_d64()}
 
 
+# The files of each disk of a shelf: those that the reading room may read, and one that is denied to it.
+OPEN_FILES = [(b"FILE %d" % n, numbered(2000 + 500 * n, n + 3)) for n in range(7)]
+SHELF_DISK = disk([*OPEN_FILES, (b"SECRET", numbered(900))])
+
+
+def shelf_disk(acc):
+    """The image of an accession of a shelf, a 1541 disk with eight files."""
+    return marked(SHELF_DISK, acc)
+
+
 class Shelf:
-    """As many accessions, from 1 on, each of a 1541 disk with eight files. Its images are made as they are asked for,
-    so that a long shelf takes little memory."""
+    """So many accessions, from 1 on. Their images are made as they are asked for, so that a long shelf takes little
+    memory."""
 
     def __init__(self, count):
         self.count = count
-        files = [(b"FILE %d" % n, numbered(2000 + 500 * n, n + 3)) for n in range(7)]
-        self.image = disk(files + [(b"SECRET", numbered(900))])
 
-    def __getitem__(self, acc):
-        return marked(self.image, acc)
+    def __len__(self):
+        return self.count
 
     def items(self):
         """The accessions and their images."""
-        return ((acc, self[acc]) for acc in range(1, self.count + 1))
+        return ((acc, shelf_disk(acc)) for acc in range(1, self.count + 1))
 
 
 # Visits
@@ -115,7 +124,8 @@ def free_port():
 
 
 class Server:
-    """A server that this script started, which serves so many visits and ends."""
+    """A server that this script started, which serves so many visits and ends. Where it is not yet at its end when the
+    block that uses it is, it is killed."""
 
     def __init__(self, command, store, count, before=()):
         """The command is a function of the store's path, a port and the number of visits; before it come the words of
@@ -129,6 +139,13 @@ class Server:
             self.process.kill()
             sys.exit(f"{words} says {said!r}, {self.process.communicate()[1]!r}")
 
+    def __enter__(self):
+        return self
+
+    def __exit__(self, *_):
+        self.process.kill()
+        self.process.communicate()
+
     def visit(self, asked):
         return visit(self.port, asked)
 
@@ -140,10 +157,14 @@ class Server:
             sys.exit("no clock of the server's processor time")
         return time.clock_gettime(clock.value)
 
-    def most_memory(self):
-        """The most memory that it has had, in kilobytes."""
+    def memory(self, name):
+        """The memory that a field of its status shows, in kilobytes: VmRSS what it has now, VmHWM the most that it has
+        had."""
         with open(f"/proc/{self.process.pid}/status") as status:
-            return next(int(line.split()[1]) for line in status if line.startswith("VmHWM"))
+            return next(int(line.split()[1]) for line in status if line.startswith(name))
+
+    def most_memory(self):
+        return self.memory("VmHWM")
 
     def end(self):
         """Waits for its end, after its last visit."""
@@ -173,30 +194,40 @@ def rule(audiences, effect, **select):
 
 
 EVERYBODY = "public room staff"
+# No disk has a file at this slot, so the takedown hides none; but it is looked at for each file.
 TAKEDOWN = rule(EVERYBODY, "deny", slot=150)
+# A deed with its rules, and a key.
+FIRST_REQUESTS = [
+    ("PUT", f"/deeds/{DEED}", b'{"donor":"A. Curator","signed":"2019-05-04"}'),
+    ("PUT", f"/deeds/{DEED}/rules/10", rule("public room", "deny", prefix="SECRET")),
+    ("PUT", f"/deeds/{DEED}/rules/20", rule("public", "list", type="USR")),
+    ("PUT", f"/deeds/{DEED}/rules/30", rule(EVERYBODY, "read", all=True)),
+    ("PUT", f"/badges/{hashlib.sha256(ROOM.encode()).hexdigest()}", b'{"audience":"room"}'),
+]
+
+
+def put_of_image(acc, image):
+    """The method, path and body that put an image."""
+    return "PUT", f"/accessions/{acc}/d64/{DEED}/{hashlib.sha256(image).hexdigest()}", image
 
 
 def filling(accessions):
-    """The requests that fill a store: a deed with its rules, a key, images, and a takedown of each."""
-    yield "PUT", f"/deeds/{DEED}", b'{"donor":"A. Curator","signed":"2019-05-04"}'
-    yield "PUT", f"/deeds/{DEED}/rules/10", rule("public room", "deny", prefix="SECRET")
-    yield "PUT", f"/deeds/{DEED}/rules/20", rule("public", "list", type="USR")
-    yield "PUT", f"/deeds/{DEED}/rules/30", rule(EVERYBODY, "read", all=True)
-    yield "PUT", f"/badges/{hashlib.sha256(ROOM.encode()).hexdigest()}", b'{"audience":"room"}'
+    """The requests that fill a store: the first ones, images, and a takedown of each."""
+    yield from FIRST_REQUESTS
     for acc, image in accessions.items():
-        yield "PUT", f"/accessions/{acc}/d64/{DEED}/{hashlib.sha256(image).hexdigest()}", image
+        yield put_of_image(acc, image)
         yield "PUT", f"/images/{acc}/rules/1", TAKEDOWN
 
 
 def fill(program, store, accessions):
     """Makes a store and fills it, by the desk's own commands."""
     subprocess.run([program, "init", "--store", store, "--key", STAFF], check=True, stdout=subprocess.DEVNULL)
-    server = Server(desk_serves(program), store, sum(1 for _ in filling(accessions)))
-    for method, path, body in filling(accessions):
-        reply = server.visit(question(method, path, STAFF, body))
-        if body_of(reply) != b'{"done":true}':
-            sys.exit(f"{method} {path}: {reply[:500]!r}")
-    server.end()
+    with Server(desk_serves(program), store, len(FIRST_REQUESTS) + 2 * len(accessions)) as server:
+        for method, path, body in filling(accessions):
+            reply = server.visit(question(method, path, STAFF, body))
+            if body_of(reply) != b'{"done":true}':
+                sys.exit(f"{method} {path}: {reply[:500]!r}")
+        server.end()
 
 
 def copied(store, target):

@@ -31,17 +31,15 @@ class Question:
         self.status = status
 
 
-def put_image(image, acc):
-    """The method, path and body that put an image."""
-    marked = rooms.marked(image, acc)
-    return "PUT", f"/accessions/{acc}/d64/{rooms.DEED}/{hashlib.sha256(marked).hexdigest()}", marked
+def put_disk(acc):
+    """The method, path and body that put the disk of an accession."""
+    return rooms.put_of_image(acc, rooms.shelf_disk(acc))
 
 
 def questions(size):
     """What is asked of a store of a size."""
     acc = size // 2
     rule = rooms.rule("public", "deny", slot=3)
-    image = rooms.Shelf(1).image
     return [
         Question("a denied file", lambda n: ("GET", f"/images/{acc}/files/7", None), rooms.ROOM, 403),
         Question("a file of 2,000 bytes", lambda n: ("GET", f"/images/{acc}/files/0", None)),
@@ -55,8 +53,8 @@ def questions(size):
         Question("drop of a rule", lambda n: ("DELETE", f"/images/{acc}/rules/9", None)),
         Question("put of a key", lambda n: ("PUT", f"/badges/{OTHER_KEY}", b'{"audience":"room"}')),
         Question("drop of a key", lambda n: ("DELETE", f"/badges/{OTHER_KEY}", None)),
-        Question("put of the same image", lambda n: put_image(image, acc)),
-        Question("put of an image", lambda n: put_image(image, size + 1 + n)),
+        Question("put of the same image", lambda n: put_disk(acc)),
+        Question("put of an image", lambda n: put_disk(size + 1 + n)),
     ]
 
 
@@ -79,11 +77,11 @@ def opening(program, store):
     times, memory = [], []
     for _ in range(OPENINGS):
         before = time.monotonic()
-        server = rooms.Server(rooms.desk_serves(program), store, 1)
-        times.append(time.monotonic() - before)
-        memory.append(1024 * server.most_memory())
-        server.visit(rooms.question("GET", "/nowhere"))
-        server.end()
+        with rooms.Server(rooms.desk_serves(program), store, 1) as server:
+            times.append(time.monotonic() - before)
+            memory.append(1024 * server.most_memory())
+            server.visit(rooms.question("GET", "/nowhere"))
+            server.end()
     return statistics.median(times), statistics.median(memory)
 
 
@@ -99,11 +97,10 @@ def measure(program, size, visits, folder):
     costs = {"opening: time": seconds, "opening: memory": memory}
     for_each_byte = memory / size_of(store)
     asked = questions(size)
-    server = rooms.Server(rooms.desk_serves(program), store, len(asked) * visits + 1)
-    costs |= {question.title: time_of(server, question, visits) for question in asked}
-    costs["serving: most memory"] = 1024 * server.most_memory()
-    server.visit(rooms.question("GET", "/nowhere"))
-    server.end()
+    with rooms.Server(rooms.desk_serves(program), store, len(asked) * visits + 1) as server:
+        costs |= {question.title: time_of(server, question, visits) for question in asked}
+        server.visit(rooms.question("GET", "/nowhere"))
+        server.end()
     return costs, for_each_byte
 
 

@@ -13,8 +13,9 @@ desk's time for a visit to that of the C program, and to that of the desk that i
 and the least and the most of them. Programs take turns within a run, so that what else the machine does meets all.
 With --thousand it also asks a store of 1,000 accessions for all of them; --part 10 makes a tenth of the visits.
 
-Before it measures, it sees that all programs reply with the same bytes, and with those that are due. Last it prints how
-the most memory that a server has had grows from the first to the tenth visit for the longest file.
+Before it measures, it compares the first reply of each question, byte for byte, and looks at the status and the length
+of each. Last it prints how the most memory that a server has had, which is mostly that of opening the store, grows from
+the first to the tenth visit for the longest file.
 
 It fails where a desk that is not named first takes more than the first for a question in each of the runs. With one
 desk alone it only prints ratios, and fails if a reply is not the one that is due."""
@@ -32,9 +33,9 @@ C_NAME = "C program"
 
 
 class Case:
-    """A question: which store is asked, by which path at a visit of some number, how the reply begins and ends, how
-    many visits of it are left out and measured, and whether it is one for desks alone, which the C program has no
-    answer to."""
+    """A question: which store is asked, by which path at a visit of some number, which status the reply has and how
+    long its body is, how many visits of it are left out and measured, and whether it is one for desks alone, which the
+    C program has no answer to."""
 
     def __init__(self, title, shelf, path_at, status, length, few=100, many=2000, for_desks=False):
         self.title = title
@@ -163,17 +164,23 @@ class Bench:
         if len(set(replies.values())) != 1:
             sys.exit(f"{case.title}: replies differ: { {name: reply[:300] for name, reply in replies.items()} }")
 
+    def visit(self, server, case, number):
+        """Makes the visit of a number; the script ends where the reply is not due."""
+        reply = server.visit(case.asked(number))
+        if not case.is_due(reply):
+            sys.exit(f"{case.title}: the reply at visit {number} is {reply[:300]!r}")
+
     def time_of(self, name, case, part):
         """The processor time of a visit, without that of starting and of the first visits."""
         few, many = max(1, case.few // part), max(2, case.many // part)
         server = self.serve(name, case.shelf, few + many + 1)
         for number in range(few):
-            server.visit(case.asked(number))
+            self.visit(server, case, number)
         before = server.spent()
         for number in range(many):
-            server.visit(case.asked(few + number))
+            self.visit(server, case, few + number)
         spent = server.spent() - before
-        server.visit(case.asked(0))
+        self.visit(server, case, 0)
         server.end()
         return spent / many
 
@@ -182,9 +189,9 @@ class Bench:
         server = self.serve(name, case.shelf, 11)
         most = [server.most_memory()]
         for number in range(10):
-            server.visit(case.asked(number))
+            self.visit(server, case, number)
             most.append(server.most_memory())
-        server.visit(case.asked(0))
+        self.visit(server, case, 0)
         server.end()
         return most[1] / most[0], most[10] / most[1]
 

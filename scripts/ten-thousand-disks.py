@@ -2,24 +2,29 @@
 """scripts/ten-thousand-disks.py [--disks N] [PROGRAM]: fills a museum of 10,000 disks, and looks whether a desk with so
 many needs no more time and memory than docs/OPERATING.md says.
 
-Each disk is one of the 1541 with eight files. The desk takes them in by PUT. Then it serves them, started with the
-variable that operate/desk.service sets. The script measures how long that start takes and how much memory, then visits
-to disks at random, the catalogue, a day's disks by PUT, a check of all disks by operate/check-all, and a day's disks by
-`import` while nobody serves. What must not grow with the museum it also measures with ten disks.
+Each disk is one of the 1541 with eight files and a takedown. The desk takes them in by PUT. Then it serves them,
+started with the variable that operate/desk.service sets. The script measures how long that start takes, with the store
+in the system's memory, and how much memory it needs; then visits to disks at random, the list of all images, the
+catalogue, a day's disks by PUT, a check of all disks by operate/check-all, the memory after all that, and a day's disks
+by `import` while nobody serves. Visits whose time does not grow it makes to a museum of ten disks in turn.
 
 Each line shows what came, and the most that it may be. The script fails where something is more, and where a reply or
-an outcome is not the one that is due. With other numbers of disks than 10,000 the same limits hold; with fewer they say
-little.
+an outcome is not the one that is due. With --disks it takes another number of disks, and the same limits.
 
 You need Linux, Python 3.11 with its standard library alone, a quarter of a megabyte of disk in $TMPDIR for each disk,
-and 3 GB of memory. It takes a quarter of an hour. PROGRAM is ./desk of this repository where none is named."""
+and 3 GB of memory. It takes four minutes. PROGRAM is ./desk of this repository where none is named."""
 
 import argparse
+import contextlib
+import csv
 import hashlib
+import io
+import json
 import os
 import pathlib
 import random
 import re
+import signal
 import statistics
 import subprocess
 import sys
@@ -36,8 +41,9 @@ SERVICE = ROOT / "operate" / "desk.service"
 VARIABLE = "MALLOC_TRIM_THRESHOLD_"
 # A museum with little in it, the disks of a day, and how many visits of a sort are made.
 FEW, DAY, VISITS = 10, 200, 200
+# After how many seconds the script ends in any case, and a number of visits that no desk here reaches.
+LONGEST, ENDLESS = 3600, 999_999
 DONE = b'{"done":true}'
-SHELF = rooms.Shelf(0)
 
 
 class Seen:
@@ -51,106 +57,142 @@ class Seen:
         fits = came <= limit
         self.passed += fits
         self.failed += not fits
-        print(f"{'' if fits else 'FAILED: '}{what}: {came:,.1f} {unit}, at most {limit:,} {unit}", flush=True)
+        print(f"{'' if fits else 'FAILED: '}{what}: {came:,.2f} {unit}, at most {limit:,.0f} {unit}", flush=True)
 
-    def same(self, what, wanted, came):
+    def same(self, what, due, came):
         """Counts whether what came is what is due."""
-        self.passed += wanted == came
-        self.failed += wanted != came
-        if wanted != came:
-            print(f"FAILED: {what}: wanted {repr(wanted)[:300]}, came {repr(came)[:300]}", flush=True)
+        self.passed += due == came
+        self.failed += due != came
+        if due != came:
+            print(f"FAILED: {what}: due is {repr(due)[:300]}, came {repr(came)[:300]}", flush=True)
 
 
-def variable_of_service():
-    """The value that operate/desk.service gives to the variable of the C library."""
-    return re.search(rf"^Environment={VARIABLE}=(\d+)$", SERVICE.read_text(), re.M)[1]
+# What is asked, and what is due
+
+
+def file_of(acc):
+    """The request for a file of an accession, and the body that is due."""
+    slot = acc % len(rooms.OPEN_FILES)
+    return rooms.question("GET", f"/images/{acc}/files/{slot}"), lambda body: body == rooms.OPEN_FILES[slot][1]
+
+
+def listing_of(acc):
+    files = len(rooms.OPEN_FILES)
+    return rooms.question("GET", f"/images/{acc}"), lambda body: len(json.loads(body)["files"]) == files
+
+
+def check_of(acc):
+    return rooms.question("POST", f"/images/{acc}/check", rooms.STAFF), lambda body: body == b'{"outcome":"sound"}'
 
 
 def put_of(acc):
-    """The bytes of a request that puts the disk of an accession."""
-    image = SHELF[acc]
-    path = f"/accessions/{acc}/d64/{rooms.DEED}/{hashlib.sha256(image).hexdigest()}"
-    return rooms.question("PUT", path, rooms.STAFF, image)
+    method, path, image = rooms.put_of_image(acc, rooms.shelf_disk(acc))
+    return rooms.question(method, path, rooms.STAFF, image), lambda body: body == DONE
+
+
+def all_images(count):
+    """The request for all images, and the body that is due where so many stand."""
+    return rooms.question("GET", "/images"), lambda body: len(json.loads(body)["images"]) == count
+
+
+def catalogue(count):
+    """The request for the catalogue, and the body that is due where so many disks stand: a row for each file."""
+    rows = 1 + count * len(rooms.OPEN_FILES)
+    return rooms.question("GET", "/catalogue"), lambda body: len(list(csv.reader(io.StringIO(body.decode())))) == rows
+
+
+# A museum
+
+
+def variable_of_service():
+    """The variable of the C library and its value, as operate/desk.service sets it."""
+    set_there = re.search(rf"^Environment=({VARIABLE}=\d+)$", SERVICE.read_text(), re.M)
+    return set_there[1] if set_there else sys.exit(f"{SERVICE} does not set {VARIABLE}")
 
 
 class Museum:
-    """A store of so many disks, and the desk that serves it."""
+    """A store of so many disks, and the desk that serves it. The desk is killed where the script ends early."""
 
-    def __init__(self, program, store, disks):
-        self.program, self.store, self.disks, self.server = program, store, disks, None
+    def __init__(self, stack, program, store, disks):
+        self.stack, self.program, self.store, self.disks, self.server = stack, program, store, disks, None
         rooms.fill(program, store, rooms.Shelf(disks))
 
     def start(self):
-        """Starts to serve, and gives how many seconds it takes until the desk listens."""
+        """Starts to serve, as the service does, and gives how many seconds it takes until the desk listens."""
         begun = time.monotonic()
-        self.server = rooms.Server(rooms.desk_serves(self.program), self.store, 999_999)
+        before = ["env", variable_of_service()]
+        serving = rooms.Server(rooms.desk_serves(self.program), self.store, ENDLESS, before)
+        self.server = self.stack.enter_context(serving)
         return time.monotonic() - begun
 
     def stop(self):
         self.server.process.terminate()
-        self.server.process.communicate(timeout=rooms.LIMIT)
+        self.server.process.communicate()
 
-    def memory(self, name):
-        """What the desk has in memory by this field of its status, in MB."""
-        status = pathlib.Path(f"/proc/{self.server.process.pid}/status").read_text()
-        return int(re.search(rf"^{name}:\s+(\d+) kB$", status, re.M)[1]) * 1024 / 1e6
+    def megabytes(self, name):
+        """The memory of the desk by a field of its status."""
+        return self.server.memory(name) * 1024 / 1e6
 
-    def seconds(self, asked, begins, ends=b""):
-        """How long a visit takes; the script ends where the reply is not due."""
+    def most_to_open(self):
+        """The most memory that opening the store may take, in megabytes: a fifth more than its bytes, and
+        what any desk takes."""
+        return 50 + 1.2 * os.path.getsize(self.store) / 1e6
+
+    def seconds(self, asked):
+        """How long a visit takes. The script ends where the reply is not due."""
+        request, is_due = asked
         begun = time.monotonic()
-        reply = self.server.visit(asked)
+        reply = self.server.visit(request)
         taken = time.monotonic() - begun
-        if not reply.startswith(begins) or not reply.endswith(ends):
-            sys.exit(f"{asked[:80]!r}: {reply[:300]!r}")
+        if not reply.startswith(b"HTTP/1.1 200 ") or not is_due(rooms.body_of(reply)):
+            sys.exit(f"{request[:80]!r}: {reply[:300]!r}")
         return taken
 
-    def visits(self, asked_at, ends=b""):
-        """How many milliseconds a visit takes, the median of some visits to disks at random."""
-        chance = random.Random(1)
-        accs = [chance.randrange(1, self.disks + 1) for _ in range(VISITS)]
-        return 1000 * statistics.median(self.seconds(asked_at(acc), b"HTTP/1.1 200 ", ends) for acc in accs)
 
-    def take_in(self, first):
-        """How many seconds a day's disks take by PUT, from this accession on, one after the other."""
-        return sum(self.seconds(put_of(acc), b"HTTP/1.1 200 ", DONE) for acc in range(first, first + DAY))
-
-
-def file_of(acc):
-    return rooms.question("GET", f"/images/{acc}/files/{acc % 7}")
+def milliseconds(museums, asked_of, chance):
+    """How long a visit to a disk at random takes in each of some museums, in turn: the median of many."""
+    taken = [[] for _ in museums]
+    for _ in range(VISITS):
+        for museum, times in zip(museums, taken):
+            times.append(museum.seconds(asked_of(chance.randrange(1, museum.disks + 1))))
+    return [1000 * statistics.median(times) for times in taken]
 
 
-def listing_of(acc):
-    return rooms.question("GET", f"/images/{acc}")
-
-
-def check_of(acc):
-    return rooms.question("POST", f"/images/{acc}/check", rooms.STAFF)
+# What is looked at
 
 
 def look_at_start(museum, seen):
     """How a large desk starts."""
     seen.most("until it listens", museum.start(), 60, "s")
-    seen.most("most memory until then", museum.memory("VmHWM"), 2500, "MB")
-    seen.most("memory after that", museum.memory("VmRSS"), 100, "MB")
+    seen.most("most memory until then", museum.megabytes("VmHWM"), museum.most_to_open(), "MB")
+    seen.most("memory then", museum.megabytes("VmRSS"), 100, "MB")
 
 
 def look_at_visits(museum, few, seen):
-    """Visits that take as long as with ten disks, and those that do not."""
-    for what, asked_at, ends in (("a file", file_of, b""), ("a listing", listing_of, b""), ("a check", check_of, b"}")):
-        came, beside = museum.visits(asked_at, ends), few.visits(asked_at, ends)
-        seen.most(what, came, 10, "ms")
-        seen.most(f"{what}, over the same with {FEW} disks", came / beside, 3, "times")
-    everything = rooms.question("GET", "/catalogue")
-    seen.most("the catalogue", museum.seconds(everything, b"HTTP/1.1 200 "), 10, "s")
-    seen.most("all images", museum.seconds(rooms.question("GET", "/images"), b"HTTP/1.1 200 "), 10, "s")
+    """Visits whose time does not grow with the museum."""
+    chance = random.Random(1)
+    for what, asked_of, limit in (("a file", file_of, 1), ("a listing", listing_of, 1), ("a check", check_of, 10)):
+        came, with_few = milliseconds((museum, few), asked_of, chance)
+        seen.most(what, came, limit, "ms")
+        seen.most(f"{what}, over the same with {FEW} disks", came / with_few, 3, "times")
+
+
+def look_at_all(museum, seen):
+    """Questions about all disks."""
+    seen.most("all images", museum.seconds(all_images(museum.disks)), 1, "s")
+    seen.most("the catalogue", museum.seconds(catalogue(museum.disks)), 1, "s")
 
 
 def look_at_day(museum, few, seen):
-    """A day's disks by PUT."""
-    came, beside = museum.take_in(museum.disks + 1), few.take_in(few.disks + 1)
-    seen.most(f"{DAY} disks by PUT", came, 20, "s")
-    seen.most(f"{DAY} disks by PUT, over the same with {FEW} disks", came / beside, 3, "times")
-    museum.disks += DAY
+    """A day's disks by PUT, in the large museum and in the small one in turn."""
+    taken = [0, 0]
+    for number in range(1, DAY + 1):
+        for place, one in enumerate((museum, few)):
+            taken[place] += one.seconds(put_of(one.disks + number))
+    for one in (museum, few):
+        one.disks += DAY
+    seen.most(f"{DAY} disks by PUT", taken[0], 10, "s")
+    seen.most(f"{DAY} disks by PUT, over the same with {FEW} disks", taken[0] / taken[1], 3, "times")
 
 
 def look_at_check(museum, folder, seen):
@@ -161,17 +203,18 @@ def look_at_check(museum, folder, seen):
     address = f"http://{rooms.HOST}:{museum.server.port}"
     ran = subprocess.run([CHECK_ALL, key, address], stdin=subprocess.DEVNULL, capture_output=True, text=True)
     seen.most("a check of all disks", time.monotonic() - begun, 120, "s")
-    wanted = f"{museum.disks} accessions: {museum.disks} sound, 0 changed, 0 not asked\n"
-    seen.same("a check of all disks", (0, wanted, ""), (ran.returncode, ran.stdout, ran.stderr))
+    due = f"{museum.disks} accessions: {museum.disks} sound, 0 changed, 0 not asked\n"
+    seen.same("a check of all disks", (0, due, ""), (ran.returncode, ran.stdout, ran.stderr))
+    seen.most("memory after all that", museum.megabytes("VmRSS"), 100, "MB")
 
 
-def sheet_of(folder, first):
-    """A day's disks from this accession on, and the sheet that names them."""
+def sheet_of(folder, accessions):
+    """The files of some disks, and the sheet that names them."""
     lines = ["accession,kind,deed,sha256,file"]
-    for acc in range(first, first + DAY):
-        path = folder / f"{acc}.d64"
-        path.write_bytes(SHELF[acc])
-        lines.append(f"{acc},d64,{rooms.DEED},{hashlib.sha256(SHELF[acc]).hexdigest()},{path}")
+    for acc in accessions:
+        path, image = folder / f"{acc}.d64", rooms.shelf_disk(acc)
+        path.write_bytes(image)
+        lines.append(f"{acc},d64,{rooms.DEED},{hashlib.sha256(image).hexdigest()},{path}")
     sheet = folder / "sheet.csv"
     sheet.write_text("".join(f"{line}\n" for line in lines))
     return sheet
@@ -179,8 +222,8 @@ def sheet_of(folder, first):
 
 def look_at_import(museum, folder, seen):
     """A day's disks by `import`, and the next start."""
-    first = museum.disks + 1
-    sheet = sheet_of(folder, first)
+    accessions = range(museum.disks + 1, museum.disks + DAY + 1)
+    sheet = sheet_of(folder, accessions)
     begun = time.monotonic()
     museum.stop()
     words = [museum.program, "import", "--store", museum.store, "--key", rooms.STAFF, "--sheet", sheet]
@@ -189,28 +232,30 @@ def look_at_import(museum, folder, seen):
     _, status, used = os.wait4(imports.pid, 0)
     museum.start()
     seen.most(f"{DAY} disks by import, until it serves again", time.monotonic() - begun, 120, "s")
-    seen.most("most memory of import", used.ru_maxrss * 1024 / 1e6, 2500, "MB")
-    wanted = "".join(f"{acc} done\n" for acc in range(first, first + DAY))
-    seen.same("what import says", (0, wanted), (status, told))
+    seen.most("most memory of import", used.ru_maxrss * 1024 / 1e6, museum.most_to_open(), "MB")
+    seen.same("what import says", (0, "".join(f"{acc} done\n" for acc in accessions)), (status, told))
     museum.stop()
 
 
 def main():
     parser = argparse.ArgumentParser(usage=__doc__)
-    parser.add_argument("program", nargs="*")
+    parser.add_argument("program", nargs="?")
     parser.add_argument("--disks", type=int, default=10_000)
     words = parser.parse_args()
-    program = reading_room.program(words.program)
+    program = reading_room.program([words.program] if words.program else [])
     seen = Seen()
-    with tempfile.TemporaryDirectory() as name:
+    signal.signal(signal.SIGTERM, lambda *_: sys.exit("stopped"))
+    signal.signal(signal.SIGALRM, lambda *_: sys.exit(f"not at its end after {LONGEST:,} s"))
+    signal.alarm(LONGEST)
+    with tempfile.TemporaryDirectory() as name, contextlib.ExitStack() as stack:
         folder = pathlib.Path(name)
-        few = Museum(program, str(folder / "few.sqlite"), FEW)
-        museum = Museum(program, str(folder / "many.sqlite"), words.disks)
-        os.environ[VARIABLE] = variable_of_service()
+        few = Museum(stack, program, str(folder / "few.sqlite"), FEW)
+        museum = Museum(stack, program, str(folder / "many.sqlite"), words.disks)
         print(f"{words.disks:,} disks; a store of {os.path.getsize(museum.store) / 1e6:,.0f} MB", flush=True)
         few.start()
         look_at_start(museum, seen)
         look_at_visits(museum, few, seen)
+        look_at_all(museum, seen)
         look_at_day(museum, few, seen)
         few.stop()
         look_at_check(museum, folder, seen)
