@@ -1,10 +1,15 @@
 #!/usr/bin/env python3
-"""scripts/no-reply-is-lost.py [PROGRAM]: counts the replies that are lost to clients who send more than the desk reads.
+"""scripts/no-reply-is-lost.py [PROGRAM]: counts the replies that are lost to clients who send more than the desk reads,
+and looks how long others wait for clients who stay.
 
 Where a program closes a connection with bytes unread, Linux sends the client a reset, and throws away what it has not
 sent yet: so a reply can be lost though it was written. Three sorts of clients send such bytes, each 200 times: a plain
 socket that sends two bytes after its question, and reads a long file late; Python's http.client and curl, which send a
 body that is refused by its length. Every reply has to come whole: all its bytes are compared.
+
+So that no reply is lost, the desk reads on for a fifth of a second at most, by its clock. Two sorts of clients stay
+when they have their reply, each 20 times: one is silent, and one sends a byte every hundredth of a second. The visitor
+behind them has to be served soon all the same.
 
 You need Python 3 with its standard library alone, curl, and Linux. PROGRAM is ./desk of this repository where none is
 named."""
@@ -13,6 +18,7 @@ import collections
 import contextlib
 import select
 import sys
+import threading
 import time
 
 import reading_room
@@ -25,6 +31,9 @@ VISITS = 200
 # After how many seconds the two bytes are sent, and how long after a reply's first bytes the client reads.
 SENDS_MORE, READS = 0.02, 0.1
 TOO_MUCH = put_image(30, "cpm8", 9, bytes(819200))
+# How many clients of a sort stay, how often one sends a byte, and how long the next visitor may take: a fifth of a
+# second, and what a busy machine adds.
+STAYS, EVERY, SOON = 20, 0.01, 0.6
 
 
 def with_two_bytes_more(port):
@@ -67,6 +76,48 @@ def see_client(seen, room, label, client, due):
     seen.same(f"{label}: replies that are lost", 0, lost.total())
 
 
+@contextlib.contextmanager
+def sending(connection):
+    """Sends a byte again and again, until the block ends or the connection does."""
+    ended = threading.Event()
+
+    def send():
+        with contextlib.suppress(OSError):
+            while not ended.wait(EVERY):
+                connection.sendall(b"x")
+
+    sender = threading.Thread(target=send)
+    sender.start()
+    try:
+        yield
+    finally:
+        ended.set()
+        sender.join()
+
+
+def visit(port):
+    """What comes of a short visit, and the connection, which stays open."""
+    connection = connected(port)
+    connection.sendall(head("GET /images HTTP/1.1"))
+    return connection, read_all(connection)
+
+
+def see_next(seen, room, label, stays):
+    """Visits behind clients who stay, and tells how many of these visits take long or get another reply."""
+    late, longest = 0, 0
+    for _ in range(STAYS):
+        first, due = visit(room.desk_port)
+        with first, stays(first):
+            begun = time.monotonic()
+            second, came = visit(room.desk_port)
+            taken = time.monotonic() - begun
+            second.close()
+        longest = max(longest, taken)
+        late += taken > SOON or came != due
+    print(f"behind {label}: {late} of {STAYS} visits take more than {SOON} s; the longest {longest:.2f} s", flush=True)
+    seen.same(f"visits behind {label} that take long", 0, late)
+
+
 def main():
     missing = tools.missing(["curl"])
     if missing:
@@ -76,6 +127,8 @@ def main():
         room.fill((*FIRST, *MORE, *LONG))
         for label, client, due in CLIENTS:
             see_client(seen, room, label, client, due)
+        see_next(seen, room, "clients who stay and are silent", contextlib.nullcontext)
+        see_next(seen, room, "clients who stay and send a byte again and again", sending)
         seen.same("the desk still serves", None, room.desk.poll())
     sys.exit(seen.told())
 
