@@ -65,14 +65,40 @@ return {
 """
 
 
+class Allowance:
+    """How often the page may still ask for all disks: nginx lets an address do this once a second, and twenty times more
+    at once. A few of these stay for what the tests do by keys and links."""
+
+    AT_ONCE = 15
+
+    def __init__(self):
+        self.left, self.counted = self.AT_ONCE, time.monotonic()
+
+    def take(self):
+        """Waits until the page may ask once more."""
+        while True:
+            now = time.monotonic()
+            self.left, self.counted = min(self.AT_ONCE, self.left + now - self.counted), now
+            if self.left >= 1:
+                self.left -= 1
+                return
+            time.sleep(0.1)
+
+
 class Page:
     """The page in the browser, as a reader uses it."""
 
     def __init__(self, browser, address):
         self.browser = browser
         self.address = address
+        self.allowance = Allowance()
         self.browser.open(address)
         self.read()
+
+    def wait_before(self, place):
+        """Waits before a view of all disks, or of files by name, until nginx lets the page ask for it."""
+        if place == "" or place.startswith("find/"):
+            self.allowance.take()
 
     def read(self):
         """What the page shows when the desk has answered."""
@@ -86,6 +112,7 @@ class Page:
 
     def go(self, place):
         """Goes to a place by its address, as a link or a bookmark does, and asks anew where it is there already."""
+        self.wait_before(place)
         self.browser.script("document.getElementById('view').setAttribute('aria-busy', 'true');")
         here = self.browser.script("return location.hash")
         if here == f"#/{place}":
@@ -96,6 +123,7 @@ class Page:
 
     def give(self, key):
         """Gives a key, or takes back the one that was given where it is None."""
+        self.wait_before(self.browser.script("return location.hash").removeprefix("#/"))
         if key is None:
             if self.browser.script("return !document.getElementById('forget').hidden"):
                 self.browser.click("#forget")

@@ -129,15 +129,12 @@ OPEN = {31: ["HELLO"], 32: ["WELCOME.TXT"], 33: ["TOUR", "-" * 16, "GUIDE"], 34:
 NONE = {31: [], 32: [], 33: [], 34: []}
 BOTH = {**OPEN, 32: ["WELCOME.TXT", "SKEW.TXT"]}
 WITHOUT = ["TOUR", "-" * 16]
-# nginx lets an address ask for all disks once a second, and twenty times more at once: a caller asks three times.
-PAUSE = 3
 
 
 def see_outside(seen, page, label, *wanted):
     """What the public and the room see of the disks, on the page for readers."""
     with page.outside() as readers:
         for (caller, key), names in zip((("the public", PUBLIC), ("the room", ROOM)), wanted):
-            time.sleep(PAUSE)
             readers.give(key)
             listed = [row[0] for row in readers.go("")["rows"]]
             came = {number: [row[1] for row in readers.go(str(number))["rows"]] for number in OPEN}
