@@ -420,10 +420,10 @@ def what_stops_it(seen):
 
 
 def lanes(seen):
-    """lanes.sh counts a lane a processor, as far as 8,700 MB for the first and 6,500 MB for each other one are free."""
+    """lanes.sh counts a lane a processor, as far as 10,500 MB for the first and 5,500 MB for each other are free."""
     with repository() as made:
         seen.same(".ci/run asks scripts/lanes.sh", "lanes: 3\n", made.says("bash", ".ci/run"))
-        counted = [(4, 28, 4), (4, 27, 3), (4, 22, 3), (4, 21, 2), (8, 15, 2), (8, 14, 1), (2, 64, 2), (8, 4, 1)]
+        counted = [(4, 27, 4), (4, 26, 3), (4, 21, 3), (4, 20, 2), (8, 16, 2), (8, 15, 1), (2, 64, 2), (8, 4, 1)]
         for processors, memory, wanted in counted:
             made.command("nproc", f"echo {processors}")
             made.command("awk", f"echo MemAvailable: {memory * 1048576} kB | /usr/bin/awk \"$1\"")

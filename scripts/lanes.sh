@@ -1,9 +1,9 @@
 #!/bin/sh
 # Prints how many proofs run side by side: one for each processor, but no more than the free memory holds.
 
-# MB at their peaks, measured from nothing: the largest proof, that of `rd_tests`, with some room, and a large one beside it.
-largest_memory=8700
-lane_memory=6500
+# MB, measured from nothing: the largest proof, that of `rd_tests`, at its peak, and what another one has beside it then.
+largest_memory=10500
+lane_memory=5500
 
 processors=$(nproc)
 free_memory=$(awk '$1 == "MemAvailable:" { print int($2 / 1024) }' /proc/meminfo)
