@@ -119,10 +119,10 @@ def profile_of(bench, name, case, folder):
         path = os.path.join(folder, "profile")
         before = ["valgrind", "--tool=callgrind", f"--callgrind-out-file={path}", "--compress-strings=no",
                   "--compress-pos=no", "--dump-line=no"]
-        server = rooms.Server(bench.commands[name], bench.stores[name, case.shelf], count, before)
-        for number in range(count):
-            bench.visit(server, case, number)
-        server.end()
+        with rooms.Server(bench.commands[name], bench.stores[name, case.shelf], count, before) as server:
+            for number in range(count):
+                bench.visit(server, case, number)
+            server.end()
         profiles.append(read_profile(path))
     return profiles[0].minus(profiles[1])
 

@@ -134,7 +134,11 @@ class Server:
         self.count = count
         words = [*before, *command(store, self.port, count)]
         self.process = subprocess.Popen(words, stdout=subprocess.PIPE, stderr=subprocess.PIPE, stdin=subprocess.DEVNULL)
-        said = self.process.stdout.readline()
+        try:
+            said = self.process.stdout.readline()
+        except BaseException:
+            self.process.kill()
+            raise
         if said != f"listening {HOST}:{self.port}\n".encode():
             self.process.kill()
             sys.exit(f"{words} says {said!r}, {self.process.communicate()[1]!r}")

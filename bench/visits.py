@@ -78,8 +78,8 @@ def disk_after_disk(number):
 
 
 class Takedown(Case):
-    """A takedown in place of the one that each accession of a shelf has, of the accession that is given for a visit of
-    some number. It is the same takedown, so the desk stays as it is; its row moves to the end of its table."""
+    """A put of the takedown that an accession has already; `accession_at` names the accession by the number of the
+    visit. The desk stays as it is; the row of the takedown moves to the end of its table."""
 
     def __init__(self, title, accession_at):
         done = len('{"done":true}')
@@ -155,9 +155,9 @@ class Bench:
         """Ends the script where a reply is not due, or two programs reply with different bytes."""
         replies = {}
         for name in self.names_for(case):
-            server = self.serve(name, case.shelf, 1)
-            replies[name] = server.visit(case.asked(0))
-            server.end()
+            with self.serve(name, case.shelf, 1) as server:
+                replies[name] = server.visit(case.asked(0))
+                server.end()
         for name, reply in replies.items():
             if not case.is_due(reply):
                 sys.exit(f"{case.title}: {name} replies {reply[:300]!r}")
@@ -173,26 +173,26 @@ class Bench:
     def time_of(self, name, case, part):
         """The processor time of a visit, without that of starting and of the first visits."""
         few, many = max(1, case.few // part), max(2, case.many // part)
-        server = self.serve(name, case.shelf, few + many + 1)
-        for number in range(few):
-            self.visit(server, case, number)
-        before = server.spent()
-        for number in range(many):
-            self.visit(server, case, few + number)
-        spent = server.spent() - before
-        self.visit(server, case, 0)
-        server.end()
+        with self.serve(name, case.shelf, few + many + 1) as server:
+            for number in range(few):
+                self.visit(server, case, number)
+            before = server.spent()
+            for number in range(many):
+                self.visit(server, case, few + number)
+            spent = server.spent() - before
+            self.visit(server, case, 0)
+            server.end()
         return spent / many
 
     def memory_of(self, name, case):
         """How the most memory of a server grows from its start to the first visit, and from that to the tenth."""
-        server = self.serve(name, case.shelf, 11)
-        most = [server.most_memory()]
-        for number in range(10):
-            self.visit(server, case, number)
-            most.append(server.most_memory())
-        self.visit(server, case, 0)
-        server.end()
+        with self.serve(name, case.shelf, 11) as server:
+            most = [server.most_memory()]
+            for number in range(10):
+                self.visit(server, case, number)
+                most.append(server.most_memory())
+            self.visit(server, case, 0)
+            server.end()
         return most[1] / most[0], most[10] / most[1]
 
 

@@ -420,7 +420,7 @@ def what_stops_it(seen):
 
 
 def lanes(seen):
-    """lanes.sh counts a lane a processor, as far as 10,500 MB for the first and 5,500 MB for each other are free."""
+    """lanes.sh counts a lane a processor, as far as 10,500 MiB for the first and 5,500 MiB for each other are free."""
     with repository() as made:
         seen.same(".ci/run asks scripts/lanes.sh", "lanes: 3\n", made.says("bash", ".ci/run"))
         counted = [(4, 27, 4), (4, 26, 3), (4, 21, 3), (4, 20, 2), (8, 16, 2), (8, 15, 1), (2, 64, 2), (8, 4, 1)]

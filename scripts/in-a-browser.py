@@ -66,8 +66,8 @@ return {
 
 
 class Allowance:
-    """How often the page may still ask for all disks: nginx lets an address do this once a second, and twenty times more
-    at once. A few of these stay for what the tests do by keys and links."""
+    """How often the page may still ask for all disks. nginx lets an address do this once a second, and twenty times
+    more at once. The page takes at most 15 of these; the others are for views that tests open by keys or links."""
 
     AT_ONCE = 15
 

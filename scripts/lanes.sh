@@ -1,7 +1,7 @@
 #!/bin/sh
 # Prints how many proofs run side by side: one for each processor, but no more than the free memory holds.
 
-# MB, measured from nothing: the largest proof, that of `rd_tests`, at its peak, and what another one has beside it then.
+# MiB, measured from nothing: the largest proof, that of `rd_tests`, at its peak, and each other proof at that moment.
 largest_memory=10500
 lane_memory=5500
 

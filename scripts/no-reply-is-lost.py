@@ -8,8 +8,8 @@ socket that sends two bytes after its question, and reads a long file late; Pyth
 body that is refused by its length. Every reply has to come whole: all its bytes are compared.
 
 So that no reply is lost, the desk reads on for a fifth of a second at most, by its clock. Two sorts of clients stay
-when they have their reply, each 20 times: one is silent, and one sends a byte every hundredth of a second. The visitor
-behind them has to be served soon all the same.
+when they have their reply, each 20 times: one is silent, and one sends a byte every hundredth of a second. The visitors
+behind them have to get the same reply, and mostly within twice that time.
 
 You need Python 3 with its standard library alone, curl, and Linux. PROGRAM is ./desk of this repository where none is
 named."""
@@ -17,6 +17,7 @@ named."""
 import collections
 import contextlib
 import select
+import statistics
 import sys
 import threading
 import time
@@ -31,9 +32,9 @@ VISITS = 200
 # After how many seconds the two bytes are sent, and how long after a reply's first bytes the client reads.
 SENDS_MORE, READS = 0.02, 0.1
 TOO_MUCH = put_image(30, "cpm8", 9, bytes(819200))
-# How many clients of a sort stay, how often one sends a byte, and how long the next visitor may take: a fifth of a
-# second, and what a busy machine adds.
-STAYS, EVERY, SOON = 20, 0.01, 0.6
+# How many clients of a sort stay, how often one sends a byte, and how long the next visits may take in the median, in
+# seconds.
+STAYS, EVERY, SOON = 20, 0.01, 0.4
 
 
 def with_two_bytes_more(port):
@@ -103,19 +104,22 @@ def visit(port):
 
 
 def see_next(seen, room, label, stays):
-    """Visits behind clients who stay, and tells how many of these visits take long or get another reply."""
-    late, longest = 0, 0
+    """Visits behind clients who stay, compares the replies with that of a visit before, and tells how long they take."""
+    alone, due = visit(room.desk_port)
+    alone.close()
+    seen.same(f"before {label}", (True, "an end"), (due[0].startswith(b"HTTP/1.1 200 "), due[1]))
+    taken, others = [], 0
     for _ in range(STAYS):
-        first, due = visit(room.desk_port)
+        first, reply = visit(room.desk_port)
         with first, stays(first):
             begun = time.monotonic()
             second, came = visit(room.desk_port)
-            taken = time.monotonic() - begun
+            taken.append(time.monotonic() - begun)
             second.close()
-        longest = max(longest, taken)
-        late += taken > SOON or came != due
-    print(f"behind {label}: {late} of {STAYS} visits take more than {SOON} s; the longest {longest:.2f} s", flush=True)
-    seen.same(f"visits behind {label} that take long", 0, late)
+        others += (reply, came) != (due, due)
+    print(f"behind {label}: visits take {statistics.median(taken):.2f} s, the longest {max(taken):.2f} s", flush=True)
+    seen.same(f"behind {label}: other replies", 0, others)
+    seen.same(f"behind {label}: half of the visits take at most {SOON} s", True, statistics.median(taken) <= SOON)
 
 
 def main():

@@ -1,6 +1,6 @@
 #!/usr/bin/env python3
 """scripts/ten-thousand-disks.py [--disks N] [PROGRAM]: fills a museum of 10,000 disks, and looks whether a desk with so
-many needs no more time and memory than docs/OPERATING.md says.
+many needs much more time or memory than docs/OPERATING.md says.
 
 Each disk is one of the 1541 with eight files and a takedown. The desk takes them in by PUT. Then it serves them,
 started with the variable that operate/desk.service sets. The script measures how long that start takes, with the store
@@ -9,10 +9,12 @@ catalogue, a day's disks by PUT, a check of all disks by operate/check-all, the 
 by `import` while nobody serves. Visits whose time does not grow it makes to a museum of ten disks in turn.
 
 Each line shows what came, and the most that it may be. The script fails where something is more, and where a reply or
-an outcome is not the one that is due. With --disks it takes another number of disks, and the same limits.
+an outcome is not the one that is due. With --disks it takes another number of disks; only the limit of the memory to
+open the store follows that number.
 
-You need Linux, Python 3.11 with its standard library alone, a quarter of a megabyte of disk in $TMPDIR for each disk,
-and 3 GB of memory. It takes four minutes. PROGRAM is ./desk of this repository where none is named."""
+You need Linux, Python 3.11 with its standard library alone, 3 GB of memory, and a $TMPDIR on a disk that is not slow,
+with a quarter of a megabyte for each of the museum's disks. It takes four minutes. PROGRAM is ./desk of this repository
+where none is named."""
 
 import argparse
 import contextlib
@@ -134,9 +136,9 @@ class Museum:
         return self.server.memory(name) * 1024 / 1e6
 
     def most_to_open(self):
-        """The most memory that opening the store may take, in megabytes: a fifth more than its bytes, and
+        """The most memory that opening the store may take, in megabytes: a tenth more than its bytes, and
         what any desk takes."""
-        return 50 + 1.2 * os.path.getsize(self.store) / 1e6
+        return 50 + 1.1 * os.path.getsize(self.store) / 1e6
 
     def seconds(self, asked):
         """How long a visit takes. The script ends where the reply is not due."""
@@ -171,7 +173,7 @@ def look_at_start(museum, seen):
 def look_at_visits(museum, few, seen):
     """Visits whose time does not grow with the museum."""
     chance = random.Random(1)
-    for what, asked_of, limit in (("a file", file_of, 1), ("a listing", listing_of, 1), ("a check", check_of, 10)):
+    for what, asked_of, limit in (("a file", file_of, 2), ("a listing", listing_of, 2), ("a check", check_of, 10)):
         came, with_few = milliseconds((museum, few), asked_of, chance)
         seen.most(what, came, limit, "ms")
         seen.most(f"{what}, over the same with {FEW} disks", came / with_few, 3, "times")
@@ -185,14 +187,15 @@ def look_at_all(museum, seen):
 
 def look_at_day(museum, few, seen):
     """A day's disks by PUT, in the large museum and in the small one in turn."""
-    taken = [0, 0]
+    taken = [[], []]
     for number in range(1, DAY + 1):
-        for place, one in enumerate((museum, few)):
-            taken[place] += one.seconds(put_of(one.disks + number))
+        for times, one in zip(taken, (museum, few)):
+            times.append(one.seconds(put_of(one.disks + number)))
     for one in (museum, few):
         one.disks += DAY
-    seen.most(f"{DAY} disks by PUT", taken[0], 10, "s")
-    seen.most(f"{DAY} disks by PUT, over the same with {FEW} disks", taken[0] / taken[1], 3, "times")
+    came, with_few = map(statistics.median, taken)
+    seen.most(f"{DAY} disks by PUT", sum(taken[0]), 20, "s")
+    seen.most(f"a disk by PUT, over the same with {FEW} disks", came / with_few, 3, "times")
 
 
 def look_at_check(museum, folder, seen):
@@ -228,12 +231,16 @@ def look_at_import(museum, folder, seen):
     museum.stop()
     words = [museum.program, "import", "--store", museum.store, "--key", rooms.STAFF, "--sheet", sheet]
     imports = subprocess.Popen(words, stdin=subprocess.DEVNULL, stdout=subprocess.PIPE, text=True)
+    museum.stack.callback(imports.kill)
     told = imports.stdout.read()
     _, status, used = os.wait4(imports.pid, 0)
+    imports.returncode = os.waitstatus_to_exitcode(status)
     museum.start()
     seen.most(f"{DAY} disks by import, until it serves again", time.monotonic() - begun, 120, "s")
     seen.most("most memory of import", used.ru_maxrss * 1024 / 1e6, museum.most_to_open(), "MB")
     seen.same("what import says", (0, "".join(f"{acc} done\n" for acc in accessions)), (status, told))
+    museum.disks += DAY
+    seen.most("all images then", museum.seconds(all_images(museum.disks)), 1, "s")
     museum.stop()
 
 
