@@ -2,18 +2,19 @@
 """scripts/as-the-page-says.py [PAGE] [PROGRAM]: runs every command of a page and compares what it gives with what the
 page shows.
 
-PAGE is docs/OPERATING.md, README.md or docs/COMMANDS.md; without one it is the first. PROGRAM is a built desk; without
-one it is ./desk of this repository. You need Linux, Python 3 with its standard library alone, and packages of Debian,
-which the script installs as root: for the first page nginx, openssl, sqlite3, curl, python3, tzdata, logrotate, adduser
-and systemd, for README.md curl, for docs/COMMANDS.md curl, sqlite3 and cpmtools. The ports 8041, 8042, 8043, 8080 and
-8443 have to be free.
+PAGE is docs/OPERATING.md, docs/BY-HAND.md, README.md or docs/COMMANDS.md; without one it is the first. PROGRAM is a
+built desk; without one it is ./desk of this repository. You need Linux, Python 3 with its standard library alone, and
+packages of Debian, which the script installs as root: for the first page nginx, openssl, sqlite3, curl, python3 and
+tzdata, for docs/BY-HAND.md nginx, openssl, sqlite3, curl, logrotate, adduser and systemd, for README.md curl, for
+docs/COMMANDS.md curl, sqlite3 and cpmtools. The ports 8041, 8042, 8043, 8080 and 8443 have to be free.
 
 Commands after `$` run in one shell, in a copy of what they need of this repository; those of README.md and
 docs/COMMANDS.md have a /tmp of their own. Commands after `#` need the rights of root. Where it has them, they run in
 another shell, in a mount namespace whose /etc, /usr and /var are throw-away layers over the machine's.
 
-The script names some commands and does not run them: those that prove, build or measure, those that need a network, and
-all of root's from the first one on that needs a running systemd. scripts/under-systemd.py runs these."""
+The script names some commands and does not run them: those that prove, build or measure, those that need a network or
+the package, and all of root's from the first one on that needs a running systemd. scripts/under-systemd.py runs the
+last of these."""
 
 import collections
 import contextlib
@@ -50,9 +51,14 @@ set +e
 Page = collections.namedtuple("Page", "prepares plain needed packages")
 PAGES = {
     operating_page.PAGE: Page(
-        {"$": "", "#": LAYERS}, ["readers"],
-        [*reading_room.NEEDED, "curl", "/usr/bin/python3", ZONES, "/usr/sbin/logrotate", "adduser", "systemd-analyze"],
-        [*reading_room.PACKAGES, "curl", "python3", "tzdata", "logrotate", "adduser", "systemd"],
+        {"$": ""}, ["readers"],
+        [*reading_room.NEEDED, "curl", "/usr/bin/python3", ZONES],
+        [*reading_room.PACKAGES, "curl", "python3", "tzdata"],
+    ),
+    operating_page.BY_HAND: Page(
+        {"#": LAYERS}, [],
+        [*reading_room.NEEDED, "curl", "/usr/sbin/logrotate", "adduser", "systemd-analyze"],
+        [*reading_room.PACKAGES, "curl", "logrotate", "adduser", "systemd"],
     ),
     "README.md": Page({"$": OWN_TMP}, [], ["curl"], ["curl"]),
     "docs/COMMANDS.md": Page({"$": OWN_TMP}, [], ["curl", "sqlite3", "cpmcp"], ["curl", "sqlite3", "cpmtools"]),

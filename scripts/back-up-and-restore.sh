@@ -1,5 +1,5 @@
 #!/usr/bin/env bash
-# scripts/back-up-and-restore.sh [PROGRAM]: backs up a desk's store in the two ways of docs/OPERATING.md, changes and
+# scripts/back-up-and-restore.sh [PROGRAM]: backs up a desk's store in the two ways of docs/BY-HAND.md, changes and
 # damages the store, and restores each backup. PROGRAM is ./desk by default. You need Debian's curl and sqlite3,
 # which the script installs as root if they are missing. Each backup must give the catalogue of its moment, images
 # with the SHA-256 that they came with, and the last change before it, which is only in the log.

@@ -8,7 +8,8 @@ What clients ask of the desk in scripts/as-a-client-sees-it.py is asked again: e
 and fields have to be those that the desk gives; each other request through nginx too, which has to answer 403, and then
 at the staff's door, on the machine, so that the next cases find what it did. After that come who is let in at that
 door, the limits, visitors who send or take a byte a second or nothing at all, and a desk that is down. Each group comes
-from an address of its own, so that none uses up what nginx allows another."""
+from an address of its own, so that none uses up what nginx allows another. scripts/front_cases.py has what nginx does
+beyond handing on: heads, ranges, names of downloads, packed text, its own refusals, pages of other sites, and files."""
 
 import contextlib
 import http.client
@@ -21,6 +22,7 @@ import sys
 import threading
 import time
 
+import front_cases
 import reading_room
 
 from client_cases import (
@@ -37,7 +39,7 @@ POLICY = [
     "default-src 'none'", "script-src 'self'", "style-src 'self'", "connect-src 'self'", "base-uri 'none'",
     "form-action 'none'", "frame-ancestors 'none'", "require-trusted-types-for 'script'", "trusted-types 'none'",
 ]
-# What nginx adds to every reply, also to one of its own.
+# What nginx adds to every reply, also to one of its own; to a file of the page it adds another Cache-Control.
 ADDED = {
     "Content-Security-Policy": "; ".join(POLICY),
     "Strict-Transport-Security": "max-age=31536000",
@@ -47,12 +49,14 @@ ADDED = {
     "Cross-Origin-Resource-Policy": "same-origin",
     "Cross-Origin-Opener-Policy": "same-origin",
 }
+ADDED_TO_FILES = {**ADDED, "Cache-Control": "no-cache"}
 # In what time a visitor is answered while others are slow, in seconds, and for how long they are slow.
 SOON = 3
 SLOW = 38
 # The configuration's own numbers. Of an address: its requests in a second, beyond that, and at a time; and the same of
 # those for a whole collection. In seconds: of a head, until the next part of a body, and until a reader takes some.
 RATE, BURST, AT_A_TIME = 20, 60, 20
+PAGES_RATE, PAGES_BURST = 50, 200
 COLLECTIONS_RATE, COLLECTIONS_BURST = 1, 20
 HEAD_TIME, BODY_TIME, READER_TIME = 15, 10, 30
 
@@ -81,8 +85,8 @@ def see_reply(seen, label, wanted, came):
     see_added(seen, label, came[2])
 
 
-def see_added(seen, label, fields):
-    seen.same(f"{label}: what nginx adds", ADDED, {name: fields.get(name) for name in ADDED})
+def see_added(seen, label, fields, added=ADDED):
+    seen.same(f"{label}: what nginx adds", added, {name: fields.get(name) for name in added})
 
 
 def see_question(seen, room, label, asked, wanted, address):
@@ -99,7 +103,7 @@ def see_command(seen, room, label, asked, wanted, address):
     small letters it takes at neither."""
     status, body, fields = ask(room, asked, address)
     refused = 403 if asked.method.isupper() else 400
-    seen.same(f"{label}: refused from outside", (refused, True), (status, body.startswith(b"<html>")))
+    seen.same(f"{label}: refused from outside", (refused, front_cases.refusal(refused)), (status, body))
     at_the_door = room.ask_staffs_door if asked.method.isupper() else room.ask_desk
     seen.same(f"{label}: on the machine", parsed(wanted)[:2], at_the_door(asked))
 
@@ -212,7 +216,7 @@ def see_page(seen, room):
         status, body, fields = ask(room, get(f"/{name}"), "127.0.2.1")
         wanted = (200, bytes_of("web", name), type_of(name))
         seen.same(f"the page's {name}", wanted, (status, body, fields.get("Content-Type")))
-        see_added(seen, f"the page's {name}", fields)
+        see_added(seen, f"the page's {name}", fields, ADDED_TO_FILES)
     seen.same("the page at /", bytes_of("web", "index.html"), ask(room, get("/"), "127.0.2.1")[1])
     see_policy(seen, "index.html")
     for path in ("/../museum.sqlite", "/%2e%2e/museum.sqlite", "/museum.sqlite", "/.git/config", "/web/room.js"):
@@ -237,7 +241,7 @@ def see_staffs_page(seen, room):
         for path in [f"/{name}", *(["/"] if name == "staff.html" else [])]:
             status, body, fields = asked_at_door(room, get(path))
             seen.same(f"the staff's {path}", wanted, (status, body, fields.get("Content-Type")))
-            added = {field: value for field, value in ADDED.items() if field != "Strict-Transport-Security"}
+            added = {field: value for field, value in ADDED_TO_FILES.items() if field != "Strict-Transport-Security"}
             seen.same(f"the staff's {path}: what nginx adds", added, {field: fields.get(field) for field in added})
             seen.same(f"the staff's {path}: it is no HTTPS", None, fields.get("Strict-Transport-Security"))
         seen.same(f"the staff's {name} from outside", 404, ask(room, get(f"/{name}"), "127.0.2.1")[0])
@@ -284,6 +288,41 @@ def see_staffs_door(seen, room):
     seen.same("the staff's door: as often as they like", {200}, set(statuses))
 
 
+# What the staff alone may ask, at the staff's door alone.
+STAFFS_QUESTIONS = [
+    *(get(f"/staff/{path}", STAFF) for path in ("deeds", "takedowns", "keys", "checks", "verdicts/2030-01-01")),
+    put_rule("/staff/rehearsals/2030-01-01/deeds/9/rules/1", "deny", EVERY, *ALL),
+    put_rule("/staff/rehearsals/2030-01-01/images/12/rules/1", "deny", EVERY, *ALL),
+    drop("/staff/rehearsals/2030-01-01/deeds/9/rules/1"), drop("/staff/rehearsals/2030-01-01/images/12/rules/1"),
+]
+# Other ways to write the path of a question.
+WRITTEN_OTHERWISE = (
+    "//staff/deeds", "/%73taff/deeds", "/x/../staff/deeds", "/images/../staff/deeds", "/images/%2e%2e/staff/deeds",
+    "/images/..%2fstaff/deeds", "/staff/./deeds", "/staff/deeds?/../../images", "/staff/deeds/../../images",
+    "/staff/../images", "/staff/", "/staff",
+)
+
+
+def see_staffs_questions(seen, room):
+    """From outside GET and HEAD find none of the staff's questions, and other methods are refused, whatever the key. At
+    the staff's door the desk replies."""
+    outside = "127.0.2.13"
+    for asked in STAFFS_QUESTIONS:
+        due = 404 if asked.method == "GET" else 403
+        label = f"{asked.method} {asked.path}"
+        seen.same(f"the staff's questions from outside: {label}", due, ask(room, asked, outside)[0])
+        came = room.ask_desk(asked)
+        seen.same(f"the staff's questions: {label}", 200, came[0])
+        seen.same(f"the staff's questions at their door: {label}", came, room.ask_staffs_door(asked))
+    for method, due in (("HEAD", 404), ("POST", 403), ("OPTIONS", 403)):
+        asked = Asked(method, "/staff/deeds", STAFF)
+        seen.same(f"the staff's questions from outside: {method}", due, ask(room, asked, outside)[0])
+    for path in WRITTEN_OTHERWISE:
+        status, body, _ = ask(room, get(path, STAFF), outside)
+        seen.same(f"the staff's questions from outside: {path}", (404, False), (status, b'"deeds"' in body))
+        time.sleep(1 / RATE)
+
+
 def see_unchanged(seen, room):
     """Commands from outside with the key of the staff change no row."""
     room.stop_desk()
@@ -315,13 +354,11 @@ def see_fields(seen, room):
             for name, value in fields:
                 connection.putheader(name, value.encode("latin-1"))
             connection.endheaders()
-            seen.same(f"fields: {label}", status, connection.getresponse().status)
-
-
-def see_head(seen, room):
-    """HEAD is the desk's to refuse."""
-    status, body, fields = ask(room, Asked("HEAD", "/images"), "127.0.2.3")
-    seen.same("HEAD", (405, b"", "GET"), (status, body, fields.get("Allow")))
+            reply = connection.getresponse()
+            reply.read()
+            seen.same(f"fields: {label}", status, reply.status)
+        # nginx counts a request for a moment longer, and lets an address ask for all images once at a time
+        time.sleep(1 / RATE)
 
 
 def see_sizes(seen, room):
@@ -382,7 +419,10 @@ def see_rate(seen, room, label, path, address, rate, burst):
 
 def see_rates(seen, room):
     """Another address is answered meanwhile; and so are other questions where too many were for a whole collection."""
-    see_rate(seen, room, "rate", "/room.css", "127.0.2.5", RATE, BURST)
+    see_rate(seen, room, "rate", "/images/15/files/0", "127.0.2.5", RATE, BURST)
+    seen.same("rate: the page", 200, ask(room, get("/room.css"), "127.0.2.5")[0])
+    see_rate(seen, room, "pages", "/room.css", "127.0.2.7", PAGES_RATE, PAGES_BURST)
+    seen.same("pages: a file of a disk", 200, ask(room, get("/images/15/files/0"), "127.0.2.7")[0])
     seen.same("rate: another address", 200, ask(room, get("/images"), "127.0.2.6")[0])
     see_rate(seen, room, "collections", "/catalogue", "127.0.2.14", COLLECTIONS_RATE, COLLECTIONS_BURST)
     seen.same("collections: both are counted", 429, ask(room, get("/images?x"), "127.0.2.14")[0])
@@ -563,7 +603,7 @@ def see_down(seen, room):
     for turn in ("first", "second"):
         room.stop_desk()
         status, body, fields = ask(room, get("/images", NOBODY), "127.0.2.11")
-        seen.same(f"down, the {turn} time", (502, True), (status, b"502 Bad Gateway" in body))
+        seen.same(f"down, the {turn} time", (502, front_cases.refusal(502)), (status, body))
         see_added(seen, f"down, the {turn} time", fields)
         seen.same("the page of a desk that is down", 200, ask(room, get("/"), "127.0.2.11")[0])
         seen.same("a command to it", 403, ask(room, put("/deeds/7", {}), "127.0.2.11")[0])
@@ -597,8 +637,9 @@ def see_errors(seen, room):
 
 
 GROUPS = [
-    see_places, see_zones, see_page, see_staffs_page, see_routes, see_staffs_door, see_unchanged, see_fields, see_head,
-    see_sizes, see_long_heads, see_rates, see_at_a_time, see_tls, see_why, see_slow, see_down, see_logs, see_errors,
+    see_places, see_zones, see_page, see_staffs_page, see_routes, see_staffs_door, see_staffs_questions, see_unchanged,
+    see_fields, see_sizes, *front_cases.GROUPS, see_long_heads, see_rates, see_at_a_time, see_tls, see_why, see_slow,
+    see_down, see_logs, see_errors,
 ]
 
 

@@ -23,6 +23,13 @@ return [location.href, document.referrer, document.cookie, JSON.stringify({...lo
     JSON.stringify({...sessionStorage}), JSON.stringify(history.state), document.documentElement.outerHTML,
     ...Array.from(document.querySelectorAll("input"), (field) => field.value)].join(" ");
 """
+# A script: the page's own listener, which is older, comes first.
+FOLLOW = """
+const [place, done] = arguments;
+if (location.hash === place) done();
+window.addEventListener("hashchange", () => setTimeout(done), { once: true });
+location.hash = place;
+"""
 
 
 class Browser:
@@ -95,6 +102,10 @@ class Browser:
     def script(self, text, *values):
         """What a script gives that the driver runs in the page, beside the page's own."""
         return self.command("POST", "/execute/sync", {"script": text, "args": values})
+
+    def follow(self, place):
+        """Goes to a place of the page that is open, and comes back when the page has begun to show it."""
+        self.command("POST", "/execute/async", {"script": FOLLOW, "args": [place]})
 
     def find(self, selector):
         return self.command("POST", "/element", {"using": "css selector", "value": selector})[ELEMENT]

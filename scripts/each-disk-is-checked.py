@@ -35,7 +35,7 @@ REPLIES = {
     "sound": (200, '{"outcome":"sound"}'), "changed": (200, '{"outcome":"changed"}'),
     "other": (200, '{"outcome":"odd"}'), "array": (200, "[]"), "done": (200, '{"done":true}'),
     "unavailable": (503, '{"error":"unavailable"}'), "staff-only": (403, '{"error":"staff-only","rule":"S0"}'),
-    "no-accession": (404, '{"error":"no-accession"}'),
+    "no-accession": (404, '{"error":"no-accession"}'), "no-route": (404, '{"error":"no-route"}'),
     "unknown-key": (401, '{"error":"unknown-key","rule":"K0"}'), "page": (502, "<html>Bad Gateway</html>"),
 }
 SILENT, CUT, STALLS = "silent", "cut", "stalls"
@@ -63,6 +63,8 @@ class Handler(http.server.BaseHTTPRequestHandler):
         """What is due to the request: the list, or the next reply of an accession, whose last one is repeated."""
         if self.headers.get("Desk-Key", "").encode("latin-1") != KEY:
             return "unknown-key"
+        if (self.command, self.path) == ("GET", "/staff/checks"):
+            return "no-route" if self.server.older else self.server.list
         if (self.command, self.path) == ("GET", "/images"):
             return self.server.list
         asked = re.fullmatch("/images/([0-9]+)/check", self.path)
@@ -77,10 +79,13 @@ class Handler(http.server.BaseHTTPRequestHandler):
             self.server.stalled.wait(LIMIT)
         elif kind == CUT:
             self.wfile.write(b'HTTP/1.1 200 OK\r\nContent-Length: 19\r\n\r\n{"outcome')
-        elif kind == "list":
+        elif kind == "list" and self.path == "/images":
             listed = sorted(self.server.replies.keys() - self.server.unlisted)
             images = [{"accession": acc, "deed": 7, "files": 1, "kind": "d64"} for acc in listed]
             self.reply(200, json.dumps({"images": images}, separators=(",", ":")))
+        elif kind == "list":
+            checks = [{"accession": acc, "day": None, "outcome": None} for acc in sorted(self.server.replies)]
+            self.reply(200, json.dumps({"checks": checks}, separators=(",", ":")))
         elif kind != SILENT:
             self.reply(*REPLIES[kind])
 
@@ -88,12 +93,13 @@ class Handler(http.server.BaseHTTPRequestHandler):
 
 
 @contextlib.contextmanager
-def stand_in(replies, listed="list", unlisted=()):
-    """A server with the replies of each accession, each a text of their names. Its list leaves some out."""
+def stand_in(replies, listed="list", unlisted=(), older=False):
+    """A server with the replies of each accession, each a text of their names. That of an older desk lists not all."""
     server = http.server.ThreadingHTTPServer((HOST, 0), Handler)
     server.daemon_threads = True
     server.replies = {acc: names.split() for acc, names in replies.items()}
     server.list, server.unlisted, server.asked, server.stalled = listed, set(unlisted), [], threading.Event()
+    server.older = older
     threading.Thread(target=server.serve_forever, args=(0.05,), daemon=True).start()
     try:
         yield server
@@ -149,7 +155,7 @@ CASES = [
         "a key dropped on the way", {12: "sound", 13: "unknown-key", 14: "unknown-key"},
         2, told(3, sound=1, left=2), ["13: unknown-key"], [12, 13],
     ),
-    Case("no list", {}, 2, "", [f"{LIST}: a reply that is no list of images"], [], "done"),
+    Case("no list", {}, 2, "", [f"{LIST}: a reply that is no list of accessions"], [], "done"),
     Case("an array", {}, 2, "", [f"{LIST}: a reply with status 200 that is none of a desk"], [], "array"),
     Case("no list but a page", {}, 2, "", [f"{LIST}: a reply with status 502 that is none of a desk"], [], "page"),
     Case("an unavailable list", {}, 2, "", [f"{LIST}: unavailable"], [], "unavailable"),
@@ -171,20 +177,22 @@ def see_case(seen, case, key):
     with stand_in(case.replies, case.listed) as server:
         seen.same(case.label, (case.status, case.output, case.errors), run(key, address(server)))
         accessions = list(case.replies) if case.asked is None else case.asked
-        checks = [request for request in server.asked if request != "GET /images"]
+        checks = [request for request in server.asked if request.startswith("POST ")]
         seen.same(f"{case.label}: what was asked", [f"POST /images/{acc}/check" for acc in accessions], checks)
 
 
 def see_more(seen, folder, key):
-    """Accessions that the desk does not list."""
+    """Accessions that an older desk does not list, and a desk of today does."""
     replies = {7: "changed", 12: "sound", 13: "sound", 14: "sound"}
     with stand_in(replies, unlisted=[7, 14]) as server:
+        seen.same("all of them", (1, told(4, sound=3, changed=[7]), []), run(key, address(server)))
+    with stand_in(replies, unlisted=[7, 14], older=True) as server:
         (folder / "more").write_text("13\n7\n15\n7\n")
         seen.same("without more", (0, told(2, sound=2), []), run(key, address(server)))
         wanted = (2, told(4, sound=2, changed=[7], left=1), ["15: no-accession"])
         seen.same("more", wanted, run(key, address(server), folder / "more"))
         asked = [f"POST /images/{acc}/check" for acc in (12, 13, 7, 12, 13, 15)]
-        checks = [request for request in server.asked if request != "GET /images"]
+        checks = [request for request in server.asked if request.startswith("POST ")]
         seen.same("more: what was asked", asked, checks)
 
 

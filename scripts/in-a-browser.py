@@ -56,9 +56,10 @@ const texts = (selector) => Array.from(document.querySelectorAll(selector), (one
 return {
   busy: document.getElementById("view").getAttribute("aria-busy"),
   heading: texts("h1")[0], status: texts("#status")[0], caller: texts("#caller")[0],
-  rows: Array.from(document.querySelectorAll("tbody tr"), (row) => Array.from(row.cells, (cell) => cell.textContent)),
+  rows: Array.from(document.querySelectorAll("tbody tr:not(.space)"),
+    (row) => Array.from(row.cells, (cell) => cell.textContent)),
   links: Array.from(document.querySelectorAll("tbody a"), (one) => one.getAttribute("href")),
-  refusal: texts(".refused p"), bytes: texts("#bytes")[0] ?? null, told: texts("#told")[0] ?? null,
+  refusal: texts(".refused p"), bytes: texts("#bytes")[0] ?? null, told: texts("#shown-as")[0] ?? null,
   forms: Array.from(document.querySelectorAll("#view form"), (one) => one.id),
   here: location.hash,
 };
@@ -184,8 +185,7 @@ def see_takedown(seen, page, room):
         told = f"There is no file on it that you may see. {asks}" if taken else "You may see 1 file."
         seen.same(f"takedown: {label}: told", told, shown["status"])
         page.browser.type("#slot", "0")
-        page.browser.press(ENTER)
-        shown = wait_for_place(page, "#/15/0")
+        shown = led(page, "#/15/0", lambda: page.browser.press(ENTER))
         seen.same(f"takedown: {label}: asked for by its slot", denied if taken else [], shown["refusal"])
         page.give(None)
     room.ask_desk(put_rule("/images/15/rules/1", "list", EVERY, "public"))
@@ -196,8 +196,10 @@ def see_takedown(seen, page, room):
     seen.same("without a takedown", [RECORD_ROW], files_of(page.go("15")))
 
 
-def wait_for_place(page, place):
-    """What the page shows when it has gone to a place."""
+def led(page, place, lead):
+    """What the page shows when something that the reader does has led it to a place."""
+    page.browser.script("document.getElementById('view').setAttribute('aria-busy', 'true');")
+    lead()
     end = time.monotonic() + LIMIT
     while time.monotonic() < end:
         shown = page.read()
@@ -219,8 +221,8 @@ def see_refusals(seen, page, room):
     for place, wanted in REFUSED:
         shown = page.go(place)
         seen.same(f"refused: {place}", (wanted, None), (shown["refusal"][1:], shown["bytes"]))
-        form = "slot-form" if re.fullmatch(r"[1-9]\d*/\d+", place) else "disk-form"
-        seen.same(f"refused: {place}: another number may be asked for", [form], shown["forms"])
+        forms = ["slot-form"] if re.fullmatch(r"[1-9]\d*/\d+", place) else ["find-form", "disk-form"]
+        seen.same(f"refused: {place}: another number may be asked for", forms, shown["forms"])
     rows = page.go("14")["rows"]
     words = "see that it is there: it is damaged, loop (its blocks lead back into themselves)"
     faulty = ["0", "LOOP", "PRG", "", "", words, "R9.20"]
@@ -282,8 +284,7 @@ def see_found(seen, page, room):
         page.give(None)
     page.go("")
     page.browser.type("#find", "welcome")
-    page.browser.press(ENTER)
-    shown = wait_for_place(page, "#/find/welcome")
+    shown = led(page, "#/find/welcome", lambda: page.browser.press(ENTER))
     seen.same("found: by typing", ("You may see 1 file with this in the name.", ["#/18", "#/18/0"]), told_of(shown))
 
 
@@ -291,8 +292,21 @@ def see_words(seen, page, label, files):
     for words in ("HELLO", "hello", "E", '"&amp;', "%", "."):
         wanted = [file for file in files if words.lower() in file["name"].lower()]
         rows = [(row[0], row[1], row[2], row[5], row[7]) for row in find(page, words)["rows"]]
-        names = [(f"Disk {file['accession']}", *map(file.get, ("slot", "name", "size", "rule"))) for file in wanted]
+        columns = [(f"Disk {file['accession']}", file["slot"], cell_of(file["name"])) for file in wanted]
+        names = [(*first, file["size"], file["rule"]) for first, file in zip(columns, wanted)]
         seen.same(f"found: {label}: {words}", names, rows)
+
+
+# Names that the machine showed otherwise than the desk prints them: letters that are small as ASCII were its capitals.
+SHOWN = {
+    "<script>alert(1)": "<SCRIPT>ALERT(1)", "<img src=x onerr": "<IMG SRC=X ONERR",
+    "\"&amp;'%25/%00%FF%8D.JS ": "\"&AMP;'%/%00\u2592%8D.js ",
+}
+
+
+def cell_of(name):
+    """What stands in the cell of a name: as the machine showed it, and the printed one below where that is another."""
+    return f"{SHOWN[name]}{name}" if name in SHOWN else name
 
 
 def told_of(shown):
@@ -333,36 +347,31 @@ def see_fetched(seen, page, room):
     page.read()
 
 
-# Replies in the place of the desk's: their length as it is told, how many files they have, and what the page says.
-LONG = "The list of all files is above 5 MB, so this page does not fetch it. Look for the file on its disk."
+# How many files a reply in the place of the desk's has, and what the page says; the last has 5.6 MB.
 LENGTHS = [
-    (5000000, 1, "You may see 1 file with this in the name.", 1, False), (5000001, 1, "Refused.", 0, True),
-    (100, 500, "You may see 500 files with this in the name.", 500, False),
-    (100, 501, "You may see 501 files with this in the name. The first 500 are shown.", 500, False),
+    (1, "You may see 1 file with this in the name."), (500, "You may see 500 files with this in the name."),
+    (100000, "You may see 100,000 files with this in the name."),
 ]
 INSTEAD = """
-const [length, files] = arguments;
+const [files] = arguments;
 const line = '1,1,d64,0,,"a ""b"", c",PRG,258,loop crossed,R1.1,read\\n';
-window.fetch = async (path, options) => {
-  window.signal = options.signal;
-  return new Response("heads\\n" + line.repeat(files), { headers: { "Content-Length": length } });
-};
+window.fetch = async () => new Response("heads\\n" + line.repeat(files));
+return import("/room.find.js").then((made) => made.forgetFiles());
 """
 
 
 def see_long(seen, page, room):
-    """A catalogue above 5 MB is not fetched, and above 500 files not all are shown."""
-    for length, files, told, rows, stopped in LENGTHS:
-        page.browser.script(INSTEAD, str(length), files)
-        page.browser.script("catalogue = null;")
+    """A catalogue of any length is read, and its files are drawn as far as they are seen."""
+    for files, told in LENGTHS:
+        page.browser.script(INSTEAD, files)
         shown = find(page, '"B", C')
-        label = f"long: {length} bytes, {files} files"
-        seen.same(label, (told, rows), (shown["status"], len(shown["rows"])))
-        seen.same(f"{label}: refused", [LONG] if stopped else [], shown["refusal"])
-        seen.same(f"{label}: stopped", stopped, page.browser.script("return window.signal.aborted"))
+        while not shown["rows"]:
+            shown = page.read()
+        drawn = len(shown["rows"])
+        seen.same(f"long: {files} files", (told, True), (shown["status"], 0 < drawn <= min(files, 2500)))
     words = "see that it is there: it is damaged, "
     words += "loop (its blocks lead back into themselves); crossed (it shares a block with something else)"
-    row = ["Disk 1", "0", 'a "b", c', "PRG", "", "258", words, "R1.1"]
+    row = ["Disk 1", "0", 'A "B", Ca "b", c', "PRG", "", "258", words, "R1.1"]
     seen.same("long: a name with signs of CSV", row, shown["rows"][0])
     page.browser.script("window.fetch = async () => new Response('{\"images\":[]}');")
     wanted = "There is no disk of which you may see a file. You ask as the public."
@@ -375,13 +384,13 @@ def see_markup(seen, page, room):
     """A name that is markup is shown, and does nothing."""
     shown = page.go("19")
     names = ["<script>alert(1)", "<img src=x onerr", "\"&amp;'%25/%00%FF%8D.JS "]
-    seen.same("markup: names", names, [row[1] for row in shown["rows"]])
+    seen.same("markup: names", [cell_of(name) for name in names], [row[1] for row in shown["rows"]])
     counted = "return ['script', 'img', 'b', 'iframe'].map((name) => document.querySelectorAll(name).length)"
-    seen.same("markup: elements", [2, 0, 0, 0], page.browser.script(counted))
+    seen.same("markup: elements", [1, 0, 0, 0], page.browser.script(counted))
     shown = page.go("19/0")
-    seen.same("markup: the heading", names[0], shown["heading"])
+    seen.same("markup: the heading", SHOWN[names[0]], shown["heading"])
     seen.same("markup: the bytes", "<B>NO MARKUP</B>", shown["bytes"])
-    seen.same("markup: elements of a file", [2, 0, 0, 0], page.browser.script(counted))
+    seen.same("markup: elements of a file", [1, 0, 0, 0], page.browser.script(counted))
 
 
 def hexed(data):
@@ -407,14 +416,18 @@ def see_bytes(seen, page, room):
     guide = bytes_by_desk(room, "16/files/2").decode().replace("\r", "\n")
     seen.same("bytes: a 1541 text", guide, page.go("16/2")["bytes"])
     seen.same("bytes: small letters", "Guten Tag,\nWelt!\n\u00a3 \u2191 \u2190 .", page.go("19/1")["bytes"])
+    listing = '10 PRINT "WELCOME TO THE READING ROOM"\n'
+    seen.same("bytes: a listing of BASIC", listing, page.go("16/0")["bytes"])
+    page.browser.click("#as-hex")
+    names = {"16/0": "TOUR.prg", "19/2": "__AMP_____00__8D.js.prg"}
     for place, data in [("16/0", bytes_by_desk(room, "16/files/0")), ("19/2", pattern(254) + pattern(30))]:
-        shown = page.go(place)
-        seen.same(f"bytes: {place} is no text", hexed(data), shown["bytes"])
+        seen.same(f"bytes: {place} is no text", hexed(data), page.read()["bytes"])
         disabled = page.browser.script("return document.getElementById('as-text').disabled")
         seen.same(f"bytes: {place} is not shown as one", True, disabled)
-        see_download(seen, page, place, data)
+        see_download(seen, page, names[place], data)
+        page.go("19/2")
     page.go("18/0")
-    see_download(seen, page, "18/0", welcome)
+    see_download(seen, page, "WELCOME.TXT", welcome)
 
 
 # Bytes of a CP/M file and its text, or None where it is none.
@@ -437,7 +450,8 @@ def see_texts(seen, page, room):
     """What is a text, and where its lines end: asked of the page's own functions."""
     for function, cases in (("cpmText", CPM_TEXTS), ("cbmText", CBM_TEXTS)):
         for label, data, text in cases:
-            asked = f"return {function}(new Uint8Array(arguments[0]))"
+            asked = "const data = new Uint8Array(arguments[0]); "
+            asked += f"return import('/texts.js').then((made) => made.{function}(data))"
             seen.same(f"{function}: {label}", text, page.browser.script(asked, list(data)))
 
 
@@ -445,14 +459,14 @@ def bytes_by_desk(room, path):
     return room.ask_desk(get(f"/images/{path}"))[1]
 
 
-def see_download(seen, page, place, data):
-    """The name of a download is the page's own, not the disk's."""
+def see_download(seen, page, name, data):
+    """A download has the name of the file, made safe."""
     page.browser.click("#download")
-    path = page.browser.folder / "downloads" / f"{place.replace('/', '-')}.bin"
+    path = page.browser.folder / "downloads" / name
     end = time.monotonic() + LIMIT
     while time.monotonic() < end and not (path.exists() and path.stat().st_size == len(data)):
         time.sleep(0.05)
-    seen.same(f"download: {place}", data, path.read_bytes() if path.exists() else None)
+    seen.same(f"download: {name}", data, path.read_bytes() if path.exists() else None)
 
 
 def see_key(seen, page, room):
@@ -481,15 +495,16 @@ def see_keyboard(seen, page, room):
         page.browser.press(TAB)
         order.append(page.browser.focus())
     seen.same("keyboard: the order", ["skip", "The reading room", "key", "Use it", "Disks"], order)
+    ways = []
+    for _ in range(5):
+        page.browser.press(TAB)
+        ways.append(page.browser.focus())
+    seen.same("keyboard: then the ways to search", ["find", "Find", "disk", "Go", "anew"], ways)
     page.browser.press(TAB)
-    seen.same("keyboard: then the field for a name", "find", page.browser.focus())
-    page.browser.press(TAB, TAB)
     seen.same("keyboard: then the first disk", "Disk 14", page.browser.focus())
-    page.browser.press(TAB, ENTER)
-    shown = wait_for_place(page, "#/15")
+    shown = led(page, "#/15", lambda: page.browser.press(TAB, ENTER))
     seen.same("keyboard: Enter opens a disk", ("Disk 15", "heading"), (shown["heading"], page.browser.focus()))
-    page.browser.press(TAB, ENTER)
-    shown = wait_for_place(page, "#/15/0")
+    shown = led(page, "#/15/0", lambda: page.browser.press(TAB, ENTER))
     seen.same("keyboard: and a file", ("HELLO.TXT", "heading"), (shown["heading"], page.browser.focus()))
     reached = []
     for _ in range(4):
@@ -498,8 +513,8 @@ def see_keyboard(seen, page, room):
     seen.same("keyboard: its bytes", ["as-text", "as-hex", "download", "bytes"], reached)
     outline = "return getComputedStyle(document.activeElement).outlineStyle"
     seen.same("keyboard: the focus is seen", "solid", page.browser.script(outline))
-    page.browser.command("POST", "/back", {})
-    seen.same("keyboard: back", "Disk 15", wait_for_place(page, "#/15")["heading"])
+    shown = led(page, "#/15", lambda: page.browser.command("POST", "/back", {}))
+    seen.same("keyboard: back", "Disk 15", shown["heading"])
 
 
 def see_small(seen, page, room):

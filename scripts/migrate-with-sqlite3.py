@@ -34,6 +34,10 @@ COLUMNS = "accession,deed,kind,slot,user,name,type,size,faults,rule,effect\n"
 HELLO = "12,7,d64,0,,HELLO,PRG,258,,R7.20,read\n"
 LOOP = "14,7,d64,0,,LOOP,PRG,,loop,R7.20,read\n"
 RECORD = "15,8,cpm8,0,0,HELLO.TXT,TXT,128,,R8.5,list\n"
+SHOWN = (
+    '{"checks":[{"accession":12,"day":"2020-01-01","outcome":"sound"},'
+    '{"accession":14,"day":null,"outcome":null},{"accession":15,"day":null,"outcome":null}]}\n'
+)
 
 
 def shell(store, asked):
@@ -101,11 +105,12 @@ def see_commands(stage):
         ("export", ["--key", "hello", *AT, *ZONE], COLUMNS + HELLO + LOOP + RECORD, ""),
         ("check", ["--key", "abc", "--acc", "12", *AT, *ZONE], "12 sound\n", "12|21915|0\n"),
         ("import", ["--key", "abc", "--sheet", sheet, *AT, *ZONE], "", ""),
+        ("show", ["checks", "--key", "abc", *AT, *ZONE], SHOWN, ""),
     ]
     for n, (command, words, output, checks) in enumerate(cases):
         store = stage.copy(f"{command}-{n}")
         for label in (command, f"{command}, again"):
-            came = stage.run(command, "--store", store, *words)
+            came = stage.run(command, *words, "--store", store)
             stage.seen.same(label, (0, output, ""), came)
             stage.is_migrated(label, store, checks)
 

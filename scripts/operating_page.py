@@ -1,5 +1,5 @@
 """A page as commands in their order, a shell that is given them, and a copy of what they need of this repository. The
-scripts that run docs/OPERATING.md, README.md or docs/COMMANDS.md share this."""
+scripts that run docs/OPERATING.md, docs/BY-HAND.md, README.md or docs/COMMANDS.md share this."""
 
 import contextlib
 import os
@@ -13,6 +13,9 @@ import time
 from client_cases import LIMIT, ROOT
 
 PAGE = "docs/OPERATING.md"
+BY_HAND = "docs/BY-HAND.md"
+# Sections with such a heading show what the package does. They are another script's: scripts/installed-by-package.py.
+BY_PACKAGE = re.compile(r"#+ .*, by the package$")
 COPIED = ("operate", "web", "images", "docs", "README.md")
 # What is not run: what proves, builds or measures for long, and what wants a network.
 LEFT_OUT = re.compile(r"bash \.ci/run|python3 bench/|rt |\(cd \S+ && rt |apt-get update|ssh ")
@@ -27,17 +30,20 @@ def text(page):
 
 
 def commands(page):
-    """The commands of a page in their order: the line of each, its prompt, its words, and the lines that it gives."""
-    found, inside = [], False
+    """The commands of a page in their order: the line of each, its prompt, its words, and the lines that it gives.
+    Where it is for a machine with the package, this stands in the place of its prompt."""
+    found, inside, of_package = [], False, None
     for number, line in enumerate(text(page).splitlines(), 1):
         if line.startswith("```"):
             inside = not inside
         elif inside and line[:2] in ("$ ", "# "):
-            found.append([number, line[0], line[2:], []])
+            found.append([number, of_package or line[0], line[2:], []])
         elif inside and line.startswith("> ") and found and not found[-1][3]:
             found[-1][2] += f"\n{line[2:]}"
         elif inside and found:
             found[-1][3].append(line)
+        elif line.startswith("#"):
+            of_package = "package" if BY_PACKAGE.match(line) else None
     return found
 
 

@@ -167,8 +167,10 @@ class Room:
             "CERTIFICATE": self.folder / "site.crt", "CERTIFICATE_KEY": self.folder / "site.key",
             "HSTS_AGE": 31536000,
             "PROGRAM": self.program, "STORE": self.store, "DESK_PORT": self.desk_port, "ZONE": "UTC0",
-            "STAFF_PORT": self.staff_port,
-            "WEB": self.folder / "web", "NGINX_RUN": self.folder, "NGINX_WORK": self.folder / "work",
+            "STAFF_PORT": self.staff_port, "JOURNAL": self.folder / "journal", "GATE": self.folder / "gate",
+            "BACKUPS": self.folder / "backups", "STAFF_KEY": self.folder / "staff-key",
+            "WEB": self.folder / "web", "OWN_WEB": self.folder / "own",
+            "NGINX_RUN": self.folder, "NGINX_WORK": self.folder / "work",
             "NGINX_LOG": self.folder, "NGINX_USER": "www-data" if os.geteuid() == 0 else getpass.getuser(),
         }
 

@@ -1,6 +1,7 @@
 #!/usr/bin/env python3
 """scripts/refusals-agree.py: compares the refusals of the code with the table in docs/FORMATS.md, and those over HTTP
-with the words of both pages in web/shared.js; of the statuses of nginx only these two. It fails where they differ.
+with the words of both pages in web/shared.js; of nginx the statuses that operate/nginx/ refuses with, those of the
+table and those of the pages. It fails where they differ.
 
 It compares name, status and the beginning of the body or line, and the order of those over HTTP in the table; not the
 lists by request and by command. You need Python 3 with its standard library alone."""
@@ -14,10 +15,13 @@ PROGRAM = "crates/rd_commands/src/refusal.rt"
 DESK = "crates/rd_protocol/src/refusal.rt"
 VISIT = "crates/rd_messages/src/fault.rt"
 # Replies and lines that stand in the code by themselves.
-UNAVAILABLE = "crates/rd_protocol/src/json.rt", r'fixed_reply\((\d+), "\{\\"error\\":\\"(unavailable)\\"\}"\)'
+UNAVAILABLE = "crates/rd_protocol/src/reply_text.rt", r'fixed_reply\((\d+), "\{\\"error\\":\\"(unavailable)\\"\}"\)'
 BAD_ROW = "crates/rd_program/src/import.rt", r'"row \{number\} (bad-row)\\n"'
 FORMATS = "docs/FORMATS.md"
 PAGES = "web/shared.js"
+# What nginx refuses by itself, with a body such as {"error":"server-404"}.
+SERVER = "operate/nginx/snippets/desk-server.conf", r"^error_page ([0-9 ]+) /\.refused/\$status;"
+OF_SERVER = re.compile(r"server-([0-9]+)")
 # The table's first cell of a connection that is lost, and the status by which the pages know it.
 LOST = "no reply", "0"
 
@@ -80,7 +84,12 @@ def faults():
     replied, ends = in_sources()
     table = in_table()
     numbers = [LOST[1] if name == LOST[0] else name for name in table if name == LOST[0] or name.isdigit()]
-    names = [name for name in table if name != LOST[0] and not name.isdigit()]
+    # of nginx's statuses that share a row the pages have no words of their own
+    shared = [found for name in table if len(found := OF_SERVER.findall(name)) > 1]
+    numbers += [found[0] for name in table if len(found := OF_SERVER.findall(name)) == 1]
+    server = [number for name in table for number in OF_SERVER.findall(name)]
+    refused = re.search(SERVER[1], text(SERVER[0]), re.M).group(1).split()
+    names = [name for name in table if name != LOST[0] and not name.isdigit() and not OF_SERVER.match(name)]
     told = on_pages("STATUSES")
     rows = [name for name in names if name in {**replied, **ends}]
     return [
@@ -90,6 +99,9 @@ def faults():
         *lacking("refusal", on_pages("REFUSALS"), "the code", replied),
         *lacking("status", numbers, PAGES, told),
         *lacking("status", [key for key in told if key.isdigit()], FORMATS, [*numbers, replied["unavailable"]]),
+        *lacking("status", refused, FORMATS, server),
+        *lacking("status", server, SERVER[0], refused),
+        *[f"status {one}: {PAGES} has words for it" for found in shared for one in found if one in told],
         *[
             f"refusal {name}: {FORMATS} has another status or body than the code"
             for name in rows

@@ -42,10 +42,14 @@ INIT = ["{desk}", "init", *STORE, *KEY]
 IMPORT = ["{desk}", "import", *STORE, *KEY, *WHEN, "--sheet"]
 EXPORT = ["{desk}", "export", *STORE, *WHEN]
 CHECK = ["{desk}", "check", *STORE, *KEY, "--acc", "12", *WHEN]
+SHOW = ["{desk}", "show", "takedowns", *STORE, *KEY, *WHEN]
+VERDICTS = ["{desk}", "show", "verdicts", "--on", "2030-01-01", *STORE, *KEY, *WHEN]
 SERVE = ["{desk}", "serve", *STORE, "--port", "{port}", "--count", "0"]
 SQLITE = ["sqlite3", "-batch", "-bail", "{store}"]
 TABLE = """accession,deed,kind,slot,user,name,type,size,faults,rule,effect
 12,7,cpm8,0,0,HELLO.TXT,TXT,128,,R7.20,read"""
+VERDICTS_TABLE = """accession,deed,kind,slot,user,name,type,size,faults,public,public_rule,room,room_rule,staff,staff_rule
+12,7,cpm8,0,0,HELLO.TXT,TXT,128,,read,R7.20,read,R7.20,read,R7.20"""
 ROWS = (
     "INSERT INTO deed VALUES (7, 'A. Curator', 18020);"
     "INSERT INTO rule VALUES (1, 7, 20, 7, NULL, NULL, 0, 0, '', 2)"
@@ -342,6 +346,8 @@ PROGRAM = [
         Over("first", "filled", TABLE, tuple(EXPORT), between="filled"),
     ),
     ("desk check", Over("filled", "checked", "12 sound", tuple(CHECK))),
+    ("desk show of takedowns", Over("filled", "filled", '{{"takedowns":[]}}', tuple(SHOW))),
+    ("desk show of verdicts", Over("filled", "filled", VERDICTS_TABLE, tuple(VERDICTS))),
     (
         "desk serve",
         Over("filled", "filled", f"{LISTENS}\nserved 0", tuple(SERVE), first=LISTENS),

@@ -13,20 +13,24 @@ from client_cases import (
 )
 
 CLOSED = "The desk is closed at the moment. Try again later."
-AGAIN = "The desk may have done it all the same. You can safely send it again."
+MAY_BE = "The desk may have done it all the same."
+AGAIN = f"{MAY_BE} You can safely send it again."
 
 READ = """
 const shown = (one) => one.querySelector("input")?.value ?? one.textContent;
 const texts = (root, selector) => Array.from(root.querySelectorAll(selector), (one) => one.textContent);
-const told = {}, rows = {};
+const results = {}, rows = {};
 for (const section of document.querySelectorAll("section")) {
-  told[section.id] = texts(section, ".told p, .told dd");
-  rows[section.id] = Array.from(section.querySelectorAll("tbody tr"), (row) => Array.from(row.cells, shown));
+  results[section.id] = texts(section, ".result p:not(.choices), .result dd");
+  rows[section.id] = Array.from(section.querySelectorAll(".stands tbody tr, .list tbody tr"),
+    (row) => Array.from(row.cells, shown));
 }
 return {
-  told, rows, busy: document.querySelector("[aria-busy=true]") !== null, works: !document.getElementById("work").hidden,
+  results, rows, busy: document.querySelector("[aria-busy=true]") !== null,
+  works: !document.getElementById("work").hidden,
   status: texts(document, "#status p"), caller: texts(document, "#caller")[0],
   sure: document.getElementById("sure").open ? texts(document, "#sure-words")[0] : null,
+  more: texts(document, "#sure-more p"),
 };
 """
 SET = """
@@ -64,11 +68,24 @@ class StaffPage:
         return self.read()
 
     def begin(self):
-        """Loads the page anew, and gives it the key of the staff."""
+        """Loads the page anew, gives it the key of the staff, and types who works and why."""
         self.browser.open(self.address)
-        return self.give(STAFF)
+        shown = self.give(STAFF)
+        self.sign()
+        return shown
+
+    def sign(self):
+        """Types a name and a reason, which the page sends with each change."""
+        self.browser.script(SET, "#who [name=name]", "Ada Archivist")
+        self.browser.script(SET, "#who [name=reason]", "a letter of today")
+
+    def view(self, section):
+        """Goes to the view of a section where another is shown."""
+        self.browser.follow(f"#/{section}")
+        return self.read()
 
     def fill(self, section, **values):
+        self.view(section)
         for name, value in values.items():
             self.browser.script(SET, f"#{section} [name={name}]", value)
 
@@ -77,15 +94,19 @@ class StaffPage:
             self.browser.script(SET, f"#{section} [value={name}]", name in names)
 
     def press(self, section, button="[type=submit]"):
-        """Presses a button of a section, and gives what is told and shown there."""
-        self.browser.click(f"#{section} {button}")
+        """Presses a button of a section, agrees to what the page asks then, and gives the result and the rows there."""
+        self.view(section)
+        self.browser.click(f"#{section} > form {button}")
+        if self.read()["sure"]:
+            self.browser.click("#sure [value=go]")
         return self.of(section)
 
     def of(self, section):
         shown = self.read()
-        return shown["told"][section], shown["rows"][section]
+        return shown["results"][section], shown["rows"][section]
 
     def rule(self, section, scope, rank, effect, how, what, *audiences, start="", until=""):
+        self.view(section)
         self.audiences(section, *audiences)
         self.fill(section, scope=scope, rank=rank, effect=effect, how=how, **{"from": start}, until=until)
         if what is not None:
@@ -93,12 +114,13 @@ class StaffPage:
         return self.press(section)
 
     def choose(self, *paths):
-        self.browser.type("#images [name=files]", "\n".join(map(str, paths)))
-        return self.of("images")
+        self.view("disks")
+        self.browser.type("#disks [name=files]", "\n".join(map(str, paths)))
+        return self.of("disks")
 
     def number(self, accession, deed):
         """Types the accession and the deed of the first file that was chosen."""
-        row = "#images tbody tr:first-child td[data-label={}] input"
+        row = "#disks tbody tr:first-child td[data-label={}] input"
         self.browser.script(SET, row.format("Accession"), accession)
         self.browser.script(SET, row.format("Deed"), deed)
 
@@ -106,7 +128,7 @@ class StaffPage:
         """Presses a button that drops something, answers what the page asks then, and gives what it asked."""
         self.browser.click(selector)
         asked = self.read()["sure"]
-        self.browser.click(f"#sure [value='{answer}']")
+        self.browser.click(f"#sure [value='{'go' if answer else ''}']")
         return asked
 
     @contextlib.contextmanager
@@ -163,18 +185,26 @@ def see_keys_taken(seen, page, room):
 DONOR = 'E. "Sea" <b>Müller</b>'
 
 
+NO_RULE = ["0", "No rule: nobody sees its disks", "Change"]
+
+
 def see_deed(seen, page, room):
     see_outside(seen, page, "before", NONE, NONE)
+    page.sign()
     page.fill("deeds", deed="31", donor="wrong", signed="2020-02-29")
-    seen.same("deed", (["Done: deed 31."], [["31", "wrong", "2020-02-29"]]), page.press("deeds"))
+    told, rows = page.press("deeds")
+    seen.same("deed", (["Done: deed 31."], ["31", "wrong", "2020-02-29", *NO_RULE]), (told, rows[-1]))
     page.fill("deeds", deed="31", donor=DONOR)
-    seen.same("deed: put again", (["Done: deed 31."], [["31", DONOR, "2020-02-29"]]), page.press("deeds"))
+    told, rows = page.press("deeds")
+    seen.same("deed: put again", (["Done: deed 31."], ["31", DONOR, "2020-02-29", *NO_RULE]), (told, rows[-1]))
+    seen.same("deed: all that stand", ["7", "8", "9", "31"], [row[0] for row in rows])
     told, rows = page.rule("rules", "31", "20", "read", "all", None, "public", "room", "staff")
-    everybody = ["31", "20", "the public, the reading room, the staff", "all files", "read them", "on all days", "Drop"]
+    words = "the public, the reading room and the staff"
+    everybody = ["31", "20", words, "all files", "read them", "on all days", "ChangeDrop"]
     seen.same("rule 20", (["Done: rule 20 of deed 31."], [everybody]), (told, rows))
     told, rows = page.rule("rules", "31", "10", "deny", "prefix", "SKEW", "public", until="2099-01-01")
     embargo = ["31", "10", "the public", "files whose names begin with \u201cSKEW\u201d", "see nothing of them"]
-    embargo += ["until 2099-01-01", "Drop"]
+    embargo += ["until 2099-01-01", "ChangeDrop"]
     seen.same("rule 10, in its order", (["Done: rule 10 of deed 31."], [embargo, everybody]), (told, rows))
     see_outside(seen, page, "a deed without disks", NONE, NONE)
 
@@ -198,31 +228,31 @@ def see_disks(seen, page, room):
     wanted = [[name, *kinds[len(data)], digest(data), "", "", ""] for _, name, data in DISKS]
     seen.same("disks: the table", [*wanted, ["short.d64", "100", "", "", "", "", NO_KIND]], rows)
     page.number(31, 31)
-    page.browser.click("#images [name=count]")
-    told, rows = page.press("images")
-    seen.same("disks: put", ["4 disks put, 0 refused."], told)
+    page.browser.click("#disks [name=count]")
+    told, rows = page.press("disks")
+    seen.same("disks: put", ["4 disks put, 0 failed."], told)
     wanted = [*([str(number), "31", "done"] for number, _, _ in DISKS), ["", "", NO_KIND]]
     seen.same("disks: results", wanted, [row[4:] for row in rows])
-    progress = "const at = document.querySelector('progress'); return [at.value, at.max];"
-    seen.same("disks: the bar", [4, 4], page.browser.script(progress))
-    seen.same("disks: nothing is left", ["0 disks put, 0 refused."], page.press("images")[0])
+    seen.same("disks: nothing is left", ["4 disks put, 0 failed."], page.press("disks")[0])
     see_outside(seen, page, "the disks", OPEN, BOTH)
 
 
 def see_takedown(seen, page, room):
     told, rows = page.rule("takedowns", "33", "1", "deny", "slot", "2", "public", "room")
-    row = ["33", "1", "the public, the reading room", "the file at slot 2", "see nothing of them", "on all days"]
-    row.append("Drop")
+    row = ["33", "1", "the public and the reading room", "the file at slot 2", "see nothing of them", "on all days"]
+    row.append("ChangeDrop")
     seen.same("takedown", (["Done: takedown 1 of disk 33."], [row]), (told, rows))
     see_outside(seen, page, "a takedown", {**OPEN, 33: WITHOUT}, {**BOTH, 33: WITHOUT})
 
 
 def see_end_of_takedown(seen, page, room):
     """It is dropped when that is said once more, and not before."""
-    words = "Drop takedown 1 of disk 33? Readers may see again what it kept from them."
-    button = "#takedowns tbody button"
+    words = "Drop takedown 1 of disk 33?"
+    opens = "Opens for the public and the reading room: 1 file. Now they see nothing of them; then they may read them."
+    button = "[aria-label='Drop takedown 1 of disk 33']"
     page.browser.click(button)
-    seen.same("drop: asked", (words, "Keep it"), (page.read()["sure"], page.browser.focus()))
+    seen.same("drop: asked", (words, "Leave it as it is"), (page.read()["sure"], page.browser.focus()))
+    seen.same("drop: what opens", opens, page.read()["more"][-1])
     page.browser.press(ESCAPE)
     kept = ["Kept: takedown 1 of disk 33."]
     seen.same("drop: Escape", (kept, 1), (page.of("takedowns")[0], len(page.of("takedowns")[1])))
@@ -232,8 +262,8 @@ def see_end_of_takedown(seen, page, room):
     seen.same("drop: asked once more", words, page.drop(button, "drop"))
     seen.same("drop: done", (["Done: there is no takedown 1 of disk 33 now."], []), page.of("takedowns"))
     see_outside(seen, page, "a takedown that is dropped", OPEN, BOTH)
-    page.fill("rules", scope="31", rank="10")
-    page.drop("#rules [name=drop]", "drop")
+    page.fill("rules", scope="31")
+    page.drop("[aria-label='Drop rule 10 of deed 31']", "drop")
     told, rows = page.of("rules")
     seen.same("drop: a rule", (["Done: there is no rule 10 of deed 31 now."], ["20"]), (told, [row[1] for row in rows]))
     see_outside(seen, page, "a rule that is dropped", BOTH, BOTH)
@@ -248,7 +278,7 @@ def see_keys(seen, page, room):
     told, rows = page.press("keys")
     number = digest(KEY.encode())
     seen.same("keys: put", [f"Done: key of the reading room, SHA-256 {number}."], told)
-    seen.same("keys: the table", [[number, "the reading room", "Drop"]], rows)
+    seen.same("keys: the table", [[number, "the reading room", "Give it to the staffDrop"]], of_key(rows, number))
     left = "return document.querySelector('#keys [name=key]').value"
     seen.same("keys: it is left in no field", "", page.browser.script(left))
     with page.outside() as readers:
@@ -256,11 +286,16 @@ def see_keys(seen, page, room):
         seen.same("keys: it is known outside", OPEN[31], [row[1] for row in readers.go("31")["rows"]])
         readers.give(None)
     see_other_key(seen, page, digest(OTHER.encode()))
-    seen.same("keys: dropped", [number], [row[0] for row in page.of("keys")[1]])
+    rows = page.view("keys")["rows"]["keys"]
+    seen.same("keys: dropped", (1, []), (len(of_key(rows, number)), of_key(rows, digest(OTHER.encode()))))
     seen.same("keys: that one is put is in the log", True, room.has_logged(b'"PUT /badges/..." 200'))
     logs = room.logs()
     logged = [digest(one.encode()).encode() in logs for one in (KEY, OTHER)]
     seen.same("keys: no SHA-256 is", [False, False], logged)
+
+
+def of_key(rows, number):
+    return [row for row in rows if row[0] == number]
 
 
 def see_other_key(seen, page, number):
@@ -269,9 +304,11 @@ def see_other_key(seen, page, number):
     seen.same("keys: by its SHA-256", [f"Done: key of the staff, SHA-256 {number}."], page.press("keys")[0])
     seen.same("keys: another of the staff", ["The desk takes this key."], page.give(OTHER)["status"])
     page.fill("keys", key=OTHER)
-    words = f"Drop key with SHA-256 {number}? Nobody can use it any more."
-    asked = page.drop("#keys [name=drop]", "drop")
-    seen.same("keys: one's own", f"{words} It is the key that you use now.", asked)
+    page.browser.click("#keys [name=drop]")
+    asked = page.read()
+    words = [f"Drop key with SHA-256 {number}?", "Nobody can use it any more.", "It is the key that you use now."]
+    seen.same("keys: one's own", words, [asked["sure"], *asked["more"]])
+    page.browser.click("#sure [value=go]")
     seen.same("keys: it is gone", [f"Done: there is no key with SHA-256 {number} now."], page.of("keys")[0])
     seen.same("keys: it is unknown", "Refusal: unknown-key", page.give(OTHER)["status"][1])
     page.give(STAFF)
@@ -285,8 +322,8 @@ EXACT = [
 
 
 def see_looks(seen, page, room):
-    page.fill("looks", accession="33")
-    told, _ = page.press("looks")
+    page.fill("checks", accession="33")
+    told, _ = page.press("checks")
     wanted = [
         "33, Commodore 1541, called \u201cREADING ROOM\u201d", f"31, of {DONOR}, signed on 2020-02-29",
         "3 files: 2 can be given out, 0 damaged", "it ends well",
@@ -294,17 +331,17 @@ def see_looks(seen, page, room):
     seen.same("survey", wanted, told[:4])
     seen.same("survey: the map", EXACT, told[4:])
     see_marked(seen, page)
-    page.fill("looks", accession="32")
+    page.fill("checks", accession="32")
     wanted = ["32, CP/M, 8 inches", "2 files: 2 can be given out, 0 damaged"]
-    seen.same("survey: of CP/M", (wanted, 4), (page.press("looks")[0][0:4:2], len(page.of("looks")[0])))
+    seen.same("survey: of CP/M", (wanted, 4), (page.press("checks")[0][0:4:2], len(page.of("checks")[0])))
     sound = "Sound: the disk still has the SHA-256 that came with it."
-    seen.same("check", [f"Disk 32. {sound}"], page.press("looks", "[name=check]")[0])
+    seen.same("check", [f"Disk 32. {sound}"], page.press("checks", "[name=check]")[0])
 
 
 def see_marked(seen, page):
     """The survey of the disk with error bytes, of which a block of the first file reads with an error."""
-    page.fill("looks", accession="34")
-    told, _ = page.press("looks")
+    page.fill("checks", accession="34")
+    told, _ = page.press("checks")
     wanted = ["34, Commodore 1541 with error bytes, called \u201cSCRATCHED\u201d"]
     wanted += ["2 files: 1 can be given out, 1 damaged", "it ends well"]
     seen.same("survey: with error bytes", wanted, [told[0], *told[2:4]])
@@ -375,6 +412,7 @@ CONFLICT += "left. Give the disk another accession; or first put another key of 
 
 def see_refused(seen, page, room):
     """What the desk itself refuses."""
+    page.begin()
     told, rows = page.rule("rules", "99", "1", "deny", "all", None, "public")
     words = "There is no such deed. Check its number, or put the deed first."
     seen.same("refused: no deed", [words, "Refusal: no-deed"], told)
@@ -387,12 +425,11 @@ def see_refused(seen, page, room):
     seen.same("refused: a donor of 1,200 bytes", [words, "Refusal: bad-body"], page.press("deeds")[0])
     page.fill("keys", key=STAFF, audience="room")
     seen.same("refused: the last key of the staff", [CONFLICT, "Refusal: conflict"], page.press("keys")[0])
-    page.browser.click("#images [name=empty]")
     (room.folder / "loop.d64").write_bytes(LOOP_DISK)
     page.choose(room.folder / "loop.d64")
     page.number(31, 31)
-    told, rows = page.press("images")
-    wanted = (["0 disks put, 1 refused."], f"{CONFLICT}Refusal: conflict")
+    told, rows = page.press("disks")
+    wanted = (["0 disks put, 1 failed."], f"{CONFLICT} (conflict)")
     seen.same("refused: another disk", wanted, (told, rows[0][6]))
     see_sent_otherwise(seen, page, room)
 
@@ -401,12 +438,12 @@ def see_refused(seen, page, room):
 OTHERWISE = [
     (
         "asked(path.replace(/[0-9a-f]{64}/, '0'.repeat(64)), options)",
-        "The desk received other bytes than you sent. Send them again.Refusal: digest-differs",
+        "The desk received other bytes than you sent. Send them again. (digest-differs)",
     ),
     (
         "asked(path.replace('d64', 'cpm8'), options)",
         "The image does not have the length of its kind. Check that the file is whole, and choose it again."
-        "Refusal: wrong-size",
+        " (wrong-size)",
     ),
     (
         "asked(path, { ...options, body: new Uint8Array(262145) })",
@@ -414,21 +451,21 @@ OTHERWISE = [
     ),
     (
         "asked(path, { ...options, headers: {} })",
-        "Only the staff may do this. Use a key of the staff.Refusal: staff-onlyRule: S0, for the staff",
+        "Only the staff may do this. Use a key of the staff. (staff-only)",
     ),
     (
         "asked(path.replace('/31/d64', '/031/d64'), options)",
-        "There is nothing at that address. Check the numbers in it.Refusal: no-route",
+        "There is nothing at that address. Check the numbers in it. (no-route)",
     ),
     (
         "asked(path, { ...options, method: 'PATCH' })",
-        "The desk does not answer that. Load this page again.Refusal: method",
+        "The desk does not answer that. Load this page again. (method)",
     ),
     ("new Response('', { status: 429 })", "You ask too often. Wait a little, and try again."),
-    ("new Response('', { status: 504 })", f"The desk took too long. Try again. {AGAIN}"),
+    ("new Response('', { status: 504 })", f"The desk took too long. Try again. {MAY_BE}"),
     (
         "new Response('{\"error\":\"unavailable\"}', { status: 503 })",
-        f"The desk cannot do this now. Try again. If that fails, call whoever runs it. {AGAIN}Refusal: unavailable",
+        f"The desk cannot do this now. Try again. If that fails, call whoever runs it. {MAY_BE} (unavailable)",
     ),
     ("new Response('<html>', { status: 418 })", "The desk refuses that. Load this page again."),
     ("new Response('<html>')", "This page cannot read the desk's answer."),
@@ -440,31 +477,37 @@ def see_sent_otherwise(seen, page, room):
     page.browser.script("window.asked = window.fetch;")
     for reply, wanted in OTHERWISE:
         page.browser.script(f"window.fetch = async (path, options) => {reply};")
-        seen.same(f"refused: {reply}", wanted, page.press("images")[1][0][6])
+        seen.same(f"refused: {reply}", wanted, page.press("disks")[1][0][6])
     page.browser.script("window.fetch = window.asked;")
     page.number(37, 31)
-    seen.same("refused: and then done", "done", page.press("images")[1][0][6])
+    seen.same("refused: and then done", "done", page.press("disks")[1][0][6])
 
 
 def see_lost(seen, page, room):
     """A desk that is down, an nginx that is, and a file that is gone. What was typed is still there afterwards."""
     page.fill("deeds", deed="35", donor="F. Founder", signed="1999-12-31")
+    reply = "options.method === 'PUT' ? Promise.reject(new TypeError()) : asked(path, options)"
+    page.browser.script(f"window.asked = window.fetch; window.fetch = (path, options) => {reply};")
+    words = "This page cannot reach the desk. Check the connection, and try again."
+    seen.same("lost: when it was sent", [f"{words} {AGAIN}"], page.press("deeds")[0])
+    page.browser.script("window.fetch = window.asked;")
     room.stop_desk()
-    seen.same("lost: the desk is down", [f"{CLOSED} {AGAIN}"], page.press("deeds")[0])
+    seen.same("lost: the desk is down", [CLOSED], page.press("deeds")[0])
     room.stop_nginx()
-    words = f"This page cannot reach the desk. Check the connection, and try again. {AGAIN}"
     seen.same("lost: nobody answers", [words], page.press("deeds")[0])
     room.start_nginx()
     room.start_desk()
     told, rows = page.press("deeds")
-    seen.same("lost: sent again", (["Done: deed 35."], ["35", "F. Founder", "1999-12-31"]), (told, rows[-1]))
+    wanted = (["Done: deed 35."], ["35", "F. Founder", "1999-12-31", *NO_RULE])
+    seen.same("lost: sent again", wanted, (told, rows[-1]))
     (room.folder / "gone.d64").write_bytes(LOOP_DISK)
-    page.browser.click("#images [name=empty]")
+    page.view("disks")
+    page.browser.click("#disks [name=empty]")
     page.choose(room.folder / "gone.d64")
     page.number(36, 35)
     (room.folder / "gone.d64").unlink()
     words = "Your browser cannot read the file: it is gone, or has changed since you chose it. Choose it again."
-    seen.same("lost: a file", words, page.press("images")[1][0][6])
+    seen.same("lost: a file", words, page.press("disks")[1][0][6])
     seen.same("lost: no disk", 404, room.ask_desk(check(36))[0])
     page.browser.script("Object.defineProperty(crypto, 'subtle', { value: undefined });")
     page.fill("keys", key="x", audience="room")
@@ -484,6 +527,7 @@ def see_forgotten(seen, page, room):
     }
     for label, load in loads.items():
         page.give(key)
+        page.sign()
         page.fill("deeds", deed="40", donor="G. Giver", signed="2000-01-01")
         page.press("deeds")
         load()
@@ -491,7 +535,8 @@ def see_forgotten(seen, page, room):
         shown = page.read()
         seen.same(f"forgotten: {label}", ("You have given no key.", []), (shown["caller"], shown["rows"]["deeds"]))
         seen.same(f"forgotten: {label}: fields", False, "Giver" in page.browser.script(LEFT))
-        asked = "return fetch('/images/1/survey', { headers: fields() }).then((reply) => reply.status)"
+        asked = "return import('/shared.js').then((made) => fetch('/staff/keys', { headers: made.fields() }))"
+        asked += ".then((reply) => reply.status)"
         seen.same(f"forgotten: {label}: who asks now", 403, page.browser.script(asked))
     seen.same("forgotten: it is in no log", False, key.encode() in room.logs())
     room.ask_desk(drop(badge(key)))
@@ -509,7 +554,8 @@ def wait_until(page, holds):
 
 def see_keyboard(seen, page, room):
     """A deed by keys alone, from the top of the page."""
-    page.browser.open(page.address)
+    page.browser.open(f"{page.address}#/deeds")
+    page.browser.command("POST", "/refresh", {})
     order = []
     for _ in range(2):
         page.browser.press(TAB)
@@ -519,17 +565,19 @@ def see_keyboard(seen, page, room):
     wait_until(page, lambda shown: shown["works"])
     page.browser.press(TAB, TAB)
     seen.same("keyboard: then", "forget", page.browser.focus())
-    page.browser.press(*[TAB] * 7, *"41", TAB, *"H. Heir", TAB, *"12312001", ENTER)
-    wait_until(page, lambda shown: shown["told"]["deeds"] and not shown["busy"])
-    wanted = (["Done: deed 41."], [["41", "H. Heir", "2001-12-31"]])
-    seen.same("keyboard: a deed", wanted, page.of("deeds"))
+    wait_until(page, lambda shown: shown["rows"]["deeds"] and not shown["busy"])
+    page.browser.press(*[TAB] * 9, *"Ada", TAB, *"a letter", TAB, *"41", TAB, *"H. Heir", TAB, *"12312001", ENTER)
+    wait_until(page, lambda shown: shown["results"]["deeds"] and not shown["busy"])
+    told, rows = page.of("deeds")
+    wanted = (["Done: deed 41."], ["41", "H. Heir", "2001-12-31", *NO_RULE])
+    seen.same("keyboard: a deed", wanted, (told, rows[-1]))
     outline = "return getComputedStyle(document.activeElement).outlineStyle"
     seen.same("keyboard: the focus is seen", "solid", page.browser.script(outline))
     unnamed = """return Array.from(document.querySelectorAll("input, select"),
         (one) => one.labels.length || one.getAttribute("aria-label") ? null : one.name).filter((one) => one !== null)"""
     seen.same("keyboard: each field has a label", [], page.browser.script(unnamed))
-    live = "return Array.from(document.querySelectorAll('.told, #status'), (one) => one.getAttribute('role'))"
-    seen.same("keyboard: results are told", ["status"] * 7, page.browser.script(live))
+    live = "return Array.from(document.querySelectorAll('.result, #status'), (one) => one.getAttribute('role'))"
+    seen.same("keyboard: results are told", ["status"] * 9, page.browser.script(live))
 
 
 def fill_for_picture(page, room):
@@ -540,8 +588,8 @@ def fill_for_picture(page, room):
     page.rule("rules", "31", "10", "deny", "prefix", "SKEW", "public", until="2099-01-01")
     page.choose(*(room.folder / name for _, name, _ in DISKS))
     page.number(31, 31)
-    page.browser.click("#images [name=count]")
-    page.press("images")
+    page.browser.click("#disks [name=count]")
+    page.press("disks")
 
 
 def see_small(seen, page, room):
@@ -549,7 +597,9 @@ def see_small(seen, page, room):
     measured = {"width": 360, "height": 640, "deviceScaleFactor": 1, "mobile": True}
     page.browser.cdp("Emulation.setDeviceMetricsOverride", measured)
     wide = "return [document.documentElement.scrollWidth, window.innerWidth]"
-    seen.same("small screen", [360, 360], page.browser.script(wide))
+    for section in ("disks", "deeds", "rules", "takedowns", "keys", "checks", "eyes", "year"):
+        page.view(section)
+        seen.same(f"small screen: {section}", [360, 360], page.browser.script(wide))
     page.browser.cdp("Emulation.clearDeviceMetricsOverride", {})
 
 
@@ -581,5 +631,16 @@ def see(seen, readers, room, pictures):
     for group in GROUPS:
         group(seen, page, room)
     if pictures:
-        fill_for_picture(page, room)
-        page.browser.picture(os.path.join(ROOT, "docs", "page-staff.png"), 1000, 1250)
+        take_pictures(page, room)
+
+
+def take_pictures(page, room):
+    """A rule that is rehearsed before it is put, over the rules that stand."""
+    fill_for_picture(page, room)
+    page.view("rules")
+    page.audiences("rules", "public", "room")
+    page.fill("rules", scope="31", rank="5", effect="deny", how="type", until="2040-01-01")
+    page.fill("rules", what="SEQ")
+    page.browser.click("#rules > form [type=submit]")
+    page.read()
+    page.browser.picture(os.path.join(ROOT, "docs", "page-staff.png"), 1000, 1250)

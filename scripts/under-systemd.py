@@ -1,5 +1,5 @@
 #!/usr/bin/env python3
-"""scripts/under-systemd.py [PROGRAM]: boots a small Debian by systemd, types there what docs/OPERATING.md has a museum
+"""scripts/under-systemd.py [PROGRAM]: boots a small Debian by systemd, types there what docs/BY-HAND.md has a museum
 type on its machine, and looks at the service that comes of it.
 
 You need Python 3 with its standard library alone, Linux, the rights of root, and Debian's debootstrap and
@@ -58,7 +58,7 @@ STARTED = [
 FILES = {
     "/var/lib/desk": "desk:desk 700", "/var/lib/desk/museum.sqlite": "desk:desk 600",
     "/var/lib/desk/museum.sqlite-wal": "desk:desk 600", "/usr/local/bin/desk": "root:root 755",
-    "/usr/local/share/desk/web/index.html": "root:root 644", "/etc/desk": "root:root 700",
+    "/usr/local/share/desk/web/index.html": "root:root 644", "/etc/desk": "root:root 755",
     "/etc/desk/site.key": "root:root 600", "/etc/desk/staff-key": "root:root 600", UNIT: "root:root 644",
     "/srv/disks": "root:desk 750", "/srv/disks/images.csv": "root:desk 640",
 }
@@ -140,7 +140,7 @@ def see_page(seen, machine):
     """The page's commands after `#`, in their order. `systemctl status` has to tell that both services run."""
     shell = operating_page.Shell("/", *machine.inside, "--norc")
     shell.run(f"cd {HOME}", [])
-    for number, prompt, words, wanted in operating_page.commands(operating_page.PAGE):
+    for number, prompt, words, wanted in operating_page.commands(operating_page.BY_HAND):
         if prompt != "#" or operating_page.LEFT_OUT.match(words) or shell.hangs:
             continue
         came = shell.run(words, wanted)
@@ -148,7 +148,7 @@ def see_page(seen, machine):
             machine.says(LISTENS)
         if words == "systemctl status desk nginx":
             wanted, came = ["both run"], b"both run\n" if came.count(b"Active: active (running)") == 2 else came
-        seen.same(f"{operating_page.PAGE}, line {number}: {words}", operating_page.shown(wanted), came)
+        seen.same(f"{operating_page.BY_HAND}, line {number}: {words}", operating_page.shown(wanted), came)
     shell.close()
 
 

@@ -1,6 +1,5 @@
 // What both pages share: words for the replies of the desk, the key, requests to the desk, and how a refusal shows. The
 // pages show everything as text: they never take what the desk or a disk says as markup, a script or an address.
-"use strict";
 
 // What each refusal of the desk means, and what to do. docs/FORMATS.md also has those of the program.
 const REFUSALS = {
@@ -32,7 +31,10 @@ const REFUSALS = {
   unavailable: ["The desk cannot do this now.", "Try again. If that fails, call whoever runs it."],
 };
 
-// The same for a reply without such a name: from nginx, from nobody, or from this page itself.
+// How the names begin that nginx gives its own refusals. Their statuses say all that is in them.
+const OF_NGINX = "server-";
+
+// The same for a reply without such a name of the desk: from nginx, from nobody, or from this page itself.
 const STATUSES = {
   0: ["This page cannot reach the desk.", "Check the connection, and try again."],
   400: ["The server cannot read the request.", "Your key may be too long."],
@@ -47,7 +49,6 @@ const STATUSES = {
   changed: ["What you may see has just changed.", "Try again."],
   digest: ["This browser cannot make a SHA-256 here.", "Open the page at 127.0.0.1, or in another browser."],
   file: ["Your browser cannot read the file: it is gone, or has changed since you chose it.", "Choose it again."],
-  long: ["The list of all files is above 5 MB, so this page does not fetch it.", "Look for the file on its disk."],
 };
 const OTHERS = ["The desk refuses that.", "Load this page again."];
 
@@ -67,18 +68,32 @@ const FAULTS = {
 const DESK_RULES = { D0: "no rule lets you see it", K0: "the key is unknown", S0: "for the staff" };
 
 // The kinds of image: their words, and how many bytes an image has.
-const KINDS = {
+export const KINDS = {
   cpm8: { words: "CP/M, 8 inches", length: 256256 },
   d64: { words: "Commodore 1541", length: 174848 },
   d64e: { words: "Commodore 1541 with error bytes", length: 175531 },
 };
 
-const part = (id) => document.getElementById(id);
+export const part = (id) => document.getElementById(id);
 
 // The key, without blanks and tabs at its ends as in a field of HTTP. The page keeps it here only.
 let key = "";
 
-class Refused extends Error {
+export const keyInUse = () => key;
+
+// What forgets something that was asked with the key.
+const forgetters = [];
+
+export function forgetWithKey(forget) {
+  forgetters.push(forget);
+}
+
+export function useNow(given) {
+  key = given;
+  forgetters.forEach((forget) => forget());
+}
+
+export class Refused extends Error {
   constructor(status, said) {
     super(said.error);
     this.status = status;
@@ -88,20 +103,20 @@ class Refused extends Error {
 
 // Elements
 
-function element(name, text, fields = {}) {
+export function element(name, text, fields = {}) {
   const made = document.createElement(name);
   if (text !== null) made.textContent = text;
   return Object.assign(made, fields);
 }
 
-function cell(label, content, kind = "") {
+export function cell(label, content, kind = "") {
   const made = element("td", null, { className: content === "" ? "empty" : kind });
   made.dataset.label = label;
   made.append(content instanceof Node ? content : element("span", content));
   return made;
 }
 
-function table(caption, columns, rows) {
+export function table(caption, columns, rows) {
   const heads = columns.map((column) => element("th", column, { scope: "col" }));
   const head = element("thead", null);
   const body = element("tbody", null);
@@ -114,28 +129,28 @@ function table(caption, columns, rows) {
   return made;
 }
 
-function row(cells) {
+export function row(cells) {
   const made = element("tr", null);
   made.append(...cells);
   return made;
 }
 
-const numberOf = (value) => (Number.isInteger(value) ? String(value) : "");
-const textOf = (value) => (typeof value === "string" ? value : "");
-const counted = (count, word) => `${count.toLocaleString("en")} ${word}${count === 1 ? "" : "s"}`;
-const listOf = (value) => (Array.isArray(value) ? value : []);
-const own = (words, word) => (Object.hasOwn(words, word) ? words[word] : "");
-const kindWords = (kind) => own(KINDS, textOf(kind)).words || textOf(kind);
+export const numberOf = (value) => (Number.isInteger(value) ? String(value) : "");
+export const textOf = (value) => (typeof value === "string" ? value : "");
+export const counted = (count, word) => `${count.toLocaleString("en")} ${word}${count === 1 ? "" : "s"}`;
+export const listOf = (value) => (Array.isArray(value) ? value : []);
+export const own = (words, word) => (Object.hasOwn(words, word) ? words[word] : "");
+export const kindWords = (kind) => own(KINDS, textOf(kind)).words || textOf(kind);
 
 // The desk
 
 // A key may be any text; a field of HTTP holds bytes, so it goes as UTF-8.
-function fields() {
+export function fields() {
   if (key === "") return {};
   return { "Desk-Key": Array.from(new TextEncoder().encode(key), (byte) => String.fromCharCode(byte)).join("") };
 }
 
-async function ask(path, more = {}) {
+export async function ask(path, more = {}) {
   const options = { cache: "no-store", credentials: "omit", redirect: "error", headers: fields(), ...more };
   const reply = await fetch(path, options).catch(() => {
     throw new Refused(0, {});
@@ -146,7 +161,7 @@ async function ask(path, more = {}) {
 }
 
 // The object in a reply. A connection that ends too early is a lost one.
-async function askObject(path, more) {
+export async function askObject(path, more) {
   const reply = await ask(path, more);
   const text = await reply.text().catch(() => {
     throw new Refused(0, {});
@@ -154,16 +169,33 @@ async function askObject(path, more) {
   return JSON.parse(text);
 }
 
+const wordsFor = (fault) => own(REFUSALS, textOf(fault.said.error)) || own(STATUSES, String(fault.status)) || OTHERS;
+
+// A part of the page that is loaded when it is needed.
+export function loaded(module) {
+  return module.catch(() => {
+    throw new Refused(0, {});
+  });
+}
+
+// The desk's own name of a refusal, or none.
+export function refusalName(fault) {
+  const name = textOf(fault.said.error);
+  return name.startsWith(OF_NGINX) ? "" : name;
+}
+
+// What a refusal means and what to do, as one text.
+export const explainRefusal = (fault) => wordsFor(fault).join(" ");
+
 // What a refusal means and what to do, with more words where the page has them, and the desk's own words.
-function refusal(fault, more = "") {
+export function refusal(fault, more = "") {
   const made = element("div", null, { className: "refused" });
   if (!(fault instanceof Refused)) {
     made.append(element("p", "This page cannot read the desk's answer."));
     return made;
   }
-  const name = textOf(fault.said.error);
-  const [means, remedy] = own(REFUSALS, name) || own(STATUSES, String(fault.status)) || OTHERS;
-  made.append(element("p", `${means} ${remedy}${more && " "}${more}`));
+  const name = refusalName(fault);
+  made.append(element("p", `${explainRefusal(fault)}${more && " "}${more}`));
   if (name !== "") made.append(element("p", `Refusal: ${name}`));
   if (textOf(fault.said.rule) !== "") {
     made.append(element("p", `Rule: ${fault.said.rule}, ${meaning(fault.said.rule)}`));
@@ -174,23 +206,23 @@ function refusal(fault, more = "") {
 }
 
 // What a rule's label says.
-function meaning(label) {
+export function meaning(label) {
   const [, band, scope, rank] = /^([TR])([0-9]+)\.([0-9]+)$/.exec(label) || [];
   if (band === "T") return `takedown ${rank} of disk ${scope}`;
   if (band === "R") return `rule ${rank} of deed ${scope}`;
   return own(DESK_RULES, label) || "a rule";
 }
 
-function explained(word) {
+export function explained(word) {
   const plain = own(FAULTS, word);
   return plain === "" ? word : `${word} (${plain})`;
 }
 
 // The form for the key, and the link to what stands below it
 
-const asHeaderField = (text) => text.replace(/^[ \t]+|[ \t]+$/g, "");
+export const asHeaderField = (text) => text.replace(/^[ \t]+|[ \t]+$/g, "");
 
-function listenForKey(use) {
+export function listenForKey(use) {
   part("key-form").addEventListener("submit", (event) => {
     event.preventDefault();
     const given = asHeaderField(part("key").value);

@@ -1,6 +1,6 @@
 -- What the getters of `clap` read of the operands of a command.
 use Rattle.std.proofs.Common.{◌≡◌, ◌≢◌, ◌∙◌, ◌⊎◌, ◌||◌, ◌==◌, Bool, false, ◌∷◌, OnSome, ◌↔◌, IsOk, codes, ℕ, ℤ, List, [], Ok, Err, OnOk, Option, Some, None, Result, option_map, IfSome, IfNone, IfOk, IfErr, sym, ap, subst, true, inl, inr, refl}
-use Rattle.std.specs.Prelude.{Box, IsSomeAnd, ok_or, unwrap_or}
+use Rattle.std.specs.Prelude.{Box, IsErrAnd, IsSomeAnd, ok_or, unwrap_or}
 use Rattle.std.specs.Borrow.{Bor}
 use Rattle.std.specs.Box.{box_value}
 use Rattle.std.specs.Result.{result_ok}
@@ -24,17 +24,19 @@ use Rattle.rd_policy.specs.declared.zone.Zone.{Zone}
 use Rattle.rd_policy.specs.declared.zone.ZoneFault.{ZoneFault}
 use Rattle.rd_geometry.specs.Kinds.{word_of}
 use Rattle.clap.specs.declared.error.kind.ErrorKind.{ErrorKind}
-use Rattle.rd_commands.specs.Asks.{EntersAs, EntersByRule, EntersCat, EntersCheck, EntersExport, EntersImport, EntersInit, EntersList, EntersServe, EntersTelling, IsWithinLimits, IsFaultOf, IsFileAsk, IsFilesAsk, IsHelp, IsImportAsk, IsInitAsk, IsMomentTold, IsOnceAsk, IsServeAsk, TellsOnOutput}
+use Rattle.rd_commands.specs.Asks.{EntersAs, EntersByRule, EntersCat, EntersCheck, EntersExport, EntersImport, EntersInit, EntersList, EntersNaming, EntersNamingNone, EntersServe, EntersShow, EntersTelling, IsMistake, IsWithinLimits, IsFaultOf, IsFileAsk, IsFilesAsk, IsHelp, IsImportAsk, IsInitAsk, IsMomentTold, IsOnceAsk, IsServeAsk, TellsOnOutput}
 use Rattle.rd_commands.specs.CommandLine.{AsksForHelp, Enters, HasFault, IsDeskApp, IsTaken, IsTakenAs, IsTakenTelling, NameList, desk_app}
-use Rattle.rd_commands.specs.Commands.{AsksCheck, AsksExport, AsksImport, AsksInit, AsksServe, IsAskOf, IsCommand, TellsARule}
+use Rattle.rd_commands.specs.Commands.{AsksCheck, AsksExport, AsksImport, AsksInit, AsksServe, AsksShow, IsAskOf, IsCommand, NamesWhatItShows, TellsARule}
 use Rattle.rd_commands.specs.Words.{AsksCat, AsksList, IsSlotText}
 use Rattle.rd_commands.specs.Zones.{HasClocks, rule_text}
 use Rattle.rd_commands.specs.declared.words.Ask.{Ask}
-use Rattle.rd_commands.specs.declared.words.Question.TheVariants.{Catalogue, Check}
+use Rattle.rd_commands.specs.declared.words.Question.TheVariants.{Catalogue, Check, Show}
+use Rattle.rd_commands.specs.declared.words.Shown.{Shown}
 use Rattle.rd_commands.specs.declared.words.Unread.{Unread}
-use Rattle.rd_commands.specs.declared.words.Unread.TheVariants.{NoMemory, Told, Usage}
+use Rattle.rd_commands.specs.declared.words.Unread.TheVariants.{Day, NoMemory, Told, Usage}
 use Rattle.rd_commands.proofs.CatLine.{gives_cat, simple, takes_cat}
 use Rattle.rd_commands.proofs.ListLine.{gives_list, takes_list}
+use Rattle.rd_commands.proofs.Naming.{command_names, named_given, named_some}
 use Rattle.rd_commands.proofs.Texts.{same_kind}
 
 -- the text that a getter gives is the one in the rows
@@ -102,7 +104,7 @@ moment_is None moment r none value told = none refl ∙ sym told
 
 -- the words that a parse of the program's command line was given went into a command
 pub entered_is : (app : App) (words : List Text) (m : ArgMatches) → IsDeskApp app → HasMatchesOf app words m → subcommand_of app words ≡ subcommand_rows_of m
-entered_is app words m desk matches = sym (matches (ap is_simple desk.is ∙ simple desk.cat_kinds desk.list_kinds)).1
+entered_is app words m desk matches = sym (matches (ap is_simple desk.is ∙ simple desk.cat_kinds desk.list_kinds desk.shown)).1
 
 -- What a parse of the words found is what they ask for.
 pub record GivesAsk (words : List Text) (o : Option Ask) : Type 0 where
@@ -116,9 +118,11 @@ pub record GivesAsk (words : List Text) (o : Option Ask) : Type 0 where
       → IsSomeAnd o (IsOnceAsk store key Catalogue moment rule)
   pub check : (store key : Text) (acc : ℕ) (moment : Option ℤ) (rule : Text) → AsksCheck words store key acc moment rule
       → IsSomeAnd o (IsOnceAsk store (Some key) (Check acc) moment rule)
+  pub show : (store key : Text) (shown : Shown) (moment : Option ℤ) (rule : Text) → AsksShow words store key shown moment rule
+      → IsSomeAnd o (IsOnceAsk store (Some key) (Show shown) moment rule)
 
 -- What the rows of the command that a parse went into ask for is found.
-pub record GivesRows (entered : Option (Text × List Row)) (o : Option Ask) : Type 0 where
+pub record GivesRows (entered : Option (Text × List Row)) (shown : Option Shown) (o : Option Ask) : Type 0 where
   pub file : (kind : Kind) (image : Text) (slot : ℕ) → EntersCat entered kind image slot → IsSomeAnd o (IsFileAsk kind image slot)
   pub files : (kind : Kind) (image : Text) → EntersList entered kind image → IsSomeAnd o (IsFilesAsk kind image)
   pub init : (store key : Text) → EntersInit entered store key → IsSomeAnd o (IsInitAsk store key)
@@ -129,10 +133,12 @@ pub record GivesRows (entered : Option (Text × List Row)) (o : Option Ask) : Ty
       → IsSomeAnd o (IsOnceAsk store key Catalogue moment rule)
   pub check : (store key : Text) (acc : ℕ) (moment : Option ℤ) (rule : Text) → EntersCheck entered store key acc moment rule
       → IsSomeAnd o (IsOnceAsk store (Some key) (Check acc) moment rule)
+  pub show : (store key : Text) (what : Shown) (moment : Option ℤ) (rule : Text) → shown ≡ Some what → EntersShow entered store key moment rule
+      → IsSomeAnd o (IsOnceAsk store (Some key) (Show what) moment rule)
 
-pub ask_given : (o : Option Ask) (app : App) (words : List Text) (m : ArgMatches) → IsDeskApp app → HasMatchesOf app words m
-    → GivesRows (subcommand_rows_of m) o → GivesAsk words o
-ask_given o app words m desk matches given =
+pub ask_given : (o : Option Ask) (shown : Option Shown) (app : App) (words : List Text) (m : ArgMatches) → IsDeskApp app → HasMatchesOf app words m
+    → EntersNaming (subcommand_rows_of m) shown → GivesRows (subcommand_rows_of m) shown o → GivesAsk words o
+ask_given o shown app words m desk matches naming given =
     let same : subcommand_of app words ≡ subcommand_rows_of m = entered_is app words m desk matches in
     record {
       file = λ kind image slot asks. given.file kind image slot (subst (λ e. EntersCat e kind image slot) same (gives_cat app words kind image slot desk asks));
@@ -143,12 +149,16 @@ ask_given o app words m desk matches given =
           given.import store key sheet moment rule (record { rows = asks.rows; into = sym same ∙ asks.enters.into app desk; found = asks.found });
       export = λ store key moment rule asks. given.export store key moment rule (record { rows = asks.rows; into = sym same ∙ asks.enters.into app desk; found = asks.found });
       check = λ store key acc moment rule asks. given.check store key acc moment rule (record { rows = asks.rows; into = sym same ∙ asks.enters.into app desk; found = asks.found });
+      show = λ store key what moment rule asks.
+          let into = sym same ∙ asks.enters.into app desk in
+          given.show store key what moment rule (named_given shown asks.rows what (naming asks.rows into) asks.names)
+          (record { rows = asks.rows; into = into; found = asks.found });
     }
 
 -- words that are read are what is asked for
 pub ask_read : (o : Option Ask) (fault : Unread) (r : Result Ask Unread) (words : List Text) → r ≡ ok_or o fault → GivesAsk words o
     → IfOk r (IsAskOf words)
-ask_read (Some ask) fault r words is given = subst (λ x. IfOk x (IsAskOf words)) (sym is) (record { file = given.file; files = given.files; init = given.init; serve = given.serve; import = given.import; export = given.export; check = given.check })
+ask_read (Some ask) fault r words is given = subst (λ x. IfOk x (IsAskOf words)) (sym is) (record { file = given.file; files = given.files; init = given.init; serve = given.serve; import = given.import; export = given.export; check = given.check; show = given.show })
 ask_read None fault r words is given = subst (λ x. IfOk x (IsAskOf words)) (sym is) tt
 
 -- an accession that is read is a number of one
@@ -156,13 +166,13 @@ pub ask_accession : (o : Option Ask) (fault : Unread) (r : Result Ask Unread) �
 ask_accession (Some ask) fault r is has = subst (λ x. IfOk x IsWithinLimits) (sym is) has
 ask_accession None fault r is has = subst (λ x. IfOk x IsWithinLimits) (sym is) tt
 
-free : (kinds others : NameList) → is_simple_and_free (desk_app kinds others) ≡ true
-free kinds others = refl
+free : (kinds others shown : NameList) → is_simple_and_free (desk_app kinds others shown) ≡ true
+free kinds others shown = refl
 
 -- where a parse of the words succeeds, they have no fault
 pub words_taken : {T E : Type 0} (r : Result T E) (app : App) (words : List Text) → IsDeskApp app → (is_simple_and_free app ≡ true → fault_of app words ≡ [])
     → OnOk r (IsTaken words)
-words_taken (Ok value) app words desk none = record { app = app; is_desk = desk; no_fault = none (ap is_simple_and_free desk.is ∙ free desk.cat_kinds desk.list_kinds) }
+words_taken (Ok value) app words desk none = record { app = app; is_desk = desk; no_fault = none (ap is_simple_and_free desk.is ∙ free desk.cat_kinds desk.list_kinds desk.shown) }
 words_taken (Err error) app words desk none = tt
 
 -- where it fails, they have a fault of the error's kind
@@ -171,7 +181,7 @@ pub words_at_fault : (app : App) (words : List Text) (error : Error) (unread : U
     → (unread ≡ NoMemory) ⊎ (unread ≡ Told error) → IsFaultOf words unread
 words_at_fault app words error unread desk has memory told = elim told [
   | inl none ↦ subst (IsFaultOf words) (sym none) tt
-  | inr is ↦ elim (has (ap is_simple_and_free desk.is ∙ free desk.cat_kinds desk.list_kinds)) [
+  | inr is ↦ elim (has (ap is_simple_and_free desk.is ∙ free desk.cat_kinds desk.list_kinds desk.shown)) [
     | inl out ↦ subst (IsFaultOf words) (sym (memory out)) tt
     | inr among ↦ subst (IsFaultOf words) (sym is) (record { app = app; is_desk = desk; fault = among })
   ]
@@ -181,6 +191,7 @@ words_at_fault app words error unread desk has memory told = elim told [
 pub help_asked : (words : List Text) (unread : Unread) → IsHelp unread → IsFaultOf words unread → AsksForHelp words
 help_asked words (Told error) help fault = subst (HasFault words) help fault
 help_asked words Usage help fault = absurd help
+help_asked words Day help fault = absurd help
 help_asked words NoMemory help fault = absurd help
 
 -- a command is found
@@ -191,7 +202,8 @@ no_command words given (inr (inr (inl init))) = given.init init.0 init.1 init.2
 no_command words given (inr (inr (inr (inl serve)))) = given.serve serve.0 serve.1 serve.2 serve.3 serve.4
 no_command words given (inr (inr (inr (inr (inl import))))) = given.import import.0 import.1 import.2 import.3 import.4 import.5
 no_command words given (inr (inr (inr (inr (inr (inl export)))))) = given.export export.0 export.1 export.2 export.3 export.4
-no_command words given (inr (inr (inr (inr (inr (inr check)))))) = given.check check.1.0 check.1.1 check.0 check.1.2 check.1.3 check.1.4
+no_command words given (inr (inr (inr (inr (inr (inr (inl check))))))) = given.check check.1.0 check.1.1 check.0 check.1.2 check.1.3 check.1.4
+no_command words given (inr (inr (inr (inr (inr (inr (inr show))))))) = given.show show.0 show.1 show.2 show.3 show.4 show.5
 
 -- words that are not read are no command
 pub ask_unread : (o : Option Ask) (fault : Unread) (r : Result Ask Unread) (words : List Text) (P : Unread → Type 0) → r ≡ ok_or o fault → GivesAsk words o
@@ -212,15 +224,17 @@ pub fails_for_memory : (app : App) (words : List Text) (error : Error) → IsDes
 fails_for_memory app words error desk (inl cat) passes has = passes (takes_cat app words cat.0 cat.1 cat.2 desk cat.3)
 fails_for_memory app words error desk (inr (inl list)) passes has = passes (takes_list app words list.0 list.1 desk list.2)
 fails_for_memory app words error desk (inr (inr (inl init))) passes has =
-    none_among (fault_of app words) error (init.2.enters.no_fault app desk) (has (ap is_simple_and_free desk.is ∙ free desk.cat_kinds desk.list_kinds))
+    none_among (fault_of app words) error (init.2.enters.no_fault app desk) (has (ap is_simple_and_free desk.is ∙ free desk.cat_kinds desk.list_kinds desk.shown))
 fails_for_memory app words error desk (inr (inr (inr (inl serve)))) passes has =
-    none_among (fault_of app words) error (serve.4.enters.no_fault app desk) (has (ap is_simple_and_free desk.is ∙ free desk.cat_kinds desk.list_kinds))
+    none_among (fault_of app words) error (serve.4.enters.no_fault app desk) (has (ap is_simple_and_free desk.is ∙ free desk.cat_kinds desk.list_kinds desk.shown))
 fails_for_memory app words error desk (inr (inr (inr (inr (inl import))))) passes has =
-    none_among (fault_of app words) error (import.5.enters.no_fault app desk) (has (ap is_simple_and_free desk.is ∙ free desk.cat_kinds desk.list_kinds))
+    none_among (fault_of app words) error (import.5.enters.no_fault app desk) (has (ap is_simple_and_free desk.is ∙ free desk.cat_kinds desk.list_kinds desk.shown))
 fails_for_memory app words error desk (inr (inr (inr (inr (inr (inl export)))))) passes has =
-    none_among (fault_of app words) error (export.4.enters.no_fault app desk) (has (ap is_simple_and_free desk.is ∙ free desk.cat_kinds desk.list_kinds))
-fails_for_memory app words error desk (inr (inr (inr (inr (inr (inr check)))))) passes has =
-    none_among (fault_of app words) error (check.1.4.enters.no_fault app desk) (has (ap is_simple_and_free desk.is ∙ free desk.cat_kinds desk.list_kinds))
+    none_among (fault_of app words) error (export.4.enters.no_fault app desk) (has (ap is_simple_and_free desk.is ∙ free desk.cat_kinds desk.list_kinds desk.shown))
+fails_for_memory app words error desk (inr (inr (inr (inr (inr (inr (inl check))))))) passes has =
+    none_among (fault_of app words) error (check.1.4.enters.no_fault app desk) (has (ap is_simple_and_free desk.is ∙ free desk.cat_kinds desk.list_kinds desk.shown))
+fails_for_memory app words error desk (inr (inr (inr (inr (inr (inr (inr show))))))) passes has =
+    none_among (fault_of app words) error (show.5.enters.no_fault app desk) (has (ap is_simple_and_free desk.is ∙ free desk.cat_kinds desk.list_kinds desk.shown))
 
 -- words that `clap` takes as a command have no fault
 pub no_fault_in : (words : List Text) (name : Text) (rows : List Row) (kind : ErrorKind) → Enters words name rows → HasFault words kind → ⊥
@@ -239,7 +253,8 @@ clocked : (name : Text) → HasClocks name → is_clocked (second name) ≡ true
 clocked name (inl serve) = subst (λ n. is_clocked (second n) ≡ true) (sym serve) refl
 clocked name (inr (inl import)) = subst (λ n. is_clocked (second n) ≡ true) (sym import) refl
 clocked name (inr (inr (inl export))) = subst (λ n. is_clocked (second n) ≡ true) (sym export) refl
-clocked name (inr (inr (inr check))) = subst (λ n. is_clocked (second n) ≡ true) (sym check) refl
+clocked name (inr (inr (inr (inl check)))) = subst (λ n. is_clocked (second n) ≡ true) (sym check) refl
+clocked name (inr (inr (inr (inr show)))) = subst (λ n. is_clocked (second n) ≡ true) (sym show) refl
 
 unset : false ≡ true → ⊥
 unset set = cc
@@ -285,9 +300,52 @@ rule_read words entered (Some ask) fault r is found tells = subst (λ x. OnOk x 
 rule_read words entered None fault r is found tells = subst (λ x. OnOk x (TellsARule words)) (sym is) tt
 
 -- words of which nothing is found are a mistake
-pub unread_usage : (P : Type 0) (o : Option Ask) (r : Result Ask Unread) → r ≡ ok_or o Usage → IfErr r (λ fault. P → (fault ≡ Usage) ⊎ (fault ≡ NoMemory))
-unread_usage P (Some ask) r is = subst (λ x. IfErr x (λ fault. P → (fault ≡ Usage) ⊎ (fault ≡ NoMemory))) (sym is) tt
-unread_usage P None r is = subst (λ x. IfErr x (λ fault. P → (fault ≡ Usage) ⊎ (fault ≡ NoMemory))) (sym is) (λ p. inl refl)
+pub unread_usage : (P : Type 0) (o : Option Ask) (r : Result Ask Unread) → r ≡ ok_or o Usage → IfErr r (λ fault. P → IsMistake fault ⊎ (fault ≡ NoMemory))
+unread_usage P (Some ask) r is = subst (λ x. IfErr x (λ fault. P → IsMistake fault ⊎ (fault ≡ NoMemory))) (sym is) tt
+unread_usage P None r is = subst (λ x. IfErr x (λ fault. P → IsMistake fault ⊎ (fault ≡ NoMemory))) (sym is) (λ p. inl (inl refl))
+
+-- words that a parse takes as `show` name what it shows
+pub names_what_it_shows : (app : App) (words : List Text) (m : ArgMatches) (shown : Option Shown) → IsDeskApp app → HasMatchesOf app words m
+    → EntersNaming (subcommand_rows_of m) shown → NamesWhatItShows words
+names_what_it_shows app words m shown desk matches naming rows enters =
+    named_some shown rows (naming rows (sym (entered_is app words m desk matches) ∙ enters.into app desk))
+
+-- words of which nothing to show is found are no command
+pub unnamed : (app : App) (words : List Text) (m : ArgMatches) (fault : Unread) → IsDeskApp app → HasMatchesOf app words m
+    → (fault ≡ Day) ⊎ (fault ≡ NoMemory) → (fault ≡ Day → EntersNamingNone (subcommand_rows_of m)) → IsCommand words → fault ≡ NoMemory
+unnamed app words m fault desk matches (inl day) none command =
+    let entered = none day in
+    absurd (entered.2 (command_names app words entered.0 desk (entered_is app words m desk matches ∙ entered.1) command))
+unnamed app words m fault desk matches (inr memory) none command = memory
+
+pub on_ok_always : {T E P : Type 0} (r : Result T E) → P → OnOk r P
+on_ok_always (Ok value) fact = fact
+on_ok_always (Err error) fact = tt
+
+-- what holds of a fault holds of it where it is passed on
+pub passed_on : {T : Type 0} (r : Result T Unread) (fault : Unread) (P : Unread → Type 0) → IsErrAnd r (λ other. other ≡ fault) → P fault → IfErr r P
+passed_on (Ok value) fault P is fact = absurd is
+passed_on (Err other) fault P is fact = subst P (sym is) fact
+
+-- words that give a command, or are not whole, name what `show` shows
+pub no_day : (P : Unread → Type 0) (o : Option Ask) (r : Result Ask Unread) → r ≡ ok_or o Usage → IfErr r (λ fault. fault ≡ Day → P fault)
+no_day P (Some ask) r is = subst (λ x. IfErr x (λ fault. fault ≡ Day → P fault)) (sym is) tt
+no_day P None r is = subst (λ x. IfErr x (λ fault. fault ≡ Day → P fault)) (sym is) (λ day. absurd cc)
+
+-- what does not hold is the cause of no fault
+pub never_faulty : (Q : Type 0) (P : Unread → Type 0) (r : Result Ask Unread) → Q → IfErr r (λ fault. ¬ Q → P fault)
+never_faulty Q P (Ok ask) holds = tt
+never_faulty Q P (Err fault) holds = λ none. absurd (none holds)
+
+-- they are a mistake, or memory ran out
+pub day_mistake : (fault : Unread) → (fault ≡ Day) ⊎ (fault ≡ NoMemory) → IsMistake fault ⊎ (fault ≡ NoMemory)
+day_mistake fault (inl day) = inl (inr day)
+day_mistake fault (inr memory) = inr memory
+
+-- of which `clap` finds no fault
+pub day_no_fault : (words : List Text) (fault : Unread) → (fault ≡ Day) ⊎ (fault ≡ NoMemory) → IsFaultOf words fault
+day_no_fault words fault (inl day) = subst (IsFaultOf words) (sym day) tt
+day_no_fault words fault (inr memory) = subst (IsFaultOf words) (sym memory) tt
 
 module _ (app : App) (words : List Text) (m : ArgMatches) (desk : IsDeskApp app) (matches : HasMatchesOf app words m) (none : is_simple_and_free app ≡ true → fault_of app words ≡ []) where
   -- the words are the command that a parse of them went into
@@ -295,10 +353,14 @@ module _ (app : App) (words : List Text) (m : ArgMatches) (desk : IsDeskApp app)
   taken_as name entered = record {
     app = app;
     is_desk = desk;
-    no_fault = none (ap is_simple_and_free desk.is ∙ free desk.cat_kinds desk.list_kinds);
+    no_fault = none (ap is_simple_and_free desk.is ∙ free desk.cat_kinds desk.list_kinds desk.shown);
     rows = entered.0;
     into = entered_is app words m desk matches ∙ entered.1;
   }
+
+  -- words of which nothing to show is found are taken as `show`
+  pub taken_showing : EntersNamingNone (subcommand_rows_of m) → IsTakenAs (codes "show") words
+  taken_showing entered = taken_as (codes "show") (entered.0, entered.1)
 
   taken_telling : EntersTelling (subcommand_rows_of m) → IsTakenTelling words
   taken_telling (inl import) = inl (taken_as (codes "import") import)

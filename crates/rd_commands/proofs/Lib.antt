@@ -3,6 +3,7 @@ pub mod Texts
 pub mod CatLine
 pub mod ListLine
 pub mod VersionLine
+pub mod Naming
 pub mod Asked
 pub mod Written
 pub mod ReadUpTo

@@ -10,25 +10,25 @@ use Rattle.rd_commands.specs.Asks.{IsFaultOf, IsHelp, IsVersion}
 use Rattle.rd_commands.specs.CommandLine.{AsksForVersion, HasFault, IsDeskApp, IsTaken, NameList, desk_app}
 use Rattle.rd_commands.specs.Words.{AsksVersion}
 use Rattle.rd_commands.specs.declared.words.Unread.{Unread}
-use Rattle.rd_commands.specs.declared.words.Unread.TheVariants.{NoMemory, Told, Usage}
+use Rattle.rd_commands.specs.declared.words.Unread.TheVariants.{Day, NoMemory, Told, Usage}
 
-long_shows : (kinds others : NameList) (rest : List Text) → fault_of (desk_app kinds others) (codes "--version" ∷ rest) ≡ DisplayVersion ∷ []
+long_shows : (kinds others shown : NameList) (rest : List Text) → fault_of (desk_app kinds others shown) (codes "--version" ∷ rest) ≡ DisplayVersion ∷ []
 unfolding clap_on_literals
-long_shows kinds others rest = refl
+long_shows kinds others shown rest = refl
 
-short_shows : (kinds others : NameList) (rest : List Text) → fault_of (desk_app kinds others) (codes "-V" ∷ rest) ≡ DisplayVersion ∷ []
+short_shows : (kinds others shown : NameList) (rest : List Text) → fault_of (desk_app kinds others shown) (codes "-V" ∷ rest) ≡ DisplayVersion ∷ []
 unfolding clap_on_literals
-short_shows kinds others rest = refl
+short_shows kinds others shown rest = refl
 
 -- the version is shown, and nothing else
 shows_version : (app : App) (words : List Text) → IsDeskApp app → AsksVersion words → fault_of app words ≡ DisplayVersion ∷ []
 shows_version app words desk asks = elim asks.1 [
-  | inl long ↦ ap₂ fault_of desk.is long ∙ long_shows desk.cat_kinds desk.list_kinds asks.0
-  | inr short ↦ ap₂ fault_of desk.is short ∙ short_shows desk.cat_kinds desk.list_kinds asks.0
+  | inl long ↦ ap₂ fault_of desk.is long ∙ long_shows desk.cat_kinds desk.list_kinds desk.shown asks.0
+  | inr short ↦ ap₂ fault_of desk.is short ∙ short_shows desk.cat_kinds desk.list_kinds desk.shown asks.0
 ]
 
-free : (kinds others : NameList) → is_simple_and_free (desk_app kinds others) ≡ true
-free kinds others = refl
+free : (kinds others shown : NameList) → is_simple_and_free (desk_app kinds others shown) ≡ true
+free kinds others shown = refl
 
 -- the words are no command
 not_faultless : (app : App) (words : List Text) → IsDeskApp app → fault_of app words ≡ [] → AsksVersion words → ⊥
@@ -39,12 +39,16 @@ not_faultless app words desk none asks =
 pub version_not_taken : (words : List Text) → IsTaken words → AsksVersion words → ⊥
 version_not_taken words taken asks = not_faultless taken.app words taken.is_desk taken.no_fault asks
 
+-- nor are they words that a parse takes
+pub not_version : (app : App) (words : List Text) → IsDeskApp app → (is_simple_and_free app ≡ true → fault_of app words ≡ []) → AsksVersion words → ⊥
+not_version app words desk none asks = not_faultless app words desk (none (ap is_simple_and_free desk.is ∙ free desk.cat_kinds desk.list_kinds desk.shown)) asks
+
 -- so where a parse of the words succeeds
 pub version_not_parsed : {T E : Type 0} (r : Result T E) (P : E → Type 0) (app : App) (words : List Text) → IsDeskApp app
     → (is_simple_and_free app ≡ true → fault_of app words ≡ []) → IfErr r (λ fault. AsksVersion words → P fault)
 version_not_parsed (Ok value) P app words desk none = tt
 version_not_parsed (Err fault) P app words desk none = λ asks.
-    absurd (not_faultless app words desk (none (ap is_simple_and_free desk.is ∙ free desk.cat_kinds desk.list_kinds)) asks)
+    absurd (not_faultless app words desk (none (ap is_simple_and_free desk.is ∙ free desk.cat_kinds desk.list_kinds desk.shown)) asks)
 
 one_kind : (kinds : List ErrorKind) (error : Error) → kinds ≡ DisplayVersion ∷ [] → HasKind kinds error
     → (kind_of error ≡ OutOfMemory) ⊎ (kind_of error ≡ DisplayVersion)
@@ -63,7 +67,7 @@ pub version_unread : (app : App) (words : List Text) (error : Error) (unread : U
 version_unread app words error unread desk has memory told asks = elim told [
   | inl none ↦ inl none
   | inr is ↦ elim (one_kind (fault_of app words) error (shows_version app words desk asks)
-      (has (ap is_simple_and_free desk.is ∙ free desk.cat_kinds desk.list_kinds))) [
+      (has (ap is_simple_and_free desk.is ∙ free desk.cat_kinds desk.list_kinds desk.shown))) [
         | inl out ↦ inl (memory out)
         | inr shown ↦ inr (subst IsVersion (sym is) shown)
       ]
@@ -73,10 +77,12 @@ version_unread app words error unread desk has memory told asks = elim told [
 pub version_asked : (words : List Text) (unread : Unread) → IsVersion unread → IsFaultOf words unread → AsksForVersion words
 version_asked words (Told error) shown fault = subst (HasFault words) shown fault
 version_asked words Usage shown fault = absurd shown
+version_asked words Day shown fault = absurd shown
 version_asked words NoMemory shown fault = absurd shown
 
 -- the version is no help
 pub version_no_help : (unread : Unread) → IsVersion unread → IsHelp unread → ⊥
 version_no_help (Told error) shown help = let same : DisplayVersion ≡ DisplayHelp = sym shown ∙ help in absurd (cc same)
 version_no_help Usage shown help = absurd shown
+version_no_help Day shown help = absurd shown
 version_no_help NoMemory shown help = absurd shown

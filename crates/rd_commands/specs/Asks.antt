@@ -1,5 +1,5 @@
 -- What the program reads in the words of a command.
-use Rattle.std.specs.Prelude.{◌≡◌, ◌+◌, ◌⊎◌, ⊤, ℕ, ℤ, List, None, Ok, Option, Some, codes, option_map}
+use Rattle.std.specs.Prelude.{◌≡◌, ◌+◌, ◌⊎◌, ⊤, ℕ, ℤ, IsSomeAnd, List, None, Ok, Option, Some, codes, option_map}
 use Rattle.std.specs.Int.{w64}
 use Rattle.std.specs.Str.Parse.{ParsesSigned, ParsesUnsigned}
 use Rattle.std.specs.declared.num.ParseIntError.{ParseIntError}
@@ -21,10 +21,12 @@ use Rattle.rd_commands.specs.declared.words.OnceAsk.{OnceAsk}
 use Rattle.rd_commands.specs.declared.words.Question.{Question}
 use Rattle.rd_commands.specs.declared.words.Question.TheVariants as question
 use Rattle.rd_commands.specs.declared.words.ServeAsk.{ServeAsk}
+use Rattle.rd_commands.specs.declared.words.Shown.{Shown}
 use Rattle.rd_commands.specs.declared.words.Unread.{Unread}
 use Rattle.rd_commands.specs.declared.words.WhenAsk.{WhenAsk}
-use Rattle.rd_commands.specs.declared.words.Unread.TheVariants.{Told, Usage, NoMemory}
+use Rattle.rd_commands.specs.declared.words.Unread.TheVariants.{Day, Told, Usage, NoMemory}
 use Rattle.rd_commands.specs.CommandLine.{HasFault}
+use Rattle.rd_commands.specs.Shown.{IsShowable, NamesAny, NamesShown}
 use Rattle.rd_commands.specs.Words.{IsSlotText}
 use Rattle.rd_commands.specs.Zones.{HasClocks, HasZoneRule, IsRuleTold}
 
@@ -114,7 +116,7 @@ AsksADesk _ = ⊥
 -- the question what a check of this accession finds
 abbrev pub IsCheckOf : ℕ → Question → Type 0
 IsCheckOf acc (question.Check accession) = accession ≡ acc
-IsCheckOf acc question.Catalogue = ⊥
+IsCheckOf acc other = ⊥
 
 -- the question to a desk what a check of this accession finds
 abbrev pub AsksCheckOf : ℕ → Ask → Type 0
@@ -124,12 +126,13 @@ AsksCheckOf acc _ = ⊥
 -- the question asks for a check
 abbrev pub IsCheck : Question → Type 0
 IsCheck (question.Check accession) = ⊤
-IsCheck question.Catalogue = ⊥
+IsCheck other = ⊥
 
--- the number of an accession in a question is within its limits
+-- the number of an accession in a question is within its limits, and so is a day
 abbrev pub IsAskable : Question → Type 0
 IsAskable (question.Check accession) = IsScope accession
-IsAskable question.Catalogue = ⊤
+IsAskable (question.Show shown) = IsShowable shown
+IsAskable other = ⊤
 
 -- if not all is well, the output says so: what became of a row, or that an image is changed
 abbrev pub TellsOnOutput : Ask → Type 0
@@ -142,7 +145,8 @@ abbrev pub TellsInRows : Ask → Type 0
 TellsInRows (Import ask) = ⊤
 TellsInRows _ = ⊥
 
--- if the command names an accession, its number is from 1 to 999,999
+-- if the command names an accession, its number is from 1 to 999,999, and if it names a day, that is of the years 1 to
+-- 9999
 abbrev pub IsWithinLimits : Ask → Type 0
 IsWithinLimits (Once ask) = IsAskable ask.question
 IsWithinLimits _ = ⊤
@@ -161,18 +165,26 @@ most_read (Once ask) = 0
 abbrev pub IsHelp : Unread → Type 0
 IsHelp (Told error) = kind_of error ≡ DisplayHelp
 IsHelp Usage = ⊥
+IsHelp Day = ⊥
 IsHelp NoMemory = ⊥
 
 -- the text to write is the version
 abbrev pub IsVersion : Unread → Type 0
 IsVersion (Told error) = kind_of error ≡ DisplayVersion
 IsVersion Usage = ⊥
+IsVersion Day = ⊥
 IsVersion NoMemory = ⊥
+
+-- the words are no command, although `clap` accepts them: the text of --zone is no rule, or that of --on does not go
+-- with what `show` shows
+abbrev pub IsMistake : Unread → Type 0
+IsMistake unread = (unread ≡ Usage) ⊎ (unread ≡ Day)
 
 -- the text to write is a fault that `clap` finds in the words
 abbrev pub IsFaultOf : List Text → Unread → Type 0
 IsFaultOf words (Told error) = HasFault words (kind_of error)
 IsFaultOf words Usage = Unit {0}
+IsFaultOf words Day = Unit {0}
 IsFaultOf words NoMemory = Unit {0}
 
 -- the operands that `clap` found for `cat`
@@ -290,6 +302,28 @@ pub record EntersCheck (entered : Option (Text × List Row)) (store key : List �
   pub rows : List Row
   pub into : entered ≡ Some (codes "check", rows)
   pub found : AreCheckRows rows store key acc moment rule
+
+-- the options that `clap` found for `show`, beside what says what it shows: of the moment and the zone those that are
+-- there
+pub record AreShowRows (rows : List Row) (store key : List ℕ) (moment : Option ℤ) (rule : List ℕ) : Type 0 where
+  pub store_found : first_of (codes "store") rows ≡ Some store
+  pub key_found : first_of (codes "key") rows ≡ Some key
+  pub moment_given : IsMomentTold (one_of (codes "at") rows) moment
+  pub rule_given : IsRuleTold (first_of (codes "zone") rows) rule
+
+-- the parse went into `show`, and found its options
+pub record EntersShow (entered : Option (Text × List Row)) (store key : List ℕ) (moment : Option ℤ) (rule : List ℕ) : Type 0 where
+  pub rows : List Row
+  pub into : entered ≡ Some (codes "show", rows)
+  pub found : AreShowRows rows store key moment rule
+
+-- if the parse went into `show`, this is what is named there
+abbrev pub EntersNaming : Option (Text × List Row) → Option Shown → Type 0
+EntersNaming entered shown = (rows : List Row) → entered ≡ Some (codes "show", rows) → IsSomeAnd shown (NamesShown rows)
+
+-- the parse went into `show`, and nothing is named there
+abbrev pub EntersNamingNone : Option (Text × List Row) → Type 0
+EntersNamingNone entered = (rows : List Row) × (entered ≡ Some (codes "show", rows)) × ¬ NamesAny rows
 
 -- the parse went into a command whose output says if not all is well
 abbrev pub EntersTelling : Option (Text × List Row) → Type 0

@@ -1,5 +1,5 @@
 -- The command line as the program describes it to `clap`.
-use Rattle.std.specs.Prelude.{◌≡◌, ◌⊎◌, List, [], Some, codes, map, pos, true}
+use Rattle.std.specs.Prelude.{◌≡◌, ◌⊎◌, List, [], ◌∷◌, Some, codes, map, pos, true}
 use Rattle.std.specs.Borrow.{Bor}
 use Rattle.clap.specs.Simple.{on_top}
 use Rattle.clap.specs.Words.{App, IsAmong, Row, Rule, Shape, Text, fault_of, new_app, new_rule, subcommand_of, with_rule, with_subcommand}
@@ -114,6 +114,24 @@ check_app =
     with_rule (with_rule (with_rule (with_rule (with_rule (new_app (codes "check")) store_rule) key_rule) accession_rule)
     moment_rule) zone_rule
 
+-- the words for what `show` shows
+abbrev pub what_words : List Text
+what_words = codes "deeds" ∷ codes "takedowns" ∷ codes "keys" ∷ codes "checks" ∷ codes "verdicts" ∷ []
+
+-- the operand for what to show, one of these names
+abbrev pub what_rule : NameList → Rule
+what_rule names = required_by (codes "WHAT") (Names names)
+
+-- the option for a day, which may be absent
+abbrev pub day_rule : Rule
+day_rule = record (new_rule (codes "on")) { long = Some (codes "on"); value_names = 1 }
+
+-- the command `show`
+abbrev pub show_app : NameList → App
+show_app names =
+    with_rule (with_rule (with_rule (with_rule (with_rule (with_rule (new_app (codes "show")) (what_rule names)) store_rule)
+    key_rule) day_rule) moment_rule) zone_rule
+
 -- the words come without the program's name, one of them is a command's, and there is a version
 abbrev pub wants_command : Shape → Shape
 wants_command s = record s {
@@ -128,11 +146,11 @@ abbrev pub bare_app : App
 bare_app = on_top wants_command (new_app (codes "desk"))
 
 -- the program
-abbrev pub desk_app : NameList → NameList → App
-desk_app kinds kinds' =
+abbrev pub desk_app : NameList → NameList → NameList → App
+desk_app kinds kinds' names =
     with_subcommand (with_subcommand (with_subcommand (with_subcommand (with_subcommand (with_subcommand (with_subcommand
-    bare_app (cat_app kinds).top) (list_app kinds').top) init_app.top) serve_app.top) import_app.top) export_app.top)
-    check_app.top
+    (with_subcommand bare_app (cat_app kinds).top) (list_app kinds').top) init_app.top) serve_app.top) import_app.top)
+    export_app.top) check_app.top) (show_app names).top
 
 -- the names are the words of all kinds
 abbrev pub AreKindNames : NameList → Type 0
@@ -150,13 +168,27 @@ IsCatApp app = (kinds : NameList) × AreKindNames kinds × (app ≡ cat_app kind
 abbrev pub IsListApp : App → Type 0
 IsListApp app = (kinds : NameList) × AreKindNames kinds × (app ≡ list_app kinds)
 
--- the program, whose commands take these kinds
+-- the names are the words for what `show` shows
+abbrev pub AreWhatNames : NameList → Type 0
+AreWhatNames names = map (λ name. name.now) names.now ≡ what_words
+
+-- an operand for what to show
+abbrev pub IsWhatRule : Rule → Type 0
+IsWhatRule rule = (names : NameList) × AreWhatNames names × (rule ≡ what_rule names)
+
+-- the command `show`, of one of these
+abbrev pub IsShowApp : App → Type 0
+IsShowApp app = (names : NameList) × AreWhatNames names × (app ≡ show_app names)
+
+-- the program, whose commands take these kinds, and show these
 pub record IsDeskApp (app : App) : Type 0 where
   pub cat_kinds : NameList
   pub list_kinds : NameList
+  pub shown : NameList
   pub cat_names : AreKindNames cat_kinds
   pub list_names : AreKindNames list_kinds
-  pub is : app ≡ desk_app cat_kinds list_kinds
+  pub shown_names : AreWhatNames shown
+  pub is : app ≡ desk_app cat_kinds list_kinds shown
 
 -- `clap` finds no fault in the words: they are a command of the program
 pub record IsTaken (words : List Text) : Type 0 where

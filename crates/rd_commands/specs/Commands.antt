@@ -3,9 +3,11 @@ use Rattle.std.specs.Prelude.{◌⊎◌, ℕ, ℤ, List, Option, Some, codes}
 use Rattle.clap.specs.Words.{Row, Text}
 use Rattle.rd_geometry.specs.declared.kind.Kind.{Kind}
 use Rattle.rd_commands.specs.declared.words.Ask.{Ask}
-use Rattle.rd_commands.specs.declared.words.Question.TheVariants.{Catalogue, Check}
-use Rattle.rd_commands.specs.Asks.{AreCheckRows, AreExportRows, AreImportRows, AreInitRows, AreServeRows, IsFileAsk, IsFilesAsk, IsImportAsk, IsInitAsk, IsOnceAsk, IsServeAsk}
+use Rattle.rd_commands.specs.declared.words.Question.TheVariants.{Catalogue, Check, Show}
+use Rattle.rd_commands.specs.declared.words.Shown.{Shown}
+use Rattle.rd_commands.specs.Asks.{AreCheckRows, AreExportRows, AreImportRows, AreInitRows, AreServeRows, AreShowRows, IsFileAsk, IsFilesAsk, IsImportAsk, IsInitAsk, IsOnceAsk, IsServeAsk}
 use Rattle.rd_commands.specs.CommandLine.{Enters}
+use Rattle.rd_commands.specs.Shown.{NamesAny, NamesShown}
 use Rattle.rd_commands.specs.Words.{AsksCat, AsksList}
 use Rattle.rd_commands.specs.Zones.{HasClocks, HasZoneRule}
 
@@ -58,12 +60,25 @@ pub record AsksCheck (words : List Text) (store key : List ℕ) (acc : ℕ) (mom
 abbrev pub IsCheckOf : List Text → ℕ → Type 0
 IsCheckOf words acc = (store : List ℕ) × (key : List ℕ) × (moment : Option ℤ) × (rule : List ℕ) × AsksCheck words store key acc moment rule
 
--- the words ask for a desk, for visits, to take in images, for the catalogue or for a check; none
--- of these reads the input
+-- The words ask the desk in the file of a store to show this, for a caller with this key, at such a moment by such
+-- clocks: they are those of `show`, as `clap` takes them.
+pub record AsksShow (words : List Text) (store key : List ℕ) (shown : Shown) (moment : Option ℤ) (rule : List ℕ) : Type 0 where
+  pub rows : List Row
+  pub enters : Enters words (codes "show") rows
+  pub found : AreShowRows rows store key moment rule
+  pub names : NamesShown rows shown
+
+-- they ask for it with some options
+abbrev pub IsShow : List Text → Type 0
+IsShow words = (store : List ℕ) × (key : List ℕ) × (shown : Shown) × (moment : Option ℤ) × (rule : List ℕ)
+    × AsksShow words store key shown moment rule
+
+-- the words ask for a desk, for visits, to take in images, for the catalogue, for a check, or to show what the desk
+-- holds; none of these reads the input
 abbrev pub AsksOfStore : List Text → Type 0
 AsksOfStore words = ((store : List ℕ) × (key : List ℕ) × AsksInit words store key)
     ⊎ (((store : List ℕ) × (port : ℕ) × (count : ℕ) × (rule : List ℕ) × AsksServe words store port count rule)
-    ⊎ (IsImport words ⊎ (IsExport words ⊎ ((acc : ℕ) × IsCheckOf words acc))))
+    ⊎ (IsImport words ⊎ (IsExport words ⊎ (((acc : ℕ) × IsCheckOf words acc) ⊎ IsShow words))))
 
 -- the words are a command of the program: a plain form of `cat` or `list`, or any form of the others
 abbrev pub IsCommand : List Text → Type 0
@@ -73,6 +88,10 @@ IsCommand words = ((kind : Kind) × (image : List ℕ) × (slot : ℕ) × AsksCa
 -- if `clap` takes the words as a command that has clocks, they give a rule for these
 abbrev pub TellsARule : List Text → Type 0
 TellsARule words = (name : List ℕ) (rows : List Row) → Enters words name rows → HasClocks name → HasZoneRule rows
+
+-- if `clap` takes the words as `show`, they name what it shows
+abbrev pub NamesWhatItShows : List Text → Type 0
+NamesWhatItShows words = (rows : List Row) → Enters words (codes "show") rows → NamesAny rows
 
 -- the program asks for what the words ask for
 pub record IsAskOf (words : List Text) (ask : Ask) : Type 0 where
@@ -87,3 +106,5 @@ pub record IsAskOf (words : List Text) (ask : Ask) : Type 0 where
       → AsksExport words store key moment rule → IsOnceAsk store key Catalogue moment rule ask
   pub check : (store key : List ℕ) (acc : ℕ) (moment : Option ℤ) (rule : List ℕ)
       → AsksCheck words store key acc moment rule → IsOnceAsk store (Some key) (Check acc) moment rule ask
+  pub show : (store key : List ℕ) (shown : Shown) (moment : Option ℤ) (rule : List ℕ)
+      → AsksShow words store key shown moment rule → IsOnceAsk store (Some key) (Show shown) moment rule ask

@@ -2,6 +2,7 @@
 pub mod Words
 pub mod CommandLine
 pub mod Zones
+pub mod Shown
 pub mod Asks
 pub mod Commands
 pub mod Refusals

@@ -18,4 +18,4 @@ HasZoneRule rows = IsZoneRule (rule_text (first_of (codes "zone") rows))
 
 -- the command of this name has an option for the zone of a desk's clocks
 abbrev pub HasClocks : List ℕ → Type 0
-HasClocks name = (name ≡ codes "serve") ⊎ ((name ≡ codes "import") ⊎ ((name ≡ codes "export") ⊎ (name ≡ codes "check")))
+HasClocks name = (name ≡ codes "serve") ⊎ ((name ≡ codes "import") ⊎ ((name ≡ codes "export") ⊎ ((name ≡ codes "check") ⊎ (name ≡ codes "show"))))

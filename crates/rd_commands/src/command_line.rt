@@ -1,12 +1,15 @@
 ghost use Rattle.std.specs.Prelude.{◌≡◌, IfOk, false};
 ghost use Rattle.clap.specs.Words.{app_of, rule_of};
 ghost use Rattle.clap.specs.declared.builder.command.Command.TheViews.{out-Command as fields_of};
-ghost use Rattle.rd_commands.specs.CommandLine.{IsCatApp, IsDeskApp, IsKindRule, IsListApp, accession_rule, bare_app, check_app, count_rule, export_app, image_rule, import_app, init_app, key_rule, moment_rule, optional_key_rule, port_rule, serve_app, sheet_rule, slot_rule, store_rule, zone_rule};
+ghost use Rattle.rd_commands.specs.CommandLine.{IsCatApp, IsDeskApp, IsKindRule, IsListApp, IsShowApp, IsWhatRule, accession_rule, bare_app, check_app, count_rule, day_rule, export_app, image_rule, import_app, init_app, key_rule, moment_rule, optional_key_rule, port_rule, serve_app, sheet_rule, slot_rule, store_rule, zone_rule};
 
 use crate::version::VERSION;
 use clap::{Arg, Command, value_parser};
 use rd_geometry::KIND_WORDS;
 use std::alloc::{AllocError, Global};
+
+/// The words for what `show` shows.
+static WHAT_WORDS: [&str; 5] = ["deeds", "takedowns", "keys", "checks", "verdicts"];
 
 /// The operand for a kind.
 fn kind_operand<'a>(alloc: Global) -> Arg<'a>
@@ -248,6 +251,47 @@ fn check_command<'a>(alloc: Global) -> Result<Command<'a>, AllocError>
         .arg(zone_option(alloc))
 }
 
+/// The operand for what to show.
+fn what_operand<'a>(alloc: Global) -> Arg<'a>
+    ensures rule { IsWhatRule (rule_of result) }
+    ensures local { result.global ≡ false }
+{
+    Arg::new(alloc, "WHAT")
+        .required(true)
+        .help("What to show: the verdicts as a CSV table, all else as JSON")
+        .value_parser(WHAT_WORDS.as_slice())
+}
+
+/// The option for the day of the verdicts.
+fn day_option<'a>(alloc: Global) -> Arg<'a>
+    ensures rule { rule_of result ≡ day_rule }
+    ensures local { result.global ≡ false }
+{
+    Arg::new(alloc, "on").long("on").value_name("DATE").help(
+        "The day of the verdicts, such as 2030-01-01; `verdicts` needs it, and nothing else takes it",
+    )
+}
+
+/// The command `show`.
+fn show_command<'a>(alloc: Global) -> Result<Command<'a>, AllocError>
+    ensures shape { IfOk result (λ show. IsShowApp (app_of show)) }
+    ensures local { IfOk result (λ show. (fields_of show).has_globals ≡ false) }
+{
+    Command::new(alloc, "show")
+        .about(
+            "Shows the staff what the desk holds: deeds, takedowns, keys, checks, or the verdicts of a day",
+        )
+        .after_help(
+            "Examples:\n  desk show deeds --store museum.sqlite --key 'a long phrase'\n  desk show verdicts --on 2030-01-01 --store museum.sqlite --key 'a long phrase'",
+        )
+        .arg(what_operand(alloc))?
+        .arg(store_option(alloc))?
+        .arg(key_option(alloc))?
+        .arg(day_option(alloc))?
+        .arg(moment_option(alloc))?
+        .arg(zone_option(alloc))
+}
+
 /// The program's command line, without its commands.
 fn bare_desk<'a>(alloc: Global) -> Result<Command<'a>, AllocError>
     ensures { IfOk result (λ desk. app_of desk ≡ bare_app) }
@@ -256,7 +300,7 @@ fn bare_desk<'a>(alloc: Global) -> Result<Command<'a>, AllocError>
         .version(VERSION)
         .about("Reads files from disk images, and serves those of a museum by its rules")
         .after_help(
-            "Examples:\n  desk list cpm8 disk.img\n  desk cat cpm8 disk.img 0\n  desk list d64 disk.d64\n  desk init --store museum.sqlite --key 'a long phrase'\n  desk serve --store museum.sqlite --port 8041 --count 1000\n  desk import --store museum.sqlite --key 'a long phrase' --sheet images.csv\n  desk export --store museum.sqlite\n  desk check --store museum.sqlite --key 'a long phrase' --acc 12",
+            "Examples:\n  desk list cpm8 disk.img\n  desk cat cpm8 disk.img 0\n  desk list d64 disk.d64\n  desk init --store museum.sqlite --key 'a long phrase'\n  desk serve --store museum.sqlite --port 8041 --count 1000\n  desk import --store museum.sqlite --key 'a long phrase' --sheet images.csv\n  desk export --store museum.sqlite\n  desk check --store museum.sqlite --key 'a long phrase' --acc 12\n  desk show deeds --store museum.sqlite --key 'a long phrase'",
         )
         .no_binary_name(true)
         .bin_name("desk")?;
@@ -274,5 +318,6 @@ pub(crate) fn desk_command<'a>(alloc: Global) -> Result<Command<'a>, AllocError>
         .subcommand(serve_command(alloc)?)?
         .subcommand(import_command(alloc)?)?
         .subcommand(export_command(alloc)?)?
-        .subcommand(check_command(alloc)?)
+        .subcommand(check_command(alloc)?)?
+        .subcommand(show_command(alloc)?)
 }

@@ -7,7 +7,7 @@ ghost use Rattle.clap.specs.Values.{kind_of};
 ghost use Rattle.clap.specs.declared.error.Error.{Error};
 ghost use Rattle.clap.specs.declared.error.kind.ErrorKind.TheVariants.{DisplayHelp, DisplayVersion};
 ghost use Rattle.rd_volume.specs.Words.{words_left};
-ghost use Rattle.rd_commands.specs.Asks.{IsHelp, IsVersion};
+ghost use Rattle.rd_commands.specs.Asks.{IsHelp, IsMistake, IsVersion};
 ghost use Rattle.rd_commands.specs.Output.{AppendsPart};
 ghost use Rattle.rd_commands.specs.Printed.{blanked, refusal_line, words_after};
 ghost use Rattle.rd_commands.specs.Refusals.{status_of};
@@ -29,6 +29,10 @@ use std::process::ExitCode;
 /// What it says about a text that is no rule for clocks.
 const ZONE_MISTAKE: &[u8] =
     b"error: --zone takes a rule as POSIX writes it, as in UTC0 or CET-1CEST,M3.5.0,M10.5.0/3\n\nFor more information, try '--help'.\n";
+
+/// What it says about a day that does not go with what `show` shows.
+const DAY_MISTAKE: &[u8] =
+    b"error: --on takes a date, as in 2030-01-01; 'show verdicts' needs it, and nothing else takes it\n\nFor more information, try '--help'.\n";
 
 /// Writes a word after a blank.
 ///
@@ -137,8 +141,9 @@ pub fn tell_unread<W: Write, E: Write>(unread: Unread, output: &mut W, errors: &
     ensures usage { result ≡ 2 → Keeps (W.contents output.old) (W.contents output.new) }
     ensures mistake { (error : Error) → unread ≡ Unread.Told error → kind_of error ≢ DisplayHelp
         → kind_of error ≢ DisplayVersion → result ≡ 2 }
-    ensures mistaken { unread ≡ Unread.Usage → result ≡ 2 }
+    ensures mistaken { IsMistake unread → result ≡ 2 }
     ensures mistake_told { unread ≡ Unread.Usage → AppendsPart (E.contents errors.old) (E.contents errors.new) ZONE_MISTAKE.now }
+    ensures day_mistake { unread ≡ Unread.Day → AppendsPart (E.contents errors.old) (E.contents errors.new) DAY_MISTAKE.now }
     ensures memory { unread ≡ Unread.NoMemory
         → (result ≡ 3) × Keeps (W.contents output.old) (W.contents output.new) }
     ensures no_memory { unread ≡ Unread.NoMemory
@@ -153,6 +158,10 @@ pub fn tell_unread<W: Write, E: Write>(unread: Unread, output: &mut W, errors: &
         Unread::NoMemory => tell_refusal(Refusal::NoMemory, errors),
         Unread::Usage => {
             let _ = write_bytes(errors, ZONE_MISTAKE);
+            2
+        }
+        Unread::Day => {
+            let _ = write_bytes(errors, DAY_MISTAKE);
             2
         }
         Unread::Told(error) => {

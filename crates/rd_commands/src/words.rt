@@ -1,4 +1,5 @@
-ghost use Rattle.std.specs.Prelude.{◌≡◌, ◌⊎◌, IfErr, IfOk, IfSome, IsSomeAnd, List, Ok, OnOk, OnSome, Option, Some, codes, map, option_map, ℕ, ℤ};
+ghost use Rattle.std.specs.Option.{ForSome};
+ghost use Rattle.std.specs.Prelude.{◌≡◌, ◌⊎◌, IfErr, IfNone, IfOk, IfSome, IsSomeAnd, List, Ok, OnOk, OnSome, Option, Some, codes, map, option_map, ℕ, ℤ};
 ghost use Rattle.std.specs.Str.Parse.{ParsesUnsigned};
 ghost use Rattle.std.specs.declared.num.ParseIntError.{ParseIntError};
 ghost use Rattle.clap.specs.Words.{first_of, found_of, kind_of, one_of, rows_of};
@@ -8,12 +9,13 @@ ghost use Rattle.httparse.specs.Grammar.{trim_ows};
 ghost use Rattle.rd_geometry.specs.Kinds.{word_of};
 ghost use Rattle.rd_policy.specs.Rules.{IsScope};
 ghost use Rattle.rd_policy.specs.Zones.{IsZoneOf};
-ghost use Rattle.rd_commands.specs.Asks.{AreCatRows, AreCheckRows, AreExportRows, AreImportRows, AreInitRows, AreListRows, AreServeRows, IsMomentTold};
+ghost use Rattle.rd_commands.specs.Asks.{AreCatRows, AreCheckRows, AreExportRows, AreImportRows, AreInitRows, AreListRows, AreServeRows, AreShowRows, IsMomentTold};
 ghost use Rattle.rd_commands.specs.Asks.{AsksFile, AsksFiles, AsksImages, AsksNew, AsksOnce, AsksVisits, AsksWhen, IsAskable};
-ghost use Rattle.rd_commands.specs.Asks.{EntersByRule, EntersCat, EntersCheck, EntersExport, EntersImport, EntersInit, EntersList, EntersServe, EntersTelling};
-ghost use Rattle.rd_commands.specs.Asks.{IsWithinLimits, IsFaultOf, IsFileAsk, IsFilesAsk, IsImportAsk, IsInitAsk, IsOnceAsk, IsServeAsk, IsVersion, TellsOnOutput};
-ghost use Rattle.rd_commands.specs.CommandLine.{IsTaken, IsTakenTelling};
-ghost use Rattle.rd_commands.specs.Commands.{IsAskOf, IsCommand, TellsARule};
+ghost use Rattle.rd_commands.specs.Asks.{EntersByRule, EntersCat, EntersCheck, EntersExport, EntersImport, EntersInit, EntersList, EntersNaming, EntersNamingNone, EntersServe, EntersShow, EntersTelling};
+ghost use Rattle.rd_commands.specs.Asks.{IsWithinLimits, IsFaultOf, IsFileAsk, IsFilesAsk, IsImportAsk, IsInitAsk, IsMistake, IsOnceAsk, IsServeAsk, IsVersion, TellsOnOutput};
+ghost use Rattle.rd_commands.specs.CommandLine.{IsTaken, IsTakenAs, IsTakenTelling};
+ghost use Rattle.rd_commands.specs.Commands.{IsAskOf, IsCommand, NamesWhatItShows, TellsARule};
+ghost use Rattle.rd_commands.specs.Shown.{IsDayGiven, IsShowable, IsShownAs, NamesAny, NamesShown};
 ghost use Rattle.rd_commands.specs.Words.{AsksVersion, IsSlotText};
 ghost use Rattle.rd_commands.specs.Zones.{HasZoneRule, IsRuleTold};
 ghost use Rattle.rd_commands.specs.declared.words.Unread.TheVariants as Unread;
@@ -22,7 +24,7 @@ use crate::blanks::trimmed;
 use crate::command_line::desk_command;
 use clap::error::ErrorKind;
 use clap::{ArgMatches, Command, Error};
-use rd_policy::{Zone, is_scope};
+use rd_policy::{DateFault, Zone, date_read, is_scope};
 use rd_volume::Kind;
 use std::alloc::{AllocError, Global};
 
@@ -98,6 +100,23 @@ pub enum Question {
     Catalogue,
     /// What a check of the image of an accession, 1 to 999,999, finds.
     Check(u32),
+    /// What `show` shows.
+    Show(Shown),
+}
+
+/// What `show` shows the staff.
+#[derive(Clone, Copy, Debug)]
+pub enum Shown {
+    /// All deeds, with their rules.
+    Deeds,
+    /// All accessions that have takedowns, with these.
+    Takedowns,
+    /// All desk keys.
+    Keys,
+    /// All accessions, with what their latest checks found.
+    Checks,
+    /// What the rules say of each file to each audience on a day, of the years 1 to 9999, counted from 1970-01-01.
+    Verdicts(i32),
 }
 
 /// One question to the desk in the file of a store, and who asks it.
@@ -126,7 +145,7 @@ pub enum Ask<'a> {
     Serve(ServeAsk<'a>),
     /// Images to take in.
     Import(ImportAsk<'a>),
-    /// One question to a desk, by `export` or `check`.
+    /// One question to a desk, by `export`, `check` or `show`.
     Once(OnceAsk<'a>),
 }
 
@@ -138,6 +157,9 @@ pub enum Unread {
     Told(Error),
     /// The words are no command, although `clap` accepts them: the text of `--zone` is no rule.
     Usage,
+    /// The words are no command, although `clap` accepts them: the text of `--on` is no date, `show verdicts` has no
+    /// `--on`, or `show` of anything else has one.
+    Day,
     /// Memory ran out.
     NoMemory,
 }
@@ -365,8 +387,89 @@ fn check_asked<'a>(found: &ArgMatches<'a>) -> Option<OnceAsk<'a>>
     })
 }
 
-/// What a command asks for, from a parse of the words; `None` if the parse found no command.
-fn ask_found<'a>(matches: &ArgMatches<'a>) -> Option<Ask<'a>>
+/// The day whose date its option gives; `None` if it is absent.
+///
+/// It fails with `Day` when the text is no date, and with `NoMemory`.
+fn day_asked(alloc: Global, found: &ArgMatches) -> Result<Option<i32>, Unread>
+    ensures given { IfOk result (IsDayGiven (first_of (codes "on") (rows_of (found_of found.now)))) }
+    ensures none { IfErr result (λ fault. fault ≡ Unread.Day
+        → (on : Option ℤ) → ¬ IsDayGiven (first_of (codes "on") (rows_of (found_of found.now))) on) }
+    ensures failed { IfErr result (λ fault. (fault ≡ Unread.Day) ⊎ (fault ≡ Unread.NoMemory)) }
+{
+    let Some(text) = found.get_str("on") else {
+        return Ok(None);
+    };
+    match date_read(alloc, text) {
+        Ok(day) => Ok(Some(day)),
+        Err(DateFault::BadDate) => Err(Unread::Day),
+        Err(DateFault::NoMemory) => Err(Unread::NoMemory),
+    }
+}
+
+/// What a word and a day name to show; `None` if they name nothing.
+fn shown_as(what: &str, on: Option<i32>) -> Option<Shown>
+    ensures shown { IfSome result (IsShownAs what.now on) }
+    ensures none { IfNone result ((shown : Shown) → ¬ IsShownAs what.now on shown) }
+{
+    match (what, on) {
+        ("deeds", None) => Some(Shown::Deeds),
+        ("takedowns", None) => Some(Shown::Takedowns),
+        ("keys", None) => Some(Shown::Keys),
+        ("checks", None) => Some(Shown::Checks),
+        ("verdicts", Some(day)) => Some(Shown::Verdicts(day)),
+        _ => None,
+    }
+}
+
+/// What the operand and `--on` of `show` name.
+///
+/// It fails with `Day` when they name nothing, and with `NoMemory`.
+fn shown_found(alloc: Global, found: &ArgMatches) -> Result<Shown, Unread>
+    ensures named { IfOk result (NamesShown (rows_of (found_of found.now))) }
+    ensures none { IfErr result (λ fault. fault ≡ Unread.Day → ¬ NamesAny (rows_of (found_of found.now))) }
+    ensures failed { IfErr result (λ fault. (fault ≡ Unread.Day) ⊎ (fault ≡ Unread.NoMemory)) }
+{
+    let on = day_asked(alloc, found)?;
+    let Some(what) = found.get_str("WHAT") else {
+        return Err(Unread::Day);
+    };
+    shown_as(what, on).ok_or(Unread::Day)
+}
+
+/// What `show` shows, from a parse of the words; `None` if they are of another command.
+///
+/// It fails as `shown_found` does.
+fn shown_asked(alloc: Global, matches: &ArgMatches) -> Result<Option<Shown>, Unread>
+    ensures named { IfOk result (EntersNaming (subcommand_rows_of matches.now)) }
+    ensures within { IfOk result (λ shown. ForSome shown IsShowable) }
+    ensures none { IfErr result (λ fault. fault ≡ Unread.Day → EntersNamingNone (subcommand_rows_of matches.now)) }
+    ensures failed { IfErr result (λ fault. (fault ≡ Unread.Day) ⊎ (fault ≡ Unread.NoMemory)) }
+{
+    match matches.subcommand_matches("show") {
+        Some(found) => Ok(Some(shown_found(alloc, found)?)),
+        None => Ok(None),
+    }
+}
+
+/// What the options of `show` ask for, with what it shows; `None` if one is missing or badly written.
+fn show_asked<'a>(found: &ArgMatches<'a>, shown: Shown) -> Option<OnceAsk<'a>>
+    ensures asked { (store key : List ℕ) (moment : Option ℤ) (rule : List ℕ)
+        → AreShowRows (rows_of (found_of found.now)) store key moment rule
+        → IsSomeAnd result (λ ask. AsksOnce ask store (Some key) (Question.Show shown) moment rule) }
+    ensures zone { OnSome result (HasZoneRule (rows_of (found_of found.now))) }
+    ensures question { IfSome result (λ ask. ask.question ≡ Question.Show shown) }
+{
+    Some(OnceAsk {
+        store: found.get_str("store")?,
+        key: Some(key_asked(found)?),
+        question: Question::Show(shown),
+        when: when_asked(found)?,
+    })
+}
+
+/// What a command asks for, from a parse of the words, and what `show` shows; `None` if the parse found no command.
+fn ask_found<'a>(matches: &ArgMatches<'a>, shown: Option<Shown>) -> Option<Ask<'a>>
+    requires { ForSome shown IsShowable }
     ensures file { (kind : Kind) (image : List ℕ) (slot : ℕ)
         → EntersCat (subcommand_rows_of matches.now) kind image slot
         → IsSomeAnd result (IsFileAsk kind image slot) }
@@ -388,6 +491,9 @@ fn ask_found<'a>(matches: &ArgMatches<'a>) -> Option<Ask<'a>>
     ensures check { (store key : List ℕ) (acc : ℕ) (moment : Option ℤ) (rule : List ℕ)
         → EntersCheck (subcommand_rows_of matches.now) store key acc moment rule
         → IsSomeAnd result (IsOnceAsk store (Some key) (Question.Check acc) moment rule) }
+    ensures show { (store key : List ℕ) (what : Shown) (moment : Option ℤ) (rule : List ℕ) → shown ≡ Some what
+        → EntersShow (subcommand_rows_of matches.now) store key moment rule
+        → IsSomeAnd result (IsOnceAsk store (Some key) (Question.Show what) moment rule) }
     ensures told_on_output { IfSome result (λ ask. TellsOnOutput ask → EntersTelling (subcommand_rows_of matches.now)) }
     ensures accession { IfSome result IsWithinLimits }
     ensures zone { OnSome result (EntersByRule (subcommand_rows_of matches.now)) }
@@ -401,22 +507,27 @@ fn ask_found<'a>(matches: &ArgMatches<'a>) -> Option<Ask<'a>>
         "import" => Some(Ask::Import(import_asked(found)?)),
         "export" => Some(Ask::Once(export_asked(found)?)),
         "check" => Some(Ask::Once(check_asked(found)?)),
+        "show" => Some(Ask::Once(show_asked(found, shown?)?)),
         _ => None,
     }
 }
 
 /// Reads the words of a command, without the program's name.
 ///
-/// It fails with `Told` when they ask for help or the version or are no command, with `Usage` when
-/// the parse gives no command or not all its operands, or the text of `--zone` is no rule, and
-/// with `NoMemory`.
+/// It fails with `Told` when they ask for help or the version or are no command, with `Day` when the
+/// operand of `show` and the text of `--on` name nothing that it shows, with `Usage` when the parse
+/// gives no command or not all its operands, or the text of `--zone` is no rule, and with `NoMemory`.
 pub fn read_words<'a>(alloc: Global, words: &'a [&'a str]) -> Result<Ask<'a>, Unread>
     ensures read { IfOk result (IsAskOf (map (λ word. word.now) words.entry.now)) }
     ensures told_on_output { IfOk result (λ ask. TellsOnOutput ask → IsTakenTelling (map (λ word. word.now) words.entry.now)) }
     ensures accession { IfOk result IsWithinLimits }
     ensures zone { OnOk result (TellsARule (map (λ word. word.now) words.entry.now)) }
+    ensures shown { OnOk result (NamesWhatItShows (map (λ word. word.now) words.entry.now)) }
     ensures no_rule { IfErr result (λ fault. ¬ TellsARule (map (λ word. word.now) words.entry.now)
-        → (fault ≡ Unread.Usage) ⊎ (fault ≡ Unread.NoMemory)) }
+        → IsMistake fault ⊎ (fault ≡ Unread.NoMemory)) }
+    ensures none_shown { IfErr result (λ fault. ¬ NamesWhatItShows (map (λ word. word.now) words.entry.now)
+        → (fault ≡ Unread.Day) ⊎ (fault ≡ Unread.NoMemory)) }
+    ensures day { IfErr result (λ fault. fault ≡ Unread.Day → IsTakenAs (codes "show") (map (λ word. word.now) words.entry.now)) }
     ensures taken { OnOk result (IsTaken (map (λ word. word.now) words.entry.now)) }
     ensures told { IfErr result (IsFaultOf (map (λ word. word.now) words.entry.now)) }
     ensures unread { IfErr result (λ fault. IsCommand (map (λ word. word.now) words.entry.now)
@@ -426,7 +537,10 @@ pub fn read_words<'a>(alloc: Global, words: &'a [&'a str]) -> Result<Ask<'a>, Un
 {
     let desk: Command<'a> = desk_command(alloc)?;
     match desk.try_get_matches_from(words) {
-        Ok(matches) => ask_found(&matches).ok_or(Unread::Usage),
+        Ok(matches) => {
+            let shown = shown_asked(alloc, &matches)?;
+            ask_found(&matches, shown).ok_or(Unread::Usage)
+        }
         Err(error) => Err(Unread::from(error)),
     }
 }

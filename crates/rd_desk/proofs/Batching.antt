@@ -1,5 +1,5 @@
 -- Accessions in batches: each stands as it is told, and their numbers are those of the desk in turn.
-use Rattle.std.proofs.Common.{◌≡◌, ◌∙◌, ◌+◌, ◌≤◌, ℕ, List, [], ◌∷◌, ◌++◌, All, Some, ap, ap₂, append_assoc, arith, drop, length, map, refl, sym, take, take-add, take_all}
+use Rattle.std.proofs.Common.{◌≡◌, ◌∙◌, ◌+◌, ◌≤◌, ℕ, ℤ, List, [], ◌∷◌, ◌++◌, All, Some, ap, ap₂, append_assoc, arith, drop, length, map, refl, sym, take, take-add, take_all}
 use Rattle.std.specs.FinMap.{entries, entries_sorted, get, get-entries, keys}
 use Rattle.std.specs.FinMap.Entries.{find}
 use Rattle.std.specs.List.{AllZip}
@@ -10,6 +10,8 @@ use Rattle.rd_store.specs.Batched.{IsIndexed}
 use Rattle.rd_protocol.specs.State.{Desk}
 use Rattle.rd_protocol.specs.declared.rows.ImageRow.{ImageRow}
 use Rattle.rd_protocol.specs.declared.rows.Indexed.{Indexed}
+use Rattle.rd_protocol.specs.Verdicts.{IsVerdictsOf}
+use Rattle.rd_protocol.specs.declared.response.Verdicts.{Verdicts}
 use Rattle.rd_desk.specs.Calls.{StandsAs}
 use Rattle.rd_protocol.proofs.Numbers.{each_found}
 
@@ -77,3 +79,13 @@ all_last P (first ∷ batch) one all = all_last P batch one (All-tail P first (b
 -- its number comes last
 pub numbers_more : (accs : List ℕ) (batch : List Indexed) (one : Indexed) → accs ++ numbers_of (batch ++ one ∷ []) ≡ (accs ++ numbers_of batch) ++ one.acc ∷ []
 numbers_more accs batch one = ap (λ more. accs ++ more) (map-append (λ (o : Indexed). o.acc) batch (one ∷ [])) ∙ sym (append_assoc accs (numbers_of batch) (one.acc ∷ []))
+
+-- ---- verdicts
+
+-- the verdicts on one accession more
+pub verdicts_more : (desk : Desk) (day : ℤ) (accs : List ℕ) (all : List Verdicts) (acc : ℕ) (verdicts : Verdicts) → AllZip (IsVerdictsOf desk day) accs all → IsVerdictsOf desk day acc verdicts
+    → AllZip (IsVerdictsOf desk day) (accs ++ acc ∷ []) (all ++ verdicts ∷ [])
+verdicts_more desk day [] [] acc verdicts none is = (is, tt)
+verdicts_more desk day [] (first ∷ all) acc verdicts none is = absurd none
+verdicts_more desk day (first ∷ accs) [] acc verdicts none is = absurd none
+verdicts_more desk day (first ∷ accs) (one ∷ all) acc verdicts (here, more) is = (here, verdicts_more desk day accs all acc verdicts more is)

@@ -14,7 +14,7 @@ use Rattle.rd_protocol.specs.Texts.{UNAVAILABLE, reply_of}
 use Rattle.rd_protocol.specs.declared.refusal.Refusal.TheVariants.{StaffOnly}
 use Rattle.rd_protocol.specs.declared.request.Request.{Request}
 use Rattle.rd_protocol.specs.declared.request.What.{What}
-use Rattle.rd_protocol.specs.declared.request.What.TheVariants.{Images, Listing, Bytes, Catalogue, Survey}
+use Rattle.rd_protocol.specs.declared.request.What.TheVariants.{Images, Listing, Bytes, Catalogue, Survey, Deeds, Takedowns, Keys, Checks, Verdicts, RehearseRule, RehearseDrop}
 use Rattle.rd_protocol.specs.declared.response.Reply.{Reply}
 use Rattle.rd_protocol.specs.declared.response.Response.{Response}
 use Rattle.rd_protocol.specs.declared.response.Response.TheVariants as response
@@ -40,6 +40,19 @@ changes_nothing old audience day file (response.Catalogue listings) Catalogue ot
 changes_nothing old audience day file (response.Catalogue listings) what other tells = absurd tells
 changes_nothing old audience day file (response.Surveyed survey) (Survey acc) other tells = refl
 changes_nothing old audience day file (response.Surveyed survey) what other tells = absurd tells
+changes_nothing old audience day file (response.Deeds lines) Deeds other tells = refl
+changes_nothing old audience day file (response.Deeds lines) what other tells = absurd tells
+changes_nothing old audience day file (response.Takedowns lines) Takedowns other tells = refl
+changes_nothing old audience day file (response.Takedowns lines) what other tells = absurd tells
+changes_nothing old audience day file (response.Keys lines) Keys other tells = refl
+changes_nothing old audience day file (response.Keys lines) what other tells = absurd tells
+changes_nothing old audience day file (response.Checks lines) Checks other tells = refl
+changes_nothing old audience day file (response.Checks lines) what other tells = absurd tells
+changes_nothing old audience day file (response.Verdicts all) (Verdicts on) other tells = refl
+changes_nothing old audience day file (response.Verdicts all) what other tells = absurd tells
+changes_nothing old audience day file (response.Rehearsed differences) (RehearseRule on rule) other tells = refl
+changes_nothing old audience day file (response.Rehearsed differences) (RehearseDrop on band scope rank) other tells = refl
+changes_nothing old audience day file (response.Rehearsed differences) what other tells = absurd tells
 
 untold : (old : Desk) (day : ℤ) (request : Request) (answer : Response) (new : Desk) → ¬ IsOfChange answer → IsAnswered old day request answer new → new ≡ old
 untold old day request (response.Refused refusal) new other answered = answered.1

@@ -20,3 +20,5 @@ pub use Rattle.rd_protocol.specs.Hidden
 -- ---- inside: what only private functions and proofs cite
 pub use Rattle.rd_protocol.specs.Written
 pub use Rattle.rd_protocol.specs.Queries
+pub mod StaffLists
+pub mod Rehearsing

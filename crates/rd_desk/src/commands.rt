@@ -11,7 +11,10 @@ ghost use Rattle.rd_desk.specs.Calls.{Carries, IsOneChange, IsResponseAfter, Mak
 ghost use Rattle.rd_protocol.specs.Requests.{IsForStaff, IsRequest};
 
 use crate::asking::{Unavailable, has_deed};
+use crate::rehearsals::{rehearse_drop, rehearse_rule};
+use crate::staff_lists::{checks, deeds, keys, takedowns};
 use crate::surveys::survey;
+use crate::verdicts::verdicts;
 use rd_geometry::{Items, Kind, Text};
 use rd_policy::{Audience, Band, Rule};
 use rd_protocol::{Refusal, Response, What, check_row, has_digest};
@@ -20,7 +23,7 @@ use sqlite::Alter;
 use std::alloc::Global;
 
 /// The refusal when the accession of a takedown, or the deed of a rule, is not there.
-fn missing(band: Band) -> Refusal
+pub(crate) fn missing(band: Band) -> Refusal
     ensures { result ≡ missing_of band }
 {
     match band {
@@ -195,6 +198,18 @@ pub(crate) fn command<S: Alter>(
     store.at_rest();
     match what {
         What::Survey(acc) => survey(store, alloc, *acc),
+        What::Deeds => deeds(store, alloc),
+        What::Takedowns => takedowns(store, alloc),
+        What::Keys => keys(store, alloc),
+        What::Checks => checks(store, alloc),
+        What::Verdicts(day) => verdicts(store, alloc, *day),
+        What::RehearseRule(day, rule) => rehearse_rule(store, alloc, *day, rule),
+        What::RehearseDrop {
+            day,
+            band,
+            scope,
+            rank,
+        } => rehearse_drop(store, alloc, *day, *band, *scope, *rank),
         What::Check(acc) => check(store, alloc, day, *acc),
         What::PutImage {
             acc,

@@ -14,7 +14,7 @@ use crate::asking::{Unavailable, audience};
 use crate::commands::command;
 use crate::queries::{Caller, query};
 use rd_policy::{Audience, DayFault, Zone, day_of};
-use rd_protocol::{Refusal, Reply, Request, Response, json};
+use rd_protocol::{Refusal, Reply, Request, Response, reply_text};
 use rd_store::{Store, memory_stays_open};
 use sqlite::{Alter, MemStore};
 use std::alloc::Global;
@@ -54,13 +54,13 @@ fn reply_with(alloc: Global, answer: Result<Response, Unavailable>) -> Reply
     ensures { IsWritten answer result }
 {
     match answer {
-        Ok(Response::Done) => json::done(),
-        Ok(Response::Checked(outcome)) => json::checked(outcome),
-        Ok(answer) => match json::reply_to(alloc, answer) {
+        Ok(Response::Done) => reply_text::done(),
+        Ok(Response::Checked(outcome)) => reply_text::checked(outcome),
+        Ok(answer) => match reply_text::reply_to(alloc, answer) {
             Ok(reply) => reply,
-            Err(_) => json::unavailable(),
+            Err(_) => reply_text::unavailable(),
         },
-        Err(_) => json::unavailable(),
+        Err(_) => reply_text::unavailable(),
     }
 }
 
@@ -127,7 +127,7 @@ impl<S: Alter> Desk<S> {
         match self.day(seconds) {
             Ok(day) => reply_on(&mut self.store, alloc, day, request),
             Err(DayFault::OutOfRange) => unreachable!(),
-            Err(DayFault::NoMemory) => json::unavailable(),
+            Err(DayFault::NoMemory) => reply_text::unavailable(),
         }
     }
 }

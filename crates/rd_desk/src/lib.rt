@@ -7,7 +7,10 @@ mod desk;
 mod files;
 mod overviews;
 mod queries;
+mod rehearsals;
+mod staff_lists;
 mod surveys;
+mod verdicts;
 
 pub use desk::{Desk, answer_in_memory};
 pub use rd_geometry::{Items, Kind, NoMemory, Text};

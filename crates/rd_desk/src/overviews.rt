@@ -19,7 +19,7 @@ use sqlite::Alter;
 use std::alloc::Global;
 
 /// How many accessions have their files in memory at one time.
-const BATCH: usize = 16;
+pub(crate) const BATCH: usize = 16;
 
 /// An accession, with its listed files.
 fn listing_of(
@@ -139,7 +139,7 @@ fn with_listings(
     Ok(all)
 }
 
-/// The accessions, each with its listed files. There are so many.
+/// The accessions, each with its listed files. `accessions` is how many there are.
 fn listings<S: Alter>(
     store: &mut Store<S>,
     alloc: Global,

@@ -38,7 +38,12 @@ fn judge(rules: &[Rule], caller: &Caller, file: &Found) -> Verdict
 }
 
 /// The verdict of takedowns on a file, for a caller, and where none of them matches, of rules.
-fn judge_in_turn(takedowns: &[Rule], rules: &[Rule], caller: &Caller, file: &Found) -> Verdict
+pub(crate) fn judge_in_turn(
+    takedowns: &[Rule],
+    rules: &[Rule],
+    caller: &Caller,
+    file: &Found,
+) -> Verdict
     requires { AreInOrder (takedowns.now ++ rules.now) }
     ensures { IsVerdict (Contains (takedowns.now ++ rules.now)) caller.now.audience caller.now.day file.now result }
 {
@@ -221,6 +226,13 @@ pub(crate) fn query<S: Alter>(
         What::Catalogue => catalogue(store, alloc, caller),
         What::Survey(_)
         | What::Check(_)
+        | What::Deeds
+        | What::Takedowns
+        | What::Keys
+        | What::Checks
+        | What::Verdicts(_)
+        | What::RehearseRule(_, _)
+        | What::RehearseDrop { .. }
         | What::PutImage { .. }
         | What::PutDeed { .. }
         | What::PutRule(_)

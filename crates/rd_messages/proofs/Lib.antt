@@ -11,3 +11,4 @@ pub mod Naming
 pub mod OneBody
 pub mod Keys
 pub mod Sending
+pub mod ShownRuleLemmas

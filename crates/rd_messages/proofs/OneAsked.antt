@@ -12,6 +12,7 @@ use Rattle.rd_messages.specs.Faults.{number_of}
 use Rattle.rd_messages.specs.Framing.{IsWhole}
 use Rattle.rd_messages.specs.Heads.{BeginsWith}
 use Rattle.rd_messages.specs.Readings.{IsTold}
+use Rattle.rd_messages.specs.RequestBodies.{IsNoKeyBody}
 use Rattle.rd_messages.specs.Routes.{method_named, methods_of, route_of}
 use Rattle.rd_messages.specs.declared.fault.RequestFault.{RequestFault}
 use Rattle.rd_messages.specs.declared.fault.RequestFault.TheVariants.{BadHead, Framing, NoRoute, Method as OtherMethod}
@@ -19,7 +20,7 @@ use Rattle.rd_messages.specs.declared.route.Method.{Method}
 use Rattle.rd_messages.specs.declared.route.Method.TheVariants.{Put, Delete}
 use Rattle.rd_messages.specs.declared.route.Methods.{Methods}
 use Rattle.rd_messages.specs.declared.route.Route.{Route}
-use Rattle.rd_messages.specs.declared.route.Route.TheVariants.{Images, Listing, Bytes, Survey, Check, Accession, Deed, Rule, Badge, Catalogue}
+use Rattle.rd_messages.specs.declared.route.Route.TheVariants.{Images, Listing, Bytes, Survey, Check, Accession, Deed, Rule, Badge, Catalogue, Deeds, Takedowns, Keys, Checks, Verdicts, Rehearsal}
 use Rattle.rd_messages.proofs.OneBody.{one_deed, one_key, one_rule}
 use Rattle.rd_messages.proofs.WholeLemmas.{whole_once}
 
@@ -35,6 +36,9 @@ one_asks (Rule band scope rank) Put body one other (rule, is, told) (rule2, is2,
 one_asks (Badge digest) Delete body one other is same = is ∙ sym same
 one_asks (Badge digest) Put body one other (audience, is, told) (audience2, is2, told2) =
     is ∙ ap (what.PutKey digest) (one_key body audience audience2 told told2) ∙ sym is2
+one_asks (Rehearsal day band scope rank) Delete body one other is same = is ∙ sym same
+one_asks (Rehearsal day band scope rank) Put body one other (rule, is, told) (rule2, is2, told2) =
+    is ∙ ap (what.RehearseRule day) (one_rule band scope rank body rule rule2 told told2) ∙ sym is2
 one_asks Images method body one other is same = is ∙ sym same
 one_asks (Listing acc) method body one other is same = is ∙ sym same
 one_asks (Bytes acc slot) method body one other is same = is ∙ sym same
@@ -42,6 +46,11 @@ one_asks (Survey acc) method body one other is same = is ∙ sym same
 one_asks (Check acc) method body one other is same = is ∙ sym same
 one_asks (Accession acc kind deed digest) method body one other is same = is ∙ sym same
 one_asks Catalogue method body one other is same = is ∙ sym same
+one_asks Deeds method body one other is same = is ∙ sym same
+one_asks Takedowns method body one other is same = is ∙ sym same
+one_asks Keys method body one other is same = is ∙ sym same
+one_asks Checks method body one other is same = is ∙ sym same
+one_asks (Verdicts day) method body one other is same = is ∙ sym same
 one_asks route method body one other none same = absurd none
 
 pub one_what : (route : Route) (method : Method) (body : List ℕ) (one other : What) → IsWhat route method body one → IsWhat route method body other → one ≡ other
@@ -148,3 +157,9 @@ what_asked route method body None asked none is = inr (is, none)
 what_asked route method body (Some one) asked asks (inl (fits, is)) = inl (subst (Asks route method body) (sym is) asks, subst IsRequest (sym is) fits)
 what_asked route method body (Some one) asked asks (inr (unfit, is)) =
     inr (is, λ other also fits. unfit (subst IsRequest (one_asks route method body other one also asks) fits))
+
+-- a body that names no audience that has keys tells no command on a key
+pub no_key_told : (digest : List ℕ) (method : Method) (body : List ℕ) → method ≡ Put → IsNoKeyBody body → IsTold (Badge digest) method body None
+no_key_told digest method body is none =
+    let Told : Method → Type 0 = λ m. IsTold (Badge digest) m body None in
+    subst Told (sym is) (λ asked (audience, same, told) fits. none audience told)

@@ -1,5 +1,5 @@
 -- What a target names: its path, and the limits of its numbers.
-use Rattle.std.proofs.Common.{◌≡◌, ◌==◌, ◌≤◌, ℕ, List, [], ◌∷◌, true, false, refl, ap, ⊎_elim, Option, Some, None, IfSome, if◌then◌else◌, IsAscii, IsUtf8, length, nat_lt, position, take, take_all}
+use Rattle.std.proofs.Common.{◌≡◌, ◌==◌, ◌≤◌, ℕ, ℤ, List, [], ◌∷◌, true, false, refl, ap, ⊎_elim, ◌⊎◌, inl, inr, Option, Some, None, IfSome, if◌then◌else◌, IsAscii, IsUtf8, length, nat_lt, position, take, take_all}
 use Rattle.std.specs.Char.{is_ascii}
 use Rattle.std.specs.List.{list_all, position_or_len}
 use Rattle.std.proofs.lemmas.Bool.{and_parts, cases_lt, cond-true, lt-ltb, ltb-true}
@@ -8,14 +8,17 @@ use Rattle.std.proofs.lemmas.Str.{IsUtf8-from_ascii}
 use Rattle.std.proofs.lemmas.Str.Ascii.{IsAscii-nil, IsAscii-cons}
 use Rattle.matchit.specs.Router.{RouteOf}
 use Rattle.matchit.specs.Seek.{first}
+use Rattle.rd_policy.specs.Days.{IsDay}
 use Rattle.rd_policy.specs.Rules.{IsScope, IsRank}
 use Rattle.rd_policy.specs.declared.rule.Band.{Band}
 use Rattle.rd_policy.specs.declared.rule.Band.TheVariants as band
 use Rattle.rd_protocol.specs.Parts.{digest_of, kind_of, rank_of, scope_of, slot_of}
+use Rattle.rd_messages.specs.PathDays.{Dates, dated_by, day_of_date}
 use Rattle.rd_messages.specs.Patterns.{matched, parts_of, pattern_rows}
-use Rattle.rd_messages.specs.Routes.{◌>>=◌, IsWithin, path_of, route_of, route_of_match, route_of_path, route_with, rule_of}
+use Rattle.rd_messages.specs.Routes.{◌>>=◌, IsWithin, day_with, path_of, rehearsal_of, route_of, route_of_match, route_of_path, route_with, rule_of}
 use Rattle.rd_messages.specs.declared.pattern.Pattern.{Pattern}
 use Rattle.rd_messages.specs.declared.pattern.Pattern.TheVariants as pattern
+use Rattle.rd_policy.proofs.DateLemmas.{one_day}
 use Rattle.rd_protocol.proofs.PartLemmas.{rank_within, scope_within, slot_within}
 
 -- ---- paths
@@ -73,6 +76,20 @@ rule_within band one two =
     step_within IsWithin IsScope (scope_of one) _ (scope_within one)
     (λ scope in_scope. step_within IsWithin IsRank (rank_of two) _ (rank_within two) (λ rank in_rank. (in_scope, in_rank)))
 
+-- each day that a date names has a date
+day_within : (text : List ℕ) → IfSome (day_of_date text) IsDay
+day_within text = in_range (day_of_date text) (dated_by text).1
+  where
+    in_range : (found : Option ℤ) → Dates text found → IfSome found IsDay
+    in_range None none = tt
+    in_range (Some day) is = is.in_range
+
+rehearsal_within : (band : Band) (one two three : List ℕ) → IfSome (day_of_date one >>= (λ day. rehearsal_of day band two three)) IsWithin
+rehearsal_within band one two three =
+    step_within IsWithin IsDay (day_of_date one) _ (day_within one)
+    (λ day in_range. step_within IsWithin IsScope (scope_of two) _ (scope_within two)
+    (λ scope in_scope. step_within IsWithin IsRank (rank_of three) _ (rank_within three) (λ rank in_rank. (in_range, in_scope, in_rank))))
+
 with_within : (pattern : Pattern) (one two three four : List ℕ) → IfSome (route_with pattern one two three four) IsWithin
 with_within pattern.Images one two three four = tt
 with_within pattern.Listing one two three four = step_within IsWithin IsScope (scope_of one) _ (scope_within one) (λ acc in_scope. in_scope)
@@ -91,6 +108,13 @@ with_within pattern.Deed one two three four = step_within IsWithin IsScope (scop
 with_within pattern.DeedRule one two three four = rule_within band.Deed one two
 with_within pattern.Badge one two three four = step_free IsWithin (digest_of one) _ (λ digest. tt)
 with_within pattern.Catalogue one two three four = tt
+with_within pattern.Deeds one two three four = tt
+with_within pattern.Takedowns one two three four = tt
+with_within pattern.Keys one two three four = tt
+with_within pattern.Checks one two three four = tt
+with_within pattern.Verdicts one two three four = step_within IsWithin IsDay (day_of_date one) _ (day_within one) (λ day in_range. in_range)
+with_within pattern.DeedRehearsal one two three four = rehearsal_within band.Deed one two three
+with_within pattern.TakedownRehearsal one two three four = rehearsal_within band.Takedown one two three
 
 match_within : (found : Pattern × List (List ℕ)) → IfSome (route_of_match found) IsWithin
 match_within (pattern, parts) = with_within pattern _ _ _ _
@@ -101,3 +125,23 @@ route_within target =
       | true ↦ step_free IsWithin (matched (path_of target)) route_of_match match_within
       | false ↦ tt
     ]
+
+-- ---- days
+
+-- the day that was found of a text is that of its date
+pub day_found : (text : List ℕ) (found : Option ℤ) → Dates text found → found ≡ day_of_date text
+day_found text found is = same found (day_of_date text) is (dated_by text).1
+  where
+    same : (one other : Option ℤ) → Dates text one → Dates text other → one ≡ other
+    same None None first second = refl
+    same None (Some day) first second = absurd (first day second)
+    same (Some day) None first second = absurd (second day first)
+    same (Some one) (Some other) first second = ap (λ day. Some day) (one_day text one other first second)
+
+-- a pattern that begins with a date names its day
+pub with_date : (one : Pattern) (first : List ℕ)
+    → (one ≡ pattern.Verdicts) ⊎ ((one ≡ pattern.DeedRehearsal) ⊎ (one ≡ pattern.TakedownRehearsal))
+    → day_with one first ≡ day_of_date first
+with_date one first (inl is) = ap (λ p. day_with p first) is
+with_date one first (inr (inl is)) = ap (λ p. day_with p first) is
+with_date one first (inr (inr is)) = ap (λ p. day_with p first) is

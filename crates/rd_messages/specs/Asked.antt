@@ -19,12 +19,13 @@ use Rattle.rd_messages.specs.declared.fault.RequestFault.TheVariants.{BadHead, F
 use Rattle.rd_messages.specs.declared.route.Method.{Method}
 use Rattle.rd_messages.specs.declared.route.Method.TheVariants.{Put, Delete}
 use Rattle.rd_messages.specs.declared.route.Route.{Route}
-use Rattle.rd_messages.specs.declared.route.Route.TheVariants.{Images, Listing, Bytes, Survey, Check, Accession, Deed, Rule, Badge, Catalogue}
+use Rattle.rd_messages.specs.declared.route.Route.TheVariants.{Images, Listing, Bytes, Survey, Check, Accession, Deed, Rule, Badge, Catalogue, Deeds, Takedowns, Keys, Checks, Verdicts, Rehearsal}
 
 -- ---- a request
 
 -- what a path asks with a method and a body: DELETE removes a rule or a key, and PUT puts one, or
--- a deed, as the body describes it in JSON; the body of an image is its bytes
+-- a deed, as the body describes it in JSON; the body of an image is its bytes. A rehearsal asks what
+-- would change if the rule were removed, or put
 abbrev pub Asks : Route → Method → List ℕ → What → Type 0
 Asks Images method body asked = asked ≡ what.Images
 Asks (Listing acc) method body asked = asked ≡ what.Listing acc
@@ -38,6 +39,13 @@ Asks (Rule band scope rank) Put body asked = (rule : NewRule) × (asked ≡ what
 Asks (Badge digest) Delete body asked = asked ≡ what.DropKey digest
 Asks (Badge digest) Put body asked = (audience : Audience) × (asked ≡ what.PutKey digest audience) × IsKeyBody body audience
 Asks Catalogue method body asked = asked ≡ what.Catalogue
+Asks Deeds method body asked = asked ≡ what.Deeds
+Asks Takedowns method body asked = asked ≡ what.Takedowns
+Asks Keys method body asked = asked ≡ what.Keys
+Asks Checks method body asked = asked ≡ what.Checks
+Asks (Verdicts day) method body asked = asked ≡ what.Verdicts day
+Asks (Rehearsal day band scope rank) Delete body asked = asked ≡ what.RehearseDrop day band scope rank
+Asks (Rehearsal day band scope rank) Put body asked = (rule : NewRule) × (asked ≡ what.RehearseRule day rule) × IsRuleBody band scope rank body rule
 Asks route method body asked = ⊥
 
 -- what is asked, its values within their limits; if the body says nothing such, a command that

@@ -1,11 +1,13 @@
 -- Targets, and what they name.
-use Rattle.std.specs.Prelude.{◌≡◌, true, Some, None, [], ◌∷◌, ◌++◌, codes, refl, replicate}
+use Rattle.std.specs.Prelude.{◌≡◌, ℕ, ℤ, true, List, Some, None, [], ◌∷◌, ◌++◌, codes, refl, replicate}
+use Rattle.std.proofs.Common.{ap}
 use Rattle.hex.proofs.OnLiterals.{hex_on_literals}
 use Rattle.matchit.proofs.OnLiterals.{matchit_on_literals}
 use Rattle.rd_geometry.specs.declared.kind.Kind.TheVariants.{D64}
 use Rattle.rd_policy.specs.declared.rule.Band.TheVariants as band
+use Rattle.rd_messages.specs.PathDays.{day_of_date}
 use Rattle.rd_messages.specs.Patterns.{all_go_in, matched, pattern_rows, patterns}
-use Rattle.rd_messages.specs.Routes.{method_named, route_of}
+use Rattle.rd_messages.specs.Routes.{◌>>=◌, method_named, route_of, route_with}
 use Rattle.rd_messages.specs.declared.pattern.Pattern.TheVariants as pattern
 use Rattle.rd_messages.specs.declared.route.Method.TheVariants as method
 use Rattle.rd_messages.specs.declared.route.Methods.TheVariants as methods
@@ -45,6 +47,50 @@ check_named = refl
 pub catalogue_named : route_of (codes "/catalogue") ≡ Some route.Catalogue
 unfolding matched pattern_rows matchit_on_literals
 catalogue_named = refl
+
+-- the deeds, the takedowns, the desk keys and the checks
+pub deeds_named : route_of (codes "/staff/deeds") ≡ Some route.Deeds
+unfolding matched pattern_rows matchit_on_literals
+deeds_named = refl
+
+pub takedowns_named : route_of (codes "/staff/takedowns") ≡ Some route.Takedowns
+unfolding matched pattern_rows matchit_on_literals
+takedowns_named = refl
+
+pub keys_named : route_of (codes "/staff/keys") ≡ Some route.Keys
+unfolding matched pattern_rows matchit_on_literals
+keys_named = refl
+
+pub checks_named : route_of (codes "/staff/checks") ≡ Some route.Checks
+unfolding matched pattern_rows matchit_on_literals
+checks_named = refl
+
+-- the verdicts of a day
+pub verdicts_named : (day : ℤ) → day_of_date (codes "2030-01-01") ≡ Some day → route_of (codes "/staff/verdicts/2030-01-01") ≡ Some (route.Verdicts day)
+unfolding matched pattern_rows matchit_on_literals
+verdicts_named day is = ap (λ found. found >>= (λ day. Some (route.Verdicts day))) is
+
+-- the day of a path is written as a date
+pub other_day_refused : (text : List ℕ) → day_of_date text ≡ None → route_with pattern.Verdicts text [] [] [] ≡ None
+other_day_refused text none = ap (λ found. found >>= (λ day. Some (route.Verdicts day))) none
+
+-- the parts of a rehearsal: a date, a deed or an accession, and a rank
+pub deed_rehearsal_matched : matched (codes "/staff/rehearsals/d/deeds/7/rules/1") ≡ Some (pattern.DeedRehearsal, codes "d" ∷ codes "7" ∷ codes "1" ∷ [])
+unfolding matched pattern_rows matchit_on_literals
+deed_rehearsal_matched = refl
+
+pub takedown_rehearsal_matched : matched (codes "/staff/rehearsals/d/images/7/rules/1") ≡ Some (pattern.TakedownRehearsal, codes "d" ∷ codes "7" ∷ codes "1" ∷ [])
+unfolding matched pattern_rows matchit_on_literals
+takedown_rehearsal_matched = refl
+
+-- the rule of rank 10 of deed 7 on a day, and the takedown of rank 1 of accession 12
+pub deed_rehearsal_named : (day : ℤ) → day_of_date (codes "2030-01-01") ≡ Some day
+    → route_with pattern.DeedRehearsal (codes "2030-01-01") (codes "7") (codes "10") [] ≡ Some (route.Rehearsal day band.Deed 7 10)
+deed_rehearsal_named day is = ap (λ found. found >>= (λ day. Some (route.Rehearsal day band.Deed 7 10))) is
+
+pub takedown_rehearsal_named : (day : ℤ) → day_of_date (codes "2030-01-01") ≡ Some day
+    → route_with pattern.TakedownRehearsal (codes "2030-01-01") (codes "12") (codes "1") [] ≡ Some (route.Rehearsal day band.Takedown 12 1)
+takedown_rehearsal_named day is = ap (λ found. found >>= (λ day. Some (route.Rehearsal day band.Takedown 12 1))) is
 
 -- the takedown of rank 10 of accession 12
 pub takedown_named : route_of (codes "/images/12/rules/10") ≡ Some (route.Rule band.Takedown 12 10)

@@ -8,10 +8,12 @@ pub mod Fields
 pub mod Framing
 pub mod Heads
 pub mod Taken
+pub mod PathDays
 pub mod Patterns
 pub mod Routes
 pub mod Objects
 pub mod RequestBodies
+pub mod ShownRules
 pub mod MemoryDoors
 pub mod ReplyText
 pub mod Sent

@@ -9,7 +9,7 @@ use Rattle.matchit.specs.Seek.{first}
 use Rattle.matchit.specs.declared.error.InsertError.{InsertError}
 use Rattle.rd_messages.specs.declared.pattern.Parts.{Parts}
 use Rattle.rd_messages.specs.declared.pattern.Pattern.{Pattern}
-use Rattle.rd_messages.specs.declared.pattern.Pattern.TheVariants.{Images, Listing, Bytes, Survey, Check, TakedownRule, Accession, Deed, DeedRule, Badge, Catalogue}
+use Rattle.rd_messages.specs.declared.pattern.Pattern.TheVariants.{Images, Listing, Bytes, Survey, Check, TakedownRule, Accession, Deed, DeedRule, Badge, Catalogue, Deeds, Takedowns, Keys, Checks, Verdicts, DeedRehearsal, TakedownRehearsal}
 
 -- the patterns, in the order in which a router takes them in; what stands in braces is a part
 abbrev pub patterns : List (List ℕ × Pattern)
@@ -25,6 +25,13 @@ patterns =
     ∷ (codes "/deeds/{deed}/rules/{rank}", DeedRule)
     ∷ (codes "/badges/{digest}", Badge)
     ∷ (codes "/catalogue", Catalogue)
+    ∷ (codes "/staff/deeds", Deeds)
+    ∷ (codes "/staff/takedowns", Takedowns)
+    ∷ (codes "/staff/keys", Keys)
+    ∷ (codes "/staff/checks", Checks)
+    ∷ (codes "/staff/verdicts/{date}", Verdicts)
+    ∷ (codes "/staff/rehearsals/{date}/deeds/{deed}/rules/{rank}", DeedRehearsal)
+    ∷ (codes "/staff/rehearsals/{date}/images/{acc}/rules/{rank}", TakedownRehearsal)
     ∷ []
 
 -- ---- routers

@@ -1,11 +1,13 @@
 -- What a target names, and the methods that it takes.
-use Rattle.std.specs.Prelude.{◌==◌, ◌≤◌, ℕ, List, [], ◌∷◌, Option, Some, None, if◌then◌else◌, codes, find, bytes_eq}
+use Rattle.std.specs.Prelude.{◌==◌, ◌≤◌, ℕ, ℤ, List, [], ◌∷◌, Option, Some, None, if◌then◌else◌, codes, find, bytes_eq}
 use Rattle.std.specs.Char.{is_ascii}
 use Rattle.std.specs.List.{before_first, list_all}
+use Rattle.rd_policy.specs.Days.{IsDay}
 use Rattle.rd_policy.specs.Rules.{IsScope, IsRank}
 use Rattle.rd_policy.specs.declared.rule.Band.{Band}
 use Rattle.rd_policy.specs.declared.rule.Band.TheVariants as band
 use Rattle.rd_protocol.specs.Parts.{digest_of, kind_of, rank_of, scope_of, slot_of}
+use Rattle.rd_messages.specs.PathDays.{day_of_date}
 use Rattle.rd_messages.specs.Patterns.{matched, part_at}
 use Rattle.rd_messages.specs.declared.pattern.Pattern.{Pattern}
 use Rattle.rd_messages.specs.declared.pattern.Pattern.TheVariants as pattern
@@ -14,7 +16,7 @@ use Rattle.rd_messages.specs.declared.route.Method.TheVariants.{Get, Post, Put, 
 use Rattle.rd_messages.specs.declared.route.Methods.{Methods}
 use Rattle.rd_messages.specs.declared.route.Methods.TheVariants as methods
 use Rattle.rd_messages.specs.declared.route.Route.{Route}
-use Rattle.rd_messages.specs.declared.route.Route.TheVariants.{Images, Listing, Bytes, Survey, Check, Accession, Deed, Rule, Badge, Catalogue}
+use Rattle.rd_messages.specs.declared.route.Route.TheVariants.{Images, Listing, Bytes, Survey, Check, Accession, Deed, Rule, Badge, Catalogue, Deeds, Takedowns, Keys, Checks, Verdicts, Rehearsal}
 
 -- the ? of the logic: the second step, where the first gave a value
 infixl 10 ◌>>=◌
@@ -30,6 +32,13 @@ rule_of band first second = do
   scope ← scope_of first
   rank ← rank_of second
   Some (Rule band scope rank)
+
+-- a rehearsal of a day with a rule of a band, by its scope and its rank
+abbrev pub rehearsal_of : ℤ → Band → List ℕ → List ℕ → Option Route
+rehearsal_of day band first second = do
+  scope ← scope_of first
+  rank ← rank_of second
+  Some (Rehearsal day band scope rank)
 
 -- what a pattern and its parts name, where each part is well written; of a pattern with fewer than four parts
 -- the last are not read
@@ -63,6 +72,19 @@ route_with pattern.Badge first second third fourth = do
   digest ← digest_of first
   Some (Badge digest)
 route_with pattern.Catalogue first second third fourth = Some Catalogue
+route_with pattern.Deeds first second third fourth = Some Deeds
+route_with pattern.Takedowns first second third fourth = Some Takedowns
+route_with pattern.Keys first second third fourth = Some Keys
+route_with pattern.Checks first second third fourth = Some Checks
+route_with pattern.Verdicts first second third fourth = do
+  day ← day_of_date first
+  Some (Verdicts day)
+route_with pattern.DeedRehearsal first second third fourth = do
+  day ← day_of_date first
+  rehearsal_of day band.Deed second third
+route_with pattern.TakedownRehearsal first second third fourth = do
+  day ← day_of_date first
+  rehearsal_of day band.Takedown second third
 
 -- the same of the pattern and the parts of a path
 abbrev pub route_of_match : Pattern × List (List ℕ) → Option Route
@@ -93,6 +115,12 @@ IsWithin (Deed deed) = IsScope deed
 IsWithin (Rule band scope rank) = IsScope scope × IsRank rank
 IsWithin (Badge digest) = Unit {0}
 IsWithin Catalogue = Unit {0}
+IsWithin Deeds = Unit {0}
+IsWithin Takedowns = Unit {0}
+IsWithin Keys = Unit {0}
+IsWithin Checks = Unit {0}
+IsWithin (Verdicts day) = IsDay day
+IsWithin (Rehearsal day band scope rank) = IsDay day × IsScope scope × IsRank rank
 
 -- ---- methods
 
@@ -108,6 +136,12 @@ methods_of (Deed deed) = methods.Put
 methods_of (Rule band scope rank) = methods.PutOrDelete
 methods_of (Badge digest) = methods.PutOrDelete
 methods_of Catalogue = methods.Get
+methods_of Deeds = methods.Get
+methods_of Takedowns = methods.Get
+methods_of Keys = methods.Get
+methods_of Checks = methods.Get
+methods_of (Verdicts day) = methods.Get
+methods_of (Rehearsal day band scope rank) = methods.PutOrDelete
 
 -- the methods, as a reply names them
 abbrev pub allow_text : Methods → List ℕ
@@ -133,3 +167,12 @@ name_of Delete = codes "DELETE"
 -- which of the methods has this name, byte for byte
 abbrev pub method_named : Methods → List ℕ → Option Method
 method_named methods name = find (λ method. bytes_eq (name_of method) name) (each_of methods)
+
+-- ---- inside
+
+-- the day that the first part of a path names, if its pattern begins with a date
+abbrev pub day_with : Pattern → List ℕ → Option ℤ
+day_with pattern.Verdicts first = day_of_date first
+day_with pattern.DeedRehearsal first = day_of_date first
+day_with pattern.TakedownRehearsal first = day_of_date first
+day_with other first = None

@@ -5,11 +5,12 @@
 mod audiences;
 mod dates;
 mod deed;
-mod json;
 mod key;
+mod objects;
 mod rule;
 mod select;
 
+pub(crate) use dates::day_of;
 pub(crate) use deed::deed_body;
 pub(crate) use key::key_body;
 pub(crate) use rule::rule_body;

@@ -26,7 +26,7 @@ mod write;
 pub use answer::{of_desk, send};
 pub use fault::RequestFault;
 pub use memory::{MemoryDoor, MemoryVisit, MemoryWire, memory_reads};
-pub use request_laws::one_asked;
+pub use request_laws::{one_asked, shown_rules_are_sent_back};
 pub use tcp::{Clock, TcpDoor, TcpWire};
 pub use wire::{Broken, Door, Shut, Wire};
 pub use workspace::Workspace;

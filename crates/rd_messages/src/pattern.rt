@@ -34,10 +34,24 @@ pub(crate) enum Pattern {
     Badge,
     /// The files of all accessions.
     Catalogue,
+    /// All deeds.
+    Deeds,
+    /// All takedowns.
+    Takedowns,
+    /// All desk keys.
+    Keys,
+    /// The latest check of each accession.
+    Checks,
+    /// What the rules say of each file on a day.
+    Verdicts,
+    /// What a rule of a deed would change on a day.
+    DeedRehearsal,
+    /// What a takedown would change on a day.
+    TakedownRehearsal,
 }
 
 /// Each pattern with its text, which has the names of its parts in braces.
-const TABLE: [(&str, Pattern); 11] = [
+const TABLE: [(&str, Pattern); 18] = [
     ("/images", Pattern::Images),
     ("/images/{acc}", Pattern::Listing),
     ("/images/{acc}/files/{slot}", Pattern::Bytes),
@@ -52,6 +66,19 @@ const TABLE: [(&str, Pattern); 11] = [
     ("/deeds/{deed}/rules/{rank}", Pattern::DeedRule),
     ("/badges/{digest}", Pattern::Badge),
     ("/catalogue", Pattern::Catalogue),
+    ("/staff/deeds", Pattern::Deeds),
+    ("/staff/takedowns", Pattern::Takedowns),
+    ("/staff/keys", Pattern::Keys),
+    ("/staff/checks", Pattern::Checks),
+    ("/staff/verdicts/{date}", Pattern::Verdicts),
+    (
+        "/staff/rehearsals/{date}/deeds/{deed}/rules/{rank}",
+        Pattern::DeedRehearsal,
+    ),
+    (
+        "/staff/rehearsals/{date}/images/{acc}/rules/{rank}",
+        Pattern::TakedownRehearsal,
+    ),
 ];
 
 /// The parts of a path, in their order; the last ones are empty if its pattern has fewer than

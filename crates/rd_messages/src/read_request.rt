@@ -46,30 +46,73 @@ fn deed_told(alloc: Global, num: u32, body: &[u8]) -> Result<Option<What>, NoMem
     }
 }
 
-/// The command to put the rule that a body describes; `None` if it describes none within the
-/// limits of its values.
+/// The command on a rule that a method and a body ask; `None` for `GET` and `POST`, or if the body
+/// describes no rule within the limits of its values.
 fn rule_told(
     alloc: Global,
     band: Band,
     scope: u32,
     rank: u16,
+    method: Method,
     body: &[u8],
 ) -> Result<Option<What>, NoMemory>
-    ensures { IfOk result (IsTold (Route.Rule band scope rank) Method.Put body.now) }
+    ensures { IfOk result (IsTold (Route.Rule band scope rank) method body.now) }
 {
-    match rule_body(alloc, band, scope, rank, body)? {
-        Some(rule) => Ok(Some(What::PutRule(rule))),
-        None => Ok(None),
+    match method {
+        Method::Put => match rule_body(alloc, band, scope, rank, body)? {
+            Some(rule) => Ok(Some(What::PutRule(rule))),
+            None => Ok(None),
+        },
+        Method::Delete => Ok(Some(What::DropRule { band, scope, rank })),
+        Method::Get | Method::Post => Ok(None),
     }
 }
 
-/// The command to give a desk key to the audience that a body names; `None` if it names none.
-fn key_told(alloc: Global, digest: [u8; 32], body: &[u8]) -> Result<Option<What>, NoMemory>
-    ensures { IfOk result (IsTold (Route.Badge digest) Method.Put body.now) }
+/// The rehearsal, on a day, of the command on a rule that a method and a body ask; `None` for `GET` and
+/// `POST`, or if the body describes no rule within the limits of its values.
+fn rehearsal_asked(
+    alloc: Global,
+    day: i32,
+    band: Band,
+    scope: u32,
+    rank: u16,
+    method: Method,
+    body: &[u8],
+) -> Result<Option<What>, NoMemory>
+    ensures { IfOk result (IsTold (Route.Rehearsal day band scope rank) method body.now) }
 {
-    match key_body(alloc, body)? {
-        Some(audience) => Ok(Some(What::PutKey { digest, audience })),
-        None => Ok(None),
+    match method {
+        Method::Put => match rule_body(alloc, band, scope, rank, body)? {
+            Some(rule) => Ok(Some(What::RehearseRule(day, rule))),
+            None => Ok(None),
+        },
+        Method::Delete => Ok(Some(What::RehearseDrop {
+            day,
+            band,
+            scope,
+            rank,
+        })),
+        Method::Get | Method::Post => Ok(None),
+    }
+}
+
+/// The command on a desk key that a method and a body ask; `None` if the body names no audience
+/// that has keys.
+fn key_told(
+    alloc: Global,
+    digest: [u8; 32],
+    method: Method,
+    body: &[u8],
+) -> Result<Option<What>, NoMemory>
+    ensures { IfOk result (IsTold (Route.Badge digest) method body.now) }
+{
+    match method {
+        Method::Put => match key_body(alloc, body)? {
+            Some(audience) => Ok(Some(What::PutKey { digest, audience })),
+            None => Ok(None),
+        },
+        Method::Delete => Ok(Some(What::DropKey { digest })),
+        Method::Get | Method::Post => Ok(None),
     }
 }
 
@@ -83,21 +126,18 @@ fn told(
 ) -> Result<Option<What>, NoMemory>
     ensures { IfOk result (IsTold route method body.items) }
 {
-    match (route, method) {
-        (Route::Images, _) => Ok(Some(What::Images)),
-        (Route::Listing(acc), _) => Ok(Some(What::Listing(acc))),
-        (Route::Bytes(acc, slot), _) => Ok(Some(What::Bytes(acc, slot))),
-        (Route::Survey(acc), _) => Ok(Some(What::Survey(acc))),
-        (Route::Check(acc), _) => Ok(Some(What::Check(acc))),
-        (
-            Route::Accession {
-                acc,
-                kind,
-                deed,
-                digest,
-            },
-            _,
-        ) => {
+    match route {
+        Route::Images => Ok(Some(What::Images)),
+        Route::Listing(acc) => Ok(Some(What::Listing(acc))),
+        Route::Bytes(acc, slot) => Ok(Some(What::Bytes(acc, slot))),
+        Route::Survey(acc) => Ok(Some(What::Survey(acc))),
+        Route::Check(acc) => Ok(Some(What::Check(acc))),
+        Route::Accession {
+            acc,
+            kind,
+            deed,
+            digest,
+        } => {
             let bytes = Items::of(body);
             Ok(Some(What::PutImage {
                 acc,
@@ -107,20 +147,21 @@ fn told(
                 bytes,
             }))
         }
-        (Route::Deed(num), _) => deed_told(alloc, num, &body),
-        (Route::Rule { band, scope, rank }, Method::Put) => rule_told(
-            alloc, band, scope, rank, &body,
-        ),
-        (Route::Rule { band, scope, rank }, Method::Delete) => Ok(Some(What::DropRule {
+        Route::Deed(num) => deed_told(alloc, num, &body),
+        Route::Rule { band, scope, rank } => rule_told(alloc, band, scope, rank, method, &body),
+        Route::Badge(digest) => key_told(alloc, digest, method, &body),
+        Route::Catalogue => Ok(Some(What::Catalogue)),
+        Route::Deeds => Ok(Some(What::Deeds)),
+        Route::Takedowns => Ok(Some(What::Takedowns)),
+        Route::Keys => Ok(Some(What::Keys)),
+        Route::Checks => Ok(Some(What::Checks)),
+        Route::Verdicts(day) => Ok(Some(What::Verdicts(day))),
+        Route::Rehearsal {
+            day,
             band,
             scope,
             rank,
-        })),
-        (Route::Rule { .. }, Method::Get | Method::Post) => Ok(None),
-        (Route::Badge(digest), Method::Put) => key_told(alloc, digest, &body),
-        (Route::Badge(digest), Method::Delete) => Ok(Some(What::DropKey { digest })),
-        (Route::Badge(_), Method::Get | Method::Post) => Ok(None),
-        (Route::Catalogue, _) => Ok(Some(What::Catalogue)),
+        } => rehearsal_asked(alloc, day, band, scope, rank, method, &body),
     }
 }
 

@@ -4,7 +4,9 @@ ghost use Rattle.std.specs.Prelude.{◌≡◌, true, IfOk, IfSome};
 ghost use Rattle.std.specs.Char.{is_ascii};
 ghost use Rattle.std.specs.List.{list_all};
 ghost use Rattle.rd_messages.specs.Patterns.{pattern_rows};
+ghost use Rattle.rd_messages.specs.Routes.{day_with};
 
+use crate::bodies::day_of;
 use crate::kept_router::KeptRouter;
 use crate::pattern::{Parts, Pattern, parts_of};
 use crate::target::ascii_path;
@@ -53,6 +55,27 @@ pub(crate) enum Route {
     Badge([u8; 32]),
     /// The files of all accessions.
     Catalogue,
+    /// The deeds.
+    Deeds,
+    /// The takedowns.
+    Takedowns,
+    /// The desk keys.
+    Keys,
+    /// The latest check of each accession.
+    Checks,
+    /// What the rules say of each file on a day, of the years 1 to 9999, counted from 1970-01-01.
+    Verdicts(i32),
+    /// What a rule would change on a day if it were put, or removed.
+    Rehearsal {
+        /// The day, of the years 1 to 9999, counted from 1970-01-01.
+        day: i32,
+        /// Where the rule comes from.
+        band: Band,
+        /// The number of its accession or deed, 1 to 999,999.
+        scope: u32,
+        /// Its rank, 1 to 9,999.
+        rank: u16,
+    },
 }
 
 /// A method of HTTP that some route takes.
@@ -97,8 +120,21 @@ impl Method {
     }
 }
 
+/// The day that the first part of a path names, where the pattern begins with a date; `None` for
+/// any other pattern, or if the part is no date. It fails only when memory runs out.
+fn day_in(alloc: Global, pattern: Pattern, first: &str) -> Result<Option<i32>, NoMemory>
+    ensures { IfOk result (λ day. day ≡ day_with pattern first.now) }
+{
+    match pattern {
+        Pattern::Verdicts | Pattern::DeedRehearsal | Pattern::TakedownRehearsal => {
+            day_of(alloc, first)
+        }
+        _ => Ok(None),
+    }
+}
+
 impl Route {
-    ghost use Rattle.rd_messages.specs.Routes.{IsWithin, methods_of, route_of, route_of_path, route_with, rule_of};
+    ghost use Rattle.rd_messages.specs.Routes.{IsWithin, methods_of, rehearsal_of, route_of, route_of_path, route_with, rule_of};
 
     /// A rule of a band, by its scope and its rank; `None` if one of them is not well written.
     fn rule(band: Band, first: &str, second: &str) -> Option<Route>
@@ -111,8 +147,23 @@ impl Route {
         })
     }
 
-    /// What a pattern and its parts name; `None` if a part is not well written.
-    fn with_parts(pattern: Pattern, parts: &Parts<'_>) -> Option<Route>
+    /// A rehearsal of a day with a rule of a band, by its scope and its rank; `None` if one of them
+    /// is not well written.
+    fn rehearsal(day: i32, band: Band, first: &str, second: &str) -> Option<Route>
+        ensures { result ≡ rehearsal_of day band first.now second.now }
+    {
+        Some(Route::Rehearsal {
+            day,
+            band,
+            scope: scope(first)?,
+            rank: rank(second)?,
+        })
+    }
+
+    /// What a pattern and its parts name, the first of which may name a day; `None` if a part is
+    /// not well written.
+    fn with_parts(pattern: Pattern, day: Option<i32>, parts: &Parts<'_>) -> Option<Route>
+        requires { day ≡ day_with pattern parts.now.first.now }
         ensures { result ≡ route_with pattern parts.now.first.now parts.now.second.now parts.now.third.now parts.now.fourth.now }
     {
         match pattern {
@@ -132,24 +183,45 @@ impl Route {
             Pattern::DeedRule => Route::rule(Band::Deed, parts.first, parts.second),
             Pattern::Badge => Some(Route::Badge(digest(parts.first)?)),
             Pattern::Catalogue => Some(Route::Catalogue),
+            Pattern::Deeds => Some(Route::Deeds),
+            Pattern::Takedowns => Some(Route::Takedowns),
+            Pattern::Keys => Some(Route::Keys),
+            Pattern::Checks => Some(Route::Checks),
+            Pattern::Verdicts => Some(Route::Verdicts(day?)),
+            Pattern::DeedRehearsal => {
+                Route::rehearsal(day?, Band::Deed, parts.second, parts.third)
+            }
+            Pattern::TakedownRehearsal => {
+                Route::rehearsal(day?, Band::Takedown, parts.second, parts.third)
+            }
         }
     }
 
-    /// What a path of ASCII names, by the router of the table; `None` if it names nothing.
-    fn of_path(router: &Router<Pattern>, path: &str) -> Option<Route>
+    /// What a path of ASCII names, by the router of the table; `None` if it names nothing. It fails
+    /// only when memory runs out, and takes none for a path without a date.
+    fn of_path(
+        alloc: Global,
+        router: &Router<Pattern>,
+        path: &str,
+    ) -> Result<Option<Route>, NoMemory>
         requires router { router.now ≡ pattern_rows }
         requires ascii { list_all is_ascii path.now ≡ true }
-        ensures { result ≡ route_of_path path.now }
+        ensures { IfOk result (λ found. found ≡ route_of_path path.now) }
     {
         match router.at(path) {
-            Ok(found) => Route::with_parts(*found.value, &parts_of(&found.params)),
-            Err(_) => None,
+            Ok(found) => {
+                let pattern = *found.value;
+                let parts = parts_of(&found.params);
+                let day = day_in(alloc, pattern, parts.first)?;
+                Ok(Route::with_parts(pattern, day, &parts))
+            }
+            Err(_) => Ok(None),
         }
     }
 
     /// What the target of a request names; `None` if it names nothing. It does not read what
-    /// follows a question mark, and decodes nothing. It takes memory only to build the router, and
-    /// fails only if that is refused.
+    /// follows a question mark, and decodes nothing. It takes memory only to build the router and to
+    /// read a date, and fails only if that is refused.
     pub(crate) fn of_target(
         alloc: Global,
         router: &mut KeptRouter,
@@ -162,7 +234,7 @@ impl Route {
             return Ok(None);
         };
         let router = router.get(alloc)?;
-        Ok(Route::of_path(router, path))
+        Route::of_path(alloc, router, path)
     }
 
     /// The methods that the route takes.
@@ -174,10 +246,15 @@ impl Route {
             | Route::Listing(_)
             | Route::Bytes(_, _)
             | Route::Survey(_)
-            | Route::Catalogue => Methods::Get,
+            | Route::Catalogue
+            | Route::Deeds
+            | Route::Takedowns
+            | Route::Keys
+            | Route::Checks
+            | Route::Verdicts(_) => Methods::Get,
             Route::Check(_) => Methods::Post,
             Route::Accession { .. } | Route::Deed(_) => Methods::Put,
-            Route::Rule { .. } | Route::Badge(_) => Methods::PutOrDelete,
+            Route::Rule { .. } | Route::Rehearsal { .. } | Route::Badge(_) => Methods::PutOrDelete,
         }
     }
 }

@@ -4,7 +4,7 @@ use Rattle.std.specs.Io.KnownBytes.{Keeps}
 use Rattle.rd_program.specs.Asking.{IsAskRefusal, IsReplyRefusal, RefusesOnce}
 use Rattle.rd_commands.specs.Asks.{AsksADesk, AsksCheckOf, IsCheck, TellsOnOutput}
 use Rattle.rd_commands.specs.Asks as asks
-use Rattle.rd_commands.specs.Commands.{IsAskOf, IsCheckOf, IsExport}
+use Rattle.rd_commands.specs.Commands.{IsAskOf, IsCheckOf, IsExport, IsShow}
 use Rattle.rd_program.specs.Importing.{IsRowRefusal}
 use Rattle.rd_commands.specs.Refusals.{status_of}
 use Rattle.rd_program.specs.Serving.{IsClockRefusal, IsOpenRefusal}
@@ -33,6 +33,15 @@ module _ (words : List (List ℕ)) where
   export_is_whole (Init ask) is asked tells = tells
   export_is_whole (Serve ask) is asked tells = tells
   export_is_whole (Import ask) is asked tells = is.export asked.0 asked.1 asked.2 asked.3 asked.4
+
+  -- nor is anything where they ask to show what stands
+  pub show_is_whole : (ask : Ask) → IsAskOf words ask → IsShow words → TellsOnOutput ask → ⊥
+  show_is_whole (Once ask) is asked tells = subst IsCheck (is.show asked.0 asked.1 asked.2 asked.3 asked.4 asked.5).question_is tells
+  show_is_whole (File ask) is asked tells = tells
+  show_is_whole (Files ask) is asked tells = tells
+  show_is_whole (Init ask) is asked tells = tells
+  show_is_whole (Serve ask) is asked tells = tells
+  show_is_whole (Import ask) is asked tells = is.show asked.0 asked.1 asked.2 asked.3 asked.4 asked.5
 
   module _ (acc : ℕ) where
     -- where they ask for a check of an accession, a desk is asked for it

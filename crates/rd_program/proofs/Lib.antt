@@ -5,4 +5,5 @@ pub mod Answered
 pub mod Pieces
 pub mod Left
 pub mod Stepped
+pub mod Showing
 pub mod LeftBy

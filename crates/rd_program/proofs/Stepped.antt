@@ -24,7 +24,7 @@ answered_step : (old : Desk) (day : ℤ) (request : Request) (answer : Response)
 answered_step old day request (response.Refused refusal) new is = inr ((refusal, is.0), is.1)
 answered_step old day request answer new is = inl (record { file = is.file; asked = is.asked; accepted = is.accepted }, is.after)
 
-reply_step : (old : Desk) (day : ℤ) (request : Request) (reply : Reply) (new : Desk) → Answers old day request reply new
+pub reply_step : (old : Desk) (day : ℤ) (request : Request) (reply : Reply) (new : Desk) → Answers old day request reply new
     → (new ≡ old) ⊎ IsStep old day request new
 reply_step old day request reply new (inl is) = inr (answered_step old day request is.answer new is.answered)
 reply_step old day request reply new (inr none) = inl none.after
@@ -77,6 +77,7 @@ takes_on Days More badge old new weaker (inr taken) = inr (taken.0, weaker taken
 pub steps_on : (Days More : ℤ → Type 0) (badge : Option (List ℕ)) (asked : Question) (old new : Desk) → ((day : ℤ) → Days day → More day)
     → StepsOf badge Days asked old new → StepsOf badge More asked old new
 steps_on Days More badge question.Catalogue old new weaker same = same
+steps_on Days More badge (question.Show what) old new weaker same = same
 steps_on Days More badge (question.Check acc) old new weaker checks = checks_on Days More badge acc old new weaker checks
 
 -- ---- row after row

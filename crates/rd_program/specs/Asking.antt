@@ -1,4 +1,4 @@
--- What the commands `export` and `check` give.
+-- What the commands `export` and `check` give, and why nothing is asked of a desk.
 use Rattle.std.specs.Prelude.{◌≡◌, ◌⊎◌, ℕ, List, Option, codes}
 use Rattle.std.specs.Io.KnownBytes.{Appends, Keeps}
 use Rattle.rd_program.specs.Importing.{IsRowRefusal, accession_line}

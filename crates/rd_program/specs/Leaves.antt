@@ -126,10 +126,11 @@ IsSame old new = new ≡ old
 abbrev pub Checks : Option (List ℕ) → ℕ → (ℤ → Type 0) → Desk → Desk → Type 0
 Checks badge acc Days old new = (new ≡ old) ⊎ ((day : ℤ) × Days day × IsStep old day (record { badge = badge; what = request.Check acc }) new)
 
--- the catalogue leaves the desk as it was, and a check may record what it finds
+-- the catalogue and what is shown leave the desk as it was, and a check may record what it finds
 abbrev pub StepsOf : Option (List ℕ) → (ℤ → Type 0) → Question → Desk → Desk → Type 0
 StepsOf badge Days question.Catalogue old new = IsSame old new
 StepsOf badge Days (question.Check acc) old new = Checks badge acc Days old new
+StepsOf badge Days (question.Show what) old new = IsSame old new
 
 -- ---- images that are taken in
 
@@ -162,7 +163,7 @@ TakesFields badge day fields old new = (new ≡ old) ⊎ ((row : SheetRow) × Sa
 
 -- ---- by what is asked for
 
--- what `serve`, `import`, `export` and `check` leave, however they end
+-- what `serve`, `import`, `export`, `check` and `show` leave, however they end
 abbrev pub LeavesBy : {S : Type 0} → Ghosts S → Option (Held S) → (List ℕ → Option (Held S)) → Option (Held S) → Ask → Type 0
 LeavesBy g was stands new (Serve ask) = Leaves was (stands ask.store.now) new (Lasts g)
 LeavesBy g was stands new (Import ask) =

@@ -4,9 +4,11 @@ pub mod Serving
 pub mod Importing
 pub mod Asking
 pub mod Leaves
+pub mod Showing
 pub use Rattle.rd_commands.specs.Words
 pub use Rattle.rd_commands.specs.CommandLine
 pub use Rattle.rd_commands.specs.Zones
+pub use Rattle.rd_commands.specs.Shown
 pub use Rattle.rd_commands.specs.Asks
 pub use Rattle.rd_commands.specs.Commands
 pub use Rattle.rd_commands.specs.Refusals

@@ -1,4 +1,4 @@
-ghost use Rattle.std.specs.Prelude.{◌≡◌, ◌≢◌, ◌⊎◌, ◌≤◌, ◌+◌, ⊤, IfErr, IfOk, IfSome, List, OnOk, Option, codes, map, ℕ, ℤ};
+ghost use Rattle.std.specs.Prelude.{◌≡◌, ◌≢◌, ◌⊎◌, ◌≤◌, ◌+◌, ⊤, IfErr, IfOk, IfSome, List, OnOk, Option, Some, codes, map, ℕ, ℤ};
 ghost use Rattle.std.specs.Io.KnownBytes.{Appends, Keeps};
 ghost use Rattle.httparse.specs.Grammar.{trim_ows};
 ghost use Rattle.sha2.specs.Sha256.{sha256};
@@ -7,10 +7,10 @@ ghost use Rattle.rd_store.specs.Held.{Lasts};
 ghost use Rattle.rd_geometry.specs.declared.kind.Kind.{Kind};
 ghost use Rattle.rd_geometry.specs.declared.kind.Kind.TheVariants as kinds;
 ghost use Rattle.rd_program.specs.Asking.{RefusesOnce, TellsCheck};
-ghost use Rattle.rd_commands.specs.Asks.{AsksADesk, AsksCheckOf, IsWithinLimits, IsFileAsk, IsFilesAsk, IsInitAsk, IsServeAsk, TellsInRows, TellsOnOutput, most_read};
+ghost use Rattle.rd_commands.specs.Asks.{AsksADesk, AsksCheckOf, IsWithinLimits, IsFileAsk, IsFilesAsk, IsInitAsk, IsOnceAsk, IsServeAsk, TellsInRows, TellsOnOutput, most_read};
 ghost use Rattle.rd_commands.specs.Cat.{HasNoSoundFile, IsCut, Refuses, Serves};
 ghost use Rattle.rd_commands.specs.CommandLine.{AsksForHelp, AsksForVersion, IsTaken, IsTakenTelling};
-ghost use Rattle.rd_commands.specs.Commands.{AsksCheck, AsksExport, AsksImport, AsksInit, AsksOfStore, AsksServe, IsCheckOf, IsCommand, IsImport, TellsARule};
+ghost use Rattle.rd_commands.specs.Commands.{AsksCheck, AsksExport, AsksImport, AsksInit, AsksOfStore, AsksServe, AsksShow, IsCheckOf, IsCommand, IsImport, NamesWhatItShows, TellsARule};
 ghost use Rattle.rd_program.specs.Importing.{GainsLines, IsDoneLine, IsRowLine, RefusesImport, TellsRows};
 ghost use Rattle.rd_program.specs.Inits.{LeavesInit, MakesDesk, RefusesInit, done_line};
 ghost use Rattle.rd_commands.specs.Input.{ReadsUpTo};
@@ -18,7 +18,10 @@ ghost use Rattle.rd_program.specs.Leaves.{Checks, IsDayBy, IsSame, Leaves, Leave
 ghost use Rattle.rd_commands.specs.Listed.{Lists, RefusesList};
 ghost use Rattle.rd_commands.specs.Refusals.{status_of};
 ghost use Rattle.rd_program.specs.Serving.{RefusesServe, serve_text};
+ghost use Rattle.rd_program.specs.Showing.{EndsWith, IsDueIn, RefusesShow, ShowsStore, show_request};
 ghost use Rattle.rd_commands.specs.RefusalLines.{Tells};
+ghost use Rattle.rd_commands.specs.declared.words.Question.TheVariants as Question;
+ghost use Rattle.rd_commands.specs.declared.words.Shown.{Shown};
 ghost use Rattle.rd_commands.specs.Versions.{RefusesVersion, version_line};
 ghost use Rattle.rd_commands.specs.Words.{AsksCat, AsksList, AsksOfKind, AsksVersion};
 
@@ -78,6 +81,14 @@ fn perform<R: Read, W: Write, M: Machine>(
         → IfOk result (TellsCheck acc (W.contents output.old) (W.contents output.new)) }
     ensures not_answered { AsksADesk ask.entry
         → IfErr result (RefusesOnce (W.contents output.old) (W.contents output.new)) }
+    ensures shown { (store key : List ℕ) (what : Shown) (moment : Option ℤ) (rule : List ℕ)
+        → IsOnceAsk store (Some key) (Question.Show what) moment rule ask.entry
+        → OnOk result (EndsWith (M.stands machine.old store) (M.left machine.new)
+        (ShowsStore M.Disk.Store (show_request (Some (sha256 (trim_ows key))) what) (W.contents output.old) (W.contents output.new))) }
+    ensures not_shown { (store key : List ℕ) (what : Shown) (moment : Option ℤ) (rule : List ℕ)
+        → IsOnceAsk store (Some key) (Question.Show what) moment rule ask.entry
+        → IfErr result (λ refusal. RefusesShow (W.contents output.old) (W.contents output.new) refusal
+        × IsDueIn M.Disk.Store (show_request (Some (sha256 (trim_ows key))) what) (M.stands machine.old store) (M.left machine.new) refusal) }
     ensures leaves { LeavesBy M.Disk.Store (M.left machine.old) (M.stands machine.old) (M.left machine.new) ask.entry }
     ensures leaves_refused { IfErr result (LeavesRefused M.Disk.Store (M.left machine.old) (M.stands machine.old) (M.left machine.new)
         (W.contents output.old) (W.contents output.new) ask.entry) }
@@ -121,6 +132,11 @@ pub fn run<R: Read, W: Write, E: Write, M: Machine>(
     // none. If it is no rule, the words are a mistake, or memory ran out.
     ensures zone { result ≤ 1 → TellsARule (map (λ word. word.now) words.entry.now) }
     ensures no_rule { ¬ TellsARule (map (λ word. word.now) words.entry.now)
+        → (result ≡ 2) ⊎ Tells (λ refusal. refusal ≡ Refusal.NoMemory) result (E.contents errors.old) (E.contents errors.new) }
+    // At 0 and 1, if they are `show`, the text of --on is a date, or there is none, and it goes with
+    // what is shown. If it does not, the words are a mistake, or memory ran out.
+    ensures named { result ≤ 1 → NamesWhatItShows (map (λ word. word.now) words.entry.now) }
+    ensures none_named { ¬ NamesWhatItShows (map (λ word. word.now) words.entry.now)
         → (result ≡ 2) ⊎ Tells (λ refusal. refusal ≡ Refusal.NoMemory) result (E.contents errors.old) (E.contents errors.new) }
     // At 0 `errors` gets nothing. At 1 and 3 it gets at most the line of a refusal with this
     // status, and nothing at 1 if the output says which rows an `import` refused, or that a
@@ -238,6 +254,23 @@ pub fn run<R: Read, W: Write, E: Write, M: Machine>(
         result (E.contents errors.old) (E.contents errors.new) }
     ensures export_leaves { (store : List ℕ) (key : Option (List ℕ)) (moment : Option ℤ) (rule : List ℕ)
         → AsksExport (map (λ word. word.now) words.entry.now) store key moment rule
+        → Leaves (M.left machine.old) (M.stands machine.old store) (M.left machine.new) (LeavesStore M.Disk.Store IsSame) }
+
+    // A `show`: at 0 it has written the reply of the desk that stood, and otherwise it names its
+    // refusal: that the caller has no key that the desk knows, or is not of the staff, only where the
+    // desk refuses them so. However it ends, it leaves the desk as it was.
+    ensures shown { result ≡ 0 → (store key : List ℕ) (what : Shown) (moment : Option ℤ) (rule : List ℕ)
+        → AsksShow (map (λ word. word.now) words.entry.now) store key what moment rule
+        → EndsWith (M.stands machine.old store) (M.left machine.new)
+        (ShowsStore M.Disk.Store (show_request (Some (sha256 (trim_ows key))) what) (W.contents output.old) (W.contents output.new)) }
+    ensures show_refused { result ≢ 0 → (store key : List ℕ) (what : Shown) (moment : Option ℤ) (rule : List ℕ)
+        → AsksShow (map (λ word. word.now) words.entry.now) store key what moment rule
+        → Tells (λ refusal. RefusesShow (W.contents output.old) (W.contents output.new) refusal
+        × NamesOpening M.Disk.Store (M.stands machine.old store) (M.left machine.new) refusal
+        × IsDueIn M.Disk.Store (show_request (Some (sha256 (trim_ows key))) what) (M.stands machine.old store) (M.left machine.new) refusal)
+        result (E.contents errors.old) (E.contents errors.new) }
+    ensures show_leaves { (store key : List ℕ) (what : Shown) (moment : Option ℤ) (rule : List ℕ)
+        → AsksShow (map (λ word. word.now) words.entry.now) store key what moment rule
         → Leaves (M.left machine.old) (M.stands machine.old store) (M.left machine.new) (LeavesStore M.Disk.Store IsSame) }
 
     // The version, if the first word asks for it: at 0 exactly its line is written, and otherwise

@@ -1,25 +1,26 @@
-//! Asks a desk one question: for the catalogue, or what a check of an image finds.
+//! Asks a desk one question: for the catalogue, what a check of an image finds, or what stands.
 
-ghost use Rattle.std.specs.Prelude.{◌≡◌, IfErr, IfOk, option_map, ℕ};
+ghost use Rattle.std.specs.Prelude.{◌≡◌, IfErr, IfOk, IsSome, OnOk, option_map, ℕ};
 ghost use Rattle.std.specs.String.{string_bytes};
 ghost use Rattle.sha2.specs.Sha256.{sha256};
 ghost use Rattle.rd_policy.specs.Days.{HasDay};
 ghost use Rattle.rd_policy.specs.Rules.{IsScope};
 ghost use Rattle.rd_policy.specs.Zones.{day_number};
-ghost use Rattle.rd_protocol.specs.Requests.{IsRequest};
 ghost use Rattle.rd_protocol.specs.Texts.{outcome_word};
-ghost use Rattle.rd_desk.specs.Served.{Serves};
 ghost use Rattle.rd_program.specs.Asking.{IsReplyRefusal, RefusesOnce, TellsCheck};
 ghost use Rattle.rd_commands.specs.Asks.{IsAskable, IsCheck, IsCheckOf};
 ghost use Rattle.rd_program.specs.Importing.{accession_line};
 ghost use Rattle.rd_program.specs.Leaves.{Checks, IsDayAt, IsOfOpenDesk, IsSame, Leaves, LeavesDesk, LeavesStore, NamesOpening, StepsOf};
+ghost use Rattle.rd_commands.specs.declared.words.Shown.{Shown};
+ghost use Rattle.rd_program.specs.Showing.{EndsWith, IsDueIn, IsDueOn, OfDesk, RefusesShow, Shows, ShowsStore, show_request};
 
+use crate::asker::{Asker, badge_of, reply_to};
 use crate::machine::Machine;
 use crate::open_desk::{moment, open_desk};
 use crate::reply_body::{bytes_of, error_name, is_text, value_of};
+use crate::show::show;
 use rd_commands::{Done, OnceAsk, Question, Refusal, write_whole};
-use rd_desk::{Desk, Outcome, Refusal as DeskRefusal, Reply, Request, What};
-use sha2::{Digest, Sha256};
+use rd_desk::{Desk, Outcome, Refusal as DeskRefusal, Reply, What};
 use sqlite::Alter;
 use std::alloc::Global;
 use std::io::Write;
@@ -29,36 +30,6 @@ const SOUND: &[u8] = b"{\"outcome\":\"sound\"}";
 
 /// The body of the reply to a check that found an image changed.
 const CHANGED: &[u8] = b"{\"outcome\":\"changed\"}";
-
-/// Who asks the desk, and when.
-#[derive(Clone, Copy)]
-struct Asker {
-    /// The SHA-256 of the desk key; `None` if there is none.
-    badge: Option<[u8; 32]>,
-    /// The moment, in seconds since 1970-01-01T00:00:00 UTC, which has a day.
-    seconds: i64,
-}
-
-/// The SHA-256 of a desk key; `None` if there is none.
-fn badge_of(key: Option<&[u8]>) -> Option<[u8; 32]>
-    ensures { result ≡ option_map sha256 (option_map (λ key. key.now) key.entry) }
-{
-    match key {
-        Some(key) => Some(Sha256::digest(key)),
-        None => None,
-    }
-}
-
-/// Asks a desk, and gives its reply.
-fn reply_to<S: Alter + Drop>(alloc: Global, what: What, asker: Asker, desk: &mut Desk<S>) -> Reply
-    requires day { HasDay asker.seconds }
-    requires fits { IsRequest what }
-    ensures serves { Serves S.Store desk.old.store desk.new.store (day_number asker.seconds desk.old.zone)
-        (record { badge = asker.badge; what = what }) result }
-{
-    let badge = asker.badge;
-    desk.answer(alloc, asker.seconds, &Request { badge, what })
-}
 
 /// The refusal that a reply names; `Store` if it names none that a question can have.
 fn refusal_told(alloc: Global, reply: &Reply) -> Refusal
@@ -159,8 +130,8 @@ fn check<S: Alter + Drop, W: Write>(
 
 /// Asks an open desk one question, at the moment that the command names, and writes the answer.
 ///
-/// It fails with `Clock` when the clock fails or the moment has no day, and then as `export` and
-/// `check` do.
+/// It fails with `Clock` when the clock fails or the moment has no day, and then as `export`,
+/// `check` and `show` do.
 fn tell_asked<S: Alter + Drop, W: Write, M: Machine>(
     alloc: Global,
     ask: &OnceAsk,
@@ -176,6 +147,12 @@ fn tell_asked<S: Alter + Drop, W: Write, M: Machine>(
     ensures opened { IfErr result IsOfOpenDesk }
     ensures steps { LeavesDesk S.Store (StepsOf (option_map sha256 (option_map (λ key. key.now) ask.now.key))
         (IsDayAt ask.now.when.seconds desk.old.zone) ask.now.question) desk.old.store desk.new.store }
+    ensures shown { (what : Shown) → ask.now.question ≡ Question.Show what
+        → OnOk result (OfDesk S.Store (λ stood. Shows (show_request (option_map sha256 (option_map (λ key. key.now) ask.now.key)) what) stood
+        (W.contents output.old) (W.contents output.new)) desk.old.store desk.new.store) }
+    ensures not_shown { (what : Shown) → ask.now.question ≡ Question.Show what → IsSome ask.now.key
+        → IfErr result (λ refusal. RefusesShow (W.contents output.old) (W.contents output.new) refusal
+        × IsDueOn S.Store (show_request (option_map sha256 (option_map (λ key. key.now) ask.now.key)) what) desk.old.store desk.new.store refusal) }
 {
     let seconds = moment(ask.when.seconds, desk, machine)?;
     let badge = badge_of(ask.key);
@@ -183,11 +160,12 @@ fn tell_asked<S: Alter + Drop, W: Write, M: Machine>(
     match ask.question {
         Question::Catalogue => export(alloc, asker, desk, output),
         Question::Check(acc) => check(alloc, acc, asker, desk, output),
+        Question::Show(shown) => show(alloc, shown, asker, desk, output),
     }
 }
 
-/// Asks the desk in the file of a store the question of `export` or `check`, and writes the
-/// answer.
+/// Asks the desk in the file of a store the question of `export`, `check` or `show`, and writes
+/// the answer.
 ///
 /// It fails with `NotADesk`, `Version`, `Inconsistent` and `Store` when it cannot open the desk,
 /// then as `tell_asked` does. A recorded check stands.
@@ -206,6 +184,14 @@ pub(crate) fn ask_once<W: Write, M: Machine>(
         (LeavesStore M.Disk.Store (StepsOf (option_map sha256 (option_map (λ key. key.now) ask.entry.key))
         (IsDayAt ask.entry.when.seconds ask.entry.when.zone) ask.entry.question)) }
     ensures opens { IfErr result (NamesOpening M.Disk.Store (M.stands machine.old ask.entry.store.now) (M.left machine.new)) }
+    ensures shown { (what : Shown) → ask.entry.question ≡ Question.Show what
+        → OnOk result (EndsWith (M.stands machine.old ask.entry.store.now) (M.left machine.new)
+        (ShowsStore M.Disk.Store (show_request (option_map sha256 (option_map (λ key. key.now) ask.entry.key)) what)
+        (W.contents output.old) (W.contents output.new))) }
+    ensures not_shown { (what : Shown) → ask.entry.question ≡ Question.Show what → IsSome ask.entry.key
+        → IfErr result (λ refusal. RefusesShow (W.contents output.old) (W.contents output.new) refusal
+        × IsDueIn M.Disk.Store (show_request (option_map sha256 (option_map (λ key. key.now) ask.entry.key)) what)
+        (M.stands machine.old ask.entry.store.now) (M.left machine.new) refusal) }
 {
     let mut desk = open_desk(alloc, ask.store, ask.when.zone, machine)?;
     let told = tell_asked(alloc, &ask, &mut desk, output, machine);

@@ -1,6 +1,7 @@
 //! The commands of the program `desk` on a store, and `run`, which runs any command on a machine that it is given.
 #![tactic(auto)]
 
+mod asker;
 mod dispatch;
 mod export_check;
 mod faults;
@@ -10,6 +11,7 @@ mod machine;
 mod open_desk;
 mod reply_body;
 mod serve;
+mod show;
 
 pub use dispatch::run;
 pub use machine::{Machine, connect_fault};

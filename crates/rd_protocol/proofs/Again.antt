@@ -13,7 +13,7 @@ use Rattle.rd_protocol.specs.Requests.{IsForStaff}
 use Rattle.rd_protocol.specs.declared.refusal.Refusal.TheVariants.{UnknownKey, StaffOnly, BadBody, NoAccession, NoFile, NoDeed, WrongSize, DigestDiffers, Conflict}
 use Rattle.rd_protocol.specs.declared.request.Request.{Request}
 use Rattle.rd_protocol.specs.declared.request.What.{What}
-use Rattle.rd_protocol.specs.declared.request.What.TheVariants.{Images, Listing, Bytes, Catalogue, Survey, Check, PutImage, PutDeed, PutRule, DropRule, PutKey, DropKey}
+use Rattle.rd_protocol.specs.declared.request.What.TheVariants.{Images, Listing, Bytes, Catalogue, Survey, Check, Deeds, Takedowns, Keys, Checks, Verdicts, RehearseRule, RehearseDrop, PutImage, PutDeed, PutRule, DropRule, PutKey, DropKey}
 use Rattle.rd_protocol.specs.declared.response.Response.{Response}
 use Rattle.rd_protocol.specs.declared.response.Response.TheVariants as response
 use Rattle.rd_protocol.proofs.Accepting.{no_file}
@@ -101,6 +101,20 @@ module _ (day : ℤ) where
   told_again desk audience file (Check acc) (response.Checked outcome) command told =
       subst (λ images. IsSomeAnd (get images acc) (λ image. outcome ≡ outcome_of image.bytes image.digest)) (sym (same_images acc day desk (get desk.images acc))) told
   told_again desk audience file (Check acc) other command told = absurd told
+  told_again desk audience file Deeds (response.Deeds lines) command told = told
+  told_again desk audience file Deeds other command told = absurd told
+  told_again desk audience file Takedowns (response.Takedowns lines) command told = told
+  told_again desk audience file Takedowns other command told = absurd told
+  told_again desk audience file Keys (response.Keys lines) command told = told
+  told_again desk audience file Keys other command told = absurd told
+  told_again desk audience file Checks (response.Checks lines) command told = told
+  told_again desk audience file Checks other command told = absurd told
+  told_again desk audience file (Verdicts on) (response.Verdicts all) command told = told
+  told_again desk audience file (Verdicts on) other command told = absurd told
+  told_again desk audience file (RehearseRule on rule) (response.Rehearsed differences) command told = told
+  told_again desk audience file (RehearseRule on rule) other command told = absurd told
+  told_again desk audience file (RehearseDrop on band scope rank) (response.Rehearsed differences) command told = told
+  told_again desk audience file (RehearseDrop on band scope rank) other command told = absurd told
   told_again desk audience file what answer command told =
       subst (λ a. Tells (carried_out day what desk) audience day None a what) (sym (told_done desk audience day file answer what tt told)) tt
 

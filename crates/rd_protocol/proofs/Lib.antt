@@ -26,3 +26,11 @@ pub mod Slicing
 pub mod InTurn
 pub mod Sending
 pub mod PartLemmas
+pub mod DayTextLemmas
+pub mod VerdictLawLemmas
+pub mod ReadableLemmas
+pub mod VerdictLemmas
+pub mod RehearsalLemmas
+pub mod RuleTextLemmas
+pub mod LineLemmas
+pub mod StaffListLemmas

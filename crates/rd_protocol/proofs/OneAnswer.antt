@@ -24,13 +24,13 @@ use Rattle.rd_protocol.specs.Judged.{Holds, IsAccepted, IsAsked, IsJudgedFile, I
 use Rattle.rd_protocol.specs.Laws.{OneReply}
 use Rattle.rd_protocol.specs.Lent.{Lent}
 use Rattle.rd_protocol.specs.Refusals.{number_of}
-use Rattle.rd_protocol.specs.Replies.{AreImageLines, AreLines, AreListings, IsAnswered, IsDone, IsImageLine, IsLine, IsListing, LendsFile, Tells}
+use Rattle.rd_protocol.specs.Replies.{AreImageLines, AreLines, AreListings, IsAnswered, IsDone, IsImageLine, IsLine, IsListing, LendsFile, Tells, carried_out}
 use Rattle.rd_protocol.specs.Texts.{reply_of}
 use Rattle.rd_protocol.specs.declared.refusal.Refusal.{Refusal}
 use Rattle.rd_protocol.specs.declared.refusal.Refusal.TheVariants.{UnknownKey, StaffOnly, BadBody, NoAccession, NoFile, NoDeed, Denied, ListedOnly, Faulty, WrongSize, DigestDiffers, Conflict}
 use Rattle.rd_protocol.specs.declared.request.Request.{Request}
 use Rattle.rd_protocol.specs.declared.request.What.{What}
-use Rattle.rd_protocol.specs.declared.request.What.TheVariants.{Images, Listing, Bytes, Catalogue, Survey, Check}
+use Rattle.rd_protocol.specs.declared.request.What.TheVariants.{Images, Listing, Bytes, Catalogue, Survey, Check, Deeds, Takedowns, Keys, Checks, Verdicts, RehearseRule, RehearseDrop, PutRule, DropRule}
 use Rattle.rd_protocol.specs.declared.response.ImageLine.{ImageLine}
 use Rattle.rd_protocol.specs.declared.response.Line.{Line}
 use Rattle.rd_protocol.specs.declared.response.Listing.{Listing as Lines}
@@ -38,7 +38,8 @@ use Rattle.rd_protocol.specs.declared.response.Response.{Response}
 use Rattle.rd_protocol.specs.declared.response.Response.TheVariants as response
 use Rattle.rd_protocol.proofs.Ascending.{one_list}
 use Rattle.rd_protocol.proofs.OneReport.{one_survey}
-use Rattle.rd_protocol.proofs.Telling.{told_bytes, told_catalogue, told_check, told_done, told_images, told_listing, told_survey}
+use Rattle.rd_protocol.proofs.VerdictLemmas.{one_rehearsal, one_verdicts}
+use Rattle.rd_protocol.proofs.Telling.{told_bytes, told_catalogue, told_check, told_checks, told_deeds, told_done, told_images, told_keys, told_takedowns, told_verdicts, rehearsed_rule, rehearsed_drop, told_listing, told_survey}
 
 -- ---- the file that is asked for
 
@@ -135,7 +136,7 @@ module _ (audience : Audience) (day : ℤ) where
       (subst (λ row. AreLines row (rules_for desk acc) audience day other.files) (sym image) second.listed) in
       λ i. record { accession = accession i; deed = deed i; kind = kind i; files = files i }
 
-  one_listings : (desk : Desk) (xs ys : List Lines) → AreListings desk audience day xs → AreListings desk audience day ys → xs ≡ ys
+  pub one_listings : (desk : Desk) (xs ys : List Lines) → AreListings desk audience day xs → AreListings desk audience day ys → xs ≡ ys
   one_listings desk xs ys one other =
       one_list (λ (listing : Lines). listing.accession) (λ listing. IsListing desk audience day listing.accession listing) xs ys
       one.each other.each one.ascending other.ascending one.complete other.complete
@@ -155,7 +156,7 @@ module _ (desk : Desk) (day : ℤ) (badge : Option (List ℕ)) where
     asking = record { badge = badge; what = Bytes acc slot }
 
     -- a file that is asked for, of a request that is accepted, is sound
-    sound_file : (judged : JudgedFile) → IsAccepted desk asking (Some judged) → IsSoundFile judged.file
+    pub sound_file : (judged : JudgedFile) → IsAccepted desk asking (Some judged) → IsSoundFile judged.file
     sound_file judged accepted = record {
       class = elim (cases_Bool judged.file.served_class) [ inl served ↦ served | inr other ↦ absurd (accepted ListedOnly other) ];
       sound = elim (cases_eq judged.file.faults 0) [ inl none ↦ none | inr some ↦ absurd (accepted (Faulty judged.kind judged.file.faults) (some, refl, refl)) ];
@@ -213,6 +214,22 @@ module _ (desk : Desk) (day : ℤ) (badge : Option (List ℕ)) where
         let a = told_check desk audience day file acc one first in
         let b = told_check desk audience day file acc other second in
         a.1 ∙ ap response.Checked (one_outcome (get desk.images acc) a.0 b.0 a.2 b.2) ∙ sym b.1
+    one_told Deeds asked accepted first second = told_deeds desk audience day file one first ∙ sym (told_deeds desk audience day file other second)
+    one_told Takedowns asked accepted first second = told_takedowns desk audience day file one first ∙ sym (told_takedowns desk audience day file other second)
+    one_told Keys asked accepted first second = told_keys desk audience day file one first ∙ sym (told_keys desk audience day file other second)
+    one_told Checks asked accepted first second = told_checks desk audience day file one first ∙ sym (told_checks desk audience day file other second)
+    one_told (Verdicts on) asked accepted first second =
+        let a = told_verdicts desk audience day file on one first in
+        let b = told_verdicts desk audience day file on other second in
+        a.1 ∙ ap response.Verdicts (one_verdicts desk on a.0 b.0 a.2 b.2) ∙ sym b.1
+    one_told (RehearseRule on rule) asked accepted first second =
+        let a = rehearsed_rule desk audience day file on rule one first in
+        let b = rehearsed_rule desk audience day file on rule other second in
+        a.1 ∙ ap response.Rehearsed (one_rehearsal desk (carried_out day (PutRule rule) desk) on a.0 b.0 a.2 b.2) ∙ sym b.1
+    one_told (RehearseDrop on band scope rank) asked accepted first second =
+        let a = rehearsed_drop desk audience day file on band scope rank one first in
+        let b = rehearsed_drop desk audience day file on band scope rank other second in
+        a.1 ∙ ap response.Rehearsed (one_rehearsal desk (carried_out day (DropRule band scope rank) desk) on a.0 b.0 a.2 b.2) ∙ sym b.1
     one_told what asked accepted first second = told_done desk audience day file one what tt first ∙ sym (told_done desk audience day file other what tt second)
 
 -- ---- the reply

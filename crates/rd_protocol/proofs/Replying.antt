@@ -36,12 +36,13 @@ use Rattle.rd_protocol.specs.Queries.{AreLinesOf, AreLinesOfEach, IsCounted}
 use Rattle.rd_protocol.specs.Refusals.{number_of}
 use Rattle.rd_protocol.specs.Replies.{AreImageLines, AreLines, AreListings, IsAnswered, IsListing, IsReply, IsSurvey, Tells, carried_out}
 use Rattle.rd_protocol.specs.Requests.{IsForStaff}
+use Rattle.rd_protocol.specs.StaffLists.{check_lines, deed_lines, key_lines, takedown_lines}
 use Rattle.rd_protocol.specs.Texts.{reply_of}
 use Rattle.rd_protocol.specs.declared.refusal.Refusal.{Refusal}
 use Rattle.rd_protocol.specs.declared.refusal.Refusal.TheVariants.{UnknownKey, StaffOnly, BadBody, NoAccession, NoFile, NoDeed, Denied, ListedOnly, Faulty, WrongSize, DigestDiffers, Conflict}
 use Rattle.rd_protocol.specs.declared.request.Request.{Request}
 use Rattle.rd_protocol.specs.declared.request.What.{What}
-use Rattle.rd_protocol.specs.declared.request.What.TheVariants.{Images, Listing, Bytes, Catalogue, Survey, Check, PutImage, PutKey, DropKey, Unread}
+use Rattle.rd_protocol.specs.declared.request.What.TheVariants.{Images, Listing, Bytes, Catalogue, Survey, Check, Deeds, Takedowns, Keys, Checks, Verdicts, RehearseRule, RehearseDrop, PutImage, PutRule, DropRule, PutKey, DropKey, Unread}
 use Rattle.rd_protocol.specs.declared.response.ImageLine.{ImageLine}
 use Rattle.rd_protocol.specs.declared.response.Line.{Line}
 use Rattle.rd_protocol.specs.declared.response.Listing.{Listing as Lines}
@@ -53,6 +54,7 @@ use Rattle.rd_protocol.proofs.Accepting.{is_for_staff, not_none, is_unread}
 use Rattle.rd_protocol.proofs.Cataloguing.{listings_are}
 use Rattle.rd_protocol.proofs.Numbers.{each_found}
 use Rattle.rd_protocol.proofs.OneAnswer.{named}
+use Rattle.rd_protocol.proofs.VerdictLemmas.{rehearsal_said, verdicts_said}
 use Rattle.rd_protocol.proofs.Passes.{accepted, to_5, to_6, to_7, to_8, to_9, to_10, to_11, to_12, to_13, to_14, to_15, to_16}
 use Rattle.rd_protocol.proofs.Selecting.{image_lines_are, lines_are}
 use Rattle.rd_protocol.proofs.Showing.{denies, done_answered}
@@ -455,6 +457,15 @@ module _ (desk : Desk) (bytes : HoldsBytes desk) (audience : Audience) (day : �
             response.Checked (outcome_of image.0.bytes image.0.digest),
             subst (λ o. IsSomeAnd o (λ row. outcome_of image.0.bytes image.0.digest ≡ outcome_of row.bytes row.digest)) (sym image.1) refl,
           )
+      told_to Deeds asked accepted caller = (response.Deeds (deed_lines desk), refl)
+      told_to Takedowns asked accepted caller = (response.Takedowns (takedown_lines desk), refl)
+      told_to Keys asked accepted caller = (response.Keys (key_lines desk), refl)
+      told_to Checks asked accepted caller = (response.Checks (check_lines desk), refl)
+      told_to (Verdicts on) asked accepted caller = let all = verdicts_said desk on bytes in (response.Verdicts all.0, all.1)
+      told_to (RehearseRule on rule) asked accepted caller =
+          let differences = rehearsal_said desk (carried_out day (PutRule rule) desk) on bytes bytes in (response.Rehearsed differences.0, differences.1)
+      told_to (RehearseDrop on band scope rank) asked accepted caller =
+          let differences = rehearsal_said desk (carried_out day (DropRule band scope rank) desk) on bytes bytes in (response.Rehearsed differences.0, differences.1)
       told_to what asked accepted caller = (response.Done, tt)
 
 -- ---- the reply

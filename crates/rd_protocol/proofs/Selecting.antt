@@ -106,7 +106,7 @@ lines_have rules audience day (file ∷ files) lines line order (verdict, rest, 
     ]
 
 -- a file that is told is among the files of its image
-among_founds : (kind : Kind) (bytes : List ℕ) (files : List Found) (file : Found) → AreFounds kind bytes files → IsFound kind bytes file → Contains files file
+pub among_founds : (kind : Kind) (bytes : List ℕ) (files : List Found) (file : Found) → AreFounds kind bytes files → IsFound kind bytes file → Contains files file
 among_founds kind bytes files file are told =
     let there : Contains (map (λ (f : Found). f.slot) files) file.slot = are.complete file.slot (told_slot kind bytes file told) in
     let within : there.0 < length files = simp length-map at there.1 in

@@ -1,11 +1,11 @@
 -- What was sent to a writer of JSON, as the value that it is.
-use Rattle.std.proofs.Common.{◌≡◌, ℕ, suc, List, [], ◌∷◌, Option, None, Some, length, map, refl, sym, ap, subst}
+use Rattle.std.proofs.Common.{◌≡◌, ℕ, suc, List, [], ◌∷◌, Option, None, Some, length, map, option_map, refl, sym, ap, subst}
 use Rattle.serde.specs.Event as event
 use Rattle.serde.specs.Event.{Log, Logs, WritesEach, WritesOption, WritesSeq}
 use Rattle.serde_json.specs.Data.{Data, array, string}
 use Rattle.serde_json.specs.Events.{SendsItems, SendsValue, items_len}
 use Rattle.serde_json.specs.View.{items_of}
-use Rattle.rd_protocol.specs.Texts.{natural_or_null, texts}
+use Rattle.rd_protocol.specs.Texts.{natural_or_null, text_or_null, texts}
 
 -- a number, or none
 pub sent_option : (number : Option ℕ) (old new : Log) → WritesOption (λ n before after. Logs before after (event.unsigned n)) number old new → SendsValue (natural_or_null number) old new
@@ -33,3 +33,9 @@ module _ {A : Type 0} where
   -- an array of texts
   pub sent_texts : (read : A → List ℕ) (xs : List A) (old new : Log) → WritesSeq (λ x before after. Logs before after (event.text (read x))) xs old new → SendsValue (texts (map read xs)) old new
   sent_texts read xs old new is = subst (λ values. SendsValue (array (items_of values)) old new) (twice read xs) (sent_array (λ x. string (read x)) xs old new is)
+
+  -- a text, or none
+  pub sent_text_or_null : (read : A → List ℕ) (text : Option A) (old new : Log) → WritesOption (λ x before after. Logs before after (event.text (read x))) text old new
+      → SendsValue (text_or_null (option_map read text)) old new
+  sent_text_or_null read None old new is = is
+  sent_text_or_null read (Some text) old new is = is

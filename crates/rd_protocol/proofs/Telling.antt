@@ -1,5 +1,5 @@
 -- What is said to each request.
-use Rattle.std.proofs.Common.{◌≡◌, ℕ, ℤ, List, Option, IsSomeAnd, refl}
+use Rattle.std.proofs.Common.{◌≡◌, ℕ, ℤ, List, Option, IsSomeAnd, ap, refl}
 use Rattle.std.specs.FinMap.{get}
 use Rattle.rd_policy.specs.declared.audience.Audience.{Audience}
 use Rattle.rd_policy.specs.declared.rule.Effect.TheVariants.{Read}
@@ -8,10 +8,17 @@ use Rattle.rd_protocol.specs.declared.rows.Outcome.{Outcome}
 use Rattle.rd_protocol.specs.Checks.{outcome_of}
 use Rattle.rd_protocol.specs.Judged.{JudgedFile}
 use Rattle.rd_protocol.specs.Lent.{Lent}
-use Rattle.rd_protocol.specs.Replies.{AreImageLines, AreListings, IsListing, IsSurvey, LendsFile, Tells}
+use Rattle.rd_protocol.specs.Replies.{AreImageLines, AreListings, IsListing, IsSurvey, LendsFile, Tells, carried_out}
+use Rattle.rd_policy.specs.declared.rule.Band.{Band}
+use Rattle.rd_policy.specs.declared.rule.Rule.{Rule}
+use Rattle.rd_protocol.specs.Rehearsals.{IsRehearsal}
 use Rattle.rd_protocol.specs.Requests.{IsPutOrDrop}
+use Rattle.rd_protocol.specs.Verdicts.{AreVerdicts}
+use Rattle.rd_protocol.specs.declared.response.Difference.{Difference}
+use Rattle.rd_protocol.specs.declared.response.Verdicts.{Verdicts as Each}
+use Rattle.rd_protocol.specs.StaffLists.{check_lines, deed_lines, key_lines, takedown_lines}
 use Rattle.rd_protocol.specs.declared.request.What.{What}
-use Rattle.rd_protocol.specs.declared.request.What.TheVariants.{Images, Listing, Bytes, Catalogue, Survey, Check}
+use Rattle.rd_protocol.specs.declared.request.What.TheVariants.{Images, Listing, Bytes, Catalogue, Survey, Check, Deeds, Takedowns, Keys, Checks, Verdicts, RehearseRule, RehearseDrop, PutRule, DropRule}
 use Rattle.rd_protocol.specs.declared.response.ImageLine.{ImageLine}
 use Rattle.rd_protocol.specs.declared.response.Listing.{Listing as Lines}
 use Rattle.rd_protocol.specs.declared.response.Response.{Response}
@@ -30,6 +37,13 @@ module _ (desk : Desk) (audience : Audience) (day : ℤ) (file : Option JudgedFi
   told_done (response.Catalogue listings) Catalogue command told = absurd command
   told_done (response.Surveyed survey) (Survey acc) command told = absurd command
   told_done (response.Checked outcome) (Check acc) command told = absurd command
+  told_done (response.Deeds lines) Deeds command told = absurd command
+  told_done (response.Takedowns lines) Takedowns command told = absurd command
+  told_done (response.Keys lines) Keys command told = absurd command
+  told_done (response.Checks lines) Checks command told = absurd command
+  told_done (response.Verdicts all) (Verdicts on) command told = absurd command
+  told_done (response.Rehearsed differences) (RehearseRule on rule) command told = absurd command
+  told_done (response.Rehearsed differences) (RehearseDrop on band scope rank) command told = absurd command
   told_done other what command told = absurd told
 
   pub told_images : (answer : Response) → Told answer Images → (lines : List ImageLine) × (answer ≡ response.Images lines) × AreImageLines desk audience day lines
@@ -57,3 +71,33 @@ module _ (desk : Desk) (audience : Audience) (day : ℤ) (file : Option JudgedFi
       → (outcome : Outcome) × (answer ≡ response.Checked outcome) × IsSomeAnd (get desk.images acc) (λ image. outcome ≡ outcome_of image.bytes image.digest)
   told_check acc (response.Checked outcome) told = (outcome, refl, told)
   told_check acc other told = absurd told
+
+  pub told_deeds : (answer : Response) → Told answer Deeds → answer ≡ response.Deeds (deed_lines desk)
+  told_deeds (response.Deeds lines) told = ap response.Deeds told
+  told_deeds other told = absurd told
+
+  pub told_takedowns : (answer : Response) → Told answer Takedowns → answer ≡ response.Takedowns (takedown_lines desk)
+  told_takedowns (response.Takedowns lines) told = ap response.Takedowns told
+  told_takedowns other told = absurd told
+
+  pub told_keys : (answer : Response) → Told answer Keys → answer ≡ response.Keys (key_lines desk)
+  told_keys (response.Keys lines) told = ap response.Keys told
+  told_keys other told = absurd told
+
+  pub told_checks : (answer : Response) → Told answer Checks → answer ≡ response.Checks (check_lines desk)
+  told_checks (response.Checks lines) told = ap response.Checks told
+  told_checks other told = absurd told
+
+  pub told_verdicts : (on : ℤ) (answer : Response) → Told answer (Verdicts on) → (all : List Each) × (answer ≡ response.Verdicts all) × AreVerdicts desk on all
+  told_verdicts on (response.Verdicts all) told = (all, refl, told)
+  told_verdicts on other told = absurd told
+
+  pub rehearsed_rule : (on : ℤ) (rule : Rule) (answer : Response) → Told answer (RehearseRule on rule)
+      → (differences : List Difference) × (answer ≡ response.Rehearsed differences) × IsRehearsal desk (carried_out day (PutRule rule) desk) on differences
+  rehearsed_rule on rule (response.Rehearsed differences) told = (differences, refl, told)
+  rehearsed_rule on rule other told = absurd told
+
+  pub rehearsed_drop : (on : ℤ) (band : Band) (scope rank : ℕ) (answer : Response) → Told answer (RehearseDrop on band scope rank)
+      → (differences : List Difference) × (answer ≡ response.Rehearsed differences) × IsRehearsal desk (carried_out day (DropRule band scope rank) desk) on differences
+  rehearsed_drop on band scope rank (response.Rehearsed differences) told = (differences, refl, told)
+  rehearsed_drop on band scope rank other told = absurd told

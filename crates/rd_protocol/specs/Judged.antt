@@ -21,7 +21,7 @@ use Rattle.rd_protocol.specs.declared.refusal.Refusal.{Refusal}
 use Rattle.rd_protocol.specs.declared.refusal.Refusal.TheVariants.{UnknownKey, StaffOnly, BadBody, NoAccession, NoFile, NoDeed, Denied, ListedOnly, Faulty, WrongSize, DigestDiffers, Conflict}
 use Rattle.rd_protocol.specs.declared.request.Request.{Request}
 use Rattle.rd_protocol.specs.declared.request.What.{What}
-use Rattle.rd_protocol.specs.declared.request.What.TheVariants.{Listing, Bytes, Survey, Check, PutImage, PutRule, DropRule, PutKey, DropKey, Unread}
+use Rattle.rd_protocol.specs.declared.request.What.TheVariants.{Listing, Bytes, Survey, Check, RehearseRule, RehearseDrop, PutImage, PutRule, DropRule, PutKey, DropKey, Unread}
 
 -- ---- who asks, and what is named
 
@@ -49,6 +49,8 @@ accession_of (Survey acc) = Some acc
 accession_of (Check acc) = Some acc
 accession_of (PutRule rule) = accession_at rule.band rule.scope
 accession_of (DropRule band scope rank) = accession_at band scope
+accession_of (RehearseRule on rule) = accession_at rule.band rule.scope
+accession_of (RehearseDrop on band scope rank) = accession_at band scope
 accession_of other = None
 
 -- and one that names a deed is refused if no such deed stands
@@ -56,6 +58,8 @@ abbrev pub deed_of : What → Option ℕ
 deed_of (PutImage acc kind deed digest bytes) = Some deed
 deed_of (PutRule rule) = deed_at rule.band rule.scope
 deed_of (DropRule band scope rank) = deed_at band scope
+deed_of (RehearseRule on rule) = deed_at rule.band rule.scope
+deed_of (RehearseDrop on band scope rank) = deed_at band scope
 deed_of other = None
 
 -- where the requested file is: its accession and slot

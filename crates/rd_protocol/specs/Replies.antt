@@ -14,12 +14,15 @@ use Rattle.rd_protocol.specs.declared.rows.ImageRow.{ImageRow}
 use Rattle.rd_protocol.specs.Checks.{outcome_of}
 use Rattle.rd_protocol.specs.Judged.{IsAccepted, IsAcceptedOn, IsAsked, IsRefusedOn, JudgedFile, audience_of}
 use Rattle.rd_protocol.specs.Lent.{Lent, bytes_lent}
+use Rattle.rd_protocol.specs.Rehearsals.{IsRehearsal}
 use Rattle.rd_protocol.specs.Requests.{IsPutOrDrop}
+use Rattle.rd_protocol.specs.StaffLists.{check_lines, deed_lines, key_lines, takedown_lines}
 use Rattle.rd_protocol.specs.Texts.{UNAVAILABLE, reply_of}
+use Rattle.rd_protocol.specs.Verdicts.{AreVerdicts}
 use Rattle.rd_protocol.specs.declared.refusal.Refusal.{Refusal}
 use Rattle.rd_protocol.specs.declared.request.Request.{Request}
 use Rattle.rd_protocol.specs.declared.request.What.{What}
-use Rattle.rd_protocol.specs.declared.request.What.TheVariants.{Images, Listing, Bytes, Catalogue, Survey, Check, PutImage, PutDeed, PutRule, DropRule, PutKey, DropKey}
+use Rattle.rd_protocol.specs.declared.request.What.TheVariants.{Images, Listing, Bytes, Catalogue, Survey, Check, Deeds, Takedowns, Keys, Checks, Verdicts, RehearseRule, RehearseDrop, PutImage, PutDeed, PutRule, DropRule, PutKey, DropKey}
 use Rattle.rd_protocol.specs.declared.response.ImageLine.{ImageLine}
 use Rattle.rd_protocol.specs.declared.response.Line.{Line}
 use Rattle.rd_protocol.specs.declared.response.Listing.{Listing as Lines}
@@ -106,19 +109,6 @@ pub record IsSurvey (desk : Desk) (acc : ℕ) (survey : Surveyed) : Type 0 where
   pub given : get desk.deeds image.deed ≡ Some deed
   pub told : IsSurveyOf acc image deed survey
 
--- the answer to an accepted request; the desk serves a file only if the verdict on it is to read
-abbrev pub Tells : Desk → Audience → ℤ → Option JudgedFile → Response → What → Type 0
-Tells desk audience day file response.Done what = IsPutOrDrop what
-Tells desk audience day file (response.Images lines) Images = AreImageLines desk audience day lines
-Tells desk audience day file (response.Listed listing) (Listing acc) = IsListing desk audience day acc listing
-Tells desk audience day file (response.File contents) (Bytes acc slot) =
-    IsSomeAnd file (λ judged. judged.verdict.effect ≡ Read) × LendsFile desk acc slot contents
-Tells desk audience day file (response.Catalogue listings) Catalogue = AreListings desk audience day listings
-Tells desk audience day file (response.Surveyed survey) (Survey acc) = IsSurvey desk acc survey
-Tells desk audience day file (response.Checked outcome) (Check acc) =
-    IsSomeAnd (get desk.images acc) (λ image. outcome ≡ outcome_of image.bytes image.digest)
-Tells desk audience day file answer what = ⊥
-
 -- ---- what becomes of the desk
 
 -- what a check of an image that stands makes of the desk: what it finds is recorded on the day
@@ -137,6 +127,28 @@ carried_out day (DropRule band scope rank) desk = without_rule (record { band = 
 carried_out day (PutKey digest audience) desk = with_key digest audience desk
 carried_out day (DropKey digest) desk = without_key digest desk
 carried_out day other desk = desk
+
+-- ---- the answer to an accepted request
+
+-- the answer to an accepted request; the desk serves a file only if the verdict on it is to read
+abbrev pub Tells : Desk → Audience → ℤ → Option JudgedFile → Response → What → Type 0
+Tells desk audience day file response.Done what = IsPutOrDrop what
+Tells desk audience day file (response.Images lines) Images = AreImageLines desk audience day lines
+Tells desk audience day file (response.Listed listing) (Listing acc) = IsListing desk audience day acc listing
+Tells desk audience day file (response.File contents) (Bytes acc slot) =
+    IsSomeAnd file (λ judged. judged.verdict.effect ≡ Read) × LendsFile desk acc slot contents
+Tells desk audience day file (response.Catalogue listings) Catalogue = AreListings desk audience day listings
+Tells desk audience day file (response.Surveyed survey) (Survey acc) = IsSurvey desk acc survey
+Tells desk audience day file (response.Checked outcome) (Check acc) =
+    IsSomeAnd (get desk.images acc) (λ image. outcome ≡ outcome_of image.bytes image.digest)
+Tells desk audience day file (response.Deeds lines) Deeds = lines ≡ deed_lines desk
+Tells desk audience day file (response.Takedowns lines) Takedowns = lines ≡ takedown_lines desk
+Tells desk audience day file (response.Keys lines) Keys = lines ≡ key_lines desk
+Tells desk audience day file (response.Checks lines) Checks = lines ≡ check_lines desk
+Tells desk audience day file (response.Verdicts verdicts) (Verdicts on) = AreVerdicts desk on verdicts
+Tells desk audience day file (response.Rehearsed differences) (RehearseRule on rule) = IsRehearsal desk (carried_out day (PutRule rule) desk) on differences
+Tells desk audience day file (response.Rehearsed differences) (RehearseDrop on band scope rank) = IsRehearsal desk (carried_out day (DropRule band scope rank) desk) on differences
+Tells desk audience day file answer what = ⊥
 
 -- the desk after a request on a day: an accepted one is carried out, and a refused one changes nothing
 abbrev pub IsStep : Desk → ℤ → Request → Desk → Type 0

@@ -1,11 +1,12 @@
 -- What a caller may ask: the limits of its values, and what only the staff may ask. The limits are
 -- this project's.
 use Rattle.std.specs.Prelude.{◌≢◌, ◌≤◌}
+use Rattle.rd_policy.specs.Days.{IsDay}
 use Rattle.rd_policy.specs.Rules.{IsScope, IsRank, IsRule}
 use Rattle.rd_policy.specs.declared.audience.Audience.TheVariants.{Public}
 use Rattle.rd_protocol.specs.Lawful.{IsDeed}
 use Rattle.rd_protocol.specs.declared.request.What.{What}
-use Rattle.rd_protocol.specs.declared.request.What.TheVariants.{Images, Listing, Bytes, Catalogue, Survey, Check, PutImage, PutDeed, PutRule, DropRule, PutKey, DropKey, Unread}
+use Rattle.rd_protocol.specs.declared.request.What.TheVariants.{Images, Listing, Bytes, Catalogue, Survey, Check, Deeds, Takedowns, Keys, Checks, Verdicts, RehearseRule, RehearseDrop, PutImage, PutDeed, PutRule, DropRule, PutKey, DropKey, Unread}
 
 -- each value is within its limits; a digest and the bytes of an image may be any
 abbrev pub IsRequest : What → Type 0
@@ -15,6 +16,13 @@ IsRequest (Bytes acc slot) = IsScope acc × (slot ≤ 9_999)
 IsRequest Catalogue = Unit {0}
 IsRequest (Survey acc) = IsScope acc
 IsRequest (Check acc) = IsScope acc
+IsRequest Deeds = Unit {0}
+IsRequest Takedowns = Unit {0}
+IsRequest Keys = Unit {0}
+IsRequest Checks = Unit {0}
+IsRequest (Verdicts on) = IsDay on
+IsRequest (RehearseRule on rule) = IsDay on × IsRule rule
+IsRequest (RehearseDrop on band scope rank) = IsDay on × IsScope scope × IsRank rank
 IsRequest (PutImage acc kind deed digest bytes) = IsScope acc × IsScope deed
 IsRequest (PutDeed num donor signed) = IsDeed num (record { donor = donor; signed = signed })
 IsRequest (PutRule rule) = IsRule rule
@@ -32,6 +40,13 @@ IsPutOrDrop (Bytes acc slot) = ⊥
 IsPutOrDrop Catalogue = ⊥
 IsPutOrDrop (Survey acc) = ⊥
 IsPutOrDrop (Check acc) = ⊥
+IsPutOrDrop Deeds = ⊥
+IsPutOrDrop Takedowns = ⊥
+IsPutOrDrop Keys = ⊥
+IsPutOrDrop Checks = ⊥
+IsPutOrDrop (Verdicts on) = ⊥
+IsPutOrDrop (RehearseRule on rule) = ⊥
+IsPutOrDrop (RehearseDrop on band scope rank) = ⊥
 IsPutOrDrop (PutImage acc kind deed digest bytes) = Unit {0}
 IsPutOrDrop (PutDeed num donor signed) = Unit {0}
 IsPutOrDrop (PutRule rule) = Unit {0}
@@ -40,15 +55,29 @@ IsPutOrDrop (PutKey digest audience) = Unit {0}
 IsPutOrDrop (DropKey digest) = Unit {0}
 IsPutOrDrop Unread = Unit {0}
 
--- for the staff: to put and to drop, surveys and checks; anyone may ask the four questions
+-- for the staff: to put, to drop, surveys, checks, the lists of what stands, verdicts and rehearsals; anyone may ask
+-- for the images, a listing, a file and the catalogue
 abbrev pub IsForStaff : What → Type 0
 IsForStaff (Survey acc) = Unit {0}
 IsForStaff (Check acc) = Unit {0}
+IsForStaff Deeds = Unit {0}
+IsForStaff Takedowns = Unit {0}
+IsForStaff Keys = Unit {0}
+IsForStaff Checks = Unit {0}
+IsForStaff (Verdicts on) = Unit {0}
+IsForStaff (RehearseRule on rule) = Unit {0}
+IsForStaff (RehearseDrop on band scope rank) = Unit {0}
 IsForStaff other = IsPutOrDrop other
 
--- to put, to drop and to check; a survey only reads, as the four questions do, and a body that cannot be
--- read is refused
+-- to put, to drop and to check; all other requests only read, and a body that cannot be read is refused
 abbrev pub MayChange : What → Type 0
 MayChange (Survey acc) = ⊥
+MayChange Deeds = ⊥
+MayChange Takedowns = ⊥
+MayChange Keys = ⊥
+MayChange Checks = ⊥
+MayChange (Verdicts on) = ⊥
+MayChange (RehearseRule on rule) = ⊥
+MayChange (RehearseDrop on band scope rank) = ⊥
 MayChange Unread = ⊥
 MayChange other = IsForStaff other

@@ -1,5 +1,5 @@
 -- The text of each reply: JSON without blanks, each object's keys in the order of their bytes.
-use Rattle.std.specs.Prelude.{ℕ, List, Option, Some, None, codes, map, true}
+use Rattle.std.specs.Prelude.{ℕ, ℤ, List, [], ◌∷◌, ◌++◌, Bool, cond, Option, Some, None, codes, map, option_map, true}
 use Rattle.serde_json.specs.Data.{Data, null, boolean, number, unsigned, string, array, object, Members, no_members, member}
 use Rattle.serde_json.specs.View.{items_of}
 use Rattle.serde_json.specs.Written.{compact_text}
@@ -7,7 +7,13 @@ use Rattle.rd_geometry.specs.Kinds.{word_of}
 use Rattle.rd_geometry.specs.declared.kind.Kind.{Kind}
 use Rattle.rd_geometry.specs.declared.kind.Kind.TheVariants.{Cpm8, D64, D64e}
 pub use Rattle.rd_policy.specs.Rules.{effect_word}
+use Rattle.hex.specs.Hex.{encode_lower}
+use Rattle.rd_policy.specs.Audiences.{audience_word}
 use Rattle.rd_policy.specs.Verdicts.{label_text}
+use Rattle.rd_policy.specs.declared.audience.Audiences.{Audiences}
+use Rattle.rd_policy.specs.declared.rule.Rule.{Rule}
+use Rattle.rd_policy.specs.declared.select.Select.{Select}
+use Rattle.rd_policy.specs.declared.select.Select.TheVariants.{All as AllFiles, Slot, Prefix, User, Kind as OfType}
 pub use Rattle.rd_cbm.specs.Walks.{end_word}
 use Rattle.rd_cbm.specs.declared.report.MapReport.{MapReport}
 use Rattle.rd_volume.specs.Words.{words_of}
@@ -15,17 +21,23 @@ use Rattle.rd_volume.specs.declared.found.Found.{Found}
 use Rattle.rd_protocol.specs.declared.rows.Outcome.{Outcome}
 use Rattle.rd_protocol.specs.declared.rows.Outcome.TheVariants as outcome
 use Rattle.rd_protocol.specs.Catalogues.{catalogue_text}
+use Rattle.rd_protocol.specs.DayTexts.{day_text}
 use Rattle.rd_protocol.specs.Lent.{held, lent_out}
 use Rattle.rd_protocol.specs.Refusals.{name_of, status_of}
+use Rattle.rd_protocol.specs.VerdictTables.{differences_text, verdicts_text}
 use Rattle.rd_protocol.specs.declared.refusal.Refusal.{Refusal}
 use Rattle.rd_protocol.specs.declared.refusal.Refusal.TheVariants.{UnknownKey, StaffOnly, BadBody, NoAccession, NoFile, NoDeed, Denied, ListedOnly, Faulty, WrongSize, DigestDiffers, Conflict}
 use Rattle.rd_protocol.specs.declared.response.Form.TheVariants.{Json, Csv, Octets}
+use Rattle.rd_protocol.specs.declared.response.CheckLine.{CheckLine}
+use Rattle.rd_protocol.specs.declared.response.DeedLine.{DeedLine}
+use Rattle.rd_protocol.specs.declared.response.KeyLine.{KeyLine}
+use Rattle.rd_protocol.specs.declared.response.TakedownLine.{TakedownLine}
 use Rattle.rd_protocol.specs.declared.response.ImageLine.{ImageLine}
 use Rattle.rd_protocol.specs.declared.response.Line.{Line}
 use Rattle.rd_protocol.specs.declared.response.Listing.{Listing}
 use Rattle.rd_protocol.specs.declared.response.Reply.{Reply}
 use Rattle.rd_protocol.specs.declared.response.Response.{Response}
-use Rattle.rd_protocol.specs.declared.response.Response.TheVariants.{Refused, Done, Images, Listed, File, Catalogue, Surveyed, Checked}
+use Rattle.rd_protocol.specs.declared.response.Response.TheVariants.{Refused, Done, Images, Listed, File, Catalogue, Surveyed, Checked, Deeds, Takedowns, Keys, Checks, Verdicts, Rehearsed}
 use Rattle.rd_protocol.specs.declared.response.Survey.{Survey}
 
 -- ---- values
@@ -158,6 +170,84 @@ outcome_word outcome.Changed = codes "changed"
 abbrev pub outcome_data : Outcome → Data
 outcome_data found = object (member (codes "outcome") (string (outcome_word found)) no_members)
 
+-- ---- what stands
+
+-- a text, or null if there is none
+abbrev pub text_or_null : Option (List ℕ) → Data
+text_or_null None = null
+text_or_null (Some text) = string text
+
+-- the date of a day, or null if there is none
+abbrev pub day_or_null : Option ℤ → Data
+day_or_null day = text_or_null (option_map day_text day)
+
+-- a word, if it is wanted
+abbrev pub word_if : Bool → List ℕ → List (List ℕ)
+word_if wanted word = cond wanted (word ∷ []) []
+
+-- the words of the audiences of a set
+abbrev pub audience_words : Audiences → List (List ℕ)
+audience_words set = word_if set.public (codes "public") ++ word_if set.room (codes "room") ++ word_if set.staff (codes "staff")
+
+-- an object of one member
+abbrev pub one_member : List ℕ → Data → Data
+one_member key value = object (member key value no_members)
+
+-- a selector, as the body of a command says it
+abbrev pub select_data : Select → Data
+select_data AllFiles = one_member (codes "all") (boolean true)
+select_data (Slot slot) = one_member (codes "slot") (natural slot)
+select_data (Prefix text) = one_member (codes "prefix") (string text)
+select_data (User user) = one_member (codes "user") (natural user)
+select_data (OfType text) = one_member (codes "type") (string text)
+
+-- a rule, with its rank
+abbrev pub rule_data : Rule → Data
+rule_data rule =
+    object
+    (member (codes "audiences") (texts (audience_words rule.audiences))
+    (member (codes "effect") (string (effect_word rule.effect))
+    (member (codes "from") (day_or_null rule.from)
+    (member (codes "rank") (natural rule.rank)
+    (member (codes "select") (select_data rule.select)
+    (member (codes "until") (day_or_null rule.until) no_members))))))
+
+-- a deed, with its rules and the count of accessions under it
+abbrev pub deed_data : DeedLine → Data
+deed_data line =
+    object
+    (member (codes "accessions") (natural line.accessions)
+    (member (codes "deed") (natural line.deed)
+    (member (codes "donor") (string line.donor)
+    (member (codes "rules") (array (items_of (map rule_data line.rules)))
+    (member (codes "signed") (string (day_text line.signed)) no_members)))))
+
+-- an accession with its takedowns
+abbrev pub takedown_data : TakedownLine → Data
+takedown_data line =
+    object
+    (member (codes "accession") (natural line.accession)
+    (member (codes "rules") (array (items_of (map rule_data line.rules))) no_members))
+
+-- a desk key, by the 64 digits of its digest
+abbrev pub key_data : KeyLine → Data
+key_data line =
+    object
+    (member (codes "audience") (string (audience_word line.audience))
+    (member (codes "digest") (string (encode_lower line.digest)) no_members))
+
+-- an accession with its latest check
+abbrev pub check_data : CheckLine → Data
+check_data line =
+    object
+    (member (codes "accession") (natural line.accession)
+    (member (codes "day") (day_or_null (option_map (λ last. last.day) line.last))
+    (member (codes "outcome") (text_or_null (option_map (λ last. outcome_word last.outcome) line.last)) no_members)))
+
+-- an object whose one member is a list
+abbrev pub list_data : {A : Type 0} → List ℕ → (A → Data) → List A → Data
+list_data key value lines = one_member key (array (items_of (map value lines)))
+
 -- what is said of a command that was carried out
 abbrev pub DONE : Data
 DONE = object (member (codes "done") (boolean true) no_members)
@@ -178,6 +268,12 @@ reply_of (File contents) = record { status = 200; form = Octets; body = lent_out
 reply_of (Catalogue listings) = record { status = 200; form = Csv; body = held (catalogue_text listings) }
 reply_of (Surveyed survey) = in_json 200 (surveyed_data survey)
 reply_of (Checked found) = in_json 200 (outcome_data found)
+reply_of (Deeds lines) = in_json 200 (list_data (codes "deeds") deed_data lines)
+reply_of (Takedowns lines) = in_json 200 (list_data (codes "takedowns") takedown_data lines)
+reply_of (Keys lines) = in_json 200 (list_data (codes "keys") key_data lines)
+reply_of (Checks lines) = in_json 200 (list_data (codes "checks") check_data lines)
+reply_of (Verdicts verdicts) = record { status = 200; form = Csv; body = held (verdicts_text verdicts) }
+reply_of (Rehearsed differences) = record { status = 200; form = Csv; body = held (differences_text differences) }
 
 -- the reply when the database fails, or memory runs out
 abbrev pub UNAVAILABLE : Reply

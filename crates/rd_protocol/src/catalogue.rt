@@ -28,14 +28,14 @@ const COLUMNS: [&[u8]; 11] = [
 ];
 
 /// A copy of a text.
-fn cell(alloc: Global, text: &str) -> Result<Text, NoMemory>
+pub(crate) fn cell(alloc: Global, text: &str) -> Result<Text, NoMemory>
     ensures { IfOk result (λ cell. cell ≡ text.now) }
 {
     Ok(Text::of(String::from_str(alloc, text)?))
 }
 
 /// A number in decimal digits, or an empty text if there is none.
-fn number(alloc: Global, number: Option<u32>) -> Result<Text, NoMemory>
+pub(crate) fn number(alloc: Global, number: Option<u32>) -> Result<Text, NoMemory>
     ensures { IfOk result (λ cell. cell ≡ number_text number) }
 {
     match number {
@@ -45,14 +45,14 @@ fn number(alloc: Global, number: Option<u32>) -> Result<Text, NoMemory>
 }
 
 /// A user number in decimal digits, or an empty text if there is none.
-fn user(alloc: Global, user: Option<u8>) -> Result<Text, NoMemory>
+pub(crate) fn user(alloc: Global, user: Option<u8>) -> Result<Text, NoMemory>
     ensures { IfOk result (λ cell. cell ≡ number_text user) }
 {
     number(alloc, user.map(u32::from))
 }
 
 /// The words of the faults whose bits are set, with one blank between them.
-fn faults(alloc: Global, kind: Kind, faults: u8) -> Result<Text, NoMemory>
+pub(crate) fn faults(alloc: Global, kind: Kind, faults: u8) -> Result<Text, NoMemory>
     ensures { IfOk result (λ cell. cell ≡ faults_text kind faults) }
 {
     let mut words = Vec::new(alloc);
@@ -83,7 +83,7 @@ fn cells(alloc: Global, listing: &Listing, line: &Line) -> Result<[Text; 11], No
 }
 
 /// Writes one record.
-fn write_record(writer: &mut Writer<Vec<u8>>, fields: &[&[u8]]) -> Result<(), NoMemory>
+pub(crate) fn write_record(writer: &mut Writer<Vec<u8>>, fields: &[&[u8]]) -> Result<(), NoMemory>
     ensures { (text : List ℕ) → HasWritten writer.old text
         → OnOk result (HasWritten writer.new (text ++ row_text default_writer (map (λ field. field.now) fields.now))) }
 {
@@ -94,7 +94,11 @@ fn write_record(writer: &mut Writer<Vec<u8>>, fields: &[&[u8]]) -> Result<(), No
 }
 
 /// Writes one record of these cells.
-fn write_cells(alloc: Global, writer: &mut Writer<Vec<u8>>, cells: &[Text]) -> Result<(), NoMemory>
+pub(crate) fn write_cells(
+    alloc: Global,
+    writer: &mut Writer<Vec<u8>>,
+    cells: &[Text],
+) -> Result<(), NoMemory>
     ensures { (text : List ℕ) → HasWritten writer.old text
         → OnOk result (HasWritten writer.new (text ++ row_text default_writer cells.now)) }
 {

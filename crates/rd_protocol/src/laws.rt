@@ -1,6 +1,10 @@
 //! Laws of requests and replies. No code calls them.
 
 ghost use Rattle.rd_protocol.specs.Hidden.{HiddenBytesAreNotTold, LooksAlikeShowsTheSame, ShowsItself, WhatIsShownDecides};
+ghost use Rattle.rd_protocol.specs.RehearsalLaws.{RehearsalsAreExact};
+ghost use Rattle.rd_protocol.specs.StaffListLaws.{StaffListsTellAll};
+ghost use Rattle.rd_protocol.specs.RuleTexts.{RulesAreReadBack};
+ghost use Rattle.rd_protocol.specs.VerdictLaws.{CatalogueIsThatOfVerdicts, ServedWhereRead};
 ghost use Rattle.rd_protocol.specs.Laws.{AnswersStep, EachReply, OneReply, SameAgain};
 
 /// Law: a request on a day has at most one reply, and with it one desk afterwards.
@@ -48,4 +52,30 @@ pub fn what_is_shown_decides()
     ensures decides { WhatIsShownDecides }
     ensures itself { ShowsItself }
     ensures alike { LooksAlikeShowsTheSame }
+{}
+
+/// Law: the catalogue of an audience on a day is what the verdicts of that day do not deny to that audience, with the
+/// same labels. And a file is served to a caller exactly where the verdict on it is to read it, its class is served and
+/// it has no fault.
+pub fn catalogue_is_that_of_verdicts()
+    ensures catalogue { CatalogueIsThatOfVerdicts }
+    ensures served { ServedWhereRead }
+{}
+
+/// Law: the lines of a rehearsal are exactly the files and audiences for which the effect on that day differs between
+/// the rules that stand and those that would stand, each with both verdicts.
+pub fn rehearsals_are_exact()
+    ensures { RehearsalsAreExact }
+{}
+
+/// Law: the JSON text of a rule, with its rank and without it, reads back as the value that was written.
+pub fn rules_are_read_back()
+    ensures { RulesAreReadBack }
+{}
+
+/// Law: the lists of deeds, takedowns and keys leave nothing out. Two desks that give the same replies to these three
+/// questions have the same deeds, rules and keys. Premises: both desks are lawful, have fewer than 2^64 accessions, and
+/// keep digests of bytes.
+pub fn staff_lists_tell_all()
+    ensures { StaffListsTellAll }
 {}

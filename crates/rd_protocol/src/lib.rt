@@ -6,29 +6,35 @@ mod body;
 mod catalogue;
 mod checks;
 mod contents;
-pub mod json;
 mod laws;
 mod limits;
 mod lists;
 pub mod parts;
 mod refusal;
+pub mod reply_text;
 mod request;
 mod response;
 mod rows;
 mod rule_laws;
+mod staff_lists;
+mod verdicts;
 
 pub use body::{Body, BodyPieces};
 pub use checks::{check_row, has_digest};
 pub use contents::Contents;
-pub use json::{fixed_reply, reply_to, unavailable};
 pub use laws::{
-    answers_step, each_request_has_a_reply, hidden_bytes_are_not_told, one_reply, same_again,
-    what_is_shown_decides,
+    answers_step, catalogue_is_that_of_verdicts, each_request_has_a_reply,
+    hidden_bytes_are_not_told, one_reply, rehearsals_are_exact, rules_are_read_back, same_again,
+    staff_lists_tell_all, what_is_shown_decides,
 };
 pub use limits::is_donor;
 pub use parts::{digest, scope};
 pub use refusal::Refusal;
+pub use reply_text::{fixed_reply, reply_to, unavailable};
 pub use request::{Request, What};
-pub use response::{Form, ImageLine, Line, Listing, Reply, Response, Survey};
+pub use response::{
+    CheckLine, DeedLine, Difference, FileVerdicts, Finding, Form, ImageLine, KeyLine, Line,
+    Listing, Reply, Response, Survey, TakedownLine, Verdicts,
+};
 pub use rows::{Accession, DeedRow, ImageRow, Indexed, Outcome};
 pub use rule_laws::{rules_are_in_order, rules_are_those};

@@ -39,7 +39,7 @@ struct ListedFile<'a> {
 }
 
 /// Sends a member of an object.
-fn send_member<V: Serialize, S: Serializer>(
+pub(crate) fn send_member<V: Serialize, S: Serializer>(
     out: &mut S,
     key: &str,
     value: &V,
@@ -164,7 +164,7 @@ impl Serialize for Listed<'_> {
 }
 
 /// The reply with a text of JSON as its body.
-fn listed_reply(text: String) -> Reply
+pub(crate) fn listed_reply(text: String) -> Reply
     ensures { result ≡ record { status = 200; form = Form.Json; body = held (string_bytes text) } }
 {
     Reply {

@@ -31,6 +31,29 @@ pub enum What {
     /// To check whether the image of an accession, 1 to 999,999, still has the SHA-256 given for
     /// it, and to record the finding under the day.
     Check(u32),
+    /// All deeds, each with its rules and the count of accessions under it.
+    Deeds,
+    /// All accessions that have takedowns, each with these.
+    Takedowns,
+    /// All desk keys, by digest, each with its audience.
+    Keys,
+    /// All accessions, each with what its latest check found.
+    Checks,
+    /// The verdicts on each file for each audience on a day of the years 1 to 9999, counted from 1970-01-01.
+    Verdicts(i32),
+    /// What would change in the effects of a day, counted as for `Verdicts`, if this rule were put.
+    RehearseRule(i32, Rule),
+    /// What would change in the effects of a day if the rule at a place were dropped.
+    RehearseDrop {
+        /// The day, of the years 1 to 9999, counted from 1970-01-01.
+        day: i32,
+        /// Where the rule comes from.
+        band: Band,
+        /// The number of its accession or deed, 1 to 999,999.
+        scope: u32,
+        /// Its rank, 1 to 9,999.
+        rank: u16,
+    },
     /// To take in an image.
     PutImage {
         /// The number of its accession, 1 to 999,999.
@@ -92,6 +115,13 @@ impl What {
             What::Images | What::Listing(_) | What::Bytes(_, _) | What::Catalogue => false,
             What::Survey(_)
             | What::Check(_)
+            | What::Deeds
+            | What::Takedowns
+            | What::Keys
+            | What::Checks
+            | What::Verdicts(_)
+            | What::RehearseRule(_, _)
+            | What::RehearseDrop { .. }
             | What::PutImage { .. }
             | What::PutDeed { .. }
             | What::PutRule(_)
@@ -112,7 +142,14 @@ impl Request {
         ensures { IsTrue result ↔ IsRequest self.now.what }
     {
         match &self.what {
-            What::Images | What::Catalogue | What::DropKey { .. } | What::Unread => true,
+            What::Images
+            | What::Catalogue
+            | What::Deeds
+            | What::Takedowns
+            | What::Keys
+            | What::Checks
+            | What::DropKey { .. }
+            | What::Unread => true,
             What::Listing(acc) | What::Survey(acc) | What::Check(acc) => is_scope(*acc),
             What::Bytes(acc, slot) => is_scope(*acc) && *slot <= 9_999,
             What::PutImage { acc, deed, .. } => is_scope(*acc) && is_scope(*deed),
@@ -120,6 +157,14 @@ impl Request {
                 is_scope(*num) && is_donor(donor.as_str()) && is_day(*signed)
             }
             What::PutRule(rule) => rule.fits(),
+            What::Verdicts(day) => is_day(*day),
+            What::RehearseRule(day, rule) => is_day(*day) && rule.fits(),
+            What::RehearseDrop {
+                day,
+                scope,
+                rank,
+                ..
+            } => is_day(*day) && is_scope(*scope) && is_rank(*rank),
             What::DropRule { scope, rank, .. } => is_scope(*scope) && is_rank(*rank),
             What::PutKey { audience, .. } => *audience != Audience::Public,
         }

@@ -23,7 +23,7 @@ use Rattle.sqlite_sql.specs.declared.ops.BinaryOp.TheVariants.{Compare}
 use Rattle.sqlite_sql.specs.declared.ops.CompareOp.TheVariants.{Eq}
 use Rattle.sqlite_value.proofs.OrderLemmas.{value_cmp-Int, then-Equal}
 use Rattle.rd_tables.specs.Asked.{IsPicked, rising}
-use Rattle.rd_tables.specs.Queries.{all_images_query, deed_query, image_query, marks_query, audience_query, rules_query, placed_rules_query, keys_query}
+use Rattle.rd_tables.specs.Queries.{all_deeds_query, all_images_query, deed_query, image_query, marks_query, audience_query, rules_query, placed_rules_query, keys_query}
 use Rattle.rd_tables.specs.Sheets.{Spells, entry_of, map_of, natural, seen}
 use Rattle.rd_tables.proofs.Lists.{and_true, both, in_map, from_map}
 use Rattle.rd_tables.proofs.Values.{equal_numbers, equal_blobs}
@@ -33,6 +33,7 @@ use Rattle.rd_tables.proofs.Listed.{got_row}
 use Rattle.rd_policy.specs.declared.rule.Band.{Band}
 use Rattle.rd_store.specs.Walked.{image_told}
 use Rattle.rd_protocol.specs.State.{Desk, Place, Terms, digest_cmp, place_cmp, rule_of, HasOtherStaff, band_code, is_at}
+use Rattle.rd_protocol.specs.declared.rows.DeedRow.{DeedRow}
 use Rattle.rd_protocol.specs.declared.rows.ImageRow.{ImageRow}
 use Rattle.rd_store.specs.Shown.{as_row, deed_shown, image_shown, marks_shown, audience_shown, ShowsOther, IsOtherKey}
 use Rattle.rd_store.specs.Spelled.{deed_sheet, image_sheet, key_sheet, marks_sheet, rule_sheet}
@@ -73,6 +74,18 @@ images_listed table rows spells picks =
     in_order image_sheet number_order all_images_query [] table rows spells picks (λ _. true) image_told (λ acc. Int (pos acc) ∷ []) (λ row is. refl)
     (λ row is. ap (λ s. (column s 0 ∷ [], column s 0 ∷ column s 1 ∷ column s 2 ∷ column s 3 ∷ unary Length (column s 4) ∷ unary TypeOf (column s 4) ∷ column s 4 ∷ [])) is) numbers_rise
     ∙ ap (λ m. map image_told (entries m)) (retain_all nat_cmp number_order (map_of image_sheet table))
+
+-- what is shown of all deeds
+pub deeds_listed : (table rows : List Row) → Spells deed_sheet table → IsPicked all_deeds_query [] table rows → rows ≡ map deed_sheet.columns (entries (map_of deed_sheet table))
+deeds_listed table rows spells picks =
+    in_order deed_sheet number_order all_deeds_query [] table rows spells picks (λ _. true) deed_sheet.columns (λ num. Int (pos num) ∷ []) (λ row is. refl)
+    (λ row is. ap (λ s. (column s 0 ∷ [], s)) is) numbers_rise
+    ∙ ap (λ m. map deed_sheet.columns (entries m)) (retain_all nat_cmp number_order (map_of deed_sheet table))
+
+-- the deeds that columns spell
+pub deeds_back : (es : List (ℕ × DeedRow)) → map deed_sheet.entry (map deed_sheet.columns es) ≡ es
+deeds_back [] = refl
+deeds_back (e ∷ es) = λ i. e ∷ deeds_back es i
 
 -- each image of the table is as its row tells it
 pub row_back : (table : List Row) → (acc : ℕ) (image : ImageRow) → get (map_of image_sheet table) acc ≡ Some image → as_row image ≡ image
@@ -150,6 +163,11 @@ pub keys_found : (table rows : List Row) → Spells key_sheet table → IsPicked
 keys_found table rows spells picks =
     in_order key_sheet digest_order keys_query [] table rows spells picks (λ _. true) key_sheet.columns (λ digest. Blob digest ∷ []) (λ row is. refl) (λ row is. ap (λ s. (column s 0 ∷ [], s)) is) digests_rise
     ∙ ap (λ m. map key_sheet.columns (entries m)) (retain_all digest_cmp digest_order (map_of key_sheet table))
+
+-- the keys that columns spell
+pub keys_back : (es : List (List ℕ × Audience)) → map key_sheet.entry (map key_sheet.columns es) ≡ es
+keys_back [] = refl
+keys_back (e ∷ es) = λ i. key_back e i ∷ keys_back es i
 
 pub any_has : (P : Row → Type 0) (rows : List Row) → Any P rows → (row : Row) × Has rows row × P row
 any_has P rows any = (any.1, at rows any.0 any.1 any.2 any.3, any.4)

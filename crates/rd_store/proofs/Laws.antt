@@ -8,7 +8,9 @@ use Rattle.sqlite.specs.Held.{Held, state}
 use Rattle.sqlite.proofs.StateLemmas.{clean_if_open}
 use Rattle.rd_tables.specs.Schemas.{marks_table}
 use Rattle.rd_protocol.specs.State.{Desk}
-use Rattle.rd_store.specs.Spelled.{desk_of}
+use Rattle.std.specs.FinMap.{get}
+use Rattle.rd_store.specs.Spelled.{desk_of, index_of}
+use Rattle.rd_store.proofs.FilesFound.{files_in, files_of}
 use Rattle.rd_store.specs.Opened.{HoldsMarksIf}
 use Rattle.rd_store.specs.Held.{Holds, IsAtRest, IsLeft, HoldsDesk, HoldsTables, HoldsCommonTables, Changes, Lasts, LeavesOnly, LeavesOpen, Stays, IsOpen, IsClean, desk}
 
@@ -34,6 +36,11 @@ module _ {S : Type 0} (g : Ghosts S) (laws : Laws g) where
   is_at_rest h holds = record {
     tables = λ is_open. (holds is_open).tables.schema;
     lawful = λ is_open. (holds is_open).holds.lawful;
+    files = λ is_open acc.
+        let db = (state g h).now in (
+          files_of (get (desk g h).images acc) (index_of db.trees) acc ((holds is_open).holds.of.index acc),
+          files_in (get (desk g h).images acc) (index_of db.trees) acc ((holds is_open).holds.of.index acc),
+        );
     leaves = λ is_open. leaves_only h holds is_open;
   }
 

@@ -27,3 +27,4 @@ pub mod Registers
 pub mod Lasting
 pub mod Walked
 pub mod Maps
+pub mod LatestFound

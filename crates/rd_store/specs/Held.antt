@@ -17,7 +17,7 @@ use Rattle.rd_store.specs.declared.faults.StoreFault.{StoreFault}
 use Rattle.rd_store.specs.declared.faults.StoreFault.TheVariants.{Sql, Missing, Conflict}
 use Rattle.rd_protocol.specs.State.{Desk}
 use Rattle.rd_protocol.specs.Lawful.{IsLawful}
-use Rattle.rd_store.specs.Index.{IsIndexOf, file_cmp}
+use Rattle.rd_store.specs.Index.{AreFilesIn, IsIndexOf, file_cmp}
 use Rattle.rd_store.specs.Spelled.{SpellDesk, HaveOwnRowids, desk_of, index_of}
 
 -- The database has the tables of a desk, and their rows spell this one, and an index of which this is true.
@@ -119,11 +119,12 @@ LeavesOpen g new result = IsClean g new → OnOk result (IsOpen g new)
 abbrev pub LeavesOld : {S : Type 0} → Ghosts S → Held S → Held S → Type 0
 LeavesOld g old new = IsOpen g old → IsClean g new → (left : Trees) → g.recovers new.store left → g.recovers old.store left
 
--- A connection at rest. While it is open, its tables are those of a desk, the desk is a lawful one, and a
--- crash leaves that desk and nothing else.
+-- A connection at rest. While it is open, its tables are those of a desk, the desk is a lawful one, the files of
+-- each of its images can be listed, and a crash leaves that desk and nothing else.
 pub record IsAtRest {S : Type 0} (g : Ghosts S) (h : Held S) : Type 0 where
   pub tables : IsOpen g h → (state g h).now.schema ≡ desk_schema
   pub lawful : IsOpen g h → IsLawful (desk g h)
+  pub files : IsOpen g h → (acc : ℕ) → (files : List Found) × AreFilesIn (get (desk g h).images acc) files
   pub leaves : IsOpen g h → LeavesOnly g h (desk g h)
 
 -- A call that changes the desk to this one, in one transaction. Where the connection is open at the end,

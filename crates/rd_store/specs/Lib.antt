@@ -21,3 +21,4 @@ pub mod Register
 pub mod Last
 pub mod Cells
 pub mod Walked
+pub mod Latest

@@ -1,17 +1,73 @@
-ghost use Rattle.std.specs.Prelude.{◌≡◌, false, IsSome, None, ◌≢◌, IfErr};
-ghost use Rattle.std.specs.FinMap.{get};
+ghost use Rattle.std.specs.Prelude.{◌≡◌, false, IsSome, None, ◌≢◌, IfErr, IfOk, map, option_map, slice_get};
+ghost use Rattle.std.specs.FinMap.{entries, get, retain_keys};
+ghost use Rattle.std.specs.Option.{option_to_list};
 ghost use Rattle.sqlite.specs.Held.{state};
 ghost use Rattle.rd_policy.specs.Days.{IsDay};
-ghost use Rattle.rd_store.specs.Held.{Changes, HoldsDesk, IsOf, IsOpen, Judges, Moves, desk};
+ghost use Rattle.rd_store.specs.Held.{Asks, Changes, HoldsDesk, IsOf, IsOpen, Judges, Moves, desk};
+ghost use Rattle.rd_protocol.specs.StaffLists.{last_of, latest};
+ghost use Rattle.rd_store.specs.Latest.{check_shown, finding_in, is_of};
 ghost use Rattle.rd_store.specs.Register.{IsRegisterOf};
 ghost use Rattle.rd_protocol.specs.State.{with_check, without_check};
 
+use crate::decode::{day_at, number_at, outcome};
 use crate::faults::StoreFault;
 use crate::outside::outside;
+use crate::read::read_all;
 use crate::register::Register;
 use crate::{codes, images};
-use rd_protocol::Outcome;
-use sqlite::{Alter, Connection, Error, Transaction, params};
+use rd_protocol::{Finding, Outcome};
+use sqlite::types::ToSql;
+use sqlite::{Alter, Connection, Error, Row, Transaction, params};
+
+/// The row for the latest check of an accession; none where there was no check.
+fn latest_rows<S: Alter>(conn: &mut Connection<S>, acc: u32) -> Result<Vec<Row>, StoreFault>
+    requires holds { HoldsDesk (state S.Store conn.old) }
+    ensures asks { Asks S.Store conn.old conn.new result StoreFault.Sql (λ rows.
+        rows.items ≡ map check_shown (option_to_list (last_of (entries (retain_keys (desk S.Store conn.old).checks (is_of acc)))))) }
+    ensures kept { HoldsDesk (state S.Store conn.new) }
+{
+    let key = acc.to_sql();
+    read_all(
+        conn,
+        "SELECT day, outcome FROM checked WHERE acc = ?1 ORDER BY day DESC LIMIT 1",
+        &[key],
+    )
+}
+
+/// The day and the outcome of the check that a row shows.
+fn read_finding(row: &Row) -> Result<Finding, StoreFault>
+    ensures finding { IfOk result (λ finding. finding ≡ finding_in row.now) }
+    ensures fault { IfErr result (λ fault. fault ≡ StoreFault.Sql) }
+{
+    let day = day_at(row, 0)?;
+    let outcome = outcome(number_at(row, 1)?);
+    Ok(Finding { day, outcome })
+}
+
+/// What the first of some rows shows, `None` where there are none.
+fn first_finding(rows: &[Row]) -> Result<Option<Finding>, StoreFault>
+    ensures finding { IfOk result (λ found. found ≡ option_map finding_in (slice_get rows.now 0)) }
+    ensures fault { IfErr result (λ fault. fault ≡ StoreFault.Sql) }
+{
+    match rows.first() {
+        Some(row) => Ok(Some(read_finding(row)?)),
+        None => Ok(None),
+    }
+}
+
+/// What the latest check of an accession found, and on which day; `None` where there was none.
+pub(crate) fn latest_check<S: Alter>(
+    conn: &mut Connection<S>,
+    acc: u32,
+) -> Result<Option<Finding>, StoreFault>
+    requires holds { HoldsDesk (state S.Store conn.old) }
+    ensures asks { Asks S.Store conn.old conn.new result StoreFault.Sql (λ found.
+        found ≡ latest (desk S.Store conn.old) acc) }
+    ensures kept { HoldsDesk (state S.Store conn.new) }
+{
+    let rows = latest_rows(conn, acc)?;
+    first_finding(&rows)
+}
 
 /// Removes the finding of a check of an accession on a day, inside a transaction.
 fn delete_check<S: Alter>(tx: &mut Transaction<'_, S>, acc: u32, day: i32) -> Result<usize, Error>

@@ -3,11 +3,12 @@ ghost use Rattle.sqlite.specs.declared.types.Value.TheVariants.{Int, Text as Wor
 ghost use Rattle.sqlite.specs.Order.{column};
 ghost use Rattle.sqlite.specs.Values.{or_null};
 ghost use Rattle.sqlite_value.specs.Order.{bytes};
-ghost use Rattle.rd_store.specs.Codes.{kind_in, band_in, effect_in, audiences_in, audience_in, class_in, select_in, units_in};
+ghost use Rattle.rd_store.specs.Codes.{kind_in, band_in, effect_in, audiences_in, audience_in, class_in, outcome_in, select_in, units_in};
 
 use crate::faults::StoreFault;
 use rd_geometry::{Kind, Text};
 use rd_policy::{Audience, Audiences, Band, Effect, Select};
+use rd_protocol::Outcome;
 use sqlite::Row;
 use sqlite::types::ValueRef;
 use std::alloc::Global;
@@ -124,6 +125,16 @@ pub(crate) fn audience(code: u32) -> Audience
         0 => Audience::Public,
         1 => Audience::Room,
         _ => Audience::Staff,
+    }
+}
+
+/// The outcome with a number.
+pub(crate) fn outcome(code: u32) -> Outcome
+    ensures { result ≡ outcome_in code }
+{
+    match code {
+        0 => Outcome::Sound,
+        _ => Outcome::Changed,
     }
 }
 

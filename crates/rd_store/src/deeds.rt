@@ -1,13 +1,14 @@
 ghost use Rattle.std.specs.Prelude.{◌≡◌, IfOk, IfErr, IsSome, None, is_some, map, false};
-ghost use Rattle.std.specs.FinMap.{get};
+ghost use Rattle.std.specs.FinMap.{entries, get};
 ghost use Rattle.std.specs.Option.{option_to_list};
 ghost use Rattle.sqlite.specs.Held.{state};
 ghost use Rattle.rd_store.specs.Held.{Asks, Changes, HoldsDesk, IsOpen, desk};
 ghost use Rattle.rd_protocol.specs.Lawful.{IsDeed};
 ghost use Rattle.rd_store.specs.Shown.{deed_shown};
+ghost use Rattle.rd_store.specs.Spelled.{deed_sheet};
 ghost use Rattle.rd_protocol.specs.State.{with_deed};
 
-use crate::decode::{day_at, text_at};
+use crate::decode::{day_at, number_at, text_at};
 use crate::faults::StoreFault;
 use crate::outside::outside;
 use crate::read::read_all;
@@ -15,6 +16,7 @@ use rd_geometry::Text;
 use rd_protocol::DeedRow;
 use sqlite::types::ToSql;
 use sqlite::{Alter, Connection, Error, Row, params};
+use std::alloc::Global;
 
 /// The rows for the deed with a number.
 fn deed_rows<S: Alter>(conn: &mut Connection<S>, num: u32) -> Result<Vec<Row>, StoreFault>
@@ -56,6 +58,60 @@ pub(crate) fn deed<S: Alter>(
         Some(row) => Ok(Some(read_deed(row)?)),
         None => Ok(None),
     }
+}
+
+/// The rows for all deeds, by number.
+fn numbered_rows<S: Alter>(conn: &mut Connection<S>) -> Result<Vec<Row>, StoreFault>
+    requires holds { HoldsDesk (state S.Store conn.old) }
+    ensures asks { Asks S.Store conn.old conn.new result StoreFault.Sql (λ rows.
+        rows.items ≡ map deed_sheet.columns (entries (desk S.Store conn.old).deeds)) }
+    ensures kept { HoldsDesk (state S.Store conn.new) }
+{
+    read_all(
+        conn,
+        "SELECT num, donor, signed FROM deed ORDER BY num",
+        &[],
+    )
+}
+
+/// The deed that a row shows, with its number.
+fn read_numbered(row: &Row) -> Result<(u32, DeedRow), StoreFault>
+    ensures entry { IfOk result (λ entry. entry ≡ deed_sheet.entry row.now) }
+    ensures fault { IfErr result (λ fault. fault ≡ StoreFault.Sql) }
+{
+    let num = number_at(row, 0)?;
+    let donor = Text::of(text_at(row, 1)?);
+    let signed = day_at(row, 2)?;
+    Ok((num, DeedRow { donor, signed }))
+}
+
+/// The deeds that rows show, with their numbers.
+fn read_deeds(alloc: Global, rows: &[Row]) -> Result<Vec<(u32, DeedRow)>, StoreFault>
+    ensures entries { IfOk result (λ deeds. deeds.items ≡ map deed_sheet.entry rows.now) }
+    ensures fault { IfErr result (λ fault. fault ≡ StoreFault.Sql) }
+{
+    let mut deeds = Vec::new(alloc);
+    for row in rows {
+        let entry = read_numbered(row)?;
+        if deeds.push(entry).is_err() {
+            return Err(StoreFault::Sql);
+        }
+    }
+    Ok(deeds)
+}
+
+/// All deeds, by number.
+pub(crate) fn deeds<S: Alter>(
+    alloc: Global,
+    conn: &mut Connection<S>,
+) -> Result<Vec<(u32, DeedRow)>, StoreFault>
+    requires holds { HoldsDesk (state S.Store conn.old) }
+    ensures asks { Asks S.Store conn.old conn.new result StoreFault.Sql (λ deeds.
+        deeds.items ≡ entries (desk S.Store conn.old).deeds) }
+    ensures kept { HoldsDesk (state S.Store conn.new) }
+{
+    let rows = numbered_rows(conn)?;
+    read_deeds(alloc, &rows)
 }
 
 /// Writes a deed in place of the one with its number.

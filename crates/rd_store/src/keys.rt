@@ -17,6 +17,7 @@ use crate::read::read_all;
 use rd_policy::Audience;
 use sqlite::types::ToSql;
 use sqlite::{Alter, Connection, Error, Row, Transaction, params};
+use std::alloc::Global;
 
 /// The rows for the desk key with a digest.
 fn audience_rows<S: Alter>(
@@ -69,6 +70,45 @@ fn key_rows<S: Alter>(conn: &mut Connection<S>) -> Result<Vec<Row>, StoreFault>
         "SELECT digest, audience FROM badge ORDER BY digest",
         &[],
     )
+}
+
+/// The key that a row shows: its digest, and its audience.
+fn read_key(row: &Row) -> Result<([u8; 32], Audience), StoreFault>
+    ensures entry { IfOk result (λ entry. entry ≡ key_sheet.entry row.now) }
+    ensures fault { IfErr result (λ fault. fault ≡ StoreFault.Sql) }
+{
+    let digest = digest_at(row, 0)?;
+    let audience = audience(number_at(row, 1)?);
+    Ok((digest, audience))
+}
+
+/// The keys that rows show.
+fn read_keys(alloc: Global, rows: &[Row]) -> Result<Vec<([u8; 32], Audience)>, StoreFault>
+    ensures entries { IfOk result (λ keys. keys.items ≡ map key_sheet.entry rows.now) }
+    ensures fault { IfErr result (λ fault. fault ≡ StoreFault.Sql) }
+{
+    let mut keys = Vec::new(alloc);
+    for row in rows {
+        let entry = read_key(row)?;
+        if keys.push(entry).is_err() {
+            return Err(StoreFault::Sql);
+        }
+    }
+    Ok(keys)
+}
+
+/// All keys, by digest.
+pub(crate) fn keys<S: Alter>(
+    alloc: Global,
+    conn: &mut Connection<S>,
+) -> Result<Vec<([u8; 32], Audience)>, StoreFault>
+    requires holds { HoldsDesk (state S.Store conn.old) }
+    ensures asks { Asks S.Store conn.old conn.new result StoreFault.Sql (λ keys.
+        keys.items ≡ entries (desk S.Store conn.old).keys) }
+    ensures kept { HoldsDesk (state S.Store conn.new) }
+{
+    let rows = key_rows(conn)?;
+    read_keys(alloc, &rows)
 }
 
 /// Whether a row shows a staff key with another digest.

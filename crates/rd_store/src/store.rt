@@ -11,6 +11,7 @@ ghost use Rattle.rd_store.specs.Created.{IsCreated, IsNotCreated};
 ghost use Rattle.sqlite.specs.Steps.{over_memory};
 ghost use Rattle.rd_store.specs.Held.{Changes, HoldsDesk, IsAtRest, IsClean, IsOpen, Judges, Reads, desk};
 ghost use Rattle.rd_store.specs.Index.{AreFilesIn, IsFileIn};
+ghost use Rattle.rd_protocol.specs.StaffLists.{latest};
 ghost use Rattle.rd_store.specs.Migrated.{IsMigrated, IsNotMigrated};
 ghost use Rattle.rd_store.specs.Opened.{IsNotOpened, IsOpened};
 ghost use Rattle.rd_protocol.specs.Lawful.{IsDeed, IsImage, IsKey};
@@ -24,7 +25,7 @@ use crate::rulebook::Rulebook;
 use crate::{batches, checks, create, deeds, files, images, judging, keys, migrating, rules};
 use rd_geometry::Kind;
 use rd_policy::{Audience, Band, Rule};
-use rd_protocol::{Accession, DeedRow, ImageRow, Indexed, Outcome};
+use rd_protocol::{Accession, DeedRow, Finding, ImageRow, Indexed, Outcome};
 use rd_tables::{has_desk as has_desk_table, is_blank};
 use rd_volume::Found;
 use sqlite::{Alter, Connection};
@@ -162,8 +163,8 @@ impl<S: Alter> Store<S> {
     }
 
     /// Does nothing. Its contract says what holds between two calls: while the connection is open,
-    /// its tables are those of a desk, the desk is a lawful one, and a crash leaves that desk and
-    /// nothing else.
+    /// its tables are those of a desk, the desk is a lawful one, the files of each of its images can
+    /// be listed, and a crash leaves that desk and nothing else.
     pub fn at_rest(&self)
         ensures { IsAtRest S.Store self.now }
     {
@@ -179,6 +180,40 @@ impl<S: Alter> Store<S> {
         ensures fault { IfErr result (λ fault. fault ≡ StoreFault.Sql) }
     {
         deeds::deed(&mut self.conn, num)
+    }
+
+    /// All deeds, by number. It is one query.
+    ///
+    /// It fails with `Sql`.
+    pub fn deeds(&mut self, alloc: Global) -> Result<Vec<(u32, DeedRow)>, StoreFault>
+        ensures reads { Reads S.Store self.old self.new result (λ deeds.
+            deeds.items ≡ entries (desk S.Store self.old).deeds) }
+        ensures fault { IfErr result (λ fault. fault ≡ StoreFault.Sql) }
+    {
+        deeds::deeds(alloc, &mut self.conn)
+    }
+
+    /// What the latest check of an accession, 1 to 999,999, found, and on which day; `None` where there was none. It
+    /// is one query, for one row.
+    ///
+    /// It fails with `Sql`.
+    pub fn latest_check(&mut self, acc: u32) -> Result<Option<Finding>, StoreFault>
+        ensures reads { Reads S.Store self.old self.new result (λ found.
+            found ≡ latest (desk S.Store self.old) acc) }
+        ensures fault { IfErr result (λ fault. fault ≡ StoreFault.Sql) }
+    {
+        checks::latest_check(&mut self.conn, acc)
+    }
+
+    /// All desk keys, by digest, each with its audience. It is one query.
+    ///
+    /// It fails with `Sql`.
+    pub fn keys(&mut self, alloc: Global) -> Result<Vec<([u8; 32], Audience)>, StoreFault>
+        ensures reads { Reads S.Store self.old self.new result (λ keys.
+            keys.items ≡ entries (desk S.Store self.old).keys) }
+        ensures fault { IfErr result (λ fault. fault ≡ StoreFault.Sql) }
+    {
+        keys::keys(alloc, &mut self.conn)
     }
 
     /// The image of an accession, 1 to 999,999; `None` where there is none.
@@ -444,6 +479,22 @@ impl<S: Alter> Store<S> {
         ensures order { IsOpen S.Store self.new → IfOk result (λ rules. AreInOrder rules.items) }
     {
         rules::rules_of_both(alloc, &mut self.conn, acc, deed)
+    }
+
+    /// The takedowns of an accession, or the rules of a deed, by rank. `scope` is its number, 1 to 999,999.
+    ///
+    /// It fails with `Sql`.
+    pub fn rules_at(
+        &mut self,
+        alloc: Global,
+        band: Band,
+        scope: u32,
+    ) -> Result<Vec<Rule>, StoreFault>
+        ensures reads { Reads S.Store self.old self.new result (λ rules.
+            rules.items ≡ rules_at (desk S.Store self.old) band scope) }
+        ensures fault { IfErr result (λ fault. fault ≡ StoreFault.Sql) }
+    {
+        rules::rules_of(alloc, &mut self.conn, band, scope)
     }
 
     /// All rules, in which `Rulebook::under` finds those of an accession and a deed. It is one query.

@@ -6,6 +6,7 @@ pub mod QueryTexts
 pub mod Picking
 pub mod Entries
 pub mod Finding
+pub mod Turned
 pub mod Changed
 pub mod Removed
 pub mod Steps

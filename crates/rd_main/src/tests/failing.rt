@@ -1,5 +1,5 @@
 //! Stores whose disk fails from some call on, so that the desk is unavailable: what `import`,
-//! `export` and `check` write, for every seventh call at which the disk may begin to fail.
+//! `export`, `check` and `show` write, for every seventh call at which the disk may begin to fail.
 
 use super::Ran;
 use super::fakes::{Museum, Sheet};
@@ -85,8 +85,14 @@ const CHECK: Trial = like!(Trial, INIT,
     output: "12 sound\n"
 );
 
+const SHOW: Trial = like!(Trial, INIT,
+    label: "show",
+    words: &["show", "keys", "--store", "museum.sqlite", "--key", "abc"],
+    output: "{\"keys\":[{\"audience\":\"staff\",\"digest\":\"ba7816bf8f01cfea414140de5dae2223b00361a396177a9cb410ff61f20015ad\"}]}\n"
+);
+
 /// Runs on one museum, one after the other.
-const TRIALS: [Trial; 5] = [INIT, FIRST, SECOND, EXPORT, CHECK];
+const TRIALS: [Trial; 6] = [INIT, FIRST, SECOND, EXPORT, CHECK, SHOW];
 
 /// What the clock of the museum shows.
 const MOMENT: i64 = 1_893_452_400;
@@ -165,11 +171,11 @@ const EACH: u64 = 7;
 
 #[test]
 fn a_disk_that_fails_is_told(rt: HostRuntime) -> Result<(), Fail> {
-    let mut seen = [false; 5];
+    let mut seen = [false; 6];
     for nth in 0..3_000 {
         match assert_trials(&rt, rt.alloc(), EACH * nth)? {
             Ended::Whole => {
-                assert_eq!(rt; seen, [false, true, true, true, true], "{nth}");
+                assert_eq!(rt; seen, [false, true, true, true, true, true], "{nth}");
                 return Ok(());
             }
             Ended::Unopened => {}

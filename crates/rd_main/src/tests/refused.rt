@@ -716,6 +716,12 @@ const CHANGED: Asked = like!(Asked, CHECK,
     after: "12 21915 1;"
 );
 
+/// The latest checks, as the staff are shown them.
+const SHOW: Asked = like!(Asked, EXPORT,
+    words: &["show", "checks", "--store", "museum.sqlite", "--key=abc", "--at=0"],
+    output: "{\"checks\":[{\"accession\":12,\"day\":null,\"outcome\":null}]}\n"
+);
+
 fn recorded_again(alloc: Global, museum: &mut Museum) -> Option<String> {
     recorded(alloc, museum).or_else(|| recorded(alloc, museum))
 }
@@ -752,6 +758,13 @@ fn export_when_memory_is_refused(rt: HostRuntime) -> Result<(), Fail> {
     let mut museum = desk_again(&rt, rt.alloc())?;
     assert_import(&rt, &mut museum, rt.alloc(), ONE_ROW)?;
     assert_asked(&rt, &mut museum, rt.alloc(), &EXPORT)
+}
+
+#[test]
+fn show_when_memory_is_refused(rt: HostRuntime) -> Result<(), Fail> {
+    let mut museum = desk_again(&rt, rt.alloc())?;
+    assert_import(&rt, &mut museum, rt.alloc(), ONE_ROW)?;
+    assert_asked(&rt, &mut museum, rt.alloc(), &SHOW)
 }
 
 #[test]

@@ -3,7 +3,7 @@ ghost use Rattle.serde_json.specs.View.{view};
 ghost use Rattle.rd_messages.specs.RequestBodies.{IsDeedBody, IsNoDeedBody, TellsDeed, TellsNoDeed};
 
 use crate::bodies::dates::day_of;
-use crate::bodies::json::{has_only, text_at, value_of};
+use crate::bodies::objects::{has_only, text_at, value_of};
 use rd_geometry::{NoMemory, Text};
 use serde_json::Value;
 use std::alloc::Global;

@@ -3,7 +3,7 @@ ghost use Rattle.serde_json.specs.View.{view};
 ghost use Rattle.rd_messages.specs.RequestBodies.{IsKeyBody, IsNoKeyBody, TellsKey, TellsNoKey};
 
 use crate::bodies::audiences::audience_of;
-use crate::bodies::json::{only_member, value_of};
+use crate::bodies::objects::{only_member, value_of};
 use rd_geometry::NoMemory;
 use rd_policy::Audience;
 use serde_json::Value;

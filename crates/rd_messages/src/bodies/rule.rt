@@ -7,7 +7,7 @@ ghost use Rattle.rd_messages.specs.RequestBodies.{IsAt, IsNoRuleBody, IsRuleBody
 
 use crate::bodies::audiences::audiences_at;
 use crate::bodies::dates::day_at;
-use crate::bodies::json::{has_only, text_at, value_of};
+use crate::bodies::objects::{has_only, text_at, value_of};
 use crate::bodies::select::select_at;
 use rd_geometry::NoMemory;
 use rd_policy::{Band, Effect, Rule};

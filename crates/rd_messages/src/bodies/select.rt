@@ -9,7 +9,7 @@ ghost use Rattle.rd_policy.specs.declared.select.Select.{Select};
 ghost use Rattle.rd_messages.specs.Objects.{one_member};
 ghost use Rattle.rd_messages.specs.RequestBodies.{select_data};
 
-use crate::bodies::json::only_member;
+use crate::bodies::objects::only_member;
 use rd_geometry::{NoMemory, Text};
 use rd_policy::Select;
 use serde_json::Value;

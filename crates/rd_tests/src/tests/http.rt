@@ -37,6 +37,21 @@ macro_rules! catalogue {
     };
 }
 
+/// A table: how many bytes it has, and its lines.
+macro_rules! csv {
+    ($length:literal, $lines:literal) => {
+        Wanted::Texts(&[(
+            concat!(
+                "HTTP/1.1 200 OK\r\nContent-Type: text/csv\r\nContent-Length: ",
+                $length,
+                "\r\nConnection: close\r\n\r\n",
+                $lines
+            ),
+            1,
+        )])
+    };
+}
+
 /// How a run of visits went.
 macro_rules! served {
     ($visits:literal, $read_faults:literal, $write_faults:literal, $ended:ident) => {

@@ -4,6 +4,7 @@ mod files;
 mod found;
 mod images;
 mod keys;
+mod lists;
 mod refused;
 mod rules;
 mod steps;

@@ -1,6 +1,7 @@
-use Rattle.std.proofs.Common.{◌∙◌, inl, inr, subst, sym}
+use Rattle.std.proofs.Common.{◌≡◌, ◌∙◌, Some, inl, inr, subst, sym}
 use Rattle.clap.specs.Words.{subcommand_rows_of}
-use Rattle.rd_commands.specs.Asks.{AreCatRows, AreCheckRows, AreExportRows, AreImportRows, AreInitRows, AreServeRows, EntersAs}
+use Rattle.rd_commands.specs.Asks.{AreCatRows, AreCheckRows, AreExportRows, AreImportRows, AreInitRows, AreServeRows, AreShowRows, AsksOnce, EntersAs}
+use Rattle.rd_commands.specs.declared.words.Question.TheVariants.{Show}
 use Rattle.rd_commands.specs.Zones.{HasZoneRule}
 use Rattle.rd_commands.proofs.Asked.{clockless, entered_as, name_met, rows_met}
 use Rattle.rd_commands.proofs.words.ask_found.Goals as goal
@@ -100,3 +101,16 @@ returns-in_ok-export_asked-in-export-clause-zone c = λ name rows into clocks.
 pub returns-in_ok-check_asked-in-check-clause-zone : goal.returns-in_ok-check_asked-in-check-clause-zone
 returns-in_ok-check_asked-in-check-clause-zone c = λ name rows into clocks.
     subst HasZoneRule (sym (rows_met c.args.matches.now name rows _ into (sym c.in_ok-name.ensures.rows))) (c.in_ok-check_asked-in-check.ensures.zone)
+
+pub returns-in_err-show_asked-in-show-clause-show : goal.returns-in_err-show_asked-in-show-clause-show
+returns-in_err-show_asked-in-show-clause-show c = λ store key what moment rule is enters.
+    let rows = rows_met c.args.matches.now _ enters.rows _ enters.into (sym c.in_ok-name.ensures.rows) in
+    absurd (c.in_err-show_asked-in-show.ensures.asked store key moment rule (subst (λ r. AreShowRows r store key moment rule) rows enters.found))
+
+pub returns-in_ok-show_asked-in-show-clause-show : goal.returns-in_ok-show_asked-in-show-clause-show
+returns-in_ok-show_asked-in-show-clause-show c = λ store key what moment rule is enters.
+    let rows = rows_met c.args.matches.now _ enters.rows _ enters.into (sym c.in_ok-name.ensures.rows) in
+    let both : Some c.in_ok-shown-in-show.field-0 ≡ Some what = sym c.in_ok-shown-in-show.was ∙ is in
+    let same : c.in_ok-shown-in-show.field-0 ≡ what = cc in
+    subst (λ w. AsksOnce c.in_ok-show_asked-in-show.field-0 store (Some key) (Show w) moment rule) same
+    (c.in_ok-show_asked-in-show.ensures.asked store key moment rule (subst (λ r. AreShowRows r store key moment rule) rows enters.found))

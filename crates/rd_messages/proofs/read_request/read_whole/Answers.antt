@@ -1,4 +1,4 @@
-use Rattle.std.proofs.Common.{◌∙◌, Some, ap, sym, rules}
+use Rattle.std.proofs.Common.{◌∙◌, ap, sym, rules}
 use Rattle.rd_messages.specs.Routes.{method_named}
 use Rattle.rd_messages.proofs.OneAsked.{what_asked}
 use Rattle.rd_messages.proofs.read_request.read_whole.Goals as goal

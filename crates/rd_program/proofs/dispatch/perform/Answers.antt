@@ -1,6 +1,6 @@
-use Rattle.std.proofs.Common.{◌≡◌, IfErr, IfOk, IfSome, OnOk, codes, inl, subst, sym}
+use Rattle.std.proofs.Common.{◌≡◌, IfErr, IfOk, IfSome, OnOk, Some, codes, inl, option_map, refl, subst, sym}
 use Rattle.std.proofs.lemmas.Result.{IfErr-weaker}
-use Rattle.rd_commands.specs.Asks.{AsksADesk, AsksCheckOf, AsksFile, AsksFiles, AsksNew, AsksVisits, IsFileAsk, IsFilesAsk, IsInitAsk, IsServeAsk, TellsInRows, TellsOnOutput}
+use Rattle.rd_commands.specs.Asks.{AsksADesk, AsksCheckOf, AsksFile, AsksFiles, AsksNew, AsksOnce, AsksVisits, IsFileAsk, IsFilesAsk, IsInitAsk, IsOnceAsk, IsServeAsk, TellsInRows, TellsOnOutput}
 use Rattle.rd_commands.specs.Cat.{Refuses, Serves}
 use Rattle.std.specs.Io.KnownBytes.{Appends}
 use Rattle.rd_program.specs.Leaves.{LeavesBy, LeavesRefused}
@@ -10,7 +10,12 @@ use Rattle.rd_program.proofs.Answered.{once_kept, once_never}
 use Rattle.rd_program.proofs.Imported.{err_whole, ok_whole, whole_is}
 use Rattle.rd_program.proofs.Inited.{at_err_both, left_as, made_as, on_both}
 use Rattle.rd_program.proofs.LeftBy.{no_refusal}
+use Rattle.rd_program.proofs.Showing.{key_there}
 use Rattle.rd_commands.proofs.Ran.{as_asked}
+use Rattle.httparse.specs.Grammar.{trim_ows}
+use Rattle.sha2.specs.Sha256.{sha256}
+use Rattle.rd_program.specs.Showing.{EndsWith, IsDueIn, RefusesShow, ShowsStore, show_request}
+use Rattle.rd_commands.specs.declared.words.Question.TheVariants.{Show}
 use Rattle.rd_commands.specs.declared.done.Done.TheVariants.{InPart}
 use Rattle.rd_program.proofs.dispatch.perform.Goals as goal
 
@@ -329,3 +334,51 @@ pub returns-in-Init-clause-leaves_refused : goal.returns-in-Init-clause-leaves_r
 returns-in-Init-clause-leaves_refused g c =
     subst (λ ask. IfErr c.whole-in-Init.result (LeavesRefused g.M.Disk.Store (g.M.Machine.left c.args.machine.now) (g.M.Machine.stands c.args.machine.now) (g.M.Machine.left c.init.new.machine)
     (g.W.Write.contents c.args.output.now) (g.W.Write.contents c.init.new.output) ask)) (sym c.in-Init.is) (no_refusal c.whole-in-Init.result)
+
+pub returns-in-File-clause-shown : goal.returns-in-File-clause-shown
+returns-in-File-clause-shown g c = λ store key what moment rule asked. absurd (subst (IsOnceAsk store (Some key) (Show what) moment rule) c.in-File.is asked)
+
+pub returns-in-File-clause-not_shown : goal.returns-in-File-clause-not_shown
+returns-in-File-clause-not_shown g c = λ store key what moment rule asked. absurd (subst (IsOnceAsk store (Some key) (Show what) moment rule) c.in-File.is asked)
+
+pub returns-in-Files-clause-shown : goal.returns-in-Files-clause-shown
+returns-in-Files-clause-shown g c = λ store key what moment rule asked. absurd (subst (IsOnceAsk store (Some key) (Show what) moment rule) c.in-Files.is asked)
+
+pub returns-in-Files-clause-not_shown : goal.returns-in-Files-clause-not_shown
+returns-in-Files-clause-not_shown g c = λ store key what moment rule asked. absurd (subst (IsOnceAsk store (Some key) (Show what) moment rule) c.in-Files.is asked)
+
+pub returns-in-Init-clause-shown : goal.returns-in-Init-clause-shown
+returns-in-Init-clause-shown g c = λ store key what moment rule asked. absurd (subst (IsOnceAsk store (Some key) (Show what) moment rule) c.in-Init.is asked)
+
+pub returns-in-Init-clause-not_shown : goal.returns-in-Init-clause-not_shown
+returns-in-Init-clause-not_shown g c = λ store key what moment rule asked. absurd (subst (IsOnceAsk store (Some key) (Show what) moment rule) c.in-Init.is asked)
+
+pub returns-in-Serve-clause-shown : goal.returns-in-Serve-clause-shown
+returns-in-Serve-clause-shown g c = λ store key what moment rule asked. absurd (subst (IsOnceAsk store (Some key) (Show what) moment rule) c.in-Serve.is asked)
+
+pub returns-in-Serve-clause-not_shown : goal.returns-in-Serve-clause-not_shown
+returns-in-Serve-clause-not_shown g c = λ store key what moment rule asked. absurd (subst (IsOnceAsk store (Some key) (Show what) moment rule) c.in-Serve.is asked)
+
+pub returns-in-Import-clause-shown : goal.returns-in-Import-clause-shown
+returns-in-Import-clause-shown g c = λ store key what moment rule asked. absurd (subst (IsOnceAsk store (Some key) (Show what) moment rule) c.in-Import.is asked)
+
+pub returns-in-Import-clause-not_shown : goal.returns-in-Import-clause-not_shown
+returns-in-Import-clause-not_shown g c = λ store key what moment rule asked. absurd (subst (IsOnceAsk store (Some key) (Show what) moment rule) c.in-Import.is asked)
+
+pub returns-in-Once-clause-shown : goal.returns-in-Once-clause-shown
+returns-in-Once-clause-shown g c = λ store key what moment rule asked.
+    let asks : AsksOnce c.in-Once.ask store (Some key) (Show what) moment rule = subst (IsOnceAsk store (Some key) (Show what) moment rule) c.in-Once.is asked in
+    subst (λ s. OnOk c.ask_once.result (EndsWith (g.M.Machine.stands c.args.machine.now s) (g.M.Machine.left c.ask_once.new.machine)
+    (ShowsStore g.M.Disk.Store (show_request (Some (sha256 (trim_ows key))) what) (g.W.Write.contents c.args.output.now) (g.W.Write.contents c.ask_once.new.output)))) asks.store_is
+    (subst (λ k. OnOk c.ask_once.result (EndsWith (g.M.Machine.stands c.args.machine.now c.in-Once.ask.store.now) (g.M.Machine.left c.ask_once.new.machine)
+    (ShowsStore g.M.Disk.Store (show_request (option_map sha256 k) what) (g.W.Write.contents c.args.output.now) (g.W.Write.contents c.ask_once.new.output)))) asks.key_is
+    (c.ask_once.ensures.shown what asks.question_is))
+
+pub returns-in-Once-clause-not_shown : goal.returns-in-Once-clause-not_shown
+returns-in-Once-clause-not_shown g c = λ store key what moment rule asked.
+    let asks : AsksOnce c.in-Once.ask store (Some key) (Show what) moment rule = subst (IsOnceAsk store (Some key) (Show what) moment rule) c.in-Once.is asked in
+    subst (λ s. IfErr c.ask_once.result (λ refusal. RefusesShow (g.W.Write.contents c.args.output.now) (g.W.Write.contents c.ask_once.new.output) refusal
+    × IsDueIn g.M.Disk.Store (show_request (Some (sha256 (trim_ows key))) what) (g.M.Machine.stands c.args.machine.now s) (g.M.Machine.left c.ask_once.new.machine) refusal)) asks.store_is
+    (subst (λ k. IfErr c.ask_once.result (λ refusal. RefusesShow (g.W.Write.contents c.args.output.now) (g.W.Write.contents c.ask_once.new.output) refusal
+    × IsDueIn g.M.Disk.Store (show_request (option_map sha256 k) what) (g.M.Machine.stands c.args.machine.now c.in-Once.ask.store.now) (g.M.Machine.left c.ask_once.new.machine) refusal)) asks.key_is
+    (c.ask_once.ensures.not_shown what asks.question_is (key_there c.in-Once.ask.key (Some key) asks.key_is refl)))

@@ -7,12 +7,13 @@ use Rattle.rd_program.specs.Serving.{serve_text}
 use Rattle.rd_commands.specs.RefusalLines.{Tells}
 use Rattle.rd_commands.specs.Versions.{RefusesVersion}
 use Rattle.rd_commands.specs.declared.refusal.Refusal.TheVariants.{NoMemory}
-use Rattle.rd_commands.specs.declared.words.Question.TheVariants.{Catalogue, Check}
+use Rattle.rd_commands.specs.declared.words.Question.TheVariants.{Catalogue, Check, Show}
 use Rattle.rd_commands.proofs.Asked.{help_asked, no_fault_in}
 use Rattle.std.proofs.KnownBytes.{Keeps-refl}
-use Rattle.rd_program.proofs.Answered.{check_asks, check_of_desk, export_asks, export_is_whole}
+use Rattle.rd_program.proofs.Answered.{check_asks, check_of_desk, export_asks, export_is_whole, show_is_whole}
 use Rattle.rd_program.proofs.Imported.{done_lines, import_tells, in_part_is_one, not_in_rows, one_is_some, rows_of, rows_tell}
 use Rattle.rd_program.proofs.Left.{none_still, still_left}
+use Rattle.rd_program.proofs.Showing.{memory_no_accession}
 use Rattle.rd_program.proofs.LeftBy.{import_leaves, import_names, once_leaves, once_names, serve_leaves, serve_refused}
 use Rattle.rd_commands.proofs.Ran.{is_cut, kept_is_cut, no_sound_file, not_done, of_all, of_known, reads_few, reads_no_input, reads_of_kind, tells}
 use Rattle.rd_commands.proofs.ReadUpTo.{reads_none, reads_within}
@@ -334,12 +335,12 @@ returns-in-Err-perform-clause-export_told g c = λ some store key moment rule as
 
 pub returns-in-Err-clause-sound : goal.returns-in-Err-clause-sound
 returns-in-Err-clause-sound g c = λ zero acc asks.
-    let memory = c.tell_unread.ensures.memory (c.in-Err.ensures.unread (inr (inr (inr (inr (inr (inr (acc, asks)))))))) in
+    let memory = c.tell_unread.ensures.memory (c.in-Err.ensures.unread (inr (inr (inr (inr (inr (inr (inl (acc, asks))))))))) in
     let three : c.tell_unread.result ≡ 3 = memory.0 in absurd (omega arith)
 
 pub returns-in-Err-clause-check_told : goal.returns-in-Err-clause-check_told
 returns-in-Err-clause-check_told g c = λ some store key acc moment rule asks.
-    let none = c.in-Err.ensures.unread (inr (inr (inr (inr (inr (inr (acc, (store, key, moment, rule, asks)))))))) in
+    let none = c.in-Err.ensures.unread (inr (inr (inr (inr (inr (inr (inl (acc, (store, key, moment, rule, asks))))))))) in
     let memory = c.tell_unread.ensures.memory none in
     inr (tells _ NoMemory _ _ _ (inl (inr (inl (inr refl)), memory.1), tt) memory.0 (c.tell_unread.ensures.no_memory none))
 
@@ -460,3 +461,74 @@ returns-in-Err-clause-check_leaves g c = λ store key acc moment rule asked. sti
 
 pub returns-in-Err-clause-export_leaves : goal.returns-in-Err-clause-export_leaves
 returns-in-Err-clause-export_leaves g c = λ store key moment rule asked. still_left (g.M.Machine.left c.args.machine.now) (g.M.Machine.stands c.args.machine.now store) _
+
+-- ---- what is shown
+
+pub returns-in-Ok-perform-clause-shown : goal.returns-in-Ok-perform-clause-shown
+returns-in-Ok-perform-clause-shown g c = λ zero store key what moment rule asked.
+    c.in-Ok-perform.ensures.shown store key what moment rule (c.in-Ok.ensures.read.show store key what moment rule asked)
+
+pub returns-in-Ok-perform-clause-show_refused : goal.returns-in-Ok-perform-clause-show_refused
+returns-in-Ok-perform-clause-show_refused g c = λ some store key what moment rule asked.
+    absurd (show_is_whole _ c.in-Ok.ask c.in-Ok.ensures.read (store, key, what, moment, rule, asked) (c.in-Ok-perform.ensures.in_part (c.status.ensures.in_part some)))
+
+pub returns-in-Err-perform-clause-shown : goal.returns-in-Err-perform-clause-shown
+returns-in-Err-perform-clause-shown g c = λ zero. absurd (not_done c.in-Err-perform.refused (sym c.tell_refusal.ensures.status ∙ zero))
+
+pub returns-in-Err-perform-clause-show_refused : goal.returns-in-Err-perform-clause-show_refused
+returns-in-Err-perform-clause-show_refused g c = λ some store key what moment rule asked.
+    let asks = c.in-Ok.ensures.read.show store key what moment rule asked in
+    let names = once_names g.M.Disk.Store (g.M.Machine.left c.args.machine.now) (g.M.Machine.stands c.args.machine.now) (g.M.Machine.left c.perform.new.machine)
+    c.in-Ok.ask store (Some key) (Show what) moment rule (g.W.Write.contents c.args.output.now) (g.W.Write.contents c.perform.new.output) c.in-Err-perform.refused asks c.in-Err-perform.ensures.leaves_refused in
+    let why = c.in-Err-perform.ensures.not_shown store key what moment rule asks in
+    tells _ c.in-Err-perform.refused _ _ _ (why.0, names, why.1) c.tell_refusal.ensures.status c.tell_refusal.ensures.told
+
+pub returns-in-Err-clause-shown : goal.returns-in-Err-clause-shown
+returns-in-Err-clause-shown g c = λ zero store key what moment rule asked.
+    let memory = c.tell_unread.ensures.memory (c.in-Err.ensures.unread (inr (inr (inr (inr (inr (inr (inr (store, key, what, moment, rule, asked))))))))) in
+    let three : c.tell_unread.result ≡ 3 = memory.0 in absurd (omega arith)
+
+pub returns-in-Err-clause-show_refused : goal.returns-in-Err-clause-show_refused
+returns-in-Err-clause-show_refused g c = λ some store key what moment rule asked.
+    let none = c.in-Err.ensures.unread (inr (inr (inr (inr (inr (inr (inr (store, key, what, moment, rule, asked)))))))) in
+    let memory = c.tell_unread.ensures.memory none in
+    tells _ NoMemory _ _ _ ((inl (inr (inl (inr refl)), memory.1), memory_no_accession), tt, tt) memory.0 (c.tell_unread.ensures.no_memory none)
+
+pub returns-in-Ok-perform-clause-show_leaves : goal.returns-in-Ok-perform-clause-show_leaves
+returns-in-Ok-perform-clause-show_leaves g c = λ store key what moment rule asked.
+    once_leaves g.M.Disk.Store (g.M.Machine.left c.args.machine.now) (g.M.Machine.stands c.args.machine.now) (g.M.Machine.left c.perform.new.machine)
+    c.in-Ok.ask store (Some key) (Show what) moment rule (c.in-Ok.ensures.read.show store key what moment rule asked) c.perform.ensures.leaves
+
+pub returns-in-Err-perform-clause-show_leaves : goal.returns-in-Err-perform-clause-show_leaves
+returns-in-Err-perform-clause-show_leaves g c = λ store key what moment rule asked.
+    once_leaves g.M.Disk.Store (g.M.Machine.left c.args.machine.now) (g.M.Machine.stands c.args.machine.now) (g.M.Machine.left c.perform.new.machine)
+    c.in-Ok.ask store (Some key) (Show what) moment rule (c.in-Ok.ensures.read.show store key what moment rule asked) c.perform.ensures.leaves
+
+pub returns-in-Err-clause-show_leaves : goal.returns-in-Err-clause-show_leaves
+returns-in-Err-clause-show_leaves g c = λ store key what moment rule asked. still_left (g.M.Machine.left c.args.machine.now) (g.M.Machine.stands c.args.machine.now store) _
+
+pub returns-in-Ok-perform-clause-named : goal.returns-in-Ok-perform-clause-named
+returns-in-Ok-perform-clause-named g c = λ well. c.in-Ok.ensures.shown
+
+pub returns-in-Err-perform-clause-named : goal.returns-in-Err-perform-clause-named
+returns-in-Err-perform-clause-named g c = λ well. c.in-Ok.ensures.shown
+
+pub returns-in-Err-clause-named : goal.returns-in-Err-clause-named
+returns-in-Err-clause-named g c = λ well rows enters.
+    let zero : c.tell_unread.result ≡ 0 = omega (arith, c.tell_unread.ensures.not_refused, well) in
+    absurd (elim (c.tell_unread.ensures.shown zero) as (λ _. ⊥) [
+      | inl help ↦ no_fault_in _ (codes "show") rows _ enters (help_asked _ c.in-Err.unread help c.in-Err.ensures.told)
+      | inr version ↦ no_fault_in _ (codes "show") rows _ enters (version_asked _ c.in-Err.unread version.0 c.in-Err.ensures.told)
+    ])
+
+pub returns-in-Ok-perform-clause-none_named : goal.returns-in-Ok-perform-clause-none_named
+returns-in-Ok-perform-clause-none_named g c = λ none. absurd (none c.in-Ok.ensures.shown)
+
+pub returns-in-Err-perform-clause-none_named : goal.returns-in-Err-perform-clause-none_named
+returns-in-Err-perform-clause-none_named g c = λ none. absurd (none c.in-Ok.ensures.shown)
+
+pub returns-in-Err-clause-none_named : goal.returns-in-Err-clause-none_named
+returns-in-Err-clause-none_named g c = λ none. elim (c.in-Err.ensures.none_shown none) [
+  | inl day ↦ inl (c.tell_unread.ensures.mistaken (inr day))
+  | inr memory ↦ inr (tells (λ refusal. refusal ≡ NoMemory) NoMemory _ _ _ refl (c.tell_unread.ensures.memory memory).0 (c.tell_unread.ensures.no_memory memory))
+]

@@ -49,6 +49,32 @@ const QUESTIONS: &[Limit] = table![
     ("unread", Ask::Unread, true);
 ];
 
+const OF_THE_STAFF: &[Limit] = table![
+    ("deeds", Ask::Deeds, true);
+    ("takedowns", Ask::Takedowns, true);
+    ("keys", Ask::Keys, true);
+    ("checks", Ask::Checks, true);
+    ("verdicts of the first day", Ask::Verdicts(-719_162), true);
+    ("verdicts of the day before", Ask::Verdicts(-719_163), false);
+    ("verdicts of the last day", Ask::Verdicts(2_932_896), true);
+    ("verdicts of the day after", Ask::Verdicts(2_932_897), false);
+    ("rehearsed on the first day", Ask::RehearseRule(-719_162, OPEN), true);
+    ("rehearsed on the day before", Ask::RehearseRule(-719_163, OPEN), false);
+    ("rehearsed on the last day", Ask::RehearseRule(2_932_896, TAKEDOWN), true);
+    ("rehearsed on the day after", Ask::RehearseRule(2_932_897, TAKEDOWN), false);
+    ("a takedown that lets read rehearsed", Ask::RehearseRule(OPENING, like!(NewRule, TAKEDOWN, effect: Effect::Read)), false);
+    ("a rule of rank 10,000 rehearsed", Ask::RehearseRule(OPENING, like!(NewRule, OPEN, rank: 10_000)), false);
+    ("a rule of deed 0 rehearsed", Ask::RehearseRule(OPENING, like!(NewRule, OPEN, scope: 0)), false);
+    ("a rule for nobody rehearsed", Ask::RehearseRule(OPENING, like!(NewRule, OPEN, audiences: NOBODY_AT_ALL)), false);
+    ("a drop on the first day", Ask::RehearseDrop(-719_162, Band::Deed, 999_999, 9_999), true);
+    ("a drop on the day before", Ask::RehearseDrop(-719_163, Band::Deed, 7, 20), false);
+    ("a drop on the day after", Ask::RehearseDrop(2_932_897, Band::Takedown, 12, 1), false);
+    ("a drop of rank 0", Ask::RehearseDrop(OPENING, Band::Deed, 7, 0), false);
+    ("a drop of rank 10,000", Ask::RehearseDrop(OPENING, Band::Takedown, 12, 10_000), false);
+    ("a drop of deed 0", Ask::RehearseDrop(OPENING, Band::Deed, 0, 1), false);
+    ("a drop of accession 1,000,000", Ask::RehearseDrop(OPENING, Band::Takedown, 1_000_000, 1), false);
+];
+
 const COMMANDS: &[Limit] = table![
     ("image", Ask::PutImage(PROGRAM_12), true);
     ("image of another size", Ask::PutImage(like!(NewImage, PROGRAM_12, bytes: Picture::Cut)), true);
@@ -120,6 +146,7 @@ fn assert_limits(rt: &impl Abort, alloc: Global, cases: &[Limit]) -> Result<(), 
 #[test]
 fn requests_fit(rt: HostRuntime) -> Result<(), Fail> {
     assert_limits(&rt, rt.alloc(), QUESTIONS)?;
+    assert_limits(&rt, rt.alloc(), OF_THE_STAFF)?;
     assert_limits(&rt, rt.alloc(), COMMANDS)?;
     assert_limits(&rt, rt.alloc(), RULES)
 }

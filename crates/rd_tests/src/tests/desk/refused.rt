@@ -7,7 +7,7 @@ use super::cases::{
     UNAVAILABLE, UNKNOWN_KEY, UNTIL_2030, Visit, Wanted, told, wanted_of,
 };
 use super::images::{LOOPED_14, MARKED_12, NewImage, PROGRAM_12, PROGRAM_13, Picture, QUOTED_18};
-use super::requests::{Ask, request_of};
+use super::requests::{Ask, NewRule, request_of};
 use super::state::{CLOSED, GIVEN, OPEN, TAKEDOWN, answer};
 use crate::tests::desks::{AFTER, BEFORE, Memory, assert_tables, new_desk_again};
 use crate::tests::keys::{Key, NOBODY, PUBLIC, ROOM, STAFF};
@@ -375,6 +375,153 @@ const VERDICTS: &[Visit] = &[
 #[test]
 fn verdicts_when_memory_is_refused(rt: HostRuntime) -> Result<(), Fail> {
     assert_visits_again(&rt, rt.alloc(), TAKEN, VERDICTS)
+}
+
+/// What stands on a desk of which accession 12 is taken down.
+const STAFF_LISTS: &[Visit] = &[
+    (
+        STAFF,
+        AFTER,
+        Ask::Deeds,
+        Wanted::Json(
+            200,
+            r#"{"deeds":[{"accessions":1,"deed":7,"donor":"A. Curator","rules":[{"audiences":["public","room","staff"],"effect":"read","from":null,"rank":20,"select":{"all":true},"until":null}],"signed":"2019-05-04"},{"accessions":1,"deed":8,"donor":"B. Donor","rules":[],"signed":"2020-02-29"}]}"#,
+        ),
+    ),
+    (
+        STAFF,
+        AFTER,
+        Ask::Takedowns,
+        Wanted::Json(
+            200,
+            r#"{"takedowns":[{"accession":12,"rules":[{"audiences":["public","room"],"effect":"deny","from":null,"rank":1,"select":{"slot":0},"until":null}]}]}"#,
+        ),
+    ),
+    (
+        STAFF,
+        AFTER,
+        Ask::Keys,
+        Wanted::Json(
+            200,
+            r#"{"keys":[{"audience":"room","digest":"2cf24dba5fb0a30e26e83b2ac5b9e29e1b161e5c1fa7425e73043362938b9824"},{"audience":"staff","digest":"ba7816bf8f01cfea414140de5dae2223b00361a396177a9cb410ff61f20015ad"}]}"#,
+        ),
+    ),
+    (ROOM, AFTER, Ask::Deeds, STAFF_ONLY),
+    (PUBLIC, AFTER, Ask::Checks, STAFF_ONLY),
+    (NOBODY, AFTER, Ask::Keys, UNKNOWN_KEY),
+];
+
+#[test]
+fn staff_lists_when_memory_is_refused(rt: HostRuntime) -> Result<(), Fail> {
+    assert_visits_again(&rt, rt.alloc(), TAKEN, STAFF_LISTS)
+}
+
+/// The latest checks, before accession 12 was checked and after.
+const LATEST_CHECKS: Plan = Plan {
+    given: HELD,
+    visit: (
+        STAFF,
+        AFTER,
+        Ask::Checks,
+        Wanted::Json(
+            200,
+            r#"{"checks":[{"accession":12,"day":null,"outcome":null}]}"#,
+        ),
+    ),
+    then: &[
+        (STAFF, AFTER, Ask::Check(12), SOUND),
+        (
+            STAFF,
+            AFTER,
+            Ask::Checks,
+            Wanted::Json(
+                200,
+                r#"{"checks":[{"accession":12,"day":"2030-01-01","outcome":"sound"}]}"#,
+            ),
+        ),
+    ],
+};
+
+#[test]
+fn latest_checks_when_memory_is_refused(rt: HostRuntime) -> Result<(), Fail> {
+    assert_plan(&rt, rt.alloc(), &LATEST_CHECKS)
+}
+
+/// The first line of a table of verdicts.
+const VERDICT_COLUMNS: &str =
+    "accession,deed,kind,slot,user,name,type,size,faults,public,public_rule,room,room_rule,staff,staff_rule";
+
+/// The first line of a rehearsal.
+const REHEARSAL_COLUMNS: &str = "accession,slot,name,audience,effect,rule,then_effect,then_rule";
+
+const NO_DIFFERENCE: Wanted = Wanted::Table(&[REHEARSAL_COLUMNS]);
+
+/// The first day of 2030.
+const NEW_YEAR: i32 = super::state::OPENING;
+
+/// All verdicts, and what commands would change of them.
+const REHEARSALS: &[Visit] = &[
+    (
+        STAFF,
+        BEFORE,
+        Ask::Verdicts(NEW_YEAR),
+        Wanted::Table(&[
+            VERDICT_COLUMNS,
+            "12,7,d64,0,,HELLO,PRG,258,,deny,T12.1,deny,T12.1,read,R7.20",
+            "13,8,d64,0,,HELLO,PRG,258,,deny,D0,deny,D0,deny,D0",
+        ]),
+    ),
+    (
+        STAFF,
+        AFTER,
+        Ask::RehearseDrop(NEW_YEAR, Band::Takedown, 12, 1),
+        Wanted::Table(&[
+            REHEARSAL_COLUMNS,
+            "12,0,HELLO,public,deny,T12.1,read,R7.20",
+            "12,0,HELLO,room,deny,T12.1,read,R7.20",
+        ]),
+    ),
+    (
+        STAFF,
+        AFTER,
+        Ask::RehearseRule(NEW_YEAR, like!(NewRule, OPEN, scope: 8)),
+        Wanted::Table(&[
+            REHEARSAL_COLUMNS,
+            "13,0,HELLO,public,deny,D0,read,R8.20",
+            "13,0,HELLO,room,deny,D0,read,R8.20",
+            "13,0,HELLO,staff,deny,D0,read,R8.20",
+        ]),
+    ),
+    (
+        STAFF,
+        AFTER,
+        Ask::RehearseRule(NEW_YEAR, TAKEDOWN),
+        NO_DIFFERENCE,
+    ),
+    (
+        STAFF,
+        AFTER,
+        Ask::RehearseDrop(NEW_YEAR, Band::Deed, 8, 1),
+        NO_DIFFERENCE,
+    ),
+    (
+        STAFF,
+        AFTER,
+        Ask::RehearseDrop(NEW_YEAR, Band::Deed, 9, 1),
+        NO_DEED,
+    ),
+    (
+        STAFF,
+        AFTER,
+        Ask::RehearseDrop(NEW_YEAR, Band::Takedown, 99, 1),
+        NO_ACCESSION,
+    ),
+    (ROOM, AFTER, Ask::RehearseRule(NEW_YEAR, OPEN), STAFF_ONLY),
+];
+
+#[test]
+fn rehearsals_when_memory_is_refused(rt: HostRuntime) -> Result<(), Fail> {
+    assert_visits_again(&rt, rt.alloc(), TAKEN, REHEARSALS)
 }
 
 const CONFLICT: Wanted = Wanted::Json(409, r#"{"error":"conflict"}"#);

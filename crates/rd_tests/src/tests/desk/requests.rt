@@ -52,6 +52,16 @@ pub(super) enum Ask {
     Catalogue,
     Survey(u32),
     Check(u32),
+    Deeds,
+    Takedowns,
+    Keys,
+    Checks,
+    /// Of a day.
+    Verdicts(i32),
+    /// Of a day, and a rule that would be put.
+    RehearseRule(i32, NewRule),
+    /// Of a day, and the place of a rule that would be dropped.
+    RehearseDrop(i32, Band, u32, u16),
     PutImage(NewImage),
     /// Of a deed: its number, its donor, and the day on which it was signed.
     PutDeed(u32, &'static str, i32),
@@ -124,6 +134,18 @@ fn what_of(alloc: Global, ask: Ask) -> Result<What, NoMemory> {
         Ask::Catalogue => What::Catalogue,
         Ask::Survey(acc) => What::Survey(acc),
         Ask::Check(acc) => What::Check(acc),
+        Ask::Deeds => What::Deeds,
+        Ask::Takedowns => What::Takedowns,
+        Ask::Keys => What::Keys,
+        Ask::Checks => What::Checks,
+        Ask::Verdicts(day) => What::Verdicts(day),
+        Ask::RehearseRule(day, rule) => What::RehearseRule(day, rule_of(alloc, rule)?),
+        Ask::RehearseDrop(day, band, scope, rank) => What::RehearseDrop {
+            day,
+            band,
+            scope,
+            rank,
+        },
         Ask::PutImage(image) => put_image_of(alloc, image)?,
         Ask::PutDeed(num, donor, signed) => put_deed_of(alloc, num, donor, signed)?,
         Ask::PutRule(rule) => What::PutRule(rule_of(alloc, rule)?),

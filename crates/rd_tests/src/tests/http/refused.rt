@@ -582,6 +582,78 @@ fn another_method_when_memory_is_refused(rt: HostRuntime) -> Result<(), Fail> {
     assert_plan(&rt, rt.alloc(), &METHOD)
 }
 
+const DEEDS: Plan =
+    like!(Plan, LISTING, visit: ("the deeds", AFTER, Came::Asked("GET /staff/deeds", STAFF, ""), reply!("200 OK", r#"{"deeds":[{"accessions":1,"deed":7,"donor":"A. Curator","rules":[{"audiences":["public"],"effect":"read","from":null,"rank":20,"select":{"all":true},"until":null}],"signed":"2019-05-04"}]}"#)));
+
+#[test]
+fn the_deeds_when_memory_is_refused(rt: HostRuntime) -> Result<(), Fail> {
+    assert_plan(&rt, rt.alloc(), &DEEDS)
+}
+
+const NO_TAKEDOWNS: Plan =
+    like!(Plan, LISTING, visit: ("the takedowns", AFTER, Came::Asked("GET /staff/takedowns", STAFF, ""), reply!("200 OK", r#"{"takedowns":[]}"#)));
+
+#[test]
+fn the_takedowns_when_memory_is_refused(rt: HostRuntime) -> Result<(), Fail> {
+    assert_plan(&rt, rt.alloc(), &NO_TAKEDOWNS)
+}
+
+const KEYS: Plan =
+    like!(Plan, LISTING, visit: ("the keys", AFTER, Came::Asked("GET /staff/keys", STAFF, ""), reply!("200 OK", r#"{"keys":[{"audience":"staff","digest":"ba7816bf8f01cfea414140de5dae2223b00361a396177a9cb410ff61f20015ad"}]}"#)));
+
+#[test]
+fn the_keys_when_memory_is_refused(rt: HostRuntime) -> Result<(), Fail> {
+    assert_plan(&rt, rt.alloc(), &KEYS)
+}
+
+const CHECKS: Plan =
+    like!(Plan, LISTING, visit: ("the latest checks", AFTER, Came::Asked("GET /staff/checks", STAFF, ""), reply!("200 OK", r#"{"checks":[{"accession":12,"day":null,"outcome":null}]}"#)));
+
+#[test]
+fn the_latest_checks_when_memory_is_refused(rt: HostRuntime) -> Result<(), Fail> {
+    assert_plan(&rt, rt.alloc(), &CHECKS)
+}
+
+const VERDICTS: Plan =
+    like!(Plan, LISTING, visit: ("the verdicts", AFTER, Came::Asked("GET /staff/verdicts/2030-01-01", STAFF, ""), csv!("157", "accession,deed,kind,slot,user,name,type,size,faults,public,public_rule,room,room_rule,staff,staff_rule\n12,7,d64,0,,HELLO,PRG,258,,read,R7.20,deny,D0,deny,D0\n")));
+
+#[test]
+fn the_verdicts_when_memory_is_refused(rt: HostRuntime) -> Result<(), Fail> {
+    assert_plan(&rt, rt.alloc(), &VERDICTS)
+}
+
+const REHEARSED: Plan =
+    like!(Plan, LISTING, visit: ("a takedown rehearsed", AFTER, Came::Asked("PUT /staff/rehearsals/2030-01-01/images/12/rules/1", STAFF, r#"{"audiences":["public"],"effect":"deny","select":{"prefix":"HELLO"}}"#), csv!("103", "accession,slot,name,audience,effect,rule,then_effect,then_rule\n12,0,HELLO,public,read,R7.20,deny,T12.1\n")));
+
+#[test]
+fn a_takedown_rehearsed_when_memory_is_refused(rt: HostRuntime) -> Result<(), Fail> {
+    assert_plan(&rt, rt.alloc(), &REHEARSED)
+}
+
+const DROP_REHEARSED: Plan =
+    like!(Plan, LISTING, visit: ("a rule dropped in a rehearsal", AFTER, Came::Asked("DELETE /staff/rehearsals/2030-01-01/deeds/7/rules/20", STAFF, ""), csv!("100", "accession,slot,name,audience,effect,rule,then_effect,then_rule\n12,0,HELLO,public,read,R7.20,deny,D0\n")));
+
+#[test]
+fn a_rule_dropped_in_a_rehearsal_when_memory_is_refused(rt: HostRuntime) -> Result<(), Fail> {
+    assert_plan(&rt, rt.alloc(), &DROP_REHEARSED)
+}
+
+const BAD_REHEARSAL: Plan =
+    like!(Plan, LISTING, visit: ("a rehearsal with a bad body", AFTER, Came::Asked("PUT /staff/rehearsals/2030-01-01/deeds/7/rules/20", STAFF, r#"{"audiences":[]}"#), BAD_BODY));
+
+#[test]
+fn a_rehearsal_with_a_bad_body_when_memory_is_refused(rt: HostRuntime) -> Result<(), Fail> {
+    assert_plan(&rt, rt.alloc(), &BAD_REHEARSAL)
+}
+
+const NO_DATE: Plan =
+    like!(Plan, LISTING, visit: ("verdicts of no date", AFTER, Came::Asked("GET /staff/verdicts/2030-02-30", STAFF, ""), NO_ROUTE));
+
+#[test]
+fn verdicts_of_no_date_when_memory_is_refused(rt: HostRuntime) -> Result<(), Fail> {
+    assert_plan(&rt, rt.alloc(), &NO_DATE)
+}
+
 /// A door of two visits that ask for the program, before it is open and after.
 fn two(alloc: Global) -> Result<MemoryDoor, NoMemory> {
     let mut visits = Vec::new(alloc);

@@ -143,6 +143,32 @@ fn deeds_when_memory_is_refused(rt: HostRuntime) -> Result<(), Fail> {
     Ok(())
 }
 
+/// Puts what the staff may list, and asks for all of it.
+const LISTS: &[Step<'static>] = &[
+    PUT_DEED,
+    Step::Does(Call::PutDeed(8, "B. Donor", 18_321), DONE),
+    PUT_IMAGE,
+    Step::Does(Call::PutRule(Named::Takedown, 12), DONE),
+    Step::Does(Call::PutRoomKey(Digest::Room), DONE),
+    Step::Does(Call::PutCheck(12, 21_914, Outcome::Changed), DONE),
+    Step::Does(Call::PutCheck(12, 21_915, Outcome::Sound), DONE),
+    Step::Tells(Question::Deeds(&[(7, "A. Curator", 18_020), (8, "B. Donor", 18_321)])),
+    Step::Tells(Question::RulesAt(Band::Takedown, 12, &[(Named::Takedown, 12)])),
+    Step::Tells(Question::RulesAt(Band::Deed, 7, &[])),
+    Step::Tells(Question::Keys(&[
+        (Digest::Room, Audience::Room),
+        (Digest::Staff, Audience::Staff),
+    ])),
+    Step::Tells(Question::LatestCheck(12, Some((21_915, Outcome::Sound)))),
+    Step::Tells(Question::LatestCheck(13, None)),
+];
+
+#[test]
+fn lists_when_memory_is_refused(rt: HostRuntime) -> Result<(), Fail> {
+    assert_steps_again(&rt, rt.alloc(), LISTS)?;
+    Ok(())
+}
+
 /// Puts an image, and asks for it in each way.
 const IMAGE: &[Step<'static>] = &[
     PUT_DEED,

@@ -1,5 +1,6 @@
 //! Calls of a store in tables: what is called, and what it has to answer.
 
+use super::lists::{has_deeds, has_keys, has_latest_check, rules_at};
 use super::told::{Told, are_told, is_told};
 use super::{
     ALL, Desk, NOT_STAFF, OTHER_DIGEST, ROOM_ALONE, filled, put_check, put_deed, put_rule, shelved,
@@ -118,6 +119,11 @@ pub(super) enum Call<'a> {
 #[derive(Clone, Copy)]
 pub(super) enum Question<'a> {
     Deed(u32, Option<(&'a str, i32)>),
+    /// All of them: the number, the donor and the day of each.
+    Deeds(&'a [(u32, &'a str, i32)]),
+    Keys(&'a [(Digest, Audience)]),
+    /// Of an accession: the day and the outcome.
+    LatestCheck(u32, Option<(i32, Outcome)>),
     Image(u32, Option<Given>),
     /// The same, and the store may have the image in memory.
     ImageAgain(u32, Option<Given>),
@@ -127,6 +133,8 @@ pub(super) enum Question<'a> {
     Register(&'a [(u32, Accession)]),
     AudienceOf(Digest, Option<Audience>),
     RulesFor(u32, &'a [Ruled]),
+    /// Of a band, and an accession or a deed.
+    RulesAt(Band, u32, &'a [Ruled]),
     /// Of an accession and a deed.
     RulesUnder(u32, u32, &'a [Ruled]),
     /// Among all rules, the takedowns of an accession and the rules of a deed.
@@ -154,7 +162,7 @@ pub(super) const MISSING: Result<(), StoreFault> = Err(StoreFault::Missing);
 /// What it answers where something else stands.
 pub(super) const CONFLICT: Result<(), StoreFault> = Err(StoreFault::Conflict);
 
-fn digest_of(digest: Digest) -> &'static [u8; 32] {
+pub(super) fn digest_of(digest: Digest) -> &'static [u8; 32] {
     match digest {
         Digest::Staff => &STAFF_DIGEST,
         Digest::Room => &ROOM_DIGEST,
@@ -356,7 +364,7 @@ fn deed<S: Alter>(desk: &mut Store<S>, num: u32) -> Result<Option<DeedRow>, Stor
     desk.deed(num)
 }
 
-fn is_deed(found: Option<&DeedRow>, wanted: Option<(&str, i32)>) -> bool {
+pub(super) fn is_deed(found: Option<&DeedRow>, wanted: Option<(&str, i32)>) -> bool {
     match (found, wanted) {
         (Some(deed), Some((donor, signed))) => {
             deed.donor.as_str() == donor && deed.signed == signed
@@ -599,6 +607,9 @@ pub(super) fn tells_so<S: Alter>(
 ) -> Result<Result<bool, StoreFault>, NoMemory> {
     Ok(match question {
         Question::Deed(num, wanted) => has_deed(desk, num, wanted),
+        Question::Deeds(wanted) => has_deeds(alloc, desk, wanted),
+        Question::Keys(wanted) => has_keys(alloc, desk, wanted),
+        Question::LatestCheck(acc, wanted) => has_latest_check(desk, acc, wanted),
         Question::Image(acc, wanted) => has_image(alloc, image(alloc, desk, acc), wanted)?,
         Question::ImageAgain(acc, wanted) => {
             has_image(alloc, image_again(alloc, desk, acc), wanted)?
@@ -608,6 +619,9 @@ pub(super) fn tells_so<S: Alter>(
         Question::Register(wanted) => has_register(alloc, desk, wanted),
         Question::AudienceOf(digest, wanted) => has_audience(desk, digest, wanted),
         Question::RulesFor(acc, wanted) => has_rules(alloc, rules_for(alloc, desk, acc), wanted)?,
+        Question::RulesAt(band, scope, wanted) => {
+            has_rules(alloc, rules_at(alloc, desk, band, scope), wanted)?
+        }
         Question::RulesUnder(acc, deed, wanted) => {
             has_rules(alloc, rules_under(alloc, desk, acc, deed), wanted)?
         }

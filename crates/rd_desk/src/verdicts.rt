@@ -1,0 +1,173 @@
+//! The verdicts on all files for each audience, for the staff. Each function fails with `Unavailable` if the store
+//! fails or memory runs out.
+
+ghost use Rattle.std.specs.Prelude.{◌≡◌, ◌++◌, ℕ, ℤ, All, IfOk, List, length, map};
+ghost use Rattle.std.specs.FinMap.{keys};
+ghost use Rattle.std.specs.List.{AllZip};
+ghost use Rattle.rd_policy.specs.Verdicts.{AreInOrder};
+ghost use Rattle.rd_store.specs.Held.{IsClean, IsOpen, Keeps, Reads, desk};
+ghost use Rattle.rd_protocol.specs.State.{Desk, all_rules};
+ghost use Rattle.rd_protocol.specs.Verdicts.{AreVerdicts, IsDecided, IsVerdictsOf};
+ghost use Rattle.rd_desk.specs.Calls.{Carries, StandsAs};
+ghost use Rattle.rd_desk.specs.Rehearsing.{with_verdicts_on};
+
+use crate::asking::{Unavailable, count};
+use crate::overviews::BATCH;
+use crate::queries::{Caller, judge_in_turn};
+use rd_geometry::Items;
+use rd_policy::{Audience, Rule, Verdict};
+use rd_protocol::{FileVerdicts, Response, Verdicts, What};
+use rd_store::{Indexed, Rulebook, Store};
+use rd_volume::Found;
+use sqlite::Alter;
+use std::alloc::Global;
+
+/// The verdicts on a file.
+#[derive(Clone, Copy)]
+pub(crate) struct AudienceVerdicts {
+    /// That for the public.
+    pub public: Verdict,
+    /// That for the reading room.
+    pub room: Verdict,
+    /// That for the staff.
+    pub staff: Verdict,
+}
+
+/// The verdicts of takedowns and rules on a file on a day.
+pub(crate) fn verdicts_on(
+    takedowns: &[Rule],
+    rules: &[Rule],
+    day: i32,
+    file: &Found,
+) -> AudienceVerdicts
+    requires order { AreInOrder (takedowns.now ++ rules.now) }
+    ensures { IsDecided (takedowns.now ++ rules.now) day (with_verdicts_on file.now result) }
+{
+    let audience = Audience::Public;
+    let public = judge_in_turn(takedowns, rules, &Caller { audience, day }, file);
+    let audience = Audience::Room;
+    let room = judge_in_turn(takedowns, rules, &Caller { audience, day }, file);
+    let audience = Audience::Staff;
+    let staff = judge_in_turn(takedowns, rules, &Caller { audience, day }, file);
+    AudienceVerdicts {
+        public,
+        room,
+        staff,
+    }
+}
+
+/// The files, each with the verdicts of takedowns and rules on it on a day.
+fn decided(
+    alloc: Global,
+    takedowns: &[Rule],
+    rules: &[Rule],
+    day: i32,
+    files: Items<Found>,
+) -> Result<Items<FileVerdicts>, Unavailable>
+    requires order { AreInOrder (takedowns.now ++ rules.now) }
+    ensures files { IfOk result (λ lines. map (λ line. line.file) lines ≡ files) }
+    ensures decided { IfOk result (All (IsDecided (takedowns.now ++ rules.now) day)) }
+{
+    let mut lines = Vec::new(alloc);
+    for file in files.into_vec() {
+        let verdicts = verdicts_on(takedowns, rules, day, &file);
+        let line = FileVerdicts {
+            file,
+            public: verdicts.public,
+            room: verdicts.room,
+            staff: verdicts.staff,
+        };
+        let Ok(()) = lines.push(line) else {
+            return Err(Unavailable);
+        };
+    }
+    Ok(Items::of(lines))
+}
+
+/// An accession, with the verdicts on its files on a day.
+fn verdicts_of(
+    alloc: Global,
+    rules: &Rulebook,
+    day: i32,
+    one: Indexed,
+) -> Result<Verdicts, Unavailable>
+    ensures { IfOk result (λ verdicts. (desk : Desk) → rules.now ≡ all_rules desk → StandsAs desk one → IsVerdictsOf desk day one.acc verdicts) }
+{
+    let (takedowns, others) = rules.under(one.acc, one.deed);
+    let files = decided(alloc, takedowns, others, day, one.files)?;
+    Ok(Verdicts {
+        accession: one.acc,
+        deed: one.deed,
+        kind: one.kind,
+        files,
+    })
+}
+
+/// These verdicts, and then those on the accessions of a batch.
+fn with_verdicts(
+    alloc: Global,
+    verdicts: Vec<Verdicts>,
+    rules: &Rulebook,
+    day: i32,
+    batch: Vec<Indexed>,
+) -> Result<Vec<Verdicts>, Unavailable>
+    ensures { IfOk result (λ all. (desk : Desk) (accs : List ℕ) → rules.now ≡ all_rules desk → All (StandsAs desk) batch.items
+        → AllZip (IsVerdictsOf desk day) accs verdicts.items
+        → AllZip (IsVerdictsOf desk day) (accs ++ map (λ one. one.acc) batch.items) all.items) }
+{
+    let mut all = verdicts;
+    for one in batch {
+        let verdicts = verdicts_of(alloc, rules, day, one)?;
+        let Ok(()) = all.push(verdicts) else {
+            return Err(Unavailable);
+        };
+    }
+    Ok(all)
+}
+
+/// The accessions, each with the verdicts on its files on a day. `accessions` is how many there are.
+fn all_verdicts<S: Alter>(
+    store: &mut Store<S>,
+    alloc: Global,
+    day: i32,
+    rules: &Rulebook,
+    accessions: usize,
+) -> Result<Items<Verdicts>, Unavailable>
+    requires awake { IsClean S.Store store.old → IsOpen S.Store store.old }
+    requires rules { IsOpen S.Store store.old → rules.now ≡ all_rules (desk S.Store store.old) }
+    requires count { IsOpen S.Store store.old → accessions ≡ length (keys (desk S.Store store.old).images) }
+    ensures { Reads S.Store store.old store.new result (AreVerdicts (desk S.Store store.old) day) }
+{
+    let mut verdicts = Vec::new(alloc);
+    store.at_rest();
+    for at in 0..accessions / BATCH + 1 {
+        let batch = store.batch(alloc, BATCH * at, BATCH)?;
+        verdicts = with_verdicts(alloc, verdicts, rules, day, batch)?;
+    }
+    Ok(Items::of(verdicts))
+}
+
+/// All accessions, each with the verdicts on its files on a day.
+fn verdicts_of_day<S: Alter>(
+    store: &mut Store<S>,
+    alloc: Global,
+    day: i32,
+) -> Result<Items<Verdicts>, Unavailable>
+    ensures { Reads S.Store store.old store.new result (AreVerdicts (desk S.Store store.old) day) }
+{
+    let rules = store.rulebook(alloc)?;
+    let accessions = count(store, alloc)?;
+    all_verdicts(store, alloc, day, &rules, accessions)
+}
+
+/// The answer to the staff that gives the verdicts on all files on a day.
+pub(crate) fn verdicts<S: Alter>(
+    store: &mut Store<S>,
+    alloc: Global,
+    day: i32,
+) -> Result<Response, Unavailable>
+    ensures carries { (visited : ℤ) → Carries S.Store store.old store.new visited (What.Verdicts day) result }
+    ensures keeps { Keeps S.Store store.old store.new }
+{
+    Ok(Response::Verdicts(verdicts_of_day(store, alloc, day)?))
+}

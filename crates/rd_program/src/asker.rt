@@ -1,0 +1,48 @@
+//! Who asks a desk a question, and its reply.
+
+ghost use Rattle.std.specs.Prelude.{◌≡◌, option_map};
+ghost use Rattle.sha2.specs.Sha256.{sha256};
+ghost use Rattle.rd_policy.specs.Days.{HasDay};
+ghost use Rattle.rd_policy.specs.Zones.{day_number};
+ghost use Rattle.rd_protocol.specs.Requests.{IsRequest};
+ghost use Rattle.rd_desk.specs.Served.{Serves};
+
+use rd_desk::{Desk, Reply, Request, What};
+use sha2::{Digest, Sha256};
+use sqlite::Alter;
+use std::alloc::Global;
+
+/// Who asks the desk, and when.
+#[derive(Clone, Copy)]
+pub(crate) struct Asker {
+    /// The SHA-256 of the desk key; `None` if there is none.
+    pub(crate) badge: Option<[u8; 32]>,
+    /// The moment, in seconds since 1970-01-01T00:00:00 UTC, which has a day.
+    pub(crate) seconds: i64,
+}
+
+/// The SHA-256 of a desk key; `None` if there is none.
+pub(crate) fn badge_of(key: Option<&[u8]>) -> Option<[u8; 32]>
+    ensures { result ≡ option_map sha256 (option_map (λ key. key.now) key.entry) }
+{
+    match key {
+        Some(key) => Some(Sha256::digest(key)),
+        None => None,
+    }
+}
+
+/// Asks a desk, and gives its reply.
+pub(crate) fn reply_to<S: Alter + Drop>(
+    alloc: Global,
+    what: What,
+    asker: Asker,
+    desk: &mut Desk<S>,
+) -> Reply
+    requires day { HasDay asker.seconds }
+    requires fits { IsRequest what }
+    ensures serves { Serves S.Store desk.old.store desk.new.store (day_number asker.seconds desk.old.zone)
+        (record { badge = asker.badge; what = what }) result }
+{
+    let badge = asker.badge;
+    desk.answer(alloc, asker.seconds, &Request { badge, what })
+}

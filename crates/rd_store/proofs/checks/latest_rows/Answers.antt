@@ -1,0 +1,32 @@
+use Rattle.std.proofs.Common.{[], ◌∷◌, pos}
+use Rattle.std.proofs.lemmas.Result.{IfOk-weaker}
+use Rattle.sqlite.specs.declared.types.Value.TheVariants.{Int}
+use Rattle.sqlite.specs.Held.{state}
+use Rattle.rd_tables.proofs.Reading.{shown_was_open, shown_starts}
+use Rattle.rd_store.proofs.Laws.{holds_tables, stays_desk}
+use Rattle.rd_store.proofs.LatestFound.{latest_asks, latest_found}
+use Rattle.rd_store.proofs.checks.latest_rows.Goals as goal
+
+pub read_all-requires-clause-tables : goal.read_all-requires-clause-tables
+read_all-requires-clause-tables g c = holds_tables (state g.S.Store c.args.conn.now) c.requires.holds
+
+pub read_all-requires-clause-plain : goal.read_all-requires-clause-plain
+read_all-requires-clause-plain g c = latest_asks.plain
+
+pub returns-clause-asks : goal.returns-clause-asks
+returns-clause-asks g c = record {
+  stays = c.read_all.ensures.asks.stays;
+  ends_open = c.read_all.ensures.asks.ends_open;
+  fault = c.read_all.ensures.asks.fault;
+  answer = λ is_open.
+      let old = state g.S.Store c.args.conn.now in
+      let new = state g.S.Store c.read_all.new.conn in
+      let params = Int (pos c.args.acc) ∷ [] in
+      let shown = (rw c.to_sql-key.ensures at (c.read_all.ensures.asks.answer is_open)) in
+      IfOk-weaker c.read_all.result _ _ (λ rows h.
+      let at = c.requires.holds (shown_was_open _ params old new rows.items h) in
+      latest_found c.args.acc _ rows.items at.holds.of.rows.checks (shown_starts latest_asks params old new at.tables.schema rows.items h)) shown;
+}
+
+pub returns-clause-kept : goal.returns-clause-kept
+returns-clause-kept g c = stays_desk g.S.Store c.args.conn.now c.read_all.new.conn c.read_all.ensures.asks.stays c.requires.holds

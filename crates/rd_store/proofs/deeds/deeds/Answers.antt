@@ -1,0 +1,15 @@
+use Rattle.std.proofs.Common.{rules, ◌∙◌, ap, map}
+use Rattle.std.proofs.lemmas.Result.{IfOk-weaker}
+use Rattle.rd_store.specs.Spelled.{deed_sheet}
+use Rattle.rd_store.proofs.Found.{deeds_back}
+use Rattle.rd_store.proofs.deeds.deeds.Goals as goal
+
+pub returns-clause-asks : goal.returns-clause-asks
+returns-clause-asks g c = record {
+  stays = c.numbered_rows.ensures.asks.stays;
+  ends_open = search rules;
+  fault = search rules;
+  answer = λ is_open.
+      let rows = c.deref.ensures.value ∙ c.in_ok-rows.ensures.asks.answer is_open in
+      IfOk-weaker c.read_deeds.result _ _ (λ read is. is ∙ ap (map deed_sheet.entry) rows ∙ deeds_back _) c.read_deeds.ensures.entries;
+}

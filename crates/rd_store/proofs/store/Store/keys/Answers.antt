@@ -1,0 +1,5 @@
+use Rattle.rd_store.proofs.Lasting.{memory_stays}
+use Rattle.rd_store.proofs.store.Store.keys.Goals as goal
+
+pub invariant_of-self : goal.invariant_of-self
+invariant_of-self g c = memory_stays g.S.Store c.self.inside.conn c.keys.new.conn c.self.inside.last c.self.inside.register c.keys.ensures.kept c.keys.ensures.asks.stays c.self.invariant.1 c.self.invariant.2

@@ -1,0 +1,174 @@
+"""A look through others' eyes, and what opens in the next year, on the staff's page."""
+
+import csv
+import datetime
+import time
+
+import made_museum
+from page_tabs import StaffTab, door
+from pages_rehearsal import HARMFUL, harmful_disk
+
+EFFECTS = {"read": "read it", "list": "see that it is there", "deny": "see nothing of it"}
+AUDIENCES = {"public": "the public", "room": "the reading room", "staff": "the staff"}
+TODAY = datetime.datetime.now(datetime.timezone.utc).date()
+
+
+def verdicts(tab, day):
+    """The lines of the verdicts of a day."""
+    text = tab.door.museum.show_verdicts(None, day).reply.partition(b"\r\n\r\n")[2].decode()
+    return list(csv.DictReader(text.splitlines()))
+
+
+def see_day(seen, tab, day):
+    """On a day each audience sees what the verdicts say."""
+    tab.go("eyes")
+    tab.fill("eyes", day=day)
+    tab.press("#eyes [type=submit]")
+    lines = verdicts(tab, day)
+    for audience, words in AUDIENCES.items():
+        tab.fill("eyes", audience=audience, closed=False, words="")
+        shown = tab.read()
+        listed = [line for line in lines if line[audience] != "deny"]
+        rows = [[line["accession"], line["slot"], EFFECTS[line[audience]], line[f"{audience}_rule"]] for line in listed]
+        came = [[row[0], row[2], row[5], row[6]] for row in shown["rows"]]
+        seen.same(f"eyes: {day}: {audience}", rows, came)
+        count = {effect: sum(line[audience] == effect for line in lines) for effect in EFFECTS}
+        summary = f"On {day} {words} may read {count['read']} of {len(lines)} files, "
+        summary += f"only see in the list {count['list']}, and see nothing of {count['deny']}."
+        seen.same(f"eyes: {day}: {audience}: in short", summary, shown["stands"][0])
+        tab.fill("eyes", closed=True)
+        seen.same(f"eyes: {day}: {audience}: all", len(lines), len(tab.read()["rows"]))
+
+
+def see_search(seen, tab):
+    tab.fill("eyes", audience="staff", closed=True)
+    for words, wanted in (("guide", 2), ("1002", 3), ("r9.20", 7), ("=1+1", 1), ("no such", 0)):
+        tab.fill("eyes", words=words)
+        shown = tab.read()
+        count = f"{wanted} file{'' if wanted == 1 else 's'} shown here."
+        seen.same(f"eyes: {words}", (wanted, count), (len(shown["rows"]), shown["stands"][1]))
+
+
+def see_saved(seen, tab):
+    """The table that is saved has every file that is shown, and no formula."""
+    tab.fill("eyes", words="1066")
+    tab.browser.click("#eyes [name=save]")
+    path = tab.browser.folder / "downloads" / f"staff-{TODAY}.csv"
+    end = time.monotonic() + 10
+    while time.monotonic() < end and not path.exists():
+        time.sleep(0.05)
+    rows = list(csv.reader(path.read_text().splitlines()))
+    names = [name if name[0] != "=" else f"'{name}" for name in HARMFUL]
+    seen.same("saved: names", names, [row[6] for row in rows[1:]])
+    line = ["1066", "", "7", "d64", "0", "", "../../X", "../../X", "SEQ", "read them", "R7.20"]
+    seen.same("saved: a line", line, rows[1])
+
+
+def see_year(seen, tab):
+    """Each day of the next year on which a rule begins or ends, and no other."""
+    museum = tab.door.museum
+    days = [str(TODAY + datetime.timedelta(number)) for number in (10, 20, 365, 366)]
+    museum.rules["R9"][5] = made_museum.rule(5, "deny", ["public"], {"slot": 0}, days[0], days[1])
+    museum.rules["T1002"] = {1: made_museum.rule(1, "list", ["room", "public"], None, days[2], days[3])}
+    tab.go("year")
+    shown = tab.press("#year [type=submit]")
+    seen.same("year: how many days", "In the next year a rule begins or ends on 3 days.", shown["stands"][0])
+    parts = "document.querySelectorAll('#year .stands > *')"
+    came = tab.browser.script(f"return Array.from({parts}, (one) => one.tagName + ' ' + one.textContent)")[1:]
+    # slot 0 of the three disks of deed 9: the last of them is damaged, and hidden all the same
+    three = "WELCOME.TXT (disk 1001, slot 0)TOUR (disk 1002, slot 0)LOGBOOK (disk 1003, slot 0)"
+    listed = "TOUR (disk 1002, slot 0)---------------- (disk 1002, slot 1)GUIDE (disk 1002, slot 2)"
+    wanted = [
+        f"H2 On {days[0]}",
+        "P Closes for the public: 3 files. Now they may read them; then they see nothing of them.", f"UL {three}",
+        f"H2 On {days[1]}",
+        "P Opens for the public: 3 files. Now they see nothing of them; then they may read them.", f"UL {three}",
+        f"H2 On {days[2]}",
+        "P Closes for the public and the reading room: 3 files. "
+        "Now they may read them; then they may see that they are there.",
+        f"UL {listed}",
+    ]
+    seen.same("year: day by day", wanted, came)
+    seen.same("year: done", [f"Done: 3 days from {TODAY} on."], shown["result"])
+
+
+def see_bound(seen, tab):
+    """Of more days than the page names, it looks at the first ones; and it stops when it is asked to."""
+    museum = tab.door.museum
+    for number in range(1, 71):
+        day = str(TODAY + datetime.timedelta(number))
+        museum.rules["R9"][100 + number] = made_museum.rule(100 + number, "list", ["public"], None, day)
+    tab.go("deeds")
+    shown = tab.go("year")
+    bound = tab.browser.script("return document.querySelector('#year .bound').textContent")
+    seen.same("bound: it is named", "at most 60 of them", bound)
+    shown = tab.press("#year [type=submit]")
+    words = "In the next year rules begin or end on 71 days. These are the first 60."
+    seen.same("bound: the first days", words, shown["stands"][0])
+    heads = "return document.querySelectorAll('#year .stands h2').length"
+    seen.same("bound: as many", 60, tab.browser.script(heads))
+    tab.door.before = lambda method, path: time.sleep(0.3) if "/verdicts/" in path else None
+    tab.browser.click("#year [type=submit]")
+    tab.wait(lambda shown: shown["busy"])
+    time.sleep(0.5)
+    tab.browser.click("#year .result button")
+    shown = tab.wait(lambda shown: not shown["busy"])
+    seen.same("bound: stopped", ["Stopped."], shown["result"])
+    tab.door.before = lambda method, path: None
+
+
+def see_large(seen, browser):
+    """200,000 files: read with progress, looked through, and scrolled without a stop."""
+    with door(made_museum.many(10000, 20)) as staffs:
+        tab = StaffTab(browser, staffs)
+        tab.begin()
+        tab.go("eyes")
+        tab.browser.script(WATCH)
+        tab.browser.click("#eyes [type=submit]")
+        words = "return document.querySelector('#eyes .result').textContent"
+        came = set()
+        end = time.monotonic() + 60
+        while time.monotonic() < end and "Read:" not in "".join(came):
+            came.add(tab.browser.script(words))
+            time.sleep(0.05)
+        seen.same("large: progress", True, sum(text.startswith("Reading") for text in came) > 3)
+        shown = tab.read()
+        seen.same("large: in short", True, "of 200,000 files" in shown["stands"][0])
+        tab.fill("eyes", words="letter 7")
+        seen.same("large: found", True, 0 < len(tab.read()["rows"]) <= 600)
+        see_quick(seen, tab)
+
+
+def see_quick(seen, tab):
+    """No piece of work is long. Other work on the machine can hold it up, so what is long is tried again."""
+    longest = [tab.browser.script("return window.longest")]
+    while len(longest) < 3 and min(longest) >= 200:
+        tab.browser.script("window.longest = 0")
+        tab.press("#eyes [type=submit]")
+        tab.fill("eyes", words=f"letter {len(longest)}")
+        longest.append(tab.browser.script("return window.longest"))
+    print(f"eyes: the longest piece of work: {min(longest):.0f} ms, below 200 ms", flush=True)
+    seen.same(f"large: the longest piece of work: {longest}", True, min(longest) < 200)
+
+
+WATCH = """
+window.longest = 0;
+new PerformanceObserver((list) => {
+  for (const entry of list.getEntries()) window.longest = Math.max(window.longest, entry.duration);
+}).observe({ type: "longtask" });
+"""
+
+
+def see(seen, browser):
+    museum = made_museum.small()
+    harmful_disk(museum, 1066, 7)
+    museum.rules["R7"].pop(10)
+    with door(museum) as staffs:
+        tab = StaffTab(browser, staffs)
+        tab.begin()
+        museum.rules["R7"][10] = made_museum.rule(10, "deny", ["public", "room"], until="2030-01-01")
+        for day in ("2029-12-31", "2030-01-01", str(TODAY)):
+            see_day(seen, tab, day)
+        for group in (see_search, see_saved, see_year, see_bound):
+            group(seen, tab)
+    see_large(seen, browser)

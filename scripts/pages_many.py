@@ -1,0 +1,211 @@
+"""One form for many, on the staff's page: the same takedown for a list of disks, and a sheet with its dumps."""
+
+import csv
+import time
+
+import client_cases
+import made_museum
+from client_cases import bytes_of, digest
+from page_tabs import StaffTab, door
+
+CHOSEN = ["1001-1002, 1005 1004", "1001–1002,1004;1005"]
+LISTS = {
+    "1001": True, "1001-1011, 1020": True, "1-1000": True, "1-1001": False, "5-3": False, "0": False, "1001-": False,
+    "": False, "x": False, "999999": True, "1000000": False, "1001,,1002": True, " 1001 ": True,
+}
+TAKES = "const at = document.querySelector(arguments[0]); at.value = arguments[1]; "
+TAKES += "at.dispatchEvent(new Event('input', { bubbles: true })); return at.checkValidity();"
+
+
+def downloaded(tab, name):
+    """The records of a table that the page saved."""
+    path = tab.browser.folder / "downloads" / name
+    end = time.monotonic() + 10
+    while time.monotonic() < end and not path.exists():
+        time.sleep(0.05)
+    records = list(csv.reader(path.read_text().splitlines()))
+    path.unlink()
+    return records
+
+
+def see_lists(seen, tab):
+    tab.begin()
+    tab.go("takedowns")
+    came = {text: tab.browser.script(TAKES, "#takedowns [name=scope]", text) for text in LISTS}
+    seen.same("lists: what the field takes", LISTS, came)
+
+
+def type_many(tab, scope):
+    tab.rule("takedowns", scope, "", "deny", "all", None, "public", "room")
+    return tab.submit("takedowns")
+
+
+def see_takedowns(seen, tab):
+    """One takedown of four disks; a disk that there is not is left out."""
+    tab.sent()
+    for text in CHOSEN:
+        shown = type_many(tab, f"{text} 1099")
+        seen.same(f"many: {text}: asked", "Put a takedown of 5 disks?", shown["sure"][0])
+        seen.same(f"many: {text}: left out", "There is no disk 1099: left out.", shown["sure"][2])
+        closes = "Closes for the public and the reading room: 10 files. "
+        closes += "Now they may read them; then they see nothing of them."
+        seen.same(f"many: {text}: in all", closes, shown["sure"][4])
+        tab.answer(False)
+    seen.same("many: nothing is sent", [], tab.sent())
+    type_many(tab, f"{CHOSEN[0]} 1099")
+    puts = []
+    tab.door.before = lambda method, path: b"" if is_third(puts, method, path) else None
+    shown = tab.answer(True)
+    seen.same("many: the connection is lost", "2 takedowns put, 1 failed, 1 not sent yet.", shown["result"][0])
+    seen.same("many: what was sent", [1001, 1002], [one for one in (1001, 1002, 1004, 1005) if stands(tab, one)])
+    tab.door.before = lambda method, path: None
+    shown = tab.press("#takedowns [name=go-on]")
+    seen.same("many: gone on", "4 takedowns put, 0 failed.", shown["result"][0])
+    seen.same("many: all stand", [True] * 4, [stands(tab, scope) for scope in (1001, 1002, 1004, 1005)])
+    tab.browser.click("#takedowns [name=save-report]")
+    rows = [[str(scope), "1000", "done", "Ada Archivist", "a letter of today"] for scope in (1001, 1002, 1004, 1005)]
+    heads = ["accession", "rank", "outcome", "name", "reason"]
+    seen.same("many: the report", [heads, *rows], downloaded(tab, f"takedowns-{tab.door.museum.day}.csv"))
+    shown = type_many(tab, "1001-1002")
+    tab.answer(True)
+    ranks = [sorted(tab.door.museum.rules[f"T{one}"]) for one in (1001, 1002)]
+    seen.same("many: each at its own rank", [[990, 1000]] * 2, ranks)
+
+
+def stands(tab, scope):
+    return bool(tab.door.museum.rules.get(f"T{scope}"))
+
+
+def is_third(puts, method, path):
+    if method != "PUT" or "/rehearsals/" in path:
+        return False
+    puts.append(path)
+    return len(puts) == 3
+
+
+HELLO, RECORD, MARKED = client_cases.PROGRAM_DISK, client_cases.RECORD_DISK, client_cases.MARKED_DISK
+# The dumps by their names, and the rows of the sheet.
+DUMPS = {
+    "Müller box 1, disk 048.img": RECORD, "hello.d64": HELLO, "marked.d64": MARKED,
+    "other.d64": client_cases.LOOP_DISK, "extra.d64": bytes_of("images", "museum.d64"),
+    "..%2f..%2fX": bytes_of("images", "welcome.img"), "=1+1": RECORD,
+}
+ROWS = [
+    ("2001", "cpm8", "9", digest(RECORD), "box 1/Müller box 1, disk 048.img"),
+    ("2002", "d64", "9", digest(HELLO).upper(), "C:\\dumps\\hello.d64"),
+    ("2003", "d64", "9", digest(MARKED), "marked.d64"),
+    ("2004", "d64", "9", digest(HELLO), "other.d64"), ("2005", "d64", "9", digest(HELLO), "gone.d64"),
+    ("2006", "cpm8", "9", digest(DUMPS["..%2f..%2fX"]), "..%2f..%2fX"), ("2007", "cpm8", "99", digest(RECORD), "=1+1"),
+]
+HEADS = "accession,kind,deed,sha256,file"
+
+
+def sheet_text(rows, end="\r\n"):
+    lines = [HEADS, *(",".join(f'"{field}"' if "," in field else field for field in row) for row in rows)]
+    return "\ufeff" + end.join(lines) + end
+
+
+def choose(tab, files):
+    """Chooses files of these names and bytes."""
+    folder = tab.browser.folder / "dumps"
+    folder.mkdir(exist_ok=True)
+    for name, data in files.items():
+        (folder / name).write_bytes(data)
+    tab.browser.type("#disks [name=files]", "\n".join(str(folder / name) for name in files))
+    return tab.read()
+
+
+WRONG = {
+    "accession,kind,deed\n": f"The first line of the sheet has to be {HEADS}.",
+    "": f"The first line of the sheet has to be {HEADS}.",
+    f"{HEADS}\n1,d64,1,{'0' * 64}\n": "Row 1 of the sheet: it has 4 fields, and not 5.",
+    f"{HEADS}\n01,d64,1,{'0' * 64},x\n": "Row 1 of the sheet: accession has to be a number from 1 to 999999.",
+    f"{HEADS}\n1,d71,1,{'0' * 64},x\n": "Row 1 of the sheet: kind has to be cpm8, d64 or d64e.",
+    f"{HEADS}\n1,d64,1,{'0' * 63},x\n": "Row 1 of the sheet: sha256 has to be 64 hexadecimal digits.",
+    f'{HEADS}\n1,d64,1,{"0" * 64},"x\n': "A quote in the sheet does not end.",
+}
+
+
+def see_wrong_sheets(seen, tab):
+    tab.go("disks")
+    for text, words in WRONG.items():
+        shown = choose(tab, {"wrong.csv": text.encode()})
+        seen.same(f"sheet: {text[-20:]!r}", [words], shown["result"])
+
+
+def results(shown):
+    return {row[0]: (row[4], row[5], row[6]) for row in shown["list"]}
+
+
+OTHER_KIND = "The sheet says Commodore 1541, and the length is another. The page does not send it."
+OTHER_SUM = "The sheet says another SHA-256. The page does not send it."
+NO_DEED = "There is no such deed. Check its number, or put the deed first. (no-deed)"
+
+
+def see_sheet(seen, tab):
+    """The dumps of a sheet are found by their names, compared, and put; what is wrong is not sent."""
+    shown = choose(tab, {**DUMPS, "shelf.CSV": sheet_text(ROWS).encode()})
+    words = "7 files chosen. The sheet has 7 rows: 4 ready, 2 with another disk than it says, 1 without a file."
+    seen.same("sheet: chosen", [words], shown["result"])
+    came = results(shown)
+    first = {
+        "Müller box 1, disk 048.img": ("2001", "9", ""), "hello.d64": ("2002", "9", ""),
+        "marked.d64": ("2003", "9", OTHER_KIND), "other.d64": ("2004", "9", OTHER_SUM),
+        "extra.d64": ("", "", "The sheet does not name it: left out."),
+        "..%2f..%2fX": ("2006", "9", ""), "=1+1": ("2007", "99", ""),
+        "gone.d64": ("2005", "9", "No file of this name is chosen."),
+    }
+    seen.same("sheet: row by row", first, came)
+    tab.sent()
+    puts = []
+    tab.door.before = lambda method, path: b"" if is_third(puts, method, path) else None
+    shown = tab.submit("disks")
+    seen.same("sheet: the connection is lost", "2 disks put, 1 failed, 1 not sent yet.", shown["result"][0])
+    tab.door.before = lambda method, path: None
+    shown = tab.press("#disks [name=go-on]")
+    seen.same("sheet: gone on", "3 disks put, 1 failed.", shown["result"][0])
+    done = {name: (acc, deed, "done") for name, (acc, deed, says) in first.items() if says == "" and acc != "2007"}
+    seen.same("sheet: the outcomes", {**first, **done, "=1+1": ("2007", "99", NO_DEED)}, results(shown))
+    held = {acc: tab.door.museum.images[acc].bytes for acc in range(2001, 2008) if acc in tab.door.museum.images}
+    wanted = {2001: RECORD, 2002: HELLO, 2006: DUMPS["..%2f..%2fX"]}
+    seen.same("sheet: what the desk has", True, wanted == held)
+    seen.same("sheet: sent with a name", {"Ada%20Archivist"}, {name for _, _, name, _ in tab.sent()})
+    tab.browser.click("#disks [name=save-report]")
+    rows = downloaded(tab, f"disks-{tab.door.museum.day}.csv")
+    line = ["2007", "cpm8", "99", digest(RECORD), "'=1+1", NO_DEED]
+    seen.same("sheet: the report", [line], [row[:6] for row in rows if row[0] == "2007"])
+    seen.same("sheet: all in the report", ["accession", "2001", "2002", "2006", "2007"], [row[0] for row in rows])
+    tab.door.museum.deeds[99] = ("Late Donor", "2020-01-01")
+    shown = tab.press("#disks [name=go-on]")
+    seen.same("sheet: the refused one again", "4 disks put, 0 failed.", shown["result"][0])
+    tab.browser.click("#disks [name=empty]")
+
+
+def see_by_hand(seen, tab):
+    """Without a sheet each dump has its fields, and the others are numbered from the first."""
+    shown = choose(tab, {"one.d64": HELLO, "two.d64": MARKED, "short.d64": bytes(100)})
+    seen.same("by hand: chosen", ["3 files chosen."], shown["result"])
+    row = "#disks tbody tr:first-child td[data-label={}] input"
+    tab.set(row.format("Accession"), "3001")
+    tab.set(row.format("Deed"), "9")
+    tab.browser.click("#disks [name=count]")
+    shown = tab.submit("disks")
+    seen.same("by hand: put", "2 disks put, 0 failed.", shown["result"][0])
+    seen.same("by hand: numbers", ["3001", "3002"], [row[4] for row in shown["list"]][:2])
+    tab.browser.click("#disks [name=empty]")
+    for name in ("same one.d64", "same two.d64"):
+        shown = choose(tab, {name: HELLO})
+    sheet = sheet_text([("3003", "d64", "9", digest(HELLO), "same two.d64")], "\n")
+    shown = choose(tab, {"later.csv": sheet.encode()})
+    came = {name: says for name, (_, _, says) in results(shown).items()}
+    wanted = {"same one.d64": "The sheet does not name it: left out.", "same two.d64": ""}
+    seen.same("by hand: a sheet that comes later", wanted, came)
+
+
+def see(seen, browser):
+    museum = made_museum.small()
+    museum.rules["R7"].pop(10)
+    with door(museum) as staffs:
+        tab = StaffTab(browser, staffs)
+        for group in (see_lists, see_takedowns, see_wrong_sheets, see_sheet, see_by_hand):
+            group(seen, tab)

@@ -1,0 +1,252 @@
+"""The page for readers over a museum of 10,000 disks and 200,000 files: how soon it is ready, that it scrolls without a
+stop, what it finds, and that Back leads to the same place of a list."""
+
+import csv
+import time
+import urllib.parse
+
+import made_museum
+from page_tabs import Tab, door
+from pages_eyes import WATCH
+from pages_rehearsal import HARMFUL, harmful_disk
+
+READ = """
+const texts = (selector) => Array.from(document.querySelectorAll(selector), (one) => one.textContent);
+return {
+  busy: document.getElementById("view").getAttribute("aria-busy"), heading: texts("h1")[0], title: document.title,
+  status: texts("#status")[0], here: location.hash, refusal: texts(".refused p"),
+  rows: Array.from(document.querySelectorAll("tbody tr:not(.space)"),
+    (row) => Array.from(row.cells, (cell) => cell.textContent)),
+  ready: performance.now(),
+};
+"""
+GO = """
+if (location.hash === arguments[0]) window.dispatchEvent(new HashChangeEvent("hashchange"));
+location.hash = arguments[0];
+"""
+# In milliseconds: how soon the page is ready, and the longest piece of work.
+READY, LONGEST = 2000, 200
+
+
+class ReadersTab(Tab):
+    """The page for readers."""
+
+    def read(self, holds=lambda shown: True):
+        end = time.monotonic() + 60
+        while time.monotonic() < end:
+            shown = self.browser.script(READ)
+            if shown["busy"] == "false" and holds(shown):
+                return shown
+            time.sleep(0.02)
+        raise TimeoutError(f"it does not come: {str(shown)[:500]}")
+
+    def go(self, place):
+        self.browser.script("document.getElementById('view').setAttribute('aria-busy', 'true');")
+        self.browser.script(GO, f"#/{place}")
+        return self.read(lambda shown: shown["here"] == f"#/{place}")
+
+    def find(self, words):
+        return self.go(f"find/{urllib.parse.quote(words, safe='')}")
+
+
+def below(seen, label, came, limit, unit):
+    """Counts whether a measure is below its limit, and prints it."""
+    print(f"{label}: {came:.0f} {unit}, below {limit:,} {unit}", flush=True)
+    seen.same(f"{label}: {came:.0f} {unit}", True, came < limit)
+
+
+def see_ready(seen, tab):
+    """The list of all disks is there within two seconds, with the boxes to search in at its top. The stand-in has its
+    reply at hand: to make it takes it longer than the desk itself, and what is measured is the page."""
+    reply = tab.door.with_added(tab.door.museum.ask_images("public").reply)
+    tab.door.before = lambda method, path: reply if path == "/images" else None
+    tab.browser.open(tab.door.address)
+    shown = tab.read(lambda shown: shown["rows"])
+    below(seen, "ready: 10,000 disks", shown["ready"], READY, "ms")
+    seen.same("ready: the summary", "You may see files of 9,900 disks.", shown["status"])
+    seen.same("ready: the first rows", ["Disk 1", "Commodore 1541", "2", "19"], shown["rows"][0])
+    seen.same("ready: few are drawn", True, len(shown["rows"]) <= 400)
+    tops = "return ['find', 'disk'].map((id) => document.getElementById(id).getBoundingClientRect().bottom < 400)"
+    seen.same("ready: the boxes are at the top", [True, True], tab.browser.script(tops))
+    tab.door.before = lambda method, path: None
+
+
+SCROLL = """
+const [done] = arguments;
+const step = () => {
+  window.scrollBy(0, 1500);
+  const end = document.documentElement.scrollHeight - window.innerHeight - 2;
+  if (window.scrollY < end) requestAnimationFrame(step); else done(window.scrollY);
+};
+step();
+"""
+
+
+# How often the page scrolls from end to end, and reads the list of all files. The browser measures by the clock, and
+# other work on the machine can hold it up; a stop of the page's own would come each time.
+TIMES = 3
+
+
+def see_scroll(seen, tab):
+    tab.browser.command("POST", "/timeouts", {"script": 60000})
+    longest = []
+    for _ in range(TIMES):
+        tab.browser.script(f"window.scrollTo(0, 0); {WATCH}")
+        tab.read(lambda shown: shown["rows"] and shown["rows"][0][0] == "Disk 1")
+        far = tab.browser.command("POST", "/execute/async", {"script": SCROLL, "args": []})
+        shown = tab.read(lambda shown: shown["rows"] and shown["rows"][-1][0] == "Disk 9999")
+        seen.same("scroll: to the end", True, far > 100000 and len(shown["rows"]) <= 600)
+        longest.append(tab.browser.script("return window.longest"))
+    below(seen, "scroll: the longest piece of work", min(longest), LONGEST, "ms")
+
+
+def see_back(seen, tab):
+    """Back from a disk leads to the same row of the list, which has the focus."""
+    tab.go("")
+    tab.browser.script("window.scrollTo(0, 150000)")
+    middle = "Array.from(document.querySelectorAll('tbody a')).find((one) => one.getBoundingClientRect().top > 300)"
+    end = time.monotonic() + 10
+    while time.monotonic() < end and not tab.browser.script(f"return {middle} !== undefined"):
+        time.sleep(0.05)
+    name = tab.browser.script(f"const at = {middle}; at.click(); return at.textContent")
+    before = 150000
+    shown = tab.read(lambda shown: shown["heading"] == name)
+    seen.same("back: the disk", 19, len(shown["rows"]))
+    seen.same("back: at the top of it", 0, tab.browser.script("return window.scrollY"))
+    tab.door.visits.clear()
+    tab.browser.command("POST", "/back", {})
+    tab.read(lambda shown: shown["heading"] == "Disks" and shown["rows"])
+    time.sleep(0.3)
+    place = tab.browser.script("return window.scrollY")
+    seen.same(f"back: the place {place}", True, abs(place - before) <= 2)
+    seen.same("back: the focus", name, tab.browser.focus())
+    seen.same("back: nothing is asked", [], tab.door.visits)
+    tab.browser.command("POST", "/forward", {})
+    seen.same("forward: the disk", 19, len(tab.read(lambda shown: shown["heading"] == name)["rows"]))
+
+
+def catalogue(tab):
+    """The lines of the catalogue that the public sees."""
+    text = tab.door.museum.ask_catalogue("public").reply.partition(b"\r\n\r\n")[2].decode()
+    return list(csv.DictReader(text.splitlines()))
+
+
+def plain(name):
+    """The letters of a made name: those of the other set have their highest bit set."""
+    raw = urllib.parse.unquote_to_bytes(name)
+    return bytes(byte & 127 for byte in raw).decode().lower()
+
+
+def see_found(seen, tab):
+    """All files with some words in their names are found, in letters of both sets, in small or capital letters."""
+    lines = catalogue(tab)
+    tab.browser.script(WATCH)
+    tab.go("")
+    came, words = set(), "LETTER 1"
+    tab.browser.type("#find", words)
+    tab.browser.click("#find-form button")
+    end = time.monotonic() + 60
+    while time.monotonic() < end and not any("You may see" in text and "name" in text for text in came):
+        came.add(tab.browser.script("return document.getElementById('status').textContent"))
+        time.sleep(0.02)
+    seen.same("found: with progress", True, any(text.startswith("Reading the list of all files: ") for text in came))
+    for words in (words, "letter 1", "NOTES10.TXT", "%CC%C5", "dia", "nowhere"):
+        shown = tab.find(words)
+        wanted = [line for line in lines if words.lower() in f"{plain(line['name'])}\n{line['name'].lower()}"]
+        count = f"You may see {len(wanted):,} files with this in the name."
+        none = f"There is no file with \u201c{words}\u201d in its name that you may see. You ask as the public."
+        seen.same(f"found: {words}", count if wanted else none, shown["status"])
+        if wanted:
+            shown = tab.read(lambda shown: shown["rows"])
+            first = [f"Disk {wanted[0]['accession']}", wanted[0]["slot"]]
+            seen.same(f"found: {words}: the first", first, shown["rows"][0][:2])
+    asked = [path for _, path, _ in tab.door.visits if path == "/catalogue"]
+    seen.same("found: the list is asked for once", 1, len(asked))
+    longest = [tab.browser.script("return window.longest")]
+    for _ in range(TIMES - 1):
+        tab.browser.open(tab.door.address)
+        tab.read()
+        tab.browser.script(WATCH)
+        tab.find("letter 1")
+        tab.read(lambda shown: shown["rows"])
+        longest.append(tab.browser.script("return window.longest"))
+    below(seen, "found: the longest piece of work", min(longest), LONGEST, "ms")
+    heap = {one["name"]: one["value"] for one in metrics(tab)}["JSHeapUsedSize"]
+    below(seen, "memory of the tab, with the list of 200,000 files", heap / 1e6, 150, "MB")
+
+
+def metrics(tab):
+    tab.browser.cdp("Performance.enable", {})
+    tab.browser.cdp("HeapProfiler.collectGarbage", {})
+    return tab.browser.cdp("Performance.getMetrics", {})["metrics"]
+
+
+def see_names(seen, tab):
+    """A name stands as the machine showed it, the printed form below it where that is another."""
+    shown = tab.go("3")
+    seen.same("names: in the other letters", "SPRITES 1%D3%D0%D2%C9%D4%C5%D3 1", shown["rows"][1][1])
+    shown = tab.go("1")
+    seen.same("names: as they are printed", "NOTES 1", shown["rows"][1][1])
+    shown = tab.go("3/1")
+    heading = ("SPRITES 1", "SPRITES 1 \u2013 the reading room")
+    seen.same("names: the heading", heading, (shown["heading"], shown["title"]))
+
+
+def see_broken(seen, tab):
+    """A list that ends too early is no list, and the next try fetches it anew."""
+    tab.browser.open(tab.door.address)
+    tab.read()
+    head = b"HTTP/1.1 200 OK\r\nContent-Type: text/csv\r\nContent-Length: 1000000\r\nConnection: close\r\n\r\n"
+    tab.door.before = lambda method, path: head + b"accession,deed" if path == "/catalogue" else None
+    shown = tab.find("letter")
+    words = ["This page cannot reach the desk. Check the connection, and try again."]
+    seen.same("broken: it is said", words, shown["refusal"])
+    tab.door.before = lambda method, path: None
+    tab.browser.click("#find-form button")
+    shown = tab.read(lambda shown: not shown["refusal"])
+    seen.same("broken: anew", True, shown["status"].startswith("You may see"))
+    tab.browser.open(tab.door.address)
+    tab.read()
+    tab.browser.cdp("Network.enable", {})
+    tab.browser.cdp("Network.setBlockedURLs", {"urls": ["*room.find.js"]})
+    seen.same("broken: a part of the page does not come", words, tab.find("letter")["refusal"])
+    tab.browser.cdp("Network.setBlockedURLs", {"urls": []})
+    seen.same("broken: it comes then", [], tab.find("letter")["refusal"])
+    often = b"HTTP/1.1 429 Too Many Requests\r\nContent-Length: 0\r\n\r\n"
+    tab.door.before = lambda method, path: often if path == "/images" else None
+    seen.same("too often", ["You ask too often. Wait a little, and try again."], tab.go("")["refusal"])
+    tab.door.before = lambda method, path: None
+
+
+def see_small(seen, tab):
+    measured = {"width": 360, "height": 640, "deviceScaleFactor": 1, "mobile": True}
+    tab.browser.cdp("Emulation.setDeviceMetricsOverride", measured)
+    wide = "return [document.documentElement.scrollWidth, window.innerWidth]"
+    for place in ("", "3", "find/letter", "3/1"):
+        tab.go(place)
+        time.sleep(0.2)
+        seen.same(f"small screen: {place or 'the disks'}", [360, 360], tab.browser.script(wide))
+    tab.browser.cdp("Emulation.clearDeviceMetricsOverride", {})
+
+
+def see_harmful(seen, tab):
+    """Names that are markup, paths or formulas are text."""
+    shown = tab.go("1066")
+    # letters that are small as ASCII are capitals to the 1541's machines
+    shows = {2: HARMFUL[2].upper(), 4: 'a "QUOTED", NAME'}
+    names = [f"{shows[slot]}{name}" if slot in shows else name for slot, name in enumerate(HARMFUL)]
+    seen.same("harmful: names", names, [row[1] for row in shown["rows"]])
+    harmed = "return [window.harmed ?? null, document.querySelectorAll('img, b, script').length]"
+    seen.same("harmful: nothing comes of them", [None, 1], tab.browser.script(harmed))
+    seen.same("harmful: found", "Disk 1066", tab.find("<IMG")["rows"][0][0])
+
+
+def see(seen, browser):
+    with door(made_museum.many(10000, 20), outside=True) as outside:
+        tab = ReadersTab(browser, outside)
+        for group in (see_ready, see_scroll, see_back, see_found, see_names, see_broken, see_small):
+            group(seen, tab)
+    museum = made_museum.small()
+    harmful_disk(museum, 1066, 9)
+    with door(museum, outside=True) as outside:
+        see_harmful(seen, ReadersTab(browser, outside))

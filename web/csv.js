@@ -1,0 +1,57 @@
+// Tables of CSV: read as they come, and written so that a spreadsheet takes no cell of them as a formula.
+
+// The fields of the record at a place of a text, and where it ends; null where its end has not come yet. Most lines
+// have no quotes. A field in quotes has its own quotes doubled.
+function recordAt(text, at) {
+  const end = text.indexOf("\n", at);
+  if (end < 0) return null;
+  const line = text.slice(at, end);
+  if (!line.includes('"')) return { record: line.split(","), end: end + 1 };
+  const field = /(?:"((?:[^"]|"")*)"|([^",\n]*))([,\n])/y;
+  field.lastIndex = at;
+  const record = [];
+  for (let found = field.exec(text); found !== null; found = field.exec(text)) {
+    record.push(found[1] === undefined ? found[2] : found[1].replaceAll('""', '"'));
+    if (found[3] === "\n") return { record, end: field.lastIndex };
+  }
+  return null;
+}
+
+// The records of a table whose text comes in parts. Each ends with a line feed.
+export class Records {
+  constructor() {
+    this.rest = "";
+  }
+
+  // Takes the next part of the text, and gives the records that are whole now.
+  add(part) {
+    const text = this.rest + part;
+    const records = [];
+    let at = 0;
+    for (let found = recordAt(text, at); found !== null; found = recordAt(text, at)) {
+      records.push(found.record);
+      at = found.end;
+    }
+    this.rest = text.slice(at);
+    return records;
+  }
+}
+
+// The records of a table that somebody wrote by hand or with a spreadsheet: lines may end with CR LF, a byte order mark
+// may stand in front, and the last line may lack its end. Empty lines count for nothing. Null where a quote stands
+// wrong.
+export function recordsOf(text) {
+  const lines = `${text.replace(/^\ufeff/, "").replaceAll("\r\n", "\n").trimEnd()}\n`;
+  const reader = new Records();
+  const records = reader.add(lines);
+  return reader.rest === "" ? records.filter((record) => record.length > 1 || record[0] !== "") : null;
+}
+
+// A cell that begins like a formula gets an apostrophe in front, which a spreadsheet shows as text.
+function written(value) {
+  const text = String(value ?? "");
+  const harmless = /^[=+\-@\t\r]/.test(text) ? `'${text}` : text;
+  return /[",\r\n]/.test(harmless) ? `"${harmless.replaceAll('"', '""')}"` : harmless;
+}
+
+export const csvText = (records) => records.map((record) => `${record.map(written).join(",")}\n`).join("");

@@ -1,0 +1,106 @@
+// Survey and check of disks, and the latest check of each.
+import { longTable } from "./lists.js";
+import { askObject, cell, counted, element, kindWords, numberOf, own, part, row } from "./shared.js";
+import { change, changed, formOf, held, readHeld, work } from "./staff.desk.js";
+import { sendMany } from "./staff.many.js";
+import { limitFields } from "./staff.ruleform.js";
+import { buttonsCell } from "./staff.rules.js";
+import { dayAfter, today } from "./staff.words.js";
+import { withTitle } from "./titles.js";
+
+// After how many days a disk is due to be checked again.
+const DAYS = 365;
+const DIRECTORIES = { end: "it ends well", loop: "it leads back into itself", off: "it leads off the disk" };
+const OUTCOMES = {
+  sound: "Sound: the disk still has the SHA-256 that came with it.",
+  changed: "Changed: the disk no longer has the SHA-256 that came with it. Restore a backup.",
+};
+
+function surveyed(survey) {
+  const { donor, signed, files, served, faulty, label, directory, map } = survey;
+  const pairs = {
+    Disk: `${numberOf(survey.accession)}, ${kindWords(survey.kind)}${label && `, called \u201c${label}\u201d`}`,
+    Deed: `${numberOf(survey.deed)}, of ${donor}, signed on ${signed}`,
+    Files: `${counted(files, "file")}: ${served} can be given out, ${faulty} damaged`,
+    Directory: own(DIRECTORIES, directory),
+  };
+  if (map !== null) {
+    const { claimed_free: free, unclaimed_used: used, wrong_counts: wrong } = map;
+    pairs.Map = `${free} blocks in use are marked free, ${used} unused ones not; ${wrong} tracks have a wrong count`;
+    pairs.Sizes = `${counted(survey.size_differs, "file")} with another size than the directory says`;
+  }
+  const made = element("dl", null);
+  made.append(...Object.entries(pairs).flatMap(([term, text]) => [element("dt", term), element("dd", text)]));
+  return made;
+}
+
+const survey = async (accession) => surveyed(await askObject(`/images/${accession}/survey`));
+
+async function check(accession) {
+  const { outcome } = await changed("POST", `/images/${accession}/check`);
+  await showChecks();
+  return `Disk ${accession}. ${OUTCOMES[outcome]}`;
+}
+
+// Checks all disks whose latest check is before a day, or that were never checked.
+async function checkAll(before, tools) {
+  const due = (await readHeld("checks")).filter(({ day }) => day === null || day < before);
+  const run = {
+    section: "checks",
+    items: due.map(({ accession }) => ({ accession, found: "" })),
+    word: "disk",
+    verb: "checked",
+    one: async (item) => {
+      item.found = (await changed("POST", `/images/${item.accession}/check`)).outcome;
+    },
+    after: showChecks,
+    heads: ["Disk", "Found"],
+    cells: ({ accession, found }) => [String(accession), found],
+  };
+  return due.length ? sendMany(run, tools) : `There is no disk whose latest check is before ${before}.`;
+}
+
+function checkRow({ accession, day, outcome }) {
+  const words = `disk ${accession}`;
+  return row([
+    cell("Disk", withTitle(String(accession), accession), "number"),
+    cell("Checked on", day ?? "never", "day"),
+    cell("Outcome", outcome ?? "", outcome === "changed" ? "warning" : ""),
+    buttonsCell(words, {
+      Check: () => change("checks", () => check(accession)),
+      Survey: () => work("checks", () => survey(accession)),
+    }),
+  ]);
+}
+
+function summary(checks) {
+  const changed = checks.filter((one) => one.outcome === "changed").map((one) => one.accession);
+  const never = checks.filter((one) => one.day === null).length;
+  const bad = changed.length ? ` Changed: ${changed.join(", ")}.` : " None is changed.";
+  return `${counted(checks.length, "disk")}, ${never.toLocaleString("en")} of them never checked.${bad}`;
+}
+
+// Reads the checks anew, and shows them.
+export async function showChecks() {
+  const checks = await readHeld("checks");
+  const made = longTable("latest checks", ["Disk", "Checked on", "Outcome", ""], held.checks, checkRow);
+  const words = checks.length ? summary(checks) : "There is no disk.";
+  part("checks").querySelector(".stands").replaceChildren(element("p", words), ...(checks.length ? [made] : []));
+}
+
+export function listenForChecks() {
+  const form = formOf("checks");
+  const { accession, check: button, before, all } = form.elements;
+  limitFields(form);
+  before.value = dayAfter(today(), -DAYS);
+  all.addEventListener("click", () => {
+    if (before.value && before.reportValidity()) change("checks", (tools) => checkAll(before.value, tools));
+  });
+  form.addEventListener("submit", (event) => {
+    event.preventDefault();
+    work("checks", () => survey(accession.value));
+  });
+  button.addEventListener("click", () => {
+    if (accession.reportValidity()) change("checks", () => check(accession.value));
+  });
+}

@@ -1,0 +1,84 @@
+// Deeds: who gave disks, and when they signed; each with its rules.
+import { longTable } from "./lists.js";
+import { cell, counted, element, part, row } from "./shared.js";
+import { change, dated, formOf, held, readHeld, send, sure } from "./staff.desk.js";
+import { limitFields } from "./staff.ruleform.js";
+import { buttonsCell, leaveButton } from "./staff.rules.js";
+import { ruleWords } from "./staff.words.js";
+
+const signedWords = ({ donor, signed }) => `${donor}, signed on ${signed}`;
+
+// Puts a deed. One that stands and has another donor or day is replaced only when that is said once more.
+async function put(deed, body) {
+  const stands = (await readHeld("deeds")).find((one) => String(one.deed) === deed);
+  if (stands && signedWords(stands) !== signedWords(body)) {
+    const texts = [`It stands: ${signedWords(stands)}.`, `Then: ${signedWords(body)}.`];
+    const more = texts.map((text) => dated("p", text));
+    const asked = { words: `Replace deed ${deed}?`, more, go: "Replace it", keep: "Keep it" };
+    if (!(await sure(asked))) return `Kept: deed ${deed}.`;
+  }
+  await send("PUT", `/deeds/${deed}`, JSON.stringify(body));
+  await showDeeds();
+  return `Done: deed ${deed}.`;
+}
+
+const bodyOf = ({ donor, signed }) => ({ donor: donor.value, signed: signed.value });
+
+function changeDeed({ deed, donor, signed }) {
+  const dialog = part("change");
+  const form = formOf("deeds").cloneNode(true);
+  limitFields(form);
+  Object.assign(form.elements.deed, { value: deed, readOnly: true });
+  form.elements.donor.value = donor;
+  form.elements.signed.value = signed;
+  form.append(leaveButton());
+  form.addEventListener("submit", (event) => {
+    event.preventDefault();
+    dialog.close();
+    change("deeds", () => put(String(deed), bodyOf(form.elements)));
+  });
+  part("change-heading").textContent = `Change deed ${deed}`;
+  dialog.querySelector("form").replaceWith(form);
+  dialog.showModal();
+}
+
+// The rules of a deed in short, and the way to all that can be done with them.
+function rulesCell({ deed, rules }) {
+  const made = element("div", null);
+  if (rules.length) made.append(element("ul", null, { className: "rules" }));
+  const lines = rules.map((rule) => dated("li", `${rule.rank}: ${ruleWords(rule)}`));
+  made.firstChild?.append(...lines);
+  const words = rules.length ? "Rules" : "No rule: nobody sees its disks";
+  made.append(element("a", words, { href: `#/rules/${deed}`, ariaLabel: `${words}, of deed ${deed}` }));
+  return cell("Rules", made);
+}
+
+function deedRow(one) {
+  return row([
+    cell("Deed", String(one.deed), "number"),
+    cell("Donor", one.donor, "words"),
+    cell("Signed on", one.signed, "day"),
+    cell("Disks", one.accessions.toLocaleString("en"), "number"),
+    rulesCell(one),
+    buttonsCell(`deed ${one.deed}`, { Change: () => changeDeed(one) }),
+  ]);
+}
+
+// Reads the deeds anew, and shows them.
+export async function showDeeds() {
+  await readHeld("deeds");
+  const count = element("p", held.deeds.length ? `${counted(held.deeds.length, "deed")}.` : "There is no deed.");
+  const columns = ["Deed", "Donor", "Signed on", "Disks", "Rules", ""];
+  const made = held.deeds.length ? [longTable("deeds that stand", columns, held.deeds, deedRow)] : [];
+  part("deeds").querySelector(".stands").replaceChildren(count, ...made);
+}
+
+export function listenForDeeds() {
+  const form = formOf("deeds");
+  limitFields(form);
+  form.addEventListener("submit", (event) => {
+    event.preventDefault();
+    change("deeds", () => put(form.elements.deed.value, bodyOf(form.elements)));
+  });
+}
+

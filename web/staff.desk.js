@@ -1,0 +1,160 @@
+// The staff's side of the desk: what stands there, changes to it, and the work of a section of the page.
+import { Refused, askObject, element, fields, listOf, part, refusal } from "./shared.js";
+
+// After these nobody here knows whether the desk has done what was sent. A command that is sent twice is done once.
+const UNSURE = [0, 502, 503, 504];
+const AGAIN = "The desk may have done it all the same. You can safely send it again.";
+
+// Whether a change was sent and nobody here knows what became of it.
+export const isUnsure = (fault) => fault.isOfChange === true && UNSURE.includes(fault.status);
+
+export const refusedWork = (fault) => refusal(fault, isUnsure(fault) ? AGAIN : "");
+
+// How many bytes a name or a reason has at most where it is sent.
+const LONGEST_WORDS = 1000;
+
+export const formOf = (name) => part(name).querySelector("form");
+
+// What stands
+
+const QUESTIONS = {
+  deeds: "/staff/deeds",
+  takedowns: "/staff/takedowns",
+  keys: "/staff/keys",
+  checks: "/staff/checks",
+};
+
+// What the desk holds, as it was when it was read last.
+export const held = { deeds: [], takedowns: [], keys: [], checks: [] };
+
+export async function readHeld(what) {
+  held[what] = listOf((await askObject(QUESTIONS[what]))[what]);
+  return held[what];
+}
+
+// The rules of a deed, or the takedowns of a disk, that stood when they were read last.
+export function rulesOf(name, scope) {
+  const found =
+    name === "rules"
+      ? held.deeds.find((one) => one.deed === scope)
+      : held.takedowns.find((one) => one.accession === scope);
+  return found?.rules ?? [];
+}
+
+// Who changes something, and why
+
+function sentWords(input) {
+  const words = encodeURIComponent(input.value.trim());
+  return words.length <= LONGEST_WORDS ? words : null;
+}
+
+// Marks a name or a reason that is missing or too long, and says whether both can be sent.
+export function hasWho() {
+  for (const input of [part("who").elements.name, part("who").elements.reason]) {
+    const words = sentWords(input);
+    const lacks = words === "" ? "The page sends this with each change." : "";
+    input.setCustomValidity(words === null ? "This is too long: it has at most 1,000 bytes as it is sent." : lacks);
+  }
+  return part("who").reportValidity();
+}
+
+function whoFields() {
+  const { name, reason } = part("who").elements;
+  return { "Desk-Staff": sentWords(name), "Desk-Note": sentWords(reason) };
+}
+
+// Changes
+
+export function changed(method, path, body) {
+  return askObject(path, { method, body, headers: { ...fields(), ...whoFields() } }).catch((fault) => {
+    throw fault instanceof Refused ? Object.assign(fault, { isOfChange: true }) : fault;
+  });
+}
+
+export async function send(method, path, body) {
+  const said = await changed(method, path, body);
+  if (said.done !== true) throw new TypeError("it is not done");
+}
+
+// Work of a section
+
+export function show(name, ...parts) {
+  part(name).querySelector(".result").replaceChildren(...parts);
+}
+
+export const paragraph = (words) => (words instanceof Node ? words : dated("p", words));
+
+// An element with a text, whose days are not broken at the end of a line.
+export function dated(name, text, fields = {}) {
+  const made = element(name, null, fields);
+  const parts = text.split(/([0-9]{4}-[0-9]{2}-[0-9]{2})/);
+  made.append(...parts.map((words, at) => (at % 2 ? element("span", words, { className: "date" }) : words)));
+  return made;
+}
+
+// Does some work of a section, one at a time, shows the outcome there, and says whether it was done. The work gets a
+// way to show how far it has come, and a signal that the reader stops it. It gives the words or the node to show, or
+// null where what it has shown stays.
+export async function work(name, doing) {
+  if (part(name).getAttribute("aria-busy") === "true") return false;
+  part(name).setAttribute("aria-busy", "true");
+  show(name);
+  const stop = new AbortController();
+  const tools = { progress: progressOf(name, stop), signal: stop.signal };
+  const { outcome, done } = await Promise.resolve(tools)
+    .then(doing)
+    .then(
+      (made) => ({ outcome: made, done: true }),
+      (fault) => ({ outcome: stop.signal.aborted ? "Stopped." : refusedWork(fault), done: false }),
+    );
+  if (outcome !== null && outcome !== undefined) show(name, paragraph(outcome));
+  part(name).setAttribute("aria-busy", "false");
+  return done;
+}
+
+// Work that changes something: only with a name and a reason. Where the button that was pressed is gone with its line,
+// the outcome gets the focus.
+export async function change(name, doing) {
+  const done = hasWho() && (await work(name, doing));
+  if (document.activeElement === document.body) part(name).querySelector(".result").focus();
+  return done;
+}
+
+// Shows how far a long work of a section has come, with a button that stops it.
+function progressOf(name, stop) {
+  const words = element("span", "");
+  const bar = element("progress", null);
+  bar.setAttribute("aria-label", "Progress");
+  const button = element("button", "Stop", { type: "button" });
+  button.addEventListener("click", () => stop.abort());
+  const shown = element("p", null, { className: "choices" });
+  shown.append(words, bar, button);
+  return (doing, count, all) => {
+    words.textContent = `${doing}: ${count.toLocaleString("en")}${all ? ` of ${all.toLocaleString("en")}` : ""}.`;
+    if (all) Object.assign(bar, { max: all, value: count });
+    if (!shown.isConnected) show(name, shown);
+  };
+}
+
+// Asks once more: the words, more below them, and the buttons for yes and for no.
+export function sure({ words, more = [], go, keep }) {
+  const dialog = part("sure");
+  part("sure-words").textContent = words;
+  part("sure-more").replaceChildren(...more);
+  const [yes, no] = dialog.querySelectorAll("button");
+  yes.textContent = go;
+  no.textContent = keep;
+  dialog.returnValue = "";
+  dialog.showModal();
+  return new Promise((answer) => {
+    dialog.addEventListener("close", () => answer(dialog.returnValue === "go"), { once: true });
+  });
+}
+
+// SHA-256
+
+export async function digestOf(bytes) {
+  if (crypto.subtle === undefined) throw new Refused("digest", {});
+  const digest = await crypto.subtle.digest("SHA-256", bytes);
+  return Array.from(new Uint8Array(digest), (byte) => byte.toString(16).padStart(2, "0")).join("");
+}

@@ -1,0 +1,185 @@
+// Dumps of disks: chosen, described by their lengths and SHA-256, numbered by hand or by a sheet, and put.
+import { KINDS, Refused, cell, counted, element, explainRefusal, kindWords, part, row, table } from "./shared.js";
+import { change, digestOf, formOf, send, work } from "./staff.desk.js";
+import { isDone, sendMany } from "./staff.many.js";
+import { matchRows, rowProblem, rowsIn } from "./staff.sheet.js";
+import { LIMITS } from "./staff.words.js";
+
+// The chosen dumps, and the rows of the sheet that came with them, or null.
+let dumps = [];
+let sheet = null;
+
+const kindOf = (length) => Object.keys(KINDS).find((kind) => KINDS[kind].length === length);
+
+function noKind(length) {
+  const lengths = Object.values(KINDS).map((kind) => `${kind.words} has ${counted(kind.length, "byte")}`);
+  return `The page does not send it: no kind of disk has ${counted(length, "byte")}. ${lengths.join(", ")}.`;
+}
+
+function numberField(label, limits) {
+  const made = element("input", null, { required: true, ...limits });
+  made.setAttribute("aria-label", label);
+  return made;
+}
+
+function dumpOf(file) {
+  const kind = kindOf(file.size);
+  const places = { says: element("div", null), sum: element("span", "") };
+  const dump = { file, kind, digest: "", outcome: "", problem: "", ...places };
+  dump.accession = numberField(`Accession of ${file.name}`, LIMITS.accession);
+  dump.deed = numberField(`Deed of ${file.name}`, LIMITS.deed);
+  if (kind === undefined) dump.problem = noKind(file.size);
+  return dump;
+}
+
+// The dumps that can be sent.
+const sendable = () => dumps.filter((dump) => dump.kind && !dump.problem);
+
+const isOpen = (dump) => dump.kind && !dump.problem && !isDone(dump);
+
+function dumpRow(dump) {
+  const { file, kind, sum, accession, deed, says } = dump;
+  const fields = kind === undefined || dump.isLeftOut ? ["", ""] : [accession, deed];
+  says.textContent = dump.problem || dump.outcome;
+  return row([
+    cell("File", file.name, "name"),
+    cell("Bytes", file.size.toLocaleString("en"), "number"),
+    cell("Kind", kind === undefined ? "" : kindWords(kind)),
+    cell("SHA-256", kind === undefined ? "" : sum, "digest"),
+    cell("Accession", fields[0]),
+    cell("Deed", fields[1]),
+    cell("Result", says),
+  ]);
+}
+
+function missingRow({ name, kind, sha256, accession, deed }) {
+  const cells = { File: name, Bytes: "", Kind: kindWords(kind), "SHA-256": sha256, Accession: accession, Deed: deed };
+  const says = { Result: "No file of this name is chosen." };
+  const classes = { File: "name", "SHA-256": "digest" };
+  return row(Object.entries({ ...cells, ...says }).map(([label, text]) => cell(label, text, classes[label] ?? "")));
+}
+
+function showDumps() {
+  const columns = ["File", "Bytes", "Kind", "SHA-256", "Accession", "Deed", "Result"];
+  const missing = (sheet ?? []).filter((one) => one.dump === null);
+  const rows = [...dumps.map(dumpRow), ...missing.map(missingRow)];
+  part("disks").querySelector(".list").replaceChildren(...(rows.length ? [table("Dumps", columns, rows)] : []));
+  part("disks").querySelector(".choices").hidden = rows.length === 0;
+}
+
+// Files
+
+async function chooseFiles({ files }, tools) {
+  const chosen = Array.from(files.files);
+  files.value = "";
+  const sheets = chosen.filter((file) => /\.csv$/i.test(file.name));
+  const made = chosen.filter((file) => !sheets.includes(file)).map(dumpOf);
+  dumps = [...dumps, ...made];
+  showDumps();
+  const images = made.filter((one) => one.kind);
+  for (const [at, dump] of images.entries()) {
+    tools.progress("Reading", at, images.length);
+    await readDump(dump);
+  }
+  const fault = sheets.length ? await readSheet(sheets) : "";
+  if (sheet !== null) useSheet();
+  showDumps();
+  return fault || [`${counted(made.length, "file")} chosen.`, ...sheetWords()].join(" ");
+}
+
+function bytesOf(file) {
+  return file.arrayBuffer().catch(() => {
+    throw new Refused("file", {});
+  });
+}
+
+async function readDump(dump) {
+  try {
+    dump.digest = await digestOf(await bytesOf(dump.file));
+    dump.sum.textContent = dump.digest;
+  } catch (fault) {
+    dump.problem = explainRefusal(fault);
+  }
+}
+
+// The sheet
+
+async function readSheet(files) {
+  if (files.length > 1) return "Choose one sheet at a time.";
+  const { rows, fault } = rowsIn(new TextDecoder().decode(await bytesOf(files[0])));
+  if (fault) return fault;
+  sheet = rows;
+  return "";
+}
+
+// Gives the dumps what the sheet says of them. A dump that it does not name is left out.
+function useSheet() {
+  const others = matchRows(sheet, dumps.filter((dump) => dump.kind));
+  for (const dump of others) Object.assign(dump, { problem: "The sheet does not name it: left out.", isLeftOut: true });
+  for (const one of sheet.filter((row_) => row_.dump)) {
+    const { dump } = one;
+    Object.assign(dump, { problem: rowProblem(one), isLeftOut: false });
+    Object.assign(dump.accession, { value: one.accession, readOnly: true });
+    Object.assign(dump.deed, { value: one.deed, readOnly: true });
+  }
+}
+
+function sheetWords() {
+  if (sheet === null) return [];
+  const found = sheet.filter((one) => one.dump !== null);
+  const ready = found.filter((one) => one.dump.problem === "").length;
+  const [others, missing] = [found.length - ready, sheet.length - found.length];
+  const words = `${ready} ready, ${others} with another disk than it says, ${missing} without a file`;
+  return [`The sheet has ${counted(sheet.length, "row")}: ${words}.`];
+}
+
+// Puts
+
+// One after the other: a refusal stops no other dump, and the next press sends the refused one again.
+function putDumps(tools) {
+  const run = {
+    section: "disks",
+    items: sendable(),
+    word: "disk",
+    verb: "put",
+    one: putDump,
+    shown: (dump) => {
+      dump.says.textContent = dump.outcome;
+    },
+    heads: ["Accession", "Kind", "Deed", "SHA-256", "File"],
+    cells: ({ accession, kind, deed, digest, file }) => [accession.value, kind, deed.value, digest, file.name],
+  };
+  return sendMany(run, tools);
+}
+
+async function putDump(dump) {
+  const path = `/accessions/${dump.accession.value}/${dump.kind}/${dump.deed.value}/${dump.digest}`;
+  await send("PUT", path, await bytesOf(dump.file));
+  dump.accession.readOnly = dump.deed.readOnly = true;
+}
+
+// Numbers the dumps that have no accession on from the first one, and gives those without a deed its deed.
+function countOn() {
+  const [first, ...others] = dumps.filter(isOpen);
+  if (first === undefined || !first.accession.reportValidity() || !first.deed.reportValidity()) return;
+  others.forEach((dump, at) => {
+    dump.accession.value ||= Number(first.accession.value) + at + 1;
+    dump.deed.value ||= first.deed.value;
+  });
+}
+
+export function listenForDisks() {
+  const form = formOf("disks");
+  const { files, count, empty } = form.elements;
+  form.addEventListener("submit", (event) => {
+    event.preventDefault();
+    change("disks", putDumps);
+  });
+  files.addEventListener("change", () => work("disks", (tools) => chooseFiles(form.elements, tools)));
+  count.addEventListener("click", countOn);
+  empty.addEventListener("click", () => {
+    dumps = [];
+    sheet = null;
+    showDumps();
+  });
+}

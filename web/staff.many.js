@@ -1,0 +1,82 @@
+// Many changes, one after the other: with progress, a report that can be saved, and a way to go on where the connection
+// was lost or the reader stopped.
+import { csvText } from "./csv.js";
+import { Refused, cell, counted, element, explainRefusal, part, refusalName, row, table } from "./shared.js";
+import { change, isUnsure } from "./staff.desk.js";
+import { today } from "./staff.words.js";
+import { save } from "./stream.js";
+
+const DONE = "done";
+
+// What is to be said of a change that failed.
+function outcomeWords(fault) {
+  if (!(fault instanceof Refused)) return "This page cannot read the desk's answer.";
+  const name = refusalName(fault);
+  const more = isUnsure(fault) ? " The desk may have done it all the same." : "";
+  return `${explainRefusal(fault)}${more}${name && ` (${name})`}`;
+}
+
+// Whether there is no use in sending the next one now.
+const isLost = (fault) => fault instanceof Refused && [0, 401, 403, 429, 502, 503, 504].includes(fault.status);
+
+export const isDone = (item) => item.outcome === DONE;
+
+// Sends what is left of some items by `one`, and gives a report. `run` has the section, the items, a word for them,
+// what sends one, and the columns of the report with an item's texts in them; `after` comes when it ends, in any case.
+export async function sendMany(run, { progress, signal }) {
+  const left = run.items.filter((item) => !isDone(item));
+  for (const [at, item] of left.entries()) {
+    if (signal.aborted) break;
+    progress("Sending", at, left.length);
+    const fault = await run.one(item).then(
+      () => null,
+      (came) => came,
+    );
+    item.outcome = fault === null ? DONE : outcomeWords(fault);
+    run.shown?.(item);
+    if (fault !== null && isLost(fault)) break;
+  }
+  await run.after?.().catch(() => {});
+  return report(run);
+}
+
+function summary({ items, word, verb }) {
+  const done = items.filter(isDone).length;
+  const open = items.filter((item) => !item.outcome).length;
+  const failed = items.length - done - open;
+  return `${counted(done, word)} ${verb}, ${failed} failed${open ? `, ${open} not sent yet` : ""}.`;
+}
+
+// What became of the items: in short, those that failed, and buttons to go on and to save the report.
+function report(run) {
+  const made = element("div", null);
+  const failed = run.items.filter((item) => item.outcome && !isDone(item));
+  const isWhole = run.items.every(isDone);
+  made.append(element("p", summary(run), { className: "summary" }));
+  if (failed.length && !run.shown) made.append(failedTable(run, failed));
+  const buttons = element("p", null, { className: "choices" });
+  const goOn = () => change(run.section, (tools) => sendMany(run, tools));
+  if (!isWhole) buttons.append(button("Go on with the rest", "go-on", goOn));
+  buttons.append(button("Save the report", "save-report", () => saveReport(run)));
+  made.append(buttons);
+  return made;
+}
+
+function failedTable({ heads, cells }, failed) {
+  const columns = [...heads, "Outcome"];
+  const rowOf = (item) => row([...cells(item), item.outcome].map((text, at) => cell(columns[at], text)));
+  return table("Failed", columns, failed.map(rowOf));
+}
+
+function button(words, name, press) {
+  const made = element("button", words, { type: "button", name });
+  made.addEventListener("click", press);
+  return made;
+}
+
+function saveReport({ section, items, heads, cells }) {
+  const { name, reason } = part("who").elements;
+  const rows = items.map((item) => [...cells(item), item.outcome || "not sent", name.value, reason.value]);
+  const records = [[...heads.map((head) => head.toLowerCase()), "outcome", "name", "reason"], ...rows];
+  save(`${section}-${today()}.csv`, [csvText(records)], "text/csv");
+}

@@ -1,0 +1,141 @@
+// What a change of rules would open and what it would close, for whom and on which days, before it is made.
+import { Refused, counted, element } from "./shared.js";
+import { dated, sure } from "./staff.desk.js";
+import { EFFECTS, audienceWords, dayAfter, listed, today } from "./staff.words.js";
+import { readTable } from "./stream.js";
+
+const ORDER = ["deny", "list", "read"];
+const MOST_NAMED = 10;
+
+// Days
+
+const DAY_WORDS = { from: "its first day", last: "its last day", until: "the first day without it" };
+
+// The days of a rule on which something begins or ends.
+function turningDays({ from, until }) {
+  if (from && until && from >= until) return {};
+  return { from, last: until && dayAfter(until, -1), until };
+}
+
+// On which days a change is rehearsed: today, and the days to come on which the rule or the one that it replaces begins
+// or ends; each with words that say what it is.
+export function rehearsalDays(rule, replaced = []) {
+  const now = today();
+  const days = new Map(replaced.flatMap((one) => Object.values(turningDays(one))).map((day) => [day, ""]));
+  for (const [word, day] of Object.entries(turningDays(rule))) days.set(day, `, ${DAY_WORDS[word]}`);
+  const later = [...days].filter(([day]) => day && day > now).sort(([one], [other]) => (one < other ? -1 : 1));
+  return [{ day: now, words: `Today, ${now}` }, ...later.map(([day, more]) => ({ day, words: `On ${day}${more}` }))];
+}
+
+// What changes on a day
+
+// The changes of a day in groups: how many files change from an effect to another for the same audiences, and the first
+// of them. The lines of one file come one after the other.
+export class Changes {
+  constructor() {
+    this.groups = new Map();
+    this.file = null;
+  }
+
+  take([accession, slot, name, audience, now, , then]) {
+    if (this.file?.accession !== accession || this.file.slot !== slot) {
+      this.close();
+      this.file = { accession, slot, name, turns: new Map() };
+    }
+    const turn = `${now} ${then}`;
+    this.file.turns.set(turn, [...(this.file.turns.get(turn) ?? []), audience]);
+  }
+
+  // Counts the last file.
+  close() {
+    for (const [turn, audiences] of this.file?.turns ?? []) {
+      const key = `${turn} ${audiences.join(" ")}`;
+      const group = this.groups.get(key) ?? newGroup(turn.split(" "), audiences);
+      group.count += 1;
+      if (group.first.length < MOST_NAMED) group.first.push(this.file);
+      this.groups.set(key, group);
+    }
+    this.file = null;
+  }
+
+  // What opens comes first, then what closes.
+  all() {
+    return [...this.groups.values()].sort((one, other) => other.opens - one.opens || other.count - one.count);
+  }
+}
+
+function newGroup([now, then], audiences) {
+  return { now, then, audiences, opens: ORDER.indexOf(then) > ORDER.indexOf(now), count: 0, first: [] };
+}
+
+// Rehearses commands on days. Gives what changes on each day, and the commands that the desk refuses with
+// `no-accession`, which name no disk.
+export async function rehearse(commands, days, progress, signal) {
+  const missing = new Set();
+  const found = [];
+  const all = days.length * commands.length;
+  for (const [at, { day, words }] of days.entries()) {
+    const changes = new Changes();
+    for (const [place, command] of commands.entries()) {
+      if (all > 1) progress("Rehearsing", at * commands.length + place, all);
+      await rehearseOne(command, day, changes, signal).catch((fault) => {
+        if (commands.length === 1 || !(fault instanceof Refused) || fault.said.error !== "no-accession") throw fault;
+        missing.add(command);
+      });
+    }
+    found.push({ day, words, groups: changes.all() });
+  }
+  return { found, missing };
+}
+
+async function rehearseOne({ method, path, body }, day, changes, signal) {
+  const take = (record) => changes.take(record);
+  await readTable(`/staff/rehearsals/${day}${path}`, { method, body, take, signal });
+  changes.close();
+}
+
+// Words
+
+function groupWords({ opens, count, audiences, now, then }) {
+  const sentence = `${opens ? "Opens" : "Closes"} for ${audienceWords(audiences)}: ${counted(count, "file")}.`;
+  return `${sentence} Now they ${may(now)}; then they ${may(then)}.`;
+}
+
+const may = (effect) => (effect === "deny" ? EFFECTS.deny : `may ${EFFECTS[effect]}`);
+
+function groupParts(group) {
+  const words = ({ name, accession, slot }) => `${name} (disk ${accession}, slot ${slot})`;
+  const items = group.first.map((file) => element("li", words(file)));
+  const rest = group.count - group.first.length;
+  if (rest > 0) items.push(element("li", `and ${counted(rest, "more file")}`));
+  const list = element("ul", null);
+  list.append(...items);
+  return [element("p", groupWords(group), { className: group.opens ? "opens" : "closes" }), list];
+}
+
+const sameGroups = (one, other) => JSON.stringify(one) === JSON.stringify(other);
+
+// What a day changes, under a heading; a day that changes the same as the one before says so.
+export function dayParts({ words, groups }, before, level = "h3") {
+  const heading = element(level, words);
+  if (groups.length === 0) return [heading, element("p", "Nothing opens, and nothing closes.")];
+  if (before && sameGroups(groups, before.groups)) return [heading, element("p", "The same as on the day above.")];
+  return [heading, ...groups.flatMap(groupParts)];
+}
+
+export const rehearsalParts = (found) => found.flatMap((day, at) => dayParts(day, found[at - 1]));
+
+export const closesNothing = (found) => found.every(({ groups }) => groups.every((group) => group.opens));
+
+// Shows what commands would change, and asks whether to send them. Gives those to send, none where the answer is no.
+export async function rehearsed({ words, notes, commands, days, isTakedown, go }, { progress, signal }) {
+  const { found, missing } = await rehearse(commands, days, progress, signal);
+  const left = commands.filter((command) => !missing.has(command));
+  const none = [...missing].map((command) => String(command.scope));
+  const said = [...notes];
+  if (none.length) said.push(`There is no disk ${listed(none)}: left out.`);
+  if (isTakedown && closesNothing(found)) said.push("Mind: it closes nothing on any of these days.");
+  if (left.length === 0) return [];
+  const more = [...said.map((text) => dated("p", text)), ...rehearsalParts(found)];
+  return (await sure({ words, more, go, keep: "Leave it as it is" })) ? left : [];
+}

@@ -1,0 +1,73 @@
+// The form for a rule of a deed or a takedown: made, filled with a rule that stands, and read.
+import { element, own, part } from "./shared.js";
+import { AUDIENCES, EFFECTS, LIMITS, RULES, SELECTORS, selection } from "./staff.words.js";
+
+export function options(select, words, names = Object.keys(words)) {
+  select.append(...names.map((name) => element("option", words[name], { value: name })));
+}
+
+function audienceBox(name) {
+  const made = element("label", null);
+  made.append(element("input", null, { type: "checkbox", name: "audiences", value: name }), ` ${AUDIENCES[name]}`);
+  return made;
+}
+
+// Gives its limits to each field of a form.
+export function limitFields(form) {
+  for (const field of form.elements) Object.assign(field, own(LIMITS, field.name) || {});
+}
+
+// Adds the fields of a rule to a form.
+export function makeRuleForm(name, form) {
+  form.append(part("rule-fields").content.cloneNode(true));
+  form.querySelector("fieldset").append(...Object.keys(AUDIENCES).map(audienceBox));
+  const ways = Object.entries(SELECTORS).map(([way, { choice }]) => [way, choice]);
+  options(form.elements.how, Object.fromEntries(ways));
+  options(form.elements.effect, EFFECTS, RULES[name].effects);
+  form.elements.how.addEventListener("change", () => chooseWay(form.elements));
+  form.addEventListener("change", () => needAudience(form));
+  limitFields(form);
+  needAudience(form);
+}
+
+// Shows the field for a value where the way to select takes one.
+function chooseWay({ how, what }) {
+  const { field, limits } = own(SELECTORS, how.value) || SELECTORS.all;
+  const label = what.closest("label");
+  label.hidden = what.disabled = field === undefined;
+  label.querySelector("span").textContent = field ?? "";
+  Object.assign(what, { value: "", ...limits });
+}
+
+const chosenAudiences = (form) => Array.from(form.querySelectorAll("[name=audiences]:checked"), (box) => box.value);
+
+function needAudience(form) {
+  const lacks = chosenAudiences(form).length === 0;
+  form.querySelector("[name=audiences]").setCustomValidity(lacks ? "Choose for whom it is." : "");
+}
+
+// Fills a form with a rule that stands.
+export function fillRule(form, rule) {
+  const { how, what, effect, from, until } = form.elements;
+  const [way, value] = selection(rule);
+  for (const box of form.querySelectorAll("[name=audiences]")) box.checked = rule.audiences.includes(box.value);
+  how.value = way;
+  chooseWay(form.elements);
+  if (SELECTORS[way].field !== undefined) what.value = String(value);
+  effect.value = rule.effect;
+  from.value = rule.from ?? "";
+  until.value = rule.until ?? "";
+  needAudience(form);
+}
+
+// The rule that a form holds, as the desk shows rules but for its rank. Without it, it is the body that puts the rule.
+export function ruleIn(form) {
+  const { how, what, effect, from, until } = form.elements;
+  return {
+    audiences: chosenAudiences(form),
+    effect: effect.value,
+    from: from.value || null,
+    select: { [how.value]: SELECTORS[how.value].sent(what.value) },
+    until: until.value || null,
+  };
+}

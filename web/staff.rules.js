@@ -1,0 +1,209 @@
+// Rules of deeds, and takedowns: the forms that put and change them, and the tables of those that stand.
+import { longTable } from "./lists.js";
+import { cell, counted, element, part, row } from "./shared.js";
+import { change, dated, formOf, held, readHeld, rulesOf, send } from "./staff.desk.js";
+import { sendMany } from "./staff.many.js";
+import { MOST_DISKS, accessionsIn, placeOf } from "./staff.ranks.js";
+import { rehearsalDays, rehearsed } from "./staff.rehearsal.js";
+import { fillRule, makeRuleForm, ruleIn } from "./staff.ruleform.js";
+import { RULES, ruleTexts, ruleWords } from "./staff.words.js";
+import { titleOf, withTitle } from "./titles.js";
+
+// Of how many disks the page says one by one what their takedowns replace or follow.
+const MOST_NOTES = 10;
+
+// What is asked of the desk to have them anew.
+const READ = { rules: "deeds", takedowns: "takedowns" };
+
+// All that stand: each with the deed or the accession that it is of.
+function standing(name) {
+  if (name === "rules") return held.deeds.flatMap(({ deed, rules }) => rules.map((rule) => ({ scope: deed, rule })));
+  return held.takedowns.flatMap(({ accession, rules }) => rules.map((rule) => ({ scope: accession, rule })));
+}
+
+// The deeds or the disks that are typed.
+const scopesIn = (name, typed) => (name === "rules" ? [Number(typed)] : (accessionsIn(typed) ?? []));
+
+// Changes
+
+// Puts a rule at each place once the rehearsal is agreed to: at the rank that is typed, or else at a free one.
+async function put(name, scopes, typedRank, rule, tools) {
+  await readHeld(READ[name]);
+  const places = scopes.map((scope) => placeOf(name, scope, typedRank, rulesOf(name, scope)));
+  const full = places.find(({ rank }) => rank === null);
+  if (full) return full.says;
+  const body = JSON.stringify(rule);
+  const command = ({ scope, rank }) => ({ scope, rank, method: "PUT", path: RULES[name].path(scope, rank), body });
+  const commands = places.map(command);
+  const words = placesWords(name, places);
+  const replaced = places.flatMap((place) => place.replaced ?? []);
+  const notes = [`${capital(ruleWords(rule))}.`, ...placeNotes(places)];
+  const days = rehearsalDays(rule, replaced);
+  const asked = { words: `Put ${words}?`, notes, commands, days, isTakedown: name === "takedowns", go: "Put it" };
+  const agreed = await rehearsed(asked, tools);
+  if (agreed.length === 0) return `Not put: ${words}.`;
+  if (places.length > 1) return putMany(name, agreed, tools);
+  await send("PUT", agreed[0].path, body);
+  await showRules(name);
+  return `Done: ${words}.`;
+}
+
+// Puts the same takedown of many disks.
+function putMany(name, commands, tools) {
+  const run = {
+    section: name,
+    items: commands,
+    word: "takedown",
+    verb: "put",
+    one: ({ method, path, body }) => send(method, path, body),
+    after: () => showRules(name),
+    heads: ["Accession", "Rank"],
+    cells: ({ scope, rank }) => [String(scope), String(rank)],
+  };
+  return sendMany(run, tools);
+}
+
+const capital = (words) => words[0].toUpperCase() + words.slice(1);
+
+function placesWords(name, places) {
+  if (places.length === 1) return RULES[name].words(places[0].scope, places[0].rank);
+  return `a takedown of ${counted(places.length, "disk")}`;
+}
+
+// What is to be said of the places: of one all, of many only what replaces something or comes after others.
+function placeNotes(places) {
+  if (places.length === 1) return places[0].says ? [places[0].says] : [];
+  const notes = places.map(({ says }) => says).filter((says) => /^(In use|No rank)/.test(says));
+  const rest = notes.length - MOST_NOTES;
+  return rest > 0 ? [...notes.slice(0, MOST_NOTES), `The same of ${counted(rest, "more disk")}.`] : notes;
+}
+
+async function drop(name, scope, rule, tools) {
+  const { path, words } = RULES[name];
+  const said = words(scope, rule.rank);
+  const commands = [{ scope, rank: rule.rank, method: "DELETE", path: path(scope, rule.rank) }];
+  const notes = [`It stands: ${ruleWords(rule)}.`];
+  const asked = { words: `Drop ${said}?`, notes, commands, days: rehearsalDays(rule), go: "Drop it" };
+  if ((await rehearsed(asked, tools)).length === 0) return `Kept: ${said}.`;
+  await send("DELETE", path(scope, rule.rank));
+  await showRules(name);
+  return `Done: there is no ${said} now.`;
+}
+
+// The dialog in which a rule is changed where it stands.
+function changeRule(name, scope, rule) {
+  const dialog = part("change");
+  const form = element("form", null, { autocomplete: "off", method: "dialog" });
+  makeRuleForm(name, form);
+  form.elements.rank.value = rule.rank;
+  form.elements.rank.readOnly = true;
+  fillRule(form, rule);
+  form.append(leaveButton());
+  form.addEventListener("submit", (event) => {
+    event.preventDefault();
+    const changed = ruleIn(form);
+    dialog.close();
+    change(name, (tools) => put(name, [scope], String(rule.rank), changed, tools));
+  });
+  part("change-heading").textContent = `Change ${RULES[name].words(scope, rule.rank)}`;
+  dialog.querySelector("form").replaceWith(form);
+  dialog.showModal();
+}
+
+export function leaveButton() {
+  const made = element("button", "Leave it as it is", { type: "button", name: "leave" });
+  made.addEventListener("click", () => part("change").close());
+  return made;
+}
+
+// Tables
+
+function button(words, label, press) {
+  const made = element("button", words, { type: "button" });
+  made.setAttribute("aria-label", label);
+  made.addEventListener("click", press);
+  return made;
+}
+
+export function buttonsCell(words, presses) {
+  const made = element("div", null, { className: "choices" });
+  made.append(...Object.entries(presses).map(([text, press]) => button(text, `${text} ${words}`, press)));
+  return cell("", made, "work");
+}
+
+function ruleRow(name, { scope, rule }) {
+  const { of, words } = RULES[name];
+  const shown = name === "takedowns" ? withTitle(String(scope), scope) : String(scope);
+  const texts = Object.entries(ruleTexts(rule));
+  const cells = [cell(of, shown), ...texts.map(([label, text]) => cell(label, dated("span", text)))];
+  const presses = {
+    Change: () => changeRule(name, scope, rule),
+    Drop: () => change(name, (tools) => drop(name, scope, rule, tools)),
+  };
+  return row([...cells, buttonsCell(words(scope, rule.rank), presses)]);
+}
+
+// Draws those that stand: of the deed or the disks that are typed, or all.
+function draw(name) {
+  const { of } = RULES[name];
+  const typed = formOf(name).elements.scope.value;
+  const scopes = new Set(scopesIn(name, typed));
+  const all = standing(name);
+  const shown = typed === "" ? all : all.filter(({ scope }) => scopes.has(scope));
+  const word = name === "rules" ? "rule" : "takedown";
+  const things = name === "rules" ? "deed" : "disk";
+  const where = typed === "" ? "" : ` of ${things}${scopes.size > 1 ? "s" : ""} ${typed}`;
+  const count = element("p", shown.length ? `${counted(shown.length, word)}${where}.` : `There is no ${word}${where}.`);
+  const columns = [of, "Rank", "For whom", "Which files", "They may", "Days", ""];
+  const made = shown.length ? [longTable(`${word}s that stand`, columns, shown, (one) => ruleRow(name, one))] : [];
+  part(name).querySelector(".stands").replaceChildren(count, ...made);
+}
+
+// Reads what stands anew, and shows it.
+export async function showRules(name) {
+  await readHeld(READ[name]);
+  draw(name);
+  hint(name);
+}
+
+// Says below the fields which rank it will be, and what stands there.
+function hint(name) {
+  const form = formOf(name);
+  const { scope, rank } = form.elements;
+  const scopes = scopesIn(name, scope.value);
+  const places = scopes.map((one) => placeOf(name, one, rank.value, rulesOf(name, one)));
+  const title = name === "takedowns" && places.length === 1 ? titleOf(scopes[0]) : "";
+  const words = [title && `\u201c${title}\u201d.`, ...placeNotes(places)].filter(Boolean).join(" ");
+  const isEmpty = name === "rules" && rank.value === "";
+  form.querySelector(".hint").replaceChildren(...(words && !isEmpty ? [dated("span", words)] : []));
+}
+
+// The section of rules or takedowns: where a deed or a disk is named, for that one.
+export async function openRules(name, scope) {
+  if (scope !== undefined) formOf(name).elements.scope.value = scope;
+  await showRules(name);
+}
+
+export function listenForRules(name) {
+  const form = formOf(name);
+  makeRuleForm(name, form);
+  if (name === "takedowns") takeMany(form);
+  form.elements.scope.addEventListener("input", () => draw(name));
+  form.addEventListener("input", () => hint(name));
+  form.addEventListener("submit", (event) => {
+    event.preventDefault();
+    const { scope, rank } = form.elements;
+    change(name, (tools) => put(name, scopesIn(name, scope.value), rank.value, ruleIn(form), tools));
+  });
+}
+
+// A takedown may be for many disks, and needs no rank.
+function takeMany(form) {
+  const { scope, rank } = form.elements;
+  Object.assign(rank, { required: false, placeholder: "free" });
+  Object.assign(scope, { pattern: ".*", inputMode: "text", size: 20, title: "as in 1001-1011, 1020" });
+  scope.addEventListener("input", () => {
+    const lacks = accessionsIn(scope.value) === null;
+    scope.setCustomValidity(lacks ? `Type numbers as in 1001-1011, 1020; at most ${MOST_DISKS} at once.` : "");
+  });
+}

@@ -1,0 +1,123 @@
+// Words for what stands at a desk: audiences, effects, rules and days, and what the fields for them take.
+
+export const AUDIENCES = { public: "the public", room: "the reading room", staff: "the staff" };
+export const EFFECTS = { read: "read them", list: "see that they are there", deny: "see nothing of them" };
+
+export const audienceWords = (audiences) => listed(audiences.map((audience) => AUDIENCES[audience]));
+
+// Words as a list in a sentence.
+export function listed(words) {
+  if (words.length < 2) return words.join("");
+  return `${words.slice(0, -1).join(", ")} and ${words.at(-1)}`;
+}
+
+function printed(least, most) {
+  return { pattern: `[\\x20-\\x7E]{${least},${most}}`, title: "as the desk prints it", required: least > 0 };
+}
+
+// Ways to select files: the words to choose and to show each, and, where it takes a value, how to type and send that.
+export const SELECTORS = {
+  all: { choice: "all files", shown: () => "all files", sent: () => true },
+  slot: {
+    choice: "the file at a slot",
+    field: "Slot",
+    limits: { pattern: "0|[1-9][0-9]{0,3}", title: "a number from 0 to 9999", required: true },
+    shown: (slot) => `the file at slot ${slot}`,
+    sent: Number,
+  },
+  prefix: {
+    choice: "files whose names begin alike",
+    field: "They begin with",
+    limits: printed(1, 64),
+    shown: (words) => `files whose names begin with \u201c${words}\u201d`,
+    sent: String,
+  },
+  user: {
+    choice: "files of a user of CP/M",
+    field: "User",
+    limits: { pattern: "[0-9]|1[0-5]", title: "a number from 0 to 15", required: true },
+    shown: (user) => `files of user ${user}`,
+    sent: Number,
+  },
+  type: {
+    choice: "files of a type",
+    field: "Type, or nothing",
+    limits: printed(0, 16),
+    shown: (words) => (words === "" ? "files without a type" : `files of type \u201c${words}\u201d`),
+    sent: String,
+  },
+};
+
+// What the fields take, by their names.
+const NUMBER = { pattern: "[1-9][0-9]{0,5}", title: "a number from 1 to 999999", inputMode: "numeric", size: 7 };
+const DAY = { min: "0001-01-01", max: "9999-12-31" };
+export const LIMITS = {
+  deed: NUMBER,
+  accession: NUMBER,
+  scope: NUMBER,
+  rank: { ...NUMBER, pattern: "[1-9][0-9]{0,3}", title: "a number from 1 to 9999" },
+  signed: DAY,
+  from: DAY,
+  until: DAY,
+  day: DAY,
+  before: DAY,
+  digest: { pattern: "[0-9A-Fa-f]{64}", title: "64 hexadecimal digits" },
+};
+
+// Rules of a deed and takedowns: what they belong to, what they may let readers do, and their paths.
+export const RULES = {
+  rules: {
+    of: "Deed",
+    words: (scope, rank) => `rule ${rank} of deed ${scope}`,
+    effects: ["read", "list", "deny"],
+    path: (scope, rank) => `/deeds/${scope}/rules/${rank}`,
+  },
+  takedowns: {
+    of: "Accession",
+    words: (scope, rank) => `takedown ${rank} of disk ${scope}`,
+    effects: ["list", "deny"],
+    path: (scope, rank) => `/images/${scope}/rules/${rank}`,
+  },
+};
+
+// The one entry of a selector: how it selects, and by what.
+export const selection = (rule) => Object.entries(rule.select)[0];
+
+export function filesWords(rule) {
+  const [how, what] = selection(rule);
+  return SELECTORS[how].shown(what);
+}
+
+export function daysWords({ from, until }) {
+  if (from && until && from >= until) return `on no day: from ${from}, but until ${until}`;
+  if (!from && !until) return "on all days";
+  return [from && `from ${from}`, until && `until ${until}`].filter(Boolean).join(", ");
+}
+
+// The texts of a rule, by the columns of its table.
+export const ruleTexts = (rule) => ({
+  Rank: String(rule.rank),
+  "For whom": audienceWords(rule.audiences),
+  "Which files": filesWords(rule),
+  "They may": EFFECTS[rule.effect],
+  Days: daysWords(rule),
+});
+
+const SHORT = { read: "readable for", list: "only listed for", deny: "hidden from" };
+
+// A rule in short.
+export const ruleWords = (rule) =>
+  `${filesWords(rule)} ${SHORT[rule.effect]} ${audienceWords(rule.audiences)}, ${daysWords(rule)}`;
+
+// A day some days after another, both as texts. A year may have fewer than four digits.
+export function dayAfter(day, days) {
+  const date = new Date(`${day}T00:00:00Z`);
+  date.setUTCDate(date.getUTCDate() + days);
+  return date.toISOString().slice(0, 10);
+}
+
+// Today by the clock of this computer.
+export function today() {
+  const now = new Date();
+  return new Date(now.getTime() - now.getTimezoneOffset() * 60000).toISOString().slice(0, 10);
+}

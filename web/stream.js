@@ -1,0 +1,56 @@
+// Long tables of the desk, read while they come in, and files that the page saves.
+import { Records } from "./csv.js";
+import { Refused, ask, element } from "./shared.js";
+
+// For how many milliseconds the page works on before it lets the browser do something else.
+const LONGEST_WORK = 16;
+
+const pause = () => new Promise((go) => setTimeout(go));
+
+// Lets the browser breathe where the page has worked for long.
+export function breather() {
+  let since = performance.now();
+  return async () => {
+    if (performance.now() - since < LONGEST_WORK) return;
+    await pause();
+    since = performance.now();
+  };
+}
+
+// The parts of a reply's text. A connection that ends too early is a lost one.
+async function* partsOf(reply) {
+  const reader = reply.body.pipeThrough(new TextDecoderStream()).getReader();
+  for (;;) {
+    const { done, value } = await reader.read().catch(() => {
+      throw new Refused(0, {});
+    });
+    if (done) return;
+    yield value;
+  }
+}
+
+// Reads a table of the desk, hands its records on without the first, and says how many have come. A pace of 64 KB keeps
+// each piece of work short.
+export async function readTable(path, { method = "GET", body, take, progress = () => {}, signal }) {
+  const reply = await ask(path, { method, body, signal });
+  const records = new Records();
+  const breathe = breather();
+  let count = -1;
+  for await (const text of partsOf(reply)) {
+    for (let at = 0; at < text.length; at += 65536) {
+      const came = records.add(text.slice(at, at + 65536));
+      came.slice(count < 0 ? 1 : 0).forEach(take);
+      count += came.length;
+      await breathe();
+    }
+    progress(Math.max(count, 0));
+  }
+  if (count < 0 || records.rest !== "") throw new Refused(0, {});
+}
+
+// Has the browser save a file.
+export function save(name, parts, type) {
+  const address = URL.createObjectURL(new Blob(parts, { type }));
+  element("a", null, { href: address, download: name }).click();
+  setTimeout(() => URL.revokeObjectURL(address), 60000);
+}

@@ -1,0 +1,46 @@
+// Titles and notes that the museum gives its disks, in tables beside the pages: `accession,title,note`.
+import { recordsOf } from "./csv.js";
+import { element } from "./shared.js";
+
+const COLUMNS = "accession,title,note";
+
+const titles = new Map();
+
+// Reads tables, of which a later one goes before an earlier one. A table that is not there, or is none, has no titles.
+export async function readTitles(paths) {
+  const texts = await Promise.all(paths.map(fetchText));
+  for (const text of texts) {
+    const [heads, ...records] = recordsOf(text) ?? [];
+    if (heads?.join() !== COLUMNS) continue;
+    for (const [accession, title = "", note = ""] of records) {
+      const search = `${title}\n${note}`.toLowerCase();
+      if (/^[1-9][0-9]{0,5}$/.test(accession)) titles.set(Number(accession), { title, note, search });
+    }
+  }
+}
+
+async function fetchText(path) {
+  const options = { cache: "no-store", credentials: "omit", redirect: "error" };
+  const reply = await fetch(path, options).catch(() => null);
+  return reply?.ok ? reply.text().catch(() => "") : "";
+}
+
+export const hasTitles = () => titles.size > 0;
+
+export const titleOf = (accession) => titles.get(accession)?.title ?? "";
+
+export const noteOf = (accession) => titles.get(accession)?.note ?? "";
+
+// Whether the title or the note of a disk has some words, which are in small letters.
+export const isTitled = (accession, words) => titles.get(accession)?.search.includes(words) === true;
+
+// The disks whose title or note has some words.
+export const titled = (words) => [...titles.keys()].filter((accession) => isTitled(accession, words));
+
+// Something that stands for a disk, with its title below where it has one.
+export function withTitle(shown, accession) {
+  const made = element("div", null);
+  made.append(shown);
+  if (titleOf(accession) !== "") made.append(element("span", titleOf(accession), { className: "title" }));
+  return made;
+}

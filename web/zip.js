@@ -1,0 +1,58 @@
+// A zip of files as they are, without compression.
+
+const TABLE = Uint32Array.from({ length: 256 }, (_, start) => {
+  let value = start;
+  for (let bit = 0; bit < 8; bit += 1) value = value & 1 ? (value >>> 1) ^ 0xedb88320 : value >>> 1;
+  return value;
+});
+
+// The check sum that a zip keeps of a file.
+export function crcOf(bytes) {
+  let value = 0xffffffff;
+  for (const byte of bytes) value = (value >>> 8) ^ TABLE[(value ^ byte) & 0xff];
+  return (value ^ 0xffffffff) >>> 0;
+}
+
+const VERSION = 20;
+// 1980-01-01, the first day that a zip can have.
+const DAY = 0x0021;
+
+// Numbers as a zip has them: of two or four bytes each, the low byte first.
+function numbers(...pairs) {
+  const view = new DataView(new ArrayBuffer(pairs.reduce((length, [size]) => length + size, 0)));
+  let at = 0;
+  for (const [size, value] of pairs) {
+    if (size === 2) view.setUint16(at, value, true);
+    else view.setUint32(at, value, true);
+    at += size;
+  }
+  return new Uint8Array(view.buffer);
+}
+
+// What stands of a file both before its bytes and in the directory.
+function fields({ name, bytes, crc }) {
+  const sizes = [[4, bytes.length], [4, bytes.length], [2, name.length], [2, 0]];
+  return [[2, VERSION], [2, 0], [2, 0], [2, 0], [2, DAY], [4, crc], ...sizes];
+}
+
+function entry(file, place) {
+  return numbers([4, 0x02014b50], [2, VERSION], ...fields(file), [2, 0], [2, 0], [2, 0], [4, 0], [4, place]);
+}
+
+// The parts of a zip of files, each a name in ASCII and its bytes.
+export function zipParts(files) {
+  const parts = [];
+  const directory = [];
+  let place = 0;
+  for (const { name, bytes } of files) {
+    const file = { name: new TextEncoder().encode(name), bytes, crc: crcOf(bytes) };
+    const head = numbers([4, 0x04034b50], ...fields(file));
+    parts.push(head, file.name, bytes);
+    directory.push(entry(file, place), file.name);
+    place += head.length + file.name.length + bytes.length;
+  }
+  const size = directory.reduce((length, part) => length + part.length, 0);
+  const count = files.length;
+  const end = numbers([4, 0x06054b50], [2, 0], [2, 0], [2, count], [2, count], [4, size], [4, place], [2, 0]);
+  return [...parts, ...directory, end];
+}
