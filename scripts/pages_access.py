@@ -7,6 +7,7 @@ import time
 
 import made_museum
 from page_tabs import StaffTab, door
+from pages_journal import journal
 from pages_many import DUMPS, ROWS, choose, sheet_text
 from pages_readers import ReadersTab
 from pages_reading import FILES, made_disk
@@ -149,7 +150,8 @@ def see_staff(seen, tab):
     see_view(seen, tab, "staff without a key", set())
     tab.begin()
     titles = set()
-    for place in ("deeds", "rules", "disks", "takedowns", "keys", "checks", "eyes", "year"):
+    tab.door.journals = {"/journal": journal()}
+    for place in ("deeds", "rules", "disks", "takedowns", "keys", "checks", "eyes", "year", "journal", "journal/1002"):
         tab.go(place)
         if place in ("eyes", "year"):
             tab.press(f"#{place} [type=submit]")
