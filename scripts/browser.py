@@ -30,6 +30,14 @@ if (location.hash === place) done();
 window.addEventListener("hashchange", () => setTimeout(done), { once: true });
 location.hash = place;
 """
+# A script: gives a field a value, as somebody who types or chooses it.
+SET = """
+const [selector, value] = arguments;
+const field = document.querySelector(selector);
+if (field.type === "checkbox") field.checked = value; else field.value = value;
+field.dispatchEvent(new Event("input", { bubbles: true }));
+field.dispatchEvent(new Event("change", { bubbles: true }));
+"""
 
 
 class Browser:

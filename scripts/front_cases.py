@@ -1,6 +1,6 @@
 """What nginx does for readers beyond handing requests on: heads, ranges, names of downloads, packed text, validators,
-its own refusals, pages of other sites, what the staff may ask, the journal, the desk's health, and files of the page and
-of the museum's own. scripts/behind-nginx.py asks for these. Each group comes from an address of its own."""
+its own refusals, pages of other sites, what the staff may ask, the journal, the desk's health, and files of the page
+and of the museum's own. scripts/behind-nginx.py asks for these. Each group comes from an address of its own."""
 
 import contextlib
 import gzip
@@ -282,8 +282,8 @@ def see_staffs_questions(seen, room):
 
 
 # Forms of the journal's path, and what comes there that would change something.
-JOURNALS = ["/journal", "/journal-2026-10", "/journal-2026-11", "/journal-2026-12", "/journal?x", "//journal", "/%6aournal"]
-JOURNALS += ["/x/../journal", "/.journal", "/.journal-2026-11", "/.staff"]
+JOURNALS = ["/journal", "/journal-2026-10", "/journal-2026-11", "/journal-2026-12", "/journal?x", "//journal"]
+JOURNALS += ["/%6aournal", "/x/../journal", "/.journal", "/.journal-2026-11", "/.staff"]
 COMMANDS = ("PUT", "POST", "DELETE", "PATCH")
 
 
@@ -328,8 +328,8 @@ def see_journal_file(seen, staff, name, wanted, key):
         for method in ("GET", "HEAD"):
             came = staff.ask(method, name, fields)
             due = staff.room.ask_desk(get("/staff/keys", other))[1] if method == "GET" else b""
-            wanted_ = (status, due, "no-store")
-            seen.same(f"journal: {name}: {method}: {label}", wanted_, (came.status, came.body, came.one("Cache-Control")))
+            told = came.status, came.body, came.one("Cache-Control")
+            seen.same(f"journal: {name}: {method}: {label}", (status, due, "no-store"), told)
         came = staff.ask("DELETE", name, fields).status
         seen.same(f"journal: {name}: DELETE: {label}", status, came)
 

@@ -130,8 +130,8 @@ def see_other_ways(seen, room, journal):
 
 
 def see_none(seen, room, journal):
-    """What changes nothing has no line: questions, rehearsals, what comes to the journal itself, and all that comes from
-    outside."""
+    """What changes nothing has no line: questions, rehearsals, what comes to the journal itself, and all that comes
+    from outside."""
     journal.skip()
     outside = Door(room, "127.0.4.1", "outside")
     rehearsal = "/staff/rehearsals/2030-01-01/images/15/rules/1"

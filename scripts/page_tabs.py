@@ -28,12 +28,12 @@ return {
   sure: sure?.open ? texts(sure, "h2, #sure-more p, #sure-more h3, #sure-more li") : null,
 };
 """
-SET = """
-const [selector, value] = arguments;
-const field = document.querySelector(selector);
-if (field.type === "checkbox") field.checked = value; else field.value = value;
-field.dispatchEvent(new Event("input", { bubbles: true }));
-field.dispatchEvent(new Event("change", { bubbles: true }));
+# The longest piece of work of the page from then on, in milliseconds, as window.longest.
+WATCH = """
+window.longest = 0;
+new PerformanceObserver((list) => {
+  for (const entry of list.getEntries()) window.longest = Math.max(window.longest, entry.duration);
+}).observe({ type: "longtask" });
 """
 
 
@@ -74,7 +74,7 @@ class StaffTab(Tab):
         return shown
 
     def set(self, selector, value):
-        self.browser.script(SET, selector, value)
+        self.browser.script(browser.SET, selector, value)
 
     def go(self, place):
         """Goes to a view."""

@@ -6,8 +6,7 @@ import time
 import urllib.parse
 
 import made_museum
-from page_tabs import Tab, door
-from pages_eyes import WATCH
+from page_tabs import WATCH, Tab, door
 from pages_rehearsal import HARMFUL, harmful_disk
 
 READ = """
