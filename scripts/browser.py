@@ -136,6 +136,19 @@ class Browser:
     def logs(self):
         return [line["message"] for line in self.command("POST", "/se/log", {"type": "browser"})]
 
+    @contextlib.contextmanager
+    def phone(self):
+        """While this is entered, the screen has 360 by 640 points."""
+        measures = {"width": 360, "height": 640, "deviceScaleFactor": 1, "mobile": True}
+        self.cdp("Emulation.setDeviceMetricsOverride", measures)
+        yield
+        self.cdp("Emulation.clearDeviceMetricsOverride", {})
+
+    def scheme(self, name):
+        """Takes the colours that the reader's machine wishes: light or dark."""
+        features = [{"name": "prefers-color-scheme", "value": name}]
+        self.cdp("Emulation.setEmulatedMedia", {"features": features})
+
     def picture(self, path, width, height):
         """Writes a picture of the page, in a window of this size."""
         measures = {"width": width, "height": height, "deviceScaleFactor": 1, "mobile": False}

@@ -1,4 +1,4 @@
-"""Headless Firefox, spoken to by Marionette, which it has of itself: lines of JSON, each behind its length. It can all
+"""Headless Firefox, spoken to by Marionette, which it has of itself: texts of JSON, each behind its length. It can all
 that scripts/browser.py can, but for what is Chromium's own."""
 
 import contextlib
@@ -30,7 +30,21 @@ SETTINGS = {
     "network.captive-portal-service.enabled": False, "network.connectivity-service.enabled": False,
     "browser.safebrowsing.malware.enabled": False, "browser.safebrowsing.phishing.enabled": False,
     "extensions.systemAddon.update.enabled": False, "services.settings.server": "data:,", "dom.ipc.processCount": 1,
+    "ui.useOverlayScrollbars": 1,
 }
+# Scripts for Firefox itself: what it says of pages; the measures of a page; and the colours that a reader wishes.
+LOGS = """
+const said = Services.console.getMessageArray().filter((one) => one instanceof Ci.nsIScriptError);
+Services.console.reset();
+return said.filter((one) => one.sourceName.startsWith("http")).map((one) => one.errorMessage);
+"""
+MEASURE = """
+const [width, height] = arguments;
+const page = gBrowser.selectedBrowser.style;
+for (const name of ["width", "min-width", "max-width"]) page.setProperty(name, width);
+for (const name of ["height", "min-height", "max-height"]) page.setProperty(name, height);
+"""
+SCHEME = "Services.prefs.setIntPref('layout.css.prefers-color-scheme.content-override', arguments[0]);"
 
 
 class Firefox(Browser):
@@ -45,7 +59,7 @@ class Firefox(Browser):
         lines = [f"user_pref({json.dumps(name)}, {json.dumps(value)});\n" for name, value in {**SETTINGS, **own}.items()]
         (folder / "profile" / "user.js").write_text("".join(lines))
         home = {**os.environ, "HOME": str(folder / "home"), "TMPDIR": str(folder)}
-        words = ["firefox-esr", "--headless", "--marionette", "--no-remote", "--profile", str(folder / "profile")]
+        words = ["firefox-esr", "--headless", "--marionette", "--remote-allow-system-access", "--no-remote", "--profile", str(folder / "profile")]
         streams = {name: subprocess.DEVNULL for name in ("stdin", "stdout", "stderr")}
         # the processes that it starts are of the same group
         self.driver = subprocess.Popen(words, env=home, start_new_session=True, **streams)
@@ -98,3 +112,30 @@ class Firefox(Browser):
 
     def cdp(self, name, values):
         raise NotImplementedError(f"{name} is Chromium's own")
+
+    def own(self, text, *values):
+        """What a script gives that runs in Firefox itself, and not in a page."""
+        self.say("Marionette:SetContext", {"value": "chrome"})
+        try:
+            return self.say("WebDriver:ExecuteScript", {"script": text, "args": values})
+        finally:
+            self.say("Marionette:SetContext", {"value": "content"})
+
+    def press(self, *keys):
+        """A Tab behind the last control of a page leads to Firefox's own. From there this leads back, as more Tabs do."""
+        if not self.script("return document.hasFocus()"):
+            self.own("gBrowser.selectedBrowser.focus()")
+        super().press(*keys)
+
+    def logs(self):
+        """What Firefox says of the pages since it was asked last."""
+        return self.own(LOGS)
+
+    @contextlib.contextmanager
+    def phone(self):
+        self.own(MEASURE, "360px", "640px")
+        yield
+        self.own(MEASURE, "", "")
+
+    def scheme(self, name):
+        self.own(SCHEME, ("dark", "light").index(name))

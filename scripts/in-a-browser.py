@@ -519,18 +519,16 @@ def see_keyboard(seen, page, room):
 
 def see_small(seen, page, room):
     """On a screen of 360 points nothing is wider than it; what is long scrolls in its own box."""
-    measured = {"width": 360, "height": 640, "deviceScaleFactor": 1, "mobile": True}
-    page.browser.cdp("Emulation.setDeviceMetricsOverride", measured)
-    wide = "return [document.documentElement.scrollWidth, window.innerWidth]"
-    for place in ("", "16", "19", "19/2", "14/0", "18/0", "find/E"):
-        page.go(place)
-        seen.same(f"small screen: {place or 'the disks'}", [360, 360], page.browser.script(wide))
-    page.go("16")
-    label = "return getComputedStyle(document.querySelector('tbody td'), '::before').content"
-    seen.same("small screen: each cell has its label", '"Slot"', page.browser.script(label))
-    hidden = "return ['thead', 'td.empty'].map((one) => document.querySelector(one).getBoundingClientRect().width)"
-    seen.same("small screen: no heads, and no empty cells", [0, 0], page.browser.script(hidden))
-    page.browser.cdp("Emulation.clearDeviceMetricsOverride", {})
+    with page.browser.phone():
+        wide = "return [document.documentElement.scrollWidth, window.innerWidth]"
+        for place in ("", "16", "19", "19/2", "14/0", "18/0", "find/E"):
+            page.go(place)
+            seen.same(f"small screen: {place or 'the disks'}", [360, 360], page.browser.script(wide))
+        page.go("16")
+        label = "return getComputedStyle(document.querySelector('tbody td'), '::before').content"
+        seen.same("small screen: each cell has its label", '"Slot"', page.browser.script(label))
+        hidden = "return ['thead', 'td.empty'].map((one) => document.querySelector(one).getBoundingClientRect().width)"
+        seen.same("small screen: no heads, and no empty cells", [0, 0], page.browser.script(hidden))
 
 
 def see_down(seen, page, room):

@@ -4,7 +4,8 @@
 scripts/pages-over-a-stand-in.py looks at all of both pages in Chromium. This looks in another browser at the main ways
 through them: for readers the list, the search, files as texts, listings and digits, downloads and the zip; for the
 staff what stands and its changes, rehearsals, takedowns of many disks, sheets, a look through others' eyes, and the
-journal. What only Chromium can measure, such as the time of a piece of work, is left to that script.
+journal; and in each view of both the names of controls, contrast, headings, focus, width, and what the browser refuses
+there. What only Chromium can measure, such as the time of a piece of work, is left to that script.
 
 You need Python 3 with its standard library alone, Linux, and Debian's firefox-esr, which the script installs as root if
 it is missing. PART names the parts to look at; all of them where none is named."""
@@ -17,6 +18,7 @@ import tempfile
 
 import firefox
 import made_museum
+import pages_access
 import pages_eyes
 import pages_journal
 import pages_many
@@ -58,16 +60,16 @@ def see_found(seen, tab):
     seen.same("found: the list is asked for once", 1, len(asked))
 
 
-def see_reading(seen, browser):
-    """Files in each way, as downloads, and all of a disk as a zip."""
+def see_eyes(seen, browser):
     museum = made_museum.small()
-    pages_reading.made_disk(museum, 2001, "d64", pages_reading.FILES)
-    pages_reading.made_disk(museum, 2002, "cpm8", [("LETTER.TXT", "TXT", pages_reading.STAR)])
-    with door(museum, outside=True) as outside:
-        tab = pages_readers.ReadersTab(browser, outside)
-        tab.read()
-        for group in ("see_views", "see_downloads", "see_zip", "see_zip_refused", "see_real"):
-            getattr(pages_reading, group)(seen, tab)
+    pages_rehearsal.harmful_disk(museum, 1066, 7)
+    museum.rules["R7"].pop(10)
+    with door(museum) as staffs:
+        tab = StaffTab(browser, staffs)
+        tab.begin()
+        pages_eyes.see_day(seen, tab, "2030-01-01")
+        for group in ("see_search", "see_year", "see_bound"):
+            getattr(pages_eyes, group)(seen, tab)
 
 
 def see_journal(seen, browser):
@@ -78,8 +80,9 @@ def see_journal(seen, browser):
 
 
 PARTS = {
-    "list": see_list, "reading": see_reading, "titles": pages_titles.see, "standing": pages_standing.see,
-    "rehearsal": pages_rehearsal.see, "many": pages_many.see, "eyes": pages_eyes.see, "journal": see_journal,
+    "list": see_list, "reading": pages_reading.see, "titles": pages_titles.see, "standing": pages_standing.see,
+    "rehearsal": pages_rehearsal.see, "many": pages_many.see, "eyes": see_eyes, "journal": see_journal,
+    "access": pages_access.see,
 }
 
 

@@ -123,10 +123,9 @@ class StaffTab(Tab):
 
 def picture(tab, name, width, dark=False, height=900):
     """Writes a picture of the page, to look at."""
-    features = [{"name": "prefers-color-scheme", "value": "dark" if dark else "light"}]
-    tab.browser.cdp("Emulation.setEmulatedMedia", {"features": features})
+    tab.browser.scheme("dark" if dark else "light")
     tab.browser.picture(name, width, height)
-    tab.browser.cdp("Emulation.setEmulatedMedia", {"features": []})
+    tab.browser.scheme("light")
 
 
 @contextlib.contextmanager

@@ -632,13 +632,11 @@ def fill_for_picture(page, room):
 
 def see_small(seen, page, room):
     fill_for_picture(page, room)
-    measured = {"width": 360, "height": 640, "deviceScaleFactor": 1, "mobile": True}
-    page.browser.cdp("Emulation.setDeviceMetricsOverride", measured)
-    wide = "return [document.documentElement.scrollWidth, window.innerWidth]"
-    for section in ("disks", "deeds", "rules", "takedowns", "keys", "checks", "eyes", "year", "journal"):
-        page.view(section)
-        seen.same(f"small screen: {section}", [360, 360], page.browser.script(wide))
-    page.browser.cdp("Emulation.clearDeviceMetricsOverride", {})
+    with page.browser.phone():
+        wide = "return [document.documentElement.scrollWidth, window.innerWidth]"
+        for section in ("disks", "deeds", "rules", "takedowns", "keys", "checks", "eyes", "year", "journal"):
+            page.view(section)
+            seen.same(f"small screen: {section}", [360, 360], page.browser.script(wide))
 
 
 # Statuses that were told are told by the browser's log too; nothing else may be there.
