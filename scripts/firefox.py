@@ -56,10 +56,12 @@ class Firefox(Browser):
         for name in ("home", "downloads", "profile"):
             (folder / name).mkdir()
         own = {"marionette.port": self.port, "browser.download.dir": str(folder / "downloads")}
-        lines = [f"user_pref({json.dumps(name)}, {json.dumps(value)});\n" for name, value in {**SETTINGS, **own}.items()]
+        settings = {**SETTINGS, **own}.items()
+        lines = [f"user_pref({json.dumps(name)}, {json.dumps(value)});\n" for name, value in settings]
         (folder / "profile" / "user.js").write_text("".join(lines))
         home = {**os.environ, "HOME": str(folder / "home"), "TMPDIR": str(folder)}
-        words = ["firefox-esr", "--headless", "--marionette", "--remote-allow-system-access", "--no-remote", "--profile", str(folder / "profile")]
+        words = ["firefox-esr", "--headless", "--marionette", "--remote-allow-system-access", "--no-remote"]
+        words += ["--profile", str(folder / "profile")]
         streams = {name: subprocess.DEVNULL for name in ("stdin", "stdout", "stderr")}
         # the processes that it starts are of the same group
         self.driver = subprocess.Popen(words, env=home, start_new_session=True, **streams)
@@ -69,7 +71,7 @@ class Firefox(Browser):
         reading_room.wait_for(self.port, self.driver)
         self.session = socket.create_connection((HOST, self.port), LIMIT)
         self.take()
-        self.say("WebDriver:NewSession", {"capabilities": {"alwaysMatch": {"acceptInsecureCerts": True}}})
+        self.say("WebDriver:NewSession", {"acceptInsecureCerts": True})
         self.say("WebDriver:SetWindowRect", {"width": 1100, "height": 900})
 
     def close(self):
@@ -122,7 +124,7 @@ class Firefox(Browser):
             self.say("Marionette:SetContext", {"value": "content"})
 
     def press(self, *keys):
-        """A Tab behind the last control of a page leads to Firefox's own. From there this leads back, as more Tabs do."""
+        """A Tab behind the last control of a page leads to Firefox's own: this leads back, as more Tabs would."""
         if not self.script("return document.hasFocus()"):
             self.own("gBrowser.selectedBrowser.focus()")
         super().press(*keys)

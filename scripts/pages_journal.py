@@ -269,7 +269,7 @@ def see_none(seen, tab):
     seen.same("none: the staff's again", True, len(tab.press("#journal [name=anew]")["rows"]) == 10)
 
 
-UNREAD = "nginx may not read its journal. Whoever runs the desk has to give its group the right to read the file."
+UNREAD = "nginx cannot read its journal. Most likely its group may not: call whoever runs the desk."
 LOST = "This page cannot reach the desk. Check the connection, and try again."
 
 
@@ -291,7 +291,7 @@ def see_large(seen, tab):
         shown = tab.press("#journal [name=older]")
         longest.append(tab.browser.script("return window.longest"))
     seen.same("large: it is full", True, "100,001 changes read, " in shown["stands"][0])
-    seen.same("large: and says so", True, shown["stands"][0].endswith("The page holds no more of them."))
+    seen.same("large: and says so", True, shown["stands"][0].endswith("The page reads no more of them."))
     left = "0 changes shown here; 100,001 checks of disks left out."
     seen.same("large: checks are left out", left, shown["stands"][1])
     tab.fill("journal", checks=True)
@@ -303,8 +303,8 @@ def see_large(seen, tab):
 
 
 def see_bound(seen, tab):
-    wanted = "the last 4 MB first and as much at each press; then what was put away month by month, "
-    wanted += "of the last 10 years, and of a month at most the last 64 MB. It holds at most 100,000 changes"
+    wanted = "the last 4 MB first and as much at each press; then what was put away, month by month, of the last 10 "
+    wanted += "years, and of a month at most the last 64 MB, until it holds 100,000 changes"
     bound = "return document.querySelector('#journal .bound').textContent"
     seen.same("journal: the bound is named", wanted, tab.browser.script(bound))
 

@@ -30,7 +30,9 @@ function ruleSaid(change) {
   return said(change, (rule) => ruleWords({ from: null, until: null, ...rule, audiences: [...rule.audiences].sort() }));
 }
 
-const deedSaid = (change) => said(change, ({ donor, signed }) => textOf(donor) && `${donor}, signed on ${textOf(signed)}`);
+function deedSaid(change) {
+  return said(change, ({ donor, signed }) => textOf(donor) && `${donor}, signed on ${textOf(signed)}`);
+}
 
 function keySaid(change, [digest]) {
   const audience = own(AUDIENCES, textOf(bodyOf(change).audience));

@@ -10,13 +10,15 @@ import { today } from "./staff.words.js";
 import { save } from "./stream.js";
 import { withTitle } from "./titles.js";
 
-// How many changes the page holds at most.
+// From how many changes on the page reads no more.
 const MOST = 100000;
 const COLUMNS = ["When", "Who", "What", "Outcome", "Reason"];
 
-const BOUND = `the last ${PIECE >> 20} MB first and as much at each press; then what was put away month by month, of the \
-last ${MONTHS / 12} years, and of a month at most the last ${LONGEST >> 20} MB. It holds at most \
-${MOST.toLocaleString("en")} changes`;
+const BOUND = [
+  `the last ${PIECE >> 20} MB first and as much at each press; then what was put away, month by month`,
+  `of the last ${MONTHS / 12} years, and of a month at most the last ${LONGEST >> 20} MB`,
+  `until it holds ${MOST.toLocaleString("en")} changes`,
+].join(", ");
 
 // What was read so far, and the changes of it from the newest on.
 let lines = new Lines();
@@ -59,7 +61,7 @@ function summary() {
   if (unknown) more.push(`Of ${unknown.toLocaleString("en")} ${UNKNOWN}, or it has not ended yet.`);
   if (read.unread) more.push(`${counted(read.unread, "line")} cannot be read.`);
   if (lines.isCut) more.push("A month had more than the page takes.");
-  if (isFull()) more.push("The page holds no more of them.");
+  if (isFull()) more.push("The page reads no more of them.");
   return more.join(" ");
 }
 
@@ -68,7 +70,8 @@ function draw() {
   if (!form.reportValidity()) return;
   const shown = found(form.elements);
   const left = form.elements.checks.checked ? 0 : changes.filter((change) => change.isCheck).length;
-  const words = `${counted(shown.length, "change")} shown here${left ? `; ${counted(left, "check")} of disks left out` : ""}.`;
+  const others = left ? `; ${counted(left, "check")} of disks left out` : "";
+  const words = `${counted(shown.length, "change")} shown here${others}.`;
   const made = shown.length ? [longTable("changes", COLUMNS, shown, changeRow)] : [];
   part("journal").querySelector(".stands").replaceChildren(dated("p", summary()), element("p", words), ...made);
   form.elements.older.disabled = lines.isWhole || isFull();
@@ -79,7 +82,7 @@ function explained(fault) {
   if (!(fault instanceof Refused)) throw fault;
   const words = {
     404: "There is no journal here: nginx has no file of it. Nobody can see here who changed what.",
-    500: "nginx may not read its journal. Whoever runs the desk has to give its group the right to read the file.",
+    500: "nginx cannot read its journal. Most likely its group may not: call whoever runs the desk.",
   };
   if (!Object.hasOwn(words, fault.status)) throw fault;
   return element("p", words[fault.status], { className: "refused" });
