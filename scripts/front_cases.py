@@ -16,7 +16,7 @@ import time
 
 import reading_room
 
-from client_cases import HOST, NOBODY, RECORD, ROOM, ROOT, STAFF, Asked, bytes_of, get, put_image
+from client_cases import HOST, NOBODY, RECORD, ROOM, STAFF, Asked, bytes_of, get, put_image
 
 FILE, DENIED, LONG_FILE_AT = "/images/15/files/0", "/images/13/files/0", "/images/21/files/0"
 RECORD_BYTES = RECORD.partition(b"\r\n\r\n")[2]

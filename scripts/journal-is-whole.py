@@ -23,7 +23,7 @@ import time
 
 import reading_room
 
-from client_cases import EVERY, HOST, LIMIT, NOBODY, ROOM, STAFF, badge, bytes_of, digest, get, put_image
+from client_cases import HOST, LIMIT, NOBODY, ROOM, STAFF, badge, bytes_of, digest, get
 from front_cases import Door, exchanged, refusal, request
 
 IMAGE = bytes_of("images", "museum.d64")

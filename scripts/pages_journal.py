@@ -3,7 +3,6 @@ in it; and a journal that is long, was rotated away, is missing or may not be re
 
 import datetime
 import json
-import time
 
 import made_museum
 from client_cases import digest
