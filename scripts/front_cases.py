@@ -304,6 +304,7 @@ def see_journal(seen, room):
     beyond = staff.get("/journal", key, ("Range", f"bytes={len(lines)}-"))
     see_refusal(seen, "journal: beyond its end", 416, beyond)
     see_refusal(seen, "journal: a month without one", 404, staff.get("/journal-2026-12", key))
+    seen.same("journal: that is no error", False, b"journal-2026-12" in (room.folder / "error.log").read_bytes())
     for name in ("/.journal", "/.journal-2026-11", "/.staff", "/journal-2026", "/journal-2026-11.gz", "/journal/"):
         see_refusal(seen, f"journal: {name}", 404, staff.get(name, key))
     for method in COMMANDS:
