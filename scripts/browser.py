@@ -30,6 +30,14 @@ if (location.hash === place) done();
 window.addEventListener("hashchange", () => setTimeout(done), { once: true });
 location.hash = place;
 """
+# A script: gives a field a value, as somebody who types or chooses it.
+SET = """
+const [selector, value] = arguments;
+const field = document.querySelector(selector);
+if (field.type === "checkbox") field.checked = value; else field.value = value;
+field.dispatchEvent(new Event("input", { bubbles: true }));
+field.dispatchEvent(new Event("change", { bubbles: true }));
+"""
 
 
 class Browser:
@@ -127,6 +135,19 @@ class Browser:
 
     def logs(self):
         return [line["message"] for line in self.command("POST", "/se/log", {"type": "browser"})]
+
+    @contextlib.contextmanager
+    def phone(self):
+        """While this is entered, the screen has 360 by 640 points."""
+        measures = {"width": 360, "height": 640, "deviceScaleFactor": 1, "mobile": True}
+        self.cdp("Emulation.setDeviceMetricsOverride", measures)
+        yield
+        self.cdp("Emulation.clearDeviceMetricsOverride", {})
+
+    def scheme(self, name):
+        """Takes the colours that the reader's machine wishes: light or dark."""
+        features = [{"name": "prefers-color-scheme", "value": name}]
+        self.cdp("Emulation.setEmulatedMedia", {"features": features})
 
     def picture(self, path, width, height):
         """Writes a picture of the page, in a window of this size."""

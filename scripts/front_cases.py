@@ -1,6 +1,6 @@
 """What nginx does for readers beyond handing requests on: heads, ranges, names of downloads, packed text, validators,
-its own refusals, pages of other sites, what the staff may ask, the desk's health, and files of the page and of the
-museum's own. scripts/behind-nginx.py asks for these. Each group comes from an address of its own."""
+its own refusals, pages of other sites, what the staff may ask, the journal, the desk's health, and files of the page
+and of the museum's own. scripts/behind-nginx.py asks for these. Each group comes from an address of its own."""
 
 import contextlib
 import gzip
@@ -12,10 +12,11 @@ import shutil
 import signal
 import socket
 import subprocess
+import time
 
 import reading_room
 
-from client_cases import HOST, RECORD, ROOT, STAFF, Asked, bytes_of, get, put_image
+from client_cases import HOST, NOBODY, RECORD, ROOM, STAFF, Asked, bytes_of, get, put_image
 
 FILE, DENIED, LONG_FILE_AT = "/images/15/files/0", "/images/13/files/0", "/images/21/files/0"
 RECORD_BYTES = RECORD.partition(b"\r\n\r\n")[2]
@@ -155,11 +156,13 @@ def see_packed(seen, room):
 
 
 def unpacked(reply):
-    """The body of a packed reply, which may come in chunks."""
-    data = reply.body
-    if reply.one("Transfer-Encoding") == "chunked":
-        data = b"".join(chunks(data))
-    return gzip.decompress(data)
+    """The body of a packed reply."""
+    return gzip.decompress(whole(reply))
+
+
+def whole(reply):
+    """The body of a reply, which may come in chunks."""
+    return b"".join(chunks(reply.body)) if reply.one("Transfer-Encoding") == "chunked" else reply.body
 
 
 def chunks(data):
@@ -278,6 +281,94 @@ def see_staffs_questions(seen, room):
         seen.same(label, room.ask_desk(asked), room.ask_staffs_door(asked))
 
 
+# Forms of the journal's path, and what comes there that would change something.
+JOURNALS = ["/journal", "/journal-2026-10", "/journal-2026-11", "/journal-2026-12", "/journal?x", "//journal"]
+JOURNALS += ["/%6aournal", "/x/../journal", "/.journal", "/.journal-2026-11", "/.staff"]
+COMMANDS = ("PUT", "POST", "DELETE", "PATCH")
+
+
+def see_journal(seen, room):
+    """The journal is at the staff's door alone, for a key of the staff, with what was rotated away in a month."""
+    staff, key = Door(room, HOST, "the staff's door"), ("Desk-Key", STAFF)
+    staff.ask("PUT", "/deeds/9999", [key], b"{}")
+    path = room.folder / "journal"
+    wait_until(lambda: path.stat().st_size > 0)
+    lines = path.read_bytes()
+    (room.folder / "journal-2026-11").write_bytes(lines * 2)
+    (room.folder / "journal-2026-10.gz").write_bytes(gzip.compress(lines * 3))
+    for name, wanted in (("/journal", lines), ("/journal-2026-11", lines * 2), ("/journal-2026-10", lines * 3)):
+        see_journal_file(seen, staff, name, wanted, key)
+    part = staff.get("/journal", key, ("Range", f"bytes=-{len(lines) - 9}"))
+    place = f"bytes 9-{len(lines) - 1}/{len(lines)}"
+    seen.same("journal: a part", (206, lines[9:], place), (part.status, part.body, part.one("Content-Range")))
+    beyond = staff.get("/journal", key, ("Range", f"bytes={len(lines)}-"))
+    see_refusal(seen, "journal: beyond its end", 416, beyond)
+    see_refusal(seen, "journal: a month without one", 404, staff.get("/journal-2026-12", key))
+    seen.same("journal: that is no error", False, b"journal-2026-12" in (room.folder / "error.log").read_bytes())
+    for name in ("/.journal", "/.journal-2026-11", "/.staff", "/journal-2026", "/journal-2026-11.gz", "/journal/"):
+        see_refusal(seen, f"journal: {name}", 404, staff.get(name, key))
+    for method in COMMANDS:
+        see_refusal(seen, f"journal: {method}", 405, staff.ask(method, "/journal", [key]))
+    seen.same("journal: what came to it is not in it", lines, path.read_bytes())
+    see_journal_outside(seen, room)
+    see_journal_unread(seen, room, staff, key)
+
+
+def see_journal_file(seen, staff, name, wanted, key):
+    """A file of the journal by a key of the staff, by other keys and by none; and its head."""
+    came, packed = staff.get(name, key), staff.get(name, key, ("Accept-Encoding", "gzip"))
+    fields = (came.one("Content-Type"), came.one("Cache-Control"), came.one("Content-Encoding"))
+    wanted_ = (200, wanted, ("application/x-ndjson", "no-store", None))
+    seen.same(f"journal: {name}", wanted_, (came.status, whole(came), fields))
+    bytes_ = unpacked(packed) if packed.one("Content-Encoding") else packed.body
+    seen.same(f"journal: {name}: packed", (200, wanted), (packed.status, bytes_))
+    head = staff.ask("HEAD", name, [key])
+    seen.same(f"journal: {name}: HEAD", (200, b""), (head.status, head.body))
+    for label, other, status in (("no key", None, 403), ("the room's", ROOM, 403), ("unknown", NOBODY, 401)):
+        fields = [("Desk-Key", other)] if other else []
+        for method in ("GET", "HEAD"):
+            came = staff.ask(method, name, fields)
+            due = staff.room.ask_desk(get("/staff/keys", other))[1] if method == "GET" else b""
+            told = came.status, came.body, came.one("Cache-Control")
+            seen.same(f"journal: {name}: {method}: {label}", (status, due, "no-store"), told)
+        came = staff.ask("DELETE", name, fields).status
+        seen.same(f"journal: {name}: DELETE: {label}", status, came)
+
+
+def see_journal_outside(seen, room):
+    door, lines = Door(room, "127.0.3.11", "outside"), (room.folder / "journal").read_bytes()
+    for name in JOURNALS:
+        for method in ("GET", "HEAD"):
+            came = door.ask(method, name, [("Desk-Key", STAFF)])
+            body = refusal(404) if method == "GET" else b""
+            seen.same(f"journal: outside: {method} {name}", (404, body), (came.status, came.body))
+        see_refusal(seen, f"journal: outside: PUT {name}", 403, door.ask("PUT", name, [("Desk-Key", STAFF)]))
+    seen.same("journal: outside: no line of it", lines, (room.folder / "journal").read_bytes())
+
+
+def see_journal_unread(seen, room, staff, key):
+    """nginx says 500 where it may not read the file, 404 where there is none, and 502 where the desk is down."""
+    path = room.folder / "journal"
+    mode = path.stat().st_mode
+    path.chmod(0)
+    see_refusal(seen, "journal: nginx may not read it", 500, staff.get("/journal", key))
+    path.chmod(mode)
+    path.rename(room.folder / "journal.aside")
+    see_refusal(seen, "journal: there is none", 404, staff.get("/journal", key))
+    (room.folder / "journal.aside").rename(path)
+    room.stop_desk()
+    see_refusal(seen, "journal: the desk is down", 502, staff.get("/journal", key))
+    room.start_desk()
+    for month in ("10.gz", "11"):
+        (room.folder / f"journal-2026-{month}").unlink()
+
+
+def wait_until(holds):
+    end = time.monotonic() + reading_room.LIMIT
+    while time.monotonic() < end and not holds():
+        time.sleep(0.02)
+
+
 def see_health(seen, room):
     """It is 200 while the desk answers, whatever is sent with it. The log of visits has it only where it is not."""
     fields = [("Desk-Key", "no key"), ("Range", "bytes=0-1")]
@@ -384,5 +475,5 @@ def see_both_sites(seen, room, etc, ports):
 
 GROUPS = [
     see_heads, see_ranges, see_names, see_packed, see_validators, see_refusals, see_origins, see_staffs_questions,
-    see_health, see_files, see_beside_others,
+    see_journal, see_health, see_files, see_beside_others,
 ]

@@ -1,14 +1,15 @@
 #!/usr/bin/env python3
-"""scripts/in-a-browser.py [--pictures] [PROGRAM]: opens both pages in headless Chromium, through nginx.
+"""scripts/in-a-browser.py [--pictures | --firefox] [PROGRAM]: opens both pages in headless Chromium, through nginx.
 
 You need Python 3 with its standard library alone, Linux, and Debian's nginx, openssl, sqlite3, chromium and
 chromium-driver, which the script installs as root if they are missing. Without PROGRAM it takes ./desk of this
-repository. With --pictures it also writes the pictures of the pages in docs/.
+repository. With --pictures it also writes the pictures of the pages in docs/. With --firefox it takes Firefox in the
+place of Chromium, of Debian's package firefox-esr.
 
 Of the page for readers it looks at what the public, the room and the staff see before and after a takedown; at denied,
 faulty and listed files; at files that are found by name; at names that are markup; at the bytes of files as text, in
 hexadecimal digits and as a download; at where a key is left; at the page by keyboard and on a small screen; and at what
-the browser refuses. scripts/staff_page.py has what it looks at on the staff's page. It speaks WebDriver."""
+the browser refuses. scripts/staff_page.py has what it looks at on the staff's page."""
 
 import contextlib
 import csv
@@ -22,6 +23,7 @@ import reading_room
 import staff_page
 
 from browser import ENTER, LEFT, TAB, Browser
+from firefox import Firefox
 from client_cases import (
     CLOSED, EVERY, LIMIT, NOBODY, PUBLIC, ROOM, ROOT, STAFF, TAKEDOWN, badge, disk, drop, get, pattern, put,
     put_image, put_rule,
@@ -356,17 +358,17 @@ INSTEAD = """
 const [files] = arguments;
 const line = '1,1,d64,0,,"a ""b"", c",PRG,258,loop crossed,R1.1,read\\n';
 window.fetch = async () => new Response("heads\\n" + line.repeat(files));
-return import("/room.find.js").then((made) => made.forgetFiles());
 """
 
 
 def see_long(seen, page, room):
     """A catalogue of any length is read, and its files are drawn as far as they are seen."""
     for files, told in LENGTHS:
+        find(page, '"B", C')
         page.browser.script(INSTEAD, files)
-        shown = find(page, '"B", C')
-        while not shown["rows"]:
-            shown = page.read()
+        page.wait_before("find/")
+        page.browser.click("#anew")
+        shown = told_in_time(page, told)
         drawn = len(shown["rows"])
         seen.same(f"long: {files} files", (told, True), (shown["status"], 0 < drawn <= min(files, 2500)))
     words = "see that it is there: it is damaged, "
@@ -378,6 +380,14 @@ def see_long(seen, page, room):
     seen.same("long: no disks", wanted, page.go("")["status"])
     page.browser.command("POST", "/refresh", {})
     page.read()
+
+
+def told_in_time(page, told):
+    """What the page shows when it says something, with rows, or at last."""
+    end, shown = time.monotonic() + LIMIT, page.read()
+    while time.monotonic() < end and not (shown["status"] == told and shown["rows"]):
+        shown = page.read()
+    return shown
 
 
 def see_markup(seen, page, room):
@@ -519,18 +529,20 @@ def see_keyboard(seen, page, room):
 
 def see_small(seen, page, room):
     """On a screen of 360 points nothing is wider than it; what is long scrolls in its own box."""
-    measured = {"width": 360, "height": 640, "deviceScaleFactor": 1, "mobile": True}
-    page.browser.cdp("Emulation.setDeviceMetricsOverride", measured)
-    wide = "return [document.documentElement.scrollWidth, window.innerWidth]"
-    for place in ("", "16", "19", "19/2", "14/0", "18/0", "find/E"):
-        page.go(place)
-        seen.same(f"small screen: {place or 'the disks'}", [360, 360], page.browser.script(wide))
-    page.go("16")
-    label = "return getComputedStyle(document.querySelector('tbody td'), '::before').content"
-    seen.same("small screen: each cell has its label", '"Slot"', page.browser.script(label))
-    hidden = "return ['thead', 'td.empty'].map((one) => document.querySelector(one).getBoundingClientRect().width)"
-    seen.same("small screen: no heads, and no empty cells", [0, 0], page.browser.script(hidden))
-    page.browser.cdp("Emulation.clearDeviceMetricsOverride", {})
+    with page.browser.phone():
+        wide = "return [document.documentElement.scrollWidth, window.innerWidth]"
+        for place in ("", "16", "19", "19/2", "14/0", "18/0", "find/E"):
+            page.go(place)
+            seen.same(f"small screen: {place or 'the disks'}", [360, 360], page.browser.script(wide))
+        page.go("16")
+        label = "const at = document.querySelector('tbody td'); "
+        label += "return [at.dataset.label, getComputedStyle(at, '::before').content]"
+        name, shown = page.browser.script(label)
+        # Firefox names the attribute, and Chromium its value
+        came = (name, shown in ('"Slot"', "attr(data-label)"))
+        seen.same("small screen: each cell has its label", ("Slot", True), came)
+        hidden = "return ['thead', 'td.empty'].map((one) => document.querySelector(one).getBoundingClientRect().width)"
+        seen.same("small screen: no heads, and no empty cells", [0, 0], page.browser.script(hidden))
 
 
 def see_down(seen, page, room):
@@ -578,13 +590,16 @@ GROUPS = [
 
 
 def main():
-    words = [word for word in sys.argv[1:] if word != "--pictures"]
-    reading_room.install(["chromium", "chromedriver"], ["chromium", "chromium-driver", "fonts-dejavu-core"])
+    words = [word for word in sys.argv[1:] if word not in ("--pictures", "--firefox")]
+    needed, packages, begun = ["chromium", "chromedriver"], ["chromium", "chromium-driver"], Browser
+    if "--firefox" in sys.argv:
+        needed, packages, begun = ["firefox-esr"], ["firefox-esr"], Firefox
+    reading_room.install(needed, [*packages, "fonts-dejavu-core"])
     seen = reading_room.Seen()
     with reading_room.Room(reading_room.program(words)) as room, contextlib.ExitStack() as stack:
         room.fill([*reading_room.FIRST, *reading_room.MORE, *MORE_CASES])
         room.start_nginx()
-        browser = Browser(room.folder)
+        browser = begun(room.folder)
         stack.callback(browser.close)
         browser.begin()
         page = Page(browser, f"https://{reading_room.SITE}:{room.https_port}/")

@@ -132,6 +132,12 @@ DAY = [
         f"0\n{DONE}2\n1\nroot:www-data 640",
     ),
     (
+        "what was rotated away, at the staff's door",
+        f"{STAFF} {CODE} http://127.0.0.1:8043/journal-$(date +%Y-%m); "
+        f"{STAFF} http://127.0.0.1:8043/journal-$(date +%Y-%m) | cmp - /var/log/desk/journal-$(date +%Y-%m); echo $?",
+        "2000",
+    ),
+    (
         "rotation of nginx's logs",
         "logrotate -f /etc/logrotate.d/nginx; echo $?; sleep 1; "
         f"{STAFF} -X PUT http://127.0.0.1:8043/images/13/rules/1 -d '{RULE % 'deny'}'; wc -l "

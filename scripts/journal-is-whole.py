@@ -23,7 +23,7 @@ import time
 
 import reading_room
 
-from client_cases import EVERY, HOST, LIMIT, NOBODY, ROOM, STAFF, badge, bytes_of, digest, get, put_image
+from client_cases import HOST, LIMIT, NOBODY, ROOM, STAFF, badge, bytes_of, digest, get
 from front_cases import Door, exchanged, refusal, request
 
 IMAGE = bytes_of("images", "museum.d64")
@@ -130,13 +130,15 @@ def see_other_ways(seen, room, journal):
 
 
 def see_none(seen, room, journal):
-    """What changes nothing has no line: questions, rehearsals, and all that comes from outside."""
+    """What changes nothing has no line: questions, rehearsals, what comes to the journal itself, and all that comes
+    from outside."""
     journal.skip()
     outside = Door(room, "127.0.4.1", "outside")
     rehearsal = "/staff/rehearsals/2030-01-01/images/15/rules/1"
     for method, path, body in [
         ("GET", "/images", b""), ("HEAD", "/images", b""), ("GET", "/staff/keys", b""), ("GET", "/staff.html", b""),
-        ("PUT", rehearsal, RULE), ("DELETE", rehearsal, b""),
+        ("PUT", rehearsal, RULE), ("DELETE", rehearsal, b""), ("GET", "/journal", b""), ("HEAD", "/journal", b""),
+        ("DELETE", "/journal", b""), ("PUT", "/journal-2026-11?x", RULE),
     ]:
         asked(room, method, path, body, NAMES)
     for method in ("PUT", "DELETE", "POST"):

@@ -28,12 +28,12 @@ return {
   sure: sure?.open ? texts(sure, "h2, #sure-more p, #sure-more h3, #sure-more li") : null,
 };
 """
-SET = """
-const [selector, value] = arguments;
-const field = document.querySelector(selector);
-if (field.type === "checkbox") field.checked = value; else field.value = value;
-field.dispatchEvent(new Event("input", { bubbles: true }));
-field.dispatchEvent(new Event("change", { bubbles: true }));
+# The longest piece of work of the page from then on, in milliseconds, as window.longest.
+WATCH = """
+window.longest = 0;
+new PerformanceObserver((list) => {
+  for (const entry of list.getEntries()) window.longest = Math.max(window.longest, entry.duration);
+}).observe({ type: "longtask" });
 """
 
 
@@ -74,7 +74,7 @@ class StaffTab(Tab):
         return shown
 
     def set(self, selector, value):
-        self.browser.script(SET, selector, value)
+        self.browser.script(browser.SET, selector, value)
 
     def go(self, place):
         """Goes to a view."""
@@ -123,10 +123,9 @@ class StaffTab(Tab):
 
 def picture(tab, name, width, dark=False, height=900):
     """Writes a picture of the page, to look at."""
-    features = [{"name": "prefers-color-scheme", "value": "dark" if dark else "light"}]
-    tab.browser.cdp("Emulation.setEmulatedMedia", {"features": features})
+    tab.browser.scheme("dark" if dark else "light")
     tab.browser.picture(name, width, height)
-    tab.browser.cdp("Emulation.setEmulatedMedia", {"features": []})
+    tab.browser.scheme("light")
 
 
 @contextlib.contextmanager

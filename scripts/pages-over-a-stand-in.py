@@ -11,6 +11,7 @@ import sys
 
 import pages_access
 import pages_eyes
+import pages_journal
 import pages_many
 import pages_readers
 import pages_reading
@@ -23,8 +24,8 @@ from page_tabs import browsing
 
 PARTS = {
     "standing": pages_standing.see, "rehearsal": pages_rehearsal.see, "eyes": pages_eyes.see, "many": pages_many.see,
-    "readers": pages_readers.see, "reading": pages_reading.see, "titles": pages_titles.see,
-    "access": pages_access.see,
+    "journal": pages_journal.see, "readers": pages_readers.see, "reading": pages_reading.see,
+    "titles": pages_titles.see, "access": pages_access.see,
 }
 
 

@@ -7,6 +7,7 @@ import time
 
 import made_museum
 from page_tabs import StaffTab, door
+from pages_journal import journal
 from pages_many import DUMPS, ROWS, choose, sheet_text
 from pages_readers import ReadersTab
 from pages_reading import FILES, made_disk
@@ -78,19 +79,13 @@ WIDE = "return document.documentElement.scrollWidth <= window.innerWidth"
 def see_faults(seen, tab, label):
     """No fault in light and in dark, and nothing wider than a small screen."""
     for scheme in ("light", "dark"):
-        media(tab, scheme)
+        tab.browser.scheme(scheme)
         seen.same(f"access: {label}: {scheme}", [], tab.browser.script(FAULTS))
-    measured = {"width": 360, "height": 640, "deviceScaleFactor": 1, "mobile": True}
-    tab.browser.cdp("Emulation.setDeviceMetricsOverride", measured)
-    time.sleep(0.1)
-    seen.same(f"access: {label}: on a small screen", [], tab.browser.script(FAULTS))
-    seen.same(f"access: {label}: it is not wider", True, tab.browser.script(WIDE))
-    tab.browser.cdp("Emulation.clearDeviceMetricsOverride", {})
-    media(tab, "light")
-
-
-def media(tab, scheme):
-    tab.browser.cdp("Emulation.setEmulatedMedia", {"features": [{"name": "prefers-color-scheme", "value": scheme}]})
+    with tab.browser.phone():
+        time.sleep(0.1)
+        seen.same(f"access: {label}: on a small screen", [], tab.browser.script(FAULTS))
+        seen.same(f"access: {label}: it is not wider", True, tab.browser.script(WIDE))
+    tab.browser.scheme("light")
 
 
 def see_focus(seen, tab, label):
@@ -149,7 +144,8 @@ def see_staff(seen, tab):
     see_view(seen, tab, "staff without a key", set())
     tab.begin()
     titles = set()
-    for place in ("deeds", "rules", "disks", "takedowns", "keys", "checks", "eyes", "year"):
+    tab.door.journals = {"/journal": journal()}
+    for place in ("deeds", "rules", "disks", "takedowns", "keys", "checks", "eyes", "year", "journal", "journal/1002"):
         tab.go(place)
         if place in ("eyes", "year"):
             tab.press(f"#{place} [type=submit]")

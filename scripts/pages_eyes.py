@@ -5,7 +5,7 @@ import datetime
 import time
 
 import made_museum
-from page_tabs import StaffTab, door
+from page_tabs import WATCH, StaffTab, door
 from pages_rehearsal import HARMFUL, harmful_disk
 
 EFFECTS = {"read": "read it", "list": "see that it is there", "deny": "see nothing of it"}
@@ -149,14 +149,6 @@ def see_quick(seen, tab):
         longest.append(tab.browser.script("return window.longest"))
     print(f"eyes: the longest piece of work: {min(longest):.0f} ms, below 200 ms", flush=True)
     seen.same(f"large: the longest piece of work: {longest}", True, min(longest) < 200)
-
-
-WATCH = """
-window.longest = 0;
-new PerformanceObserver((list) => {
-  for (const entry of list.getEntries()) window.longest = Math.max(window.longest, entry.duration);
-}).observe({ type: "longtask" });
-"""
 
 
 def see(seen, browser):

@@ -6,8 +6,7 @@ import time
 import urllib.parse
 
 import made_museum
-from page_tabs import Tab, door
-from pages_eyes import WATCH
+from page_tabs import WATCH, Tab, door
 from pages_rehearsal import HARMFUL, harmful_disk
 
 READ = """
@@ -219,14 +218,12 @@ def see_broken(seen, tab):
 
 
 def see_small(seen, tab):
-    measured = {"width": 360, "height": 640, "deviceScaleFactor": 1, "mobile": True}
-    tab.browser.cdp("Emulation.setDeviceMetricsOverride", measured)
-    wide = "return [document.documentElement.scrollWidth, window.innerWidth]"
-    for place in ("", "3", "find/letter", "3/1"):
-        tab.go(place)
-        time.sleep(0.2)
-        seen.same(f"small screen: {place or 'the disks'}", [360, 360], tab.browser.script(wide))
-    tab.browser.cdp("Emulation.clearDeviceMetricsOverride", {})
+    with tab.browser.phone():
+        wide = "return [document.documentElement.scrollWidth, window.innerWidth]"
+        for place in ("", "3", "find/letter", "3/1"):
+            tab.go(place)
+            time.sleep(0.2)
+            seen.same(f"small screen: {place or 'the disks'}", [360, 360], tab.browser.script(wide))
 
 
 def see_harmful(seen, tab):

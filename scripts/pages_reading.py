@@ -163,17 +163,15 @@ def see_views(seen, tab):
 
 def see_phone(seen, tab):
     """On a phone a line of bytes has eight, and nothing is wider than the screen."""
-    measured = {"width": 360, "height": 640, "deviceScaleFactor": 1, "mobile": True}
-    tab.browser.cdp("Emulation.setDeviceMetricsOverride", measured)
-    wide = """const at = document.getElementById("bytes");
-        return [document.documentElement.scrollWidth, at.scrollWidth <= at.clientWidth]"""
-    tab.go("2001/8")
-    seen.same("phone: bytes", "000008  08 09 0A 0B 0C 0D 0E 0F  ........", shows(tab)[0].splitlines()[1])
-    seen.same("phone: they are not wider", [360, True], tab.browser.script(wide))
-    for place in ("2001/0", "2002/0", "2001"):
-        tab.go(place)
-        seen.same(f"phone: {place}", 360, tab.browser.script("return document.documentElement.scrollWidth"))
-    tab.browser.cdp("Emulation.clearDeviceMetricsOverride", {})
+    with tab.browser.phone():
+        wide = """const at = document.getElementById("bytes");
+            return [document.documentElement.scrollWidth, at.scrollWidth <= at.clientWidth]"""
+        tab.go("2001/8")
+        seen.same("phone: bytes", "000008  08 09 0A 0B 0C 0D 0E 0F  ........", shows(tab)[0].splitlines()[1])
+        seen.same("phone: they are not wider", [360, True], tab.browser.script(wide))
+        for place in ("2001/0", "2002/0", "2001"):
+            tab.go(place)
+            seen.same(f"phone: {place}", 360, tab.browser.script("return document.documentElement.scrollWidth"))
 
 
 def downloaded(tab, name):

@@ -1,13 +1,16 @@
 """What scripts/in-a-browser.py looks at on the staff's page: from a deed to the disks that the public and the room see
-on the page for readers, in another tab; a takedown and its end; a key; a check; all refusals in words; what the page
-keeps and forgets; and the page by keyboard and on a small screen."""
+on the page for readers, in another tab; a takedown and its end; a key; a check; all refusals in words; the journal;
+what the page keeps and forgets; and the page by keyboard and on a small screen."""
 
 import contextlib
+import gzip
+import json
 import os
 import re
+import signal
 import time
 
-from browser import ENTER, ESCAPE, LEFT, TAB
+from browser import ENTER, ESCAPE, LEFT, SET, TAB
 from client_cases import (
     LIMIT, LOOP_DISK, NOBODY, PROGRAM_DISK, PUBLIC, ROOM, ROOT, STAFF, badge, bytes_of, check, digest, drop, put,
 )
@@ -32,13 +35,6 @@ return {
   sure: document.getElementById("sure").open ? texts(document, "#sure-words")[0] : null,
   more: texts(document, "#sure-more p"),
 };
-"""
-SET = """
-const [selector, value] = arguments;
-const field = document.querySelector(selector);
-if (field.type === "checkbox") field.checked = value; else field.value = value;
-field.dispatchEvent(new Event("input", { bubbles: true }));
-field.dispatchEvent(new Event("change", { bubbles: true }));
 """
 
 
@@ -542,6 +538,48 @@ def see_forgotten(seen, page, room):
     room.ask_desk(drop(badge(key)))
 
 
+def see_journal(seen, page, room):
+    """What the page has changed stands in the journal that nginx writes, also where it was rotated away and packed."""
+    page.begin()
+    page.fill("deeds", deed="38", donor="J. Journal", signed="2001-02-03")
+    page.press("deeds")
+    page.view("journal")
+    shown = page.of("journal")[1]
+    wanted = ["Ada Archivist", "Put deed 38: J. Journal, signed on 2001-02-03", "done", "a letter of today"]
+    seen.same("journal: the newest", wanted, shown[0][1:])
+    page.fill("journal", checks=True)
+    path = room.folder / "journal"
+    count = len({json.loads(line)["id"] for line in path.read_bytes().splitlines()})
+    told = page.browser.script("return document.querySelector('#journal .stands > p').textContent")
+    seen.same("journal: all of it", True, told.startswith(f"{count} changes read, back to "))
+    month = time.strftime("%Y-%m", time.gmtime(path.stat().st_mtime))
+    (room.folder / f"journal-{month}.gz").write_bytes(gzip.compress(path.read_bytes()))
+    path.unlink()
+    seen.same("journal: none", [NO_JOURNAL], page.press("journal", "[name=anew]")[0])
+    reload_nginx(room, path)
+    page.fill("deeds", deed="39", donor="K. Keeper", signed="2001-02-03")
+    page.press("deeds")
+    told, shown = page.press("journal", "[name=anew]")
+    newest = ["Put deed 39: K. Keeper, signed on 2001-02-03"]
+    seen.same("journal: a new one", (["Read: 1 change."], newest), (told, [row[2] for row in shown]))
+    told, shown = page.press("journal", "[name=older]")
+    seen.same("journal: what was rotated away", ([f"Read: {count} older changes."], wanted), (told, shown[1][1:]))
+    page.fill("journal", checks=False)
+
+
+NO_JOURNAL = "There is no journal here: nginx has no file of it. Nobody can see here who changed what."
+
+
+def reload_nginx(room, path):
+    """Has nginx open its logs anew."""
+    room.nginx.send_signal(signal.SIGHUP)
+    end = time.monotonic() + LIMIT
+    while time.monotonic() < end and not path.exists():
+        time.sleep(0.05)
+    # the workers of before end when they have nothing to do
+    time.sleep(1)
+
+
 def wait_until(page, holds):
     end = time.monotonic() + LIMIT
     while time.monotonic() < end:
@@ -566,7 +604,7 @@ def see_keyboard(seen, page, room):
     page.browser.press(TAB, TAB)
     seen.same("keyboard: then", "forget", page.browser.focus())
     wait_until(page, lambda shown: shown["rows"]["deeds"] and not shown["busy"])
-    page.browser.press(*[TAB] * 9, *"Ada", TAB, *"a letter", TAB, *"41", TAB, *"H. Heir", TAB, *"12312001", ENTER)
+    page.browser.press(*[TAB] * 10, *"Ada", TAB, *"a letter", TAB, *"41", TAB, *"H. Heir", TAB, *"12312001", ENTER)
     wait_until(page, lambda shown: shown["results"]["deeds"] and not shown["busy"])
     told, rows = page.of("deeds")
     wanted = (["Done: deed 41."], ["41", "H. Heir", "2001-12-31", *NO_RULE])
@@ -577,7 +615,7 @@ def see_keyboard(seen, page, room):
         (one) => one.labels.length || one.getAttribute("aria-label") ? null : one.name).filter((one) => one !== null)"""
     seen.same("keyboard: each field has a label", [], page.browser.script(unnamed))
     live = "return Array.from(document.querySelectorAll('.result, #status'), (one) => one.getAttribute('role'))"
-    seen.same("keyboard: results are told", ["status"] * 9, page.browser.script(live))
+    seen.same("keyboard: results are told", ["status"] * 10, page.browser.script(live))
 
 
 def fill_for_picture(page, room):
@@ -594,13 +632,11 @@ def fill_for_picture(page, room):
 
 def see_small(seen, page, room):
     fill_for_picture(page, room)
-    measured = {"width": 360, "height": 640, "deviceScaleFactor": 1, "mobile": True}
-    page.browser.cdp("Emulation.setDeviceMetricsOverride", measured)
-    wide = "return [document.documentElement.scrollWidth, window.innerWidth]"
-    for section in ("disks", "deeds", "rules", "takedowns", "keys", "checks", "eyes", "year"):
-        page.view(section)
-        seen.same(f"small screen: {section}", [360, 360], page.browser.script(wide))
-    page.browser.cdp("Emulation.clearDeviceMetricsOverride", {})
+    with page.browser.phone():
+        wide = "return [document.documentElement.scrollWidth, window.innerWidth]"
+        for section in ("disks", "deeds", "rules", "takedowns", "keys", "checks", "eyes", "year", "journal"):
+            page.view(section)
+            seen.same(f"small screen: {section}", [360, 360], page.browser.script(wide))
 
 
 # Statuses that were told are told by the browser's log too; nothing else may be there.
@@ -621,7 +657,7 @@ def see_strict(seen, page, room):
 
 GROUPS = [
     see_keys_taken, see_deed, see_disks, see_takedown, see_end_of_takedown, see_keys, see_looks, see_recorded,
-    see_fields, see_refused, see_lost, see_forgotten, see_keyboard, see_small, see_strict,
+    see_fields, see_refused, see_lost, see_journal, see_forgotten, see_keyboard, see_small, see_strict,
 ]
 
 

@@ -1,6 +1,6 @@
 """A stand-in for the desk, for tests of the pages alone. It answers byte for byte as docs/FORMATS.md says, over a
 museum that it holds in memory; scripts/desk_by_hand.py decides what is due to a request. Beside that it answers the
-questions of the staff, and gives the pages, with the fields that operate/nginx.conf adds."""
+questions of the staff, and gives the pages, with the fields that operate/nginx/ adds."""
 
 import collections
 import csv
@@ -253,14 +253,16 @@ FOR_STAFF = {
 
 # The door: the pages and the desk at one port
 
+OF_DESK = re.compile(r"/(images|accessions|deeds|badges|catalogue|staff)(/|$)")
+JOURNAL = re.compile(r"/journal(-[0-9]{4}-[0-9]{2})?")
 KINDS = {"html": "text/html", "css": "text/css; charset=utf-8", "js": "text/javascript; charset=utf-8"}
 WEB = os.path.join(ROOT, "web")
 
 
 def added_fields():
     """The fields that nginx adds to each reply."""
-    with open(os.path.join(ROOT, "operate", "nginx.conf"), encoding="utf-8") as file:
-        return re.findall(r'^    add_header (\S+) "?(?!\$)(.*?)"? always;$', file.read(), re.M)
+    with open(os.path.join(ROOT, "operate", "nginx", "snippets", "desk-server.conf"), encoding="utf-8") as file:
+        return re.findall(r'^add_header (\S+) "?(?!\$)(.*?)"? always;$', file.read(), re.M)
 
 
 def refused_by_nginx(status, phrase):
@@ -270,7 +272,8 @@ def refused_by_nginx(status, phrase):
 class Door(socketserver.ThreadingTCPServer):
     """The staff's door, or the one outside, at a port of loopback: a file of the pages, or else what is due from the
     museum. `before` may answer in its place, by the method and the path: bytes of a reply, or b"" for a lost
-    connection. `folder` may have more files beside the pages. `visits` keeps what was asked of the desk."""
+    connection. `folder` may have more files beside the pages. `visits` keeps what was asked of the desk and of the
+    journal, of which `journals` has the files by their paths."""
 
     allow_reuse_address = daemon_threads = True
     request_queue_size = 128
@@ -280,7 +283,7 @@ class Door(socketserver.ThreadingTCPServer):
         self.museum, self.outside = museum, outside
         self.folders = [WEB, *([folder] if folder else [])]
         self.before = lambda method, path: None
-        self.visits = []
+        self.visits, self.journals = [], {}
         self.lock = threading.Lock()
         self.added = added_fields()
         self.address = f"http://{HOST}:{self.server_address[1]}/"
@@ -308,7 +311,7 @@ class Door(socketserver.ThreadingTCPServer):
         if parts is None:
             return refused_by_nginx(400, "Bad Request")
         path = parts.target.partition("?")[0]
-        if not re.match(r"/(images|accessions|deeds|badges|catalogue|staff)(/|$)", path):
+        if not OF_DESK.match(path) and (self.outside or not JOURNAL.fullmatch(path)):
             return self.with_added(self.file(path))
         self.visits.append((parts.method, path, dict(parts.fields)))
         instead = self.before(parts.method, path)
@@ -316,16 +319,43 @@ class Door(socketserver.ThreadingTCPServer):
             return instead
         if self.outside and (parts.method != "GET" or path.startswith("/staff/")):
             return refused_by_nginx(403, "Forbidden")
+        if JOURNAL.fullmatch(path):
+            return self.with_added(self.journal(path, dict(parts.fields)))
         with self.lock:
             due = self.museum.due(data)
             if due.change:
                 due.change()
         return self.with_added(due.reply)
 
+    def journal(self, path, fields):
+        """The reply with a file of the journal, or with a part of it, for whom the museum knows as staff."""
+        key = b"".join(b"Desk-Key: %s\r\n" % fields[name] for name in (b"desk-key",) if name in fields)
+        due = self.museum.due(b"GET /staff/keys HTTP/1.1\r\nHost: desk\r\n%s\r\n" % key).reply
+        if not due.startswith(b"HTTP/1.1 200 "):
+            return due
+        if path not in self.journals:
+            return refused_by_nginx(404, "Not Found")
+        return ranged(self.journals[path], fields.get(b"range", b"").decode())
+
     def with_added(self, whole):
         head, _, body = whole.partition(b"\r\n\r\n")
         lines = "".join(f"\r\n{name}: {value}" for name, value in self.added).encode()
         return head + lines + b"\r\n\r\n" + body
+
+
+def ranged(data, words):
+    """The reply with some bytes, or with the part of them that a field asks for."""
+    kind, size = "application/x-ndjson", len(data)
+    found = re.fullmatch(r"bytes=([0-9]*)-([0-9]+)", words)
+    if not found or not data:
+        return reply(200, data, kind)
+    first = int(found[1]) if found[1] else max(0, size - int(found[2]))
+    last = min(int(found[2]), size - 1) if found[1] else size - 1
+    if first >= size:
+        return refused_by_nginx(416, "Requested Range Not Satisfiable")
+    place = f"Content-Range: bytes {first}-{last}/{size}"
+    part = reply(200, data[first : last + 1], kind, place)
+    return part.replace(b"200 OK", b"206 Partial Content", 1)
 
 
 class Visit(socketserver.BaseRequestHandler):

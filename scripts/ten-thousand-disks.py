@@ -25,7 +25,6 @@ import json
 import os
 import pathlib
 import random
-import re
 import signal
 import statistics
 import subprocess
@@ -35,16 +34,15 @@ import time
 
 ROOT = pathlib.Path(__file__).resolve().parent.parent
 sys.path.insert(0, str(ROOT / "bench"))
+import measured_desk
 import reading_room
 import rooms
 
 CHECK_ALL = ROOT / "operate" / "check-all"
-SERVICE = ROOT / "operate" / "desk.service"
-VARIABLE = "MALLOC_TRIM_THRESHOLD_"
 # A museum with little in it, the disks of a day, and how many visits of a sort are made.
 FEW, DAY, VISITS = 10, 200, 200
-# After how many seconds the script ends in any case, and a number of visits that no desk here reaches.
-LONGEST, ENDLESS = 3600, 999_999
+# After how many seconds the script ends in any case.
+LONGEST = 3600
 DONE = b'{"done":true}'
 
 
@@ -106,12 +104,6 @@ def catalogue(count):
 # A museum
 
 
-def variable_of_service():
-    """The variable of the C library and its value, as operate/desk.service sets it."""
-    set_there = re.search(rf"^Environment=({VARIABLE}=\d+)$", SERVICE.read_text(), re.M)
-    return set_there[1] if set_there else sys.exit(f"{SERVICE} does not set {VARIABLE}")
-
-
 class Museum:
     """A store of so many disks, and the desk that serves it. The desk is killed where the script ends early."""
 
@@ -122,9 +114,7 @@ class Museum:
     def start(self):
         """Starts to serve, as the service does, and gives how many seconds it takes until the desk listens."""
         begun = time.monotonic()
-        before = ["env", variable_of_service()]
-        serving = rooms.Server(rooms.desk_serves(self.program), self.store, ENDLESS, before)
-        self.server = self.stack.enter_context(serving)
+        self.server = self.stack.enter_context(measured_desk.served(self.program, self.store))
         return time.monotonic() - begun
 
     def stop(self):
@@ -133,7 +123,7 @@ class Museum:
 
     def megabytes(self, name):
         """The memory of the desk by a field of its status."""
-        return self.server.memory(name) * 1024 / 1e6
+        return measured_desk.megabytes(self.server, name)
 
     def most_to_open(self):
         """The most memory that opening the store may take, in megabytes: a tenth more than its bytes, and
@@ -142,13 +132,7 @@ class Museum:
 
     def seconds(self, asked):
         """How long a visit takes. The script ends where the reply is not due."""
-        request, is_due = asked
-        begun = time.monotonic()
-        reply = self.server.visit(request)
-        taken = time.monotonic() - begun
-        if not reply.startswith(b"HTTP/1.1 200 ") or not is_due(rooms.body_of(reply)):
-            sys.exit(f"{request[:80]!r}: {reply[:300]!r}")
-        return taken
+        return measured_desk.seconds(self.server, asked)
 
 
 def milliseconds(museums, asked_of, chance):

@@ -23,20 +23,18 @@ import io
 import json
 import os
 import pathlib
-import re
 import signal
 import sqlite3
 import statistics
 import sys
 import tempfile
-import time
 
 ROOT = pathlib.Path(__file__).resolve().parent.parent
 sys.path.insert(0, str(ROOT / "bench"))
+import measured_desk
 import reading_room
 import rooms
 
-SERVICE = ROOT / "operate" / "desk.service"
 # The large deed has one disk in so many of the museum.
 LARGE_SHARE = 10
 # There are so many times as many disks as deeds. The deeds but the large one share the disks that it does not have.
@@ -49,7 +47,7 @@ CHECKS = 30
 MEMORY_SLACK = 1.1
 DAY = "2030-01-01"
 # How often a long question and a short one is asked; after how many seconds the script ends in any case.
-FEW, MANY, LONGEST, ENDLESS = 7, 200, 3600, 999_999
+FEW, MANY, LONGEST = 7, 200, 3600
 FILES = 1 + len(rooms.OPEN_FILES)
 
 
@@ -175,23 +173,13 @@ class Look:
         self.failed += not fits
         print(f"{'' if fits else 'FAILED: '}{what}: {came:,.2f} {unit}, at most {limit:,.1f} {unit}", flush=True)
 
-    def seconds(self, question):
-        """How long a visit takes. The script ends where the reply is not due."""
-        request, due = question
-        begun = time.monotonic()
-        reply = self.server.visit(request)
-        taken = time.monotonic() - begun
-        if not reply.startswith(b"HTTP/1.1 200 ") or not due(rooms.body_of(reply)):
-            sys.exit(f"{request[:80]!r}: {reply[:300]!r}")
-        return taken
-
     def medians(self, several, count):
         """How long each of several questions takes, asked in turn: the medians."""
-        turns = [[self.seconds(question) for question in several] for _ in range(count)]
+        turns = [[measured_desk.seconds(self.server, question) for question in several] for _ in range(count)]
         return [statistics.median(times) for times in zip(*turns)]
 
     def megabytes(self):
-        return self.server.memory("VmRSS") * 1024 / 1e6
+        return measured_desk.megabytes(self.server, "VmRSS")
 
 
 def look(server, museum):
@@ -210,12 +198,6 @@ def look(server, museum):
     return seen
 
 
-def variable_of_service():
-    """The variable of the C library and its value, as operate/desk.service sets it."""
-    set_there = re.search(r"^Environment=(MALLOC_TRIM_THRESHOLD_=\d+)$", SERVICE.read_text(), re.M)
-    return set_there[1] if set_there else sys.exit(f"{SERVICE} does not set MALLOC_TRIM_THRESHOLD_")
-
-
 def main():
     parser = argparse.ArgumentParser(usage=__doc__)
     parser.add_argument("program", nargs="?")
@@ -230,8 +212,7 @@ def main():
         rules = 2 * len(museum.deeds) + len(museum.takedowns)
         size = os.path.getsize(museum.store) / 1e6
         print(f"{museum.disks:,} disks, {len(museum.deeds):,} deeds, {rules:,} rules; a store of {size:,.0f} MB", flush=True)
-        before = ["env", variable_of_service()]
-        with rooms.Server(rooms.desk_serves(program), museum.store, ENDLESS, before) as server:
+        with measured_desk.served(program, museum.store) as server:
             seen = look(server, museum)
     print(f"{seen.passed} passed, {seen.failed} failed")
     sys.exit(1 if seen.failed else 0)

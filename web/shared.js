@@ -47,6 +47,7 @@ const STATUSES = {
   503: ["The desk cannot answer now.", "Try again."],
   504: ["The desk took too long.", "Try again."],
   changed: ["What you may see has just changed.", "Try again."],
+  rotated: ["The journal has begun a new file since you opened it.", "Read it anew."],
   digest: ["This browser cannot make a SHA-256 here.", "Open the page at 127.0.0.1, or in another browser."],
   file: ["Your browser cannot read the file: it is gone, or has changed since you chose it.", "Choose it again."],
 };

@@ -6,6 +6,7 @@ import { listenForDeeds, showDeeds } from "./staff.deeds.js";
 import { work } from "./staff.desk.js";
 import { listenForDisks } from "./staff.disks.js";
 import { listenForEyes, openEyes } from "./staff.eyes.js";
+import { listenForJournal, openJournal } from "./staff.journal.js";
 import { listenForKeys, showKeys } from "./staff.keys.js";
 import { listenForRules, openRules } from "./staff.rules.js";
 import { listenForYear, openYear } from "./staff.year.js";
@@ -20,6 +21,7 @@ const VIEWS = {
   checks: { heading: "Checks", open: showChecks },
   eyes: { heading: "Who sees what", open: openEyes, isLook: true },
   year: { heading: "The next year", open: openYear, isLook: true },
+  journal: { heading: "Journal", of: "Journal of disk", open: openJournal, isLook: true },
 };
 
 let taken = false;
@@ -50,9 +52,9 @@ function showView(focuses) {
     part("status").replaceChildren();
     part("heading").focus();
   }
-  return work(name, async () => {
+  return work(name, async (tools) => {
     await titles;
-    await VIEWS[name].open(number);
+    return VIEWS[name].open(number, tools);
   });
 }
 
@@ -79,7 +81,8 @@ async function useKey(given) {
 
 function listen() {
   ["rules", "takedowns"].forEach(listenForRules);
-  const starts = [listenForDeeds, listenForDisks, listenForKeys, listenForChecks, listenForEyes, listenForYear];
+  const looks = [listenForEyes, listenForYear, listenForJournal];
+  const starts = [listenForDeeds, listenForDisks, listenForKeys, listenForChecks, ...looks];
   starts.forEach((start) => start());
   for (const name of Object.keys(VIEWS)) part(name).querySelector(".result").tabIndex = -1;
   for (const button of part("sure").querySelectorAll("button")) {

@@ -116,6 +116,9 @@ export function dayAfter(day, days) {
   return date.toISOString().slice(0, 10);
 }
 
+// The month before another, as in 2026-01.
+export const monthBefore = (month) => dayAfter(`${month}-01`, -1).slice(0, 7);
+
 // Today by the clock of this computer.
 export function today() {
   const now = new Date();

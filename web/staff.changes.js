@@ -1,0 +1,171 @@
+// The changes of the journal, each of which has two lines there: one when it came, and one with what became of it.
+import { kindWords, own, textOf } from "./shared.js";
+import { AUDIENCES, RULES, ruleWords } from "./staff.words.js";
+
+// How many signs of a path or a donor are shown at most.
+const LONGEST_WORDS = 300;
+
+const short = (text) => (text.length > LONGEST_WORDS ? `${text.slice(0, LONGEST_WORDS)} ..` : text);
+
+// The body of a change as an object; an empty one where it is none.
+function bodyOf({ body }) {
+  try {
+    return Object(JSON.parse(body));
+  } catch {
+    return {};
+  }
+}
+
+// What a body says, or nothing where the page cannot read it: the desk may have refused it.
+function said(change, words) {
+  try {
+    const text = words(bodyOf(change));
+    return text && `: ${short(text)}`;
+  } catch {
+    return "";
+  }
+}
+
+function ruleSaid(change) {
+  return said(change, (rule) => ruleWords({ from: null, until: null, ...rule, audiences: [...rule.audiences].sort() }));
+}
+
+function deedSaid(change) {
+  return said(change, ({ donor, signed }) => textOf(donor) && `${donor}, signed on ${textOf(signed)}`);
+}
+
+function keySaid(change, [digest]) {
+  const audience = own(AUDIENCES, textOf(bodyOf(change).audience));
+  return `Put a key${audience && ` of ${audience}`}, SHA-256 ${digest}`;
+}
+
+// What is changed at a path, by its method: the words, and of which disk and deed.
+const PATHS = [
+  {
+    path: /^\/deeds\/([0-9]+)$/,
+    PUT: (change, [deed]) => `Put deed ${deed}${deedSaid(change)}`,
+    of: ([deed]) => ({ deed }),
+  },
+  {
+    path: /^\/deeds\/([0-9]+)\/rules\/([0-9]+)$/,
+    PUT: (change, at) => `Put ${RULES.rules.words(...at)}${ruleSaid(change)}`,
+    DELETE: (_, at) => `Drop ${RULES.rules.words(...at)}`,
+    of: ([deed]) => ({ deed }),
+  },
+  {
+    path: /^\/images\/([0-9]+)\/rules\/([0-9]+)$/,
+    PUT: (change, at) => `Put ${RULES.takedowns.words(...at)}${ruleSaid(change)}`,
+    DELETE: (_, at) => `Drop ${RULES.takedowns.words(...at)}`,
+    of: ([accession]) => ({ accession }),
+  },
+  {
+    path: /^\/accessions\/([0-9]+)\/([a-z0-9]+)\/([0-9]+)\/([0-9A-Fa-f]{64})$/,
+    PUT: (_, [accession, kind, deed, digest]) =>
+      `Put disk ${accession}, ${kindWords(kind)}, under deed ${deed}, SHA-256 ${digest}`,
+    of: ([accession, , deed]) => ({ accession, deed }),
+  },
+  {
+    path: /^\/badges\/([0-9A-Fa-f]{64})$/,
+    PUT: keySaid,
+    DELETE: (_, [digest]) => `Drop the key with SHA-256 ${digest}`,
+    of: () => ({}),
+  },
+  {
+    path: /^\/images\/([0-9]+)\/check$/,
+    POST: (_, [accession]) => `Check disk ${accession}`,
+    of: ([accession]) => ({ accession, isCheck: true }),
+  },
+];
+
+// The way of a path with the values in it, or none.
+function wayOf({ method, path }) {
+  const [plain] = path.split("?");
+  for (const way of PATHS) {
+    const found = way.path.exec(plain);
+    if (found && Object.hasOwn(way, method)) return { way, at: found.slice(1) };
+  }
+  return null;
+}
+
+export function changeWords(change) {
+  const found = wayOf(change);
+  return found ? found.way[change.method](change, found.at) : `${change.method} ${short(change.path)}`;
+}
+
+const REFUSED = {
+  400: "the desk could not read it, or a value was beyond its limits",
+  401: "the desk did not know the key",
+  403: "the key was not one of the staff",
+  404: "there was no such disk, deed or address",
+  405: "that cannot be done there",
+  409: "it did not fit what stood, or it was the last key of the staff",
+  413: "it was longer than the desk takes",
+  422: "the bytes were not those that it named",
+};
+export const UNKNOWN = "nobody knows whether the desk did it";
+
+// What became of a change: it was done, or refused with a status from 400 on, or nobody knows. Of a request that took
+// too long, or whose sender left, nobody knows either.
+const isRefused = ({ status }) => /^4[0-9]{2}$/.test(status) && status !== "408" && status !== "499";
+export const isUnknown = (change) => change.status !== "200" && !isRefused(change);
+
+export function outcomeWords(change) {
+  const { status } = change;
+  if (status === "200") return "done";
+  if (isRefused(change)) return `refused: ${own(REFUSED, status) || status}`;
+  return status === "begun" ? UNKNOWN : `${UNKNOWN} (${status})`;
+}
+
+// A name or a reason as it was typed.
+function typed(text) {
+  try {
+    return decodeURIComponent(text);
+  } catch {
+    return text;
+  }
+}
+
+// The day and the time of a change, by the clock of the museum's machine.
+export const timeOf = ({ moment }) => moment.slice(0, 19).replace("T", " ");
+
+// All changes that were read, from lines in any order.
+export class AllChanges {
+  constructor() {
+    this.byId = new Map();
+    this.unread = 0;
+    this.oldest = "";
+  }
+
+  take(line) {
+    let came = null;
+    try {
+      came = JSON.parse(line);
+    } catch {
+      // a line that was cut off
+    }
+    if (typeof came?.id !== "string" || typeof came.moment !== "string" || !Number.isFinite(came.at)) this.unread += 1;
+    else this.add(came);
+  }
+
+  // The line that came when it ended decides.
+  add(came) {
+    const known = this.byId.get(came.id);
+    const { moment, at, status } = came;
+    if (this.oldest === "" || moment < this.oldest) this.oldest = moment;
+    if (known === undefined) this.byId.set(came.id, changeOf(came));
+    else if (status !== "begun") Object.assign(known, { moment, at, status: textOf(status) });
+  }
+
+  // From the newest on.
+  inOrder() {
+    return Array.from(this.byId.values()).sort((one, other) => other.at - one.at);
+  }
+}
+
+function changeOf({ moment, at, status, method, path, staff, note, body }) {
+  const change = { moment, at, status: textOf(status), method: textOf(method), path: textOf(path), body: textOf(body) };
+  const [name, reason] = [typed(textOf(staff)), typed(textOf(note))];
+  const found = wayOf(change);
+  const scope = found ? found.way.of(found.at) : {};
+  return { ...change, name, reason, search: `${name}\n${reason}`.toLowerCase(), ...scope };
+}

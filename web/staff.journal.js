@@ -1,0 +1,147 @@
+// The journal: who changed what, when and why, and what became of it.
+import { csvText } from "./csv.js";
+import { longTable } from "./lists.js";
+import { Refused, cell, counted, element, part, row } from "./shared.js";
+import { AllChanges, UNKNOWN, changeWords, isUnknown, outcomeWords, timeOf } from "./staff.changes.js";
+import { dated, formOf, work } from "./staff.desk.js";
+import { LONGEST, Lines, MONTHS, PIECE } from "./staff.lines.js";
+import { limitFields } from "./staff.ruleform.js";
+import { today } from "./staff.words.js";
+import { save } from "./stream.js";
+import { withTitle } from "./titles.js";
+
+// From how many changes on the page reads no more.
+const MOST = 100000;
+const COLUMNS = ["When", "Who", "What", "Outcome", "Reason"];
+
+const BOUND = [
+  `the last ${PIECE >> 20} MB first and as much at each press; then what was put away, month by month`,
+  `of the last ${MONTHS / 12} years, and of a month at most the last ${LONGEST >> 20} MB`,
+  `until it holds ${MOST.toLocaleString("en")} changes`,
+].join(", ");
+
+// What was read so far, and the changes of it from the newest on.
+let lines = new Lines();
+let read = new AllChanges();
+let changes = [];
+
+const isFull = () => changes.length >= MOST;
+
+// The changes to show.
+function found({ accession, deed, words, day, checks }) {
+  const text = words.value.trim().toLowerCase();
+  const holds = [
+    [accession.value, (change) => change.accession === accession.value],
+    [deed.value, (change) => change.deed === deed.value],
+    [text, (change) => change.search.includes(text)],
+    [day.value, (change) => change.moment.startsWith(day.value)],
+    [!checks.checked, (change) => change.isCheck !== true],
+  ];
+  const asked = holds.filter(([value]) => value).map(([, isFound]) => isFound);
+  return changes.filter((change) => asked.every((isFound) => isFound(change)));
+}
+
+function changeRow(change) {
+  return row([
+    cell("When", timeOf(change), "day"),
+    cell("Who", change.name, "words"),
+    cell("What", withTitle(changeWords(change), Number(change.accession)), "words"),
+    cell("Outcome", outcomeWords(change), isUnknown(change) ? "warning" : ""),
+    cell("Reason", change.reason, "words"),
+  ]);
+}
+
+// How far the page has read, and what it could not read.
+function summary() {
+  const unknown = changes.filter(isUnknown).length;
+  const texts = [`${counted(changes.length, "change")} read`];
+  if (read.oldest !== "") texts.push(`back to ${timeOf({ moment: read.oldest })}`);
+  texts.push(lines.isWhole ? "which is all that there is" : "and there may be older ones");
+  const more = [`${texts.join(", ")}.`];
+  if (unknown) more.push(`Of ${unknown.toLocaleString("en")} ${UNKNOWN}, or it has not ended yet.`);
+  if (read.unread) more.push(`${counted(read.unread, "line")} cannot be read.`);
+  if (lines.isCut) more.push("A month had more than the page takes.");
+  if (isFull()) more.push("The page reads no more of them.");
+  return more.join(" ");
+}
+
+function draw() {
+  const form = formOf("journal");
+  if (!form.reportValidity()) return;
+  const shown = found(form.elements);
+  const left = form.elements.checks.checked ? 0 : changes.filter((change) => change.isCheck).length;
+  const others = left ? `; ${counted(left, "check")} of disks left out` : "";
+  const words = `${counted(shown.length, "change")} shown here${others}.`;
+  const made = shown.length ? [longTable("changes", COLUMNS, shown, changeRow)] : [];
+  part("journal").querySelector(".stands").replaceChildren(dated("p", summary()), element("p", words), ...made);
+  form.elements.older.disabled = lines.isWhole || isFull();
+}
+
+// Where nginx has no file, or may not read it, the page says so.
+function explained(fault) {
+  if (!(fault instanceof Refused)) throw fault;
+  const words = {
+    404: "There is no journal here: nginx has no file of it. Nobody can see here who changed what.",
+    500: "nginx cannot read its journal. Most likely its group may not: call whoever runs the desk.",
+  };
+  if (!Object.hasOwn(words, fault.status)) throw fault;
+  return element("p", words[fault.status], { className: "refused" });
+}
+
+// Reads what is older than what was read, and shows all.
+async function readOlder(tools) {
+  const take = (line) => read.take(line);
+  const before = read.byId.size;
+  try {
+    await lines.readOlder(take, () => read.oldest.slice(0, 7), tools);
+  } catch (fault) {
+    return explained(fault);
+  } finally {
+    changes = read.inOrder();
+    draw();
+  }
+  return `Read: ${counted(changes.length - before, before ? "older change" : "change")}.`;
+}
+
+// Where that was the last, the button for it takes no focus any more.
+async function goOn({ currentTarget: button }) {
+  await work("journal", readOlder);
+  if (button.disabled) part("journal").querySelector(".result").focus();
+}
+
+function readAnew(tools) {
+  lines = new Lines();
+  read = new AllChanges();
+  return readOlder(tools);
+}
+
+// Saves what is shown as a table for a spreadsheet.
+function saveShown() {
+  const heads = ["moment", "name", "reason", "what", "outcome", "method", "path", "status", "body"];
+  const records = found(formOf("journal").elements).map((change) => {
+    const { moment, name, reason, method, path, status, body } = change;
+    return [moment, name, reason, changeWords(change), outcomeWords(change), method, path, status, body];
+  });
+  save(`journal-${today()}.csv`, [csvText([heads, ...records])], "text/csv");
+}
+
+// Shows the journal, of one disk where its number is given.
+export function openJournal(accession, tools) {
+  if (accession) formOf("journal").elements.accession.value = accession;
+  return readAnew(tools);
+}
+
+export function listenForJournal() {
+  const form = formOf("journal");
+  const { accession, deed, words, day, checks, older, anew, save: button } = form.elements;
+  limitFields(form);
+  part("journal").querySelector(".bound").textContent = BOUND;
+  form.addEventListener("submit", (event) => {
+    event.preventDefault();
+    draw();
+  });
+  [accession, deed, words, day, checks].forEach((field) => field.addEventListener("change", draw));
+  older.addEventListener("click", goOn);
+  anew.addEventListener("click", () => work("journal", readAnew));
+  button.addEventListener("click", saveShown);
+}

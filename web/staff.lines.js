@@ -1,0 +1,124 @@
+// The lines of the journal, from its end: what is written now comes in pieces, and what was rotated away in a month
+// comes as one file.
+import { Refused, ask, fields } from "./shared.js";
+import { breather } from "./stream.js";
+import { dayAfter, monthBefore, today } from "./staff.words.js";
+
+// How many bytes come at a time, of how many bytes at most the page takes the end where a file comes as a whole, and
+// how many months it looks back for a file.
+export const PIECE = 4 << 20;
+export const LONGEST = 64 << 20;
+export const MONTHS = 120;
+
+const LINE_FEED = 10;
+
+// Some bytes behind others.
+function joined(parts) {
+  const bytes = new Uint8Array(parts.reduce((sum, one) => sum + one.length, 0));
+  let at = 0;
+  for (const one of parts) {
+    bytes.set(one, at);
+    at += one.length;
+  }
+  return bytes;
+}
+
+// The bytes of a reply: of a long one those at its end, and whether some before them are left out.
+async function bytesOf(reply, { progress }) {
+  const reader = reply.body.getReader();
+  const parts = [];
+  let [size, came, isCut] = [0, 0, false];
+  for (;;) {
+    const { done, value } = await reader.read().catch(() => {
+      throw new Refused(0, {});
+    });
+    if (done) return { bytes: joined(parts), isCut };
+    parts.push(value);
+    size += value.length;
+    came += value.length;
+    for (; size - parts[0].length > LONGEST; isCut = true) size -= parts.shift().length;
+    progress("Reading the journal, in kB", Math.round(came / 1000));
+  }
+}
+
+// What a reply would be, or null where nginx refuses it with a status.
+function unless(status, reply) {
+  return reply.catch((fault) => {
+    if (fault instanceof Refused && fault.status === status) return null;
+    throw fault;
+  });
+}
+
+// Hands on each line of some bytes.
+async function eachLine(bytes, take) {
+  const breathe = breather();
+  const decoder = new TextDecoder();
+  for (let at = 0; at < bytes.length; ) {
+    const found = bytes.indexOf(LINE_FEED, at);
+    const end = found < 0 ? bytes.length : found;
+    if (end > at) take(decoder.decode(bytes.subarray(at, end)));
+    at = end + 1;
+    await breathe();
+  }
+}
+
+export class Lines {
+  constructor() {
+    // Up to where the file that is written now is still to be read, and how long it was. Null: up to its end.
+    this.until = null;
+    this.length = 0;
+    // The end of a line whose beginning was not read.
+    this.rest = new Uint8Array(0);
+    // The month to look at next, and how many are still to be looked at.
+    this.month = "";
+    this.months = MONTHS;
+    // Whether a file was longer than the page takes.
+    this.isCut = false;
+  }
+
+  // Whether all is read that the page can find.
+  get isWhole() {
+    return this.until === 0 && this.months === 0;
+  }
+
+  // Reads what is next, and hands its lines on. `oldest` gives the month of the oldest line so far, or "".
+  readOlder(take, oldest, tools) {
+    return this.until === 0 ? this.readMonth(take, oldest, tools) : this.readPiece(take, tools);
+  }
+
+  async readPiece(take, tools) {
+    const range = this.until === null ? `-${PIECE}` : `${Math.max(0, this.until - PIECE)}-${this.until - 1}`;
+    const headers = { ...fields(), Range: `bytes=${range}` };
+    const reply = await unless(416, ask("/journal", { headers, signal: tools.signal }));
+    // An empty file is given whole.
+    const places = /^bytes ([0-9]+)-[0-9]+\/([0-9]+)$/.exec(reply?.headers.get("Content-Range") ?? "");
+    const [start, length] = places === null ? [0, 0] : places.slice(1).map(Number);
+    if (reply === null || length < this.length) throw new Refused("rotated", {});
+    const { bytes } = await bytesOf(reply, tools);
+    const whole = joined([bytes, this.rest]);
+    const first = start === 0 ? 0 : whole.indexOf(LINE_FEED) + 1 || whole.length;
+    Object.assign(this, { until: start, length, rest: whole.slice(0, first) });
+    await eachLine(whole.subarray(first), take);
+  }
+
+  // Reads the file of the latest month before those that were looked at, if there is one.
+  async readMonth(take, oldest, tools) {
+    // The clock of the museum's machine may be ahead of this one.
+    this.month ||= oldest() || dayAfter(today(), 1).slice(0, 7);
+    for (let isFound = false; this.months > 0 && !isFound; ) {
+      tools.progress("Looking for an older file, month by month", MONTHS - this.months, MONTHS);
+      isFound = await this.readFile(take, tools);
+      this.month = monthBefore(this.month);
+      this.months -= 1;
+    }
+  }
+
+  async readFile(take, tools) {
+    const reply = await unless(404, ask(`/journal-${this.month}`, { signal: tools.signal }));
+    if (reply === null) return false;
+    const { bytes, isCut } = await bytesOf(reply, tools);
+    this.isCut ||= isCut;
+    await eachLine(isCut ? bytes.subarray(bytes.indexOf(LINE_FEED) + 1) : bytes, take);
+    return true;
+  }
+}
