@@ -44,7 +44,7 @@ STARTED = [
     ("a visit through nginx", f"{VISIT}/images {SOON}", IMAGES),
     ("where it listens", "ss -ltnH 'sport = :8041' | awk '{ print $4 }'", "127.0.0.1:8041"),
     ("its line in the journal", "journalctl -u desk -o cat | grep listening | uniq", "listening 127.0.0.1:8041"),
-    ("a deed", f"""{PUT}/deeds/9 -d '{{"donor":"C. Curator","signed":"2019-05-04"}}'""", '{"done":true}'),
+    ("a deed", f"""{PUT}/deeds/8 -d '{{"donor":"C. Curator","signed":"2019-05-04"}}'""", '{"done":true}'),
     ("a file through nginx", FILE, FIRST_LINE),
     ("the page for readers", f"{VISIT}/ | grep -o '<title>.*</title>'", "<title>The reading room</title>"),
     ("a command from outside", f"{STATUS} -X PUT", "403"),
