@@ -172,10 +172,13 @@ def has_label(text, name):
 
 
 def proof_folders(place, name):
-    """The folders with proofs of a function of a file in src/."""
+    """The folders with proofs of a function of a file in src/: below that of the file, or of a type whose methods the
+    file has and another declares."""
+    proofs = ROOT / "crates" / place.crate() / "proofs"
     module = pathlib.PurePosixPath(place.inside()).relative_to("src").with_suffix("")
-    folder = ROOT / "crates" / place.crate() / "proofs" / module
-    return [found for found in folder.rglob("*") if found.is_dir() and found.name in (name, f"+{name}")]
+    types = re.findall(r"(?m)^impl(?:<[^>]*>)? (\w+)", place.read())
+    folders = [proofs / module, *(found for each in types for found in proofs.rglob(each))]
+    return [found for folder in folders for found in folder.rglob("*") if found.name in (name, f"+{name}")]
 
 
 # Faults, by the column

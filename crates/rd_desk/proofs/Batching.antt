@@ -7,9 +7,9 @@ use Rattle.std.specs.Ordering.{nat_cmp}
 use Rattle.std.proofs.lemmas.List.{length-map, map-append}
 use Rattle.std.proofs.lemmas.List.Elements.{All-cons, All-drop, All-head, All-tail, All-take}
 use Rattle.rd_store.specs.Batched.{IsIndexed}
-use Rattle.rd_protocol.specs.State.{Desk}
-use Rattle.rd_protocol.specs.declared.rows.ImageRow.{ImageRow}
-use Rattle.rd_protocol.specs.declared.rows.Indexed.{Indexed}
+use Rattle.rd_holdings.specs.State.{Desk}
+use Rattle.rd_holdings.specs.declared.rows.ImageRow.{ImageRow}
+use Rattle.rd_holdings.specs.declared.rows.Indexed.{Indexed}
 use Rattle.rd_protocol.specs.Verdicts.{IsVerdictsOf}
 use Rattle.rd_protocol.specs.declared.response.Verdicts.{Verdicts}
 use Rattle.rd_desk.specs.Calls.{StandsAs}

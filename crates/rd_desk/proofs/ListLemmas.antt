@@ -9,19 +9,20 @@ use Rattle.rd_policy.specs.declared.audience.Audience.TheVariants.{Staff}
 use Rattle.rd_store.specs.Held.{IsOpen, Keeps, LeavesOpen, desk}
 use Rattle.std.specs.FinMap.{entries}
 use Rattle.rd_policy.specs.declared.rule.Band.TheVariants.{Deed, Takedown}
-use Rattle.rd_protocol.specs.StaffLists.{deed_line, has_rules, latest, takedown_line}
-use Rattle.rd_protocol.specs.State.{Desk, registered, rules_at}
+use Rattle.rd_protocol.specs.StaffLists.{deed_line, has_rules, takedown_line}
+use Rattle.rd_holdings.specs.Findings.{latest}
+use Rattle.rd_holdings.specs.State.{Desk, registered, rules_at}
 use Rattle.rd_policy.specs.declared.rule.Rule.{Rule}
 use Rattle.rd_protocol.specs.declared.response.CheckLine.{CheckLine}
-use Rattle.rd_protocol.specs.declared.response.Finding.{Finding}
+use Rattle.rd_holdings.specs.declared.rows.Finding.{Finding}
 use Rattle.rd_protocol.specs.declared.response.TakedownLine.{TakedownLine}
-use Rattle.rd_protocol.specs.declared.rows.DeedRow.{DeedRow}
+use Rattle.rd_holdings.specs.declared.rows.DeedRow.{DeedRow}
 use Rattle.rd_protocol.specs.Judged.{IsAccepted}
 use Rattle.rd_protocol.specs.declared.request.What.{What}
 use Rattle.rd_protocol.specs.declared.request.What.TheVariants.{Deeds, Keys}
 use Rattle.rd_protocol.specs.declared.response.Response.{Response}
-use Rattle.rd_protocol.specs.declared.rows.Accession.{Accession}
-use Rattle.rd_protocol.specs.declared.rows.ImageRow.{ImageRow}
+use Rattle.rd_holdings.specs.declared.rows.Accession.{Accession}
+use Rattle.rd_holdings.specs.declared.rows.ImageRow.{ImageRow}
 use Rattle.rd_protocol.proofs.Accepting.{command_accepted}
 use Rattle.rd_desk.specs.Calls.{Carries, ForEachCaller, IsCarriedOut}
 use Rattle.rd_desk.specs.StaffLists.{accessions_in, check_line, deed_line_of, takedown_lines_at}

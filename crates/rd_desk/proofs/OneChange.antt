@@ -5,10 +5,10 @@ use Rattle.std.specs.FinMap.{get}
 use Rattle.sqlite.specs.Store.{Ghosts}
 use Rattle.sqlite.specs.Held.{Held}
 use Rattle.rd_store.specs.Held.{Changes, IsAtRest, IsClean, IsLeft, IsOpen, Keeps, desk}
-use Rattle.rd_protocol.specs.State.{Desk, with_check}
+use Rattle.rd_holdings.specs.State.{Desk, with_check}
 use Rattle.rd_store.specs.declared.faults.StoreFault.{StoreFault}
-use Rattle.rd_protocol.specs.declared.rows.ImageRow.{ImageRow}
-use Rattle.rd_protocol.specs.declared.rows.Outcome.{Outcome}
+use Rattle.rd_holdings.specs.declared.rows.ImageRow.{ImageRow}
+use Rattle.rd_holdings.specs.declared.rows.Outcome.{Outcome}
 use Rattle.rd_desk.specs.Calls.{IsOneChange, IsResponseAfter, IsWritten, MakesOneChange}
 use Rattle.rd_protocol.specs.Replies.{with_checked}
 use Rattle.rd_protocol.specs.Checks.{outcome_of}

@@ -3,7 +3,6 @@ use Rattle.std.proofs.Common.{◌≡◌, ◌≢◌, ◌⊎◌, ◌∙◌, ◌++�
 use Rattle.std.specs.FinMap.{FinMap, entries, entries_sorted, get, keys}
 use Rattle.std.specs.FinMap.Entries.{below_all, is_sorted}
 use Rattle.std.specs.List.{AllZip, flat_map}
-use Rattle.std.proofs.lemmas.Bool.{cases_Bool}
 use Rattle.std.proofs.lemmas.Bool.Decides.{nat_tests}
 use Rattle.std.proofs.lemmas.List.{append-nil, map-append}
 use Rattle.std.proofs.lemmas.List.Elements.{All-append, All-cons, All-nil, Contains-append_cases, Contains-append_left, Contains-append_right}
@@ -17,23 +16,23 @@ use Rattle.rd_policy.specs.declared.rule.Rule.{Rule}
 use Rattle.rd_volume.specs.Volumes.{AreFounds}
 use Rattle.rd_volume.specs.declared.found.Found.{Found}
 use Rattle.rd_protocol.specs.Rehearsals.{IsRehearsal, differences_at, differences_between, differences_of, same_effect}
-use Rattle.rd_protocol.specs.RulesFor.{IsAbout, IsRuleFor}
-use Rattle.rd_protocol.specs.State.{Desk, Place, Stands, Terms, accession_of, band_code, place_cmp, place_of, registered, rule_of, rules_for, terms_of}
+use Rattle.rd_holdings.specs.RulesFor.{IsAbout, IsRuleFor}
+use Rattle.rd_holdings.specs.State.{Desk, Place, Stands, Terms, accession_of, band_code, place_cmp, place_of, registered, rule_of, rules_for, terms_of}
 use Rattle.rd_protocol.specs.Verdicts.{IsDecided, IsVerdictsOf}
 use Rattle.rd_protocol.specs.declared.response.Difference.{Difference}
 use Rattle.rd_protocol.specs.declared.response.FileVerdicts.{FileVerdicts}
 use Rattle.rd_protocol.specs.declared.response.Verdicts.{Verdicts}
-use Rattle.rd_protocol.specs.declared.rows.ImageRow.{ImageRow}
-use Rattle.rd_protocol.proofs.KeyOrders.{number_order, place_order, same_band}
-use Rattle.rd_protocol.proofs.Lawful.{others_left, others_stay}
-use Rattle.rd_protocol.proofs.Maps.{get_inserted, get_removed}
-use Rattle.rd_protocol.proofs.Members.{Has, both, entry_got, got_entry}
-use Rattle.rd_protocol.proofs.RulesFor.{for_in_order, is_among, is_for}
+use Rattle.rd_holdings.specs.declared.rows.ImageRow.{ImageRow}
+use Rattle.rd_holdings.proofs.KeyOrders.{number_order, place_order, same_band}
+use Rattle.rd_holdings.proofs.Lawful.{others_left, others_stay}
+use Rattle.rd_holdings.proofs.Maps.{get_inserted, get_removed}
+use Rattle.rd_holdings.proofs.Members.{Has, both, entry_got, got_entry}
+use Rattle.rd_holdings.proofs.RulesFor.{for_in_order, is_among, is_for}
 use Rattle.rd_protocol.proofs.VerdictLemmas.{files_said}
 use Rattle.rd_policy.specs.declared.audience.Audience.TheVariants.{Staff}
 use Rattle.rd_protocol.specs.Judged.{IsAccepted}
 use Rattle.rd_protocol.specs.declared.request.What.TheVariants.{RehearseDrop, RehearseRule}
-use Rattle.rd_protocol.specs.declared.rows.Accession.{Accession}
+use Rattle.rd_holdings.specs.declared.rows.Accession.{Accession}
 use Rattle.rd_protocol.proofs.Accepting.{command_accepted, has_accession, has_deed}
 use Rattle.rd_desk.proofs.ListLemmas.{mapped_at}
 use Rattle.rd_desk.specs.Calls.{ForEachCaller, IsRegistered}

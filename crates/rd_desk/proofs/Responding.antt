@@ -6,8 +6,8 @@ use Rattle.sqlite.specs.Held.{Held}
 use Rattle.rd_policy.specs.declared.audience.Audience.{Audience}
 use Rattle.rd_policy.specs.declared.audience.Audience.TheVariants.{Staff}
 use Rattle.rd_store.specs.Held.{IsAtRest, IsClean, IsLeft, IsOpen, Keeps, LeavesOnly, Reads, desk}
-use Rattle.rd_protocol.specs.Lawful.{IsLawful}
-use Rattle.rd_protocol.specs.State.{Desk}
+use Rattle.rd_holdings.specs.Lawful.{IsLawful}
+use Rattle.rd_holdings.specs.State.{Desk}
 use Rattle.rd_store.proofs.Laws.{lasts_still, lasts_then}
 use Rattle.rd_desk.specs.Calls.{Carries, HasItsDigest, IsCarriedOut, IsResponse, IsResponseTo, Responds}
 use Rattle.rd_protocol.specs.Judged.{IsAccepted, audience_of}

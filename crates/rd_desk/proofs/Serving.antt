@@ -4,7 +4,7 @@ use Rattle.sqlite.specs.Store.{Ghosts}
 use Rattle.sqlite.specs.Held.{Held}
 use Rattle.rd_policy.specs.declared.audience.Audience.{Audience}
 use Rattle.rd_store.specs.Held.{IsAtRest, IsOpen, LeavesOpen, desk}
-use Rattle.rd_protocol.specs.State.{Desk}
+use Rattle.rd_holdings.specs.State.{Desk}
 use Rattle.rd_desk.specs.Calls.{IsOfChange, IsResponse, IsResponseAfter, IsWritten, MakesOneChange, Responds}
 use Rattle.rd_protocol.specs.Judged.{JudgedFile, audience_of}
 use Rattle.rd_protocol.specs.Replies.{Answers, IsAnswered, IsReply, Tells, carried_out}

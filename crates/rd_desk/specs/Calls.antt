@@ -1,5 +1,5 @@
 -- What the functions that make up an answer say of the store.
-use Rattle.std.specs.Prelude.{◌≡◌, ◌≢◌, ◌⊎◌, ℕ, ℤ, List, Option, Some, None, IsSomeAnd, Result, Ok, Err, MatchOption, option_map, ⊤}
+use Rattle.std.specs.Prelude.{◌≡◌, ◌≢◌, ◌⊎◌, ◌++◌, ◌∷◌, [], ℕ, ℤ, List, Option, Some, None, IsSomeAnd, Result, Ok, Err, MatchOption, option_map, ⊤}
 use Rattle.std.specs.FinMap.{get}
 use Rattle.sqlite.specs.Store.{Ghosts}
 use Rattle.sqlite.specs.Tree.{Trees}
@@ -11,11 +11,12 @@ use Rattle.rd_policy.specs.declared.rule.Band.{Band}
 use Rattle.rd_policy.specs.declared.rule.Band.TheVariants.{Takedown, Deed}
 use Rattle.rd_store.specs.Batched.{IsIndexed}
 use Rattle.rd_store.specs.Held.{Changes, IsClean, IsLeft, IsOpen, Keeps, Lasts, LeavesOnly, LeavesOpen, desk}
-use Rattle.rd_protocol.specs.State.{Desk, rules_for, accession_of}
+use Rattle.rd_policy.specs.declared.rule.Rule.{Rule}
+use Rattle.rd_holdings.specs.State.{Desk, all_rules, rules_for, accession_of}
 use Rattle.rd_store.specs.declared.faults.StoreFault.{StoreFault}
-use Rattle.rd_protocol.specs.declared.rows.Accession.{Accession}
-use Rattle.rd_protocol.specs.declared.rows.ImageRow.{ImageRow}
-use Rattle.rd_protocol.specs.declared.rows.Indexed.{Indexed}
+use Rattle.rd_holdings.specs.declared.rows.Accession.{Accession}
+use Rattle.rd_holdings.specs.declared.rows.ImageRow.{ImageRow}
+use Rattle.rd_holdings.specs.declared.rows.Indexed.{Indexed}
 use Rattle.rd_protocol.specs.Judged.{IsAccepted, IsRefused, audience_of, image_of}
 use Rattle.rd_protocol.specs.Replies.{IsAnswered, IsStep, IsSurvey, Tells, carried_out}
 use Rattle.rd_protocol.specs.Requests.{MayChange}
@@ -37,6 +38,10 @@ IsRegistered desk acc accession = option_map accession_of (get desk.images acc) 
 -- the accession stands, and its kind, its deed and its files are those of its image
 abbrev pub StandsAs : Desk → Indexed → Type 0
 StandsAs desk one = (image : ImageRow) × (get desk.images one.acc ≡ Some image) × IsIndexed (one.acc, image) one
+
+-- if lines say this of accessions of a desk with these rules, then all say it of these and of one accession more
+abbrev pub SaysMore : {L : Type 0} → (Desk → List ℕ → List L → Type 0) → List Rule → Indexed → List L → List L → Type 0
+SaysMore Says rules one lines all = (desk : Desk) (accs : List ℕ) → rules ≡ all_rules desk → StandsAs desk one → Says desk accs lines → Says desk (accs ++ one.acc ∷ []) all
 
 -- an accession that stands: the kind of its image, its deed and the rules for it
 abbrev pub AreAccessionRules : Desk → ℕ → AccessionRules → Type 0

@@ -5,11 +5,11 @@ use Rattle.rd_policy.specs.declared.rule.Band.{Band}
 use Rattle.rd_policy.specs.declared.rule.Rule.{Rule}
 use Rattle.rd_volume.specs.declared.found.Found.{Found}
 use Rattle.rd_protocol.specs.Rehearsals.{IsRehearsal, differences_at}
-use Rattle.rd_protocol.specs.State.{Desk, Place, Stands, Terms, band_code, place_cmp, rules_for, terms_of}
+use Rattle.rd_holdings.specs.State.{Desk, Place, Stands, Terms, band_code, place_cmp, rules_for, terms_of}
 use Rattle.rd_protocol.specs.Verdicts.{AreFileVerdicts, IsDecided}
 use Rattle.rd_protocol.specs.declared.response.Difference.{Difference}
 use Rattle.rd_protocol.specs.declared.response.FileVerdicts.{FileVerdicts}
-use Rattle.rd_protocol.specs.declared.rows.ImageRow.{ImageRow}
+use Rattle.rd_holdings.specs.declared.rows.ImageRow.{ImageRow}
 use Rattle.rd_desk.specs.declared.verdicts.AudienceVerdicts.{AudienceVerdicts}
 
 -- a file, with the verdicts on it

@@ -3,7 +3,7 @@ use Rattle.std.specs.Prelude.{◌≡◌, ◌≢◌, ◌⊎◌, ◌↔◌, ℕ, �
 use Rattle.sqlite.specs.Store.{Ghosts}
 use Rattle.sqlite.specs.Held.{Held}
 use Rattle.rd_store.specs.Held.{IsClean, IsOpen, Lasts, LeavesOnly, desk}
-use Rattle.rd_protocol.specs.State.{IsStaff}
+use Rattle.rd_holdings.specs.State.{IsStaff}
 use Rattle.rd_desk.specs.Calls.{LeavesStep, MakesOneChange}
 use Rattle.rd_protocol.specs.Hidden.{HidesTheRest, TellsWhatIsShown}
 use Rattle.rd_protocol.specs.Judged.{audience_of}

@@ -3,14 +3,15 @@ use Rattle.std.specs.Prelude.{ℕ, List, [], ◌∷◌, ◌==◌, cond}
 use Rattle.std.specs.List.{count_by}
 use Rattle.rd_policy.specs.declared.audience.Audience.{Audience}
 use Rattle.rd_policy.specs.declared.rule.Band.TheVariants.{Deed, Takedown}
-use Rattle.rd_protocol.specs.StaffLists.{has_rules, latest}
-use Rattle.rd_protocol.specs.State.{Desk, rules_at}
+use Rattle.rd_protocol.specs.StaffLists.{has_rules}
+use Rattle.rd_holdings.specs.Findings.{latest}
+use Rattle.rd_holdings.specs.State.{Desk, rules_at}
 use Rattle.rd_protocol.specs.declared.response.CheckLine.{CheckLine}
 use Rattle.rd_protocol.specs.declared.response.DeedLine.{DeedLine}
 use Rattle.rd_protocol.specs.declared.response.KeyLine.{KeyLine}
 use Rattle.rd_protocol.specs.declared.response.TakedownLine.{TakedownLine}
-use Rattle.rd_protocol.specs.declared.rows.Accession.{Accession}
-use Rattle.rd_protocol.specs.declared.rows.DeedRow.{DeedRow}
+use Rattle.rd_holdings.specs.declared.rows.Accession.{Accession}
+use Rattle.rd_holdings.specs.declared.rows.DeedRow.{DeedRow}
 
 -- the line of a key
 abbrev pub key_line : List ℕ × Audience → KeyLine

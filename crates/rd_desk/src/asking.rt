@@ -8,7 +8,7 @@ ghost use Rattle.rd_policy.specs.Verdicts.{AreInOrder};
 ghost use Rattle.rd_store.specs.Held.{IsOpen, Keeps, LeavesOpen, Reads, desk};
 ghost use Rattle.rd_store.specs.Index.{AreFilesIn};
 ghost use Rattle.rd_protocol.specs.Judged.{audience_of};
-ghost use Rattle.rd_protocol.specs.State.{rules_at};
+ghost use Rattle.rd_holdings.specs.State.{rules_at};
 ghost use Rattle.rd_desk.specs.Calls.{AreAccessionRules, IsRegistered};
 
 use rd_geometry::{Items, Kind, NoMemory};
@@ -62,6 +62,7 @@ pub(crate) fn audience<S: Alter>(
     match badge {
         Some(digest) => Ok(store.audience_of(digest)?),
         None => {
+            // The public has no key to look up. Without a call, a crash leaves the desk as it is.
             store.at_rest();
             Ok(Some(Audience::Public))
         }

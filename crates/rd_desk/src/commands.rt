@@ -6,7 +6,7 @@ ghost use Rattle.sha2.specs.Sha256.{sha256};
 ghost use Rattle.rd_geometry.specs.Kinds.{size_of};
 ghost use Rattle.rd_policy.specs.Days.{IsDay};
 ghost use Rattle.rd_policy.specs.Rules.{IsRule, IsScope};
-ghost use Rattle.rd_protocol.specs.Lawful.{IsDeed};
+ghost use Rattle.rd_holdings.specs.Lawful.{IsDeed};
 ghost use Rattle.rd_desk.specs.Calls.{Carries, IsOneChange, IsResponseAfter, MakesOneChange, missing_of};
 ghost use Rattle.rd_protocol.specs.Requests.{IsForStaff, IsRequest};
 
@@ -145,6 +145,7 @@ fn put_image<S: Alter>(
     ensures carries { (day : ℤ) → Carries S.Store store.old store.new day (What.PutImage acc kind deed digest.now bytes.now) result }
     ensures one_change { (day : ℤ) → MakesOneChange S.Store store.old store.new day (What.PutImage acc kind deed digest.now bytes.now) (λ told. IsResponseAfter told result) }
 {
+    // If the put is refused below, a crash leaves the desk as it is here.
     store.at_rest();
     if bytes.as_slice().len() != kind.size() {
         if has_deed(store, deed)? {
@@ -195,6 +196,7 @@ pub(crate) fn command<S: Alter>(
     ensures carries { Carries S.Store store.old store.new day what.now result }
     ensures one_change { MakesOneChange S.Store store.old store.new day what.now (λ told. IsResponseAfter told result) }
 {
+    // Here the desk is a lawful one, and a crash before the first call leaves it.
     store.at_rest();
     match what {
         What::Survey(acc) => survey(store, alloc, *acc),

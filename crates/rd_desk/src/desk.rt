@@ -1,12 +1,10 @@
 //! The desk: who sees what, by which rule, and how the tables change.
 
 ghost use Rattle.std.specs.Prelude.{◌≡◌, ◌↔◌, Ok, IsOk, IfOk, IfErr, None};
-ghost use Rattle.sqlite.specs.Steps.{over_memory};
 ghost use Rattle.rd_policy.specs.Days.{HasDay, IsDay};
 ghost use Rattle.rd_policy.specs.Zones.{day_number};
-ghost use Rattle.rd_store.specs.Held.{IsClean, IsOpen, LeavesOpen, desk as tables};
+ghost use Rattle.rd_store.specs.Held.{LeavesOpen};
 ghost use Rattle.rd_desk.specs.Calls.{IsResponseAfter, IsWritten, MakesOneChange, Responds};
-ghost use Rattle.rd_protocol.specs.Replies.{Answers};
 ghost use Rattle.rd_protocol.specs.Requests.{IsForStaff, IsRequest};
 ghost use Rattle.rd_desk.specs.Served.{Serves};
 
@@ -15,8 +13,8 @@ use crate::commands::command;
 use crate::queries::{Caller, query};
 use rd_policy::{Audience, DayFault, Zone, day_of};
 use rd_protocol::{Refusal, Reply, Request, Response, reply_text};
-use rd_store::{Store, memory_stays_open};
-use sqlite::{Alter, MemStore};
+use rd_store::Store;
+use sqlite::Alter;
 use std::alloc::Global;
 
 /// The answer to a request on a day. Where a caller without a key asks what only the staff may, it
@@ -41,6 +39,7 @@ fn respond<S: Alter>(
     if !request.what.is_for_staff() {
         return query(store, alloc, &caller, &request.what);
     }
+    // If the caller is refused below, a crash leaves the desk as it is here.
     store.at_rest();
     if caller.audience != Audience::Staff {
         return Ok(Response::Refused(Refusal::StaffOnly));
@@ -62,17 +61,6 @@ fn reply_with(alloc: Global, answer: Result<Response, Unavailable>) -> Reply
         },
         Err(_) => reply_text::unavailable(),
     }
-}
-
-/// Replies to a request on a day.
-fn reply_on<S: Alter>(store: &mut Store<S>, alloc: Global, day: i32, request: &Request) -> Reply
-    requires fits { IsRequest request.now.what }
-    requires day { IsDay day }
-    ensures serves { Serves S.Store store.old store.new day request.now result }
-{
-    let answer = respond(store, alloc, day, request);
-    store.at_rest();
-    reply_with(alloc, answer)
 }
 
 /// The desk over its store, and the zone of its clocks.
@@ -113,41 +101,32 @@ impl<S: Alter> Desk<S> {
         store
     }
 
-    /// The reply to a request whose values are within their limits (`Request::fits`), at a moment
-    /// in seconds since 1970-01-01T00:00:00 UTC that has a day (`Desk::day`). Its status is 200,
-    /// that of a `Refusal`, or 503 when the store fails or `alloc` has no memory. The desk carries
-    /// out a command or a check whole or not at all. Before a 503 it has changed nothing, unless a
-    /// fault has shut the connection to the database.
+    /// The reply to a request whose values are within their limits (`Request::fits`), on a day of the years 1 to
+    /// 9999, such as `Desk::day` gives, counted from 1970-01-01. Its status is 200, that of a `Refusal`, or 503 when the store fails or `alloc` has no
+    /// memory. The desk carries out a command or a check whole or not at all. Before a 503 it has changed nothing,
+    /// unless a fault has shut the connection to the database.
+    pub fn answer_on(&mut self, alloc: Global, day: i32, request: &Request) -> Reply
+        requires day { IsDay day }
+        requires fits { IsRequest request.now.what }
+        ensures serves { Serves S.Store self.old.store self.new.store day request.now result }
+        ensures zone { self.new.zone ≡ self.old.zone }
+    {
+        let answer = respond(&mut self.store, alloc, day, request);
+        // While the connection is open, a crash from here on leaves the desk as the answer left it.
+        self.store.at_rest();
+        reply_with(alloc, answer)
+    }
+
+    /// `answer_on` the day of a moment, in seconds since 1970-01-01T00:00:00 UTC, that has a day (`Desk::day`).
     pub fn answer(&mut self, alloc: Global, seconds: i64, request: &Request) -> Reply
         requires moment { HasDay seconds }
         requires fits { IsRequest request.now.what }
         ensures serves { Serves S.Store self.old.store self.new.store (day_number seconds self.old.zone) request.now result }
         ensures zone { self.new.zone ≡ self.old.zone }
     {
-        match self.day(seconds) {
-            Ok(day) => reply_on(&mut self.store, alloc, day, request),
-            Err(DayFault::OutOfRange) => unreachable!(),
-            Err(DayFault::NoMemory) => reply_text::unavailable(),
-        }
+        let Ok(day) = self.day(seconds) else {
+            unreachable!()
+        };
+        self.answer_on(alloc, day, request)
     }
-}
-
-/// `Desk::answer` of a desk in memory, where no disk can fail: the desk answers the request, or is
-/// unavailable.
-pub fn answer_in_memory(
-    desk: &mut Desk<MemStore>,
-    alloc: Global,
-    seconds: i64,
-    request: &Request,
-) -> Reply
-    requires moment { HasDay seconds }
-    requires fits { IsRequest request.now.what }
-    ensures open { IsOpen over_memory desk.new.store }
-    ensures clean { IsClean over_memory desk.new.store }
-    ensures answers { Answers (tables over_memory desk.old.store) (day_number seconds desk.old.zone) request.now result (tables over_memory desk.new.store) }
-    ensures serves { Serves over_memory desk.old.store desk.new.store (day_number seconds desk.old.zone) request.now result }
-    ensures zone { desk.new.zone ≡ desk.old.zone }
-{
-    memory_stays_open();
-    desk.answer(alloc, seconds, request)
 }

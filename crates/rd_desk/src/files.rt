@@ -3,7 +3,7 @@
 ghost use Rattle.std.specs.Prelude.{◌≡◌, IfOk, Some};
 ghost use Rattle.std.specs.FinMap.{get};
 ghost use Rattle.rd_store.specs.Held.{Reads, desk};
-ghost use Rattle.rd_protocol.specs.declared.rows.ImageRow.{ImageRow as Row};
+ghost use Rattle.rd_holdings.specs.declared.rows.ImageRow.{ImageRow as Row};
 
 use crate::asking::Unavailable;
 use rd_protocol::Contents;

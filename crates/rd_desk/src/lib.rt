@@ -12,7 +12,7 @@ mod staff_lists;
 mod surveys;
 mod verdicts;
 
-pub use desk::{Desk, answer_in_memory};
+pub use desk::Desk;
 pub use rd_geometry::{Items, Kind, NoMemory, Text};
 pub use rd_protocol::{
     Body, BodyPieces, Contents, Form, ImageLine, Line, Listing, Refusal, Reply, Request, Response,

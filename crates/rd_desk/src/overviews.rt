@@ -1,12 +1,12 @@
-//! What a caller may see of all accessions. An overview reads all rules at once, and the files of 16
-//! accessions at a time.
+//! All accessions, one after the other, and what an overview says of each; those that show a caller what they may see are
+//! here. The loop reads all rules at once, and the files of 16 accessions at a time.
 
-ghost use Rattle.std.specs.Prelude.{◌≡◌, ◌++◌, ℕ, All, IfOk, List, length, map};
+ghost use Rattle.std.specs.Prelude.{◌≡◌, ◌∷◌, ◌++◌, [], ℕ, All, IfOk, List, length, map};
 ghost use Rattle.std.specs.FinMap.{keys};
 ghost use Rattle.std.specs.List.{AllZip};
 ghost use Rattle.rd_store.specs.Held.{IsClean, IsOpen, Reads, desk};
-ghost use Rattle.rd_protocol.specs.State.{Desk, all_rules};
-ghost use Rattle.rd_desk.specs.Calls.{IsResponseTo, StandsAs};
+ghost use Rattle.rd_holdings.specs.State.{Desk, all_rules};
+ghost use Rattle.rd_desk.specs.Calls.{IsResponseTo, SaysMore, StandsAs};
 ghost use Rattle.rd_protocol.specs.Queries.{AreLinesOfEach, IsCounted};
 ghost use Rattle.rd_protocol.specs.Replies.{IsListing};
 
@@ -19,7 +19,93 @@ use sqlite::Alter;
 use std::alloc::Global;
 
 /// How many accessions have their files in memory at one time.
-pub(crate) const BATCH: usize = 16;
+const BATCH: usize = 16;
+
+/// What an overview says of accessions.
+pub(crate) trait Overview {
+    /// What it says of one of them.
+    type Line: Drop;
+
+    /// These lines are what it says of these accessions of a desk.
+    ghost says: { Self → Desk → List ℕ → List Self.Line → Type 0 };
+
+    /// The lines, and then what is to be said of one more accession.
+    fn with(
+        &self,
+        alloc: Global,
+        rules: &Rulebook,
+        lines: Vec<Self::Line>,
+        one: Indexed,
+    ) -> Result<Vec<Self::Line>, Unavailable>
+        ensures { IfOk result (λ all. SaysMore (says self.now) rules.now one lines.items all.items) };
+}
+
+/// The lines, and then one more.
+pub(crate) fn and_line<L: Drop>(lines: Vec<L>, line: L) -> Result<Vec<L>, Unavailable>
+    ensures { IfOk result (λ all. all.items ≡ lines.items ++ line ∷ []) }
+{
+    let mut all = lines;
+    let Ok(()) = all.push(line) else {
+        return Err(Unavailable);
+    };
+    Ok(all)
+}
+
+/// The lines, and then what an overview says of the accessions of a batch.
+fn with_batch<O: Overview>(
+    overview: &O,
+    alloc: Global,
+    rules: &Rulebook,
+    lines: Vec<O::Line>,
+    batch: Vec<Indexed>,
+) -> Result<Vec<O::Line>, Unavailable>
+    ensures { IfOk result (λ all. (desk : Desk) (accs : List ℕ) → rules.now ≡ all_rules desk → All (StandsAs desk) batch.items
+        → O.says overview.now desk accs lines.items → O.says overview.now desk (accs ++ map (λ one. one.acc) batch.items) all.items) }
+{
+    let mut all = lines;
+    for one in batch {
+        all = overview.with(alloc, rules, all, one)?;
+    }
+    Ok(all)
+}
+
+/// What an overview says of all accessions. `accessions` is how many there are.
+fn over_batches<S: Alter, O: Overview>(
+    store: &mut Store<S>,
+    alloc: Global,
+    overview: &O,
+    rules: &Rulebook,
+    accessions: usize,
+) -> Result<Vec<O::Line>, Unavailable>
+    requires awake { IsClean S.Store store.old → IsOpen S.Store store.old }
+    requires rules { IsOpen S.Store store.old → rules.now ≡ all_rules (desk S.Store store.old) }
+    requires count { IsOpen S.Store store.old → accessions ≡ length (keys (desk S.Store store.old).images) }
+    requires none { (desk : Desk) → O.says overview.now desk [] [] }
+    ensures { Reads S.Store store.old store.new result (λ lines. O.says overview.now (desk S.Store store.old) (keys (desk S.Store store.old).images) lines.items) }
+{
+    let mut lines = Vec::new(alloc);
+    // The loop begins with a store at rest: a crash leaves the desk as it is.
+    store.at_rest();
+    for at in 0..accessions / BATCH + 1 {
+        let batch = store.batch(alloc, BATCH * at, BATCH)?;
+        lines = with_batch(overview, alloc, rules, lines, batch)?;
+    }
+    Ok(lines)
+}
+
+/// What an overview says of all accessions, ascending.
+pub(crate) fn over_all<S: Alter, O: Overview>(
+    store: &mut Store<S>,
+    alloc: Global,
+    overview: &O,
+) -> Result<Items<O::Line>, Unavailable>
+    requires none { (desk : Desk) → O.says overview.now desk [] [] }
+    ensures { Reads S.Store store.old store.new result (λ lines. O.says overview.now (desk S.Store store.old) (keys (desk S.Store store.old).images) lines) }
+{
+    let rules = store.rulebook(alloc)?;
+    let accessions = count(store, alloc)?;
+    Ok(Items::of(over_batches(store, alloc, overview, &rules, accessions)?))
+}
 
 /// An accession, with its listed files.
 fn listing_of(
@@ -58,50 +144,57 @@ fn image_line(
     })
 }
 
-/// These lines, and then those of the accessions of a batch that have at least one listed file.
-fn with_lines(
-    alloc: Global,
-    lines: Vec<ImageLine>,
-    rules: &Rulebook,
-    caller: &Caller,
-    batch: Vec<Indexed>,
-) -> Result<Vec<ImageLine>, Unavailable>
-    ensures { IfOk result (λ all. (desk : Desk) (accs : List ℕ) → rules.now ≡ all_rules desk → All (StandsAs desk) batch.items
-        → AreLinesOfEach desk caller.now.audience caller.now.day accs lines.items
-        → AreLinesOfEach desk caller.now.audience caller.now.day (accs ++ map (λ one. one.acc) batch.items) all.items) }
-{
-    let mut all = lines;
-    for one in batch {
-        let line = image_line(alloc, rules, caller, one)?;
-        if line.files > 0 {
-            let Ok(()) = all.push(line) else {
-                return Err(Unavailable);
-            };
-        }
-    }
-    Ok(all)
+/// The accessions with at least one file that is listed to a caller.
+#[derive(Clone, Copy)]
+struct ImagesSeen {
+    caller: Caller,
 }
 
-/// The lines of those accessions that have at least one listed file. `accessions` is how many there are in all.
-fn image_lines<S: Alter>(
-    store: &mut Store<S>,
-    alloc: Global,
-    caller: &Caller,
-    rules: &Rulebook,
-    accessions: usize,
-) -> Result<Items<ImageLine>, Unavailable>
-    requires awake { IsClean S.Store store.old → IsOpen S.Store store.old }
-    requires rules { IsOpen S.Store store.old → rules.now ≡ all_rules (desk S.Store store.old) }
-    requires count { IsOpen S.Store store.old → accessions ≡ length (keys (desk S.Store store.old).images) }
-    ensures { Reads S.Store store.old store.new result (AreLinesOfEach (desk S.Store store.old) caller.now.audience caller.now.day (keys (desk S.Store store.old).images)) }
-{
-    let mut lines = Vec::new(alloc);
-    store.at_rest();
-    for at in 0..accessions / BATCH + 1 {
-        let part = store.batch(alloc, BATCH * at, BATCH)?;
-        lines = with_lines(alloc, lines, rules, caller, part)?;
+impl Overview for ImagesSeen {
+    type Line = ImageLine;
+
+    ghost says = { λ images desk accs lines. AreLinesOfEach desk images.caller.audience images.caller.day accs lines };
+
+    fn with(
+        &self,
+        alloc: Global,
+        rules: &Rulebook,
+        lines: Vec<ImageLine>,
+        one: Indexed,
+    ) -> Result<Vec<ImageLine>, Unavailable>
+        ensures { IfOk result (λ all. SaysMore (λ desk accs lines. AreLinesOfEach desk self.now.caller.audience self.now.caller.day accs lines) rules.now one lines.items all.items) }
+    {
+        let line = image_line(alloc, rules, &self.caller, one)?;
+        if line.files == 0 {
+            return Ok(lines);
+        }
+        and_line(lines, line)
     }
-    Ok(Items::of(lines))
+}
+
+/// All accessions, each with the files that are listed to a caller.
+#[derive(Clone, Copy)]
+struct CatalogueSeen {
+    caller: Caller,
+}
+
+impl Overview for CatalogueSeen {
+    type Line = Listing;
+
+    ghost says = { λ catalogue desk accs lines. AllZip (IsListing desk catalogue.caller.audience catalogue.caller.day) accs lines };
+
+    fn with(
+        &self,
+        alloc: Global,
+        rules: &Rulebook,
+        lines: Vec<Listing>,
+        one: Indexed,
+    ) -> Result<Vec<Listing>, Unavailable>
+        ensures { IfOk result (λ all. SaysMore (λ desk accs lines. AllZip (IsListing desk self.now.caller.audience self.now.caller.day) accs lines) rules.now one lines.items all.items) }
+    {
+        let listing = listing_of(alloc, rules, &self.caller, one)?;
+        and_line(lines, listing)
+    }
 }
 
 /// The accessions with at least one listed file.
@@ -112,53 +205,8 @@ pub(crate) fn images<S: Alter>(
 ) -> Result<Response, Unavailable>
     ensures { Reads S.Store store.old store.new result (IsResponseTo (desk S.Store store.old) caller.now.audience caller.now.day What.Images) }
 {
-    let rules = store.rulebook(alloc)?;
-    let accessions = count(store, alloc)?;
-    Ok(Response::Images(image_lines(store, alloc, caller, &rules, accessions)?))
-}
-
-/// These listings, and then those of the accessions of a batch.
-fn with_listings(
-    alloc: Global,
-    listings: Vec<Listing>,
-    rules: &Rulebook,
-    caller: &Caller,
-    batch: Vec<Indexed>,
-) -> Result<Vec<Listing>, Unavailable>
-    ensures { IfOk result (λ all. (desk : Desk) (accs : List ℕ) → rules.now ≡ all_rules desk → All (StandsAs desk) batch.items
-        → AllZip (IsListing desk caller.now.audience caller.now.day) accs listings.items
-        → AllZip (IsListing desk caller.now.audience caller.now.day) (accs ++ map (λ one. one.acc) batch.items) all.items) }
-{
-    let mut all = listings;
-    for one in batch {
-        let listing = listing_of(alloc, rules, caller, one)?;
-        let Ok(()) = all.push(listing) else {
-            return Err(Unavailable);
-        };
-    }
-    Ok(all)
-}
-
-/// The accessions, each with its listed files. `accessions` is how many there are.
-fn listings<S: Alter>(
-    store: &mut Store<S>,
-    alloc: Global,
-    caller: &Caller,
-    rules: &Rulebook,
-    accessions: usize,
-) -> Result<Items<Listing>, Unavailable>
-    requires awake { IsClean S.Store store.old → IsOpen S.Store store.old }
-    requires rules { IsOpen S.Store store.old → rules.now ≡ all_rules (desk S.Store store.old) }
-    requires count { IsOpen S.Store store.old → accessions ≡ length (keys (desk S.Store store.old).images) }
-    ensures { Reads S.Store store.old store.new result (AllZip (IsListing (desk S.Store store.old) caller.now.audience caller.now.day) (keys (desk S.Store store.old).images)) }
-{
-    let mut listings = Vec::new(alloc);
-    store.at_rest();
-    for at in 0..accessions / BATCH + 1 {
-        let batch = store.batch(alloc, BATCH * at, BATCH)?;
-        listings = with_listings(alloc, listings, rules, caller, batch)?;
-    }
-    Ok(Items::of(listings))
+    let images = ImagesSeen { caller: *caller };
+    Ok(Response::Images(over_all(store, alloc, &images)?))
 }
 
 /// All accessions, each with its listed files.
@@ -169,7 +217,6 @@ pub(crate) fn catalogue<S: Alter>(
 ) -> Result<Response, Unavailable>
     ensures { Reads S.Store store.old store.new result (IsResponseTo (desk S.Store store.old) caller.now.audience caller.now.day What.Catalogue) }
 {
-    let rules = store.rulebook(alloc)?;
-    let accessions = count(store, alloc)?;
-    Ok(Response::Catalogue(listings(store, alloc, caller, &rules, accessions)?))
+    let catalogue = CatalogueSeen { caller: *caller };
+    Ok(Response::Catalogue(over_all(store, alloc, &catalogue)?))
 }

@@ -4,7 +4,7 @@ ghost use Rattle.std.specs.Prelude.{◌≡◌, ◌++◌, Contains, IfOk, Some};
 ghost use Rattle.std.specs.FinMap.{get};
 ghost use Rattle.rd_policy.specs.Verdicts.{AreInOrder, IsVerdict};
 ghost use Rattle.rd_store.specs.Held.{IsClean, IsOpen, Reads, desk};
-ghost use Rattle.rd_protocol.specs.declared.rows.ImageRow.{ImageRow};
+ghost use Rattle.rd_holdings.specs.declared.rows.ImageRow.{ImageRow};
 ghost use Rattle.rd_volume.specs.Volumes.{IsFound};
 ghost use Rattle.rd_desk.specs.Calls.{IsRegistered, IsResponseTo};
 ghost use Rattle.rd_protocol.specs.Queries.{AreLinesOf, IsRead, IsWithheld};
@@ -88,6 +88,7 @@ fn answer_about<S: Alter>(
         → loaded.now.kind ≡ image.kind → IsFound image.kind image.bytes file
         → IsRead (record { image = image; rules = loaded.now.rules }) caller.now.audience caller.now.day file.slot answer) }
 {
+    // A file that is withheld takes no call. Then a crash leaves the desk as it is.
     store.at_rest();
     if let Some(refusal) = withheld(loaded, caller, &file) {
         return Ok(Response::Refused(refusal));

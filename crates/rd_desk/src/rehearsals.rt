@@ -10,8 +10,8 @@ ghost use Rattle.rd_policy.specs.declared.rule.Rule.{Rule as KeptRule};
 ghost use Rattle.rd_volume.specs.Volumes.{AreFounds};
 ghost use Rattle.rd_store.specs.Held.{IsClean, IsOpen, Keeps, Reads, desk};
 ghost use Rattle.rd_protocol.specs.Rehearsals.{differences_of, same_effect};
-ghost use Rattle.rd_protocol.specs.RulesFor.{IsAbout};
-ghost use Rattle.rd_protocol.specs.State.{Stands, band_code, place_of};
+ghost use Rattle.rd_holdings.specs.RulesFor.{IsAbout};
+ghost use Rattle.rd_holdings.specs.State.{Stands, band_code, place_of};
 ghost use Rattle.rd_desk.specs.Calls.{Carries, IsRegistered};
 ghost use Rattle.rd_desk.specs.Rehearsing.{AddsDifferencesAt, AreDifferencesAt, AreDifferencesOf, AreFileDifferences, IsRehearsed, desk_changed, is_there, place_at, with_verdicts_on};
 
@@ -19,8 +19,9 @@ use crate::asking::{Unavailable, files, has_deed, load_rules};
 use crate::commands::missing;
 use crate::verdicts::{AudienceVerdicts, verdicts_on};
 use rd_geometry::{Items, NoMemory, Text};
+use rd_holdings::Accession;
 use rd_policy::{Audience, Band, Effect, Rule, Select, Verdict, in_order};
-use rd_protocol::{Accession, Difference, Refusal, Response, What};
+use rd_protocol::{Difference, Refusal, Response, What};
 use rd_store::Store;
 use rd_volume::Found;
 use sqlite::Alter;
@@ -308,6 +309,7 @@ fn with_accession<S: Alter>(
         (desk_changed (place_at rehearsal.now.band rehearsal.now.scope rehearsal.now.rank) (option_map (λ rule. rule.now) rehearsal.now.rule) (desk S.Store store.old))
         rehearsal.now.day acc lines.items all.items) }
 {
+    // An accession of another deed takes no call. Then a crash leaves the desk as it is.
     store.at_rest();
     if accession.deed != rehearsal.scope {
         return Ok(lines);
@@ -332,6 +334,7 @@ fn of_register<S: Alter>(
         rehearsal.now.day (map (λ entry. entry.0) register.now) lines.items) }
 {
     let mut lines = Vec::new(alloc);
+    // Where there is no accession there is no call. Then a crash leaves the desk as it is.
     store.at_rest();
     for entry in register {
         let (acc, accession) = *entry;
@@ -373,6 +376,7 @@ fn of_accession<S: Alter>(
         return Ok(None);
     };
     let lines = differences_at(store, alloc, rehearsal, rehearsal.scope, accession)?;
+    // The desk that was read is a lawful one.
     store.at_rest();
     Ok(Some(lines))
 }

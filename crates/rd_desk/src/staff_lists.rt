@@ -5,14 +5,15 @@ ghost use Rattle.std.specs.Prelude.{◌≡◌, ◌++◌, IfOk, map, ℤ, ℕ};
 ghost use Rattle.std.specs.List.{flat_map};
 ghost use Rattle.rd_store.specs.Held.{IsClean, IsOpen, Keeps, Reads, desk};
 ghost use Rattle.rd_protocol.specs.StaffLists.{check_lines, deed_lines, has_rules, key_lines, takedown_lines};
-ghost use Rattle.rd_protocol.specs.State.{Desk, all_rules, rules_at};
+ghost use Rattle.rd_holdings.specs.State.{Desk, all_rules, rules_at};
 ghost use Rattle.rd_desk.specs.StaffLists.{accessions_in, check_line, deed_line_of, key_line, takedown_lines_at};
 ghost use Rattle.rd_desk.specs.Calls.{Carries};
 
 use crate::asking::Unavailable;
 use rd_geometry::Items;
+use rd_holdings::Accession;
 use rd_policy::{Audience, Band};
-use rd_protocol::{Accession, CheckLine, DeedLine, KeyLine, Response, TakedownLine, What};
+use rd_protocol::{CheckLine, DeedLine, KeyLine, Response, TakedownLine, What};
 use rd_store::{DeedRow, Rulebook, Store};
 use sqlite::Alter;
 use std::alloc::Global;
@@ -82,7 +83,6 @@ fn all_deeds<S: Alter>(store: &mut Store<S>, alloc: Global) -> Result<Items<Deed
     let register = store.register(alloc)?;
     let deeds = store.deeds(alloc)?;
     let mut lines = Vec::new(alloc);
-    store.at_rest();
     for entry in deeds {
         let (num, deed) = entry;
         let line = deed_line(store, alloc, &register, num, deed)?;
@@ -122,6 +122,7 @@ fn with_takedowns<S: Alter>(
     requires rules { IsOpen S.Store store.old → rules.now ≡ all_rules (desk S.Store store.old) }
     ensures { Reads S.Store store.old store.new result (λ all. all.items ≡ lines.items ++ takedown_lines_at (desk S.Store store.old) acc) }
 {
+    // An accession without takedowns takes no call. Then a crash leaves the desk as it is.
     store.at_rest();
     if !has_takedowns(rules, acc, deed) {
         return Ok(lines);
@@ -150,6 +151,7 @@ fn takedowns_of<S: Alter>(
     ensures { Reads S.Store store.old store.new result (λ lines. lines.items ≡ flat_map (λ entry. takedown_lines_at (desk S.Store store.old) entry.0) register.now) }
 {
     let mut lines = Vec::new(alloc);
+    // Where there is no accession there is no call. Then a crash leaves the desk as it is.
     store.at_rest();
     for entry in register {
         let (acc, accession) = *entry;
@@ -191,6 +193,7 @@ fn checks_of<S: Alter>(
     ensures { Reads S.Store store.old store.new result (λ lines. lines.items ≡ map (λ entry. check_line (desk S.Store store.old) entry.0) register.now) }
 {
     let mut lines = Vec::new(alloc);
+    // Where there is no accession there is no call. Then a crash leaves the desk as it is.
     store.at_rest();
     for entry in register {
         let (accession, _) = *entry;

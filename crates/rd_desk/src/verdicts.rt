@@ -1,18 +1,17 @@
 //! The verdicts on all files for each audience, for the staff. Each function fails with `Unavailable` if the store
 //! fails or memory runs out.
 
-ghost use Rattle.std.specs.Prelude.{◌≡◌, ◌++◌, ℕ, ℤ, All, IfOk, List, length, map};
-ghost use Rattle.std.specs.FinMap.{keys};
+ghost use Rattle.std.specs.Prelude.{◌≡◌, ◌++◌, ℤ, All, IfOk, map};
 ghost use Rattle.std.specs.List.{AllZip};
 ghost use Rattle.rd_policy.specs.Verdicts.{AreInOrder};
-ghost use Rattle.rd_store.specs.Held.{IsClean, IsOpen, Keeps, Reads, desk};
-ghost use Rattle.rd_protocol.specs.State.{Desk, all_rules};
+ghost use Rattle.rd_store.specs.Held.{Keeps, Reads, desk};
+ghost use Rattle.rd_holdings.specs.State.{Desk, all_rules};
 ghost use Rattle.rd_protocol.specs.Verdicts.{AreVerdicts, IsDecided, IsVerdictsOf};
-ghost use Rattle.rd_desk.specs.Calls.{Carries, StandsAs};
+ghost use Rattle.rd_desk.specs.Calls.{Carries, SaysMore, StandsAs};
 ghost use Rattle.rd_desk.specs.Rehearsing.{with_verdicts_on};
 
-use crate::asking::{Unavailable, count};
-use crate::overviews::BATCH;
+use crate::asking::Unavailable;
+use crate::overviews::{Overview, and_line, over_all};
 use crate::queries::{Caller, judge_in_turn};
 use rd_geometry::Items;
 use rd_policy::{Audience, Rule, Verdict};
@@ -103,48 +102,29 @@ fn verdicts_of(
     })
 }
 
-/// These verdicts, and then those on the accessions of a batch.
-fn with_verdicts(
-    alloc: Global,
-    verdicts: Vec<Verdicts>,
-    rules: &Rulebook,
+/// All accessions, each with the verdicts on its files on a day.
+#[derive(Clone, Copy)]
+struct VerdictsOn {
     day: i32,
-    batch: Vec<Indexed>,
-) -> Result<Vec<Verdicts>, Unavailable>
-    ensures { IfOk result (λ all. (desk : Desk) (accs : List ℕ) → rules.now ≡ all_rules desk → All (StandsAs desk) batch.items
-        → AllZip (IsVerdictsOf desk day) accs verdicts.items
-        → AllZip (IsVerdictsOf desk day) (accs ++ map (λ one. one.acc) batch.items) all.items) }
-{
-    let mut all = verdicts;
-    for one in batch {
-        let verdicts = verdicts_of(alloc, rules, day, one)?;
-        let Ok(()) = all.push(verdicts) else {
-            return Err(Unavailable);
-        };
-    }
-    Ok(all)
 }
 
-/// The accessions, each with the verdicts on its files on a day. `accessions` is how many there are.
-fn all_verdicts<S: Alter>(
-    store: &mut Store<S>,
-    alloc: Global,
-    day: i32,
-    rules: &Rulebook,
-    accessions: usize,
-) -> Result<Items<Verdicts>, Unavailable>
-    requires awake { IsClean S.Store store.old → IsOpen S.Store store.old }
-    requires rules { IsOpen S.Store store.old → rules.now ≡ all_rules (desk S.Store store.old) }
-    requires count { IsOpen S.Store store.old → accessions ≡ length (keys (desk S.Store store.old).images) }
-    ensures { Reads S.Store store.old store.new result (AreVerdicts (desk S.Store store.old) day) }
-{
-    let mut verdicts = Vec::new(alloc);
-    store.at_rest();
-    for at in 0..accessions / BATCH + 1 {
-        let batch = store.batch(alloc, BATCH * at, BATCH)?;
-        verdicts = with_verdicts(alloc, verdicts, rules, day, batch)?;
+impl Overview for VerdictsOn {
+    type Line = Verdicts;
+
+    ghost says = { λ verdicts desk accs lines. AllZip (IsVerdictsOf desk verdicts.day) accs lines };
+
+    fn with(
+        &self,
+        alloc: Global,
+        rules: &Rulebook,
+        lines: Vec<Verdicts>,
+        one: Indexed,
+    ) -> Result<Vec<Verdicts>, Unavailable>
+        ensures { IfOk result (λ all. SaysMore (λ desk accs lines. AllZip (IsVerdictsOf desk self.now.day) accs lines) rules.now one lines.items all.items) }
+    {
+        let verdicts = verdicts_of(alloc, rules, self.day, one)?;
+        and_line(lines, verdicts)
     }
-    Ok(Items::of(verdicts))
 }
 
 /// All accessions, each with the verdicts on its files on a day.
@@ -155,9 +135,7 @@ fn verdicts_of_day<S: Alter>(
 ) -> Result<Items<Verdicts>, Unavailable>
     ensures { Reads S.Store store.old store.new result (AreVerdicts (desk S.Store store.old) day) }
 {
-    let rules = store.rulebook(alloc)?;
-    let accessions = count(store, alloc)?;
-    all_verdicts(store, alloc, day, &rules, accessions)
+    over_all(store, alloc, &VerdictsOn { day })
 }
 
 /// The answer to the staff that gives the verdicts on all files on a day.

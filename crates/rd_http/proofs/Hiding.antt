@@ -5,7 +5,7 @@ use Rattle.sqlite.specs.Held.{Held}
 use Rattle.rd_policy.specs.Zones.{day_number}
 use Rattle.rd_policy.specs.declared.zone.Zone.{Zone}
 use Rattle.rd_store.specs.Held.{IsOpen, desk}
-use Rattle.rd_protocol.specs.State.{Desk}
+use Rattle.rd_holdings.specs.State.{Desk}
 use Rattle.rd_protocol.specs.Hidden.{ReadsTheSame}
 use Rattle.rd_protocol.specs.declared.response.Reply.{Reply}
 use Rattle.rd_protocol.proofs.Showing.{shown_decides}

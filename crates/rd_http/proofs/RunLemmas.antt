@@ -11,8 +11,8 @@ use Rattle.rd_policy.specs.declared.zone.Zone.{Zone}
 use Rattle.rd_store.specs.Held.{IsOpen, desk}
 use Rattle.rd_protocol.specs.declared.request.Request.{Request}
 use Rattle.rd_messages.specs.Asked.{HasFramedHead, IsRequestOf, request, fault}
-use Rattle.rd_http.specs.Runs.{Ends, AreNext, NoneLeft, HasRun, IsLast, IsVisit, Runs, counted}
-use Rattle.rd_messages.specs.DoorVisits.{Admits, Coming, Leaves, NoneToCome, TakesNext, TellsToo, Told, Visit, coming_of}
+use Rattle.rd_http.specs.Runs.{Ends, AreNext, HasRun, IsLast, IsVisit, Runs, counted}
+use Rattle.rd_messages.specs.DoorVisits.{Admits, Coming, Leaves, TakesNext, TellsToo, Told, Visit, coming_of}
 use Rattle.rd_http.specs.Visits.{IsAnswer, IsReplied, Visits}
 use Rattle.rd_http.specs.declared.serve.Ended.TheVariants as ended
 use Rattle.rd_http.specs.declared.serve.Served.{Served}
@@ -40,10 +40,6 @@ among_one p visits visit n is such =
 
 -- ---- the visits to come
 
-none_next : (coming : Option (List Coming)) → AreNext coming coming []
-none_next None = tt
-none_next (Some xs) = refl
-
 -- one more of the visits that were to come
 next_more : (c0 c1 c2 : Option (List Coming)) (visits : List Visit) (visit : Visit) → AreNext c0 c1 visits → TakesNext c1 c2 visit.moment (Some visit.came)
     → AreNext c0 c2 (visits ++ visit ∷ [])
@@ -70,21 +66,6 @@ module _ {State : Type 0} (Answers : List ℕ → State → State → ℤ → Li
       → Runs Answers zone (visits ++ visit ∷ []) s t
   runs_more [] visit s m t same is = (t, subst (λ x. IsVisit Answers zone visit x t) same is, refl)
   runs_more (first ∷ visits) visit s m t (mid, is, runs) last = (mid, is, runs_more visits visit mid m t runs last)
-
-  -- no visit yet
-  pub no_run : (coming : Option (List Coming)) (told : Told) (later : Option Told) (s : State) → later ≡ Some told
-      → Run coming told later coming (record { visits = 0; read_faults = 0; write_faults = 0; ended = ended.Count }) s s
-  no_run coming told later s is = record {
-    visits = [];
-    last = [];
-    order = none_next coming;
-    are = is ∙ ap Some (λ i. record { visits = sym (append-nil told.visits) i; under_way = told.under_way });
-    runs = refl;
-    counted = refl;
-    read_faults = refl;
-    write_faults = refl;
-    ended = refl;
-  }
 
   -- ---- one visit
 
@@ -245,45 +226,6 @@ module _ {State : Type 0} (Answers : List ℕ → State → State → ℤ → Li
       (told_over coming c1 c2 told now later served s m t moment came0 came1 out0 out1 tf pf result run next is_count rests tells
       (subst (λ i. IfSome i (λ stream. Visits (Answers stream m t (day_number moment zone)) m t out0 out1 result)) whole visited) same
       (subst (λ x. Leaves x later came1 out1 tf pf) admitted leaves) flags)
-
-  -- no visit is admitted any more
-  pub run_shut : (coming c1 c2 : Option (List Coming)) (told : Told) (t1 later : Option Told) (served : Served) (s m : State) → Run coming told t1 c1 served s m
-      → c2 ≡ c1 → served.ended ≡ ended.Count → Admits t1 later None
-      → Run coming told later c2 (record { visits = served.visits; read_faults = served.read_faults; write_faults = served.write_faults; ended = ended.Shut }) s m
-  run_shut coming c1 c2 told None later served s m run kept is_count admits = let none = run.are in cc none
-  run_shut coming c1 c2 told (Some now) later served s m run kept is_count admits = record {
-    visits = run.visits;
-    last = run.last;
-    order = subst (λ c. AreNext coming c (run.visits ++ run.last)) (sym kept) run.order;
-    are = admits ∙ run.are;
-    runs = run.runs;
-    counted = run.counted;
-    read_faults = run.read_faults;
-    write_faults = run.write_faults;
-    ended = subst (λ e. IsLast e run.last) is_count run.ended;
-  }
-
--- a run over connections of which no read fails has no failed read
-pub all_heard : (result : Result (Unit {0}) WireFault) (served : Served) (take_failed : Bool) → (result ≡ Err Read ↔ take_failed ≡ true) → take_failed ≡ false
-    → served.read_faults ≡ 0 → (counted result served).read_faults ≡ 0
-all_heard (Ok done) served tf iff unset none = none
-all_heard (Err Write) served tf iff unset none = none
-all_heard (Err Clock) served tf iff unset none = none
-all_heard (Err Read) served tf iff unset none = let set = iff.0 refl in cc (set, unset)
-
--- where a door has shut that has no visit under way, none is left
-pub none_left : {State : Type 0} (Answers : List ℕ → State → State → ℤ → List ℕ → Type 0) (zone : Zone) (coming c1 c2 : Option (List Coming)) (told : Told) (t1 : Option Told)
-    (served : Served) (s m : State) → HasRun Answers zone told t1 coming c1 served s m → c2 ≡ c1 → told.under_way ≡ None → NoneToCome t1 c1 → NoneLeft c2
-none_left Answers zone coming c1 c2 told None served s m run same quiet none = let are = run.are in cc are
-none_left Answers zone coming c1 c2 told (Some now) served s m run same quiet none =
-    subst NoneLeft (sym same) (left c1 none)
-  where
-    resting : now.under_way ≡ None
-    resting = (let are : now ≡ record { visits = told.visits ++ (run.visits ++ run.last); under_way = told.under_way } = cc run.are in ap (λ (x : Told). x.under_way) are ∙ quiet)
-
-    left : (c : Option (List Coming)) → NoneToCome (Some now) c → NoneLeft c
-    left None none = tt
-    left (Some xs) none = none resting
 
 -- what is told of a door that tells its visits
 pub if_told : {A : Type 0} (P Q : A → Type 0) (told : Option A) → IfSome told P → ((one : A) → P one → Q one) → IfSome told Q

@@ -1,7 +1,7 @@
 -- What the bytes that go to a visitor do not depend on.
 use Rattle.std.specs.Prelude.{ℕ, ℤ, List}
 use Rattle.rd_policy.specs.declared.audience.Audience.{Audience}
-use Rattle.rd_protocol.specs.State.{Desk}
+use Rattle.rd_holdings.specs.State.{Desk}
 use Rattle.rd_protocol.specs.Hidden.{IsCallerOf, IsOfStaff}
 use Rattle.rd_protocol.specs.Shown.{ShowsTheSame}
 use Rattle.rd_protocol.specs.declared.request.Request.{Request}

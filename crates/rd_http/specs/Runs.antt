@@ -1,12 +1,17 @@
 -- Visits one after the other.
-use Rattle.std.specs.Prelude.{◌≡◌, ◌<◌, ℕ, ◌+◌, ℤ, List, [], ◌∷◌, ◌++◌, Bool, true, false, Option, None, Some, Result, Ok, Err, length, map, ⊤}
+use Rattle.std.specs.Prelude.{◌≡◌, ◌≢◌, ◌↔◌, ◌<◌, ◌≤◌, ℕ, ◌+◌, ℤ, List, [], ◌∷◌, ◌++◌, Bool, true, false, Option, None, Some, Result, Ok, Err, IfSome, length, map, ⊤}
 use Rattle.std.specs.List.{filter}
 use Rattle.rd_policy.specs.Days.{HasDay}
 use Rattle.rd_policy.specs.Zones.{day_number}
 use Rattle.rd_policy.specs.declared.zone.Zone.{Zone}
-use Rattle.rd_messages.specs.DoorVisits.{Coming, Told, Visit, coming_of}
+use Rattle.sqlite.specs.Store.{Ghosts}
+use Rattle.sqlite.specs.Held.{Held}
+use Rattle.rd_store.specs.Held.{Lasts}
+use Rattle.rd_messages.specs.DoorVisits.{Coming, NoneToCome, Told, Visit, coming_of}
+use Rattle.rd_messages.specs.declared.wire.Door.{Ghosts as DoorGhosts}
+use Rattle.rd_http.specs.Visits.{IsAnswer}
 use Rattle.rd_http.specs.declared.serve.Ended.{Ended}
-use Rattle.rd_http.specs.declared.serve.Ended.TheVariants.{Clock}
+use Rattle.rd_http.specs.declared.serve.Ended.TheVariants.{Clock, Count, Shut}
 use Rattle.rd_http.specs.declared.serve.Served.{Served}
 use Rattle.rd_http.specs.declared.visit.WireFault.{WireFault}
 use Rattle.rd_http.specs.declared.visit.WireFault.TheVariants as fault
@@ -82,3 +87,29 @@ module _ {State : Type 0} (Answers : List ℕ → State → State → ℤ → Li
     pub read_faults : length (filter (λ visit. visit.take_failed) visits) ≡ served.read_faults
     pub write_faults : length (filter (λ visit. visit.put_failed) visits) ≡ served.write_faults
     pub ended : IsLast served.ended last
+
+-- A run of at most so many visits of a door, over a desk with the clocks of a zone: what the door shows, why the run ended,
+-- and that the door shuts only where the run says so; if it shows its visits and has none under way, none is left then.
+pub record IsRunOf {S D C : Type 0} (g : Ghosts S) (d : DoorGhosts D C) (most : ℕ) (zone : Zone) (before after : D) (old new : Held S) (served : Served) : Type 0 where
+  pub run : IfSome (d.told before) (λ told. HasRun (IsAnswer g) zone told (d.told after) (d.coming before) (d.coming after) served old new)
+  pub count : (served.ended ≡ Count) ↔ (served.visits ≡ most)
+  pub within : served.visits ≤ most
+  pub faults : served.read_faults + served.write_faults ≤ served.visits
+  pub shut : served.ended ≡ Shut → d.has_shut after ≡ true
+  pub stays : served.ended ≢ Shut → d.has_shut after ≡ d.has_shut before
+  pub last : served.ended ≡ Shut → d.has_shut before ≡ false → IfSome (d.told before) (λ told. told.under_way ≡ None → NoneLeft (d.coming after))
+  pub lasts : Lasts g old new
+
+-- ---- inside
+
+-- One visit more of a run that goes on, or its end.
+pub record IsNext {S D C : Type 0} (g : Ghosts S) (d : DoorGhosts D C) (zone : Zone) (before after : D) (old new : Held S) (served next : Served) : Type 0 where
+  pub run : (told : Told) (coming : Option (List Coming)) (start : Held S) → HasRun (IsAnswer g) zone told (d.told before) coming (d.coming before) served start old
+      → HasRun (IsAnswer g) zone told (d.told after) coming (d.coming after) next start new
+  pub more : next.ended ≡ Count → next.visits ≡ served.visits + 1
+  pub over : next.ended ≢ Count → next.visits ≡ served.visits
+  pub faults : next.read_faults + next.write_faults ≤ next.visits
+  pub shut : next.ended ≡ Shut → d.has_shut after ≡ true
+  pub stays : next.ended ≢ Shut → d.has_shut after ≡ d.has_shut before
+  pub last : next.ended ≡ Shut → d.has_shut before ≡ false → NoneToCome (d.told before) (d.coming before) × (d.coming after ≡ d.coming before)
+  pub lasts : Lasts g old new

@@ -1,15 +1,21 @@
 -- One visit: what the desk does about the bytes that came, and which bytes go.
-use Rattle.std.specs.Prelude.{◌≡◌, ◌⊎◌, ℕ, ℤ, List, Option, Result, Ok, Err}
+use Rattle.std.specs.Prelude.{◌≡◌, ◌≢◌, ◌↔◌, ◌⊎◌, ℕ, ℤ, List, Option, Result, Ok, Err, IfOk, IfSome, true}
 use Rattle.std.specs.Io.KnownBytes.{Appends}
 use Rattle.sqlite.specs.Store.{Ghosts}
 use Rattle.sqlite.specs.Held.{Held}
-use Rattle.rd_protocol.specs.State.{Desk}
+use Rattle.rd_policy.specs.Days.{HasDay}
+use Rattle.rd_policy.specs.Zones.{day_number}
+use Rattle.rd_policy.specs.declared.zone.Zone.{Zone}
+use Rattle.rd_holdings.specs.State.{Desk}
+use Rattle.rd_store.specs.Held.{Lasts}
 use Rattle.rd_protocol.specs.Replies.{IsReply}
 use Rattle.rd_desk.specs.Served.{Serves}
 use Rattle.rd_protocol.specs.Texts.{UNAVAILABLE}
 use Rattle.rd_protocol.specs.declared.response.Reply.{Reply}
 use Rattle.rd_messages.specs.Asked.{Asked, HasFramedHead, IsAsked, request, fault}
 use Rattle.rd_messages.specs.Sent.{SendsPart}
+use Rattle.rd_messages.specs.Taken.{TakesUpTo}
+use Rattle.rd_messages.specs.declared.wire.Wire.{Ghosts as WireGhosts}
 use Rattle.rd_http.specs.declared.visit.WireFault.{WireFault}
 use Rattle.rd_http.specs.declared.visit.WireFault.TheVariants.{Read, Write, Clock}
 use Rattle.rd_messages.specs.Answers.{answer_bytes, fault_bytes}
@@ -56,3 +62,18 @@ Visits Answers old new before after (Ok done) = (text : List ℕ) × Answers tex
 Visits Answers old new before after (Err Write) = (text : List ℕ) × Answers text × SendsPart before after text
 Visits Answers old new before after (Err Read) = (new ≡ old) × (after ≡ before)
 Visits Answers old new before after (Err Clock) = (new ≡ old) × (after ≡ before)
+
+-- A visit at a moment, over a wire that may show its bytes and over a desk with the clocks of a zone: what it leaves of
+-- both, and how it ends. If the moment has no day, it touches neither; if a read fails, nothing goes out and nothing
+-- changes; and at most the bytes of a head and of a body come.
+pub record IsServed {S W : Type 0} (g : Ghosts S) (w : WireGhosts W) (seconds : ℤ) (zone : Zone) (before after : W) (old new : Held S) (result : Result (Unit {0}) WireFault) : Type 0 where
+  pub replied : IfSome (w.incoming before) (λ stream. Visits (IsAnswer g stream old new (day_number seconds zone)) old new (w.outgoing before) (w.outgoing after) result)
+  pub clock : (result ≢ Err Clock) ↔ HasDay seconds
+  pub read : (result ≡ Err Read) ↔ (w.take_failed after ≡ true)
+  pub write : (result ≡ Err Write) ↔ (w.put_failed after ≡ true)
+  pub flushed : IfOk result (λ done. w.unsent after ≡ 0)
+  pub untouched : result ≡ Err Clock → (after ≡ before) × (new ≡ old)
+  pub unread : result ≡ Err Read → (w.outgoing after ≡ w.outgoing before) × (new ≡ old)
+  pub bounded : TakesUpTo 270_336 (w.incoming before) (w.incoming after)
+  pub came : w.came after ≡ w.came before
+  pub lasts : Lasts g old new

@@ -1,11 +1,11 @@
 //! Visits one after the other.
 
-ghost use Rattle.std.specs.Prelude.{◌≡◌, ◌≢◌, ◌↔◌, ◌≤◌, ◌<◌, ◌+◌, true, false, None, IfSome};
+ghost use Rattle.std.specs.Prelude.{◌≡◌, ◌≤◌, ◌<◌, ◌+◌, false, IfSome};
 ghost use Rattle.sqlite.specs.Steps.{over_memory};
-ghost use Rattle.rd_store.specs.Held.{IsOpen, Lasts, desk as tables};
+ghost use Rattle.rd_store.specs.Held.{IsOpen, desk as tables};
 ghost use Rattle.rd_http.specs.Hidden.{RepliesAndHides};
-ghost use Rattle.rd_http.specs.Runs.{HasRun, NoneLeft};
-ghost use Rattle.rd_http.specs.Visits.{IsAnswer, IsReplied};
+ghost use Rattle.rd_http.specs.Runs.{HasRun, IsNext, IsRunOf};
+ghost use Rattle.rd_http.specs.Visits.{IsReplied};
 
 use crate::visit::{WireFault, serve_visit};
 use rd_desk::Desk;
@@ -78,6 +78,33 @@ impl Served {
     }
 }
 
+/// Serves one visit more of a run that goes on; or ends it, because the door has shut or the moment of the visit has no
+/// day.
+fn serve_next<S: Alter, D: Door>(
+    alloc: Global,
+    workspace: &mut Workspace,
+    door: &mut D,
+    desk: &mut Desk<S>,
+    served: Served,
+) -> Served
+    requires counting { served.ended ≡ Ended.Count }
+    requires room { served.visits < 4_294_967_295 }
+    requires faults { served.read_faults + served.write_faults ≤ served.visits }
+    ensures next { IsNext S.Store D.Door desk.old.zone door.old door.new desk.old.store desk.new.store served result }
+    ensures heard { ((conn : _) → D.Conn.take_failed conn ≡ false) → served.read_faults ≡ 0 → result.read_faults ≡ 0 }
+    ensures zone { desk.new.zone ≡ desk.old.zone }
+{
+    let Ok((seconds, mut conn)) = door.admit() else {
+        return Served {
+            ended: Ended::Shut,
+            ..served
+        };
+    };
+    let ending = serve_visit(alloc, workspace, &mut conn, seconds, desk);
+    door.leave(conn);
+    served.with(ending)
+}
+
 /// Serves up to `count` visits one after the other, each at the moment at which the door admits
 /// it. A failed read or write ends only its own visit. A moment that has no day ends the run, and
 /// its visit does not count; a door that shuts ends the run too. Each admitted visit leaves by the
@@ -89,37 +116,18 @@ pub fn serve_many<S: Alter, D: Door>(
     desk: &mut Desk<S>,
     count: u32,
 ) -> Served
-    ensures run { IfSome (D.told door.old) (λ told.
-        HasRun (IsAnswer S.Store) desk.old.zone told (D.told door.new) (D.coming door.old) (D.coming door.new) result desk.old.store desk.new.store) }
+    ensures run { IsRunOf S.Store D.Door count desk.old.zone door.old door.new desk.old.store desk.new.store result }
     ensures replied { IsOpen S.Store desk.new.store → IfSome (D.told door.old) (λ told.
         HasRun IsReplied desk.old.zone told (D.told door.new) (D.coming door.old) (D.coming door.new) result (tables S.Store desk.old.store) (tables S.Store desk.new.store)) }
     ensures hidden { IsOpen S.Store desk.new.store → IfSome (D.told door.old) (λ told.
         HasRun RepliesAndHides desk.old.zone told (D.told door.new) (D.coming door.old) (D.coming door.new) result (tables S.Store desk.old.store) (tables S.Store desk.new.store)) }
-    ensures count { (result.ended ≡ Ended.Count) ↔ (result.visits ≡ count) }
-    ensures within { result.visits ≤ count }
-    ensures faults { result.read_faults + result.write_faults ≤ result.visits }
-    ensures shut { result.ended ≡ Ended.Shut → D.has_shut door.new ≡ true }
-    ensures stays { result.ended ≢ Ended.Shut → D.has_shut door.new ≡ D.has_shut door.old }
-    ensures last { result.ended ≡ Ended.Shut → D.has_shut door.old ≡ false → IfSome (D.told door.old) (λ told. told.under_way ≡ None → NoneLeft (D.coming door.new)) }
     ensures heard { ((conn : _) → D.Conn.take_failed conn ≡ false) → result.read_faults ≡ 0 }
-    ensures lasts { Lasts S.Store desk.old.store desk.new.store }
     ensures zone { desk.new.zone ≡ desk.old.zone }
 {
     let mut workspace = Workspace::new();
     let mut served = Served::NONE;
-    while served.visits < count {
-        let Ok((seconds, mut conn)) = door.admit() else {
-            return Served {
-                ended: Ended::Shut,
-                ..served
-            };
-        };
-        let ending = serve_visit(alloc, &mut workspace, &mut conn, seconds, desk);
-        door.leave(conn);
-        served = served.with(ending);
-        if served.ended == Ended::Clock {
-            return served;
-        }
+    while served.visits < count && served.ended == Ended::Count {
+        served = serve_next(alloc, &mut workspace, door, desk, served);
     }
     served
 }
@@ -131,20 +139,12 @@ pub fn serve_in_memory<D: Door>(
     desk: &mut Desk<MemStore>,
     count: u32,
 ) -> Served
+    ensures run { IsRunOf over_memory D.Door count desk.old.zone door.old door.new desk.old.store desk.new.store result }
     ensures replied { IfSome (D.told door.old) (λ told.
         HasRun IsReplied desk.old.zone told (D.told door.new) (D.coming door.old) (D.coming door.new) result (tables over_memory desk.old.store) (tables over_memory desk.new.store)) }
     ensures hidden { IfSome (D.told door.old) (λ told.
         HasRun RepliesAndHides desk.old.zone told (D.told door.new) (D.coming door.old) (D.coming door.new) result (tables over_memory desk.old.store) (tables over_memory desk.new.store)) }
-    ensures count { (result.ended ≡ Ended.Count) ↔ (result.visits ≡ count) }
-    ensures within { result.visits ≤ count }
-    ensures faults { result.read_faults + result.write_faults ≤ result.visits }
-    ensures shut { result.ended ≡ Ended.Shut → D.has_shut door.new ≡ true }
-    ensures stays { result.ended ≢ Ended.Shut → D.has_shut door.new ≡ D.has_shut door.old }
-    ensures last { result.ended ≡ Ended.Shut → D.has_shut door.old ≡ false → IfSome (D.told door.old) (λ told. told.under_way ≡ None → NoneLeft (D.coming door.new)) }
     ensures heard { ((conn : _) → D.Conn.take_failed conn ≡ false) → result.read_faults ≡ 0 }
-    ensures run { IfSome (D.told door.old) (λ told.
-        HasRun (IsAnswer over_memory) desk.old.zone told (D.told door.new) (D.coming door.old) (D.coming door.new) result desk.old.store desk.new.store) }
-    ensures lasts { Lasts over_memory desk.old.store desk.new.store }
     ensures zone { desk.new.zone ≡ desk.old.zone }
 {
     memory_stays_open();

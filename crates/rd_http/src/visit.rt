@@ -1,19 +1,17 @@
 //! One visit: it reads a request, has the desk answer it, and writes the reply.
 
-ghost use Rattle.std.specs.Prelude.{◌≡◌, ◌≢◌, ◌↔◌, ◌≤◌, ℕ, List, Err, true, false, IfSome, IfOk, length};
-ghost use Rattle.rd_policy.specs.Days.{HasDay};
+ghost use Rattle.std.specs.Prelude.{◌≡◌, ◌≤◌, ℕ, List, false, IfSome, length};
+ghost use Rattle.rd_policy.specs.Days.{IsDay};
 ghost use Rattle.rd_policy.specs.Zones.{day_number};
 ghost use Rattle.rd_store.specs.Held.{IsOpen, Lasts, desk as tables};
 ghost use Rattle.rd_http.specs.Hidden.{HidesFromVisitor};
 ghost use Rattle.rd_messages.specs.Readings.{Fits, IsReading};
 ghost use Rattle.rd_messages.specs.ReplyText.{reply_bytes};
-ghost use Rattle.rd_messages.specs.Taken.{TakesUpTo};
-ghost use Rattle.rd_http.specs.Visits.{IsAnswer, Visits};
+ghost use Rattle.rd_http.specs.Visits.{IsAnswer, IsServed, Visits};
 
 use rd_desk::{Desk, Reply, unavailable};
 use rd_messages::read_request::{Reading, read_request};
 use rd_messages::{Broken, Wire, Workspace, of_desk, send};
-use rd_policy::DayFault;
 use sqlite::Alter;
 use std::alloc::Global;
 
@@ -33,20 +31,20 @@ pub enum WireFault {
 /// or none.
 fn answer_to<S: Alter>(
     alloc: Global,
-    seconds: i64,
+    day: i32,
     desk: &mut Desk<S>,
     reading: Reading,
 ) -> (&'static str, Reply)
-    requires moment { HasDay seconds }
+    requires day { IsDay day }
     requires fits { Fits reading }
     ensures answers { (stream : List ℕ) → IsReading stream reading
-        → IsAnswer S.Store stream desk.old.store desk.new.store (day_number seconds desk.old.zone) (reply_bytes result.0.now result.1) }
+        → IsAnswer S.Store stream desk.old.store desk.new.store day (reply_bytes result.0.now result.1) }
     ensures short { length result.0.now ≤ 40 }
     ensures lasts { Lasts S.Store desk.old.store desk.new.store }
     ensures zone { desk.new.zone ≡ desk.old.zone }
 {
     match reading {
-        Reading::Request(request) => of_desk(desk.answer(alloc, seconds, &request)),
+        Reading::Request(request) => of_desk(desk.answer_on(alloc, day, &request)),
         Reading::Fault(fault) => (fault.line(), fault.reply()),
         Reading::NoMemory => of_desk(unavailable()),
     }
@@ -62,27 +60,16 @@ pub(crate) fn serve_visit<S: Alter, W: Wire>(
 ) -> Result<(), WireFault>
     requires ready { W.take_failed wire.old ≡ false }
     requires put_ready { W.put_failed wire.old ≡ false }
-    ensures served { IfSome (W.incoming wire.old) (λ stream.
-        Visits (IsAnswer S.Store stream desk.old.store desk.new.store (day_number seconds desk.old.zone))
-        desk.old.store desk.new.store (W.outgoing wire.old) (W.outgoing wire.new) result) }
-    ensures clock { (result ≢ Err WireFault.Clock) ↔ HasDay seconds }
-    ensures read { (result ≡ Err WireFault.Read) ↔ (W.take_failed wire.new ≡ true) }
-    ensures write { (result ≡ Err WireFault.Write) ↔ (W.put_failed wire.new ≡ true) }
-    ensures flushed { IfOk result (λ _. W.unsent wire.new ≡ 0) }
-    ensures untouched { result ≡ Err WireFault.Clock → (wire.new ≡ wire.old) × (desk.new ≡ desk.old) }
-    ensures unread { result ≡ Err WireFault.Read → (W.outgoing wire.new ≡ W.outgoing wire.old) × (desk.new ≡ desk.old) }
-    ensures bounded { TakesUpTo 270_336 (W.incoming wire.old) (W.incoming wire.new) }
-    ensures came { W.came wire.new ≡ W.came wire.old }
-    ensures lasts { Lasts S.Store desk.old.store desk.new.store }
+    ensures served { IsServed S.Store W.Wire seconds desk.old.zone wire.old wire.new desk.old.store desk.new.store result }
     ensures zone { desk.new.zone ≡ desk.old.zone }
 {
-    if desk.day(seconds) == Err(DayFault::OutOfRange) {
+    let Ok(day) = desk.day(seconds) else {
         return Err(WireFault::Clock);
-    }
+    };
     let Ok(reading) = read_request(alloc, workspace, wire) else {
         return Err(WireFault::Read);
     };
-    let (line, reply) = answer_to(alloc, seconds, desk, reading);
+    let (line, reply) = answer_to(alloc, day, desk, reading);
     match send(wire, line, reply) {
         Ok(()) => Ok(()),
         Err(Broken) => Err(WireFault::Write),
@@ -106,22 +93,11 @@ pub fn serve_one<S: Alter, W: Wire>(
 ) -> Result<(), WireFault>
     requires ready { W.take_failed wire.old ≡ false }
     requires put_ready { W.put_failed wire.old ≡ false }
-    ensures served { IfSome (W.incoming wire.old) (λ stream.
-        Visits (IsAnswer S.Store stream desk.old.store desk.new.store (day_number seconds desk.old.zone))
-        desk.old.store desk.new.store (W.outgoing wire.old) (W.outgoing wire.new) result) }
+    ensures served { IsServed S.Store W.Wire seconds desk.old.zone wire.old wire.new desk.old.store desk.new.store result }
     ensures hidden { IfSome (W.incoming wire.old) (λ stream.
         Visits (λ text. IsOpen S.Store desk.new.store
         → HidesFromVisitor stream (tables S.Store desk.old.store) (day_number seconds desk.old.zone) text)
         desk.old.store desk.new.store (W.outgoing wire.old) (W.outgoing wire.new) result) }
-    ensures clock { (result ≢ Err WireFault.Clock) ↔ HasDay seconds }
-    ensures read { (result ≡ Err WireFault.Read) ↔ (W.take_failed wire.new ≡ true) }
-    ensures write { (result ≡ Err WireFault.Write) ↔ (W.put_failed wire.new ≡ true) }
-    ensures flushed { IfOk result (λ _. W.unsent wire.new ≡ 0) }
-    ensures untouched { result ≡ Err WireFault.Clock → (wire.new ≡ wire.old) × (desk.new ≡ desk.old) }
-    ensures unread { result ≡ Err WireFault.Read → (W.outgoing wire.new ≡ W.outgoing wire.old) × (desk.new ≡ desk.old) }
-    ensures bounded { TakesUpTo 270_336 (W.incoming wire.old) (W.incoming wire.new) }
-    ensures came { W.came wire.new ≡ W.came wire.old }
-    ensures lasts { Lasts S.Store desk.old.store desk.new.store }
     ensures zone { desk.new.zone ≡ desk.old.zone }
 {
     let mut workspace = Workspace::new();

@@ -10,7 +10,7 @@ use Rattle.sqlite.specs.Held.{Held, state}
 use Rattle.sqlite.specs.Store.{Ghosts}
 use Rattle.rd_store.specs.Held.{IsClean, IsOpen, desk}
 use Rattle.rd_store.specs.Migrated.{IsMigrated, SpellsDesk}
-use Rattle.rd_protocol.specs.State.{Desk}
+use Rattle.rd_holdings.specs.State.{Desk}
 use Rattle.rd_protocol.specs.Judged.{Conflicts, Holds, IsAsked, IsRefusedOn, JudgedFile, accession_of, deed_of, file_of, image_of}
 use Rattle.rd_protocol.specs.Requests.{IsRequest}
 use Rattle.rd_protocol.specs.Replies.{Answers, IsAnswered, IsReply, IsStep, carried_out}

@@ -14,7 +14,7 @@ use Rattle.rd_policy.specs.declared.zone.Zone.{Zone}
 use Rattle.rd_store.specs.Created.{IsUntouched}
 use Rattle.rd_store.specs.Held.{IsOpen, Lasts, desk}
 use Rattle.rd_store.specs.Migrated.{IsMigrated, IsNotMigrated, SpellsDesk}
-use Rattle.rd_protocol.specs.State.{Desk}
+use Rattle.rd_holdings.specs.State.{Desk}
 use Rattle.rd_store.specs.declared.faults.OpenFault.TheVariants as open_fault
 use Rattle.rd_protocol.specs.Replies.{IsStep}
 use Rattle.rd_protocol.specs.declared.request.What.{What}

@@ -2,8 +2,7 @@
 
 ghost use Rattle.std.specs.Prelude.{◌≡◌, option_map};
 ghost use Rattle.sha2.specs.Sha256.{sha256};
-ghost use Rattle.rd_policy.specs.Days.{HasDay};
-ghost use Rattle.rd_policy.specs.Zones.{day_number};
+ghost use Rattle.rd_policy.specs.Days.{IsDay};
 ghost use Rattle.rd_protocol.specs.Requests.{IsRequest};
 ghost use Rattle.rd_desk.specs.Served.{Serves};
 
@@ -17,8 +16,8 @@ use std::alloc::Global;
 pub(crate) struct Asker {
     /// The SHA-256 of the desk key; `None` if there is none.
     pub(crate) badge: Option<[u8; 32]>,
-    /// The moment, in seconds since 1970-01-01T00:00:00 UTC, which has a day.
-    pub(crate) seconds: i64,
+    /// The day, counted from 1970-01-01.
+    pub(crate) day: i32,
 }
 
 /// The SHA-256 of a desk key; `None` if there is none.
@@ -38,11 +37,11 @@ pub(crate) fn reply_to<S: Alter + Drop>(
     asker: Asker,
     desk: &mut Desk<S>,
 ) -> Reply
-    requires day { HasDay asker.seconds }
+    requires day { IsDay asker.day }
     requires fits { IsRequest what }
-    ensures serves { Serves S.Store desk.old.store desk.new.store (day_number asker.seconds desk.old.zone)
+    ensures serves { Serves S.Store desk.old.store desk.new.store asker.day
         (record { badge = asker.badge; what = what }) result }
 {
     let badge = asker.badge;
-    desk.answer(alloc, asker.seconds, &Request { badge, what })
+    desk.answer_on(alloc, asker.day, &Request { badge, what })
 }

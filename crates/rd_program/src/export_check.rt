@@ -3,10 +3,9 @@
 ghost use Rattle.std.specs.Prelude.{◌≡◌, IfErr, IfOk, IsSome, OnOk, option_map, ℕ};
 ghost use Rattle.std.specs.String.{string_bytes};
 ghost use Rattle.sha2.specs.Sha256.{sha256};
-ghost use Rattle.rd_policy.specs.Days.{HasDay};
+ghost use Rattle.rd_policy.specs.Days.{IsDay};
 ghost use Rattle.rd_policy.specs.Rules.{IsScope};
-ghost use Rattle.rd_policy.specs.Zones.{day_number};
-ghost use Rattle.rd_protocol.specs.Texts.{outcome_word};
+ghost use Rattle.rd_holdings.specs.Findings.{outcome_word};
 ghost use Rattle.rd_program.specs.Asking.{IsReplyRefusal, RefusesOnce, TellsCheck};
 ghost use Rattle.rd_commands.specs.Asks.{IsAskable, IsCheck, IsCheckOf};
 ghost use Rattle.rd_program.specs.Importing.{accession_line};
@@ -16,7 +15,7 @@ ghost use Rattle.rd_program.specs.Showing.{EndsWith, IsDueIn, IsDueOn, OfDesk, R
 
 use crate::asker::{Asker, badge_of, reply_to};
 use crate::machine::Machine;
-use crate::open_desk::{moment, open_desk};
+use crate::open_desk::{open_desk, visit_day};
 use crate::reply_body::{bytes_of, error_name, is_text, value_of};
 use crate::show::show;
 use rd_commands::{Done, OnceAsk, Question, Refusal, write_whole};
@@ -80,7 +79,7 @@ fn export<S: Alter + Drop, W: Write>(
     desk: &mut Desk<S>,
     output: &mut W,
 ) -> Result<Done, Refusal>
-    requires day { HasDay asker.seconds }
+    requires day { IsDay asker.day }
     ensures whole { IfOk result (λ done. done ≡ Done.Whole) }
     ensures refused { IfErr result (RefusesOnce (W.contents output.old) (W.contents output.new)) }
     ensures opened { IfErr result IsOfOpenDesk }
@@ -106,12 +105,12 @@ fn check<S: Alter + Drop, W: Write>(
     desk: &mut Desk<S>,
     output: &mut W,
 ) -> Result<Done, Refusal>
-    requires day { HasDay asker.seconds }
+    requires day { IsDay asker.day }
     requires within { IsScope acc }
     ensures told { IfOk result (TellsCheck acc (W.contents output.old) (W.contents output.new)) }
     ensures refused { IfErr result (RefusesOnce (W.contents output.old) (W.contents output.new)) }
     ensures opened { IfErr result IsOfOpenDesk }
-    ensures checks { LeavesDesk S.Store (Checks asker.badge acc (λ day. day ≡ day_number asker.seconds desk.old.zone))
+    ensures checks { LeavesDesk S.Store (Checks asker.badge acc (λ day. day ≡ asker.day))
         desk.old.store desk.new.store }
 {
     let sound = found_text(alloc, acc, Outcome::Sound)?;
@@ -154,9 +153,9 @@ fn tell_asked<S: Alter + Drop, W: Write, M: Machine>(
         → IfErr result (λ refusal. RefusesShow (W.contents output.old) (W.contents output.new) refusal
         × IsDueOn S.Store (show_request (option_map sha256 (option_map (λ key. key.now) ask.now.key)) what) desk.old.store desk.new.store refusal) }
 {
-    let seconds = moment(ask.when.seconds, desk, machine)?;
+    let day = visit_day(ask.when.seconds, desk, machine)?;
     let badge = badge_of(ask.key);
-    let asker = Asker { badge, seconds };
+    let asker = Asker { badge, day };
     match ask.question {
         Question::Catalogue => export(alloc, asker, desk, output),
         Question::Check(acc) => check(alloc, acc, asker, desk, output),

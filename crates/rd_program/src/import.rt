@@ -4,8 +4,7 @@ ghost use Rattle.std.specs.Prelude.{◌≡◌, IfErr, IfOk, OnErr, OnOk};
 ghost use Rattle.std.specs.Io.KnownBytes.{Appends};
 ghost use Rattle.csv.specs.Records.{fields_of};
 ghost use Rattle.sha2.specs.Sha256.{sha256};
-ghost use Rattle.rd_policy.specs.Days.{HasDay};
-ghost use Rattle.rd_policy.specs.Zones.{day_number};
+ghost use Rattle.rd_policy.specs.Days.{IsDay};
 ghost use Rattle.rd_desk.specs.Served.{Serves};
 ghost use Rattle.rd_program.specs.Importing.{RefusesImport, RefusesRow, RefusesRows, TellsRow, TellsRows, bad_row_line, accession_line};
 ghost use Rattle.rd_program.specs.Leaves.{IsDayAt, IsOfOpenDesk, Leaves, LeavesDesk, LeavesStore, NamesOpening, TakesFields, TakesIn, TakesRow};
@@ -14,7 +13,7 @@ ghost use Rattle.rd_commands.specs.Refusals.{IsOfDevice};
 ghost use Rattle.rd_commands.specs.Sheets.{IsWithin};
 
 use crate::machine::Machine;
-use crate::open_desk::{moment, open_desk};
+use crate::open_desk::{open_desk, visit_day};
 use crate::reply_body::{error_name, value_of};
 use csv::{ByteRecord, ReaderBuilder};
 use rd_commands::{Done, ImportAsk, Refusal, SheetRow, is_header, next_row, row_of, write_whole};
@@ -29,8 +28,8 @@ use std::io::Write;
 struct Giver {
     /// The SHA-256 of the desk key.
     badge: [u8; 32],
-    /// The moment, in seconds since 1970-01-01T00:00:00 UTC, which has a day.
-    seconds: i64,
+    /// The day, counted from 1970-01-01.
+    day: i32,
 }
 
 /// Asks a desk to take in the image of a row, and gives its reply.
@@ -41,9 +40,9 @@ fn put_image<S: Alter + Drop>(
     giver: Giver,
     desk: &mut Desk<S>,
 ) -> Reply
-    requires day { HasDay giver.seconds }
+    requires day { IsDay giver.day }
     requires within { IsWithin row }
-    ensures serves { Serves S.Store desk.old.store desk.new.store (day_number giver.seconds desk.old.zone)
+    ensures serves { Serves S.Store desk.old.store desk.new.store giver.day
         (record { badge = Some giver.badge; what = What.PutImage row.entry.acc row.entry.kind row.entry.deed row.entry.digest bytes.items }) result }
     ensures zone { desk.new.zone ≡ desk.old.zone }
 {
@@ -55,7 +54,7 @@ fn put_image<S: Alter + Drop>(
         bytes: Items::of(bytes),
     };
     let badge = Some(giver.badge);
-    desk.answer(alloc, giver.seconds, &Request { badge, what })
+    desk.answer_on(alloc, giver.day, &Request { badge, what })
 }
 
 /// Writes the line of an accession, which says in a word what became of its row, and flushes the output.
@@ -145,10 +144,10 @@ fn import_row<W: Write, M: Machine>(
     output: &mut W,
     machine: &mut M,
 ) -> Result<Done, Refusal>
-    requires day { HasDay giver.seconds }
+    requires day { IsDay giver.day }
     requires within { IsWithin row }
     ensures zone { desk.new.zone ≡ desk.old.zone }
-    ensures takes { LeavesDesk M.Disk.Store (TakesRow giver.badge (day_number giver.seconds desk.old.zone) row.entry)
+    ensures takes { LeavesDesk M.Disk.Store (TakesRow giver.badge giver.day row.entry)
         desk.old.store desk.new.store }
     ensures told { IfOk result (TellsRow (W.contents output.old) (W.contents output.new)) }
     ensures refused { IfErr result (RefusesRow (W.contents output.old) (W.contents output.new)) }
@@ -174,9 +173,9 @@ fn import_fields<W: Write, M: Machine>(
     output: &mut W,
     machine: &mut M,
 ) -> Result<Done, Refusal>
-    requires day { HasDay giver.seconds }
+    requires day { IsDay giver.day }
     ensures zone { desk.new.zone ≡ desk.old.zone }
-    ensures takes { LeavesDesk M.Disk.Store (TakesFields giver.badge (day_number giver.seconds desk.old.zone) (fields_of fields.now))
+    ensures takes { LeavesDesk M.Disk.Store (TakesFields giver.badge giver.day (fields_of fields.now))
         desk.old.store desk.new.store }
     ensures told { IfOk result (TellsRow (W.contents output.old) (W.contents output.new)) }
     ensures refused { IfErr result (RefusesRow (W.contents output.old) (W.contents output.new)) }
@@ -203,10 +202,10 @@ fn import_rows<W: Write, M: Machine>(
     output: &mut W,
     machine: &mut M,
 ) -> Result<Done, Refusal>
-    requires day { HasDay giver.seconds }
+    requires day { IsDay giver.day }
     ensures told { IfOk result (TellsRows (W.contents output.old) (W.contents output.new)) }
     ensures refused { IfErr result (RefusesRows (W.contents output.old) (W.contents output.new)) }
-    ensures takes { LeavesDesk M.Disk.Store (TakesIn giver.badge (λ day. day ≡ day_number giver.seconds desk.old.zone))
+    ensures takes { LeavesDesk M.Disk.Store (TakesIn giver.badge (λ day. day ≡ giver.day))
         desk.old.store desk.new.store }
 {
     let mut reader = ReaderBuilder::new()
@@ -244,13 +243,13 @@ fn import_sheet<W: Write, M: Machine>(
     ensures takes { LeavesDesk M.Disk.Store (TakesIn (sha256 ask.entry.key.now) (IsDayAt ask.entry.when.seconds desk.old.zone))
         desk.old.store desk.new.store }
 {
-    let seconds = moment(ask.when.seconds, desk, machine)?;
+    let day = visit_day(ask.when.seconds, desk, machine)?;
     let sheet = match machine.read_sheet(alloc, ask.sheet) {
         Ok(sheet) => sheet,
         Err(fault) => return Err(fault.or(Refusal::Device)),
     };
     let badge = Sha256::digest(ask.key);
-    let giver = Giver { badge, seconds };
+    let giver = Giver { badge, day };
     import_rows(alloc, sheet.as_slice(), giver, desk, output, machine)
 }
 

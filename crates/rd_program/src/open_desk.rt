@@ -1,10 +1,11 @@
-//! Opens the desk in the file of a store, and finds the moment at which to ask it.
+//! Opens the desk in the file of a store, and finds the day on which to ask it.
 
 ghost use Rattle.std.specs.Prelude.{◌≡◌, Err, IfErr, IfOk, IfSome, Ok};
-ghost use Rattle.rd_program.specs.Leaves.{LeavesUnopened};
+ghost use Rattle.rd_program.specs.Leaves.{IsDayAt, LeavesUnopened};
 ghost use Rattle.rd_program.specs.Serving.{IsClockRefusal, IsOpenRefusal};
 ghost use Rattle.rd_store.specs.Migrated.{IsMigrated};
-ghost use Rattle.rd_policy.specs.Days.{HasDay};
+ghost use Rattle.rd_policy.specs.Days.{HasDay, IsDay};
+ghost use Rattle.rd_policy.specs.Zones.{day_number};
 
 use crate::faults::not_opened;
 use crate::machine::Machine;
@@ -55,19 +56,19 @@ fn clock_seconds<M: Machine>(machine: &mut M) -> Result<i64, Refusal>
     }
 }
 
-/// The moment at which to ask a desk, in seconds since 1970-01-01T00:00:00 UTC: the one that the
-/// words name, or that of the machine's clock. It has a day.
+/// The day on which to ask a desk, by its clocks, counted from 1970-01-01: that of the moment that the words name, in
+/// seconds since 1970-01-01T00:00:00 UTC, or of the machine's clock.
 ///
 /// It fails with `Clock` when the clock fails or the moment has no day, and with `NoMemory`.
-pub(crate) fn moment<S: Alter, M: Machine>(
+pub(crate) fn visit_day<S: Alter, M: Machine>(
     told: Option<i64>,
     desk: &Desk<S>,
     machine: &mut M,
-) -> Result<i64, Refusal>
-    ensures day { IfOk result HasDay }
-    ensures asked { IfOk result (λ seconds. IfSome told (λ asked. seconds ≡ asked)) }
+) -> Result<i32, Refusal>
+    ensures day { IfOk result (IsDayAt told desk.now.zone) }
+    ensures in_range { IfOk result IsDay }
     ensures told { IfSome told (λ seconds.
-        (HasDay seconds → result ≡ Ok seconds) × (¬ HasDay seconds → result ≡ Err Refusal.Clock)) }
+        (HasDay seconds → result ≡ Ok (day_number seconds desk.now.zone)) × (¬ HasDay seconds → result ≡ Err Refusal.Clock)) }
     ensures refused { IfErr result IsClockRefusal }
 {
     let seconds = match told {
@@ -75,7 +76,7 @@ pub(crate) fn moment<S: Alter, M: Machine>(
         None => clock_seconds(machine)?,
     };
     match desk.day(seconds) {
-        Ok(_) => Ok(seconds),
+        Ok(day) => Ok(day),
         Err(DayFault::OutOfRange) => Err(Refusal::Clock),
         Err(DayFault::NoMemory) => Err(Refusal::NoMemory),
     }

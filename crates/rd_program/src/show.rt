@@ -2,7 +2,7 @@
 
 ghost use Rattle.std.specs.Prelude.{◌≡◌, ◌≢◌, IfErr, IfOk, IsSome, OnOk};
 ghost use Rattle.std.specs.Io.KnownBytes.{Appends};
-ghost use Rattle.rd_policy.specs.Days.{HasDay};
+ghost use Rattle.rd_policy.specs.Days.{IsDay};
 ghost use Rattle.rd_protocol.specs.Requests.{IsRequest};
 ghost use Rattle.rd_commands.specs.Refusals.{IsOfDevice};
 ghost use Rattle.rd_commands.specs.Shown.{IsShowable};
@@ -81,7 +81,7 @@ pub(crate) fn show<S: Alter + Drop, W: Write>(
     desk: &mut Desk<S>,
     output: &mut W,
 ) -> Result<Done, Refusal>
-    requires day { HasDay asker.seconds }
+    requires day { IsDay asker.day }
     requires within { IsShowable shown }
     ensures whole { IfOk result (λ done. done ≡ Done.Whole) }
     ensures shown { OnOk result (OfDesk S.Store (λ stood. Shows (show_request asker.badge shown) stood

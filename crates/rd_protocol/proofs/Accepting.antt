@@ -4,7 +4,7 @@ use Rattle.std.specs.FinMap.{get}
 use Rattle.rd_policy.specs.declared.audience.Audience.TheVariants.{Staff}
 use Rattle.rd_policy.specs.declared.rule.Band.{Band}
 use Rattle.rd_policy.specs.declared.rule.Band.TheVariants.{Takedown, Deed}
-use Rattle.rd_protocol.specs.State.{Desk, Stands}
+use Rattle.rd_holdings.specs.State.{Desk, Stands}
 use Rattle.rd_protocol.specs.Judged.{Holds, IsAccepted, accession_at, audience_of, deed_at, file_of, IsAsked}
 use Rattle.rd_protocol.specs.Requests.{IsForStaff}
 use Rattle.rd_protocol.specs.declared.refusal.Refusal.{Refusal}

@@ -2,9 +2,9 @@
 use Rattle.std.proofs.Common.{◌≡◌, ℕ, ℤ, Option, Some, None, IsSomeAnd, ap, nat_cmp, refl, subst, sym, ◌∙◌}
 use Rattle.std.specs.FinMap.{get}
 use Rattle.rd_policy.specs.declared.audience.Audience.{Audience}
-use Rattle.rd_protocol.specs.State.{Desk, HasOtherImage, digest_cmp, place_cmp, place_of, put_or_kept, terms_of, with_image}
-use Rattle.rd_protocol.specs.declared.rows.ImageRow.{ImageRow}
-use Rattle.rd_protocol.proofs.KeyOrders.{digest_order, number_order, place_order}
+use Rattle.rd_holdings.specs.State.{Desk, HasOtherImage, digest_cmp, place_cmp, place_of, put_or_kept, terms_of, with_image}
+use Rattle.rd_holdings.specs.declared.rows.ImageRow.{ImageRow}
+use Rattle.rd_holdings.proofs.KeyOrders.{digest_order, number_order, place_order}
 use Rattle.rd_protocol.specs.Judged.{Conflicts, IsAccepted, IsRefusedOn, JudgedFile, accession_of, audience_of, deed_of}
 use Rattle.rd_protocol.specs.Laws.{SameAgain}
 use Rattle.rd_protocol.specs.Replies.{IsAnswered, IsDone, Tells, carried_out}
@@ -18,7 +18,7 @@ use Rattle.rd_protocol.specs.declared.response.Response.{Response}
 use Rattle.rd_protocol.specs.declared.response.Response.TheVariants as response
 use Rattle.rd_protocol.proofs.Accepting.{no_file}
 use Rattle.rd_protocol.proofs.Checking.{checked_again, same_images}
-use Rattle.rd_protocol.proofs.Maps.{get_inserted, get_removed, insert_again, remove_again}
+use Rattle.rd_holdings.proofs.Maps.{get_inserted, get_removed, insert_again, remove_again}
 use Rattle.rd_protocol.proofs.Telling.{told_done}
 
 -- ---- an image

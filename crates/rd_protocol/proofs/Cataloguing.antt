@@ -5,7 +5,7 @@ use Rattle.std.proofs.lemmas.List.Elements.{All-cons, All-head, All-tail}
 use Rattle.std.proofs.lemmas.List.Kept.{AllPairs-cons}
 use Rattle.std.specs.FinMap.{keys}
 use Rattle.rd_policy.specs.declared.audience.Audience.{Audience}
-use Rattle.rd_protocol.specs.State.{Desk}
+use Rattle.rd_holdings.specs.State.{Desk}
 use Rattle.rd_protocol.specs.Replies.{AreListings, IsListing}
 use Rattle.rd_protocol.specs.declared.response.Listing.{Listing}
 use Rattle.rd_protocol.proofs.Numbers.{among_keys, keys_ascend}

@@ -3,14 +3,14 @@ use Rattle.std.proofs.Common.{◌≡◌, ◌∙◌, ℕ, ℤ, List, Bool, true, 
 use Rattle.std.specs.FinMap.{get}
 use Rattle.sha2.specs.Sha256.{sha256}
 use Rattle.std.proofs.lemmas.Cmp.{eq_by_cmp_equiv}
-use Rattle.rd_protocol.specs.State.{Desk, checkup_cmp, digest_cmp, with_check}
-use Rattle.rd_protocol.specs.declared.rows.ImageRow.{ImageRow}
-use Rattle.rd_protocol.specs.declared.rows.Outcome.TheVariants.{Sound, Changed}
-use Rattle.rd_protocol.proofs.KeyOrders.{checkup_order, digest_order}
+use Rattle.rd_holdings.specs.State.{Desk, checkup_cmp, digest_cmp, with_check}
+use Rattle.rd_holdings.specs.declared.rows.ImageRow.{ImageRow}
+use Rattle.rd_holdings.specs.declared.rows.Outcome.TheVariants.{Sound, Changed}
+use Rattle.rd_holdings.proofs.KeyOrders.{checkup_order, digest_order}
 use Rattle.rd_protocol.specs.Checks.{outcome_of}
 use Rattle.rd_protocol.specs.Replies.{carried_out, with_checked}
 use Rattle.rd_protocol.specs.declared.request.What.TheVariants.{Check}
-use Rattle.rd_protocol.proofs.Maps.{insert_again, tied}
+use Rattle.rd_holdings.proofs.Maps.{insert_again, tied}
 
 -- ---- what it finds
 

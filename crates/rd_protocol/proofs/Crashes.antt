@@ -4,11 +4,11 @@ use Rattle.std.specs.FinMap.{get}
 use Rattle.rd_geometry.specs.declared.kind.Kind.{Kind}
 use Rattle.rd_policy.specs.declared.audience.Audience.{Audience}
 use Rattle.rd_policy.specs.declared.audience.Audience.TheVariants.{Staff}
-use Rattle.rd_protocol.specs.Lawful.{IsLawful}
-use Rattle.rd_protocol.specs.State.{Desk, Place, Terms, IsLastStaff, digest_cmp, place_cmp, place_of, put_or_kept, terms_of, with_key, with_rule, without_key, without_rule}
-use Rattle.rd_protocol.specs.declared.rows.ImageRow.{ImageRow}
-use Rattle.rd_protocol.proofs.Lawful.{others_left, others_stay}
-use Rattle.rd_protocol.proofs.KeyOrders.{digest_order, number_order, place_order}
+use Rattle.rd_holdings.specs.Lawful.{IsLawful}
+use Rattle.rd_holdings.specs.State.{Desk, Place, Terms, IsLastStaff, digest_cmp, place_cmp, place_of, put_or_kept, terms_of, with_key, with_rule, without_key, without_rule}
+use Rattle.rd_holdings.specs.declared.rows.ImageRow.{ImageRow}
+use Rattle.rd_holdings.proofs.Lawful.{others_left, others_stay}
+use Rattle.rd_holdings.proofs.KeyOrders.{digest_order, number_order, place_order}
 use Rattle.rd_protocol.specs.Judged.{Holds, IsAccepted, audience_of}
 use Rattle.rd_protocol.specs.Replies.{carried_out, with_checked}
 use Rattle.rd_protocol.specs.Requests.{IsForStaff}
@@ -17,7 +17,7 @@ use Rattle.rd_protocol.specs.declared.request.Request.{Request}
 use Rattle.rd_protocol.specs.declared.request.What.{What}
 use Rattle.rd_protocol.specs.declared.request.What.TheVariants.{Survey, Check, Deeds, Takedowns, Keys, Checks, Verdicts, RehearseRule, RehearseDrop, PutImage, PutDeed, PutRule, DropRule, PutKey, DropKey, Unread}
 use Rattle.rd_protocol.proofs.Accepting.{command_accepted, has_accession, has_deed, not_none}
-use Rattle.rd_protocol.proofs.Maps.{get_inserted, get_removed, remove_kept}
+use Rattle.rd_holdings.proofs.Maps.{get_inserted, get_removed, remove_kept}
 
 -- where a lawful desk is left, a staff key is left
 module _ (desk : Desk) (digest : List ℕ) where

@@ -7,7 +7,8 @@ use Rattle.rd_cbm.specs.declared.report.MapReport.{MapReport}
 use Rattle.rd_geometry.specs.declared.kind.Kind.{Kind}
 use Rattle.rd_geometry.specs.declared.kind.Kind.TheVariants.{Cpm8}
 use Rattle.rd_volume.specs.Words.{words_of}
-use Rattle.rd_protocol.specs.Texts.{check_data, deed_data, image_data, images_data, line_data, listing_data, map_data, natural_or_null, audience_words, key_data, list_data, outcome_word, rule_data, select_data, surveyed_data, takedown_data, text_or_null}
+use Rattle.rd_protocol.specs.Texts.{check_data, deed_data, image_data, images_data, line_data, listing_data, map_data, natural_or_null, audience_words, key_data, list_data, rule_data, select_data, surveyed_data, takedown_data, text_or_null}
+use Rattle.rd_holdings.specs.Findings.{outcome_word}
 use Rattle.rd_policy.specs.declared.rule.Rule.{Rule}
 use Rattle.rd_policy.specs.declared.select.Select.{Select}
 use Rattle.rd_policy.specs.declared.select.Select.TheVariants.{All, Slot, Prefix, User, Kind as OfType}

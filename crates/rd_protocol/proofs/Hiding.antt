@@ -10,8 +10,8 @@ use Rattle.rd_volume.specs.Needed.{TellTheSame}
 use Rattle.rd_volume.specs.Reports.{IsSoundSlot}
 use Rattle.rd_volume.specs.Volumes.{AreBytesOf, IsFound, IsSlotOfFile}
 use Rattle.rd_volume.specs.declared.found.Found.{Found}
-use Rattle.rd_protocol.specs.State.{Desk, rules_at, rules_for, rules_with, accession_of}
-use Rattle.rd_protocol.specs.declared.rows.ImageRow.{ImageRow}
+use Rattle.rd_holdings.specs.State.{Desk, rules_at, rules_for, rules_with, accession_of}
+use Rattle.rd_holdings.specs.declared.rows.ImageRow.{ImageRow}
 use Rattle.rd_protocol.specs.Hidden.{HiddenBytesAreNotTold, HidesTheRest, LooksAlike, LooksAlikeShowsTheSame, LooksLike, LooksLikeAt}
 use Rattle.rd_protocol.specs.Replies.{Answers, IsLine}
 use Rattle.rd_protocol.specs.Shown.{AreReadAt, HasBytes, HasFile, IsDenied, IsListed, IsShown, IsShownAt, Shown}

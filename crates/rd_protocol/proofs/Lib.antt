@@ -1,7 +1,3 @@
-pub mod Lawful
-pub mod RulesFor
-pub mod Members
-pub mod KeyOrders
 pub mod Floats
 pub mod Passes
 pub mod Numbers
@@ -11,7 +7,6 @@ pub mod Accepting
 pub mod Again
 pub mod Ascending
 pub mod Crashes
-pub mod Maps
 pub mod OneAnswer
 pub mod Stepping
 pub mod Telling

@@ -6,18 +6,18 @@ use Rattle.rd_policy.specs.declared.audience.Audience.{Audience}
 use Rattle.rd_policy.specs.declared.rule.Band.{Band}
 use Rattle.rd_policy.specs.declared.rule.Band.TheVariants.{Takedown, Deed}
 use Rattle.rd_policy.specs.declared.rule.Rule.{Rule}
-use Rattle.rd_protocol.specs.Lawful.{IsLawful}
+use Rattle.rd_holdings.specs.Lawful.{IsLawful}
 use Rattle.rd_protocol.specs.StaffLists.{deed_line, deed_lines, has_rules, key_lines, takedown_line, takedown_lines}
-use Rattle.rd_protocol.specs.State.{Desk, Place, Stands, Terms, place_cmp, place_of, rule_of, rules_at, terms_of}
+use Rattle.rd_holdings.specs.State.{Desk, Place, Stands, Terms, place_cmp, place_of, rule_of, rules_at, terms_of}
 use Rattle.std.specs.Ordering.{nat_cmp}
 use Rattle.rd_protocol.specs.declared.response.DeedLine.{DeedLine}
 use Rattle.rd_protocol.specs.declared.response.KeyLine.{KeyLine}
 use Rattle.rd_protocol.specs.declared.response.TakedownLine.{TakedownLine}
-use Rattle.rd_protocol.specs.declared.rows.DeedRow.{DeedRow}
-use Rattle.rd_protocol.specs.declared.rows.ImageRow.{ImageRow}
-use Rattle.rd_protocol.proofs.KeyOrders.{number_order, place_order}
-use Rattle.rd_protocol.proofs.Members.{Has, from_map, got_entry, in_map}
-use Rattle.rd_protocol.proofs.RulesFor.{listed_here, stands_here}
+use Rattle.rd_holdings.specs.declared.rows.DeedRow.{DeedRow}
+use Rattle.rd_holdings.specs.declared.rows.ImageRow.{ImageRow}
+use Rattle.rd_holdings.proofs.KeyOrders.{number_order, place_order}
+use Rattle.rd_holdings.proofs.Members.{Has, from_map, got_entry, in_map}
+use Rattle.rd_holdings.proofs.RulesFor.{listed_here, stands_here}
 
 -- ---- lists and options
 

@@ -15,10 +15,10 @@ use Rattle.rd_volume.specs.Reports.{IsSoundSlot}
 use Rattle.rd_volume.specs.Volumes.{IsFound}
 use Rattle.rd_volume.proofs.OneFound.{one_found}
 use Rattle.rd_volume.proofs.FoundFile.{told_sound}
-use Rattle.rd_protocol.specs.State.{Desk, rules_for}
-use Rattle.rd_protocol.specs.declared.rows.ImageRow.{ImageRow}
-use Rattle.rd_protocol.specs.declared.rows.Outcome.{Outcome}
-use Rattle.rd_protocol.proofs.RulesFor.{for_in_order}
+use Rattle.rd_holdings.specs.State.{Desk, rules_for}
+use Rattle.rd_holdings.specs.declared.rows.ImageRow.{ImageRow}
+use Rattle.rd_holdings.specs.declared.rows.Outcome.{Outcome}
+use Rattle.rd_holdings.proofs.RulesFor.{for_in_order}
 use Rattle.rd_protocol.specs.Checks.{outcome_of}
 use Rattle.rd_protocol.specs.Judged.{Holds, IsAccepted, IsAsked, IsJudgedFile, IsRefused, IsRefusedOn, JudgedFile}
 use Rattle.rd_protocol.specs.Laws.{OneReply}

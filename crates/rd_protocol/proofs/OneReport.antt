@@ -17,9 +17,9 @@ use Rattle.rd_policy.proofs.DateLemmas.{one_text}
 use Rattle.rd_volume.specs.Reports.{DiffersInSize, IsDirectoryEnd, IsFaultySlot, IsMapReport, IsReport, IsSoundSlot}
 use Rattle.rd_volume.specs.Volumes.{IsSlotOfFile}
 use Rattle.rd_volume.specs.declared.reports.Report.{Report}
-use Rattle.rd_protocol.specs.State.{Desk}
-use Rattle.rd_protocol.specs.declared.rows.DeedRow.{DeedRow}
-use Rattle.rd_protocol.specs.declared.rows.ImageRow.{ImageRow}
+use Rattle.rd_holdings.specs.State.{Desk}
+use Rattle.rd_holdings.specs.declared.rows.DeedRow.{DeedRow}
+use Rattle.rd_holdings.specs.declared.rows.ImageRow.{ImageRow}
 use Rattle.rd_protocol.specs.Replies.{IsSurvey, IsSurveyOf}
 use Rattle.rd_protocol.specs.declared.response.Survey.{Survey}
 

@@ -9,8 +9,8 @@ use Rattle.rd_geometry.specs.declared.kind.Kind.{Kind}
 use Rattle.rd_volume.specs.Volumes.{AreBytesOf, IsFound, IsSlotOfFile, contents_of}
 use Rattle.rd_volume.specs.declared.found.Found.{Found}
 use Rattle.rd_volume.proofs.FoundFile.{told_bytes, told_slot}
-use Rattle.rd_protocol.specs.State.{Desk, rules_for}
-use Rattle.rd_protocol.specs.declared.rows.ImageRow.{ImageRow}
+use Rattle.rd_holdings.specs.State.{Desk, rules_for}
+use Rattle.rd_holdings.specs.declared.rows.ImageRow.{ImageRow}
 use Rattle.rd_protocol.specs.Judged.{Conflicts, IsAccepted, IsAsked, IsJudgedFile, IsRefused, JudgedFile, PassesTo, accession_of, audience_of, deed_of, file_of, image_of}
 use Rattle.rd_protocol.specs.Lent.{Lent}
 use Rattle.rd_protocol.specs.Queries.{IsAtSlot, IsRead, IsWithheld, Standing}

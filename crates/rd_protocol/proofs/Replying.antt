@@ -23,11 +23,11 @@ use Rattle.rd_volume.specs.Volumes.{AreBytesOf, IsFound, IsSlotOfFile}
 use Rattle.rd_volume.specs.declared.found.Found.{Found}
 use Rattle.rd_volume.proofs.Existence.{decided_slot, file_at, report_of, survey_of}
 use Rattle.rd_volume.proofs.FoundFile.{told_bytes as told_file_bytes, told_slot}
-use Rattle.rd_protocol.specs.Lawful.{IsLawful}
-use Rattle.rd_protocol.specs.State.{Desk, HasOtherImage, HasOtherStaff, IsLastStaff, IsSameImage, rules_for}
-use Rattle.rd_protocol.specs.declared.rows.DeedRow.{DeedRow}
-use Rattle.rd_protocol.specs.declared.rows.ImageRow.{ImageRow}
-use Rattle.rd_protocol.proofs.RulesFor.{for_in_order, key_listed, key_stands}
+use Rattle.rd_holdings.specs.Lawful.{IsLawful}
+use Rattle.rd_holdings.specs.State.{Desk, HasOtherImage, HasOtherStaff, IsLastStaff, IsSameImage, rules_for}
+use Rattle.rd_holdings.specs.declared.rows.DeedRow.{DeedRow}
+use Rattle.rd_holdings.specs.declared.rows.ImageRow.{ImageRow}
+use Rattle.rd_holdings.proofs.RulesFor.{for_in_order, key_listed, key_stands}
 use Rattle.rd_protocol.specs.Checks.{outcome_of}
 use Rattle.rd_protocol.specs.Judged.{Conflicts, Holds, IsAccepted, IsAsked, IsJudgedFile, IsRefused, JudgedFile, PassesTo, accession_of, audience_of, deed_of, file_of, image_of}
 use Rattle.rd_protocol.specs.Laws.{EachReply, HoldsBytes}

@@ -15,8 +15,8 @@ use Rattle.rd_volume.specs.Volumes.{AreFounds, IsFound}
 use Rattle.rd_volume.specs.declared.found.Found.{Found}
 use Rattle.rd_volume.proofs.OneFound.{one_found}
 use Rattle.rd_volume.proofs.FoundFile.{told_slot}
-use Rattle.rd_protocol.specs.declared.rows.ImageRow.{ImageRow}
-use Rattle.rd_protocol.specs.State.{Desk, rules_for}
+use Rattle.rd_holdings.specs.declared.rows.ImageRow.{ImageRow}
+use Rattle.rd_holdings.specs.State.{Desk, rules_for}
 use Rattle.rd_protocol.specs.Queries.{AreLinesOf, AreLinesOfEach, IsCounted}
 use Rattle.rd_protocol.specs.Replies.{AreImageLines, AreLines, IsImageLine}
 use Rattle.rd_protocol.specs.declared.response.ImageLine.{ImageLine}

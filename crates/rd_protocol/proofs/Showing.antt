@@ -18,9 +18,9 @@ use Rattle.rd_volume.specs.declared.found.Found.{Found}
 use Rattle.rd_volume.proofs.OneContents.{one_contents}
 use Rattle.rd_volume.proofs.OneFound.{one_found}
 use Rattle.rd_volume.proofs.FoundFile.{told_sound, told_bytes as told_file_bytes}
-use Rattle.rd_protocol.specs.State.{Desk, rules_for, accession_of as given_of}
-use Rattle.rd_protocol.specs.declared.rows.Accession.{Accession}
-use Rattle.rd_protocol.specs.declared.rows.ImageRow.{ImageRow}
+use Rattle.rd_holdings.specs.State.{Desk, rules_for, accession_of as given_of}
+use Rattle.rd_holdings.specs.declared.rows.Accession.{Accession}
+use Rattle.rd_holdings.specs.declared.rows.ImageRow.{ImageRow}
 use Rattle.rd_protocol.specs.Hidden.{IsCallerOf, IsOfStaff, ReadsTheSame, ShowsItself, TellsWhatIsShown, WhatIsShownDecides}
 use Rattle.rd_protocol.specs.Judged.{Conflicts, Holds, IsAccepted, IsAsked, IsJudgedFile, IsRefused, IsRefusedOn, JudgedFile, accession_of, audience_of, deed_of, file_of, image_of}
 use Rattle.rd_protocol.specs.Refusals.{number_of}

@@ -30,21 +30,21 @@ use Rattle.rd_protocol.specs.Texts.{audience_words, deed_data, key_data, list_da
 use Rattle.rd_protocol.specs.StaffListLaws.{StaffListsTellAll, IsListable}
 use Rattle.rd_protocol.specs.ReadableData.{AreReadable, IsReadable}
 use Rattle.rd_protocol.specs.StaffLists.{accessions_under, deed_line, deed_lines, has_rules, key_lines, takedown_line, takedown_lines}
-use Rattle.rd_protocol.specs.State.{Desk, digest_cmp, place_of, rules_at, terms_of}
+use Rattle.rd_holdings.specs.State.{Desk, digest_cmp, place_of, rules_at, terms_of}
 use Rattle.rd_protocol.specs.declared.response.DeedLine.{DeedLine}
 use Rattle.rd_protocol.specs.declared.response.KeyLine.{KeyLine}
 use Rattle.rd_protocol.specs.declared.response.Reply.{Reply}
 use Rattle.rd_protocol.specs.declared.response.TakedownLine.{TakedownLine}
-use Rattle.rd_protocol.specs.declared.rows.DeedRow.{DeedRow}
-use Rattle.rd_protocol.specs.declared.rows.ImageRow.{ImageRow}
+use Rattle.rd_holdings.specs.declared.rows.DeedRow.{DeedRow}
+use Rattle.rd_holdings.specs.declared.rows.ImageRow.{ImageRow}
 use Rattle.rd_protocol.proofs.DayTextLemmas.{has_text}
-use Rattle.rd_protocol.proofs.KeyOrders.{digest_order, number_order}
+use Rattle.rd_holdings.proofs.KeyOrders.{digest_order, number_order}
 use Rattle.rd_protocol.proofs.LineLemmas.{from_filter, same_deeds, same_keys, same_rules}
 use Rattle.rd_protocol.proofs.ReadableLemmas.{one_value}
-use Rattle.rd_protocol.proofs.RulesFor.{stands_here}
+use Rattle.rd_holdings.proofs.RulesFor.{stands_here}
 use Rattle.rd_protocol.proofs.RuleTextLemmas.{rule_readable}
 use Rattle.std.specs.Ordering.{nat_cmp}
-use Rattle.rd_protocol.proofs.Members.{Has, entry_got, from_map}
+use Rattle.rd_holdings.proofs.Members.{Has, entry_got, from_map}
 
 -- ---- parts of a value
 

@@ -3,8 +3,8 @@ use Rattle.std.proofs.Common.{◌≡◌, ℕ, ℤ, List, Option, IsSomeAnd, ap, 
 use Rattle.std.specs.FinMap.{get}
 use Rattle.rd_policy.specs.declared.audience.Audience.{Audience}
 use Rattle.rd_policy.specs.declared.rule.Effect.TheVariants.{Read}
-use Rattle.rd_protocol.specs.State.{Desk}
-use Rattle.rd_protocol.specs.declared.rows.Outcome.{Outcome}
+use Rattle.rd_holdings.specs.State.{Desk}
+use Rattle.rd_holdings.specs.declared.rows.Outcome.{Outcome}
 use Rattle.rd_protocol.specs.Checks.{outcome_of}
 use Rattle.rd_protocol.specs.Judged.{JudgedFile}
 use Rattle.rd_protocol.specs.Lent.{Lent}

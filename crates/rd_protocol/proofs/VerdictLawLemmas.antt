@@ -15,8 +15,8 @@ use Rattle.rd_volume.specs.Founds.{IsSoundFile}
 use Rattle.rd_volume.specs.Volumes.{IsFound, IsSlotOfFile}
 use Rattle.rd_volume.specs.declared.found.Found.{Found}
 use Rattle.rd_volume.proofs.Existence.{file_at}
-use Rattle.rd_protocol.specs.State.{Desk, rules_for}
-use Rattle.rd_protocol.specs.declared.rows.ImageRow.{ImageRow}
+use Rattle.rd_holdings.specs.State.{Desk, rules_for}
+use Rattle.rd_holdings.specs.declared.rows.ImageRow.{ImageRow}
 use Rattle.rd_protocol.specs.Judged.{IsAccepted, IsAcceptedOn, IsAsked, IsJudgedFile, JudgedFile, audience_of}
 use Rattle.rd_protocol.specs.Laws.{HoldsBytes}
 use Rattle.rd_protocol.specs.Queries.{AreLinesOf, Standing}
@@ -36,7 +36,7 @@ use Rattle.rd_protocol.proofs.Cataloguing.{listings_are}
 use Rattle.rd_protocol.proofs.Numbers.{among_keys}
 use Rattle.rd_protocol.proofs.OneAnswer.{named, one_listings, sound_file}
 use Rattle.rd_protocol.proofs.Reading.{read_answered}
-use Rattle.rd_protocol.proofs.RulesFor.{for_in_order}
+use Rattle.rd_holdings.proofs.RulesFor.{for_in_order}
 use Rattle.rd_protocol.proofs.Selecting.{among_founds, lines_are}
 
 -- ---- the catalogue

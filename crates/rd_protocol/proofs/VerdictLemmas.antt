@@ -14,16 +14,16 @@ use Rattle.rd_volume.specs.Volumes.{AreFounds}
 use Rattle.rd_volume.specs.declared.found.Found.{Found}
 use Rattle.rd_volume.proofs.Existence.{survey_of}
 use Rattle.rd_volume.proofs.OneSurvey.{one_survey}
-use Rattle.rd_protocol.specs.State.{Desk, rules_for}
+use Rattle.rd_holdings.specs.State.{Desk, rules_for}
 use Rattle.rd_protocol.specs.Laws.{HoldsBytes}
 use Rattle.rd_protocol.specs.Rehearsals.{IsRehearsal, differences_between}
 use Rattle.rd_protocol.specs.Verdicts.{AreVerdicts, IsDecided, IsVerdictsOf, verdict_for}
 use Rattle.rd_protocol.specs.declared.response.FileVerdicts.{FileVerdicts}
 use Rattle.rd_protocol.specs.declared.response.Difference.{Difference}
 use Rattle.rd_protocol.specs.declared.response.Verdicts.{Verdicts}
-use Rattle.rd_protocol.specs.declared.rows.ImageRow.{ImageRow}
+use Rattle.rd_holdings.specs.declared.rows.ImageRow.{ImageRow}
 use Rattle.rd_protocol.proofs.Numbers.{each_found}
-use Rattle.rd_protocol.proofs.RulesFor.{for_in_order}
+use Rattle.rd_holdings.proofs.RulesFor.{for_in_order}
 
 -- ---- one list
 

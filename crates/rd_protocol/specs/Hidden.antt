@@ -11,8 +11,8 @@ use Rattle.rd_policy.specs.declared.verdict.Verdict.{Verdict}
 use Rattle.rd_volume.specs.Needed.{AgreesOnNeeded}
 use Rattle.rd_volume.specs.Volumes.{IsFound}
 use Rattle.rd_volume.specs.declared.found.Found.{Found}
-use Rattle.rd_protocol.specs.State.{Desk, rules_for}
-use Rattle.rd_protocol.specs.declared.rows.ImageRow.{ImageRow}
+use Rattle.rd_holdings.specs.State.{Desk, rules_for}
+use Rattle.rd_holdings.specs.declared.rows.ImageRow.{ImageRow}
 use Rattle.rd_protocol.specs.Judged.{audience_of}
 use Rattle.rd_protocol.specs.Lent.{Lent}
 use Rattle.rd_protocol.specs.Replies.{Answers, IsReply}

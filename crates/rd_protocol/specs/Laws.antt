@@ -1,9 +1,9 @@
 -- Laws of replies.
 use Rattle.std.specs.Prelude.{◌≡◌, ◌<◌, ℕ, ℤ, All, Some}
 use Rattle.std.specs.FinMap.{get}
-use Rattle.rd_protocol.specs.Lawful.{IsLawful}
-use Rattle.rd_protocol.specs.State.{Desk}
-use Rattle.rd_protocol.specs.declared.rows.ImageRow.{ImageRow}
+use Rattle.rd_holdings.specs.Lawful.{IsLawful}
+use Rattle.rd_holdings.specs.State.{Desk}
+use Rattle.rd_holdings.specs.declared.rows.ImageRow.{ImageRow}
 use Rattle.rd_protocol.specs.Judged.{audience_of}
 use Rattle.rd_protocol.specs.Replies.{IsReply, IsStep}
 use Rattle.rd_protocol.specs.Requests.{IsForStaff}

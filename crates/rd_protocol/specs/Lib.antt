@@ -1,7 +1,8 @@
 -- ---- what a reader of a public clause believes
-pub mod State
-pub mod Lawful
-pub mod RulesFor
+pub use Rattle.rd_holdings.specs.State
+pub use Rattle.rd_holdings.specs.Lawful
+pub use Rattle.rd_holdings.specs.RulesFor
+pub use Rattle.rd_holdings.specs.Findings
 pub mod Requests
 pub mod Refusals
 pub mod Lent

@@ -11,8 +11,8 @@ use Rattle.rd_policy.specs.declared.verdict.Verdict.{Verdict}
 use Rattle.rd_volume.specs.Founds.{IsSoundFile}
 use Rattle.rd_volume.specs.Volumes.{IsFound, IsSlotOfFile}
 use Rattle.rd_volume.specs.declared.found.Found.{Found}
-use Rattle.rd_protocol.specs.State.{Desk, rules_for}
-use Rattle.rd_protocol.specs.declared.rows.ImageRow.{ImageRow}
+use Rattle.rd_holdings.specs.State.{Desk, rules_for}
+use Rattle.rd_holdings.specs.declared.rows.ImageRow.{ImageRow}
 use Rattle.rd_protocol.specs.Replies.{AreLines}
 use Rattle.rd_protocol.specs.declared.refusal.Refusal.{Refusal}
 use Rattle.rd_protocol.specs.declared.refusal.Refusal.TheVariants.{NoFile, Denied, ListedOnly, Faulty}

@@ -4,10 +4,10 @@ use Rattle.std.specs.FinMap.{get}
 use Rattle.rd_policy.specs.Verdicts.{IsVerdict}
 use Rattle.rd_volume.specs.Volumes.{IsFound}
 use Rattle.rd_volume.specs.declared.found.Found.{Found}
-use Rattle.rd_protocol.specs.State.{Desk, rules_for}
+use Rattle.rd_holdings.specs.State.{Desk, rules_for}
 use Rattle.rd_protocol.specs.Rehearsals.{IsRehearsal}
 use Rattle.rd_protocol.specs.declared.response.Difference.{Difference}
-use Rattle.rd_protocol.specs.declared.rows.ImageRow.{ImageRow}
+use Rattle.rd_holdings.specs.declared.rows.ImageRow.{ImageRow}
 
 -- A file of an accession that stands, and an audience: the verdicts of the rules before and after, whose effects differ.
 pub record IsDifference (desk after : Desk) (day : ℤ) (difference : Difference) : Type 0 where

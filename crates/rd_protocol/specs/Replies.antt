@@ -8,9 +8,9 @@ use Rattle.rd_policy.specs.declared.rule.Effect.TheVariants.{Deny, Read}
 use Rattle.rd_policy.specs.declared.rule.Rule.{Rule}
 use Rattle.rd_volume.specs.Reports.{IsReport}
 use Rattle.rd_volume.specs.Volumes.{AreBytesOf, IsFound}
-use Rattle.rd_protocol.specs.State.{Desk, place_of, rules_for, terms_of, with_check, with_deed, with_image, with_key, with_rule, without_key, without_rule}
-use Rattle.rd_protocol.specs.declared.rows.DeedRow.{DeedRow}
-use Rattle.rd_protocol.specs.declared.rows.ImageRow.{ImageRow}
+use Rattle.rd_holdings.specs.State.{Desk, place_of, rules_for, terms_of, with_check, with_deed, with_image, with_key, with_rule, without_key, without_rule}
+use Rattle.rd_holdings.specs.declared.rows.DeedRow.{DeedRow}
+use Rattle.rd_holdings.specs.declared.rows.ImageRow.{ImageRow}
 use Rattle.rd_protocol.specs.Checks.{outcome_of}
 use Rattle.rd_protocol.specs.Judged.{IsAccepted, IsAcceptedOn, IsAsked, IsRefusedOn, JudgedFile, audience_of}
 use Rattle.rd_protocol.specs.Lent.{Lent, bytes_lent}

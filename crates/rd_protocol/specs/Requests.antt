@@ -4,7 +4,7 @@ use Rattle.std.specs.Prelude.{◌≢◌, ◌≤◌}
 use Rattle.rd_policy.specs.Days.{IsDay}
 use Rattle.rd_policy.specs.Rules.{IsScope, IsRank, IsRule}
 use Rattle.rd_policy.specs.declared.audience.Audience.TheVariants.{Public}
-use Rattle.rd_protocol.specs.Lawful.{IsDeed}
+use Rattle.rd_holdings.specs.Lawful.{IsDeed}
 use Rattle.rd_protocol.specs.declared.request.What.{What}
 use Rattle.rd_protocol.specs.declared.request.What.TheVariants.{Images, Listing, Bytes, Catalogue, Survey, Check, Deeds, Takedowns, Keys, Checks, Verdicts, RehearseRule, RehearseDrop, PutImage, PutDeed, PutRule, DropRule, PutKey, DropKey, Unread}
 

@@ -9,8 +9,8 @@ use Rattle.rd_policy.specs.declared.verdict.Label.{Label}
 use Rattle.rd_volume.specs.Reports.{IsSoundSlot}
 use Rattle.rd_volume.specs.Volumes.{AreBytesOf, IsFound, IsSlotOfFile}
 use Rattle.rd_volume.specs.declared.found.Found.{Found}
-use Rattle.rd_protocol.specs.State.{Desk, rules_for, accession_of}
-use Rattle.rd_protocol.specs.declared.rows.ImageRow.{ImageRow}
+use Rattle.rd_holdings.specs.State.{Desk, rules_for, accession_of}
+use Rattle.rd_holdings.specs.declared.rows.ImageRow.{ImageRow}
 use Rattle.rd_protocol.specs.Replies.{IsLine}
 use Rattle.rd_protocol.specs.declared.response.Line.{Line}
 

@@ -3,9 +3,9 @@ use Rattle.std.specs.Prelude.{◌≡◌, ◌<◌, ◌^◌, ℕ, List, Some, leng
 use Rattle.std.specs.FinMap.{entries, get}
 use Rattle.hex.specs.Hex.{IsBytes}
 use Rattle.rd_policy.specs.declared.audience.Audience.{Audience}
-use Rattle.rd_protocol.specs.Lawful.{IsLawful}
+use Rattle.rd_holdings.specs.Lawful.{IsLawful}
 use Rattle.rd_protocol.specs.StaffLists.{deed_lines, key_lines, takedown_lines}
-use Rattle.rd_protocol.specs.State.{Desk}
+use Rattle.rd_holdings.specs.State.{Desk}
 use Rattle.rd_protocol.specs.Texts.{reply_of}
 use Rattle.rd_protocol.specs.declared.response.Response.TheVariants as response
 

@@ -1,19 +1,18 @@
 -- What stands in a desk, in lines for the staff.
-use Rattle.std.specs.Prelude.{ℕ, ◌-◌, List, [], ◌∷◌, Bool, true, false, ◌==◌, Option, length, map, option_map, slice_get}
-use Rattle.std.specs.FinMap.{entries, retain_keys}
+use Rattle.std.specs.Prelude.{ℕ, List, [], ◌∷◌, Bool, true, false, ◌==◌, map}
+use Rattle.std.specs.FinMap.{entries}
 use Rattle.std.specs.List.{count_by, filter}
 use Rattle.rd_policy.specs.declared.audience.Audience.{Audience}
 use Rattle.rd_policy.specs.declared.rule.Band.TheVariants.{Takedown, Deed}
 use Rattle.rd_policy.specs.declared.rule.Rule.{Rule}
-use Rattle.rd_protocol.specs.State.{Checkup, Desk, rules_at}
+use Rattle.rd_holdings.specs.Findings.{latest}
+use Rattle.rd_holdings.specs.State.{Desk, rules_at}
 use Rattle.rd_protocol.specs.declared.response.CheckLine.{CheckLine}
 use Rattle.rd_protocol.specs.declared.response.DeedLine.{DeedLine}
-use Rattle.rd_protocol.specs.declared.response.Finding.{Finding}
 use Rattle.rd_protocol.specs.declared.response.KeyLine.{KeyLine}
 use Rattle.rd_protocol.specs.declared.response.TakedownLine.{TakedownLine}
-use Rattle.rd_protocol.specs.declared.rows.DeedRow.{DeedRow}
-use Rattle.rd_protocol.specs.declared.rows.ImageRow.{ImageRow}
-use Rattle.rd_protocol.specs.declared.rows.Outcome.{Outcome}
+use Rattle.rd_holdings.specs.declared.rows.DeedRow.{DeedRow}
+use Rattle.rd_holdings.specs.declared.rows.ImageRow.{ImageRow}
 
 -- ---- deeds
 
@@ -57,18 +56,6 @@ abbrev pub key_lines : Desk → List KeyLine
 key_lines desk = map (λ e. record { digest = e.0; audience = e.1 }) (entries desk.keys)
 
 -- ---- checks
-
--- what an entry of the checks says
-abbrev pub finding_of : Checkup × Outcome → Finding
-finding_of e = record { day = e.0.day; outcome = e.1 }
-
--- the last of a list, if there is one
-abbrev pub last_of : {A : Type 0} → List A → Option A
-last_of xs = slice_get xs (length xs - 1)
-
--- what the latest check of an accession found
-abbrev pub latest : Desk → ℕ → Option Finding
-latest desk acc = option_map finding_of (last_of (entries (retain_keys desk.checks (λ checkup. checkup.acc == acc))))
 
 -- all accessions, ascending, each with its latest check
 abbrev pub check_lines : Desk → List CheckLine

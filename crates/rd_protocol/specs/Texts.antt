@@ -18,8 +18,8 @@ pub use Rattle.rd_cbm.specs.Walks.{end_word}
 use Rattle.rd_cbm.specs.declared.report.MapReport.{MapReport}
 use Rattle.rd_volume.specs.Words.{words_of}
 use Rattle.rd_volume.specs.declared.found.Found.{Found}
-use Rattle.rd_protocol.specs.declared.rows.Outcome.{Outcome}
-use Rattle.rd_protocol.specs.declared.rows.Outcome.TheVariants as outcome
+use Rattle.rd_holdings.specs.declared.rows.Outcome.{Outcome}
+use Rattle.rd_holdings.specs.Findings.{outcome_word}
 use Rattle.rd_protocol.specs.Catalogues.{catalogue_text}
 use Rattle.rd_protocol.specs.DayTexts.{day_text}
 use Rattle.rd_protocol.specs.Lent.{held, lent_out}
@@ -160,11 +160,6 @@ survey_data kind directory map survey =
 abbrev pub surveyed_data : Survey → Data
 surveyed_data survey =
     survey_data (word_of survey.kind) (end_word survey.report.directory) (map_data survey.kind survey.report.map) survey
-
--- the word for the outcome of a check
-abbrev pub outcome_word : Outcome → List ℕ
-outcome_word outcome.Sound = codes "sound"
-outcome_word outcome.Changed = codes "changed"
 
 -- the outcome of a check
 abbrev pub outcome_data : Outcome → Data

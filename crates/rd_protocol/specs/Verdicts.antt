@@ -8,10 +8,10 @@ use Rattle.rd_policy.specs.declared.audience.Audience.TheVariants.{Public, Room,
 use Rattle.rd_policy.specs.declared.rule.Rule.{Rule}
 use Rattle.rd_policy.specs.declared.verdict.Verdict.{Verdict}
 use Rattle.rd_volume.specs.Volumes.{AreFounds}
-use Rattle.rd_protocol.specs.State.{Desk, rules_for}
+use Rattle.rd_holdings.specs.State.{Desk, rules_for}
 use Rattle.rd_protocol.specs.declared.response.FileVerdicts.{FileVerdicts}
 use Rattle.rd_protocol.specs.declared.response.Verdicts.{Verdicts}
-use Rattle.rd_protocol.specs.declared.rows.ImageRow.{ImageRow}
+use Rattle.rd_holdings.specs.declared.rows.ImageRow.{ImageRow}
 
 -- the verdict for an audience
 abbrev pub verdict_for : Audience → FileVerdicts → Verdict

@@ -4,7 +4,7 @@ ghost use Rattle.std.specs.Prelude.{◌≡◌, ◌↔◌, IsTrue};
 ghost use Rattle.sha2.specs.Sha256.{sha256};
 ghost use Rattle.rd_protocol.specs.Checks.{outcome_of};
 
-use crate::rows::Outcome;
+use rd_holdings::Outcome;
 use sha2::{Digest, Sha256};
 
 /// Whether bytes have this SHA-256.

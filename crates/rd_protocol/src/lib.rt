@@ -1,5 +1,4 @@
-//! The protocol of the desk: what may be asked, which refusal holds, what is replied, and the state of a desk
-//! as finite maps. It names no database.
+//! The protocol of the desk: what may be asked, which refusal holds, and what is replied. It names no database.
 #![tactic(auto)]
 
 mod body;
@@ -7,15 +6,12 @@ mod catalogue;
 mod checks;
 mod contents;
 mod laws;
-mod limits;
 mod lists;
 pub mod parts;
 mod refusal;
 pub mod reply_text;
 mod request;
 mod response;
-mod rows;
-mod rule_laws;
 mod staff_lists;
 mod verdicts;
 
@@ -27,14 +23,11 @@ pub use laws::{
     hidden_bytes_are_not_told, one_reply, rehearsals_are_exact, rules_are_read_back, same_again,
     staff_lists_tell_all, what_is_shown_decides,
 };
-pub use limits::is_donor;
 pub use parts::{digest, scope};
 pub use refusal::Refusal;
 pub use reply_text::{fixed_reply, reply_to, unavailable};
 pub use request::{Request, What};
 pub use response::{
-    CheckLine, DeedLine, Difference, FileVerdicts, Finding, Form, ImageLine, KeyLine, Line,
-    Listing, Reply, Response, Survey, TakedownLine, Verdicts,
+    CheckLine, DeedLine, Difference, FileVerdicts, Form, ImageLine, KeyLine, Line, Listing, Reply,
+    Response, Survey, TakedownLine, Verdicts,
 };
-pub use rows::{Accession, DeedRow, ImageRow, Indexed, Outcome};
-pub use rule_laws::{rules_are_in_order, rules_are_those};

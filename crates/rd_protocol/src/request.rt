@@ -1,7 +1,7 @@
 ghost use Rattle.std.specs.Prelude.{◌↔◌, IsTrue};
 
-use crate::limits::is_donor;
 use rd_geometry::{Items, Kind, Text};
+use rd_holdings::is_donor;
 use rd_policy::{Audience, Band, Rule, is_day, is_rank, is_scope};
 
 /// A request: what the caller asks, and who they are.

@@ -1,8 +1,8 @@
 use crate::body::Body;
 use crate::contents::Contents;
 use crate::refusal::Refusal;
-use crate::rows::Outcome;
 use rd_geometry::{Items, Kind, Text};
+use rd_holdings::{Finding, Outcome};
 use rd_policy::{Audience, Rule, Verdict};
 use rd_volume::{Found, Report};
 
@@ -135,15 +135,6 @@ pub struct KeyLine {
     pub digest: [u8; 32],
     /// Whose key it is.
     pub audience: Audience,
-}
-
-/// What a check found, and when.
-#[derive(Clone, Copy)]
-pub struct Finding {
-    /// The day of the check, counted from 1970-01-01.
-    pub day: i32,
-    /// What it found.
-    pub outcome: Outcome,
 }
 
 /// An accession with its latest check.

@@ -9,11 +9,13 @@ ghost use Rattle.serde_json.specs.Written.{items_have_float};
 ghost use Rattle.hex.specs.Hex.{encode_lower};
 ghost use Rattle.rd_policy.specs.Audiences.{audience_word};
 ghost use Rattle.rd_protocol.specs.DayTexts.{day_text};
-ghost use Rattle.rd_protocol.specs.Texts.{audience_words, check_data, deed_data, in_json, key_data, list_data, one_member, outcome_word, rule_data, select_data, takedown_data};
+ghost use Rattle.rd_protocol.specs.Texts.{audience_words, check_data, deed_data, in_json, key_data, list_data, one_member, rule_data, select_data, takedown_data};
+ghost use Rattle.rd_holdings.specs.Findings.{outcome_word};
 
 use crate::lists::{listed_reply, send_member};
-use crate::response::{CheckLine, DeedLine, Finding, KeyLine, Reply, TakedownLine};
+use crate::response::{CheckLine, DeedLine, KeyLine, Reply, TakedownLine};
 use rd_geometry::{NoMemory, Text};
+use rd_holdings::Finding;
 use rd_policy::{Audiences, Rule, Select, date_text, is_day};
 use serde::{Described, Serialize, Serializer};
 use std::alloc::Global;

@@ -16,8 +16,9 @@ use Rattle.rd_volume.proofs.Existence.{file_at}
 use Rattle.rd_volume.proofs.FoundFile.{told_slot}
 use Rattle.rd_protocol.specs.Rehearsals.{IsRehearsal}
 use Rattle.rd_protocol.specs.Replies.{Tells}
-use Rattle.rd_protocol.specs.StaffLists.{accessions_under, check_lines, deed_line, deed_lines, has_rules, key_lines, latest, takedown_lines}
-use Rattle.rd_protocol.specs.State.{Desk, Place, Terms, accession_of, place_cmp, place_of, registered, rules_at, rules_for, rules_with, terms_of, with_rule, without_rule}
+use Rattle.rd_protocol.specs.StaffLists.{accessions_under, check_lines, deed_line, deed_lines, has_rules, key_lines, takedown_lines}
+use Rattle.rd_holdings.specs.Findings.{latest}
+use Rattle.rd_holdings.specs.State.{Desk, Place, Terms, accession_of, place_cmp, place_of, registered, rules_at, rules_for, rules_with, terms_of, with_rule, without_rule}
 use Rattle.rd_protocol.specs.Verdicts.{AreVerdicts, IsDecided, IsVerdictsOf}
 use Rattle.rd_protocol.specs.declared.request.What.{What}
 use Rattle.rd_protocol.specs.declared.request.What.TheVariants as question
@@ -27,9 +28,9 @@ use Rattle.rd_protocol.specs.declared.response.Response.{Response}
 use Rattle.rd_protocol.specs.declared.response.Response.TheVariants as response
 use Rattle.rd_protocol.specs.declared.response.TakedownLine.{TakedownLine}
 use Rattle.rd_protocol.specs.declared.response.Verdicts.{Verdicts}
-use Rattle.rd_protocol.specs.declared.rows.Accession.{Accession}
-use Rattle.rd_protocol.specs.declared.rows.DeedRow.{DeedRow}
-use Rattle.rd_protocol.specs.declared.rows.ImageRow.{ImageRow}
+use Rattle.rd_holdings.specs.declared.rows.Accession.{Accession}
+use Rattle.rd_holdings.specs.declared.rows.DeedRow.{DeedRow}
+use Rattle.rd_holdings.specs.declared.rows.ImageRow.{ImageRow}
 use Rattle.rd_staff_laws.specs.Descriptions.{AreDescribedAlike, DescriptionsDecide, DescriptionsSuffice, IsDescribedAs, IsDescribedLike, IsStaffQuestion, NeededBytesDescribe}
 
 -- ---- the entries of images, without bytes and digests

@@ -7,12 +7,12 @@ use Rattle.std.specs.Ordering.{MatchOrdering, ordering_then}
 use Rattle.std.proofs.lemmas.Bool.Decides.{nat_tests}
 use Rattle.std.proofs.lemmas.Cmp.{nat_cmp_total, tied_itself}
 use Rattle.std.proofs.lemmas.Int.{ints}
-use Rattle.rd_protocol.specs.StaffLists.{finding_of, last_of}
-use Rattle.rd_protocol.specs.State.{Checkup, Desk, checkup_cmp}
-use Rattle.rd_protocol.specs.declared.response.Finding.{Finding}
-use Rattle.rd_protocol.specs.declared.rows.Outcome.{Outcome}
-use Rattle.rd_protocol.proofs.KeyOrders.{checkup_order}
-use Rattle.rd_protocol.proofs.Members.{Has, IsKeyOrder, below_has, entry_got, got_entry}
+use Rattle.rd_holdings.specs.Findings.{finding_of, last_of}
+use Rattle.rd_holdings.specs.State.{Checkup, Desk, checkup_cmp}
+use Rattle.rd_holdings.specs.declared.rows.Finding.{Finding}
+use Rattle.rd_holdings.specs.declared.rows.Outcome.{Outcome}
+use Rattle.rd_holdings.proofs.KeyOrders.{checkup_order}
+use Rattle.rd_holdings.proofs.Members.{Has, IsKeyOrder, below_has, entry_got, got_entry}
 use Rattle.rd_staff_laws.specs.LatestChecks.{IsLast, LatestIsLast, NoneIsLatest, check_on}
 
 -- ---- the last of a list

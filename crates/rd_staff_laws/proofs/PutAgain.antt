@@ -1,7 +1,7 @@
 -- To put a rule that stands changes nothing.
-use Rattle.rd_protocol.specs.State.{place_cmp}
-use Rattle.rd_protocol.proofs.KeyOrders.{place_order}
-use Rattle.rd_protocol.proofs.Maps.{insert_kept}
+use Rattle.rd_holdings.specs.State.{place_cmp}
+use Rattle.rd_holdings.proofs.KeyOrders.{place_order}
+use Rattle.rd_holdings.proofs.Maps.{insert_kept}
 use Rattle.rd_staff_laws.specs.PutAgain.{PutAgain}
 
 pub put_again : PutAgain

@@ -13,7 +13,7 @@ use Rattle.rd_volume.specs.Founds.{HasNoContents, IsSoundFile}
 use Rattle.rd_volume.specs.Laws.{cbm_total, cpm_total}
 use Rattle.rd_volume.specs.Volumes.{IsFound, contents_of}
 use Rattle.rd_volume.specs.declared.found.Found.{Found}
-use Rattle.rd_protocol.specs.State.{Desk}
+use Rattle.rd_holdings.specs.State.{Desk}
 use Rattle.rd_protocol.specs.Verdicts.{AreVerdicts, IsVerdictsOf}
 use Rattle.rd_protocol.specs.declared.response.FileVerdicts.{FileVerdicts}
 use Rattle.rd_protocol.specs.declared.response.Verdicts.{Verdicts}

@@ -7,11 +7,11 @@ use Rattle.rd_volume.specs.Needed.{AgreesOnNeeded}
 use Rattle.rd_volume.specs.Volumes.{IsFound, IsSlotOfFile}
 use Rattle.rd_volume.specs.declared.found.Found.{Found}
 use Rattle.rd_protocol.specs.Replies.{Tells}
-use Rattle.rd_protocol.specs.State.{Desk}
+use Rattle.rd_holdings.specs.State.{Desk}
 use Rattle.rd_protocol.specs.declared.request.What.{What}
 use Rattle.rd_protocol.specs.declared.request.What.TheVariants.{Checks, Deeds, Keys, RehearseDrop, RehearseRule, Takedowns, Verdicts}
 use Rattle.rd_protocol.specs.declared.response.Response.{Response}
-use Rattle.rd_protocol.specs.declared.rows.ImageRow.{ImageRow}
+use Rattle.rd_holdings.specs.declared.rows.ImageRow.{ImageRow}
 
 -- ---- images and desks that are described alike
 

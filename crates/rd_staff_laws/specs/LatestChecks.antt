@@ -1,10 +1,10 @@
 -- The latest check of an accession is the last.
 use Rattle.std.specs.Prelude.{◌≡◌, ◌↔◌, ◌≤ℤ◌, ℕ, ℤ, Option, None, Some}
 use Rattle.std.specs.FinMap.{get}
-use Rattle.rd_protocol.specs.StaffLists.{latest}
-use Rattle.rd_protocol.specs.State.{Desk}
-use Rattle.rd_protocol.specs.declared.response.Finding.{Finding}
-use Rattle.rd_protocol.specs.declared.rows.Outcome.{Outcome}
+use Rattle.rd_holdings.specs.Findings.{latest}
+use Rattle.rd_holdings.specs.State.{Desk}
+use Rattle.rd_holdings.specs.declared.rows.Finding.{Finding}
+use Rattle.rd_holdings.specs.declared.rows.Outcome.{Outcome}
 
 -- what the check of an accession on a day found, if there was one
 abbrev pub check_on : Desk → ℕ → ℤ → Option Outcome

@@ -2,7 +2,7 @@
 use Rattle.std.specs.Prelude.{◌≡◌, ℤ, Some}
 use Rattle.std.specs.FinMap.{get}
 use Rattle.rd_protocol.specs.Replies.{carried_out}
-use Rattle.rd_protocol.specs.State.{Desk, Place, Terms, rule_of}
+use Rattle.rd_holdings.specs.State.{Desk, Place, Terms, rule_of}
 use Rattle.rd_protocol.specs.declared.request.What.TheVariants.{PutRule}
 
 -- if these terms stand at a place, the command that puts their rule leaves the desk as it is, on any day

@@ -5,7 +5,7 @@ use Rattle.rd_policy.specs.declared.rule.Band.{Band}
 use Rattle.rd_policy.specs.declared.rule.Rule.{Rule}
 use Rattle.rd_protocol.specs.RehearsalLaws.{IsDifference}
 use Rattle.rd_protocol.specs.Replies.{Tells, carried_out}
-use Rattle.rd_protocol.specs.State.{Desk}
+use Rattle.rd_holdings.specs.State.{Desk}
 use Rattle.rd_protocol.specs.declared.request.What.{What}
 use Rattle.rd_protocol.specs.declared.request.What.TheVariants.{DropRule, PutRule, RehearseDrop, RehearseRule}
 use Rattle.rd_protocol.specs.declared.response.Difference.{Difference}

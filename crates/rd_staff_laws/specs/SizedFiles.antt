@@ -4,7 +4,7 @@ use Rattle.rd_policy.specs.declared.audience.Audience.{Audience}
 use Rattle.rd_policy.specs.declared.rule.Effect.TheVariants.{Read}
 use Rattle.rd_protocol.specs.Judged.{IsAcceptedOn, audience_of}
 use Rattle.rd_protocol.specs.Laws.{HoldsBytes}
-use Rattle.rd_protocol.specs.State.{Desk}
+use Rattle.rd_holdings.specs.State.{Desk}
 use Rattle.rd_protocol.specs.Verdicts.{AreVerdicts, verdict_for}
 use Rattle.rd_protocol.specs.declared.request.What.TheVariants.{Bytes}
 use Rattle.rd_protocol.specs.declared.response.FileVerdicts.{FileVerdicts}

@@ -20,9 +20,9 @@ use Rattle.rd_tables.proofs.Statements.{sets_version}
 use Rattle.rd_tables.proofs.StatementTexts.{set_version_writes}
 use Rattle.rd_store.specs.declared.faults.OpenFault.{OpenFault}
 use Rattle.rd_store.specs.declared.faults.OpenFault.TheVariants.{Sql}
-use Rattle.rd_protocol.specs.State.{Desk}
+use Rattle.rd_holdings.specs.State.{Desk}
 use Rattle.rd_store.specs.Index.{IsIndexOf}
-use Rattle.rd_protocol.specs.Lawful.{IsLawful}
+use Rattle.rd_holdings.specs.Lawful.{IsLawful}
 use Rattle.rd_store.specs.Marks.{AreMarksIn, joined}
 use Rattle.rd_store.specs.Spelled.{SpellDesk, HasVersion, HaveOwnRowids, desk_of, unmarked, deed_sheet, image_sheet, marks_sheet, rule_sheet, key_sheet, check_sheet, file_sheet}
 use Rattle.rd_store.specs.Created.{IsAt, IsUntouched, Turns}

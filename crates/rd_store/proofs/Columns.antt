@@ -13,7 +13,7 @@ use Rattle.rd_policy.specs.Days.{IsDay}
 use Rattle.rd_policy.specs.Rules.{IsPlainText}
 use Rattle.rd_tables.specs.Sheets.{natural}
 use Rattle.rd_store.specs.Codes.{day_in}
-use Rattle.rd_protocol.specs.Lawful.{IsDonor}
+use Rattle.rd_holdings.specs.Lawful.{IsDonor}
 use Rattle.rd_store.specs.Cells.{is_number, is_one_of, is_day, is_some_day, is_digest, IsDonorAt, IsWordAt}
 
 pub number_spelled : (low high : ℕ) (v : Value) → is_number low high v ≡ true → (v ≡ Int (pos (natural v))) × (low ≤ natural v) × (natural v ≤ high)

@@ -24,8 +24,8 @@ use Rattle.rd_tables.proofs.Running.{Makes, plain_mode}
 use Rattle.rd_tables.proofs.Statements.{puts_version, version_row}
 use Rattle.rd_tables.proofs.StatementTexts.{put_version_writes}
 use Rattle.rd_tables.proofs.Steps.{went, same_value}
-use Rattle.rd_protocol.specs.State.{digest_cmp}
-use Rattle.rd_protocol.specs.Lawful.{IsLawful, IsKey}
+use Rattle.rd_holdings.specs.State.{digest_cmp}
+use Rattle.rd_holdings.specs.Lawful.{IsLawful, IsKey}
 use Rattle.rd_store.specs.Marks.{AreMarksIn, joined}
 use Rattle.rd_store.specs.Index.{IsFileIn, IsIndexOf}
 use Rattle.rd_store.specs.Spelled.{deed_sheet, image_sheet, marks_sheet, rule_sheet, key_sheet, check_sheet, file_sheet, HasVersion}

@@ -1,18 +1,28 @@
 -- A transaction that puts an image and its files.
-use Rattle.std.proofs.Common.{◌≡◌, ℕ, None, IsSome, Result, Option, sym, ap}
+use Rattle.std.proofs.Common.{◌≡◌, ◌⊎◌, ℕ, None, IsSome, OnOk, Result, Option, sym, subst, ap}
 use Rattle.std.specs.FinMap.{get}
 use Rattle.sqlite.specs.Store.{Ghosts}
 use Rattle.sqlite.specs.Held.{Held, state}
-use Rattle.rd_protocol.specs.declared.rows.ImageRow.{ImageRow}
+use Rattle.rd_holdings.specs.declared.rows.ImageRow.{ImageRow}
 use Rattle.rd_store.specs.Created.{IsAt, Turns}
-use Rattle.rd_store.specs.Held.{Changes, HoldsDesk, IsOf, IsOpen, LacksImage, desk}
-use Rattle.rd_protocol.specs.Lawful.{IsImage}
-use Rattle.rd_protocol.specs.State.{put_or_kept, with_image}
+use Rattle.rd_store.specs.Held.{Changes, HoldsDesk, IsLeft, IsOf, IsOpen, LacksImage, desk}
+use Rattle.rd_holdings.specs.Lawful.{IsImage}
+use Rattle.rd_holdings.specs.State.{Desk, put_or_kept, with_image}
 use Rattle.rd_store.specs.Index.{with_new_image}
-use Rattle.rd_store.proofs.Changing.{changes_as}
 use Rattle.rd_store.proofs.Laws.{Laws}
-use Rattle.rd_protocol.proofs.Lawful.{lawful_insert}
+use Rattle.rd_holdings.proofs.Lawful.{lawful_insert}
 use Rattle.rd_store.proofs.Whole.{starts, changes}
+
+-- the same change, told by a desk that is the same where the connection was open
+pub changes_as : {S T X : Type 0} (g : Ghosts S) (old new : Held S) (after other : Desk) (r : Result T X) → (IsOpen g old → after ≡ other) → Changes g old new after r → Changes g old new other r
+changes_as g old new after other r same h = record {
+  lasts = h.lasts;
+  ok = λ o. subst (λ (d : Desk). OnOk r (desk g new ≡ d)) (same (h.lasts.was_open o)) (h.ok o);
+  err = h.err;
+  ends_open = h.ends_open;
+  crash = λ was clean left may. subst (λ (d : Desk). IsLeft (desk g old) left ⊎ IsLeft d left) (same was) (h.crash was clean left may);
+  durable = h.durable;
+}
 
 module _ {S : Type 0} (g : Ghosts S) (laws : Laws g) (old last : Held S) (holds : HoldsDesk (state g old)) (acc : ℕ) (image : ImageRow) (free : IsOpen g old → get (desk g old).images acc ≡ None) where
   pub lacks : IsOpen g old → IsAt (LacksImage acc (desk g old)) (state g old)

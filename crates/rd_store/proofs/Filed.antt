@@ -7,7 +7,7 @@ use Rattle.rd_tables.proofs.Lists.{from_map}
 use Rattle.rd_tables.proofs.Entries.{get_inserted}
 use Rattle.rd_volume.specs.Volumes.{AreFounds, IsFound, IsFoundAt}
 use Rattle.rd_volume.specs.declared.found.Found.{Found}
-use Rattle.rd_protocol.specs.declared.rows.ImageRow.{ImageRow}
+use Rattle.rd_holdings.specs.declared.rows.ImageRow.{ImageRow}
 use Rattle.rd_store.specs.Index.{FileAt, file_cmp, IsFileIn, IsFiledTo, IsIndexOf}
 use Rattle.rd_store.proofs.Listings.{any_default, below_or_at}
 use Rattle.rd_store.proofs.Orders.{number_order, file_order}

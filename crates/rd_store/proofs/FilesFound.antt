@@ -26,7 +26,7 @@ use Rattle.rd_tables.proofs.Values.{equal_numbers}
 use Rattle.rd_tables.proofs.Entries.{entry_got, got_entry, below_has}
 use Rattle.rd_tables.proofs.Finding.{looked_up, in_order}
 use Rattle.rd_tables.proofs.Listed.{all_in}
-use Rattle.rd_protocol.specs.declared.rows.ImageRow.{ImageRow}
+use Rattle.rd_holdings.specs.declared.rows.ImageRow.{ImageRow}
 use Rattle.rd_store.specs.Index.{FileAt, file_cmp, AreFilesIn, IsFileIn}
 use Rattle.rd_store.specs.Spelled.{file_sheet, file_shown, later}
 use Rattle.rd_store.proofs.Orders.{file_order}

@@ -31,7 +31,7 @@ use Rattle.rd_tables.proofs.Entries.{tie}
 use Rattle.rd_tables.proofs.Listed.{to_permuted, all_in, each_shown, shown_each, rowids_apart, have_rowids, apart_by_rowids, row_got, got_row}
 use Rattle.rd_tables.proofs.Unique.{same_int, agree_two, one_file}
 use Rattle.rd_geometry.specs.declared.kind.Kind.TheVariants.{D64}
-use Rattle.rd_protocol.specs.declared.rows.ImageRow.{ImageRow}
+use Rattle.rd_holdings.specs.declared.rows.ImageRow.{ImageRow}
 use Rattle.rd_store.specs.Cells.{is_one_of, IsFiledRow, IsFileRow, ShowFiles}
 use Rattle.rd_store.specs.Index.{FileAt, file_cmp, AreFilesIn, IsFileIn}
 use Rattle.rd_store.specs.Opened.{AreFiledUnder, AreKeys, HasDiskIf, HasFiles, HaveAccessions, HasDisk, HaveFiles, IsFiledAt, IsIndexAt, LawfulFiles, image_among, image_if, is_among}

@@ -1,5 +1,5 @@
 -- What the queries show of a desk.
-use Rattle.std.proofs.Common.{◌≡◌, inl, inr, ℕ, zero, suc, ap₂, ◌<◌, slice_get, slice_index_or, pos, List, [], ◌∷◌, map, Bool, true, false, Option, Some, None, option_map, refl, sym, ap, ◌∙◌, arith, nat_cmp, int_cmp, is_lt, is_eq, Less, Equal, Greater, Ordering, ◌&&◌, ◌==◌, All, subst, length}
+use Rattle.std.proofs.Common.{◌≡◌, inl, inr, ℕ, zero, suc, ap₂, ◌<◌, slice_index_or, pos, List, [], ◌∷◌, map, Bool, true, false, Option, Some, None, option_map, refl, sym, ap, ◌∙◌, arith, nat_cmp, int_cmp, is_lt, is_eq, Less, Equal, Greater, Ordering, ◌&&◌, ◌==◌, All, subst, length}
 use Rattle.std.specs.Prelude.{MatchBool}
 use Rattle.std.specs.Option.{option_to_list}
 use Rattle.std.specs.List.{Any}
@@ -32,9 +32,9 @@ use Rattle.rd_tables.proofs.Finding.{looked_up, in_order}
 use Rattle.rd_tables.proofs.Listed.{got_row}
 use Rattle.rd_policy.specs.declared.rule.Band.{Band}
 use Rattle.rd_store.specs.Walked.{image_told}
-use Rattle.rd_protocol.specs.State.{Desk, Place, Terms, digest_cmp, place_cmp, rule_of, HasOtherStaff, band_code, is_at}
-use Rattle.rd_protocol.specs.declared.rows.DeedRow.{DeedRow}
-use Rattle.rd_protocol.specs.declared.rows.ImageRow.{ImageRow}
+use Rattle.rd_holdings.specs.State.{Desk, Place, Terms, digest_cmp, place_cmp, rule_of, HasOtherStaff, band_code, is_at}
+use Rattle.rd_holdings.specs.declared.rows.DeedRow.{DeedRow}
+use Rattle.rd_holdings.specs.declared.rows.ImageRow.{ImageRow}
 use Rattle.rd_store.specs.Shown.{as_row, deed_shown, image_shown, marks_shown, audience_shown, ShowsOther, IsOtherKey}
 use Rattle.rd_store.specs.Spelled.{deed_sheet, image_sheet, key_sheet, marks_sheet, rule_sheet}
 use Rattle.rd_store.proofs.Orders.{number_order, digest_order, place_order, kind_back, rule_back, key_back}
@@ -56,11 +56,6 @@ module _ (n : ℕ) (table rows : List Row) where
   pub marks_found : Spells marks_sheet table → IsPicked marks_query (Int (pos n) ∷ []) table rows → rows ≡ map marks_shown (option_to_list (get (map_of marks_sheet table) n))
   marks_found spells picks = looked_up marks_sheet number_order marks_query (Int (pos n) ∷ []) table rows spells picks n marks_shown
       (λ row is. ap (λ s. is_true (binary (Compare Eq Binary) (column s 0) (Int (pos n))) && true) is ∙ first_is n _) (λ row is. ap (λ s. ([], column s 1 ∷ [])) is)
-
--- the first row shows what was looked up
-pub first_shown : {X : Type 0} (show : X → Row) (found : Option X) (rows : List Row) (row : Row) → rows ≡ map show (option_to_list found) → Some row ≡ slice_get rows 0 → (x : X) × (found ≡ Some x) × (row ≡ show x)
-first_shown show None rows row are first = let wrong : Some row ≡ None = first ∙ ap (λ l. slice_get l 0) are in absurd cc
-first_shown show (Some x) rows row are first = let is : Some row ≡ Some (show x) = first ∙ ap (λ l. slice_get l 0) are in (x, refl, cc)
 
 -- ORDER BY a number, whose numbers differ
 numbers_rise : (a b : ℕ) → true ≡ true → true ≡ true → is_lt (key_cmp 0 (rising ∷ []) (Int (pos b) ∷ []) (Int (pos a) ∷ [])) ≡ false → eq_by_cmp nat_cmp a b ≡ false → nat_cmp a b ≡ Less

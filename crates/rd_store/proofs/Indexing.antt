@@ -30,8 +30,8 @@ use Rattle.rd_tables.proofs.Lists.{and_true, filter_filter, filter_same}
 use Rattle.rd_tables.proofs.Parted.{Turns, between, pairs_rise, parted, parted_map, sorted_after, sorted_before}
 use Rattle.rd_tables.proofs.Values.{least_numbers, most_numbers}
 use Rattle.rd_store.specs.declared.images.Heading.{Heading}
-use Rattle.rd_protocol.specs.declared.rows.ImageRow.{ImageRow}
-use Rattle.rd_protocol.specs.declared.rows.Indexed.{Indexed}
+use Rattle.rd_holdings.specs.declared.rows.ImageRow.{ImageRow}
+use Rattle.rd_holdings.specs.declared.rows.Indexed.{Indexed}
 use Rattle.rd_store.specs.Batched.{IsIndexed, IsIndexedBy, filed_shown, files_at, is_from_to, is_number_below, is_number_up_to}
 use Rattle.rd_store.specs.Index.{AreFilesIn, FileAt, IsIndexOf, file_cmp}
 use Rattle.rd_store.specs.Register.{entry_for, register_of}

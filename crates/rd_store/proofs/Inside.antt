@@ -42,13 +42,6 @@ module _ (schema : Schema) (text : List ℕ) (command : Command) (write : IsWrit
 
 -- ---- one after another
 
-pub not_yet : {S T X : Type 0} (g : Ghosts S) (h : Held S) (P : Database → Type 0) (x : T) → Moves {X = X} g h h P P (Ok x)
-not_yet g h P x = record {
-  quiet = record { clean = omega arith; shield = λ s. s; counts = omega arith; limit = refl; closes = λ clean is_open. inl is_open; crash = λ clean trees may. inl may };
-  kept = λ clean. record { was_open = λ o. o; committed = λ _. refl };
-  ok = λ clean is_open inside held. (is_open, inside, held);
-}
-
 pub and_then : {S T U X Y : Type 0} (g : Ghosts S) (a b c : Held S) (P Q R : Database → Type 0) (x : T) → Moves {X = X} g a b P Q (Ok x) → (r : Result U Y) → Moves g b c Q R r → Moves g a c P R r
 and_then g a b c P Q R x first r next = record {
   quiet = survives_then (state g a) (state g b) (state g c) (λ _. ⊥) (λ _. ⊥) (λ _. ⊥) (λ _ trees none. none) (λ _ trees none. none) first.quiet next.quiet;
@@ -62,10 +55,6 @@ and_then g a b c P Q R x first r next = record {
     early : IsClean g c → IsClean g b
     early clean = omega (arith, next.quiet.clean)
 
--- a step of which more was known before
-pub moves_from : {S T X : Type 0} (g : Ghosts S) (old new : Held S) (P Q R : Database → Type 0) (r : Result T X) → ((db : Database) → P db → Q db) → Moves g old new Q R r → Moves g old new P R r
-moves_from g old new P Q R r more h = record { quiet = h.quiet; kept = h.kept; ok = λ clean is_open inside held. h.ok clean is_open inside (more (state g old).now held) }
-
 -- a step after which more is known
 pub moves_to : {S T X : Type 0} (g : Ghosts S) (old new : Held S) (P Q R : Database → Type 0) (r : Result T X) → ((db : Database) → Q db → R db) → Moves g old new P Q r → Moves g old new P R r
 moves_to {S} {T} {X} g old new P Q R r more h = record { quiet = h.quiet; kept = h.kept; ok = λ clean is_open inside held. go r (h.ok clean is_open inside held) }
@@ -73,15 +62,6 @@ moves_to {S} {T} {X} g old new P Q R r more h = record { quiet = h.quiet; kept =
     go : (q : Result T X) → OnOk q (IsOpen g new × IsTrue new.in_transaction × Q (state g new).now) → OnOk q (IsOpen g new × IsTrue new.in_transaction × R (state g new).now)
     go (Ok value) at = (at.0, at.1, more (state g new).now at.2)
     go (Err e) at = tt
-
--- a step that is not taken
-pub none_taken : {S T X : Type 0} (g : Ghosts S) (h : Held S) (P Q : Database → Type 0) (r : Result T X) → IsErr r → Moves g h h P Q r
-none_taken g h P Q (Err e) is = record {
-  quiet = record { clean = omega arith; shield = λ s. s; counts = omega arith; limit = refl; closes = λ clean is_open. inl is_open; crash = λ clean trees may. inl may };
-  kept = λ clean. record { was_open = λ o. o; committed = λ _. refl };
-  ok = λ clean is_open inside held. tt;
-}
-none_taken g h P Q (Ok value) is = absurd (true≢false (sym is))
 
 pub stopped : {S T U X Y : Type 0} (g : Ghosts S) (old new : Held S) (P Q R : Database → Type 0) (e : X) (q : Result U Y) → IsErr q → Moves {T = T} g old new P Q (Err e) → Moves g old new P R q
 stopped g old new P Q R e (Err b) is h = record { quiet = h.quiet; kept = h.kept; ok = h.ok }

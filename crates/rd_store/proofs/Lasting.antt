@@ -2,27 +2,18 @@
 use Rattle.std.proofs.Common.{◌≡◌, ℕ, Option, Some, None, Result, Ok, Err, OnOk, OnErr, refl, sym, ap, subst, ◌∙◌, nat_cmp}
 use Rattle.std.specs.FinMap.{FinMap, get, insert}
 use Rattle.sqlite.specs.Store.{Ghosts}
-use Rattle.sqlite.specs.Effect.{Database}
-use Rattle.sqlite.specs.Held.{Held, state}
+use Rattle.sqlite.specs.Held.{Held}
 use Rattle.rd_store.specs.declared.last.KeptImage.{KeptImage}
 use Rattle.rd_store.specs.declared.last.KeptImage.TheVariants.{Unasked, AskedFor, Kept}
-use Rattle.rd_store.specs.declared.register.Register.{Register}
-use Rattle.rd_protocol.specs.declared.rows.ImageRow.{ImageRow}
-use Rattle.rd_protocol.specs.State.{Desk, put_or_kept, with_image}
-use Rattle.rd_store.specs.Held.{Changes, HoldsDesk, IsOpen, Stays, desk}
+use Rattle.rd_holdings.specs.declared.rows.ImageRow.{ImageRow}
+use Rattle.rd_holdings.specs.State.{Desk, put_or_kept, with_image}
+use Rattle.rd_store.specs.Held.{Changes, desk}
 use Rattle.rd_store.specs.Last.{IsAmong, IsLastOf}
-use Rattle.rd_store.specs.Register.{IsRegisterOf}
-use Rattle.rd_store.specs.Spelled.{desk_of}
 use Rattle.rd_store.proofs.Maps.{others_stay}
 use Rattle.rd_store.proofs.Orders.{number_order}
-use Rattle.rd_store.proofs.Registers.{listed_changes, listed_stays}
 
 abbrev Images : Type 0
 Images = FinMap nat_cmp ImageRow
-
--- the image that is kept for an accession is the one there
-pub kept_there : (last : KeptImage) (acc : ℕ) (image : ImageRow) (images : Images) → last ≡ Kept acc image → IsAmong last images → get images acc ≡ Some image
-kept_there last acc image images kept is = subst (λ (l : KeptImage). IsAmong l images) kept is
 
 -- an image that is put where none stands leaves the others
 stands_still : (images : Images) (acc : ℕ) (image : ImageRow) (at : ℕ) (kept : ImageRow) → get images acc ≡ None → get images at ≡ Some kept → get (insert images acc image) at ≡ Some kept
@@ -36,13 +27,6 @@ among_put d acc image None there (Kept at kept) is = stands_still d.images acc i
 among_put d acc image (Some standing) there (Kept at kept) is = is
 
 module _ {S : Type 0} (g : Ghosts S) (old new : Held S) (last : KeptImage) where
-  -- queries
-  pub among_stays : Stays g old new → IsOpen g new → IsAmong last (desk g old).images → IsAmong last (desk g new).images
-  among_stays stays o is = subst (λ (db : Database). IsAmong last (desk_of db.trees).images) (sym (stays.now o)) is
-
-  pub last_stays : Stays g old new → IsLastOf g old last → IsLastOf g new last
-  last_stays stays was o = among_stays stays o (was (stays.lasts.was_open o))
-
   -- a change that leaves each image that stands
   last_changes : {T X : Type 0} (after : Desk) (r : Result T X) → Changes g old new after r → (IsAmong last (desk g old).images → IsAmong last after.images) → IsLastOf g old last → IsLastOf g new last
   last_changes {T} {X} after r changes leaves was o = both r (changes.ok o) (changes.err o)
@@ -54,18 +38,4 @@ module _ {S : Type 0} (g : Ghosts S) (old new : Held S) (last : KeptImage) where
   -- a put
   pub last_put : {T X : Type 0} (acc : ℕ) (image : ImageRow) (r : Result T X) → Changes g old new (with_image acc image (desk g old)) r → IsLastOf g old last → IsLastOf g new last
   last_put acc image r changes was = last_changes (with_image acc image (desk g old)) r changes (among_put (desk g old) acc image (get (desk g old).images acc) refl last) was
-
   -- ---- all that a store keeps true
-
-  -- queries
-  pub memory_stays : (register : Register) → HoldsDesk (state g new) → Stays g old new → IsRegisterOf g old register → IsLastOf g old last → HoldsDesk (state g new) × IsRegisterOf g new register × IsLastOf g new last
-  memory_stays register holds stays listed was = (holds, listed_stays g old new register stays listed, last_stays stays was)
-
-  -- a change that leaves the images as they were
-  pub memory_changes : {T X : Type 0} (register : Register) (after : Desk) (r : Result T X) → HoldsDesk (state g new) → Changes g old new after r → after.images ≡ (desk g old).images → IsRegisterOf g old register → IsLastOf g old last
-      → HoldsDesk (state g new) × IsRegisterOf g new register × IsLastOf g new last
-  memory_changes register after r holds changes same listed was = (
-    holds,
-    listed_changes g old new register after r changes same listed,
-    last_changes after r changes (λ is. subst (IsAmong last) (sym same) is) was,
-  )

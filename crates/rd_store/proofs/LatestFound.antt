@@ -1,5 +1,5 @@
 -- The text that asks for the latest check of an accession, and what it shows.
-use Rattle.std.proofs.Common.{◌≡◌, ℕ, ℤ, pos, List, [], ◌∷◌, ◌∙◌, ◌&&◌, ◌==◌, true, false, Option, Some, None, Ordering, Less, Equal, Greater, ap, arith, codes, int_cmp, is_eq, is_lt, map, nat_cmp, option_map, option_to_list, refl, slice_get, sym}
+use Rattle.std.proofs.Common.{◌≡◌, ℕ, ℤ, pos, List, [], ◌∷◌, ◌∙◌, ◌&&◌, ◌==◌, true, false, Ordering, Less, Equal, Greater, ap, arith, codes, int_cmp, is_eq, is_lt, map, nat_cmp, option_to_list, refl, sym}
 use Rattle.std.specs.FinMap.{entries, retain_keys}
 use Rattle.std.specs.Ordering.{eq_by_cmp, ordering_then, ordering_reverse}
 use Rattle.std.proofs.lemmas.Bool.Decides.{nat_tests}
@@ -23,12 +23,10 @@ use Rattle.rd_tables.proofs.Values.{equal_numbers}
 use Rattle.rd_tables.proofs.Finding.{in_order}
 use Rattle.rd_tables.proofs.QueryTexts.{AsksStart}
 use Rattle.rd_tables.proofs.Turned.{last_picked, turned}
-use Rattle.rd_protocol.specs.State.{Checkup}
-use Rattle.rd_protocol.specs.declared.rows.Outcome.{Outcome}
-use Rattle.rd_protocol.specs.StaffLists.{finding_of, last_of}
-use Rattle.rd_store.specs.Latest.{check_shown, finding_in, is_of}
+use Rattle.rd_holdings.specs.Findings.{last_of}
+use Rattle.rd_store.specs.Latest.{check_shown, is_of}
 use Rattle.rd_store.specs.Spelled.{check_sheet}
-use Rattle.rd_store.proofs.Orders.{checkup_order, outcome_back}
+use Rattle.rd_store.proofs.Orders.{checkup_order}
 
 -- the latest check of an accession
 abbrev pub latest_text : List ℕ
@@ -70,17 +68,8 @@ checks_found acc table rows spells picks =
     either_way : (n : ℕ) → eq_by_cmp nat_cmp acc n ≡ (n == acc)
     either_way n = grind (arith, nat_tests)
 
--- the check that columns describe is read back
-check_back : (e : Checkup × Outcome) → finding_in (check_shown e) ≡ finding_of e
-check_back e = λ i. record { day = e.0.day; outcome = outcome_back e.1 i }
-
 -- the row of the latest check is that of the last entry
 pub latest_found : (acc : ℕ) (table rows : List Row) → Spells check_sheet table → IsStart (turned checks_query) 1 (Int (pos acc) ∷ []) table rows
     → rows ≡ map check_shown (option_to_list (last_of (entries (retain_keys (map_of check_sheet table) (is_of acc)))))
 latest_found acc table rows spells start =
     last_picked checks_query (Int (pos acc) ∷ []) table rows check_shown (entries (retain_keys (map_of check_sheet table) (is_of acc))) (λ all picks. checks_found acc table all spells picks) start
-
--- the first of the rows that show an entry, if there is one, shows that entry
-pub first_back : (found : Option (Checkup × Outcome)) → option_map finding_in (slice_get (map check_shown (option_to_list found)) 0) ≡ option_map finding_of found
-first_back None = refl
-first_back (Some e) = ap Some (check_back e)

@@ -1,5 +1,5 @@
 -- The laws of a store that are used, and what they say of a connection.
-use Rattle.std.proofs.Common.{◌≡◌, [], ◌∷◌, inl, inr, ◌∙◌, Bool, false, Result, Ok, Err, OnOk, OnErr, sym, ap, subst, IsTrue, refl, arith}
+use Rattle.std.proofs.Common.{◌≡◌, [], ◌∷◌, inl, inr, ◌∙◌, Bool, false, sym, ap, subst, IsTrue, refl, arith}
 use Rattle.sqlite.specs.Tree.{Trees}
 use Rattle.sqlite.specs.Store.{Ghosts}
 use Rattle.sqlite.specs.Effect.{Database}
@@ -7,12 +7,12 @@ use Rattle.sqlite.specs.State.{State, Survives}
 use Rattle.sqlite.specs.Held.{Held, state}
 use Rattle.sqlite.proofs.StateLemmas.{clean_if_open}
 use Rattle.rd_tables.specs.Schemas.{marks_table}
-use Rattle.rd_protocol.specs.State.{Desk}
+use Rattle.rd_holdings.specs.State.{Desk}
 use Rattle.std.specs.FinMap.{get}
 use Rattle.rd_store.specs.Spelled.{desk_of, index_of}
 use Rattle.rd_store.proofs.FilesFound.{files_in, files_of}
 use Rattle.rd_store.specs.Opened.{HoldsMarksIf}
-use Rattle.rd_store.specs.Held.{Holds, IsAtRest, IsLeft, HoldsDesk, HoldsTables, HoldsCommonTables, Changes, Lasts, LeavesOnly, LeavesOpen, Stays, IsOpen, IsClean, desk}
+use Rattle.rd_store.specs.Held.{Holds, IsAtRest, IsLeft, HoldsDesk, HoldsTables, HoldsCommonTables, Lasts, LeavesOnly, Stays, IsOpen, IsClean, desk}
 
 pub record Laws {S : Type 0} (g : Ghosts S) : Type 0 where
   -- while the store is open, a crash leaves the last commit
@@ -100,30 +100,11 @@ module _ {S : Type 0} (g : Ghosts S) (old new : Held S) (stays : Stays g old new
     holds = subst (λ (db : Database). Holds (desk_of db.trees) db) (sym (stays.now is_open)) (held (stays.lasts.was_open is_open)).holds;
   }
 
-  desk_same : IsOpen g new → desk g new ≡ desk g old
+  pub desk_same : IsOpen g new → desk g new ≡ desk g old
   desk_same o = ap (λ (db : Database). desk_of db.trees) (stays.now o)
 
-  crash_same : Laws g → HoldsDesk (state g old) → IsOpen g old → IsClean g new → LeavesOnly g new (desk g old)
+  pub crash_same : Laws g → HoldsDesk (state g old) → IsOpen g old → IsClean g new → LeavesOnly g new (desk g old)
   crash_same laws held was clean left may = leaves_only g laws old held was left (stays.quiet was clean left may)
-
-  -- a call of queries alone, as one that may change the desk
-  pub stays_changes : {T X : Type 0} → Laws g → HoldsDesk (state g old) → (after : Desk) (r : Result T X) → (IsOpen g new → OnOk r (desk g old ≡ after)) → LeavesOpen g new r → Changes g old new after r
-  stays_changes {T} {X} laws holds after r same ends_open = record {
-    lasts = stays.lasts;
-    ok = λ o. ok r (same o) (desk_same o);
-    err = λ o. err r (desk_same o);
-    ends_open = ends_open;
-    crash = λ was clean left may. inl (crash_same laws holds was clean left may);
-    durable = λ o. leaves_only g laws new (stays_desk holds) o;
-  }
-    where
-      ok : (q : Result T X) → OnOk q (desk g old ≡ after) → desk g new ≡ desk g old → OnOk q (desk g new ≡ after)
-      ok (Ok value) h e = e ∙ h
-      ok (Err fault) h e = tt
-
-      err : (q : Result T X) → desk g new ≡ desk g old → OnErr q (desk g new ≡ desk g old)
-      err (Ok value) e = tt
-      err (Err fault) e = e
 
 -- no query at all
 pub stays_here : {S : Type 0} (g : Ghosts S) (h : Held S) → (IsOpen g h → (state g h).in_transaction ≡ false) → Stays g h h

@@ -5,7 +5,7 @@ pub mod Found
 pub mod FilesFound
 pub mod Indexing
 pub mod Single
-pub mod Changing
+pub mod ReadLemmas
 pub mod Inside
 pub mod Whole
 pub mod Making

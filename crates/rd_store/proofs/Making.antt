@@ -30,11 +30,11 @@ use Rattle.rd_tables.proofs.Running.{Makes}
 use Rattle.rd_tables.proofs.Setting.{Sets, is_index_tree, not_taken}
 use Rattle.rd_tables.proofs.StatementTexts.{put_deed_writes, set_deed_writes, put_image_writes, put_marks_writes, put_rule_writes, drop_rule_writes, put_key_writes, drop_key_writes, put_check_writes, drop_check_writes, put_file_writes}
 use Rattle.rd_tables.proofs.Statements.{deed_params, deed_row, has_number, puts_deed, sets_deed, image_params, image_row, puts_image, marks_params, marks_row, puts_marks, place_params, has_place, drops_rule, rule_row, puts_rule, digest_params, has_digest, drops_key, key_params, key_row, puts_key, checkup_params, has_checkup, drops_check, check_params, check_row, puts_check, file_row, puts_file}
-use Rattle.rd_protocol.specs.declared.rows.DeedRow.{DeedRow}
-use Rattle.rd_protocol.specs.declared.rows.ImageRow.{ImageRow}
-use Rattle.rd_protocol.specs.declared.rows.Outcome.{Outcome}
+use Rattle.rd_holdings.specs.declared.rows.DeedRow.{DeedRow}
+use Rattle.rd_holdings.specs.declared.rows.ImageRow.{ImageRow}
+use Rattle.rd_holdings.specs.declared.rows.Outcome.{Outcome}
 use Rattle.rd_store.specs.Codes.{kind_code, kind_in, audiences_code, audience_code, effect_code, outcome_code, how, number, word, class_code, units_code}
-use Rattle.rd_protocol.specs.State.{Desk, Place, Terms, Checkup, place_cmp, digest_cmp, checkup_cmp, with_deed, with_rule, without_rule, with_check, without_check, with_key, without_key, band_code}
+use Rattle.rd_holdings.specs.State.{Desk, Place, Terms, Checkup, place_cmp, digest_cmp, checkup_cmp, with_deed, with_rule, without_rule, with_check, without_check, with_key, without_key, band_code}
 use Rattle.rd_volume.specs.Volumes.{AreFounds}
 use Rattle.rd_volume.specs.declared.found.Found.{Found}
 use Rattle.rd_store.specs.Index.{FileAt, file_cmp, IsFiledTo, IsIndexOf, with_new_image}

@@ -2,7 +2,7 @@
 use Rattle.std.proofs.Common.{◌≡◌, ◌≢◌, ◌⊎◌, Some, Ordering}
 use Rattle.std.specs.FinMap.{FinMap, get, insert}
 use Rattle.rd_tables.proofs.Entries.{IsKeyOrder}
-use Rattle.rd_protocol.proofs.Lawful.{found_after as found_of, others_stay as others_of}
+use Rattle.rd_holdings.proofs.Lawful.{found_after as found_of, others_stay as others_of}
 
 module _ {K X : Type 0} (cmp : K → K → Ordering) (order : IsKeyOrder cmp) (m : FinMap cmp X) where
   pub found_after : (k : K) (v : X) (q : K) (x : X) → get (insert m k v) q ≡ Some x → ((q ≡ k) × (v ≡ x)) ⊎ (get m q ≡ Some x)

@@ -15,14 +15,14 @@ use Rattle.rd_policy.specs.declared.rule.Effect.TheVariants.{Deny, List as Liste
 use Rattle.rd_policy.specs.declared.select.Select.{Select}
 use Rattle.rd_policy.specs.declared.select.Select.TheVariants.{All, Slot, Prefix, User, Kind as OfKind}
 use Rattle.rd_tables.proofs.Entries.{IsKeyOrder}
-use Rattle.rd_protocol.specs.declared.rows.Outcome.{Outcome}
-use Rattle.rd_protocol.specs.declared.rows.Outcome.TheVariants.{Sound, Changed}
+use Rattle.rd_holdings.specs.declared.rows.Outcome.{Outcome}
+use Rattle.rd_holdings.specs.declared.rows.Outcome.TheVariants.{Sound, Changed}
 use Rattle.rd_store.specs.Codes.{kind_code, kind_in, band_in, effect_code, effect_in, audiences_code, audiences_in, audience_code, audience_in, outcome_code, outcome_in, how, number, word, select_in, day_in, number_in, units_code, units_in, class_code, class_in}
 use Rattle.rd_store.specs.Index.{FileAt, file_cmp}
-use Rattle.rd_protocol.specs.State.{Place, Terms, place_cmp, digest_cmp, checkup_cmp, band_code}
+use Rattle.rd_holdings.specs.State.{Place, Terms, place_cmp, digest_cmp, checkup_cmp, band_code}
 use Rattle.rd_volume.specs.declared.found.Found.{Found}
 use Rattle.rd_store.specs.Spelled.{key_sheet, rule_sheet, file_sheet, file_shown, file_in}
-use Rattle.rd_protocol.proofs.KeyOrders.{number_order as numbers, digest_order as digests, place_order as places, checkup_order as checkups}
+use Rattle.rd_holdings.proofs.KeyOrders.{number_order as numbers, digest_order as digests, place_order as places, checkup_order as checkups}
 
 -- the orders of the keys, as lemmas of tables take them
 pub number_order : IsKeyOrder nat_cmp

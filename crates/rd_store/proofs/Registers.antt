@@ -1,9 +1,7 @@
 -- What a register of images tells, and what becomes of it.
-use Rattle.std.proofs.Common.{◌≡◌, inl, inr, ℕ, zero, suc, ◌+◌, ◌<◌, ◌≤◌, pos, List, [], ◌∷◌, ◌&&◌, map, length, slice_index_or, Bool, true, false, T, Option, Some, None, IsSome, is_some, option_map, Result, Ok, Err, IfOk, IfErr, OnOk, OnErr, refl, sym, ap, ap₂, subst, ◌∙◌, arith, add-one, Ordering, nat_cmp, is_lt, Less, Equal, Greater, true≢false}
-use Rattle.std.specs.Prelude.{MatchBool}
+use Rattle.std.proofs.Common.{◌≡◌, inl, inr, ℕ, zero, suc, ◌+◌, ◌<◌, ◌≤◌, pos, List, [], ◌∷◌, ◌&&◌, map, length, slice_index_or, Bool, true, false, T, Option, Some, None, is_some, option_map, Result, Ok, Err, IfOk, refl, sym, ap, ap₂, subst, ◌∙◌, arith, add-one, Ordering, nat_cmp, is_lt, Less, Equal, Greater}
 use Rattle.std.specs.List.{insert as insert_at}
 use Rattle.std.specs.List.Sorted.{IsBinarySearchResult, IsNonDecreasingBy, IsSearchInRange}
-use Rattle.std.specs.Option.{unwrap_or}
 use Rattle.std.specs.Ordering.{ordering_index}
 use Rattle.std.specs.FinMap.{FinMap, entries, entries-insert, entries_sorted, from_entries, get, get-entries, get-from_entries, insert, keys, len-empty, len-entries}
 use Rattle.std.specs.FinMap.Entries.{below_all, find, is_sorted, put}
@@ -20,21 +18,19 @@ use Rattle.rd_tables.specs.Sheets.{map_of}
 use Rattle.rd_tables.proofs.Entries.{entry_got}
 use Rattle.rd_tables.proofs.Lists.{empty_by_length, map_map, same_truth}
 use Rattle.rd_store.specs.declared.faults.OpenFault.{OpenFault}
-use Rattle.rd_store.specs.declared.faults.StoreFault.{StoreFault}
-use Rattle.rd_store.specs.declared.faults.StoreFault.TheVariants.{Sql}
 use Rattle.rd_store.specs.declared.images.Heading.{Heading}
 use Rattle.rd_store.specs.declared.register.Register.{Register}
-use Rattle.rd_protocol.specs.declared.rows.ImageRow.{ImageRow}
+use Rattle.rd_holdings.specs.declared.rows.ImageRow.{ImageRow}
 use Rattle.rd_store.specs.Cells.{is_one_of}
 use Rattle.rd_store.specs.Created.{Turns}
-use Rattle.rd_store.specs.Held.{Changes, IsOf, IsOpen, Judges, Stays, desk}
+use Rattle.rd_store.specs.Held.{Changes, IsOf, IsOpen, Stays, desk}
 use Rattle.rd_store.specs.Marks.{joined, kind_with, with_marks}
 use Rattle.rd_store.specs.Migrated.{first_desk}
 use Rattle.rd_store.specs.Opened.{AreKeys}
-use Rattle.rd_store.specs.Register.{IsPlaceIn, IsRegisterOf, IsSameHeading, entry_for, entry_in, given_in, given_of, listed, number_of, register_of}
+use Rattle.rd_store.specs.Register.{IsPlaceIn, IsRegisterOf, IsSameHeading, entry_for, entry_in, given_in, listed, number_of, register_of}
 use Rattle.rd_store.specs.Shown.{as_row, heading_of}
 use Rattle.rd_store.specs.Spelled.{desk_of, image_sheet, marks_sheet}
-use Rattle.rd_protocol.specs.State.{Desk, HasOtherImage, put_or_kept, with_image, accession_of, registered}
+use Rattle.rd_holdings.specs.State.{Desk, HasOtherImage, put_or_kept, with_image, registered}
 use Rattle.rd_store.specs.Walked.{image_told}
 use Rattle.rd_store.proofs.Columns.{one_of_shown, one_of_spelled}
 use Rattle.rd_store.proofs.Found.{row_back}
@@ -151,24 +147,6 @@ no_images = from_entries []
 pub register_empty : [] ≡ register_of no_images
 register_empty = sym (ap (map entry_for) (empty_by_length (entries no_images) (sym (len-entries no_images) ∙ len-empty nat_cmp ImageRow)))
 
-pub given_told : (images : Images) (acc : ℕ) (found : Option Heading) → found ≡ option_map heading_of (get images acc) → option_map given_of found ≡ option_map accession_of (get images acc)
-given_told images acc found is = ap (option_map given_of) is ∙ both (get images acc)
-  where
-    both : (image : Option ImageRow) → option_map given_of (option_map heading_of image) ≡ option_map accession_of image
-    both None = refl
-    both (Some image) = refl
-
-pub stands_told : (images : Images) (acc : ℕ) (found : Option Heading) → found ≡ option_map heading_of (get images acc) → is_some found ≡ is_some (get images acc)
-stands_told images acc found is = ap (λ (o : Option Heading). is_some o) is ∙ both (get images acc)
-  where
-    both : (image : Option ImageRow) → is_some (option_map heading_of image) ≡ is_some image
-    both None = refl
-    both (Some image) = refl
-
-pub told_some : {T : Type 0} (b : Bool) (found : Option T) → b ≡ is_some found → MatchBool b (IsSome found) (¬ IsSome found)
-told_some true found is = sym is
-told_some false found is = λ some. true≢false (sym some ∙ sym is)
-
 pub numbers_told : (images : Images) → map number_of (register_of images) ≡ keys images
 numbers_told images = map_map number_of entry_for (entries images)
 
@@ -183,50 +161,14 @@ deed_found images acc heading is = go (get images acc) refl is
     go None at was = absurd cc
     go (Some image) at was = (image, at, cc)
 
-pub none_there : (images : Images) (acc : ℕ) → None ≡ option_map heading_of (get images acc) → get images acc ≡ None
-none_there images acc is = go (get images acc) refl is
-  where
-    go : (found : Option ImageRow) → get images acc ≡ found → None ≡ option_map heading_of found → get images acc ≡ None
-    go None at was = at
-    go (Some image) at was = absurd cc
-
 -- ---- one image that stands, and one that is put
 
 module _ (d : Desk) (acc : ℕ) (image : ImageRow) (standing : Heading) (found : Some standing ≡ option_map heading_of (get d.images acc)) where
-  -- it is kept
-  pub kept_there : d ≡ with_image acc image d
-  kept_there = let it = deed_found d.images acc standing found in sym (ap (λ (there : Option ImageRow). put_or_kept there acc image d) it.1)
-
-  -- it is the same
-  pub no_other : IsSameHeading standing (heading_of image) → ¬ HasOtherImage d acc image
-  no_other same other =
-      let it = deed_found d.images acc standing found in
-      let those : Some it.0 ≡ Some other.0 = sym it.1 ∙ other.1 in
-      let one : standing ≡ heading_of other.0 = it.2 ∙ ap (λ (o : Option ImageRow). heading_of (unwrap_or o it.0)) those in
-      other.2 (subst (λ (h : Heading). IsSameHeading h (heading_of image)) one same)
-
   -- it is another
   pub another : ¬ IsSameHeading standing (heading_of image) → HasOtherImage d acc image
   another apart = let it = deed_found d.images acc standing found in (it.0, it.1, subst (λ (h : Heading). ¬ IsSameHeading h (heading_of image)) it.2 apart)
 
--- where none stands, no other does
-pub none_other : (d : Desk) (acc : ℕ) (image : ImageRow) → get d.images acc ≡ None → ¬ HasOtherImage d acc image
-none_other d acc image free other = let wrong : None ≡ Some other.0 = sym free ∙ other.1 in cc
-
 -- ---- what calls leave of it
-
-module _ {S : Type 0} (g : Ghosts S) (old new : Held S) (register : Register) where
-  -- queries
-  pub listed_stays : Stays g old new → IsRegisterOf g old register → IsRegisterOf g new register
-  listed_stays stays was o = was (stays.lasts.was_open o) ∙ ap (λ (db : Database). register_of (desk_of db.trees).images) (sym (stays.now o))
-
-  -- a change that leaves the images as they were
-  pub listed_changes : {T X : Type 0} (after : Desk) (r : Result T X) → Changes g old new after r → after.images ≡ (desk g old).images → IsRegisterOf g old register → IsRegisterOf g new register
-  listed_changes {T} {X} after r changes same was o = was (changes.lasts.was_open o) ∙ ap register_of (sym (images r (changes.ok o) (changes.err o)))
-    where
-      images : (q : Result T X) → OnOk q (desk g new ≡ after) → OnErr q (desk g new ≡ desk g old) → (desk g new).images ≡ (desk g old).images
-      images (Ok value) ok err = ap (λ (d : Desk). d.images) ok ∙ same
-      images (Err fault) ok err = ap (λ (d : Desk). d.images) err
 
 -- an image that was put
 module _ {S : Type 0} (g : Ghosts S) (old new : Held S) (before after : Register) (acc : ℕ) (image : ImageRow) (free : IsOpen g old → get (desk g old).images acc ≡ None) (was : IsRegisterOf g old before) where
@@ -235,17 +177,6 @@ module _ {S : Type 0} (g : Ghosts S) (old new : Held S) (before after : Register
       let at = changes.lasts.was_open o in
       let there : with_image acc image (desk g old) ≡ put_or_kept None acc image (desk g old) = ap (λ (found : Option ImageRow). put_or_kept found acc image (desk g old)) (free at) in
       put_in at ∙ ap (λ (d : Desk). register_of d.images) (sym (changes.ok o ∙ there))
-
-  pub listed_not_put : {T X : Type 0} (e : X) → Changes {T = T} g old new (with_image acc image (desk g old)) (Err e) → listed after ≡ listed before → IsRegisterOf g new after
-  listed_not_put e changes same o = same ∙ was (changes.lasts.was_open o) ∙ ap (λ (d : Desk). register_of d.images) (sym (changes.err o))
-
--- what is told of a put where none stands: it is done, or the database failed
-module _ {S : Type 0} (g : Ghosts S) (a b c : Held S) (stays : Stays g a b) (acc : ℕ) (image : ImageRow) where
-  pub added_judges : {T : Type 0} (r : Result T StoreFault) → Changes g b c (with_image acc image (desk g b)) r → IfErr r (λ fault. fault ≡ Sql) → (IsOpen g b → IsSome (get (desk g a).deeds image.deed)) → (IsOpen g b → get (desk g a).images acc ≡ None)
-      → Judges g c r (IsSome (get (desk g a).deeds image.deed)) (HasOtherImage (desk g a) acc image)
-  added_judges (Ok value) changes fault deed free =
-      record { told = λ o. let was = changes.lasts.was_open o in (deed was, none_other (desk g a) acc image (free was)); ends_open = changes.ends_open }
-  added_judges {T} (Err fault) changes is deed free = subst (λ e. Judges {T = T} g c (Err e) (IsSome (get (desk g a).deeds image.deed)) (HasOtherImage (desk g a) acc image)) (sym is) (record { told = λ o. tt; ends_open = λ clean. tt })
 
 -- what is told of a register, wherever the connection is open
 pub each_ok : {T X : Type 0} (r : Result T X) (O : Type 0) (P Q : T → Type 0) → (O → IfOk r P) → ((value : T) → O → P value → Q value) → IfOk r (λ value. O → Q value)

@@ -1,6 +1,5 @@
 -- One test of tables after another.
-use Rattle.std.proofs.Common.{◌≡◌, inl, inr, ℕ, pos, List, [], ◌++◌, length, length-append, true, false, Option, Some, None, IsSome, option_map, Result, Ok, Err, refl, sym, ap, subst, ◌∙◌, arith, nat_cmp, true≢false}
-use Rattle.std.specs.Prelude.{IsErrAnd}
+use Rattle.std.proofs.Common.{◌≡◌, inl, inr, ℕ, pos, List, [], ◌++◌, length, length-append, true, false, Option, Some, None, IsSome, option_map, refl, sym, ap, subst, ◌∙◌, arith, nat_cmp, true≢false}
 use Rattle.std.specs.List.{IsDistinct}
 use Rattle.std.specs.Option.{unwrap_or}
 use Rattle.std.specs.FinMap.{FinMap, get, get-from_entries}
@@ -16,12 +15,12 @@ use Rattle.rd_policy.specs.declared.rule.Band.{Band}
 use Rattle.rd_policy.specs.declared.rule.Band.TheVariants.{Takedown, Deed}
 use Rattle.rd_store.specs.declared.faults.OpenFault.{OpenFault}
 use Rattle.rd_store.specs.declared.faults.OpenFault.TheVariants.{NotADesk, Version, Inconsistent, Sql}
-use Rattle.rd_protocol.specs.declared.rows.ImageRow.{ImageRow}
-use Rattle.rd_protocol.specs.State.{Stands}
+use Rattle.rd_holdings.specs.declared.rows.ImageRow.{ImageRow}
+use Rattle.rd_holdings.specs.State.{Stands}
 use Rattle.rd_store.specs.Index.{IsFileIn, IsIndexOf}
-use Rattle.rd_protocol.specs.Lawful.{IsImage}
+use Rattle.rd_holdings.specs.Lawful.{IsImage}
 use Rattle.rd_store.specs.Marks.{AreMarksIn, joined, with_marks}
-use Rattle.rd_store.specs.Opened.{IsConsistent, IsConsistentAs, Denied, HasDisk, Judged, JudgedPart, AreKeys, AreNumbers, StandsAmong, StandsIn, IsImageOf, LawfulCommon, LawfulDeeds, LawfulFiles, LawfulImages, LawfulGiven, LawfulMarks, LawfulOthers, image_among, is_among, marks_if}
+use Rattle.rd_store.specs.Opened.{IsConsistent, IsConsistentAs, Denied, HasDisk, AreKeys, AreNumbers, StandsAmong, StandsIn, IsImageOf, LawfulCommon, LawfulDeeds, LawfulFiles, LawfulImages, LawfulGiven, LawfulMarks, LawfulOthers, image_among, is_among, marks_if}
 use Rattle.rd_store.specs.Spelled.{HasVersion, desk_of, images_of, index_of, unmarked, deed_sheet, image_sheet, marks_sheet, file_sheet}
 use Rattle.rd_store.proofs.Columns.{one_of_spelled, one_of_shown}
 use Rattle.rd_store.proofs.FilesTold.{joined_stands, stands_joined}
@@ -34,19 +33,6 @@ denied_part P Q NotADesk part denied = denied
 denied_part P Q Version part denied = denied
 denied_part P Q Inconsistent part denied = λ q. denied (part q)
 denied_part P Q Sql part denied = tt
-
--- a refusal that is passed on
-pub part_err : {T : Type 0} (Part Q : Type 0) (result : Result T OpenFault) (fault : OpenFault) → IsErrAnd result (λ other. other ≡ fault) → Denied Q fault → JudgedPart Part Q result
-part_err Part Q (Ok value) fault is denied = absurd is
-part_err Part Q (Err other) fault is denied = subst (Denied Q) (sym is) denied
-
-pub judged_err : {T : Type 0} (Q : Type 0) (result : Result T OpenFault) (fault : OpenFault) → IsErrAnd result (λ other. other ≡ fault) → Denied Q fault → Judged Q result
-judged_err Q = part_err Q Q
-
--- tests that say the same where one holds
-pub judged_same : {T : Type 0} {Part : Type 0} (P Q : Type 0) (result : Result T OpenFault) → (Part → Q) → (Q → P) → JudgedPart Part P result → Judged Q result
-judged_same P Q (Ok value) to from judged = to judged
-judged_same P Q (Err fault) to from judged = denied_part P Q fault from judged
 
 lawful_as : {K X : Type 0} (sheet : Sheet K X) (P Q : K × X → Type 0) (rows : List Row) → ((e : K × X) → P e → Q e) → SpellLawful sheet P rows → SpellLawful sheet Q rows
 lawful_as sheet P Q rows weaker all = record { spells = all.spells; lawful = λ key value is. weaker (key, value) (all.lawful key value is) }

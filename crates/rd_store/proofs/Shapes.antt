@@ -17,30 +17,22 @@ use Rattle.rd_policy.specs.declared.rule.Effect.{Effect}
 use Rattle.rd_policy.specs.declared.rule.Effect.TheVariants.{Deny, List as Listed, Read}
 use Rattle.rd_policy.specs.declared.select.Select.{Select}
 use Rattle.rd_policy.specs.declared.select.Select.TheVariants.{All as AllFiles, Slot, Prefix, User, Kind as OfKind}
-use Rattle.rd_protocol.specs.declared.rows.Outcome.{Outcome}
-use Rattle.rd_protocol.specs.declared.rows.Outcome.TheVariants.{Sound, Changed}
+use Rattle.rd_holdings.specs.declared.rows.Outcome.{Outcome}
+use Rattle.rd_holdings.specs.declared.rows.Outcome.TheVariants.{Sound, Changed}
 use Rattle.rd_tables.specs.Sheets.{entry_of, IsSpelled, natural}
 use Rattle.rd_tables.proofs.Lists.{both}
 use Rattle.rd_store.specs.Codes.{kind_code, kind_in, band_in, effect_code, effect_in, audiences_code, audiences_in, audience_code, audience_in, outcome_code, outcome_in, how, number, word, select_in}
 use Rattle.rd_store.specs.Spelled.{deed_sheet, image_sheet, marks_sheet, rule_sheet, key_sheet, check_sheet}
-use Rattle.rd_protocol.specs.Lawful.{IsDeed, IsKey}
+use Rattle.rd_holdings.specs.Lawful.{IsDeed, IsKey}
 use Rattle.rd_store.specs.Opened.{AreMarksOf, IsImageOf, IsRuleOf, IsCheckOf, StandsAmong}
 use Rattle.rd_store.specs.Cells.{is_number, is_one_of, is_size_of, blob_name, is_band, HasParts, IsDeedRow, IsImageRow, IsMarksRow, IsSelectAt, IsRuleRow, IsKeyRow, IsCheckRow}
 use Rattle.rd_store.specs.Walked.{image_read}
 use Rattle.rd_store.proofs.Columns.{number_spelled, number_shown, one_of_spelled, one_of_shown, day_spelled, day_shown, some_day_spelled, some_day_shown, digest_spelled, digest_shown, donor_spelled, word_spelled}
-use Rattle.rd_protocol.specs.State.{band_code}
+use Rattle.rd_holdings.specs.State.{band_code}
 
 either : (a b : Bool) → (a || b) ≡ true → (a ≡ true) ⊎ (b ≡ true)
 either true b is = inl refl
 either false b is = inr is
-
-first_of : (a b : Bool) → a ≡ true → (a || b) ≡ true
-first_of true b is = refl
-first_of false b is = absurd (true≢false (sym is))
-
-second_of : (a b : Bool) → b ≡ true → (a || b) ≡ true
-second_of true b is = refl
-second_of false b is = is
 
 all_of : (a b c : Bool) → (a && b && c) ≡ true → (a ≡ true) × (b ≡ true) × (c ≡ true)
 all_of true true c is = (refl, refl, is)

@@ -1,5 +1,5 @@
 -- A call that is one statement outside a transaction, from what the statement makes of a desk.
-use Rattle.std.proofs.Common.{◌≡◌, inl, inr, ℕ, List, false, Result, Ok, Err, is_ok, true≢false, OnOk, OnErr, IsErr, sym, ap, subst, ◌∙◌, IsTrue}
+use Rattle.std.proofs.Common.{◌≡◌, inl, inr, ℕ, List, false, Result, Ok, Err, is_ok, true≢false, OnOk, OnErr, sym, ap, subst, ◌∙◌, IsTrue}
 use Rattle.sqlite.specs.Order.{Row}
 use Rattle.sqlite.specs.Store.{Ghosts}
 use Rattle.sqlite.specs.Command.{Command}
@@ -9,8 +9,8 @@ use Rattle.sqlite.specs.State.{State, Executes, Survives, CommitsBy}
 use Rattle.sqlite.specs.Held.{Held, state}
 use Rattle.rd_tables.specs.Schemas.{desk_schema}
 use Rattle.rd_tables.proofs.Running.{IsWrite, Makes, write_fails, was_open, done_was_open, ran, committed}
-use Rattle.rd_protocol.specs.State.{Desk}
-use Rattle.rd_protocol.specs.Lawful.{IsLawful}
+use Rattle.rd_holdings.specs.State.{Desk}
+use Rattle.rd_holdings.specs.Lawful.{IsLawful}
 use Rattle.rd_store.specs.Spelled.{desk_of}
 use Rattle.rd_store.specs.Held.{IsOf, Holds, IsDeskAt, HoldsDesk, Changes, IsOpen, IsClean, desk}
 use Rattle.rd_store.proofs.Laws.{Laws, clean_at, lasts_of, leaves_only, left_is}
@@ -101,7 +101,3 @@ told g old new after (Ok a) (Ok b) e h = record { lasts = h.lasts; ends_open = h
 told g old new after (Err a) (Err b) e h = record { lasts = h.lasts; ends_open = h.ends_open; ok = h.ok; err = h.err; crash = h.crash; durable = h.durable }
 told g old new after (Ok a) (Err b) e h = absurd (true≢false e)
 told g old new after (Err a) (Ok b) e h = absurd (true≢false (sym e))
-
-pub told_err : {S T U X Y : Type 0} (g : Ghosts S) (old new : Held S) (after : Desk) (e : X) (q : Result U Y) → IsErr q → Changes {T = T} g old new after (Err e) → Changes g old new after q
-told_err g old new after e (Err b) is h = record { lasts = h.lasts; ends_open = h.ends_open; ok = h.ok; err = h.err; crash = h.crash; durable = h.durable }
-told_err g old new after e (Ok b) is h = absurd (true≢false (sym is))

@@ -30,10 +30,10 @@ use Rattle.rd_tables.proofs.Listed.{to_permuted, show, all_shown, each_shown, sh
 use Rattle.rd_tables.proofs.Unique.{same_int, same_blob, agree_one, agree_two, agree_three, one_rule, one_key, one_check}
 use Rattle.rd_store.specs.Cells.{is_number, IsDeedRow, IsImageRow, IsRuleRow, IsKeyRow, IsCheckRow, IsMarksRow, IsStaffRow}
 use Rattle.rd_store.specs.Codes.{audience_code, audience_in}
-use Rattle.rd_protocol.specs.Lawful.{IsDeed, IsKey}
+use Rattle.rd_holdings.specs.Lawful.{IsDeed, IsKey}
 use Rattle.rd_store.specs.Opened.{AreKeys, AreMarksOf, IsImageOf, IsRuleOf, IsCheckOf}
 use Rattle.rd_store.specs.Spelled.{HasVersion, deed_sheet, image_sheet, marks_sheet, rule_sheet, key_sheet, check_sheet}
-use Rattle.rd_protocol.specs.State.{Place, Checkup, band_code}
+use Rattle.rd_holdings.specs.State.{Place, Checkup, band_code}
 use Rattle.rd_store.proofs.Found.{any_has}
 use Rattle.rd_store.proofs.Columns.{number_spelled}
 use Rattle.rd_store.proofs.Orders.{number_order, place_order, digest_order, checkup_order}
@@ -80,9 +80,6 @@ module _ {K X : Type 0} (sheet : Sheet K X) (order : IsKeyOrder sheet.cmp) (P : 
   pub told : (b : Bool) → MatchBool b (All Q rows) (¬ All Q rows) → MatchBool b (SpellLawful sheet P table) (¬ SpellLawful sheet P table)
   told true all = told_lawful all
   told false some = λ lawful. some (lawful_told lawful)
-
-  some_is : (o : Option X) (x : X) → o ≡ Some x → IsSome o
-  some_is o x is = subst IsSome (sym is) refl
 
   some_got : (o : Option X) → IsSome o → (x : X) × (o ≡ Some x)
   some_got None some = absurd cc

@@ -29,7 +29,7 @@ use Rattle.rd_tables.proofs.Walking.{all_walked, comes_from, each_next, none_nex
 use Rattle.rd_store.specs.declared.faults.OpenFault.{OpenFault}
 use Rattle.rd_store.specs.declared.faults.OpenFault.TheVariants.{Sql}
 use Rattle.rd_store.specs.declared.images.Heading.{Heading}
-use Rattle.rd_protocol.specs.declared.rows.ImageRow.{ImageRow}
+use Rattle.rd_holdings.specs.declared.rows.ImageRow.{ImageRow}
 use Rattle.rd_store.specs.Cells.{HasErrorBytes, IsImageRow, IsMarksRow, is_number, is_one_of}
 use Rattle.rd_policy.specs.Rules.{IsScope}
 use Rattle.rd_store.specs.Held.{IsClean, IsOpen, Stays}

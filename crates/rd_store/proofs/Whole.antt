@@ -3,8 +3,8 @@ use Rattle.std.proofs.Common.{◌≡◌, inl, inr, Result, Ok, Err, OnOk, OnErr,
 use Rattle.sqlite.specs.Store.{Ghosts}
 use Rattle.sqlite.specs.Effect.{Database}
 use Rattle.sqlite.specs.Held.{Held, state}
-use Rattle.rd_protocol.specs.State.{Desk}
-use Rattle.rd_protocol.specs.Lawful.{IsLawful}
+use Rattle.rd_holdings.specs.State.{Desk}
+use Rattle.rd_holdings.specs.Lawful.{IsLawful}
 use Rattle.rd_store.specs.Spelled.{desk_of}
 use Rattle.rd_store.specs.Held.{IsOf, IsDeskAt, HoldsDesk, Changes, IsOpen, desk}
 use Rattle.rd_store.proofs.Laws.{Laws, leaves_only, left_is}

@@ -7,8 +7,8 @@ use Rattle.sqlite.specs.Order.{Row}
 use Rattle.rd_volume.specs.Volumes.{AreFounds}
 use Rattle.rd_volume.specs.declared.found.Found.{Found}
 use Rattle.rd_store.specs.declared.images.Heading.{Heading}
-use Rattle.rd_protocol.specs.declared.rows.ImageRow.{ImageRow}
-use Rattle.rd_protocol.specs.declared.rows.Indexed.{Indexed}
+use Rattle.rd_holdings.specs.declared.rows.ImageRow.{ImageRow}
+use Rattle.rd_holdings.specs.declared.rows.Indexed.{Indexed}
 use Rattle.rd_store.specs.Index.{FileAt, file_cmp}
 use Rattle.rd_store.specs.Spelled.{file_shown}
 

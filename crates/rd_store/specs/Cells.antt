@@ -9,7 +9,7 @@ use Rattle.rd_policy.specs.Rules.{IsPlainText}
 use Rattle.sqlite.specs.Values.{or_null}
 use Rattle.rd_volume.specs.declared.found.Found.{Found}
 use Rattle.rd_store.specs.Codes.{class_code, units_code}
-use Rattle.rd_protocol.specs.Lawful.{IsDonor}
+use Rattle.rd_holdings.specs.Lawful.{IsDonor}
 
 -- ---- one column
 

@@ -14,8 +14,8 @@ use Rattle.rd_policy.specs.declared.rule.Effect.{Effect}
 use Rattle.rd_policy.specs.declared.rule.Effect.TheVariants.{Deny, List as Listed, Read}
 use Rattle.rd_policy.specs.declared.select.Select.{Select}
 use Rattle.rd_policy.specs.declared.select.Select.TheVariants.{All, Slot, Prefix, User, Kind as OfKind}
-use Rattle.rd_protocol.specs.declared.rows.Outcome.{Outcome}
-use Rattle.rd_protocol.specs.declared.rows.Outcome.TheVariants.{Sound, Changed}
+use Rattle.rd_holdings.specs.declared.rows.Outcome.{Outcome}
+use Rattle.rd_holdings.specs.declared.rows.Outcome.TheVariants.{Sound, Changed}
 
 -- a D64 with error bytes has the number of one without: they stand in a table of their own
 abbrev pub kind_code : Kind → ℕ
@@ -28,7 +28,7 @@ abbrev pub kind_in : ℕ → Kind
 kind_in zero = Cpm8
 kind_in (suc code) = D64
 
--- the band that a number stands for; the number of a band is `band_code` of State in rd_protocol
+-- the band that a number stands for; the number of a band is `band_code` of State in rd_holdings
 abbrev pub band_in : ℕ → Band
 band_in zero = Takedown
 band_in (suc code) = Deed

@@ -12,7 +12,7 @@ use Rattle.rd_tables.specs.Schemas.{IsBlank, has_desk}
 use Rattle.rd_tables.specs.Statements.{schema_after}
 use Rattle.rd_store.specs.declared.faults.CreateFault.{CreateFault}
 use Rattle.rd_store.specs.declared.faults.CreateFault.TheVariants.{Exists, Sql}
-use Rattle.rd_protocol.specs.State.{Desk, with_key}
+use Rattle.rd_holdings.specs.State.{Desk, with_key}
 use Rattle.rd_store.specs.Held.{IsOpen, IsClean, IsLeft, Lasts, LeavesOnly, LeavesOpen, desk as desk_at}
 
 -- nothing at all

@@ -15,8 +15,8 @@ use Rattle.rd_volume.specs.declared.found.Found.{Found}
 use Rattle.rd_tables.specs.Schemas.{desk_schema, desk_with}
 use Rattle.rd_store.specs.declared.faults.StoreFault.{StoreFault}
 use Rattle.rd_store.specs.declared.faults.StoreFault.TheVariants.{Sql, Missing, Conflict}
-use Rattle.rd_protocol.specs.State.{Desk}
-use Rattle.rd_protocol.specs.Lawful.{IsLawful}
+use Rattle.rd_holdings.specs.State.{Desk}
+use Rattle.rd_holdings.specs.Lawful.{IsLawful}
 use Rattle.rd_store.specs.Index.{AreFilesIn, IsIndexOf, file_cmp}
 use Rattle.rd_store.specs.Spelled.{SpellDesk, HaveOwnRowids, desk_of, index_of}
 

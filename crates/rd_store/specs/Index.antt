@@ -5,8 +5,8 @@ use Rattle.std.specs.Ordering.{nat_cmp, on, then_cmp}
 use Rattle.std.specs.FinMap.{FinMap, get, insert}
 use Rattle.rd_volume.specs.Volumes.{AreFounds, IsFoundAt}
 use Rattle.rd_volume.specs.declared.found.Found.{Found}
-use Rattle.rd_protocol.specs.declared.rows.ImageRow.{ImageRow}
-use Rattle.rd_protocol.specs.State.{Desk}
+use Rattle.rd_holdings.specs.declared.rows.ImageRow.{ImageRow}
+use Rattle.rd_holdings.specs.State.{Desk}
 
 -- Where a file is: its accession and its slot.
 pub record FileAt : Type 0 where

@@ -4,7 +4,7 @@ use Rattle.std.specs.Ordering.{nat_cmp}
 use Rattle.std.specs.FinMap.{FinMap, get}
 use Rattle.sqlite.specs.Store.{Ghosts}
 use Rattle.sqlite.specs.Held.{Held}
-use Rattle.rd_protocol.specs.declared.rows.ImageRow.{ImageRow}
+use Rattle.rd_holdings.specs.declared.rows.ImageRow.{ImageRow}
 use Rattle.rd_store.specs.declared.last.KeptImage.{KeptImage}
 use Rattle.rd_store.specs.declared.last.KeptImage.TheVariants.{Unasked, AskedFor, Kept}
 use Rattle.rd_store.specs.Held.{IsOpen, desk}

@@ -4,9 +4,9 @@ use Rattle.sqlite.specs.declared.types.Value.TheVariants.{Int}
 use Rattle.sqlite.specs.Order.{Row, column}
 use Rattle.sqlite_rules.specs.Edit.{id_in}
 use Rattle.rd_tables.specs.Sheets.{natural}
-use Rattle.rd_protocol.specs.State.{Checkup}
-use Rattle.rd_protocol.specs.declared.response.Finding.{Finding}
-use Rattle.rd_protocol.specs.declared.rows.Outcome.{Outcome}
+use Rattle.rd_holdings.specs.State.{Checkup}
+use Rattle.rd_holdings.specs.declared.rows.Finding.{Finding}
+use Rattle.rd_holdings.specs.declared.rows.Outcome.{Outcome}
 use Rattle.rd_store.specs.Codes.{outcome_code, outcome_in}
 
 -- a check of the accession

@@ -8,9 +8,10 @@ pub mod Created
 pub mod Opened
 pub mod Migrated
 pub mod Batched
-pub use Rattle.rd_protocol.specs.State
-pub use Rattle.rd_protocol.specs.Lawful
-pub use Rattle.rd_protocol.specs.RulesFor
+pub use Rattle.rd_holdings.specs.State
+pub use Rattle.rd_holdings.specs.Lawful
+pub use Rattle.rd_holdings.specs.RulesFor
+pub use Rattle.rd_holdings.specs.Findings
 -- ---- inside: what only private functions and proofs cite
 -- Only private functions and proofs cite what follows a line `inside` in a file.
 -- An invariant of a type is proved of each value, and no caller has to believe it: so `Ruled` is here, which that of

@@ -7,7 +7,7 @@ use Rattle.std.specs.FinMap.{FinMap, entries, from_sorted, get}
 use Rattle.rd_geometry.specs.Blocks.{CBM_BLOCKS}
 use Rattle.rd_geometry.specs.declared.kind.Kind.{Kind}
 use Rattle.rd_geometry.specs.declared.kind.Kind.TheVariants.{D64, D64e}
-use Rattle.rd_protocol.specs.declared.rows.ImageRow.{ImageRow}
+use Rattle.rd_holdings.specs.declared.rows.ImageRow.{ImageRow}
 
 -- the map that has, at each key, what f makes of the key and of the value there
 unfoldable pub map_values : {K X Y : Type 0} {cmp : K → K → Ordering} → (K → X → Y) → FinMap cmp X → FinMap cmp Y

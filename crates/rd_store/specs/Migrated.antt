@@ -11,8 +11,8 @@ use Rattle.rd_store.specs.declared.faults.OpenFault.TheVariants.{NotADesk, Versi
 use Rattle.rd_store.specs.declared.version.Version.{Version}
 use Rattle.rd_store.specs.declared.version.Version.TheVariants.{First, Second}
 use Rattle.rd_store.specs.declared.register.Register.{Register}
-use Rattle.rd_protocol.specs.State.{Desk}
-use Rattle.rd_protocol.specs.Lawful.{IsLawful}
+use Rattle.rd_holdings.specs.State.{Desk}
+use Rattle.rd_holdings.specs.Lawful.{IsLawful}
 use Rattle.rd_store.specs.Index.{IsIndexOf}
 use Rattle.rd_store.specs.Spelled.{SpellDesk, HasVersion, HaveOwnRowids, desk_of, index_of, unmarked}
 use Rattle.rd_store.specs.Register.{listed, register_of}

@@ -33,10 +33,10 @@ use Rattle.rd_store.specs.declared.opening.Listing.{Listing}
 use Rattle.rd_store.specs.declared.opening.Listing.TheVariants as all
 use Rattle.rd_store.specs.declared.version.Version.{Version}
 use Rattle.rd_store.specs.declared.version.Version.TheVariants.{First, Second}
-use Rattle.rd_protocol.specs.declared.rows.ImageRow.{ImageRow}
-use Rattle.rd_protocol.specs.declared.rows.Outcome.{Outcome}
-use Rattle.rd_protocol.specs.State.{Place, Terms, Checkup, rule_of}
-use Rattle.rd_protocol.specs.Lawful.{IsDeed, IsImage, IsKey, IsLawful}
+use Rattle.rd_holdings.specs.declared.rows.ImageRow.{ImageRow}
+use Rattle.rd_holdings.specs.declared.rows.Outcome.{Outcome}
+use Rattle.rd_holdings.specs.State.{Place, Terms, Checkup, rule_of}
+use Rattle.rd_holdings.specs.Lawful.{IsDeed, IsImage, IsKey, IsLawful}
 use Rattle.rd_store.specs.Cells.{is_one_of}
 use Rattle.rd_store.specs.Index.{AreFilesIn, IsFileIn, IsIndexOf}
 use Rattle.rd_store.specs.Marks.{with_marks}

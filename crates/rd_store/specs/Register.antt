@@ -11,8 +11,8 @@ use Rattle.sqlite_value.specs.Order.{bytes}
 use Rattle.rd_tables.specs.Sheets.{natural}
 use Rattle.rd_store.specs.declared.images.Heading.{Heading}
 use Rattle.rd_store.specs.declared.register.Register.{Register}
-use Rattle.rd_protocol.specs.declared.rows.Accession.{Accession}
-use Rattle.rd_protocol.specs.declared.rows.ImageRow.{ImageRow}
+use Rattle.rd_holdings.specs.declared.rows.Accession.{Accession}
+use Rattle.rd_holdings.specs.declared.rows.ImageRow.{ImageRow}
 use Rattle.rd_store.specs.Cells.{is_one_of}
 use Rattle.rd_store.specs.Codes.{kind_in}
 use Rattle.rd_store.specs.Marks.{kind_with}

@@ -4,7 +4,7 @@ use Rattle.std.specs.declared.cmp.Ordering.{Ordering}
 use Rattle.std.specs.Ordering.{is_le, is_lt, nat_cmp, ordering_then}
 use Rattle.rd_policy.specs.declared.rule.Band.{Band}
 use Rattle.rd_policy.specs.declared.rule.Rule.{Rule}
-use Rattle.rd_protocol.specs.State.{Desk, all_rules, band_code}
+use Rattle.rd_holdings.specs.State.{Desk, all_rules, band_code}
 
 -- these are all rules of some desk, so they ascend by place
 abbrev pub AreAllRules : List Rule → Type 0

@@ -11,13 +11,13 @@ use Rattle.sqlite_rules.specs.Edit.{id_in}
 use Rattle.rd_policy.specs.declared.audience.Audience.{Audience}
 use Rattle.rd_volume.specs.declared.found.Found.{Found}
 use Rattle.rd_tables.specs.Sheets.{Sheet, Spells, SpellLawful, HaveRowids, map_of, natural}
-use Rattle.rd_protocol.specs.declared.rows.DeedRow.{DeedRow}
-use Rattle.rd_protocol.specs.declared.rows.ImageRow.{ImageRow}
-use Rattle.rd_protocol.specs.declared.rows.Outcome.{Outcome}
+use Rattle.rd_holdings.specs.declared.rows.DeedRow.{DeedRow}
+use Rattle.rd_holdings.specs.declared.rows.ImageRow.{ImageRow}
+use Rattle.rd_holdings.specs.declared.rows.Outcome.{Outcome}
 use Rattle.rd_store.specs.Codes.{kind_code, kind_in, band_in, effect_code, effect_in, audiences_code, audiences_in, audience_code, audience_in, outcome_code, outcome_in, how, number, word, select_in, day_in, number_in, units_code, units_in, class_code, class_in}
 use Rattle.rd_store.specs.Index.{FileAt, file_cmp}
 use Rattle.rd_store.specs.Marks.{AreMarksIn, joined}
-use Rattle.rd_protocol.specs.State.{Desk, Place, Terms, Checkup, place_cmp, digest_cmp, checkup_cmp, band_code}
+use Rattle.rd_holdings.specs.State.{Desk, Place, Terms, Checkup, place_cmp, digest_cmp, checkup_cmp, band_code}
 
 -- deeds by number: the donor, and the day on which they were signed
 abbrev pub deed_sheet : Sheet ℕ DeedRow

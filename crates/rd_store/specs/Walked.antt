@@ -12,7 +12,7 @@ use Rattle.rd_tables.specs.Queries.{all_images_query, later_images_query}
 use Rattle.rd_tables.specs.Sheets.{Spells, map_of, natural}
 use Rattle.rd_tables.specs.Walks.{AreNext, IsWalked, is_after}
 use Rattle.rd_store.specs.declared.images.Heading.{Heading}
-use Rattle.rd_protocol.specs.declared.rows.ImageRow.{ImageRow}
+use Rattle.rd_holdings.specs.declared.rows.ImageRow.{ImageRow}
 use Rattle.rd_store.specs.Cells.{IsImageRow}
 use Rattle.rd_store.specs.Codes.{kind_code}
 use Rattle.rd_store.specs.Opened.{AreKeys, HasDiskIf, HasFiles, HaveAccessions, IsFiledAt, LawfulCommon, LawfulGiven, LawfulImages, image_if, is_among}

@@ -10,18 +10,17 @@ ghost use Rattle.sqlite.specs.Order.{column};
 ghost use Rattle.rd_volume.specs.declared.found.Found.{Found as FoundFile};
 ghost use Rattle.rd_store.specs.declared.images.Heading.{Heading as Entry};
 ghost use Rattle.rd_store.specs.Batched.{IsIndexed, IsIndexedBy, filed_shown, files_at, is_from_to, is_number_below, is_number_up_to};
-ghost use Rattle.rd_store.specs.Held.{Asks, HoldsDesk, desk};
+ghost use Rattle.rd_store.specs.Held.{Asks, HoldsDesk, desk, Reads};
 ghost use Rattle.rd_store.specs.Index.{FileAt, file_cmp};
-ghost use Rattle.rd_store.specs.Register.{IsRegisterOf};
 ghost use Rattle.rd_store.specs.Spelled.{index_of};
 
 use crate::faults::StoreFault;
 use crate::files::read_files;
 use crate::images::Heading;
 use crate::read::read_all;
-use crate::register::Register;
+use crate::store::Store;
 use rd_geometry::Items;
-use rd_protocol::Indexed;
+use rd_holdings::Indexed;
 use sqlite::types::{ToSql, ValueRef};
 use sqlite::{Alter, Connection, Row};
 use std::alloc::Global;
@@ -138,24 +137,26 @@ fn bounds(entries: &[(u32, Heading)]) -> (u32, u32)
     (number_in(entries, 0), number_in(entries, entries.len() - 1))
 }
 
-/// The accessions from a place on, in their order and at most so many, each with its kind, its deed and its files. It
-/// answers only after the index has answered: that shows that the connection is open, and so that the register is that
-/// of the desk.
-pub(crate) fn batch<S: Alter>(
-    alloc: Global,
-    conn: &mut Connection<S>,
-    register: &Register,
-    from: usize,
-    most: usize,
-) -> Result<Vec<Indexed>, StoreFault>
-    requires holds { HoldsDesk (state S.Store conn.old) }
-    requires listed { IsRegisterOf S.Store conn.old register.now }
-    ensures asks { Asks S.Store conn.old conn.new result StoreFault.Sql (λ batch.
-        AllZip IsIndexed (take most (drop from (entries (desk S.Store conn.old).images))) batch.items) }
-    ensures kept { HoldsDesk (state S.Store conn.new) }
-{
-    let entries = register.part(from, most);
-    let (first, last) = bounds(entries);
-    let rows = batch_rows(conn, first, last)?;
-    index_each(alloc, &rows, entries)
+impl<S: Alter> Store<S> {
+    /// At most `most` accessions, ascending, from the place `from` among all of them, counted from 0: each with its
+    /// kind, its deed, and its files as `found` gives them. One query gives all their files, and no image is read.
+    ///
+    /// It fails with `Sql`.
+    pub fn batch(
+        &mut self,
+        alloc: Global,
+        from: usize,
+        most: usize,
+    ) -> Result<Vec<Indexed>, StoreFault>
+        ensures reads { Reads S.Store self.old self.new result (λ batch.
+            AllZip IsIndexed (take most (drop from (entries (desk S.Store self.old).images))) batch.items) }
+        ensures fault { IfErr result (λ fault. fault ≡ StoreFault.Sql) }
+    {
+        // The index answers before the register is used: that shows that the connection is open, and so that the register
+        // is that of the desk.
+        let entries = self.register.part(from, most);
+        let (first, last) = bounds(entries);
+        let rows = batch_rows(&mut self.conn, first, last)?;
+        index_each(alloc, &rows, entries)
+    }
 }

@@ -6,7 +6,7 @@ ghost use Rattle.sqlite.specs.Values.{or_null};
 ghost use Rattle.sqlite_trees.specs.View.{is_int};
 ghost use Rattle.rd_store.specs.Cells.{IsDonorAt, IsWordAt, is_day, is_digest, is_number, is_one_of, is_some_day, blob_name};
 
-use rd_protocol::is_donor;
+use rd_holdings::is_donor;
 use sqlite::Row;
 use sqlite::types::ValueRef;
 

@@ -1,38 +1,20 @@
-ghost use Rattle.std.specs.Prelude.{◌≡◌, false, IsSome, None, ◌≢◌, IfErr, IfOk, map, option_map, slice_get};
-ghost use Rattle.std.specs.FinMap.{entries, get, retain_keys};
-ghost use Rattle.std.specs.Option.{option_to_list};
+ghost use Rattle.std.specs.Prelude.{◌≡◌, false, IsSome, None, IfErr, IfOk, option_map, slice_get, ◌≢◌, map};
+ghost use Rattle.std.specs.FinMap.{get, entries, retain_keys};
 ghost use Rattle.sqlite.specs.Held.{state};
 ghost use Rattle.rd_policy.specs.Days.{IsDay};
-ghost use Rattle.rd_store.specs.Held.{Asks, Changes, HoldsDesk, IsOf, IsOpen, Judges, Moves, desk};
-ghost use Rattle.rd_protocol.specs.StaffLists.{last_of, latest};
-ghost use Rattle.rd_store.specs.Latest.{check_shown, finding_in, is_of};
-ghost use Rattle.rd_store.specs.Register.{IsRegisterOf};
-ghost use Rattle.rd_protocol.specs.State.{with_check, without_check};
+ghost use Rattle.rd_store.specs.Held.{Changes, HoldsDesk, IsOf, IsOpen, Moves, desk, Judges, Reads};
+ghost use Rattle.rd_store.specs.Latest.{finding_in, check_shown, is_of};
+ghost use Rattle.rd_holdings.specs.State.{with_check, without_check};
+ghost use Rattle.std.specs.Option.{option_to_list};
+ghost use Rattle.rd_holdings.specs.Findings.{last_of, latest};
 
+use crate::codes;
 use crate::decode::{day_at, number_at, outcome};
 use crate::faults::StoreFault;
-use crate::outside::outside;
-use crate::read::read_all;
-use crate::register::Register;
-use crate::{codes, images};
-use rd_protocol::{Finding, Outcome};
+use crate::store::Store;
+use rd_holdings::{Finding, Outcome};
 use sqlite::types::ToSql;
 use sqlite::{Alter, Connection, Error, Row, Transaction, params};
-
-/// The row for the latest check of an accession; none where there was no check.
-fn latest_rows<S: Alter>(conn: &mut Connection<S>, acc: u32) -> Result<Vec<Row>, StoreFault>
-    requires holds { HoldsDesk (state S.Store conn.old) }
-    ensures asks { Asks S.Store conn.old conn.new result StoreFault.Sql (λ rows.
-        rows.items ≡ map check_shown (option_to_list (last_of (entries (retain_keys (desk S.Store conn.old).checks (is_of acc)))))) }
-    ensures kept { HoldsDesk (state S.Store conn.new) }
-{
-    let key = acc.to_sql();
-    read_all(
-        conn,
-        "SELECT day, outcome FROM checked WHERE acc = ?1 ORDER BY day DESC LIMIT 1",
-        &[key],
-    )
-}
 
 /// The day and the outcome of the check that a row shows.
 fn read_finding(row: &Row) -> Result<Finding, StoreFault>
@@ -53,20 +35,6 @@ fn first_finding(rows: &[Row]) -> Result<Option<Finding>, StoreFault>
         Some(row) => Ok(Some(read_finding(row)?)),
         None => Ok(None),
     }
-}
-
-/// What the latest check of an accession found, and on which day; `None` where there was none.
-pub(crate) fn latest_check<S: Alter>(
-    conn: &mut Connection<S>,
-    acc: u32,
-) -> Result<Option<Finding>, StoreFault>
-    requires holds { HoldsDesk (state S.Store conn.old) }
-    ensures asks { Asks S.Store conn.old conn.new result StoreFault.Sql (λ found.
-        found ≡ latest (desk S.Store conn.old) acc) }
-    ensures kept { HoldsDesk (state S.Store conn.new) }
-{
-    let rows = latest_rows(conn, acc)?;
-    first_finding(&rows)
 }
 
 /// Removes the finding of a check of an accession on a day, inside a transaction.
@@ -120,30 +88,50 @@ fn write_check<S: Alter>(
     tx.commit()
 }
 
-/// Puts the finding of a check of an accession, in place of the finding of that day, if there is
-/// one. It fails with `Missing` if the accession does not stand, and with `Sql` if the database
-/// fails or memory runs out.
-pub(crate) fn put_check<S: Alter>(
-    conn: &mut Connection<S>,
-    register: &Register,
-    acc: u32,
-    day: i32,
-    outcome: Outcome,
-) -> Result<(), StoreFault>
-    requires holds { HoldsDesk (state S.Store conn.old) }
-    requires listed { IsRegisterOf S.Store conn.old register.now }
-    requires day { IsDay day }
-    ensures kept { HoldsDesk (state S.Store conn.new) }
-    ensures changes { Changes S.Store conn.old conn.new (with_check acc day outcome (desk S.Store conn.old)) result }
-    ensures judges { Judges S.Store conn.new result (IsSome (get (desk S.Store conn.old).images acc)) ⊥ }
-    ensures fault { IfErr result (λ fault. fault ≢ StoreFault.Conflict) }
-{
-    if !images::stands(conn, register, acc)? {
-        return Err(StoreFault::Missing);
+impl<S: Alter> Store<S> {
+    /// The row for the latest check of an accession; none where there was no check.
+    fn latest_rows(&mut self, acc: u32) -> Result<Vec<Row>, StoreFault>
+        ensures reads { Reads S.Store self.old self.new result (λ rows.
+            rows.items ≡ map check_shown (option_to_list (last_of (entries (retain_keys (desk S.Store self.old).checks (is_of acc)))))) }
+        ensures fault { IfErr result (λ fault. fault ≡ StoreFault.Sql) }
+    {
+        let key = acc.to_sql();
+        self.query(
+            "SELECT day, outcome FROM checked WHERE acc = ?1 ORDER BY day DESC LIMIT 1",
+            &[key],
+        )
     }
-    outside(conn)?;
-    match write_check(conn, acc, day, outcome) {
-        Ok(()) => Ok(()),
-        Err(_) => Err(StoreFault::Sql),
+
+    /// What the latest check of an accession, 1 to 999,999, found, and on which day; `None` where there was none. It
+    /// is one query, for one row.
+    ///
+    /// It fails with `Sql`.
+    pub fn latest_check(&mut self, acc: u32) -> Result<Option<Finding>, StoreFault>
+        ensures reads { Reads S.Store self.old self.new result (λ found.
+            found ≡ latest (desk S.Store self.old) acc) }
+        ensures fault { IfErr result (λ fault. fault ≡ StoreFault.Sql) }
+    {
+        let rows = self.latest_rows(acc)?;
+        first_finding(&rows)
+    }
+
+    /// Puts the finding of a check of an accession, 1 to 999,999, on a day of the years 1 to 9999
+    /// (`is_day`), counted from 1970-01-01, in place of the finding of that day, if there is one.
+    ///
+    /// It fails with `Missing` where there is no such accession, and with `Sql`.
+    pub fn put_check(&mut self, acc: u32, day: i32, outcome: Outcome) -> Result<(), StoreFault>
+        requires day { IsDay day }
+        ensures changes { Changes S.Store self.old self.new (with_check acc day outcome (desk S.Store self.old)) result }
+        ensures judges { Judges S.Store self.new result (IsSome (get (desk S.Store self.old).images acc)) ⊥ }
+        ensures fault { IfErr result (λ fault. fault ≢ StoreFault.Conflict) }
+    {
+        if !self.stands(acc)? {
+            return Err(StoreFault::Missing);
+        }
+        self.outside_transaction()?;
+        match write_check(&mut self.conn, acc, day, outcome) {
+            Ok(()) => Ok(()),
+            Err(_) => Err(StoreFault::Sql),
+        }
     }
 }

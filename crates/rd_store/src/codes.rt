@@ -1,11 +1,11 @@
 ghost use Rattle.std.specs.Prelude.{◌≡◌, IfOk, IfErr};
 ghost use Rattle.rd_store.specs.Codes.{kind_code, effect_code, audiences_code, audience_code, outcome_code, class_code, units_code, how as how_of, number as number_of, word as word_of};
-ghost use Rattle.rd_protocol.specs.State.{band_code};
+ghost use Rattle.rd_holdings.specs.State.{band_code};
 
 use crate::faults::StoreFault;
 use rd_geometry::Kind;
+use rd_holdings::Outcome;
 use rd_policy::{Audience, Audiences, Band, Effect, Select};
-use rd_protocol::Outcome;
 use std::alloc::Global;
 
 /// The number of a kind in the tables. A D64 with error bytes has that of one without.

@@ -8,7 +8,7 @@ ghost use Rattle.rd_store.specs.declared.faults.OpenFault.{OpenFault as Fault};
 ghost use Rattle.rd_store.specs.Held.{IsLeft};
 ghost use Rattle.rd_store.specs.Migrated.{IsFirstConsistent, IsSecondConsistent, RefusesEach};
 ghost use Rattle.rd_store.specs.Opened.{IsConsistent, Refuses};
-ghost use Rattle.rd_protocol.specs.State.{Desk};
+ghost use Rattle.rd_holdings.specs.State.{Desk};
 
 use crate::faults::OpenFault;
 

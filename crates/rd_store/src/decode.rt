@@ -7,8 +7,8 @@ ghost use Rattle.rd_store.specs.Codes.{kind_in, band_in, effect_in, audiences_in
 
 use crate::faults::StoreFault;
 use rd_geometry::{Kind, Text};
+use rd_holdings::Outcome;
 use rd_policy::{Audience, Audiences, Band, Effect, Select};
-use rd_protocol::Outcome;
 use sqlite::Row;
 use sqlite::types::ValueRef;
 use std::alloc::Global;

@@ -1,37 +1,21 @@
 ghost use Rattle.std.specs.Prelude.{◌≡◌, IfOk, IfErr, IsSome, None, is_some, map, false};
-ghost use Rattle.std.specs.FinMap.{entries, get};
-ghost use Rattle.std.specs.Option.{option_to_list};
+ghost use Rattle.std.specs.FinMap.{get, entries};
 ghost use Rattle.sqlite.specs.Held.{state};
-ghost use Rattle.rd_store.specs.Held.{Asks, Changes, HoldsDesk, IsOpen, desk};
-ghost use Rattle.rd_protocol.specs.Lawful.{IsDeed};
+ghost use Rattle.rd_store.specs.Held.{Changes, HoldsDesk, IsOpen, desk, Reads};
+ghost use Rattle.rd_holdings.specs.Lawful.{IsDeed};
 ghost use Rattle.rd_store.specs.Shown.{deed_shown};
 ghost use Rattle.rd_store.specs.Spelled.{deed_sheet};
-ghost use Rattle.rd_protocol.specs.State.{with_deed};
+ghost use Rattle.rd_holdings.specs.State.{with_deed};
+ghost use Rattle.std.specs.Option.{option_to_list};
 
 use crate::decode::{day_at, number_at, text_at};
 use crate::faults::StoreFault;
-use crate::outside::outside;
-use crate::read::read_all;
+use crate::store::Store;
 use rd_geometry::Text;
-use rd_protocol::DeedRow;
+use rd_holdings::DeedRow;
 use sqlite::types::ToSql;
 use sqlite::{Alter, Connection, Error, Row, params};
 use std::alloc::Global;
-
-/// The rows for the deed with a number.
-fn deed_rows<S: Alter>(conn: &mut Connection<S>, num: u32) -> Result<Vec<Row>, StoreFault>
-    requires holds { HoldsDesk (state S.Store conn.old) }
-    ensures asks { Asks S.Store conn.old conn.new result StoreFault.Sql (λ rows.
-        rows.items ≡ map deed_shown (option_to_list (get (desk S.Store conn.old).deeds num))) }
-    ensures kept { HoldsDesk (state S.Store conn.new) }
-{
-    let key = num.to_sql();
-    read_all(
-        conn,
-        "SELECT donor, signed FROM deed WHERE num = ?1",
-        &[key],
-    )
-}
 
 /// The deed that a row shows.
 fn read_deed(row: &Row) -> Result<DeedRow, StoreFault>
@@ -41,37 +25,6 @@ fn read_deed(row: &Row) -> Result<DeedRow, StoreFault>
     let donor = Text::of(text_at(row, 0)?);
     let signed = day_at(row, 1)?;
     Ok(DeedRow { donor, signed })
-}
-
-/// The deed with a number, `None` where there is none.
-pub(crate) fn deed<S: Alter>(
-    conn: &mut Connection<S>,
-    num: u32,
-) -> Result<Option<DeedRow>, StoreFault>
-    requires holds { HoldsDesk (state S.Store conn.old) }
-    ensures asks { Asks S.Store conn.old conn.new result StoreFault.Sql (λ found.
-        found ≡ get (desk S.Store conn.old).deeds num) }
-    ensures kept { HoldsDesk (state S.Store conn.new) }
-{
-    let rows = deed_rows(conn, num)?;
-    match rows.first() {
-        Some(row) => Ok(Some(read_deed(row)?)),
-        None => Ok(None),
-    }
-}
-
-/// The rows for all deeds, by number.
-fn numbered_rows<S: Alter>(conn: &mut Connection<S>) -> Result<Vec<Row>, StoreFault>
-    requires holds { HoldsDesk (state S.Store conn.old) }
-    ensures asks { Asks S.Store conn.old conn.new result StoreFault.Sql (λ rows.
-        rows.items ≡ map deed_sheet.columns (entries (desk S.Store conn.old).deeds)) }
-    ensures kept { HoldsDesk (state S.Store conn.new) }
-{
-    read_all(
-        conn,
-        "SELECT num, donor, signed FROM deed ORDER BY num",
-        &[],
-    )
 }
 
 /// The deed that a row shows, with its number.
@@ -98,20 +51,6 @@ fn read_deeds(alloc: Global, rows: &[Row]) -> Result<Vec<(u32, DeedRow)>, StoreF
         }
     }
     Ok(deeds)
-}
-
-/// All deeds, by number.
-pub(crate) fn deeds<S: Alter>(
-    alloc: Global,
-    conn: &mut Connection<S>,
-) -> Result<Vec<(u32, DeedRow)>, StoreFault>
-    requires holds { HoldsDesk (state S.Store conn.old) }
-    ensures asks { Asks S.Store conn.old conn.new result StoreFault.Sql (λ deeds.
-        deeds.items ≡ entries (desk S.Store conn.old).deeds) }
-    ensures kept { HoldsDesk (state S.Store conn.new) }
-{
-    let rows = numbered_rows(conn)?;
-    read_deeds(alloc, &rows)
 }
 
 /// Writes a deed in place of the one with its number.
@@ -180,24 +119,69 @@ fn write_deed<S: Alter>(
     }
 }
 
-/// Puts a deed, in place of one with its number.
-pub(crate) fn put_deed<S: Alter>(
-    conn: &mut Connection<S>,
-    num: u32,
-    donor: &str,
-    signed: i32,
-) -> Result<(), StoreFault>
-    requires holds { HoldsDesk (state S.Store conn.old) }
-    requires deed { IsDeed num (record { donor = donor.now; signed = signed }) }
-    ensures kept { HoldsDesk (state S.Store conn.new) }
-    ensures changes { Changes S.Store conn.old conn.new
-        (with_deed num (record { donor = donor.now; signed = signed }) (desk S.Store conn.old)) result }
-    ensures fault { IfErr result (λ fault. fault ≡ StoreFault.Sql) }
-{
-    let found = deed(conn, num)?;
-    outside(conn)?;
-    match write_deed(conn, found.is_some(), num, donor, signed) {
-        Ok(_) => Ok(()),
-        Err(_) => Err(StoreFault::Sql),
+impl<S: Alter> Store<S> {
+    /// The rows for the deed with a number.
+    fn deed_rows(&mut self, num: u32) -> Result<Vec<Row>, StoreFault>
+        ensures reads { Reads S.Store self.old self.new result (λ rows.
+            rows.items ≡ map deed_shown (option_to_list (get (desk S.Store self.old).deeds num))) }
+        ensures fault { IfErr result (λ fault. fault ≡ StoreFault.Sql) }
+    {
+        let key = num.to_sql();
+        self.query("SELECT donor, signed FROM deed WHERE num = ?1", &[key])
+    }
+
+    /// The deed with a number, 1 to 999,999; `None` where there is none.
+    ///
+    /// It fails with `Sql`.
+    pub fn deed(&mut self, num: u32) -> Result<Option<DeedRow>, StoreFault>
+        ensures reads { Reads S.Store self.old self.new result (λ found.
+            found ≡ get (desk S.Store self.old).deeds num) }
+        ensures fault { IfErr result (λ fault. fault ≡ StoreFault.Sql) }
+    {
+        let rows = self.deed_rows(num)?;
+        match rows.first() {
+            Some(row) => Ok(Some(read_deed(row)?)),
+            None => Ok(None),
+        }
+    }
+
+    /// The rows for all deeds, by number.
+    fn numbered_rows(&mut self) -> Result<Vec<Row>, StoreFault>
+        ensures reads { Reads S.Store self.old self.new result (λ rows.
+            rows.items ≡ map deed_sheet.columns (entries (desk S.Store self.old).deeds)) }
+        ensures fault { IfErr result (λ fault. fault ≡ StoreFault.Sql) }
+    {
+        self.query("SELECT num, donor, signed FROM deed ORDER BY num", &[])
+    }
+
+    /// All deeds, by number. It is one query.
+    ///
+    /// It fails with `Sql`.
+    pub fn deeds(&mut self, alloc: Global) -> Result<Vec<(u32, DeedRow)>, StoreFault>
+        ensures reads { Reads S.Store self.old self.new result (λ deeds.
+            deeds.items ≡ entries (desk S.Store self.old).deeds) }
+        ensures fault { IfErr result (λ fault. fault ≡ StoreFault.Sql) }
+    {
+        let rows = self.numbered_rows()?;
+        read_deeds(alloc, &rows)
+    }
+
+    /// Puts a deed, in place of the one with its number, if there is one. The number is 1 to 999,999, the donor
+    /// a text of 1 to 1,000 bytes, none below 20 hex (`is_donor`), and the day on which they signed, counted
+    /// from 1970-01-01, is of the years 1 to 9999.
+    ///
+    /// It fails with `Sql`.
+    pub fn put_deed(&mut self, num: u32, donor: &str, signed: i32) -> Result<(), StoreFault>
+        requires deed { IsDeed num (record { donor = donor.now; signed = signed }) }
+        ensures changes { Changes S.Store self.old self.new
+            (with_deed num (record { donor = donor.now; signed = signed }) (desk S.Store self.old)) result }
+        ensures fault { IfErr result (λ fault. fault ≡ StoreFault.Sql) }
+    {
+        let found = self.deed(num)?;
+        self.outside_transaction()?;
+        match write_deed(&mut self.conn, found.is_some(), num, donor, signed) {
+            Ok(_) => Ok(()),
+            Err(_) => Err(StoreFault::Sql),
+        }
     }
 }

@@ -12,14 +12,15 @@ ghost use Rattle.rd_tables.specs.Asked.{IsPicked};
 ghost use Rattle.rd_tables.specs.Queries.{files_query};
 ghost use Rattle.rd_tables.specs.Sheets.{natural};
 ghost use Rattle.rd_store.specs.Codes.{number_in, units_code, units_in};
-ghost use Rattle.rd_store.specs.Held.{Asks, HoldsCommonTables, HoldsDesk, IsOfWith, Moves, desk};
+ghost use Rattle.rd_store.specs.Held.{Asks, HoldsCommonTables, HoldsDesk, IsOfWith, Moves, desk, Reads};
 ghost use Rattle.rd_store.specs.Index.{AreFilesIn, IsFileIn, IsFiledTo};
 ghost use Rattle.rd_store.specs.Spelled.{file_in, file_shown, index_of};
 
 use crate::codes;
 use crate::decode::{class, number_at, some_number_at, text_at, units};
 use crate::faults::StoreFault;
-use crate::read::{read_all, read_over};
+use crate::read::read_over;
+use crate::store::Store;
 use rd_geometry::{Items, Text};
 use rd_volume::Found;
 use sqlite::types::{ToSql, ValueRef};
@@ -123,41 +124,6 @@ pub(crate) fn read_files(alloc: Global, rows: &[Row]) -> Result<Vec<Found>, Stor
     Ok(files)
 }
 
-/// The files of the image of an accession, by slot, from the index; none where it is not there.
-pub(crate) fn found<S: Alter>(
-    alloc: Global,
-    conn: &mut Connection<S>,
-    acc: u32,
-) -> Result<Vec<Found>, StoreFault>
-    requires holds { HoldsDesk (state S.Store conn.old) }
-    ensures asks { Asks S.Store conn.old conn.new result StoreFault.Sql (λ files.
-        AreFilesIn (get (desk S.Store conn.old).images acc) files.items) }
-    ensures kept { HoldsDesk (state S.Store conn.new) }
-{
-    let rows = file_rows(conn, acc)?;
-    read_files(alloc, &rows)
-}
-
-/// The row of the index for a slot of an accession.
-fn slot_rows<S: Alter>(
-    conn: &mut Connection<S>,
-    acc: u32,
-    slot: u16,
-) -> Result<Vec<Row>, StoreFault>
-    requires holds { HoldsDesk (state S.Store conn.old) }
-    ensures asks { Asks S.Store conn.old conn.new result StoreFault.Sql (λ rows.
-        rows.items ≡ map file_shown (option_to_list (get (index_of (state S.Store conn.old).now.trees) (record { acc = acc; slot = slot })))) }
-    ensures kept { HoldsDesk (state S.Store conn.new) }
-{
-    let first = acc.to_sql();
-    let second = u32::from(slot).to_sql();
-    read_all(
-        conn,
-        "SELECT slot, name, ty, user_no, served, size, faults, units, last_len FROM found WHERE acc = ?1 AND slot = ?2",
-        &[first, second],
-    )
-}
-
 /// The file that the first of some rows shows, `None` where there are none.
 fn first_file(alloc: Global, rows: &[Row]) -> Result<Option<Found>, StoreFault>
     ensures file { IfOk result (λ read. (found : Option FoundFile) → rows.now ≡ map file_shown (option_to_list found) → read ≡ found) }
@@ -167,21 +133,6 @@ fn first_file(alloc: Global, rows: &[Row]) -> Result<Option<Found>, StoreFault>
         Some(row) => Ok(Some(read_file(alloc, row)?)),
         None => Ok(None),
     }
-}
-
-/// The file at a slot of the image of an accession, from the index; `None` where there is none.
-pub(crate) fn found_at<S: Alter>(
-    alloc: Global,
-    conn: &mut Connection<S>,
-    acc: u32,
-    slot: u16,
-) -> Result<Option<Found>, StoreFault>
-    requires holds { HoldsDesk (state S.Store conn.old) }
-    ensures asks { Asks S.Store conn.old conn.new result StoreFault.Sql (IsFileIn (get (desk S.Store conn.old).images acc) slot) }
-    ensures kept { HoldsDesk (state S.Store conn.new) }
-{
-    let rows = slot_rows(conn, acc, slot)?;
-    first_file(alloc, &rows)
 }
 
 /// Puts a file into the index, inside a transaction: the next of its accession's files, whose units are
@@ -250,4 +201,52 @@ pub(crate) fn insert_files<S: Alter>(
         insert_file(alloc, tx, acc, files, at)?;
     }
     Ok(())
+}
+
+impl<S: Alter> Store<S> {
+    /// The files of the image of an accession, 1 to 999,999, by slot, as `survey` gives them; none
+    /// if there is no such accession. They come from the index; it reads no image.
+    ///
+    /// It fails with `Sql`.
+    pub fn found(&mut self, alloc: Global, acc: u32) -> Result<Vec<Found>, StoreFault>
+        ensures reads { Reads S.Store self.old self.new result (λ files.
+            AreFilesIn (get (desk S.Store self.old).images acc) files.items) }
+        ensures fault { IfErr result (λ fault. fault ≡ StoreFault.Sql) }
+    {
+        let rows = file_rows(&mut self.conn, acc)?;
+        read_files(alloc, &rows)
+    }
+
+    /// The row of the index for a slot of an accession.
+    fn slot_rows(&mut self, acc: u32, slot: u16) -> Result<Vec<Row>, StoreFault>
+        ensures holds { HoldsDesk (state S.Store self.old) }
+        ensures reads { Reads S.Store self.old self.new result (λ rows.
+            rows.items ≡ map file_shown (option_to_list (get (index_of (state S.Store self.old).now.trees) (record { acc = acc; slot = slot })))) }
+        ensures fault { IfErr result (λ fault. fault ≡ StoreFault.Sql) }
+    {
+        let first = acc.to_sql();
+        let second = u32::from(slot).to_sql();
+        self.query(
+            "SELECT slot, name, ty, user_no, served, size, faults, units, last_len FROM found WHERE acc = ?1 AND slot = ?2",
+            &[first, second],
+        )
+    }
+
+    /// The file at a slot, 0 to 5,463, of the image of an accession, 1 to 999,999, as `survey`
+    /// gives it; `None` if there is no such file or accession. It comes from the index; it reads
+    /// no image.
+    ///
+    /// It fails with `Sql`.
+    pub fn found_at(
+        &mut self,
+        alloc: Global,
+        acc: u32,
+        slot: u16,
+    ) -> Result<Option<Found>, StoreFault>
+        ensures reads { Reads S.Store self.old self.new result (IsFileIn (get (desk S.Store self.old).images acc) slot) }
+        ensures fault { IfErr result (λ fault. fault ≡ StoreFault.Sql) }
+    {
+        let rows = self.slot_rows(acc, slot)?;
+        first_file(alloc, &rows)
+    }
 }

@@ -6,28 +6,28 @@ ghost use Rattle.sqlite.specs.declared.types.Value.TheVariants.{Int};
 ghost use Rattle.sqlite.specs.Order.{column};
 ghost use Rattle.rd_geometry.specs.Kinds.{size_of};
 ghost use Rattle.rd_volume.specs.Volumes.{AreFounds};
-ghost use Rattle.rd_protocol.specs.declared.rows.ImageRow.{ImageRow};
+ghost use Rattle.rd_holdings.specs.declared.rows.ImageRow.{ImageRow};
 ghost use Rattle.rd_tables.specs.Asked.{IsPicked};
 ghost use Rattle.rd_tables.specs.Queries.{image_query};
 ghost use Rattle.rd_tables.specs.Sheets.{Spells, map_of, natural};
-ghost use Rattle.rd_store.specs.Held.{Asks, Changes, HoldsCommonTables, HoldsDesk, IsOfWith, IsOpen, Judges, LacksImage, Moves, desk};
+ghost use Rattle.rd_store.specs.Held.{Asks, Changes, HoldsCommonTables, HoldsDesk, IsOfWith, IsOpen, Judges, LacksImage, Moves, desk, Reads};
 ghost use Rattle.rd_store.specs.Index.{IsFiledTo, with_new_image};
-ghost use Rattle.rd_protocol.specs.Lawful.{IsImage};
-ghost use Rattle.rd_store.specs.Register.{IsRegisterOf, IsSameHeading};
+ghost use Rattle.rd_holdings.specs.Lawful.{IsImage};
+ghost use Rattle.rd_store.specs.Register.{IsSameHeading};
 ghost use Rattle.rd_store.specs.Shown.{as_row, image_shown, image_with};
 ghost use Rattle.rd_store.specs.Spelled.{image_sheet};
-ghost use Rattle.rd_protocol.specs.State.{HasOtherImage, with_image, accession_of, registered};
+ghost use Rattle.rd_holdings.specs.State.{HasOtherImage, with_image, accession_of, registered};
 
+use crate::codes;
 use crate::decode::{bytes_at, digest_at, kind, number_at};
 use crate::faults::StoreFault;
 use crate::files::insert_files;
 use crate::marks::{insert_marks, marked_image};
-use crate::outside::{outside, stays_open};
 use crate::read::read_over;
-use crate::register::{Register, given};
-use crate::{codes, deeds};
+use crate::register::given;
+use crate::store::Store;
 use rd_geometry::{Image, Items, Kind};
-use rd_protocol::{Accession, ImageRow};
+use rd_holdings::{Accession, ImageRow};
 use rd_volume::{Found, survey};
 use sqlite::types::ToSql;
 use sqlite::{Alter, Connection, Error, Row, Transaction, params};
@@ -99,24 +99,6 @@ fn image_at<S: Alter>(
     first_image(alloc, &rows)
 }
 
-/// The image of an accession, `None` where there is none.
-pub(crate) fn image<S: Alter>(
-    alloc: Global,
-    conn: &mut Connection<S>,
-    acc: u32,
-) -> Result<Option<ImageRow>, StoreFault>
-    requires holds { HoldsDesk (state S.Store conn.old) }
-    ensures asks { Asks S.Store conn.old conn.new result StoreFault.Sql (λ found.
-        found ≡ get (desk S.Store conn.old).images acc) }
-    ensures kept { HoldsDesk (state S.Store conn.new) }
-{
-    let found = image_at(alloc, conn, acc)?;
-    let Some(row) = found else {
-        return Ok(None);
-    };
-    Ok(Some(marked_image(alloc, conn, acc, row)?))
-}
-
 /// The numbers in the first column of rows.
 pub(crate) fn read_numbers(alloc: Global, rows: &[Row]) -> Result<Vec<u32>, StoreFault>
     ensures numbers { IfOk result (λ numbers.
@@ -131,73 +113,6 @@ pub(crate) fn read_numbers(alloc: Global, rows: &[Row]) -> Result<Vec<u32>, Stor
         }
     }
     Ok(numbers)
-}
-
-/// An accession without its image, `None` where it is not there. It reads no row.
-pub(crate) fn accession<S: Alter>(
-    conn: &mut Connection<S>,
-    register: &Register,
-    acc: u32,
-) -> Result<Option<Accession>, StoreFault>
-    requires holds { HoldsDesk (state S.Store conn.old) }
-    requires listed { IsRegisterOf S.Store conn.old register.now }
-    ensures asks { Asks S.Store conn.old conn.new result StoreFault.Sql (λ found.
-        found ≡ option_map accession_of (get (desk S.Store conn.old).images acc)) }
-    ensures kept { HoldsDesk (state S.Store conn.new) }
-{
-    stays_open(conn)?;
-    match register.find(acc) {
-        Some(heading) => Ok(Some(given(heading))),
-        None => Ok(None),
-    }
-}
-
-/// Whether an accession is there. It reads no row.
-pub(crate) fn stands<S: Alter>(
-    conn: &mut Connection<S>,
-    register: &Register,
-    acc: u32,
-) -> Result<bool, StoreFault>
-    requires holds { HoldsDesk (state S.Store conn.old) }
-    requires listed { IsRegisterOf S.Store conn.old register.now }
-    ensures asks { Asks S.Store conn.old conn.new result StoreFault.Sql (λ stand. MatchBool stand
-        (IsSome (get (desk S.Store conn.old).images acc)) (¬ IsSome (get (desk S.Store conn.old).images acc))) }
-    ensures kept { HoldsDesk (state S.Store conn.new) }
-{
-    stays_open(conn)?;
-    Ok(register.find(acc).is_some())
-}
-
-/// All accessions, ascending. It reads no row.
-pub(crate) fn accessions<S: Alter>(
-    alloc: Global,
-    conn: &mut Connection<S>,
-    register: &Register,
-) -> Result<Vec<u32>, StoreFault>
-    requires holds { HoldsDesk (state S.Store conn.old) }
-    requires listed { IsRegisterOf S.Store conn.old register.now }
-    ensures asks { Asks S.Store conn.old conn.new result StoreFault.Sql (λ numbers.
-        numbers.items ≡ keys (desk S.Store conn.old).images) }
-    ensures kept { HoldsDesk (state S.Store conn.new) }
-{
-    stays_open(conn)?;
-    register.accessions(alloc)
-}
-
-/// All accessions, ascending, each with its kind and its deed. It reads no row.
-pub(crate) fn givens<S: Alter>(
-    alloc: Global,
-    conn: &mut Connection<S>,
-    register: &Register,
-) -> Result<Vec<(u32, Accession)>, StoreFault>
-    requires holds { HoldsDesk (state S.Store conn.old) }
-    requires listed { IsRegisterOf S.Store conn.old register.now }
-    ensures asks { Asks S.Store conn.old conn.new result StoreFault.Sql (λ givens.
-        givens.items ≡ map registered (entries (desk S.Store conn.old).images)) }
-    ensures kept { HoldsDesk (state S.Store conn.new) }
-{
-    stays_open(conn)?;
-    register.givens(alloc)
 }
 
 /// The files of an image.
@@ -291,38 +206,6 @@ fn write_image<S: Alter>(
     tx.commit()
 }
 
-/// Puts an image where none stands, and then into the register, in room that is there before: after the commit
-/// nothing takes memory.
-fn add_image<S: Alter>(
-    alloc: Global,
-    conn: &mut Connection<S>,
-    register: &mut Register,
-    acc: u32,
-    heading: &Heading,
-    bytes: &[u8],
-) -> Result<(), StoreFault>
-    requires holds { HoldsDesk (state S.Store conn.old) }
-    requires listed { IsRegisterOf S.Store conn.old register.old }
-    requires image { IsImage acc (image_with heading.now bytes.now) }
-    requires deed { IsOpen S.Store conn.old → IsSome (get (desk S.Store conn.old).deeds heading.now.deed) }
-    requires free { IsOpen S.Store conn.old → get (desk S.Store conn.old).images acc ≡ None }
-    ensures kept { HoldsDesk (state S.Store conn.new) }
-    ensures listed { IsRegisterOf S.Store conn.new register.new }
-    ensures changes { Changes S.Store conn.old conn.new (with_image acc (image_with heading.now bytes.now) (desk S.Store conn.old)) result }
-    ensures fault { IfErr result (λ fault. fault ≡ StoreFault.Sql) }
-{
-    outside(conn)?;
-    let files = survey_of(alloc, heading.kind, bytes)?;
-    register.reserve(alloc)?;
-    match write_image(alloc, conn, acc, heading, bytes, files.as_slice()) {
-        Ok(()) => {
-            register.insert(acc, *heading);
-            Ok(())
-        }
-        Err(_) => Err(StoreFault::Sql),
-    }
-}
-
 /// Whether both have the same kind, deed and digest.
 fn is_same(one: &Heading, other: &Heading) -> bool
     ensures { MatchBool result (IsSameHeading one.now other.now) (¬ IsSameHeading one.now other.now) }
@@ -330,35 +213,136 @@ fn is_same(one: &Heading, other: &Heading) -> bool
     one.kind == other.kind && one.deed == other.deed && one.digest == other.digest
 }
 
-/// Puts an image where none stands. The same kind, deed and digest again change nothing.
-pub(crate) fn put_image<S: Alter>(
-    alloc: Global,
-    conn: &mut Connection<S>,
-    register: &mut Register,
-    acc: u32,
-    heading: &Heading,
-    bytes: &[u8],
-) -> Result<(), StoreFault>
-    requires holds { HoldsDesk (state S.Store conn.old) }
-    requires listed { IsRegisterOf S.Store conn.old register.old }
-    requires image { IsImage acc (image_with heading.now bytes.now) }
-    ensures kept { HoldsDesk (state S.Store conn.new) }
-    ensures listed { IsRegisterOf S.Store conn.new register.new }
-    ensures changes { Changes S.Store conn.old conn.new (with_image acc (image_with heading.now bytes.now) (desk S.Store conn.old)) result }
-    ensures judges { Judges S.Store conn.new result (IsSome (get (desk S.Store conn.old).deeds heading.now.deed))
-        (HasOtherImage (desk S.Store conn.old) acc (image_with heading.now bytes.now)) }
-{
-    if deeds::deed(conn, heading.deed)?.is_none() {
-        return Err(StoreFault::Missing);
+impl<S: Alter> Store<S> {
+    /// The image of an accession, 1 to 999,999; `None` where there is none.
+    ///
+    /// It fails with `Sql`.
+    pub fn image(&mut self, alloc: Global, acc: u32) -> Result<Option<ImageRow>, StoreFault>
+        ensures reads { Reads S.Store self.old self.new result (λ found.
+            found ≡ get (desk S.Store self.old).images acc) }
+        ensures fault { IfErr result (λ fault. fault ≡ StoreFault.Sql) }
+    {
+        let found = image_at(alloc, &mut self.conn, acc)?;
+        let Some(row) = found else {
+            return Ok(None);
+        };
+        Ok(Some(marked_image(alloc, &mut self.conn, acc, row)?))
     }
-    match register.find(acc) {
-        Some(standing) => {
-            if is_same(&standing, heading) {
-                Ok(())
-            } else {
-                Err(StoreFault::Conflict)
-            }
+
+    /// The kind of the image and the deed of an accession, 1 to 999,999; `None` if it is not
+    /// there. It reads no row.
+    ///
+    /// It fails with `Sql`.
+    pub fn accession(&mut self, acc: u32) -> Result<Option<Accession>, StoreFault>
+        ensures reads { Reads S.Store self.old self.new result (λ found.
+            found ≡ option_map accession_of (get (desk S.Store self.old).images acc)) }
+        ensures fault { IfErr result (λ fault. fault ≡ StoreFault.Sql) }
+    {
+        self.stays_open()?;
+        match self.register.find(acc) {
+            Some(heading) => Ok(Some(given(heading))),
+            None => Ok(None),
         }
-        None => add_image(alloc, conn, register, acc, heading, bytes),
+    }
+
+    /// Whether an accession is there. It reads no row.
+    pub(crate) fn stands(&mut self, acc: u32) -> Result<bool, StoreFault>
+        ensures reads { Reads S.Store self.old self.new result (λ stand.
+            MatchBool stand
+            (IsSome (get (desk S.Store self.old).images acc)) (¬ IsSome (get (desk S.Store self.old).images acc))) }
+        ensures fault { IfErr result (λ fault. fault ≡ StoreFault.Sql) }
+    {
+        self.stays_open()?;
+        Ok(self.register.find(acc).is_some())
+    }
+
+    /// All accessions, ascending.
+    ///
+    /// It fails with `Sql`.
+    pub fn accessions(&mut self, alloc: Global) -> Result<Vec<u32>, StoreFault>
+        ensures reads { Reads S.Store self.old self.new result (λ numbers.
+            numbers.items ≡ keys (desk S.Store self.old).images) }
+        ensures fault { IfErr result (λ fault. fault ≡ StoreFault.Sql) }
+    {
+        self.stays_open()?;
+        self.register.accessions(alloc)
+    }
+
+    /// The register: all accessions, ascending, each with the kind of its image and its deed. It
+    /// reads no row.
+    ///
+    /// It fails with `Sql`.
+    pub fn register(&mut self, alloc: Global) -> Result<Vec<(u32, Accession)>, StoreFault>
+        ensures reads { Reads S.Store self.old self.new result (λ register.
+            register.items ≡ map registered (entries (desk S.Store self.old).images)) }
+        ensures fault { IfErr result (λ fault. fault ≡ StoreFault.Sql) }
+    {
+        self.stays_open()?;
+        self.register.givens(alloc)
+    }
+
+    /// Puts an image where none stands, and then into the register, in room that is there before: after the commit
+    /// nothing takes memory.
+    fn add_image(
+        &mut self,
+        alloc: Global,
+        acc: u32,
+        heading: &Heading,
+        bytes: &[u8],
+    ) -> Result<(), StoreFault>
+        requires image { IsImage acc (image_with heading.now bytes.now) }
+        requires deed { IsOpen S.Store self.old → IsSome (get (desk S.Store self.old).deeds heading.now.deed) }
+        requires free { IsOpen S.Store self.old → get (desk S.Store self.old).images acc ≡ None }
+        ensures changes { Changes S.Store self.old self.new (with_image acc (image_with heading.now bytes.now) (desk S.Store self.old)) result }
+        ensures fault { IfErr result (λ fault. fault ≡ StoreFault.Sql) }
+    {
+        self.outside_transaction()?;
+        let files = survey_of(alloc, heading.kind, bytes)?;
+        self.register.reserve(alloc)?;
+        match write_image(alloc, &mut self.conn, acc, heading, bytes, files.as_slice()) {
+            Ok(()) => {
+                self.register.insert(acc, *heading);
+                Ok(())
+            }
+            Err(_) => Err(StoreFault::Sql),
+        }
+    }
+
+    /// Puts an image of its kind's length at an accession, 1 to 999,999, that has none, under
+    /// the deed with a number, with the SHA-256 that was given for it. Putting the same kind, deed
+    /// and digest again succeeds and changes nothing, whatever the bytes. The same transaction
+    /// writes its error bytes, if it has any, and puts what `survey` gives of its files into the
+    /// index.
+    ///
+    /// It fails with `Missing` if there is no such deed, with `Conflict` if the accession has an image of
+    /// another kind, deed or digest, and with `Sql`.
+    pub fn put_image(
+        &mut self,
+        alloc: Global,
+        acc: u32,
+        kind: Kind,
+        deed: u32,
+        digest: &[u8; 32],
+        bytes: &[u8],
+    ) -> Result<(), StoreFault>
+        requires image { IsImage acc (record { kind = kind; deed = deed; digest = digest.now; bytes = bytes.now }) }
+        ensures changes { Changes S.Store self.old self.new
+            (with_image acc (record { kind = kind; deed = deed; digest = digest.now; bytes = bytes.now }) (desk S.Store self.old)) result }
+        ensures judges { Judges S.Store self.new result (IsSome (get (desk S.Store self.old).deeds deed))
+            (HasOtherImage (desk S.Store self.old) acc (record { kind = kind; deed = deed; digest = digest.now; bytes = bytes.now })) }
+    {
+        let heading = Heading {
+            kind,
+            deed,
+            digest: *digest,
+        };
+        if self.deed(deed)?.is_none() {
+            return Err(StoreFault::Missing);
+        }
+        match self.register.find(acc) {
+            Some(standing) if is_same(&standing, &heading) => Ok(()),
+            Some(_) => Err(StoreFault::Conflict),
+            None => self.add_image(alloc, acc, &heading, bytes),
+        }
     }
 }

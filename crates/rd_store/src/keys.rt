@@ -1,37 +1,22 @@
-ghost use Rattle.std.specs.Prelude.{◌≡◌, ◌≢◌, ◌⊎◌, ◌↔◌, ⊤, All, false, IfOk, IfErr, IsTrue, MatchBool, None, map};
+ghost use Rattle.std.specs.Prelude.{◌≡◌, ◌⊎◌, ◌↔◌, All, false, IfOk, IfErr, IsTrue, MatchBool, None, map, ◌≢◌, ⊤};
 ghost use Rattle.std.specs.List.{Any};
-ghost use Rattle.std.specs.FinMap.{entries, get};
-ghost use Rattle.std.specs.Option.{option_to_list};
+ghost use Rattle.std.specs.FinMap.{get, entries};
 ghost use Rattle.sqlite.specs.Held.{state};
-ghost use Rattle.rd_store.specs.Held.{Asks, Changes, HoldsDesk, IsOf, IsOpen, Judges, Moves, desk};
-ghost use Rattle.rd_protocol.specs.Lawful.{IsKey};
+ghost use Rattle.rd_store.specs.Held.{Changes, HoldsDesk, IsOf, IsOpen, Moves, desk, Judges, Reads};
+ghost use Rattle.rd_holdings.specs.Lawful.{IsKey};
 ghost use Rattle.rd_store.specs.Shown.{ShowsOther, audience_shown};
 ghost use Rattle.rd_store.specs.Spelled.{key_sheet};
-ghost use Rattle.rd_protocol.specs.State.{HasOtherStaff, IsLastStaff, with_key, without_key};
+ghost use Rattle.rd_holdings.specs.State.{HasOtherStaff, with_key, without_key, IsLastStaff};
+ghost use Rattle.std.specs.Option.{option_to_list};
 
 use crate::codes;
 use crate::decode::{audience, digest_at, number_at};
 use crate::faults::StoreFault;
-use crate::outside::outside;
-use crate::read::read_all;
+use crate::store::Store;
 use rd_policy::Audience;
 use sqlite::types::ToSql;
 use sqlite::{Alter, Connection, Error, Row, Transaction, params};
 use std::alloc::Global;
-
-/// The rows for the desk key with a digest.
-fn audience_rows<S: Alter>(
-    conn: &mut Connection<S>,
-    digest: &[u8; 32],
-) -> Result<Vec<Row>, StoreFault>
-    requires holds { HoldsDesk (state S.Store conn.old) }
-    ensures asks { Asks S.Store conn.old conn.new result StoreFault.Sql (λ rows.
-        rows.items ≡ map audience_shown (option_to_list (get (desk S.Store conn.old).keys digest.now))) }
-    ensures kept { HoldsDesk (state S.Store conn.new) }
-{
-    let key = digest.as_slice().to_sql();
-    read_all(conn, "SELECT audience FROM badge WHERE digest = ?1", &[key])
-}
 
 /// The audience that a row shows.
 fn read_audience(row: &Row) -> Result<Audience, StoreFault>
@@ -39,37 +24,6 @@ fn read_audience(row: &Row) -> Result<Audience, StoreFault>
     ensures fault { IfErr result (λ fault. fault ≡ StoreFault.Sql) }
 {
     Ok(audience(number_at(row, 0)?))
-}
-
-/// The audience of the desk key with a digest, `None` where there is no such key.
-pub(crate) fn audience_of<S: Alter>(
-    conn: &mut Connection<S>,
-    digest: &[u8; 32],
-) -> Result<Option<Audience>, StoreFault>
-    requires holds { HoldsDesk (state S.Store conn.old) }
-    ensures asks { Asks S.Store conn.old conn.new result StoreFault.Sql (λ found.
-        found ≡ get (desk S.Store conn.old).keys digest.now) }
-    ensures kept { HoldsDesk (state S.Store conn.new) }
-{
-    let rows = audience_rows(conn, digest)?;
-    match rows.first() {
-        Some(row) => Ok(Some(read_audience(row)?)),
-        None => Ok(None),
-    }
-}
-
-/// The rows for all desk keys.
-fn key_rows<S: Alter>(conn: &mut Connection<S>) -> Result<Vec<Row>, StoreFault>
-    requires holds { HoldsDesk (state S.Store conn.old) }
-    ensures asks { Asks S.Store conn.old conn.new result StoreFault.Sql (λ rows.
-        rows.items ≡ map key_sheet.columns (entries (desk S.Store conn.old).keys)) }
-    ensures kept { HoldsDesk (state S.Store conn.new) }
-{
-    read_all(
-        conn,
-        "SELECT digest, audience FROM badge ORDER BY digest",
-        &[],
-    )
 }
 
 /// The key that a row shows: its digest, and its audience.
@@ -97,20 +51,6 @@ fn read_keys(alloc: Global, rows: &[Row]) -> Result<Vec<([u8; 32], Audience)>, S
     Ok(keys)
 }
 
-/// All keys, by digest.
-pub(crate) fn keys<S: Alter>(
-    alloc: Global,
-    conn: &mut Connection<S>,
-) -> Result<Vec<([u8; 32], Audience)>, StoreFault>
-    requires holds { HoldsDesk (state S.Store conn.old) }
-    ensures asks { Asks S.Store conn.old conn.new result StoreFault.Sql (λ keys.
-        keys.items ≡ entries (desk S.Store conn.old).keys) }
-    ensures kept { HoldsDesk (state S.Store conn.new) }
-{
-    let rows = key_rows(conn)?;
-    read_keys(alloc, &rows)
-}
-
 /// Whether a row shows a staff key with another digest.
 fn shows_other(row: &Row, digest: &[u8; 32]) -> Result<bool, StoreFault>
     ensures other { IfOk result (λ other. IsTrue other ↔ ShowsOther digest.now row.now) }
@@ -133,20 +73,6 @@ fn show_other(rows: &[Row], digest: &[u8; 32]) -> Result<bool, StoreFault>
         }
     }
     Ok(false)
-}
-
-/// Whether there is a staff key beside the one with a digest.
-pub(crate) fn has_other_staff<S: Alter>(
-    conn: &mut Connection<S>,
-    digest: &[u8; 32],
-) -> Result<bool, StoreFault>
-    requires holds { HoldsDesk (state S.Store conn.old) }
-    ensures asks { Asks S.Store conn.old conn.new result StoreFault.Sql (λ other. MatchBool other
-        (HasOtherStaff (desk S.Store conn.old) digest.now) (¬ HasOtherStaff (desk S.Store conn.old) digest.now)) }
-    ensures kept { HoldsDesk (state S.Store conn.new) }
-{
-    let rows = key_rows(conn)?;
-    show_other(&rows, digest)
 }
 
 /// Takes a desk key away, if it is there; another staff key stands.
@@ -211,47 +137,100 @@ pub(crate) fn write_key<S: Alter>(
     tx.commit()
 }
 
-/// Puts a desk key, in place of one with its digest, where a staff key is left.
-pub(crate) fn put_key<S: Alter>(
-    conn: &mut Connection<S>,
-    digest: &[u8; 32],
-    audience: Audience,
-) -> Result<(), StoreFault>
-    requires holds { HoldsDesk (state S.Store conn.old) }
-    requires key { IsKey digest.now audience }
-    ensures kept { HoldsDesk (state S.Store conn.new) }
-    ensures changes { Changes S.Store conn.old conn.new (with_key digest.now audience (desk S.Store conn.old)) result }
-    ensures judges { Judges S.Store conn.new result ⊤
-        ((audience ≢ Audience.Staff) × IsLastStaff (desk S.Store conn.old) digest.now) }
-    ensures fault { IfErr result (λ fault. fault ≢ StoreFault.Missing) }
-{
-    if audience != Audience::Staff && !has_other_staff(conn, digest)? {
-        return Err(StoreFault::Conflict);
+impl<S: Alter> Store<S> {
+    /// The rows for the desk key with a digest.
+    fn audience_rows(&mut self, digest: &[u8; 32]) -> Result<Vec<Row>, StoreFault>
+        ensures reads { Reads S.Store self.old self.new result (λ rows.
+            rows.items ≡ map audience_shown (option_to_list (get (desk S.Store self.old).keys digest.now))) }
+        ensures fault { IfErr result (λ fault. fault ≡ StoreFault.Sql) }
+    {
+        let key = digest.as_slice().to_sql();
+        self.query("SELECT audience FROM badge WHERE digest = ?1", &[key])
     }
-    outside(conn)?;
-    match write_key(conn, digest, audience) {
-        Ok(()) => Ok(()),
-        Err(_) => Err(StoreFault::Sql),
-    }
-}
 
-/// Takes a desk key away, if it is there, where a staff key is left.
-pub(crate) fn drop_key<S: Alter>(
-    conn: &mut Connection<S>,
-    digest: &[u8; 32],
-) -> Result<(), StoreFault>
-    requires holds { HoldsDesk (state S.Store conn.old) }
-    ensures kept { HoldsDesk (state S.Store conn.new) }
-    ensures changes { Changes S.Store conn.old conn.new (without_key digest.now (desk S.Store conn.old)) result }
-    ensures judges { Judges S.Store conn.new result ⊤ (IsLastStaff (desk S.Store conn.old) digest.now) }
-    ensures fault { IfErr result (λ fault. fault ≢ StoreFault.Missing) }
-{
-    if !has_other_staff(conn, digest)? {
-        return Err(StoreFault::Conflict);
+    /// The audience of the desk key that has a digest, its SHA-256; `None` where there is no such key.
+    ///
+    /// It fails with `Sql`.
+    pub fn audience_of(&mut self, digest: &[u8; 32]) -> Result<Option<Audience>, StoreFault>
+        ensures reads { Reads S.Store self.old self.new result (λ found.
+            found ≡ get (desk S.Store self.old).keys digest.now) }
+        ensures fault { IfErr result (λ fault. fault ≡ StoreFault.Sql) }
+    {
+        let rows = self.audience_rows(digest)?;
+        match rows.first() {
+            Some(row) => Ok(Some(read_audience(row)?)),
+            None => Ok(None),
+        }
     }
-    outside(conn)?;
-    match delete_key(conn, digest) {
-        Ok(_) => Ok(()),
-        Err(_) => Err(StoreFault::Sql),
+
+    /// The rows for all desk keys.
+    fn key_rows(&mut self) -> Result<Vec<Row>, StoreFault>
+        ensures reads { Reads S.Store self.old self.new result (λ rows.
+            rows.items ≡ map key_sheet.columns (entries (desk S.Store self.old).keys)) }
+        ensures fault { IfErr result (λ fault. fault ≡ StoreFault.Sql) }
+    {
+        self.query("SELECT digest, audience FROM badge ORDER BY digest", &[])
+    }
+
+    /// All desk keys, by digest, each with its audience. It is one query.
+    ///
+    /// It fails with `Sql`.
+    pub fn keys(&mut self, alloc: Global) -> Result<Vec<([u8; 32], Audience)>, StoreFault>
+        ensures reads { Reads S.Store self.old self.new result (λ keys.
+            keys.items ≡ entries (desk S.Store self.old).keys) }
+        ensures fault { IfErr result (λ fault. fault ≡ StoreFault.Sql) }
+    {
+        let rows = self.key_rows()?;
+        read_keys(alloc, &rows)
+    }
+
+    /// Whether there is a staff key beside the one with a digest.
+    fn has_other_staff(&mut self, digest: &[u8; 32]) -> Result<bool, StoreFault>
+        ensures reads { Reads S.Store self.old self.new result (λ other.
+            MatchBool other
+            (HasOtherStaff (desk S.Store self.old) digest.now) (¬ HasOtherStaff (desk S.Store self.old) digest.now)) }
+        ensures fault { IfErr result (λ fault. fault ≡ StoreFault.Sql) }
+    {
+        let rows = self.key_rows()?;
+        show_other(&rows, digest)
+    }
+
+    /// Puts a desk key by its digest, for the reading room or the staff, in place of the one with this digest,
+    /// if there is one.
+    ///
+    /// It fails with `Conflict` if no staff key would be left, and with `Sql`.
+    pub fn put_key(&mut self, digest: &[u8; 32], audience: Audience) -> Result<(), StoreFault>
+        requires key { IsKey digest.now audience }
+        ensures changes { Changes S.Store self.old self.new (with_key digest.now audience (desk S.Store self.old)) result }
+        ensures judges { Judges S.Store self.new result ⊤
+            ((audience ≢ Audience.Staff) × IsLastStaff (desk S.Store self.old) digest.now) }
+        ensures fault { IfErr result (λ fault. fault ≢ StoreFault.Missing) }
+    {
+        if audience != Audience::Staff && !self.has_other_staff(digest)? {
+            return Err(StoreFault::Conflict);
+        }
+        self.outside_transaction()?;
+        match write_key(&mut self.conn, digest, audience) {
+            Ok(()) => Ok(()),
+            Err(_) => Err(StoreFault::Sql),
+        }
+    }
+
+    /// Takes a desk key away by its digest, if it is there.
+    ///
+    /// It fails with `Conflict` if it is the last staff key, and with `Sql`.
+    pub fn drop_key(&mut self, digest: &[u8; 32]) -> Result<(), StoreFault>
+        ensures changes { Changes S.Store self.old self.new (without_key digest.now (desk S.Store self.old)) result }
+        ensures judges { Judges S.Store self.new result ⊤ (IsLastStaff (desk S.Store self.old) digest.now) }
+        ensures fault { IfErr result (λ fault. fault ≢ StoreFault.Missing) }
+    {
+        if !self.has_other_staff(digest)? {
+            return Err(StoreFault::Conflict);
+        }
+        self.outside_transaction()?;
+        match delete_key(&mut self.conn, digest) {
+            Ok(_) => Ok(()),
+            Err(_) => Err(StoreFault::Sql),
+        }
     }
 }

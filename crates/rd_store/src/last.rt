@@ -3,17 +3,16 @@
 ghost use Rattle.std.specs.Prelude.{◌≡◌, IfErr, IfOk, MatchBool, MatchOption, Some};
 ghost use Rattle.std.specs.FinMap.{FinMap, get};
 ghost use Rattle.std.specs.Ordering.{nat_cmp};
-ghost use Rattle.sqlite.specs.Held.{state};
-ghost use Rattle.rd_protocol.specs.declared.rows.ImageRow.{ImageRow as Image};
-ghost use Rattle.rd_store.specs.Held.{Asks, HoldsDesk, desk};
-ghost use Rattle.rd_store.specs.Last.{IsAmong, IsKept, IsLastOf, IsOnlyAskedFor};
+ghost use Rattle.rd_holdings.specs.declared.rows.ImageRow.{ImageRow as Image};
+ghost use Rattle.rd_store.specs.Held.{desk, Reads};
+ghost use Rattle.rd_store.specs.Last.{IsAmong, IsKept, IsOnlyAskedFor};
 
 use crate::faults::StoreFault;
-use crate::images::image;
 use crate::outside::stays_open;
+use crate::store::Store;
 use rd_geometry::Items;
-use rd_protocol::ImageRow;
-use sqlite::{Alter, Connection};
+use rd_holdings::ImageRow;
+use sqlite::Alter;
 use std::alloc::Global;
 
 /// What is kept of the image that was read last, or copied from memory. It is copied only where it is asked for twice
@@ -87,26 +86,24 @@ impl KeptImage {
     }
 }
 
-/// The image of an accession, `None` where there is none: a copy of the one that is kept, for which it reads no row, or
-/// else the one in the table.
-pub(crate) fn image_again<S: Alter>(
-    alloc: Global,
-    conn: &mut Connection<S>,
-    last: &mut KeptImage,
-    acc: u32,
-) -> Result<Option<ImageRow>, StoreFault>
-    requires holds { HoldsDesk (state S.Store conn.old) }
-    requires last { IsLastOf S.Store conn.old last.old }
-    ensures asks { Asks S.Store conn.old conn.new result StoreFault.Sql (λ found.
-        found ≡ get (desk S.Store conn.old).images acc) }
-    ensures kept { HoldsDesk (state S.Store conn.new) }
-    ensures last { IsLastOf S.Store conn.new last.new }
-{
-    if let Some(image) = last.kept(acc) {
-        stays_open(conn)?;
-        return Ok(Some(copy_of(alloc, image)?));
+impl<S: Alter> Store<S> {
+    /// The image of an accession, 1 to 999,999; `None` where there is none. The answer is that of `image`. This
+    /// function is for callers who ask for one accession again and again, as a reader does who takes file after file
+    /// of a disk: an image that is asked for twice in a row is kept in memory from then on, and read from there until
+    /// a caller asks here for another. If there is no memory to keep it, it is read from its row each time.
+    ///
+    /// It fails with `Sql`.
+    pub fn image_again(&mut self, alloc: Global, acc: u32) -> Result<Option<ImageRow>, StoreFault>
+        ensures reads { Reads S.Store self.old self.new result (λ found.
+            found ≡ get (desk S.Store self.old).images acc) }
+        ensures fault { IfErr result (λ fault. fault ≡ StoreFault.Sql) }
+    {
+        if let Some(image) = self.last.kept(acc) {
+            stays_open(&mut self.conn)?;
+            return Ok(Some(copy_of(alloc, image)?));
+        }
+        let found = self.image(alloc, acc)?;
+        self.last.note(alloc, acc, &found);
+        Ok(found)
     }
-    let found = image(alloc, conn, acc)?;
-    last.note(alloc, acc, &found);
-    Ok(found)
 }

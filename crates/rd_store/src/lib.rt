@@ -32,7 +32,7 @@ mod walking;
 
 pub use crash_laws::left_desks_open;
 pub use faults::{CreateFault, OpenFault, Refused, StoreFault};
-pub use rd_protocol::{
+pub use rd_holdings::{
     Accession, DeedRow, ImageRow, Indexed, Outcome, is_donor, rules_are_in_order, rules_are_those,
 };
 pub use rulebook::Rulebook;

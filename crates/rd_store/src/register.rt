@@ -6,13 +6,13 @@ ghost use Rattle.std.specs.List.Sorted.{IsSearchInRange};
 ghost use Rattle.std.specs.Ordering.{nat_cmp};
 ghost use Rattle.std.specs.FinMap.{FinMap, get, insert};
 ghost use Rattle.rd_store.specs.declared.images.Heading.{Heading as Entry};
-ghost use Rattle.rd_protocol.specs.declared.rows.ImageRow.{ImageRow};
+ghost use Rattle.rd_holdings.specs.declared.rows.ImageRow.{ImageRow};
 ghost use Rattle.rd_store.specs.Register.{HasRoom, IsPlaceIn, entry_for, given_in, given_of, listed, number_of, register_of};
 ghost use Rattle.rd_store.specs.Shown.{heading_of};
 
 use crate::faults::StoreFault;
 use crate::images::Heading;
-use rd_protocol::Accession;
+use rd_holdings::Accession;
 use std::alloc::Global;
 
 /// All accessions, ascending, each with what is kept of its image: 44 bytes.

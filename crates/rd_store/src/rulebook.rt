@@ -5,7 +5,7 @@ ghost use Rattle.std.specs.Ordering.{is_lt};
 ghost use Rattle.rd_policy.specs.Verdicts.{AreInOrder};
 ghost use Rattle.rd_policy.specs.declared.rule.Band.{Band as RuleBand};
 ghost use Rattle.rd_store.specs.Ruled.{AreAllRules, is_below, is_up_to, side_of};
-ghost use Rattle.rd_protocol.specs.State.{Desk, all_rules, place_cmp, place_of, rules_at, band_code};
+ghost use Rattle.rd_holdings.specs.State.{Desk, all_rules, place_cmp, place_of, rules_at, band_code};
 
 use crate::codes;
 use rd_policy::{Band, Rule};

@@ -5,43 +5,21 @@ ghost use Rattle.sqlite.specs.Order.{column};
 ghost use Rattle.sqlite_value.specs.Order.{bytes};
 ghost use Rattle.rd_tables.specs.Sheets.{natural};
 ghost use Rattle.rd_store.specs.Codes.{select_in};
-ghost use Rattle.rd_store.specs.Held.{Asks, Changes, HoldsDesk, IsOf, IsOpen, Judges, Moves, desk};
-ghost use Rattle.rd_store.specs.Register.{IsRegisterOf};
+ghost use Rattle.rd_store.specs.Held.{Changes, HoldsDesk, IsOf, IsOpen, Judges, Moves, desk, Reads};
 ghost use Rattle.rd_store.specs.Spelled.{rule_sheet};
 ghost use Rattle.rd_policy.specs.Rules.{IsRule};
-ghost use Rattle.rd_protocol.specs.State.{Stands, all_rules as all_rules_of, place_of, rule_of, rules_at, rules_for as rules_for_accession, terms_of, with_rule, without_rule, is_at};
+ghost use Rattle.rd_holdings.specs.State.{Stands, place_of, rule_of, rules_at, terms_of, with_rule, without_rule, is_at, all_rules, rules_for};
+ghost use Rattle.rd_policy.specs.Verdicts.{AreInOrder};
 
+use crate::codes;
 use crate::decode::{audiences, band, effect, number_at, select, some_day_at, text_at};
 use crate::faults::StoreFault;
-use crate::outside::outside;
-use crate::read::read_all;
-use crate::register::Register;
 use crate::rulebook::Rulebook;
-use crate::{codes, deeds, images};
+use crate::store::Store;
 use rd_policy::{Band, Rule, Select};
 use sqlite::types::ToSql;
 use sqlite::{Alter, Connection, Error, Row, Transaction, params};
 use std::alloc::Global;
-
-/// The rows for the rules of a band and a number.
-fn rule_rows<S: Alter>(
-    conn: &mut Connection<S>,
-    band: Band,
-    scope: u32,
-) -> Result<Vec<Row>, StoreFault>
-    requires holds { HoldsDesk (state S.Store conn.old) }
-    ensures asks { Asks S.Store conn.old conn.new result StoreFault.Sql (λ rows.
-        rows.items ≡ map rule_sheet.columns (entries (retain_keys (desk S.Store conn.old).rules (λ place. is_at band scope place.band place.scope)))) }
-    ensures kept { HoldsDesk (state S.Store conn.new) }
-{
-    let first = codes::of_band(band).to_sql();
-    let second = scope.to_sql();
-    read_all(
-        conn,
-        "SELECT band, scope, rank, audiences, day_from, day_until, how, number, word, effect FROM rule WHERE band = ?1 AND scope = ?2 ORDER BY rank",
-        &[first, second],
-    )
-}
 
 /// The rank that a row shows.
 fn rank_at(row: &Row, at: usize) -> Result<u16, StoreFault>
@@ -101,54 +79,6 @@ fn read_rules(alloc: Global, rows: &[Row]) -> Result<Vec<Rule>, StoreFault>
         }
     }
     Ok(rules)
-}
-
-/// The rules of a band and a number, by rank.
-pub(crate) fn rules_of<S: Alter>(
-    alloc: Global,
-    conn: &mut Connection<S>,
-    band: Band,
-    scope: u32,
-) -> Result<Vec<Rule>, StoreFault>
-    requires holds { HoldsDesk (state S.Store conn.old) }
-    ensures asks { Asks S.Store conn.old conn.new result StoreFault.Sql (λ rules.
-        rules.items ≡ rules_at (desk S.Store conn.old) band scope) }
-    ensures kept { HoldsDesk (state S.Store conn.new) }
-{
-    let rows = rule_rows(conn, band, scope)?;
-    read_rules(alloc, &rows)
-}
-
-/// The rows for all rules, by place.
-fn place_rows<S: Alter>(conn: &mut Connection<S>) -> Result<Vec<Row>, StoreFault>
-    requires holds { HoldsDesk (state S.Store conn.old) }
-    ensures asks { Asks S.Store conn.old conn.new result StoreFault.Sql (λ rows.
-        rows.items ≡ map rule_sheet.columns (entries (desk S.Store conn.old).rules)) }
-    ensures kept { HoldsDesk (state S.Store conn.new) }
-{
-    read_all(
-        conn,
-        "SELECT band, scope, rank, audiences, day_from, day_until, how, number, word, effect FROM rule ORDER BY band, scope, rank",
-        &[],
-    )
-}
-
-/// All rules, by place.
-pub(crate) fn all_rules<S: Alter>(
-    alloc: Global,
-    conn: &mut Connection<S>,
-) -> Result<Rulebook, StoreFault>
-    requires holds { HoldsDesk (state S.Store conn.old) }
-    ensures asks { Asks S.Store conn.old conn.new result StoreFault.Sql (λ rules.
-        rules ≡ all_rules_of (desk S.Store conn.old)) }
-    ensures kept { HoldsDesk (state S.Store conn.new) }
-{
-    let rows = place_rows(conn)?;
-    let rules = read_rules(alloc, &rows)?;
-    match Rulebook::of(rules) {
-        Some(rulebook) => Ok(rulebook),
-        None => Err(StoreFault::Sql),
-    }
 }
 
 /// Takes a rule away, if it is there.
@@ -223,129 +153,172 @@ pub(crate) fn write_rule<S: Alter>(conn: &mut Connection<S>, rule: &Rule) -> Res
     tx.commit()
 }
 
-/// Whether the accession or the deed of a rule stands.
-fn stands<S: Alter>(
-    conn: &mut Connection<S>,
-    register: &Register,
-    band: Band,
-    scope: u32,
-) -> Result<bool, StoreFault>
-    requires holds { HoldsDesk (state S.Store conn.old) }
-    requires listed { IsRegisterOf S.Store conn.old register.now }
-    ensures asks { Asks S.Store conn.old conn.new result StoreFault.Sql (λ stand. MatchBool stand
-        (Stands (desk S.Store conn.old) band scope) (¬ Stands (desk S.Store conn.old) band scope)) }
-    ensures kept { HoldsDesk (state S.Store conn.new) }
-{
-    match band {
-        Band::Takedown => images::stands(conn, register, scope),
-        Band::Deed => Ok(deeds::deed(conn, scope)?.is_some()),
+impl<S: Alter> Store<S> {
+    /// The rows for the rules of a band and a number.
+    fn rule_rows(&mut self, band: Band, scope: u32) -> Result<Vec<Row>, StoreFault>
+        ensures reads { Reads S.Store self.old self.new result (λ rows.
+            rows.items ≡ map rule_sheet.columns (entries (retain_keys (desk S.Store self.old).rules (λ place. is_at band scope place.band place.scope)))) }
+        ensures fault { IfErr result (λ fault. fault ≡ StoreFault.Sql) }
+    {
+        let first = codes::of_band(band).to_sql();
+        let second = scope.to_sql();
+        self.query(
+            "SELECT band, scope, rank, audiences, day_from, day_until, how, number, word, effect FROM rule WHERE band = ?1 AND scope = ?2 ORDER BY rank",
+            &[first, second],
+        )
     }
-}
 
-/// Puts a rule, in place of one at its place, where its accession or deed stands.
-pub(crate) fn put_rule<S: Alter>(
-    conn: &mut Connection<S>,
-    register: &Register,
-    rule: &Rule,
-) -> Result<(), StoreFault>
-    requires holds { HoldsDesk (state S.Store conn.old) }
-    requires listed { IsRegisterOf S.Store conn.old register.now }
-    requires rule { IsRule rule.now }
-    ensures kept { HoldsDesk (state S.Store conn.new) }
-    ensures changes { Changes S.Store conn.old conn.new
-        (with_rule (place_of rule.now) (terms_of rule.now) (desk S.Store conn.old)) result }
-    ensures judges { Judges S.Store conn.new result (Stands (desk S.Store conn.old) rule.now.band rule.now.scope) ⊥ }
-    ensures fault { IfErr result (λ fault. fault ≢ StoreFault.Conflict) }
-{
-    if !stands(conn, register, rule.band, rule.scope)? {
-        return Err(StoreFault::Missing);
+    /// The takedowns of an accession, or the rules of a deed, by rank. `scope` is its number, 1 to 999,999.
+    ///
+    /// It fails with `Sql`.
+    pub fn rules_at(
+        &mut self,
+        alloc: Global,
+        band: Band,
+        scope: u32,
+    ) -> Result<Vec<Rule>, StoreFault>
+        ensures reads { Reads S.Store self.old self.new result (λ rules.
+            rules.items ≡ rules_at (desk S.Store self.old) band scope) }
+        ensures fault { IfErr result (λ fault. fault ≡ StoreFault.Sql) }
+    {
+        let rows = self.rule_rows(band, scope)?;
+        read_rules(alloc, &rows)
     }
-    outside(conn)?;
-    match write_rule(conn, rule) {
-        Ok(()) => Ok(()),
-        Err(_) => Err(StoreFault::Sql),
-    }
-}
 
-/// Takes a rule away, if it is there, where its accession or deed stands.
-pub(crate) fn drop_rule<S: Alter>(
-    conn: &mut Connection<S>,
-    register: &Register,
-    band: Band,
-    scope: u32,
-    rank: u16,
-) -> Result<(), StoreFault>
-    requires holds { HoldsDesk (state S.Store conn.old) }
-    requires listed { IsRegisterOf S.Store conn.old register.now }
-    ensures kept { HoldsDesk (state S.Store conn.new) }
-    ensures changes { Changes S.Store conn.old conn.new
-        (without_rule (record { band = band; scope = scope; rank = rank }) (desk S.Store conn.old)) result }
-    ensures judges { Judges S.Store conn.new result (Stands (desk S.Store conn.old) band scope) ⊥ }
-    ensures fault { IfErr result (λ fault. fault ≢ StoreFault.Conflict) }
-{
-    if !stands(conn, register, band, scope)? {
-        return Err(StoreFault::Missing);
+    /// The rows for all rules, by place.
+    fn place_rows(&mut self) -> Result<Vec<Row>, StoreFault>
+        ensures reads { Reads S.Store self.old self.new result (λ rows.
+            rows.items ≡ map rule_sheet.columns (entries (desk S.Store self.old).rules)) }
+        ensures fault { IfErr result (λ fault. fault ≡ StoreFault.Sql) }
+    {
+        self.query(
+            "SELECT band, scope, rank, audiences, day_from, day_until, how, number, word, effect FROM rule ORDER BY band, scope, rank",
+            &[],
+        )
     }
-    outside(conn)?;
-    match delete_rule(conn, band, scope, rank) {
-        Ok(_) => Ok(()),
-        Err(_) => Err(StoreFault::Sql),
+
+    /// All rules, in which `Rulebook::under` finds those of an accession and a deed. It is one query.
+    ///
+    /// It fails with `Sql`.
+    pub fn rulebook(&mut self, alloc: Global) -> Result<Rulebook, StoreFault>
+        ensures reads { Reads S.Store self.old self.new result (λ rules.
+            rules ≡ all_rules (desk S.Store self.old)) }
+        ensures fault { IfErr result (λ fault. fault ≡ StoreFault.Sql) }
+    {
+        let rows = self.place_rows()?;
+        let rules = read_rules(alloc, &rows)?;
+        match Rulebook::of(rules) {
+            Some(rulebook) => Ok(rulebook),
+            None => Err(StoreFault::Sql),
+        }
     }
-}
 
-/// These rules, and after them those of a deed.
-fn with_rules_of<S: Alter>(
-    alloc: Global,
-    conn: &mut Connection<S>,
-    rules: Vec<Rule>,
-    deed: u32,
-) -> Result<Vec<Rule>, StoreFault>
-    requires holds { HoldsDesk (state S.Store conn.old) }
-    ensures asks { Asks S.Store conn.old conn.new result StoreFault.Sql (λ all.
-        all.items ≡ rules.items ++ rules_at (desk S.Store conn.old) Band.Deed deed) }
-    ensures kept { HoldsDesk (state S.Store conn.new) }
-{
-    let mut all = rules;
-    let mut more = rules_of(alloc, conn, Band::Deed, deed)?;
-    if all.append(&mut more).is_err() {
-        return Err(StoreFault::Sql);
+    /// These rules, and after them those of a deed.
+    fn with_rules_of(
+        &mut self,
+        alloc: Global,
+        rules: Vec<Rule>,
+        deed: u32,
+    ) -> Result<Vec<Rule>, StoreFault>
+        ensures reads { Reads S.Store self.old self.new result (λ all.
+            all.items ≡ rules.items ++ rules_at (desk S.Store self.old) Band.Deed deed) }
+        ensures fault { IfErr result (λ fault. fault ≡ StoreFault.Sql) }
+    {
+        let mut all = rules;
+        let mut more = self.rules_at(alloc, Band::Deed, deed)?;
+        if all.append(&mut more).is_err() {
+            return Err(StoreFault::Sql);
+        }
+        Ok(all)
     }
-    Ok(all)
-}
 
-/// The takedowns of an accession and the rules of a deed.
-pub(crate) fn rules_of_both<S: Alter>(
-    alloc: Global,
-    conn: &mut Connection<S>,
-    acc: u32,
-    deed: u32,
-) -> Result<Vec<Rule>, StoreFault>
-    requires holds { HoldsDesk (state S.Store conn.old) }
-    ensures asks { Asks S.Store conn.old conn.new result StoreFault.Sql (λ rules.
-        rules.items ≡ rules_at (desk S.Store conn.old) Band.Takedown acc ++ rules_at (desk S.Store conn.old) Band.Deed deed) }
-    ensures kept { HoldsDesk (state S.Store conn.new) }
-{
-    let takedowns = rules_of(alloc, conn, Band::Takedown, acc)?;
-    with_rules_of(alloc, conn, takedowns, deed)
-}
+    /// The rules that decide on the files of an accession whose deed is known, both numbers 1 to
+    /// 999,999: its takedowns by rank, and then the rules of the deed by rank. It does not look up
+    /// whether the accession is there and has that deed.
+    ///
+    /// It fails with `Sql`.
+    pub fn rules_under(
+        &mut self,
+        alloc: Global,
+        acc: u32,
+        deed: u32,
+    ) -> Result<Vec<Rule>, StoreFault>
+        ensures reads { Reads S.Store self.old self.new result (λ rules.
+            rules.items ≡ rules_at (desk S.Store self.old) Band.Takedown acc ++ rules_at (desk S.Store self.old) Band.Deed deed) }
+        ensures fault { IfErr result (λ fault. fault ≡ StoreFault.Sql) }
+        ensures order { IsOpen S.Store self.new → IfOk result (λ rules. AreInOrder rules.items) }
+    {
+        let takedowns = self.rules_at(alloc, Band::Takedown, acc)?;
+        self.with_rules_of(alloc, takedowns, deed)
+    }
 
-/// The rules that decide on the files of an accession, in their order; none where it is not there. The takedowns
-/// are asked for first: then the connection is known to be open, and the register is that of the desk.
-pub(crate) fn rules_for<S: Alter>(
-    alloc: Global,
-    conn: &mut Connection<S>,
-    register: &Register,
-    acc: u32,
-) -> Result<Vec<Rule>, StoreFault>
-    requires holds { HoldsDesk (state S.Store conn.old) }
-    requires listed { IsRegisterOf S.Store conn.old register.now }
-    ensures asks { Asks S.Store conn.old conn.new result StoreFault.Sql (λ rules.
-        rules.items ≡ rules_for_accession (desk S.Store conn.old) acc) }
-    ensures kept { HoldsDesk (state S.Store conn.new) }
-{
-    let takedowns = rules_of(alloc, conn, Band::Takedown, acc)?;
-    match register.find(acc) {
-        Some(heading) => with_rules_of(alloc, conn, takedowns, heading.deed),
-        None => Ok(Vec::new(alloc)),
+    /// The rules that decide on the files of an accession, 1 to 999,999: its takedowns by rank, and then the
+    /// rules of its deed by rank; none where it is not there.
+    ///
+    /// It fails with `Sql`.
+    pub fn rules_for(&mut self, alloc: Global, acc: u32) -> Result<Vec<Rule>, StoreFault>
+        ensures reads { Reads S.Store self.old self.new result (λ rules.
+            rules.items ≡ rules_for (desk S.Store self.old) acc) }
+        ensures fault { IfErr result (λ fault. fault ≡ StoreFault.Sql) }
+        ensures order { IsOpen S.Store self.new → IfOk result (λ rules. AreInOrder rules.items) }
+    {
+        // The takedowns are asked for first: then the connection is known to be open, and the register is that of the desk.
+        let takedowns = self.rules_at(alloc, Band::Takedown, acc)?;
+        match self.register.find(acc) {
+            Some(heading) => self.with_rules_of(alloc, takedowns, heading.deed),
+            None => Ok(Vec::new(alloc)),
+        }
+    }
+
+    /// Whether the accession or the deed of a rule stands.
+    fn stands_for(&mut self, band: Band, scope: u32) -> Result<bool, StoreFault>
+        ensures reads { Reads S.Store self.old self.new result (λ stand.
+            MatchBool stand (Stands (desk S.Store self.old) band scope) (¬ Stands (desk S.Store self.old) band scope)) }
+        ensures fault { IfErr result (λ fault. fault ≡ StoreFault.Sql) }
+    {
+        match band {
+            Band::Takedown => self.stands(scope),
+            Band::Deed => Ok(self.deed(scope)?.is_some()),
+        }
+    }
+
+    /// Puts a rule, in place of the one with its band, number and rank, if there is one. Its values are
+    /// within their limits (`Rule::fits`).
+    ///
+    /// It fails with `Missing` where there is no such accession or deed, and with `Sql`.
+    pub fn put_rule(&mut self, rule: &Rule) -> Result<(), StoreFault>
+        requires rule { IsRule rule.now }
+        ensures changes { Changes S.Store self.old self.new
+            (with_rule (place_of rule.now) (terms_of rule.now) (desk S.Store self.old)) result }
+        ensures judges { Judges S.Store self.new result (Stands (desk S.Store self.old) rule.now.band rule.now.scope) ⊥ }
+        ensures fault { IfErr result (λ fault. fault ≢ StoreFault.Conflict) }
+    {
+        if !self.stands_for(rule.band, rule.scope)? {
+            return Err(StoreFault::Missing);
+        }
+        self.outside_transaction()?;
+        match write_rule(&mut self.conn, rule) {
+            Ok(()) => Ok(()),
+            Err(_) => Err(StoreFault::Sql),
+        }
+    }
+
+    /// Takes away the takedown of an accession or the rule of a deed at a rank, 1 to 9,999, if there is one.
+    ///
+    /// It fails with `Missing` where there is no such accession or deed, and with `Sql`.
+    pub fn drop_rule(&mut self, band: Band, scope: u32, rank: u16) -> Result<(), StoreFault>
+        ensures changes { Changes S.Store self.old self.new
+            (without_rule (record { band = band; scope = scope; rank = rank }) (desk S.Store self.old)) result }
+        ensures judges { Judges S.Store self.new result (Stands (desk S.Store self.old) band scope) ⊥ }
+        ensures fault { IfErr result (λ fault. fault ≢ StoreFault.Conflict) }
+    {
+        if !self.stands_for(band, scope)? {
+            return Err(StoreFault::Missing);
+        }
+        self.outside_transaction()?;
+        match delete_rule(&mut self.conn, band, scope, rank) {
+            Ok(_) => Ok(()),
+            Err(_) => Err(StoreFault::Sql),
+        }
     }
 }

@@ -4,7 +4,7 @@
 ghost use Rattle.std.specs.Prelude.{◌≡◌, ◌++◌, ◌∷◌, [], ⊤, IfOk, IfErr, None, OnOk, Some};
 ghost use Rattle.std.specs.List.Sorted.{IsNonDecreasing};
 ghost use Rattle.sqlite.specs.Held.{state};
-ghost use Rattle.rd_protocol.specs.declared.rows.ImageRow.{ImageRow};
+ghost use Rattle.rd_holdings.specs.declared.rows.ImageRow.{ImageRow};
 ghost use Rattle.rd_store.specs.Held.{Asks, HoldsCommonTables, IsClean, IsOpen};
 ghost use Rattle.rd_store.specs.Opened.{HoldsMarksIf, HoldsMarksOf, LawfulImages, TestsPart};
 ghost use Rattle.rd_store.specs.Register.{entry_in};
@@ -22,7 +22,7 @@ use crate::opening::are_rising;
 use crate::read::read_over;
 use crate::tested::is_image;
 use rd_geometry::{Items, Kind};
-use rd_protocol::ImageRow;
+use rd_holdings::ImageRow;
 use sqlite::types::ToSql;
 use sqlite::{Alter, Connection, Row};
 use std::alloc::Global;

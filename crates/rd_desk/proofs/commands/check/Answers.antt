@@ -2,7 +2,7 @@ use Rattle.std.proofs.Common.{◌∙◌, ap, sym, w32}
 use Rattle.std.proofs.lemmas.Int.{to_z-of_z}
 use Rattle.std.specs.FinMap.{get}
 use Rattle.rd_store.specs.Held.{desk}
-use Rattle.rd_protocol.specs.State.{Desk}
+use Rattle.rd_holdings.specs.State.{Desk}
 use Rattle.rd_desk.proofs.OneChange.{change_last, changes_as, check_recorded, reads_alone}
 use Rattle.rd_desk.proofs.commands.check.Goals as goal
 

@@ -1,7 +1,7 @@
 use Rattle.std.proofs.Common.{◌≡◌, Some, rules, subst, sym, ◌∙◌}
 use Rattle.std.specs.FinMap.{get}
 use Rattle.rd_store.specs.Held.{desk}
-use Rattle.rd_protocol.specs.State.{Desk}
+use Rattle.rd_holdings.specs.State.{Desk}
 use Rattle.rd_desk.specs.Calls.{AreAccessionRules}
 use Rattle.rd_protocol.specs.Queries.{Standing}
 use Rattle.rd_protocol.proofs.Reading.{if_ok, read_answered}

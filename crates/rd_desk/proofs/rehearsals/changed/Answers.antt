@@ -1,4 +1,4 @@
-use Rattle.std.proofs.Common.{◌≡◌, ◌∙◌, ◌++◌, ap, option_map, rules}
+use Rattle.std.proofs.Common.{◌∙◌, ◌++◌, ap, option_map}
 use Rattle.rd_desk.specs.Rehearsing.{place_at}
 use Rattle.std.specs.Option.{option_to_list}
 use Rattle.rd_desk.proofs.RehearsalLemmas.{those_changed}

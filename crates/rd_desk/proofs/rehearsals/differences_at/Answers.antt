@@ -1,11 +1,11 @@
-use Rattle.std.proofs.Common.{◌≡◌, ◌∙◌, ◌⊎◌, ◌↔◌, Bool, Contains, FitsSigned, List, Option, Some, ap, false, of_z, option_map, rules, subst, sym, to_z, w32}
+use Rattle.std.proofs.Common.{◌≡◌, ◌∙◌, ◌⊎◌, ◌↔◌, Contains, FitsSigned, List, Option, Some, false, option_map, rules, subst, sym, w32}
 use Rattle.std.proofs.lemmas.Int.{to_z-of_z}
 use Rattle.std.proofs.lemmas.Result.{IfOk-weaker}
 use Rattle.std.specs.FinMap.{get}
 use Rattle.rd_policy.specs.declared.rule.Rule.{Rule}
-use Rattle.rd_protocol.specs.RulesFor.{IsAbout}
-use Rattle.rd_protocol.specs.State.{Desk, rules_for}
-use Rattle.rd_protocol.specs.declared.rows.ImageRow.{ImageRow}
+use Rattle.rd_holdings.specs.RulesFor.{IsAbout}
+use Rattle.rd_holdings.specs.State.{Desk, rules_for}
+use Rattle.rd_holdings.specs.declared.rows.ImageRow.{ImageRow}
 use Rattle.rd_store.specs.Held.{desk}
 use Rattle.rd_store.specs.Index.{AreFilesIn}
 use Rattle.rd_desk.specs.Rehearsing.{is_there, place_at}

@@ -1,8 +1,8 @@
-use Rattle.std.proofs.Common.{◌≡◌, ◌≢◌, ◌∙◌, Option, Some, ap, is_some, option_map, subst, sym}
+use Rattle.std.proofs.Common.{◌≡◌, ◌∙◌, Option, ap, is_some, option_map, subst, sym}
 use Rattle.std.specs.FinMap.{get}
-use Rattle.rd_protocol.specs.RulesFor.{IsAbout}
-use Rattle.rd_protocol.specs.State.{Desk, Stands}
-use Rattle.rd_protocol.specs.declared.rows.ImageRow.{ImageRow}
+use Rattle.rd_holdings.specs.RulesFor.{IsAbout}
+use Rattle.rd_holdings.specs.State.{Desk, Stands}
+use Rattle.rd_holdings.specs.declared.rows.ImageRow.{ImageRow}
 use Rattle.rd_store.specs.Held.{desk}
 use Rattle.rd_store.specs.Index.{AreFilesIn}
 use Rattle.rd_desk.specs.Rehearsing.{AreDifferencesAt, desk_changed, place_at}

@@ -1,7 +1,7 @@
-use Rattle.std.proofs.Common.{◌≡◌, ◌∙◌, ℕ, All, List, ap, map, option_map, subst, sym}
+use Rattle.std.proofs.Common.{◌≡◌, ◌∙◌, ℕ, All, ap, map, option_map, subst, sym}
 use Rattle.std.specs.FinMap.{entries, keys}
-use Rattle.rd_protocol.specs.State.{Desk, Stands, registered}
-use Rattle.rd_protocol.specs.declared.rows.Accession.{Accession}
+use Rattle.rd_holdings.specs.State.{Desk, Stands, registered}
+use Rattle.rd_holdings.specs.declared.rows.Accession.{Accession}
 use Rattle.rd_store.specs.Held.{desk}
 use Rattle.rd_desk.specs.Calls.{IsRegistered}
 use Rattle.rd_desk.specs.Rehearsing.{AreDifferencesOf, desk_changed, place_at}

@@ -1,12 +1,7 @@
-use Rattle.std.proofs.Common.{◌≡◌, ◌∙◌, ◌+◌, ◌++◌, ◌∷◌, [], ℕ, All, List, ap, map, option_map, refl, rules, subst, sym, take, take_all}
-use Rattle.std.proofs.lemmas.List.{take_more}
-use Rattle.rd_policy.specs.declared.rule.Rule.{Rule}
-use Rattle.rd_protocol.specs.State.{Desk}
-use Rattle.rd_protocol.specs.declared.response.Difference.{Difference}
-use Rattle.rd_protocol.specs.declared.rows.Accession.{Accession}
+use Rattle.std.proofs.Common.{ℕ, List, map, option_map, rules, subst, take_all}
+use Rattle.rd_holdings.specs.declared.rows.Accession.{Accession}
 use Rattle.rd_store.specs.Held.{desk}
-use Rattle.rd_desk.specs.Calls.{IsRegistered}
-use Rattle.rd_desk.specs.Rehearsing.{AddsDifferencesAt, AreDifferencesOf, desk_changed, place_at}
+use Rattle.rd_desk.specs.Rehearsing.{AreDifferencesOf, desk_changed, place_at}
 use Rattle.rd_desk.proofs.RehearsalLemmas.{register_more, registered_still}
 use Rattle.rd_desk.proofs.Responding.{keeps_then}
 use Rattle.rd_desk.proofs.rehearsals.of_register.Goals as goal

@@ -1,4 +1,4 @@
-use Rattle.std.proofs.Common.{◌≡◌, subst, sym, w32}
+use Rattle.std.proofs.Common.{subst, sym, w32}
 use Rattle.std.proofs.lemmas.Int.{to_z-of_z}
 use Rattle.rd_protocol.specs.Rehearsals.{IsRehearsal}
 use Rattle.rd_protocol.specs.Replies.{carried_out}

@@ -1,7 +1,7 @@
 use Rattle.std.proofs.Common.{◌≡◌, ◌∙◌, ℕ, ap, map, rules}
 use Rattle.std.specs.FinMap.{entries}
-use Rattle.rd_protocol.specs.State.{Desk, registered}
-use Rattle.rd_protocol.specs.declared.rows.Accession.{Accession}
+use Rattle.rd_holdings.specs.State.{Desk, registered}
+use Rattle.rd_holdings.specs.declared.rows.Accession.{Accession}
 use Rattle.rd_store.specs.Held.{desk}
 use Rattle.rd_desk.specs.StaffLists.{check_line}
 use Rattle.rd_desk.proofs.ListLemmas.{checks_alike}

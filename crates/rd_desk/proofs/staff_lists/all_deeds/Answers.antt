@@ -1,11 +1,10 @@
-use Rattle.std.proofs.Common.{◌≡◌, ◌∙◌, ◌++◌, [], ◌∷◌, ap, map, map-id, refl, rules, sym}
+use Rattle.std.proofs.Common.{◌≡◌, ◌∙◌, ◌++◌, [], ◌∷◌, ap, map, map-id, sym}
 use Rattle.std.specs.FinMap.{entries}
 use Rattle.std.proofs.lemmas.Iterator.Adapters.{YieldsList-from_vec}
 use Rattle.std.proofs.lemmas.Iterator.Consumers.{YieldsList-end}
 use Rattle.std.proofs.lemmas.List.{map-append}
 use Rattle.rd_store.specs.Held.{desk}
-use Rattle.rd_protocol.specs.StaffLists.{deed_lines}
-use Rattle.rd_protocol.specs.State.{Desk, registered}
+use Rattle.rd_holdings.specs.State.{Desk, registered}
 use Rattle.rd_desk.specs.StaffLists.{deed_line_of}
 use Rattle.rd_desk.proofs.ListLemmas.{lines_alike}
 use Rattle.rd_desk.proofs.Responding.{keeps_then}

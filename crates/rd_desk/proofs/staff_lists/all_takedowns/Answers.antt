@@ -1,8 +1,8 @@
 use Rattle.std.proofs.Common.{◌≡◌, ◌∙◌, ℕ, ap, map, rules}
 use Rattle.std.specs.FinMap.{entries}
 use Rattle.std.specs.List.{flat_map}
-use Rattle.rd_protocol.specs.State.{Desk, registered}
-use Rattle.rd_protocol.specs.declared.rows.Accession.{Accession}
+use Rattle.rd_holdings.specs.State.{Desk, registered}
+use Rattle.rd_holdings.specs.declared.rows.Accession.{Accession}
 use Rattle.rd_store.specs.Held.{desk}
 use Rattle.rd_desk.specs.StaffLists.{takedown_lines_at}
 use Rattle.rd_desk.proofs.ListLemmas.{takedowns_alike}

@@ -1,8 +1,5 @@
-use Rattle.std.proofs.Common.{◌≡◌, ◌∙◌, ◌++◌, ◌∷◌, [], ℕ, ap, ap₂, map, rules, sym, take, take_all}
-use Rattle.rd_protocol.specs.StaffLists.{latest}
-use Rattle.rd_protocol.specs.State.{Desk}
-use Rattle.rd_protocol.specs.declared.response.CheckLine.{CheckLine}
-use Rattle.rd_protocol.specs.declared.rows.Accession.{Accession}
+use Rattle.std.proofs.Common.{◌∙◌, ℕ, ap, map, rules, take_all}
+use Rattle.rd_holdings.specs.declared.rows.Accession.{Accession}
 use Rattle.rd_store.specs.Held.{desk}
 use Rattle.rd_desk.specs.StaffLists.{check_line}
 use Rattle.rd_desk.proofs.ListLemmas.{checks_more}

@@ -1,7 +1,7 @@
-use Rattle.std.proofs.Common.{◌≡◌, ◌∙◌, ◌++◌, ℕ, ap, ap₂, rules, sym, take, take_all}
+use Rattle.std.proofs.Common.{◌∙◌, ℕ, ap, rules, sym, take_all}
 use Rattle.std.specs.List.{flat_map}
-use Rattle.rd_protocol.specs.State.{Desk, all_rules}
-use Rattle.rd_protocol.specs.declared.rows.Accession.{Accession}
+use Rattle.rd_holdings.specs.State.{all_rules}
+use Rattle.rd_holdings.specs.declared.rows.Accession.{Accession}
 use Rattle.rd_store.specs.Held.{desk}
 use Rattle.rd_desk.specs.StaffLists.{takedown_lines_at}
 use Rattle.rd_desk.proofs.ListLemmas.{takedowns_more}

@@ -1,7 +1,7 @@
-use Rattle.std.proofs.Common.{◌≡◌, ◌∙◌, ◌++◌, ◌∷◌, [], ap, sym}
+use Rattle.std.proofs.Common.{◌≡◌, ◌∙◌, sym}
 use Rattle.rd_policy.specs.declared.rule.Band.TheVariants.{Takedown}
 use Rattle.rd_protocol.specs.StaffLists.{has_rules}
-use Rattle.rd_protocol.specs.State.{rules_at}
+use Rattle.rd_holdings.specs.State.{rules_at}
 use Rattle.rd_store.specs.Held.{desk}
 use Rattle.rd_desk.proofs.ListLemmas.{no_takedowns, some_takedowns}
 use Rattle.rd_desk.proofs.Responding.{keeps_still}

@@ -2,7 +2,7 @@ use Rattle.std.proofs.Common.{◌≡◌, ◌∙◌, ◌++◌, All, ap, ap₂, re
 use Rattle.std.proofs.lemmas.Int.{to_z-of_z}
 use Rattle.rd_policy.specs.declared.rule.Band.TheVariants.{Deed}
 use Rattle.rd_volume.specs.Volumes.{AreFounds}
-use Rattle.rd_protocol.specs.State.{rules_at, rules_for, rules_with}
+use Rattle.rd_holdings.specs.State.{rules_at, rules_for, rules_with}
 use Rattle.rd_protocol.specs.Verdicts.{IsDecided}
 use Rattle.rd_desk.proofs.verdicts.verdicts_of.Goals as goal
 

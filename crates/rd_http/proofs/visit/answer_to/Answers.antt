@@ -1,6 +1,5 @@
-use Rattle.std.proofs.Common.{◌∙◌, ap, inl, inr, refl, subst, w64}
+use Rattle.std.proofs.Common.{◌∙◌, ap, inl, inr, refl, subst, w32}
 use Rattle.std.proofs.lemmas.Int.{to_z-of_z}
-use Rattle.rd_policy.specs.Zones.{day_number}
 use Rattle.rd_desk.specs.Served.{Serves}
 use Rattle.rd_messages.specs.Asked.{request, fault}
 use Rattle.rd_messages.specs.ReplyText.{reply_bytes}
@@ -10,9 +9,9 @@ use Rattle.rd_messages.specs.Answers.{answer_bytes}
 pub returns-in-Request-clause-answers : goal.returns-in-Request-clause-answers
 returns-in-Request-clause-answers g c stream is =
     let serves =
-    subst (λ seconds. Serves g.S.Store c.args.desk.now.store c.answer.new.self.store (day_number seconds c.args.desk.now.zone) c.in-Request.request c.answer.result)
-    (to_z-of_z w64 c.args.seconds c.ranges.seconds) c.answer.ensures.serves in
-    inl (request c.in-Request.request, rw c.in-Request.is at is, (c.answer.result, serves, c.of_desk.ensures.text))
+    subst (λ day. Serves g.S.Store c.args.desk.now.store c.answer_on.new.self.store day c.in-Request.request c.answer_on.result)
+    (to_z-of_z w32 c.args.day c.ranges.day) c.answer_on.ensures.serves in
+    inl (request c.in-Request.request, rw c.in-Request.is at is, (c.answer_on.result, serves, c.of_desk.ensures.text))
 
 pub returns-in-Fault-clause-answers : goal.returns-in-Fault-clause-answers
 returns-in-Fault-clause-answers g c stream is =

@@ -1,11 +1,9 @@
-use Rattle.std.proofs.Common.{◌≡◌, ◌↔◌, Err, IfSome, subst, w64}
+use Rattle.std.proofs.Common.{subst, w64}
 use Rattle.std.proofs.lemmas.Int.{to_z-of_z}
-use Rattle.rd_policy.specs.Days.{HasDay}
 use Rattle.rd_policy.specs.Zones.{day_number}
 use Rattle.rd_store.specs.Held.{IsOpen, desk as tables}
 use Rattle.rd_http.specs.Hidden.{HidesFromVisitor}
-use Rattle.rd_http.specs.Visits.{IsAnswer, Visits}
-use Rattle.rd_http.specs.declared.visit.WireFault.TheVariants.{Clock}
+use Rattle.rd_http.specs.Visits.{IsAnswer, IsServed, Visits}
 use Rattle.rd_http.proofs.Hiding.{answer_hides}
 use Rattle.rd_http.proofs.RunLemmas.{if_told}
 use Rattle.rd_http.proofs.VisitLemmas.{visits_then}
@@ -15,8 +13,7 @@ pub returns-clause-served : goal.returns-clause-served
 returns-clause-served g c =
     let old = c.args.desk.now in
     let new = c.serve_visit.new.desk in
-    subst (λ seconds. IfSome (g.W.Wire.incoming c.args.wire.now) (λ stream. Visits (IsAnswer g.S.Store stream old.store new.store (day_number seconds old.zone)) old.store new.store
-    (g.W.Wire.outgoing c.args.wire.now) (g.W.Wire.outgoing c.serve_visit.new.wire) c.serve_visit.result)) (to_z-of_z w64 c.args.seconds c.ranges.seconds) c.serve_visit.ensures.served
+    subst (λ seconds. IsServed g.S.Store g.W.Wire seconds old.zone c.args.wire.now c.serve_visit.new.wire old.store new.store c.serve_visit.result) (to_z-of_z w64 c.args.seconds c.ranges.seconds) c.serve_visit.ensures.served
 
 pub returns-clause-hidden : goal.returns-clause-hidden
 returns-clause-hidden g c =
@@ -28,10 +25,6 @@ returns-clause-hidden g c =
     let result = c.serve_visit.result in
     if_told (λ stream. Visits (IsAnswer g.S.Store stream old.store new.store day) old.store new.store before after result)
     (λ stream. Visits (λ text. IsOpen g.S.Store new.store → HidesFromVisitor stream (tables g.S.Store old.store) day text) old.store new.store before after result)
-    (g.W.Wire.incoming c.args.wire.now) (returns-clause-served g c) (λ stream visits.
+    (g.W.Wire.incoming c.args.wire.now) (returns-clause-served g c).replied (λ stream visits.
     visits_then (IsAnswer g.S.Store stream old.store new.store day) (λ text. IsOpen g.S.Store new.store → HidesFromVisitor stream (tables g.S.Store old.store) day text) old.store new.store
     (λ text answer. answer_hides g.S.Store old.zone stream old.store new.store day text answer) before after result visits)
-
-pub returns-clause-clock : goal.returns-clause-clock
-returns-clause-clock g c =
-    subst (λ seconds. (¬ (c.serve_visit.result ≡ Err Clock)) ↔ HasDay seconds) (to_z-of_z w64 c.args.seconds c.ranges.seconds) c.serve_visit.ensures.clock

@@ -8,12 +8,12 @@ use Rattle.rd_program.specs.Showing.{IsDueOn, OfDesk, RefusesShow, Shows, show_r
 use Rattle.rd_program.proofs.Showing.{badge_there, clock_due, clock_no_accession, due_of, passed_on}
 use Rattle.rd_program.proofs.export_check.tell_asked.Goals as goal
 
-pub returns-in_err-seconds-clause-not_shown : goal.returns-in_err-seconds-clause-not_shown
-returns-in_err-seconds-clause-not_shown g c = λ what is some.
-    passed_on c.from_residual.result c.in_err-seconds.field-0.0 _ c.from_residual.ensures.1 (
-      (inl (inr (inl c.in_err-seconds.ensures.refused), Keeps-refl _), clock_no_accession c.in_err-seconds.field-0.0 c.in_err-seconds.ensures.refused),
+pub returns-in_err-day-clause-not_shown : goal.returns-in_err-day-clause-not_shown
+returns-in_err-day-clause-not_shown g c = λ what is some.
+    passed_on c.from_residual.result c.in_err-day.field-0.0 _ c.from_residual.ensures.1 (
+      (inl (inr (inl c.in_err-day.ensures.refused), Keeps-refl _), clock_no_accession c.in_err-day.field-0.0 c.in_err-day.ensures.refused),
       clock_due g.S.Store (show_request (option_map sha256 (option_map (λ key. key.now) c.args.ask.now.key)) what) c.args.desk.now.store c.args.desk.now.store
-          c.in_err-seconds.field-0.0 c.in_err-seconds.ensures.refused,
+          c.in_err-day.field-0.0 c.in_err-day.ensures.refused,
     )
 
 pub returns-in-Catalogue-clause-shown : goal.returns-in-Catalogue-clause-shown

@@ -1,4 +1,3 @@
-use Rattle.rd_policy.specs.Zones.{day_number}
 use Rattle.rd_program.proofs.Imported.{machine_failed, none_of_line}
 use Rattle.rd_program.proofs.Stepped.{row_taken}
 use Rattle.rd_program.proofs.import.import_row.Goals as goal
@@ -9,5 +8,5 @@ returns-in-Err-clause-refused g c = (machine_failed c.in-Err.fault c.or.result c
 pub returns-clause-takes : goal.returns-clause-takes
 returns-clause-takes g c =
     let asked = c.put_image-reply in
-    row_taken g.M.Disk.Store c.args.desk.now.store asked.new.desk.store (day_number c.args.giver.seconds c.args.desk.now.zone) asked.result
+    row_taken g.M.Disk.Store c.args.desk.now.store asked.new.desk.store c.args.giver.day asked.result
     c.args.giver.badge c.args.row c.in-Ok.bytes.items asked.ensures.serves

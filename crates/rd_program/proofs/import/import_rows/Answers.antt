@@ -26,15 +26,9 @@ loop-number-preserved g c = record {
   told = subst (TellsRows (g.W.Write.contents c.args.output.now) (g.W.Write.contents c.import_fields.new.output)) (sym c.and-done.ensures)
       (rows_more c.loop-number.done c.in_ok-row.row _ _ _ c.loop-number.invariant.told c.in_ok-row.ensures.told);
   zone = c.import_fields.ensures.zone ∙ c.loop-number.invariant.zone;
-  takes = let day = day_number c.args.giver.seconds c.args.desk.now.zone in
-      let row = subst (λ z. LeavesDesk g.M.Disk.Store (TakesFields c.args.giver.badge (day_number c.args.giver.seconds z) (fields_of c.next_row-in-loop-number.new.fields)) c.loop-number.desk.store c.import_fields.new.desk.store)
-      c.loop-number.invariant.zone c.import_fields.ensures.takes in
-      row_more g.M.Disk.Store c.args.giver.badge day _ c.args.desk.now.store c.loop-number.desk.store c.import_fields.new.desk.store c.loop-number.invariant.takes row;
+  takes = row_more g.M.Disk.Store c.args.giver.badge c.args.giver.day _ c.args.desk.now.store c.loop-number.desk.store c.import_fields.new.desk.store c.loop-number.invariant.takes c.import_fields.ensures.takes;
 }
 
 pub returns-in_err-row-clause-takes : goal.returns-in_err-row-clause-takes
 returns-in_err-row-clause-takes g c =
-    let day = day_number c.args.giver.seconds c.args.desk.now.zone in
-    let row = subst (λ z. LeavesDesk g.M.Disk.Store (TakesFields c.args.giver.badge (day_number c.args.giver.seconds z) (fields_of c.next_row-in-loop-number.new.fields)) c.loop-number.desk.store c.import_fields.new.desk.store)
-    c.loop-number.invariant.zone c.import_fields.ensures.takes in
-    row_more g.M.Disk.Store c.args.giver.badge day _ c.args.desk.now.store c.loop-number.desk.store c.import_fields.new.desk.store c.loop-number.invariant.takes row
+    row_more g.M.Disk.Store c.args.giver.badge c.args.giver.day _ c.args.desk.now.store c.loop-number.desk.store c.import_fields.new.desk.store c.loop-number.invariant.takes c.import_fields.ensures.takes

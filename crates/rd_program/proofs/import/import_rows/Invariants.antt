@@ -1,5 +1,4 @@
 use Rattle.std.proofs.Common.{◌≡◌}
-use Rattle.rd_policy.specs.Zones.{day_number}
 use Rattle.rd_program.specs.Importing.{TellsRows}
 use Rattle.rd_program.specs.Leaves.{LeavesDesk, TakesIn}
 use Rattle.rd_program.proofs.import.import_rows.Given as goal
@@ -8,5 +7,5 @@ abbrev pub invariant-loop-number : goal.invariant-loop-number
 invariant-loop-number g l = record {
   told : TellsRows (g.W.Write.contents l.fn.output) (g.W.Write.contents l.output) l.done;
   zone : l.desk.zone ≡ l.fn.desk.zone;
-  takes : LeavesDesk g.M.Disk.Store (TakesIn l.giver.badge (λ day. day ≡ day_number l.giver.seconds l.fn.desk.zone)) l.fn.desk.store l.desk.store;
+  takes : LeavesDesk g.M.Disk.Store (TakesIn l.giver.badge (λ day. day ≡ l.giver.day)) l.fn.desk.store l.desk.store;
 }

@@ -4,10 +4,10 @@ use Rattle.sqlite.specs.declared.error.Error.{Error}
 use Rattle.sqlite.specs.Held.{state}
 use Rattle.rd_tables.proofs.Entries.{get_removed, insert_removed}
 use Rattle.rd_store.specs.Held.{IsOf, HoldsDesk, Moves, Changes, desk}
-use Rattle.rd_protocol.specs.State.{Desk, checkup_cmp, with_check, without_check}
+use Rattle.rd_holdings.specs.State.{Desk, checkup_cmp, with_check, without_check}
 use Rattle.rd_store.proofs.Laws.{Laws, clean_at}
 use Rattle.rd_store.proofs.Orders.{checkup_order}
-use Rattle.rd_protocol.proofs.Lawful.{lawful_check}
+use Rattle.rd_holdings.proofs.Lawful.{lawful_check}
 use Rattle.rd_store.proofs.Inside.{begun, and_then, stopped, undoes, commits}
 use Rattle.rd_store.proofs.Whole.{starts, changes}
 use Rattle.rd_store.proofs.checks.write_check.Goals as goal

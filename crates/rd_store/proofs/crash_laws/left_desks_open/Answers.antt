@@ -8,11 +8,11 @@ use Rattle.rd_store.specs.declared.faults.OpenFault.{OpenFault}
 use Rattle.rd_store.specs.declared.faults.OpenFault.TheVariants.{NotADesk, Version as OtherVersion, Inconsistent, Sql}
 use Rattle.rd_store.specs.Held.{IsLeft}
 use Rattle.rd_store.specs.Index.{IsIndexOf}
-use Rattle.rd_protocol.specs.Lawful.{IsLawful}
+use Rattle.rd_holdings.specs.Lawful.{IsLawful}
 use Rattle.rd_store.specs.Migrated.{IsFirstConsistent, IsSecondConsistent, RefusesEach}
 use Rattle.rd_store.specs.Opened.{IsConsistent, Refuses}
 use Rattle.rd_store.specs.Spelled.{index_of}
-use Rattle.rd_protocol.specs.State.{Desk}
+use Rattle.rd_holdings.specs.State.{Desk}
 use Rattle.rd_store.proofs.crash_laws.left_desks_open.Goals as goal
 
 consistent : (desk : Desk) (left : Trees) → IsLeft desk left → IsConsistent left

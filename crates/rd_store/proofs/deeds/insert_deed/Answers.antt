@@ -5,13 +5,13 @@ use Rattle.sqlite.specs.Held.{state}
 use Rattle.rd_tables.specs.Statements.{put_deed_text, put_deed}
 use Rattle.rd_tables.proofs.Statements.{deed_params}
 use Rattle.rd_tables.proofs.StatementTexts.{put_deed_writes}
-use Rattle.rd_protocol.specs.declared.rows.DeedRow.{DeedRow}
+use Rattle.rd_holdings.specs.declared.rows.DeedRow.{DeedRow}
 use Rattle.rd_store.specs.Held.{IsClean, desk}
-use Rattle.rd_protocol.specs.State.{with_deed}
+use Rattle.rd_holdings.specs.State.{with_deed}
 use Rattle.rd_store.proofs.Laws.{Laws}
 use Rattle.rd_store.proofs.Single.{single}
 use Rattle.rd_store.proofs.Making.{makes_new_deed}
-use Rattle.rd_protocol.proofs.Lawful.{lawful_deed}
+use Rattle.rd_holdings.proofs.Lawful.{lawful_deed}
 use Rattle.rd_store.proofs.deeds.insert_deed.Goals as goal
 
 pub returns : goal.returns

@@ -3,13 +3,13 @@ use Rattle.std.specs.FinMap.{insert}
 use Rattle.sqlite.specs.declared.error.Error.{Error}
 use Rattle.rd_geometry.specs.declared.kind.Kind.TheVariants.{D64}
 use Rattle.rd_tables.proofs.Entries.{get_inserted}
-use Rattle.rd_protocol.specs.declared.rows.ImageRow.{ImageRow}
+use Rattle.rd_holdings.specs.declared.rows.ImageRow.{ImageRow}
 use Rattle.rd_store.specs.Codes.{kind_code, kind_in}
 use Rattle.rd_store.specs.Held.{IsOfWith, LacksImage, Moves}
 use Rattle.rd_store.specs.Index.{IsFiledTo, with_new_image}
 use Rattle.rd_store.specs.Marks.{with_marks}
 use Rattle.rd_store.specs.Shown.{as_row, image_with}
-use Rattle.rd_protocol.specs.State.{Desk}
+use Rattle.rd_holdings.specs.State.{Desk}
 use Rattle.rd_store.proofs.Inside.{and_then, stopped}
 use Rattle.rd_store.proofs.Joined.{image_again}
 use Rattle.rd_store.proofs.Orders.{number_order}

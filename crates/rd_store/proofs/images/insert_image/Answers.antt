@@ -1,7 +1,7 @@
 use Rattle.std.proofs.Common.{◌≢◌, ℕ, rules, subst}
 use Rattle.sqlite.specs.declared.error.Error.{Error}
 use Rattle.rd_geometry.specs.declared.kind.Kind.TheVariants.{D64e}
-use Rattle.rd_protocol.specs.declared.rows.ImageRow.{ImageRow}
+use Rattle.rd_holdings.specs.declared.rows.ImageRow.{ImageRow}
 use Rattle.rd_store.specs.Held.{IsOfWith, LacksImage, Moves}
 use Rattle.rd_store.specs.Index.{IsFiledTo, with_new_image}
 use Rattle.rd_store.specs.Shown.{image_with}

@@ -4,7 +4,7 @@ use Rattle.sqlite.specs.Held.{state}
 use Rattle.rd_store.specs.Held.{IsOf, IsOfWith, HoldsDesk, LacksImage, Moves, Changes, desk}
 use Rattle.rd_store.specs.Index.{IsFiledTo, with_new_image}
 use Rattle.rd_store.specs.Shown.{image_with}
-use Rattle.rd_protocol.specs.State.{with_image}
+use Rattle.rd_holdings.specs.State.{with_image}
 use Rattle.rd_store.proofs.Laws.{Laws, clean_at}
 use Rattle.rd_store.proofs.Inside.{begun, and_then, moves_to, stopped, undoes, commits}
 use Rattle.rd_store.proofs.Making.{filed_whole}

@@ -6,7 +6,7 @@ use Rattle.rd_tables.specs.Statements.{drop_key_text, drop_key}
 use Rattle.rd_tables.proofs.Statements.{digest_params}
 use Rattle.rd_tables.proofs.StatementTexts.{drop_key_writes}
 use Rattle.rd_store.specs.Held.{IsOf, IsClean}
-use Rattle.rd_protocol.specs.State.{without_key}
+use Rattle.rd_holdings.specs.State.{without_key}
 use Rattle.rd_store.proofs.Inside.{moves}
 use Rattle.rd_store.proofs.Making.{makes_no_key, of_schema}
 use Rattle.rd_store.proofs.keys.delete_digest.Goals as goal

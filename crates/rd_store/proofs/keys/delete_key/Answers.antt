@@ -4,11 +4,11 @@ use Rattle.rd_tables.specs.Statements.{drop_key_text, drop_key}
 use Rattle.rd_tables.proofs.Statements.{digest_params}
 use Rattle.rd_tables.proofs.StatementTexts.{drop_key_writes}
 use Rattle.rd_store.specs.Held.{IsClean, desk}
-use Rattle.rd_protocol.specs.State.{without_key}
+use Rattle.rd_holdings.specs.State.{without_key}
 use Rattle.rd_store.proofs.Laws.{Laws}
 use Rattle.rd_store.proofs.Single.{single}
 use Rattle.rd_store.proofs.Making.{makes_no_key}
-use Rattle.rd_protocol.proofs.Lawful.{lawful_no_key}
+use Rattle.rd_holdings.proofs.Lawful.{lawful_no_key}
 use Rattle.rd_store.proofs.keys.delete_key.Goals as goal
 
 pub returns : goal.returns

@@ -9,7 +9,7 @@ use Rattle.rd_tables.specs.Statements.{put_rule_text, put_rule}
 use Rattle.rd_tables.proofs.StatementTexts.{put_rule_writes}
 use Rattle.rd_store.specs.Held.{IsOf, IsClean}
 use Rattle.rd_store.specs.Spelled.{rule_sheet}
-use Rattle.rd_protocol.specs.State.{place_of, terms_of, with_rule}
+use Rattle.rd_holdings.specs.State.{place_of, terms_of, with_rule}
 use Rattle.rd_store.proofs.Inside.{moves}
 use Rattle.rd_store.proofs.Making.{makes_rule, of_schema}
 use Rattle.rd_store.proofs.rules.insert_rule.Goals as goal

@@ -1,6 +1,6 @@
 use Rattle.std.proofs.Common.{◌≡◌, map, take}
 use Rattle.rd_store.specs.Spelled.{rule_sheet}
-use Rattle.rd_protocol.specs.State.{rule_of}
+use Rattle.rd_holdings.specs.State.{rule_of}
 use Rattle.rd_store.proofs.rules.read_rules.Given as goal
 
 abbrev pub invariant-loop-row : goal.invariant-loop-row

@@ -12,7 +12,7 @@ use Rattle.rd_store.specs.Cells.{ShowFiles}
 use Rattle.rd_store.specs.Index.{AreFilesIn}
 use Rattle.rd_store.specs.Opened.{image_if}
 use Rattle.rd_store.specs.Walked.{HasDiskOnce, HasFilesOnce, IsLawfulAt, IsLawfulDisk}
-use Rattle.rd_protocol.specs.declared.rows.ImageRow.{ImageRow}
+use Rattle.rd_holdings.specs.declared.rows.ImageRow.{ImageRow}
 use Rattle.rd_store.proofs.FilesTold.{has_files, shows_files}
 use Rattle.rd_store.proofs.Laws.{stays_common, stays_then}
 use Rattle.rd_store.proofs.Walked.{part_refused}

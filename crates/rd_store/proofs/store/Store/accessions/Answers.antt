@@ -1,5 +1,17 @@
-use Rattle.rd_store.proofs.Lasting.{memory_stays}
+use Rattle.std.proofs.Common.{◌≡◌, ◌∙◌, IfOk, ap, map, rules, subst}
+use Rattle.rd_store.specs.Held.{desk}
+use Rattle.rd_store.specs.Register.{IsRegisterOf, number_of, register_of}
+use Rattle.rd_holdings.specs.State.{Desk}
+use Rattle.rd_store.proofs.Registers.{numbers_told}
 use Rattle.rd_store.proofs.store.Store.accessions.Goals as goal
 
-pub invariant_of-self : goal.invariant_of-self
-invariant_of-self g c = memory_stays g.S.Store c.self.inside.conn c.accessions.new.conn c.self.inside.last c.self.inside.register c.accessions.ensures.kept c.accessions.ensures.asks.stays c.self.invariant.1 c.self.invariant.2
+pub returns-clause-reads : goal.returns-clause-reads
+returns-clause-reads g c = record {
+  keeps = c.stays_open.ensures.reads.keeps;
+  ends_open = search rules;
+  answer = λ is_open.
+      let now = subst (λ h. IsRegisterOf g.S.Store h c.self.inside.register) c.self.view_is c.self.invariant.1 is_open in
+      let was = now ∙ ap (λ (d : Desk). register_of d.images) (c.stays_open.ensures.reads.keeps.same is_open) in
+      let all = ap (map number_of) was ∙ numbers_told (desk g.S.Store c.args.self.now).images in
+      subst (λ l. IfOk c.accessions.result (λ numbers. numbers.items ≡ l)) all c.accessions.ensures.numbers;
+}

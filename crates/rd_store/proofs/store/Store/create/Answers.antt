@@ -2,7 +2,7 @@ use Rattle.std.proofs.Common.{◌≡◌, ◌∙◌, ap, length, rules, sym}
 use Rattle.rd_store.specs.Held.{HoldsDesk}
 use Rattle.sqlite.specs.Held.{state}
 use Rattle.rd_store.specs.Register.{register_of}
-use Rattle.rd_protocol.specs.State.{Desk}
+use Rattle.rd_holdings.specs.State.{Desk}
 use Rattle.rd_store.proofs.Laws.{Laws}
 use Rattle.rd_store.proofs.Registers.{register_empty}
 use Rattle.rd_store.proofs.Creating.{rests_new, made_or_old, only_new}

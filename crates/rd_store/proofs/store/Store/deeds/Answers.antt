@@ -1,5 +1,14 @@
-use Rattle.rd_store.proofs.Lasting.{memory_stays}
+use Rattle.std.proofs.Common.{rules, ◌∙◌, ap, map}
+use Rattle.std.proofs.lemmas.Result.{IfOk-weaker}
+use Rattle.rd_store.specs.Spelled.{deed_sheet}
+use Rattle.rd_store.proofs.Found.{deeds_back}
 use Rattle.rd_store.proofs.store.Store.deeds.Goals as goal
 
-pub invariant_of-self : goal.invariant_of-self
-invariant_of-self g c = memory_stays g.S.Store c.self.inside.conn c.deeds.new.conn c.self.inside.last c.self.inside.register c.deeds.ensures.kept c.deeds.ensures.asks.stays c.self.invariant.1 c.self.invariant.2
+pub returns-clause-reads : goal.returns-clause-reads
+returns-clause-reads g c = record {
+  keeps = c.numbered_rows.ensures.reads.keeps;
+  ends_open = search rules;
+  answer = λ is_open.
+      let rows = c.deref.ensures.value ∙ c.in_ok-rows.ensures.reads.answer is_open in
+      IfOk-weaker c.read_deeds.result _ _ (λ read is. is ∙ ap (map deed_sheet.entry) rows ∙ deeds_back _) c.read_deeds.ensures.entries;
+}

@@ -1,5 +1,14 @@
-use Rattle.rd_store.proofs.Lasting.{memory_stays}
+use Rattle.std.proofs.Common.{rules, ◌∙◌, ap, map}
+use Rattle.rd_store.specs.Spelled.{rule_sheet}
+use Rattle.rd_holdings.specs.State.{rule_of}
+use Rattle.rd_store.proofs.Found.{rules_back}
 use Rattle.rd_store.proofs.store.Store.rulebook.Goals as goal
 
-pub invariant_of-self : goal.invariant_of-self
-invariant_of-self g c = memory_stays g.S.Store c.self.inside.conn c.all_rules.new.conn c.self.inside.last c.self.inside.register c.all_rules.ensures.kept c.all_rules.ensures.asks.stays c.self.invariant.1 c.self.invariant.2
+pub returns-in-Some-clause-reads : goal.returns-in-Some-clause-reads
+returns-in-Some-clause-reads g c = record {
+  keeps = c.place_rows.ensures.reads.keeps;
+  ends_open = search rules;
+  answer = λ is_open.
+      let rows = c.deref.ensures.value ∙ c.in_ok-rows.ensures.reads.answer is_open in
+      c.in-Some.ensures ∙ c.in_ok-rules.ensures.rules ∙ ap (map (λ row. rule_of (rule_sheet.entry row))) rows ∙ rules_back _;
+}

@@ -1,5 +1,14 @@
-use Rattle.rd_store.proofs.Lasting.{memory_stays}
+use Rattle.std.proofs.Common.{rules, ◌≡◌, ◌∙◌, ap, map, subst, IfOk}
+use Rattle.rd_store.specs.Spelled.{rule_sheet}
+use Rattle.rd_holdings.specs.State.{rule_of}
+use Rattle.rd_store.proofs.Found.{rules_back}
 use Rattle.rd_store.proofs.store.Store.rules_at.Goals as goal
 
-pub invariant_of-self : goal.invariant_of-self
-invariant_of-self g c = memory_stays g.S.Store c.self.inside.conn c.rules_of.new.conn c.self.inside.last c.self.inside.register c.rules_of.ensures.kept c.rules_of.ensures.asks.stays c.self.invariant.1 c.self.invariant.2
+pub returns-clause-reads : goal.returns-clause-reads
+returns-clause-reads g c = record {
+  keeps = c.rule_rows.ensures.reads.keeps;
+  ends_open = search rules;
+  answer = λ is_open.
+      let rows = c.deref.ensures.value ∙ c.in_ok-rows.ensures.reads.answer is_open in
+      subst (λ l. IfOk c.read_rules.result (λ rules. rules.items ≡ l)) (ap (map (λ row. rule_of (rule_sheet.entry row))) rows ∙ rules_back _) c.read_rules.ensures.rules;
+}

@@ -1,0 +1,4 @@
+pub mod State
+pub mod Lawful
+pub mod RulesFor
+pub mod Findings

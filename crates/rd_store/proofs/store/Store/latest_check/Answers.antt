@@ -1,5 +1,0 @@
-use Rattle.rd_store.proofs.Lasting.{memory_stays}
-use Rattle.rd_store.proofs.store.Store.latest_check.Goals as goal
-
-pub invariant_of-self : goal.invariant_of-self
-invariant_of-self g c = memory_stays g.S.Store c.self.inside.conn c.latest_check.new.conn c.self.inside.last c.self.inside.register c.latest_check.ensures.kept c.latest_check.ensures.asks.stays c.self.invariant.1 c.self.invariant.2
