@@ -8,6 +8,7 @@ use Rattle.clap.specs.declared.error.kind.ErrorKind.TheVariants.{DisplayHelp, Di
 use Rattle.clap.specs.declared.builder.value_parser.ValueParser.{ValueParser}
 use Rattle.clap.specs.declared.builder.value_parser.ValueParser.TheVariants.{Names, Signed}
 use Rattle.rd_geometry.specs.Kinds.{word_of}
+use Rattle.rd_policy.specs.declared.limits.TheConstants.{LAST_SCOPE, LAST_SLOT}
 use Rattle.rd_protocol.specs.Parts.{all_kinds}
 
 -- a list of names, behind references
@@ -32,7 +33,7 @@ image_rule = required (codes "IMAGE")
 
 -- the operand for a slot, a number from 0 to 9,999
 abbrev pub slot_rule : Rule
-slot_rule = required_by (codes "SLOT") (Signed (pos 0) (pos 9999))
+slot_rule = required_by (codes "SLOT") (Signed (pos 0) (pos LAST_SLOT))
 
 -- the command `cat`
 abbrev pub cat_app : NameList → App
@@ -85,7 +86,7 @@ optional_key_rule = record (new_rule (codes "key")) { long = Some (codes "key");
 
 -- the option for an accession, a number from 1 to 999,999
 abbrev pub accession_rule : Rule
-accession_rule = record (required_option (codes "acc")) { parser = Some (Signed (pos 1) (pos 999999)) }
+accession_rule = record (required_option (codes "acc")) { parser = Some (Signed (pos 1) (pos LAST_SCOPE)) }
 
 -- the command `init`
 abbrev pub init_app : App

@@ -4,6 +4,7 @@ use Rattle.std.specs.Str.Parse.{ParsesUnsigned}
 use Rattle.std.specs.declared.num.ParseIntError.{ParseIntError}
 use Rattle.rd_geometry.specs.declared.kind.Kind.{Kind}
 use Rattle.rd_geometry.specs.Kinds.{word_of}
+use Rattle.rd_policy.specs.declared.limits.TheConstants.{LAST_SLOT}
 
 -- the words `cat KIND IMAGE SLOT`
 abbrev pub cat_words : List ℕ → List ℕ → List ℕ → List (List ℕ)
@@ -17,7 +18,7 @@ IsOperand word = (word ≡ codes "-") ⊎ (slice_get word 0 ≢ Some 45)
 -- the text reads as the number n of a slot: `str::parse` reads it as the `u16` n, at most 9,999
 pub record IsSlotText (text : List ℕ) (n : ℕ) : Type 0 where
   pub reads : ParsesUnsigned {E = ParseIntError} 16 10 text (Ok n)
-  pub most : n ≤ 9999
+  pub most : n ≤ LAST_SLOT
 
 -- the words ask for the file at a slot of an image of a kind
 pub record AsksCat (words : List (List ℕ)) (kind : Kind) (image : List ℕ) (slot : ℕ) : Type 0 where

@@ -6,6 +6,7 @@ ghost use Rattle.rd_commands.specs.CommandLine.{IsCatApp, IsDeskApp, IsKindRule,
 use crate::version::VERSION;
 use clap::{Arg, Command, value_parser};
 use rd_geometry::KIND_WORDS;
+use rd_policy::{LAST_SCOPE, LAST_SLOT};
 use std::alloc::{AllocError, Global};
 
 /// The words for what `show` shows.
@@ -40,7 +41,7 @@ fn slot_operand<'a>(alloc: Global) -> Arg<'a>
     Arg::new(alloc, "SLOT")
         .required(true)
         .help("The slot of the file in the directory, 0 to 9999")
-        .value_parser(value_parser!(u16).range(0..=9999))
+        .value_parser(value_parser!(u16).range(0..=i64::from(LAST_SLOT)))
 }
 
 /// The command `cat`.
@@ -219,7 +220,7 @@ fn accession_option<'a>(alloc: Global) -> Arg<'a>
         .value_name("ACCESSION")
         .required(true)
         .help("The number of an accession, 1 to 999999")
-        .value_parser(value_parser!(u32).range(1..=999_999))
+        .value_parser(value_parser!(u32).range(1..=i64::from(LAST_SCOPE)))
 }
 
 /// The command `export`.

@@ -15,6 +15,7 @@ use Rattle.rd_protocol.specs.declared.response.Reply.{Reply}
 use Rattle.rd_messages.specs.Asked.{Asked, HasFramedHead, IsAsked, request, fault}
 use Rattle.rd_messages.specs.Sent.{SendsPart}
 use Rattle.rd_messages.specs.Taken.{TakesUpTo}
+use Rattle.rd_messages.specs.declared.limits.TheConstants.{LONGEST_REQUEST}
 use Rattle.rd_messages.specs.declared.wire.Wire.{Ghosts as WireGhosts}
 use Rattle.rd_http.specs.declared.visit.WireFault.{WireFault}
 use Rattle.rd_http.specs.declared.visit.WireFault.TheVariants.{Read, Write, Clock}
@@ -74,6 +75,6 @@ pub record IsServed {S W : Type 0} (g : Ghosts S) (w : WireGhosts W) (seconds : 
   pub flushed : IfOk result (λ done. w.unsent after ≡ 0)
   pub untouched : result ≡ Err Clock → (after ≡ before) × (new ≡ old)
   pub unread : result ≡ Err Read → (w.outgoing after ≡ w.outgoing before) × (new ≡ old)
-  pub bounded : TakesUpTo 270_336 (w.incoming before) (w.incoming after)
+  pub bounded : TakesUpTo LONGEST_REQUEST (w.incoming before) (w.incoming after)
   pub came : w.came after ≡ w.came before
   pub lasts : Lasts g old new

@@ -10,6 +10,7 @@ use Rattle.matchit.specs.Router.{RouteOf}
 use Rattle.matchit.specs.Seek.{first}
 use Rattle.rd_policy.specs.Days.{IsDay}
 use Rattle.rd_policy.specs.Rules.{IsScope, IsRank}
+use Rattle.rd_policy.specs.declared.limits.TheConstants.{LAST_SLOT}
 use Rattle.rd_policy.specs.declared.rule.Band.{Band}
 use Rattle.rd_policy.specs.declared.rule.Band.TheVariants as band
 use Rattle.rd_protocol.specs.Parts.{digest_of, kind_of, rank_of, scope_of, slot_of}
@@ -95,7 +96,7 @@ with_within pattern.Images one two three four = tt
 with_within pattern.Listing one two three four = step_within IsWithin IsScope (scope_of one) _ (scope_within one) (λ acc in_scope. in_scope)
 with_within pattern.Bytes one two three four =
     step_within IsWithin IsScope (scope_of one) _ (scope_within one)
-    (λ acc in_scope. step_within IsWithin (λ slot. slot ≤ 9_999) (slot_of two) _ (slot_within two) (λ slot few. (in_scope, few)))
+    (λ acc in_scope. step_within IsWithin (λ slot. slot ≤ LAST_SLOT) (slot_of two) _ (slot_within two) (λ slot few. (in_scope, few)))
 with_within pattern.Survey one two three four = step_within IsWithin IsScope (scope_of one) _ (scope_within one) (λ acc in_scope. in_scope)
 with_within pattern.Check one two three four = step_within IsWithin IsScope (scope_of one) _ (scope_within one) (λ acc in_scope. in_scope)
 with_within pattern.TakedownRule one two three four = rule_within band.Takedown one two

@@ -6,12 +6,13 @@ use Rattle.std.specs.Str.Parse.{digits_value}
 use Rattle.httparse.specs.Grammar.{RequestHead}
 use Rattle.rd_messages.specs.Fields.{fields_of, values_named}
 use Rattle.rd_messages.specs.declared.framing.Framing.{Framing}
+use Rattle.rd_messages.specs.declared.limits.TheConstants.{LONGEST_BODY}
 
 -- the number that one or more decimal digits write; none if it is above 262,144, or for another
 -- text
 abbrev pub number_told : List ℕ → Option ℕ
 number_told text =
-    if nat_lt 0 (length text) && all_ascii_digits text && nat_le (digits_value 10 text) 262144
+    if nat_lt 0 (length text) && all_ascii_digits text && nat_le (digits_value 10 text) LONGEST_BODY
     then Some (digits_value 10 text) else None
 
 -- the length that the values of Content-Length give: 0 if there is none, and no length if there

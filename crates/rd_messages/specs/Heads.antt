@@ -4,13 +4,14 @@ use Rattle.httparse.specs.Grammar.{ReadsRequest, RequestHead, print_request}
 use Rattle.httparse.specs.Spans.{IsRequestAt}
 use Rattle.httparse.specs.declared.spans.HeaderSpan.{HeaderSpan}
 use Rattle.httparse.specs.declared.spans.RequestSpans.{RequestSpans}
+use Rattle.rd_messages.specs.declared.limits.TheConstants.{LONGEST_HEAD, MOST_FIELDS}
 
 -- The bytes begin with this head, which is no longer than 8,192 bytes and has at most 64 fields;
 -- the rest comes after it.
 pub record BeginsWith (stream : List ℕ) (head : RequestHead) (rest : List ℕ) : Type 0 where
   pub reads : ReadsRequest stream head rest
-  pub short : length (print_request head) ≤ 8192
-  pub few : length head.fields ≤ 64
+  pub short : length (print_request head) ≤ LONGEST_HEAD
+  pub few : length head.fields ≤ MOST_FIELDS
 
 -- the bytes begin with no such head
 abbrev pub HasNoHead : List ℕ → Type 0

@@ -2,6 +2,7 @@
 use Rattle.std.specs.Prelude.{◌==◌, ◌≤◌, ℕ, ℤ, List, [], ◌∷◌, Option, Some, None, if◌then◌else◌, codes, find, bytes_eq}
 use Rattle.std.specs.Char.{is_ascii}
 use Rattle.std.specs.List.{before_first, list_all}
+use Rattle.rd_policy.specs.declared.limits.TheConstants.{LAST_SLOT}
 use Rattle.rd_policy.specs.Days.{IsDay}
 use Rattle.rd_policy.specs.Rules.{IsScope, IsRank}
 use Rattle.rd_policy.specs.declared.rule.Band.{Band}
@@ -107,7 +108,7 @@ route_of target = route_of_path (path_of target)
 abbrev pub IsWithin : Route → Type 0
 IsWithin Images = Unit {0}
 IsWithin (Listing acc) = IsScope acc
-IsWithin (Bytes acc slot) = IsScope acc × (slot ≤ 9_999)
+IsWithin (Bytes acc slot) = IsScope acc × (slot ≤ LAST_SLOT)
 IsWithin (Survey acc) = IsScope acc
 IsWithin (Check acc) = IsScope acc
 IsWithin (Accession acc kind deed digest) = IsScope acc × IsScope deed

@@ -7,11 +7,9 @@ ghost use Rattle.rd_messages.specs.Fields.{values_named};
 ghost use Rattle.rd_messages.specs.Framing.{GivesFraming, length_told, number_told};
 
 use crate::fields::{Values, values_of};
+use crate::limits::LONGEST_BODY;
 use httparse::spans::HeaderSpan;
 use std::str::from_utf8;
-
-/// The length of the longest body that is read, in bytes.
-const LONGEST_BODY: u64 = 262_144;
 
 /// What the fields of a head say of a request.
 #[derive(Clone, Copy, Debug)]
@@ -25,13 +23,13 @@ pub(crate) struct Framing<'b> {
 /// The number that a text of decimal digits writes, up to 262,144; leading zeros are allowed.
 /// `None` if it writes more, or if the text is anything else.
 fn number(text: &str) -> Option<usize>
-    ensures { SomeIff result (IsNumeral 10 text.now × (digits_value 10 text.now ≤ 262144)) (digits_value 10 text.now) }
+    ensures { SomeIff result (IsNumeral 10 text.now × (digits_value 10 text.now ≤ LONGEST_BODY)) (digits_value 10 text.now) }
 {
     if text.as_bytes().first() == Some(&b'+') {
         return None;
     }
-    match text.parse::<u64>() {
-        Ok(number) if number <= LONGEST_BODY => Some(number as usize),
+    match text.parse::<usize>() {
+        Ok(number) if number <= LONGEST_BODY => Some(number),
         _ => None,
     }
 }

@@ -6,6 +6,7 @@ ghost use Rattle.httparse.specs.Spans.{IsRequestWithin};
 ghost use Rattle.rd_messages.specs.Heads.{GivesHead};
 ghost use Rattle.rd_messages.specs.Taken.{TakesUpTo};
 
+use crate::limits::{LONGEST_HEAD, MOST_FIELDS};
 use crate::taking::take_more;
 use crate::wire::{Broken, Wire};
 use httparse::Status;
@@ -23,14 +24,14 @@ pub(crate) fn read_head<W: Wire>(
     spans: &mut [HeaderSpan],
 ) -> Result<(Option<RequestSpans>, usize), Broken>
     requires ready { W.take_failed wire.old ≡ false }
-    requires buffer { length buf.old ≡ 8192 }
-    requires room { length spans.old ≡ 64 }
-    ensures filled { IfOk result (λ read. read.1 ≤ 8192) }
+    requires buffer { length buf.old ≡ LONGEST_HEAD }
+    requires room { length spans.old ≡ MOST_FIELDS }
+    ensures filled { IfOk result (λ read. read.1 ≤ LONGEST_HEAD) }
     ensures read { IfOk result (λ read. Consumes (W.incoming wire.old) (W.incoming wire.new) (take read.1 buf.new)) }
     ensures head { IfOk result (λ read. IfSome (W.incoming wire.old) (λ stream.
         GivesHead stream (take read.1 buf.new) spans.new read.0)) }
     ensures within { IfOk result (λ read. IfSome read.0 (IsRequestWithin (take read.1 buf.new) spans.new)) }
-    ensures limit { TakesUpTo 8192 (W.incoming wire.old) (W.incoming wire.new) }
+    ensures limit { TakesUpTo LONGEST_HEAD (W.incoming wire.old) (W.incoming wire.new) }
     ensures failed { IsErr result ↔ (W.take_failed wire.new ≡ true) }
     ensures came { W.came wire.new ≡ W.came wire.old }
     ensures kept { W.outgoing wire.new ≡ W.outgoing wire.old }

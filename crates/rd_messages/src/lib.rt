@@ -10,6 +10,7 @@ mod fields;
 mod framing;
 mod head;
 mod kept_router;
+mod limits;
 mod memory;
 mod pattern;
 pub mod read_request;
@@ -25,6 +26,7 @@ mod write;
 
 pub use answer::{of_desk, send};
 pub use fault::RequestFault;
+pub use limits::{LONGEST_BODY, LONGEST_HEAD, LONGEST_REQUEST, MOST_FIELDS};
 pub use memory::{MemoryDoor, MemoryVisit, MemoryWire, memory_reads};
 pub use request_laws::{one_asked, shown_rules_are_sent_back};
 pub use tcp::{Clock, TcpDoor, TcpWire};

@@ -15,6 +15,7 @@ use crate::fault::RequestFault;
 use crate::framing::framing_of;
 use crate::head::read_head;
 use crate::kept_router::KeptRouter;
+use crate::limits::{LONGEST_BODY, LONGEST_REQUEST};
 use crate::route::{Method, Route};
 use crate::wire::{Broken, Wire};
 use crate::workspace::Workspace;
@@ -234,7 +235,7 @@ fn read_rest<W: Wire>(
     ensures reading { IfOk result (λ reading. (stream : List ℕ) → HasHead stream bytes.now spans.now head
         → Consumes (Some stream) (W.incoming wire.old) bytes.now → IsReading stream reading) }
     ensures fits { IfOk result Fits }
-    ensures bounded { TakesUpTo 262_144 (W.incoming wire.old) (W.incoming wire.new) }
+    ensures bounded { TakesUpTo LONGEST_BODY (W.incoming wire.old) (W.incoming wire.new) }
     ensures failed { IsErr result ↔ (W.take_failed wire.new ≡ true) }
     ensures kept { W.outgoing wire.new ≡ W.outgoing wire.old }
     ensures came { W.came wire.new ≡ W.came wire.old }
@@ -270,7 +271,7 @@ pub fn read_request<W: Wire>(
     requires ready { W.take_failed wire.old ≡ false }
     ensures reading { IfOk result (λ reading. IfSome (W.incoming wire.old) (λ stream. IsReading stream reading)) }
     ensures fits { IfOk result Fits }
-    ensures bounded { TakesUpTo 270_336 (W.incoming wire.old) (W.incoming wire.new) }
+    ensures bounded { TakesUpTo LONGEST_REQUEST (W.incoming wire.old) (W.incoming wire.new) }
     ensures failed { IsErr result ↔ (W.take_failed wire.new ≡ true) }
     ensures kept { W.outgoing wire.new ≡ W.outgoing wire.old }
     ensures came { W.came wire.new ≡ W.came wire.old }

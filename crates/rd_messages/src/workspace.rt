@@ -1,12 +1,13 @@
 use crate::kept_router::KeptRouter;
+use crate::limits::{LONGEST_HEAD, MOST_FIELDS};
 use httparse::spans::{EMPTY_HEADER_SPAN, HeaderSpan};
 
 /// What visits use one after the other, so that none makes it anew: room for the head of a request and for its fields,
 /// and the router of paths. No visit reads what an earlier one left in the room.
 #[derive(Drop)]
 pub struct Workspace {
-    pub(crate) head: [u8; 8_192],
-    pub(crate) spans: [HeaderSpan; 64],
+    pub(crate) head: [u8; LONGEST_HEAD],
+    pub(crate) spans: [HeaderSpan; MOST_FIELDS],
     pub(crate) router: KeptRouter,
 }
 
@@ -14,8 +15,8 @@ impl Workspace {
     /// What no visit has used yet. It takes no memory.
     pub fn new() -> Workspace {
         Workspace {
-            head: [0; 8_192],
-            spans: [EMPTY_HEADER_SPAN; 64],
+            head: [0; LONGEST_HEAD],
+            spans: [EMPTY_HEADER_SPAN; MOST_FIELDS],
             router: KeptRouter::new(),
         }
     }

@@ -1,5 +1,6 @@
 -- The words for what a rule does, and the limits of a rule's values: this project's.
 use Rattle.std.specs.Prelude.{◌≡◌, ◌≢◌, ℕ, ◌≤◌, List, All, codes, length, IfSome}
+use Rattle.rd_policy.specs.declared.limits.TheConstants.{LAST_RANK, LAST_SCOPE, LAST_SLOT}
 use Rattle.rd_policy.specs.declared.rule.Band.TheVariants.{Takedown}
 use Rattle.rd_policy.specs.declared.rule.Effect.{Effect}
 use Rattle.rd_policy.specs.declared.rule.Effect.TheVariants.{Deny, List as Listed, Read}
@@ -17,11 +18,11 @@ effect_word Read = codes "read"
 
 -- a number of an accession or a deed
 abbrev pub IsScope : ℕ → Type 0
-IsScope number = (1 ≤ number) × (number ≤ 999_999)
+IsScope number = (1 ≤ number) × (number ≤ LAST_SCOPE)
 
 -- a rank
 abbrev pub IsRank : ℕ → Type 0
-IsRank rank = (1 ≤ rank) × (rank ≤ 9_999)
+IsRank rank = (1 ≤ rank) × (rank ≤ LAST_RANK)
 
 -- The text has at most so many bytes, each a printable character of ASCII or a blank.
 pub record IsPlainText (most : ℕ) (text : List ℕ) : Type 0 where
@@ -31,7 +32,7 @@ pub record IsPlainText (most : ℕ) (text : List ℕ) : Type 0 where
 -- what a rule may select: slots to 9,999, prefixes to 64 bytes, users to 15, types to 16 bytes
 abbrev pub IsSelect : Select → Type 0
 IsSelect AllFiles = Unit {0}
-IsSelect (Slot slot) = slot ≤ 9_999
+IsSelect (Slot slot) = slot ≤ LAST_SLOT
 IsSelect (Prefix text) = IsPlainText 64 text
 IsSelect (User user) = user ≤ 15
 IsSelect (Kind text) = IsPlainText 16 text

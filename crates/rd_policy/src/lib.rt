@@ -15,7 +15,7 @@ pub use audience::{Audience, Audiences};
 pub use date::{DateFault, date_read, date_text, one_date};
 pub use day::{DayFault, day_of, is_day};
 pub use decision::{decide, in_order, one_decides};
-pub use limits::{is_rank, is_scope};
+pub use limits::{LAST_RANK, LAST_SCOPE, LAST_SLOT, is_rank, is_scope};
 pub use rule::{Band, Effect, Rule};
 pub use select::Select;
 pub use verdict::{Label, Verdict};

@@ -1,6 +1,6 @@
 ghost use Rattle.std.specs.Prelude.{◌↔◌, IsTrue};
 
-use crate::limits::is_plain_text;
+use crate::limits::{LAST_SLOT, is_plain_text};
 use rd_geometry::Text;
 use rd_volume::Found;
 
@@ -42,7 +42,7 @@ impl Select {
     {
         match self {
             Select::All => true,
-            Select::Slot(slot) => *slot <= 9_999,
+            Select::Slot(slot) => *slot <= LAST_SLOT,
             Select::Prefix(text) => is_plain_text(text.as_str(), 64),
             Select::User(user) => *user <= 15,
             Select::Kind(text) => is_plain_text(text.as_str(), 16),

@@ -13,6 +13,7 @@ use Rattle.rd_geometry.specs.Kinds.{word_of}
 use Rattle.rd_geometry.specs.declared.kind.Kind.{Kind}
 use Rattle.rd_geometry.specs.declared.kind.Kind.TheVariants.{Cpm8, D64, D64e}
 use Rattle.rd_policy.specs.Rules.{IsScope, IsRank}
+use Rattle.rd_policy.specs.declared.limits.TheConstants.{LAST_SLOT}
 use Rattle.rd_protocol.specs.Parts.{is_number, kind_of, number_of, rank_of, scope_of, slot_of}
 
 -- What the test of a number says of its text.
@@ -79,9 +80,9 @@ scope_within text = IfSome_then (scope_of text) (number_within 6 text) (λ numbe
 pub rank_within : (text : List ℕ) → IfSome (rank_of text) IsRank
 rank_within text = IfSome_then (rank_of text) (number_within 4 text) (λ number within. (within.0, omega (arith, within.1)))
 
-pub slot_within : (text : List ℕ) → IfSome (slot_of text) (λ slot. slot ≤ 9_999)
+pub slot_within : (text : List ℕ) → IfSome (slot_of text) (λ slot. slot ≤ LAST_SLOT)
 slot_within text =
-    elim (bytes_eq text (codes "0")) as (λ test. IfSome (if test then Some 0 else number_of 4 text) (λ slot. slot ≤ 9_999)) [
+    elim (bytes_eq text (codes "0")) as (λ test. IfSome (if test then Some 0 else number_of 4 text) (λ slot. slot ≤ LAST_SLOT)) [
       | true ↦ omega arith
       | false ↦ IfSome_then (number_of 4 text) (number_within 4 text) (λ number within. omega (arith, within.1))
     ]

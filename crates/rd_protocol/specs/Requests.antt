@@ -1,6 +1,7 @@
 -- What a caller may ask: the limits of its values, and what only the staff may ask. The limits are
 -- this project's.
 use Rattle.std.specs.Prelude.{◌≢◌, ◌≤◌}
+use Rattle.rd_policy.specs.declared.limits.TheConstants.{LAST_SLOT}
 use Rattle.rd_policy.specs.Days.{IsDay}
 use Rattle.rd_policy.specs.Rules.{IsScope, IsRank, IsRule}
 use Rattle.rd_policy.specs.declared.audience.Audience.TheVariants.{Public}
@@ -12,7 +13,7 @@ use Rattle.rd_protocol.specs.declared.request.What.TheVariants.{Images, Listing,
 abbrev pub IsRequest : What → Type 0
 IsRequest Images = Unit {0}
 IsRequest (Listing acc) = IsScope acc
-IsRequest (Bytes acc slot) = IsScope acc × (slot ≤ 9_999)
+IsRequest (Bytes acc slot) = IsScope acc × (slot ≤ LAST_SLOT)
 IsRequest Catalogue = Unit {0}
 IsRequest (Survey acc) = IsScope acc
 IsRequest (Check acc) = IsScope acc

@@ -2,7 +2,7 @@ ghost use Rattle.std.specs.Prelude.{◌↔◌, IsTrue};
 
 use rd_geometry::{Items, Kind, Text};
 use rd_holdings::is_donor;
-use rd_policy::{Audience, Band, Rule, is_day, is_rank, is_scope};
+use rd_policy::{Audience, Band, LAST_SLOT, Rule, is_day, is_rank, is_scope};
 
 /// A request: what the caller asks, and who they are.
 #[derive(Drop)]
@@ -151,7 +151,7 @@ impl Request {
             | What::DropKey { .. }
             | What::Unread => true,
             What::Listing(acc) | What::Survey(acc) | What::Check(acc) => is_scope(*acc),
-            What::Bytes(acc, slot) => is_scope(*acc) && *slot <= 9_999,
+            What::Bytes(acc, slot) => is_scope(*acc) && *slot <= LAST_SLOT,
             What::PutImage { acc, deed, .. } => is_scope(*acc) && is_scope(*deed),
             What::PutDeed { num, donor, signed } => {
                 is_scope(*num) && is_donor(donor.as_str()) && is_day(*signed)

@@ -6,6 +6,7 @@ use Rattle.sqlite.specs.declared.types.Value.{Value}
 use Rattle.sqlite.specs.declared.types.Value.TheVariants.{Null, Int, Text, Blob}
 use Rattle.sqlite.specs.Order.{Row, column}
 use Rattle.rd_policy.specs.Rules.{IsPlainText}
+use Rattle.rd_policy.specs.declared.limits.TheConstants.{LAST_RANK, LAST_SCOPE, LAST_SLOT}
 use Rattle.sqlite.specs.Values.{or_null}
 use Rattle.rd_volume.specs.declared.found.Found.{Found}
 use Rattle.rd_store.specs.Codes.{class_code, units_code}
@@ -51,7 +52,7 @@ IsWordAt most _ = ⊥
 
 -- The row shows a deed: its number, its donor, and the day on which it was signed.
 pub record IsDeedRow (row : Row) : Type 0 where
-  pub num : is_number 1 999_999 (column row 0) ≡ true
+  pub num : is_number 1 LAST_SCOPE (column row 0) ≡ true
   pub donor : IsDonorAt (column row 1)
   pub signed : is_day (column row 2) ≡ true
 
@@ -65,7 +66,7 @@ blob_name = codes "blob"
 
 -- of the bytes of an image the row shows the length and the type
 pub record IsImageRow (deeds : List ℕ) (row : Row) : Type 0 where
-  pub acc : is_number 1 999_999 (column row 0) ≡ true
+  pub acc : is_number 1 LAST_SCOPE (column row 0) ≡ true
   pub deed : is_one_of deeds (column row 2) ≡ true
   pub digest : is_digest (column row 3) ≡ true
   pub size : is_size_of (column row 1) (column row 4) ≡ true
@@ -73,7 +74,7 @@ pub record IsImageRow (deeds : List ℕ) (row : Row) : Type 0 where
 
 -- The row shows that an accession, whichever it is, has error bytes, one for each block.
 pub record HasErrorBytes (row : Row) : Type 0 where
-  pub acc : is_number 1 999_999 (column row 0) ≡ true
+  pub acc : is_number 1 LAST_SCOPE (column row 0) ≡ true
   pub count : is_number 683 683 (column row 1) ≡ true
   pub kind_of : column row 2 ≡ Text blob_name
 
@@ -93,13 +94,13 @@ HasParts sort most longest how number word = (is_number sort sort how ≡ true) 
 
 -- all files, a slot to 9,999, a prefix to 64 bytes, a user to 15, a type to 16 bytes
 abbrev pub IsSelectAt : Value → Value → Value → Type 0
-IsSelectAt how number word = HasParts 0 0 0 how number word ⊎ (HasParts 1 9_999 0 how number word ⊎ (HasParts 2 0 64 how number word ⊎ (HasParts 3 15 0 how number word ⊎ HasParts 4 0 16 how number word)))
+IsSelectAt how number word = HasParts 0 0 0 how number word ⊎ (HasParts 1 LAST_SLOT 0 how number word ⊎ (HasParts 2 0 64 how number word ⊎ (HasParts 3 15 0 how number word ⊎ HasParts 4 0 16 how number word)))
 
 -- The row shows, after its rowid, a rule about one of these accessions or deeds.
 pub record IsRuleRow (accessions deeds : List ℕ) (row : Row) : Type 0 where
   pub band : is_band accessions deeds (column row 1) (column row 2) (column row 10) ≡ true
-  pub scope : is_number 1 999_999 (column row 2) ≡ true
-  pub rank : is_number 1 9_999 (column row 3) ≡ true
+  pub scope : is_number 1 LAST_SCOPE (column row 2) ≡ true
+  pub rank : is_number 1 LAST_RANK (column row 3) ≡ true
   pub audiences : is_number 1 7 (column row 4) ≡ true
   pub from : is_some_day (column row 5) ≡ true
   pub until : is_some_day (column row 6) ≡ true

@@ -6,13 +6,14 @@ ghost use Rattle.rd_store.specs.Cells.{HasErrorBytes, HasParts, IsCheckRow, IsDe
 use crate::cells::{
     has_day, has_digest, has_donor, has_number, has_one_of, has_some_day, has_word, names_blob,
 };
+use rd_policy::{LAST_RANK, LAST_SCOPE, LAST_SLOT};
 use sqlite::Row;
 
 /// Whether a row shows a deed within its limits.
 pub(crate) fn is_deed(row: &Row) -> bool
     ensures { MatchBool result (IsDeedRow row.now) (¬ IsDeedRow row.now) }
 {
-    has_number(row, 0, 1, 999_999) && has_donor(row, 1) && has_day(row, 2)
+    has_number(row, 0, 1, LAST_SCOPE) && has_donor(row, 1) && has_day(row, 2)
 }
 
 /// Whether the length of an image is that of its kind.
@@ -28,7 +29,7 @@ pub(crate) fn is_image(row: &Row, deeds: &[u32]) -> bool
     requires { IsNonDecreasing deeds.now }
     ensures { MatchBool result (IsImageRow deeds.now row.now) (¬ IsImageRow deeds.now row.now) }
 {
-    has_number(row, 0, 1, 999_999)
+    has_number(row, 0, 1, LAST_SCOPE)
         && has_one_of(row, 2, deeds)
         && has_digest(row, 3)
         && has_size(row)
@@ -60,7 +61,7 @@ fn has_select(row: &Row) -> bool
         (¬ IsSelectAt (column row.now 7) (column row.now 8) (column row.now 9)) }
 {
     has_parts(row, 0, 0, 0)
-        || has_parts(row, 1, 9_999, 0)
+        || has_parts(row, 1, u32::from(LAST_SLOT), 0)
         || has_parts(row, 2, 0, 64)
         || has_parts(row, 3, 15, 0)
         || has_parts(row, 4, 0, 16)
@@ -73,8 +74,8 @@ pub(crate) fn is_rule(row: &Row, accessions: &[u32], deeds: &[u32]) -> bool
     ensures { MatchBool result (IsRuleRow accessions.now deeds.now row.now) (¬ IsRuleRow accessions.now deeds.now row.now) }
 {
     has_band(row, accessions, deeds)
-        && has_number(row, 2, 1, 999_999)
-        && has_number(row, 3, 1, 9_999)
+        && has_number(row, 2, 1, LAST_SCOPE)
+        && has_number(row, 3, 1, u32::from(LAST_RANK))
         && has_number(row, 4, 1, 7)
         && has_some_day(row, 5)
         && has_some_day(row, 6)
@@ -108,7 +109,7 @@ fn is_filed(row: &Row, accessions: &[u32]) -> bool
 fn has_error_bytes(row: &Row) -> bool
     ensures { MatchBool result (HasErrorBytes row.now) (¬ HasErrorBytes row.now) }
 {
-    has_number(row, 0, 1, 999_999) && has_number(row, 1, 683, 683) && names_blob(row, 2)
+    has_number(row, 0, 1, LAST_SCOPE) && has_number(row, 1, 683, 683) && names_blob(row, 2)
 }
 
 /// Whether a row shows error bytes, one for each block, of one of these accessions, which ascend.
