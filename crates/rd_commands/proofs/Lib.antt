@@ -2,6 +2,7 @@ pub mod Operands
 pub mod Texts
 pub mod CatLine
 pub mod ListLine
+pub mod HelpLine
 pub mod VersionLine
 pub mod Naming
 pub mod Asked

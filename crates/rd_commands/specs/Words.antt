@@ -44,3 +44,7 @@ AsksOfKind words kind = ((image : List ℕ) × (slot : ℕ) × AsksCat words kin
 -- the first of the words asks for the version, whatever follows it
 abbrev pub AsksVersion : List (List ℕ) → Type 0
 AsksVersion words = (rest : List (List ℕ)) × ((words ≡ codes "--version" ∷ rest) ⊎ (words ≡ codes "-V" ∷ rest))
+
+-- the first of the words asks for help, whatever follows it
+abbrev pub AsksHelp : List (List ℕ) → Type 0
+AsksHelp words = (rest : List (List ℕ)) × ((words ≡ codes "--help" ∷ rest) ⊎ (words ≡ codes "-h" ∷ rest))

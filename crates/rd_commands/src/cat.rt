@@ -44,7 +44,7 @@ fn cat_image<W: Write>(
 }
 
 /// Writes the bytes of the file that the command names. It reads standard input no further than
-/// one byte past the size of an image.
+/// one byte past the size of an image, and leaves the machine as it was.
 ///
 /// It fails as `cat_image` does, and with `Device` or `NoMemory` when it cannot read the image.
 pub fn cat<R: Read, W: Write, M: Files>(
@@ -63,6 +63,13 @@ pub fn cat<R: Read, W: Write, M: Files>(
     ensures refused { ask.entry.image.now ≡ codes "-"
         → IfErr result (λ refusal. IfSome (R.remaining input.old) (λ image. Refuses refusal
         ask.entry.kind ask.entry.slot image (W.contents output.old) (W.contents output.new))) }
+    ensures done_file { ask.entry.image.now ≢ codes "-"
+        → OnOk result (IfSome (M.file_bytes machine.old ask.entry.image.now) (λ image. Serves
+        ask.entry.kind ask.entry.slot image (W.contents output.old) (W.contents output.new))) }
+    ensures refused_file { ask.entry.image.now ≢ codes "-"
+        → IfErr result (λ refusal. IfSome (M.file_bytes machine.old ask.entry.image.now) (λ image. Refuses refusal
+        ask.entry.kind ask.entry.slot image (W.contents output.old) (W.contents output.new))) }
+    ensures same { machine.new ≡ machine.old }
     ensures limit { ReadsUpTo (size_of ask.entry.kind + 1)
         (R.remaining input.old) (R.remaining input.new) }
 {

@@ -1,6 +1,6 @@
 //! The files of a machine, and why it does not give one.
 
-ghost use Rattle.std.specs.Prelude.{◌↔◌, ◌≡◌};
+ghost use Rattle.std.specs.Prelude.{◌↔◌, ◌≡◌, IfOk, IfSome, List, Option, ℕ};
 ghost use Rattle.std.specs.IoError.{error_kind};
 ghost use Rattle.std.specs.declared.io.ErrorKind.TheVariants.{OutOfMemory};
 ghost use Rattle.rd_commands.specs.Refusals.{refusal_for};
@@ -59,12 +59,22 @@ impl From<Refusal> for MachineFault {
 
 /// What a command that reads images asks of the machine that it runs on.
 pub trait Files {
-    /// The bytes of the file at a path. For a file that is larger than any image, the front is
-    /// enough: one byte more than the largest image has.
-    fn read_file(&mut self, alloc: Global, path: &str) -> Result<Vec<u8>, MachineFault>;
+    /// The bytes that it gives of the file at a path, if the machine shows them.
+    ghost file_bytes: { Self → List ℕ → Option (List ℕ) };
 
-    /// All bytes of the sheet at a path, at most 67,108,864 (64 MiB).
+    /// The bytes that it gives of the sheet at a path, if the machine shows them.
+    ghost sheet_bytes: { Self → List ℕ → Option (List ℕ) };
+
+    /// The bytes of the file at a path. For a file that is larger than any image, the front is
+    /// enough: one byte more than the largest image has. It leaves the machine as it was.
+    fn read_file(&mut self, alloc: Global, path: &str) -> Result<Vec<u8>, MachineFault>
+        ensures bytes { IfOk result (λ bytes. IfSome (file_bytes self.old path.now) (λ shown. bytes.items ≡ shown)) }
+        ensures same { self.new ≡ self.old };
+
+    /// All bytes of the sheet at a path, at most 67,108,864 (64 MiB). It leaves the machine as it was.
     ///
     /// It fails when the sheet has more, and reads at most one byte more than that.
-    fn read_sheet(&mut self, alloc: Global, path: &str) -> Result<Vec<u8>, MachineFault>;
+    fn read_sheet(&mut self, alloc: Global, path: &str) -> Result<Vec<u8>, MachineFault>
+        ensures bytes { IfOk result (λ bytes. IfSome (sheet_bytes self.old path.now) (λ shown. bytes.items ≡ shown)) }
+        ensures same { self.new ≡ self.old };
 }

@@ -53,7 +53,7 @@ fn list_image<W: Write>(
 }
 
 /// Writes the list of the files of the image that the command names. It reads standard input no
-/// further than one byte past the size of an image.
+/// further than one byte past the size of an image, and leaves the machine as it was.
 ///
 /// It fails with `Device` or `NoMemory` when it cannot read the image, with `WrongSize`, with
 /// `NoMemory`, and with `Device` when a write fails. It writes nothing before it refuses the image
@@ -74,6 +74,13 @@ pub fn list<R: Read, W: Write, M: Files>(
     ensures refused { ask.entry.image.now ≡ codes "-"
         → IfErr result (λ refusal. IfSome (R.remaining input.old) (λ image. RefusesList refusal
         ask.entry.kind image (W.contents output.old) (W.contents output.new))) }
+    ensures done_file { ask.entry.image.now ≢ codes "-"
+        → OnOk result (IfSome (M.file_bytes machine.old ask.entry.image.now) (λ image. Lists
+        ask.entry.kind image (W.contents output.old) (W.contents output.new))) }
+    ensures refused_file { ask.entry.image.now ≢ codes "-"
+        → IfErr result (λ refusal. IfSome (M.file_bytes machine.old ask.entry.image.now) (λ image. RefusesList refusal
+        ask.entry.kind image (W.contents output.old) (W.contents output.new))) }
+    ensures same { machine.new ≡ machine.old }
     ensures limit { ReadsUpTo (size_of ask.entry.kind + 1)
         (R.remaining input.old) (R.remaining input.new) }
 {

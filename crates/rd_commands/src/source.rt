@@ -1,4 +1,4 @@
-ghost use Rattle.std.specs.Prelude.{◌≡◌, ◌+◌, IfErr, IfOk, IfSome, codes, take};
+ghost use Rattle.std.specs.Prelude.{◌≡◌, ◌≢◌, ◌+◌, IfErr, IfOk, IfSome, codes, take};
 ghost use Rattle.rd_geometry.specs.Kinds.{size_of};
 ghost use Rattle.rd_commands.specs.Input.{ReadsUpTo};
 ghost use Rattle.rd_commands.specs.Refusals.{IsOfDevice};
@@ -24,7 +24,10 @@ pub(crate) fn read_image<R: Read, M: Files>(
 ) -> Result<Vec<u8>, Refusal>
     ensures front { path.now ≡ codes "-" → IfOk result (λ bytes.
         IfSome (R.remaining input.old) (λ all. bytes.items ≡ take (size_of kind + 1) all)) }
+    ensures of_file { path.now ≢ codes "-" → IfOk result (λ bytes.
+        IfSome (M.file_bytes machine.old path.now) (λ file. bytes.items ≡ file)) }
     ensures refused { IfErr result IsOfDevice }
+    ensures same { machine.new ≡ machine.old }
     ensures limit { ReadsUpTo (size_of kind + 1) (R.remaining input.old) (R.remaining input.new) }
 {
     if path == "-" {

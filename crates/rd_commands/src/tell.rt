@@ -150,6 +150,8 @@ pub fn tell_unread<W: Write, E: Write>(unread: Unread, output: &mut W, errors: &
         → AppendsPart (E.contents errors.old) (E.contents errors.new) (refusal_line NoMemory) }
     ensures told { result ≡ 3
         → Tells (λ _. ⊤) 3 (E.contents errors.old) (E.contents errors.new) }
+    ensures help { IsHelp unread → result ≢ 0
+        → (result ≡ 3) × Tells (λ refusal. refusal ≡ Refusal.Device) 3 (E.contents errors.old) (E.contents errors.new) }
     ensures version { IsVersion unread → result ≢ 0
         → (result ≡ 3) × Tells (RefusesVersion (W.contents output.old) (W.contents output.new)) 3
         (E.contents errors.old) (E.contents errors.new) }

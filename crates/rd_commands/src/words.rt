@@ -12,11 +12,11 @@ ghost use Rattle.rd_policy.specs.Zones.{IsZoneOf};
 ghost use Rattle.rd_commands.specs.Asks.{AreCatRows, AreCheckRows, AreExportRows, AreImportRows, AreInitRows, AreListRows, AreServeRows, AreShowRows, IsMomentTold};
 ghost use Rattle.rd_commands.specs.Asks.{AsksFile, AsksFiles, AsksImages, AsksNew, AsksOnce, AsksVisits, AsksWhen, IsAskable};
 ghost use Rattle.rd_commands.specs.Asks.{EntersByRule, EntersCat, EntersCheck, EntersExport, EntersImport, EntersInit, EntersList, EntersNaming, EntersNamingNone, EntersServe, EntersShow, EntersTelling};
-ghost use Rattle.rd_commands.specs.Asks.{IsWithinLimits, IsFaultOf, IsFileAsk, IsFilesAsk, IsImportAsk, IsInitAsk, IsMistake, IsOnceAsk, IsServeAsk, IsVersion, TellsOnOutput};
+ghost use Rattle.rd_commands.specs.Asks.{IsWithinLimits, IsFaultOf, IsFileAsk, IsFilesAsk, IsHelp, IsImportAsk, IsInitAsk, IsMistake, IsOnceAsk, IsServeAsk, IsVersion, TellsOnOutput};
 ghost use Rattle.rd_commands.specs.CommandLine.{IsTaken, IsTakenAs, IsTakenTelling};
 ghost use Rattle.rd_commands.specs.Commands.{IsAskOf, IsCommand, NamesWhatItShows, TellsARule};
 ghost use Rattle.rd_commands.specs.Shown.{IsDayGiven, IsShowable, IsShownAs, NamesAny, NamesShown};
-ghost use Rattle.rd_commands.specs.Words.{AsksVersion, IsSlotText};
+ghost use Rattle.rd_commands.specs.Words.{AsksHelp, AsksVersion, IsSlotText};
 ghost use Rattle.rd_commands.specs.Zones.{HasZoneRule, IsRuleTold};
 ghost use Rattle.rd_commands.specs.declared.words.Unread.TheVariants as Unread;
 
@@ -174,7 +174,8 @@ impl From<AllocError> for Unread {
 
 impl From<Error> for Unread {
     ghost from_gives = { λ error unread. (kind_of error ≡ OutOfMemory → unread ≡ Unread.NoMemory)
-        × ((unread ≡ Unread.NoMemory) ⊎ (unread ≡ Unread.Told error)) };
+        × ((unread ≡ Unread.NoMemory) ⊎ (unread ≡ Unread.Told error))
+        × (unread ≡ Unread.NoMemory → kind_of error ≡ OutOfMemory) };
 
     fn from(error: Error) -> Unread {
         if error.kind() == ErrorKind::OutOfMemory {
@@ -534,6 +535,8 @@ pub fn read_words<'a>(alloc: Global, words: &'a [&'a str]) -> Result<Ask<'a>, Un
         → fault ≡ Unread.NoMemory) }
     ensures version { IfErr result (λ fault. AsksVersion (map (λ word. word.now) words.entry.now)
         → (fault ≡ Unread.NoMemory) ⊎ IsVersion fault) }
+    ensures help { IfErr result (λ fault. AsksHelp (map (λ word. word.now) words.entry.now)
+        → (fault ≡ Unread.NoMemory) ⊎ IsHelp fault) }
 {
     let desk: Command<'a> = desk_command(alloc)?;
     match desk.try_get_matches_from(words) {

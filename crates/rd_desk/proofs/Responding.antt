@@ -9,7 +9,7 @@ use Rattle.rd_store.specs.Held.{IsAtRest, IsClean, IsLeft, IsOpen, Keeps, Leaves
 use Rattle.rd_holdings.specs.Lawful.{IsLawful}
 use Rattle.rd_holdings.specs.State.{Desk}
 use Rattle.rd_store.proofs.Laws.{lasts_still, lasts_then}
-use Rattle.rd_desk.specs.Calls.{Carries, HasItsDigest, IsCarriedOut, IsResponse, IsResponseTo, Responds}
+use Rattle.rd_desk.specs.Calls.{Carries, HasItsDigest, IsCarriedOut, IsResponse, IsResponseTo, MakesResponse}
 use Rattle.rd_protocol.specs.Judged.{IsAccepted, audience_of}
 use Rattle.rd_protocol.specs.Replies.{IsAnswered, IsDone, IsStep, Tells, carried_out}
 use Rattle.rd_protocol.specs.Requests.{IsForStaff}
@@ -90,7 +90,7 @@ module _ {S : Type 0} (g : Ghosts S) where
 
     -- a query of a caller of this audience, as a request
     pub reads_respond : (a b : Held S) (audience : Audience) → (IsOpen g a → audience_of (desk g a) request.badge ≡ Some audience) → Reads g a b result (IsResponseTo (desk g a) audience day request.what)
-        → Responds g a b day request result
+        → MakesResponse g a b day request result
     reads_respond a b audience known reads = record {
       lasts = reads.keeps.lasts;
       judged = λ o. answered audience (desk g a) (desk g b) result (reads.keeps.same o) (known (reads.keeps.lasts.was_open o)) (reads.answer o);
@@ -100,7 +100,7 @@ module _ {S : Type 0} (g : Ghosts S) where
 
     -- what was done for the staff, as a request
     pub carries_respond : (a b : Held S) → IsForStaff request.what → (IsOpen g a → audience_of (desk g a) request.badge ≡ Some Staff) → IsAtRest g a
-        → Carries g a b day request.what result → Responds g a b day request result
+        → Carries g a b day request.what result → MakesResponse g a b day request result
     carries_respond a b command staff rests carries = record {
       lasts = carries.lasts;
       judged = λ o. let was = carries.lasts.was_open o in responded (desk g a) day request result (desk g b) command (staff was) (carries.judged o);
@@ -109,7 +109,7 @@ module _ {S : Type 0} (g : Ghosts S) where
     }
 
     -- a request after reading calls
-    pub keeps_respond : (a b c : Held S) → Keeps g a b → (IsOpen g a → IsClean g b → IsOpen g b) → Responds g b c day request result → Responds g a c day request result
+    pub keeps_respond : (a b c : Held S) → Keeps g a b → (IsOpen g a → IsClean g b → IsOpen g b) → MakesResponse g b c day request result → MakesResponse g a c day request result
     keeps_respond a b c keeps opens responds = record {
       lasts = lasts_then g a b c keeps.lasts responds.lasts;
       judged = λ o. subst (λ d. IsResponse d day request result (desk g c)) (keeps.same (responds.lasts.was_open o)) (responds.judged o);

@@ -1,15 +1,15 @@
 -- The reply to a request, from the answer.
-use Rattle.std.proofs.Common.{◌≡◌, ◌≢◌, ◌⊎◌, inl, inr, ◌∙◌, ℕ, ℤ, List, Option, Some, None, Result, Ok, Err, OnOk, refl, subst}
+use Rattle.std.proofs.Common.{◌≡◌, ◌≢◌, ◌⊎◌, inl, inr, ◌∙◌, ℕ, ℤ, List, Option, Some, None, Result, Ok, Err, IfOk, IsOk, OnOk, refl, subst}
 use Rattle.sqlite.specs.Store.{Ghosts}
 use Rattle.sqlite.specs.Held.{Held}
 use Rattle.rd_policy.specs.declared.audience.Audience.{Audience}
 use Rattle.rd_store.specs.Held.{IsAtRest, IsOpen, LeavesOpen, desk}
 use Rattle.rd_holdings.specs.State.{Desk}
-use Rattle.rd_desk.specs.Calls.{IsOfChange, IsResponse, IsResponseAfter, IsWritten, MakesOneChange, Responds}
+use Rattle.rd_desk.specs.Calls.{IsOfChange, IsResponse, IsResponseAfter, IsWritten, MakesOneChange, MakesResponse}
 use Rattle.rd_protocol.specs.Judged.{JudgedFile, audience_of}
 use Rattle.rd_protocol.specs.Replies.{Answers, IsAnswered, IsReply, Tells, carried_out}
 use Rattle.rd_protocol.specs.Requests.{IsForStaff}
-use Rattle.rd_desk.specs.Served.{Serves}
+use Rattle.rd_desk.specs.Served.{IsTurnedAway, Responds, Serves}
 use Rattle.rd_protocol.specs.Texts.{UNAVAILABLE, reply_of}
 use Rattle.rd_protocol.specs.declared.refusal.Refusal.TheVariants.{StaffOnly}
 use Rattle.rd_protocol.specs.declared.request.Request.{Request}
@@ -19,7 +19,7 @@ use Rattle.rd_protocol.specs.declared.response.Reply.{Reply}
 use Rattle.rd_protocol.specs.declared.response.Response.{Response}
 use Rattle.rd_protocol.specs.declared.response.Response.TheVariants as response
 use Rattle.rd_protocol.proofs.Accepting.{is_for_staff}
-use Rattle.rd_protocol.proofs.Again.{same_again}
+use Rattle.rd_protocol.proofs.Again.{answered_again, same_again}
 use Rattle.rd_protocol.proofs.Hiding.{hides}
 use Rattle.rd_desk.proofs.OneChange.{one_change_written}
 use Rattle.rd_protocol.proofs.Showing.{tells_what_is_shown}
@@ -67,43 +67,77 @@ replied old day request (Ok answer) reply new (inr (written, other)) answered = 
 replied old day request (Err fault) reply new written same = inr (record { written = written; after = same })
 
 -- what was asked and is asked again
-answered_again : (old : Desk) (day : ℤ) (request : Request) (reply : Reply) (new : Desk) → Answers old day request reply new → reply ≢ UNAVAILABLE → IsForStaff request.what
+replied_again : (old : Desk) (day : ℤ) (request : Request) (reply : Reply) (new : Desk) → Answers old day request reply new → reply ≢ UNAVAILABLE → IsForStaff request.what
     → audience_of new request.badge ≡ audience_of old request.badge → IsReply new day request reply new
-answered_again old day request reply new (inl answered) told command key = same_again old day request reply new command key answered
-answered_again old day request reply new (inr unavailable) told command key = absurd (told unavailable.written)
+replied_again old day request reply new (inl answered) told command key = same_again old day request reply new command key answered
+replied_again old day request reply new (inr unavailable) told command key = absurd (told unavailable.written)
 
-module _ {S : Type 0} (g : Ghosts S) (old new : Held S) (day : ℤ) (request : Request) (reply : Reply) where
-  ends : {X : Type 0} (result : Result Response X) → IsWritten result reply → OnOk result (IsOpen g new) → reply ≢ UNAVAILABLE → IsOpen g new
-  ends (Ok answer) written opens told = opens
-  ends (Err fault) written opens told = absurd (told written)
+-- what is answered is answered again
+responded_again : {X : Type 0} (old : Desk) (day : ℤ) (request : Request) (result : Result Response X) (new : Desk) → IsResponse old day request result new → IsForStaff request.what
+    → audience_of new request.badge ≡ audience_of old request.badge → IfOk result (λ answer. IsAnswered new day request answer new)
+responded_again old day request (Ok answer) new answered command key = answered_again old day request answer new command key answered
+responded_again old day request (Err fault) new same command key = tt
 
-  turned : {X : Type 0} (result : Result Response X) → IsWritten result reply → result ≡ Ok (response.Refused StaffOnly) → reply ≢ UNAVAILABLE → reply ≡ reply_of (response.Refused StaffOnly)
-  turned {X = X} result written is told = go (subst (λ (r : Result Response X). IsWritten r reply) is written)
+module _ {S X : Type 0} (g : Ghosts S) (old new : Held S) (day : ℤ) (request : Request) (result : Result Response X) where
+  ends : OnOk result (IsOpen g new) → IsOk result → IsOpen g new
+  ends = at result
+    where
+      at : (result : Result Response X) → OnOk result (IsOpen g new) → IsOk result → IsOpen g new
+      at (Ok answer) opens ok = opens
+      at (Err fault) opens ok = cc
+
+  pub responds : MakesResponse g old new day request result → IsAtRest g new
+      → MakesOneChange g old new day request.what (λ told. IsResponseAfter told result)
+      → LeavesOpen g new result ⊎ ((request.badge ≡ None) × IsForStaff request.what × (result ≡ Ok (response.Refused StaffOnly)) × (new ≡ old))
+      → Responds g old new day request result
+  responds makes rests changes ending = record {
+    lasts = makes.lasts;
+    answers = makes.judged;
+    ends_open = λ clean ok. elim ending [
+      | inl opens ↦ inl (ends (opens clean) ok)
+      | inr away ↦ inr (record { nobody = away.0; for_staff = away.1; refused = away.2; same = away.3 })
+    ];
+    crash = makes.crash;
+    durable = makes.durable;
+    staffed = λ o. (rests.lawful o).staff;
+    again = λ o. responded_again (desk g old) day request result (desk g new) (makes.judged o);
+    one_change = changes;
+  }
+
+module _ {S X : Type 0} (g : Ghosts S) (old new : Held S) (day : ℤ) (request : Request) (result : Result Response X) (reply : Reply) (written : IsWritten result reply) where
+  answered : reply ≢ UNAVAILABLE → IsOk result
+  answered told = at result written
+    where
+      at : (result : Result Response X) → IsWritten result reply → IsOk result
+      at (Ok answer) written = refl
+      at (Err fault) written = absurd (told written)
+
+  turned : reply ≢ UNAVAILABLE → IsTurnedAway old new request (λ refused. result ≡ Ok refused) → IsTurnedAway old new request (λ refused. reply ≡ reply_of refused)
+  turned told away = record { nobody = away.nobody; for_staff = away.for_staff; refused = go (subst (λ (r : Result Response X). IsWritten r reply) away.refused written); same = away.same }
     where
       go : IsWritten {X = X} (Ok (response.Refused StaffOnly)) reply → reply ≡ reply_of (response.Refused StaffOnly)
       go (inl is) = is
       go (inr none) = absurd (told none.0)
 
-  pub serves : {X : Type 0} (result : Result Response X) → Responds g old new day request result → IsAtRest g new → IsWritten result reply
-      → MakesOneChange g old new day request.what (λ told. IsResponseAfter told result)
-      → LeavesOpen g new result ⊎ ((request.badge ≡ None) × IsForStaff request.what × (result ≡ Ok (response.Refused StaffOnly)) × (new ≡ old))
-      → Serves g old new day request reply
-  serves result responds rests written makes ending = record {
+  pub serves : Responds g old new day request result → Serves g old new day request reply
+  serves responds = record {
     lasts = responds.lasts;
-    answers = λ o. replied (desk g old) day request result reply (desk g new) written (responds.judged o);
-    ends_open = λ clean told. elim ending [
-      | inl opens ↦ inl (ends result written (opens clean) told)
-      | inr away ↦ inr (record { nobody = away.0; for_staff = away.1; told = turned result written away.2 told; same = away.3 })
+    answers = replies;
+    ends_open = λ clean told. elim (responds.ends_open clean (answered told)) [
+      | inl opens ↦ inl opens
+      | inr away ↦ inr (turned told away)
     ];
     crash = responds.crash;
     durable = responds.durable;
-    staffed = λ o. (rests.lawful o).staff;
-    again = λ o told command key.
-        answered_again (desk g old) day request reply (desk g new) (replied (desk g old) day request result reply (desk g new) written (responds.judged o)) told command key;
-    hides = λ o. hides (desk g old) day request reply (desk g new) (replied (desk g old) day request result reply (desk g new) written (responds.judged o));
-    tells = λ o. tells_what_is_shown (desk g old) day request reply (desk g new) (replied (desk g old) day request result reply (desk g new) written (responds.judged o));
-    one_change = one_change_written g old new day request.what result reply written makes;
+    staffed = responds.staffed;
+    again = λ o told command key. replied_again (desk g old) day request reply (desk g new) (replies o) told command key;
+    hides = λ o. hides (desk g old) day request reply (desk g new) (replies o);
+    tells = λ o. tells_what_is_shown (desk g old) day request reply (desk g new) (replies o);
+    one_change = one_change_written g old new day request.what result reply written responds.one_change;
   }
+    where
+      replies : IsOpen g new → Answers (desk g old) day request reply (desk g new)
+      replies o = replied (desk g old) day request result reply (desk g new) written (responds.answers o)
 
 -- the store is open after Ok, or the caller was turned away
 pub ending : {S X : Type 0} (g : Ghosts S) (old new : Held S) (request : Request) (result : Result Response X)

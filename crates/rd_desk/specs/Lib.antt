@@ -1,5 +1,5 @@
 -- ---- what a reader of a public clause believes
--- of `Calls` only `LeavesStep`, `IsOneChange` and `MakesOneChange`
+-- of `Calls` only `IsResponse`, `IsResponseAfter`, `LeavesStep`, `IsOneChange` and `MakesOneChange`
 pub mod Calls
 pub mod Served
 pub use Rattle.rd_protocol.specs.Requests

@@ -27,8 +27,8 @@ pub(crate) struct AccessionRules {
 }
 
 /// There is no answer: the database failed, or memory ran out.
-#[derive(Clone, Copy)]
-pub(crate) struct Unavailable;
+#[derive(Clone, Copy, Debug, PartialEq, Eq)]
+pub struct Unavailable;
 
 impl From<StoreFault> for Unavailable {
     fn from(_: StoreFault) -> Unavailable {

@@ -4,9 +4,9 @@ ghost use Rattle.std.specs.Prelude.{◌≡◌, ◌↔◌, Ok, IsOk, IfOk, IfErr,
 ghost use Rattle.rd_policy.specs.Days.{HasDay, IsDay};
 ghost use Rattle.rd_policy.specs.Zones.{day_number};
 ghost use Rattle.rd_store.specs.Held.{LeavesOpen};
-ghost use Rattle.rd_desk.specs.Calls.{IsResponseAfter, IsWritten, MakesOneChange, Responds};
+ghost use Rattle.rd_desk.specs.Calls.{IsResponseAfter, IsWritten, MakesOneChange, MakesResponse};
 ghost use Rattle.rd_protocol.specs.Requests.{IsForStaff, IsRequest};
-ghost use Rattle.rd_desk.specs.Served.{Serves};
+ghost use Rattle.rd_desk.specs.Served.{Responds, Serves};
 
 use crate::asking::{Unavailable, audience};
 use crate::commands::command;
@@ -19,7 +19,7 @@ use std::alloc::Global;
 
 /// The answer to a request on a day. Where a caller without a key asks what only the staff may, it
 /// refuses this and does not touch the store.
-fn respond<S: Alter>(
+fn response_to<S: Alter>(
     store: &mut Store<S>,
     alloc: Global,
     day: i32,
@@ -27,7 +27,7 @@ fn respond<S: Alter>(
 ) -> Result<Response, Unavailable>
     requires fits { IsRequest request.now.what }
     requires day { IsDay day }
-    ensures responds { Responds S.Store store.old store.new day request.now result }
+    ensures makes { MakesResponse S.Store store.old store.new day request.now result }
     ensures one_change { MakesOneChange S.Store store.old store.new day request.now.what (λ told. IsResponseAfter told result) }
     ensures ends_open { (request.now.badge ≡ None → ¬ IsForStaff request.now.what) → LeavesOpen S.Store store.new result }
     ensures turned_away { request.now.badge ≡ None → IsForStaff request.now.what → (result ≡ Ok (Response.Refused Refusal.StaffOnly)) × (store.new ≡ store.old) }
@@ -101,23 +101,47 @@ impl<S: Alter> Desk<S> {
         store
     }
 
-    /// The reply to a request whose values are within their limits (`Request::fits`), on a day of the years 1 to
-    /// 9999, such as `Desk::day` gives, counted from 1970-01-01. Its status is 200, that of a `Refusal`, or 503 when the store fails or `alloc` has no
-    /// memory. The desk carries out a command or a check whole or not at all. Before a 503 it has changed nothing,
+    /// The answer to a request whose values are within their limits (`Request::fits`), on a day of the years 1 to
+    /// 9999, such as `Desk::day` gives, counted from 1970-01-01. A refusal is an answer too. The desk carries out a
+    /// command or a check whole or not at all.
+    ///
+    /// It fails with `Unavailable` when the store fails or `alloc` has no memory. It has changed nothing then,
     /// unless a fault has shut the connection to the database.
+    pub fn respond(
+        &mut self,
+        alloc: Global,
+        day: i32,
+        request: &Request,
+    ) -> Result<Response, Unavailable>
+        requires day { IsDay day }
+        requires fits { IsRequest request.now.what }
+        ensures responds { Responds S.Store self.old.store self.new.store day request.now result }
+        ensures zone { self.new.zone ≡ self.old.zone }
+    {
+        let answer = response_to(&mut self.store, alloc, day, request);
+        // While the connection is open, a crash from here on leaves the desk as the answer left it.
+        self.store.at_rest();
+        answer
+    }
+
+    /// The reply to a request whose values are within their limits (`Request::fits`), on a day such as `respond`
+    /// takes: it says the answer of `respond` in bytes. Its status is 200, that of a `Refusal`, or 503 when the desk is
+    /// unavailable or `alloc` has no memory for the reply. Before a 503 the desk has changed nothing, unless a fault
+    /// has shut the connection to the database.
     pub fn answer_on(&mut self, alloc: Global, day: i32, request: &Request) -> Reply
         requires day { IsDay day }
         requires fits { IsRequest request.now.what }
         ensures serves { Serves S.Store self.old.store self.new.store day request.now result }
         ensures zone { self.new.zone ≡ self.old.zone }
     {
-        let answer = respond(&mut self.store, alloc, day, request);
-        // While the connection is open, a crash from here on leaves the desk as the answer left it.
-        self.store.at_rest();
+        let answer = self.respond(alloc, day, request);
         reply_with(alloc, answer)
     }
 
-    /// `answer_on` the day of a moment, in seconds since 1970-01-01T00:00:00 UTC, that has a day (`Desk::day`).
+    /// The reply to a request whose values are within their limits (`Request::fits`), at a moment that has a day
+    /// (`Desk::day`), in seconds since 1970-01-01T00:00:00 UTC. It is the reply of `answer_on` on that day: its status
+    /// is 200, that of a `Refusal`, or 503, and before a 503 nothing has changed, unless a fault has shut the connection
+    /// to the database.
     pub fn answer(&mut self, alloc: Global, seconds: i64, request: &Request) -> Reply
         requires moment { HasDay seconds }
         requires fits { IsRequest request.now.what }

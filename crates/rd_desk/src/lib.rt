@@ -12,6 +12,7 @@ mod staff_lists;
 mod surveys;
 mod verdicts;
 
+pub use asking::Unavailable;
 pub use desk::Desk;
 pub use rd_geometry::{Items, Kind, NoMemory, Text};
 pub use rd_protocol::{

@@ -1,7 +1,7 @@
-//! All accessions, one after the other, and what an overview says of each; those that show a caller what they may see are
-//! here. The loop reads all rules at once, and the files of 16 accessions at a time.
+//! All accessions, one after the other, and what an overview says of each. The overviews that show a caller what they may
+//! see are here too. The loop reads all rules at once, and the files of 16 accessions at a time.
 
-ghost use Rattle.std.specs.Prelude.{◌≡◌, ◌∷◌, ◌++◌, [], ℕ, All, IfOk, List, length, map};
+ghost use Rattle.std.specs.Prelude.{◌≡◌, ◌∷◌, ◌++◌, [], ℕ, All, IfOk, List, length, map, refl};
 ghost use Rattle.std.specs.FinMap.{keys};
 ghost use Rattle.std.specs.List.{AllZip};
 ghost use Rattle.rd_store.specs.Held.{IsClean, IsOpen, Reads, desk};
@@ -30,7 +30,7 @@ pub(crate) trait Overview {
     ghost says: { Self → Desk → List ℕ → List Self.Line → Type 0 };
 
     /// The lines, and then what is to be said of one more accession.
-    fn with(
+    fn with_one(
         &self,
         alloc: Global,
         rules: &Rulebook,
@@ -38,10 +38,13 @@ pub(crate) trait Overview {
         one: Indexed,
     ) -> Result<Vec<Self::Line>, Unavailable>
         ensures { IfOk result (λ all. SaysMore (says self.now) rules.now one lines.items all.items) };
+
+    /// It says nothing of no accessions.
+    ghost none: { (overview : Self) (desk : Desk) → says overview desk [] [] };
 }
 
 /// The lines, and then one more.
-pub(crate) fn and_line<L: Drop>(lines: Vec<L>, line: L) -> Result<Vec<L>, Unavailable>
+pub(crate) fn with_line<L: Drop>(lines: Vec<L>, line: L) -> Result<Vec<L>, Unavailable>
     ensures { IfOk result (λ all. all.items ≡ lines.items ++ line ∷ []) }
 {
     let mut all = lines;
@@ -64,7 +67,7 @@ fn with_batch<O: Overview>(
 {
     let mut all = lines;
     for one in batch {
-        all = overview.with(alloc, rules, all, one)?;
+        all = overview.with_one(alloc, rules, all, one)?;
     }
     Ok(all)
 }
@@ -80,7 +83,6 @@ fn over_batches<S: Alter, O: Overview>(
     requires awake { IsClean S.Store store.old → IsOpen S.Store store.old }
     requires rules { IsOpen S.Store store.old → rules.now ≡ all_rules (desk S.Store store.old) }
     requires count { IsOpen S.Store store.old → accessions ≡ length (keys (desk S.Store store.old).images) }
-    requires none { (desk : Desk) → O.says overview.now desk [] [] }
     ensures { Reads S.Store store.old store.new result (λ lines. O.says overview.now (desk S.Store store.old) (keys (desk S.Store store.old).images) lines.items) }
 {
     let mut lines = Vec::new(alloc);
@@ -99,7 +101,6 @@ pub(crate) fn over_all<S: Alter, O: Overview>(
     alloc: Global,
     overview: &O,
 ) -> Result<Items<O::Line>, Unavailable>
-    requires none { (desk : Desk) → O.says overview.now desk [] [] }
     ensures { Reads S.Store store.old store.new result (λ lines. O.says overview.now (desk S.Store store.old) (keys (desk S.Store store.old).images) lines) }
 {
     let rules = store.rulebook(alloc)?;
@@ -155,7 +156,7 @@ impl Overview for ImagesSeen {
 
     ghost says = { λ images desk accs lines. AreLinesOfEach desk images.caller.audience images.caller.day accs lines };
 
-    fn with(
+    fn with_one(
         &self,
         alloc: Global,
         rules: &Rulebook,
@@ -168,8 +169,10 @@ impl Overview for ImagesSeen {
         if line.files == 0 {
             return Ok(lines);
         }
-        and_line(lines, line)
+        with_line(lines, line)
     }
+
+    ghost none = { λ images desk. refl };
 }
 
 /// All accessions, each with the files that are listed to a caller.
@@ -183,7 +186,7 @@ impl Overview for CatalogueSeen {
 
     ghost says = { λ catalogue desk accs lines. AllZip (IsListing desk catalogue.caller.audience catalogue.caller.day) accs lines };
 
-    fn with(
+    fn with_one(
         &self,
         alloc: Global,
         rules: &Rulebook,
@@ -193,8 +196,10 @@ impl Overview for CatalogueSeen {
         ensures { IfOk result (λ all. SaysMore (λ desk accs lines. AllZip (IsListing desk self.now.caller.audience self.now.caller.day) accs lines) rules.now one lines.items all.items) }
     {
         let listing = listing_of(alloc, rules, &self.caller, one)?;
-        and_line(lines, listing)
+        with_line(lines, listing)
     }
+
+    ghost none = { λ catalogue desk. tt };
 }
 
 /// The accessions with at least one listed file.

@@ -4,14 +4,14 @@
 ghost use Rattle.std.specs.Prelude.{◌≡◌, ◌++◌, ℤ, All, IfOk, map};
 ghost use Rattle.std.specs.List.{AllZip};
 ghost use Rattle.rd_policy.specs.Verdicts.{AreInOrder};
-ghost use Rattle.rd_store.specs.Held.{Keeps, Reads, desk};
+ghost use Rattle.rd_store.specs.Held.{Keeps};
 ghost use Rattle.rd_holdings.specs.State.{Desk, all_rules};
-ghost use Rattle.rd_protocol.specs.Verdicts.{AreVerdicts, IsDecided, IsVerdictsOf};
+ghost use Rattle.rd_protocol.specs.Verdicts.{IsDecided, IsVerdictsOf};
 ghost use Rattle.rd_desk.specs.Calls.{Carries, SaysMore, StandsAs};
 ghost use Rattle.rd_desk.specs.Rehearsing.{with_verdicts_on};
 
 use crate::asking::Unavailable;
-use crate::overviews::{Overview, and_line, over_all};
+use crate::overviews::{Overview, over_all, with_line};
 use crate::queries::{Caller, judge_in_turn};
 use rd_geometry::Items;
 use rd_policy::{Audience, Rule, Verdict};
@@ -113,7 +113,7 @@ impl Overview for VerdictsOn {
 
     ghost says = { λ verdicts desk accs lines. AllZip (IsVerdictsOf desk verdicts.day) accs lines };
 
-    fn with(
+    fn with_one(
         &self,
         alloc: Global,
         rules: &Rulebook,
@@ -123,19 +123,10 @@ impl Overview for VerdictsOn {
         ensures { IfOk result (λ all. SaysMore (λ desk accs lines. AllZip (IsVerdictsOf desk self.now.day) accs lines) rules.now one lines.items all.items) }
     {
         let verdicts = verdicts_of(alloc, rules, self.day, one)?;
-        and_line(lines, verdicts)
+        with_line(lines, verdicts)
     }
-}
 
-/// All accessions, each with the verdicts on its files on a day.
-fn verdicts_of_day<S: Alter>(
-    store: &mut Store<S>,
-    alloc: Global,
-    day: i32,
-) -> Result<Items<Verdicts>, Unavailable>
-    ensures { Reads S.Store store.old store.new result (AreVerdicts (desk S.Store store.old) day) }
-{
-    over_all(store, alloc, &VerdictsOn { day })
+    ghost none = { λ verdicts desk. tt };
 }
 
 /// The answer to the staff that gives the verdicts on all files on a day.
@@ -147,5 +138,5 @@ pub(crate) fn verdicts<S: Alter>(
     ensures carries { (visited : ℤ) → Carries S.Store store.old store.new visited (What.Verdicts day) result }
     ensures keeps { Keeps S.Store store.old store.new }
 {
-    Ok(Response::Verdicts(verdicts_of_day(store, alloc, day)?))
+    Ok(Response::Verdicts(over_all(store, alloc, &VerdictsOn { day })?))
 }

@@ -68,7 +68,7 @@ Visits Answers old new before after (Err Clock) = (new ≡ old) × (after ≡ be
 -- both, and how it ends. If the moment has no day, it touches neither; if a read fails, nothing goes out and nothing
 -- changes; and at most the bytes of a head and of a body come.
 pub record IsServed {S W : Type 0} (g : Ghosts S) (w : WireGhosts W) (seconds : ℤ) (zone : Zone) (before after : W) (old new : Held S) (result : Result (Unit {0}) WireFault) : Type 0 where
-  pub replied : IfSome (w.incoming before) (λ stream. Visits (IsAnswer g stream old new (day_number seconds zone)) old new (w.outgoing before) (w.outgoing after) result)
+  pub answered : IfSome (w.incoming before) (λ stream. Visits (IsAnswer g stream old new (day_number seconds zone)) old new (w.outgoing before) (w.outgoing after) result)
   pub clock : (result ≢ Err Clock) ↔ HasDay seconds
   pub read : (result ≡ Err Read) ↔ (w.take_failed after ≡ true)
   pub write : (result ≡ Err Write) ↔ (w.put_failed after ≡ true)

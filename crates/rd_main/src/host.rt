@@ -1,6 +1,6 @@
-ghost use Rattle.std.specs.Prelude.{None};
+ghost use Rattle.std.specs.Prelude.{None, false};
 
-use rd_http::{Clock, TcpDoor};
+use rd_http::{Clock, Door, TcpDoor};
 use rd_program::{
     Files, Machine, MachineFault, Refusal, connect_fault, exit_code, read_front, run,
 };
@@ -34,11 +34,50 @@ impl Clock for HostClock<'_> {
     }
 }
 
+/// What opens doors at ports of the machine itself.
+pub(crate) trait Ports<D: Door> {
+    /// A door at a port, 1 to 65,535.
+    ///
+    /// It fails with `NoMemory`, and with `Failed` when the port cannot be opened.
+    fn open(&self, port: u16) -> Result<D, MachineFault>;
+}
+
+/// The ports of the machine that the program runs on.
+#[derive(Drop)]
+pub(crate) struct HostPorts<'a> {
+    rt: &'a HostRuntime,
+}
+
+impl<'a> Ports<TcpDoor<HostClock<'a>>> for HostPorts<'a> {
+    /// It also fails with `Failed` when the clock fails.
+    fn open(&self, port: u16) -> Result<TcpDoor<HostClock<'a>>, MachineFault> {
+        let listener = TcpListener::bind(self.rt, (Ipv4Addr::LOCALHOST, port))?;
+        let clock = HostClock {
+            rt: self.rt,
+            start: Instant::now(self.rt)?,
+        };
+        Ok(TcpDoor::new(self.rt.alloc(), listener, clock))
+    }
+}
+
 /// The machine that the program runs on.
 #[derive(Drop)]
-pub(crate) struct Host<'a> {
-    pub(crate) rt: &'a HostRuntime,
-    pub(crate) door: Option<TcpDoor<HostClock<'a>>>,
+pub(crate) struct Host<'a, D: Door + Drop, P: Ports<D> + Drop> {
+    rt: &'a HostRuntime,
+    ports: P,
+    /// The doors that it has lent, the last one at the end.
+    doors: Vec<D>,
+}
+
+impl<'a> Host<'a, TcpDoor<HostClock<'a>>, HostPorts<'a>> {
+    /// The machine of the process.
+    pub(crate) fn new(rt: &'a HostRuntime) -> Host<'a, TcpDoor<HostClock<'a>>, HostPorts<'a>> {
+        Host {
+            rt,
+            ports: HostPorts { rt },
+            doors: Vec::new(rt.alloc()),
+        }
+    }
 }
 
 /// The seconds since 1970-01-01T00:00:00 UTC; `None` if the clock fails or shows a time before
@@ -48,7 +87,11 @@ fn seconds_now(rt: &HostRuntime) -> Option<i64> {
     i64::try_from(now.duration_since(UNIX_EPOCH).ok()?.as_secs()).ok()
 }
 
-impl Files for Host<'_> {
+impl<D: Door + Drop, P: Ports<D> + Drop> Files for Host<'_, D, P> {
+    ghost file_bytes = { λ _ _. None };
+
+    ghost sheet_bytes = { λ _ _. None };
+
     /// Reads at most one byte more than the largest image has, so that a huge file or a device that
     /// never ends does no harm.
     fn read_file(&mut self, alloc: Global, path: &str) -> Result<Vec<u8>, MachineFault> {
@@ -69,10 +112,16 @@ impl Files for Host<'_> {
     }
 }
 
-impl<'a> Machine for Host<'a> {
+impl<'a, D: Door + Drop, P: Ports<D> + Drop> Machine for Host<'a, D, P> {
     type Disk = FileStore<File>;
 
-    type Door = TcpDoor<HostClock<'a>>;
+    type Door = D;
+
+    ghost shows = { λ _. false };
+
+    ghost clock = { λ _. None };
+
+    ghost door = { λ _ _. None };
 
     ghost stands = { λ _ _. None };
 
@@ -93,14 +142,13 @@ impl<'a> Machine for Host<'a> {
         seconds_now(self.rt).ok_or(MachineFault::Failed)
     }
 
-    fn listen(&mut self, port: u16) -> Result<&mut TcpDoor<HostClock<'a>>, MachineFault> {
-        let listener = TcpListener::bind(self.rt, (Ipv4Addr::LOCALHOST, port))?;
-        let clock = HostClock {
-            rt: self.rt,
-            start: Instant::now(self.rt)?,
-        };
-        let door = TcpDoor::new(self.rt.alloc(), listener, clock);
-        Ok(self.door.insert(door))
+    fn listen(&mut self, port: u16) -> Result<&mut D, MachineFault> {
+        let door = self.ports.open(port)?;
+        let place = self.doors.len();
+        if self.doors.push(door).is_err() {
+            return Err(MachineFault::NoMemory);
+        }
+        Ok(&mut self.doors[place])
     }
 }
 
@@ -139,7 +187,7 @@ fn run_here(rt: &HostRuntime) -> Result<u8, Refusal> {
         &mut rt.stdin(),
         &mut output,
         &mut rt.stderr(),
-        &mut Host { rt, door: None },
+        &mut Host::new(rt),
     ))
 }
 

@@ -4,10 +4,14 @@ use Rattle.std.proofs.lemmas.List.Elements.{All-nil, All-push, All-weaker}
 use Rattle.std.proofs.lemmas.List.Folds.{concat-append}
 use Rattle.std.specs.List.{concat}
 use Rattle.std.proofs.KnownBytes.{Appends-nil, Keeps-refl}
+use Rattle.std.specs.Io.KnownBytes.{Appends}
+use Rattle.rd_protocol.specs.declared.refusal.Refusal.{Refusal as DeskRefusal}
+use Rattle.rd_protocol.specs.declared.response.Response.{Response}
+use Rattle.rd_protocol.specs.declared.response.Response.TheVariants.{Refused}
 use Rattle.rd_geometry.specs.declared.kind.Kind.{Kind}
 use Rattle.rd_commands.specs.Asks.{TellsInRows, TellsOnOutput}
 use Rattle.rd_commands.specs.Commands.{AsksInit, AsksServe, IsAskOf, IsImport}
-use Rattle.rd_program.specs.Importing.{GainsFront, GainsFrontOfLine, GainsLine, GainsLines, IsDoneLine, IsImportRefusal, IsRowLine, IsRowRefusal, RefusesImport, RefusesRow, RefusesRows, TellsRow, TellsRows, bad_row_line, accession_line}
+use Rattle.rd_program.specs.Importing.{GainsFront, GainsFrontOfLine, GainsLine, GainsLines, IsDoneLine, IsImportRefusal, IsRowLine, IsRowRefusal, RefusesImport, RefusesRow, RefusesRows, TellsAnswer, TellsRow, TellsRows, bad_row_line, accession_line, done_by, word_of}
 use Rattle.rd_commands.specs.Output.{AppendsPart}
 use Rattle.rd_commands.specs.Refusals.{IsOfDevice, refusal_for, status_of}
 use Rattle.rd_program.specs.Serving.{IsOpenRefusal}
@@ -101,6 +105,22 @@ machine_failed machine_fault.NoMemory refusal is = inr (inl is)
 -- a failure before the line
 pub row_not_told : (refusal : Refusal) (old : Option (List ℕ)) → IsRowRefusal refusal → RefusesRow old old refusal
 row_not_told refusal old is = (is, none_of_line old)
+
+-- what is told of an answer is the line of a row
+pub answer_row : {X : Type 0} (acc : ℕ) (r : Result Response X) (told : Result Done Refusal) (old new : Option (List ℕ))
+    → IfOk told (TellsAnswer acc r old new) → IfOk told (TellsRow old new)
+answer_row acc (Ok answer) (Ok done) old new tells = subst (TellsRow old new) (sym tells.1) (row_told answer tells.0)
+  where
+    row_told : (answer : Response) → Appends old new (accession_line acc (word_of answer)) → TellsRow old new (done_by answer)
+    row_told (Refused refusal) wrote = record { line = accession_line acc (word_of (Refused refusal)); is = inl (acc, word_of (Refused refusal), refl); gained = wrote }
+    row_told other wrote = record { line = accession_line acc (codes "done"); is = (acc, refl); gained = wrote }
+answer_row acc (Err fault) (Ok done) old new tells = absurd tells
+answer_row acc r (Err refusal) old new tells = tt
+
+-- an answer that is no refusal is done
+pub done_answer : (answer : Response) → ((refusal : DeskRefusal) → answer ≡ Refused refusal → ⊥) → (word_of answer ≡ codes "done") × (Whole ≡ done_by answer)
+done_answer (Refused refusal) other = absurd (other refusal refl)
+done_answer answer other = (refl, refl)
 
 -- ---- rows
 

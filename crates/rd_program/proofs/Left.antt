@@ -1,5 +1,6 @@
 -- What is left of the store, by what each part of a command does to its connection.
-use Rattle.std.proofs.Common.{◌≡◌, ◌⊎◌, Option, Some, None, IfSome, inl, inr, refl, subst}
+use Rattle.std.proofs.Common.{◌≡◌, ◌⊎◌, Bool, IsTrue, Option, Some, None, IfSome, inl, inr, refl, subst, sym}
+use Rattle.std.specs.Prelude.{IsSome}
 use Rattle.sqlite.specs.Effect.{Database}
 use Rattle.sqlite.specs.Held.{Held, state}
 use Rattle.sqlite.specs.Store.{Ghosts}
@@ -9,7 +10,7 @@ use Rattle.rd_holdings.specs.State.{Desk}
 use Rattle.rd_store.specs.declared.faults.OpenFault.{OpenFault}
 use Rattle.rd_store.specs.declared.faults.OpenFault.TheVariants as open_fault
 use Rattle.rd_store.proofs.Laws.{lasts_then}
-use Rattle.rd_program.specs.Leaves.{IfBoth, IsReached, Leaves, LeavesDesk, LeavesNone, LeavesStore, LeavesUnopened}
+use Rattle.rd_program.specs.Leaves.{GivesBack, IfBoth, IsReached, Leaves, LeavesDesk, LeavesNone, LeavesStore, LeavesUnopened}
 use Rattle.rd_program.specs.Serving.{IsOpenRefusal}
 use Rattle.rd_commands.specs.declared.refusal.Refusal.{Refusal}
 
@@ -35,6 +36,10 @@ module _ {S : Type 0} where
   leaves_weaker was (Some before) None P Q weaker leaves = tt
   leaves_weaker was (Some before) (Some after) P Q weaker (inl none) = inl none
   leaves_weaker was (Some before) (Some after) P Q weaker (inr fact) = inr (weaker before after fact)
+
+-- a machine that shows its connections has the one that it was given last
+pub gives_back : {S : Type 0} (shows : Bool) (was new : Option (Held S)) (conn : Held S) → (IsTrue shows → new ≡ Some conn) → GivesBack shows was new
+gives_back shows was new conn took is had = subst (λ o. IsSome o) (sym (took is)) refl
 
 module _ {S : Type 0} (g : Ghosts S) where
   -- ---- one part after another

@@ -13,7 +13,7 @@ use Rattle.rd_store.proofs.Laws.{lasts_then}
 use Rattle.rd_http.specs.declared.serve.Ended.{Ended}
 use Rattle.rd_http.specs.declared.serve.Ended.TheVariants as ended
 use Rattle.rd_commands.specs.Asks.{IsImportAsk, IsOnceAsk, IsServeAsk}
-use Rattle.rd_program.specs.Leaves.{HasListened, IsDayAt, IsDayBy, Leaves, LeavesBy, LeavesRefused, LeavesServe, LeavesStore, NamesOpening, StepsOf, TakesIn}
+use Rattle.rd_program.specs.Leaves.{HasListened, IsDayAt, IsDayBy, Leaves, LeavesBy, LeavesRefused, LeavesServe, LeavesStore, NamesOpening, StepsOf, TakesIn, moment_of}
 use Rattle.rd_commands.specs.Output.{AppendsPart}
 use Rattle.rd_commands.specs.Refusals.{IsOfDevice}
 use Rattle.rd_program.specs.Serving.{RefusesToEnd, listening_line, served_line}
@@ -86,8 +86,8 @@ module _ {S : Type 0} (g : Ghosts S) where
 
   -- ---- by what is asked for
 
-  module _ (was : Option (Held S)) (stands : List ℕ → Option (Held S)) (new : Option (Held S)) where
-    pub serve_leaves : (ask : Ask) (store : List ℕ) (port count : ℕ) (rule : List ℕ) → IsServeAsk store port count rule ask → LeavesBy g was stands new ask
+  module _ (clock : Option ℤ) (was : Option (Held S)) (stands : List ℕ → Option (Held S)) (new : Option (Held S)) where
+    pub serve_leaves : (ask : Ask) (store : List ℕ) (port count : ℕ) (rule : List ℕ) → IsServeAsk store port count rule ask → LeavesBy g clock was stands new ask
         → Leaves was (stands store) new (Lasts g)
     serve_leaves (Serve ask) store port count rule asks leaves = subst (λ s. Leaves was (stands s) new (Lasts g)) asks.store_is leaves
     serve_leaves ask store port count rule asks leaves = absurd asks
@@ -101,15 +101,15 @@ module _ {S : Type 0} (g : Ghosts S) where
     serve_refused ask store port count rule out written refusal asks left = absurd asks
 
     pub import_leaves : (ask : Ask) (store key sheet : List ℕ) (moment : Option ℤ) (rule : List ℕ) → IsImportAsk store key sheet moment rule ask
-        → LeavesBy g was stands new ask → Leaves was (stands store) new (LeavesStore g (TakesIn (sha256 (trim_ows key)) (IsDayBy moment rule)))
+        → LeavesBy g clock was stands new ask → Leaves was (stands store) new (LeavesStore g (TakesIn (sha256 (trim_ows key)) (IsDayBy (moment_of moment clock) rule)))
     import_leaves (Import ask) store key sheet moment rule asks leaves =
-        subst (λ k. Leaves was (stands store) new (LeavesStore g (TakesIn (sha256 k) (IsDayBy moment rule)))) asks.key_is
-        (subst (λ s. Leaves was (stands s) new (LeavesStore g (TakesIn (sha256 ask.key.now) (IsDayBy moment rule)))) asks.store_is
-        (leaves_weaker was (stands ask.store.now) new (LeavesStore g (TakesIn (sha256 ask.key.now) (IsDayAt ask.when.seconds ask.when.zone)))
-        (LeavesStore g (TakesIn (sha256 ask.key.now) (IsDayBy moment rule)))
-        (λ before after leaves. store_weaker g (TakesIn (sha256 ask.key.now) (IsDayAt ask.when.seconds ask.when.zone)) (TakesIn (sha256 ask.key.now) (IsDayBy moment rule)) before after
-        (λ d e. takes_on (IsDayAt ask.when.seconds ask.when.zone) (IsDayBy moment rule) (sha256 ask.key.now) d e
-        (λ day at. record { zone = ask.when.zone; zone_is = asks.when_is.zone_is; day_is = subst (λ m. IsDayAt m ask.when.zone day) asks.when_is.moment_is at }))
+        subst (λ k. Leaves was (stands store) new (LeavesStore g (TakesIn (sha256 k) (IsDayBy (moment_of moment clock) rule)))) asks.key_is
+        (subst (λ s. Leaves was (stands s) new (LeavesStore g (TakesIn (sha256 ask.key.now) (IsDayBy (moment_of moment clock) rule)))) asks.store_is
+        (leaves_weaker was (stands ask.store.now) new (LeavesStore g (TakesIn (sha256 ask.key.now) (IsDayAt (moment_of ask.when.seconds clock) ask.when.zone)))
+        (LeavesStore g (TakesIn (sha256 ask.key.now) (IsDayBy (moment_of moment clock) rule)))
+        (λ before after leaves. store_weaker g (TakesIn (sha256 ask.key.now) (IsDayAt (moment_of ask.when.seconds clock) ask.when.zone)) (TakesIn (sha256 ask.key.now) (IsDayBy (moment_of moment clock) rule)) before after
+        (λ d e. takes_on (IsDayAt (moment_of ask.when.seconds clock) ask.when.zone) (IsDayBy (moment_of moment clock) rule) (sha256 ask.key.now) d e
+        (λ day at. record { zone = ask.when.zone; zone_is = asks.when_is.zone_is; day_is = subst (λ m. IsDayAt (moment_of m clock) ask.when.zone day) asks.when_is.moment_is at }))
         leaves) leaves))
     import_leaves ask store key sheet moment rule asks leaves = absurd asks
 
@@ -119,19 +119,19 @@ module _ {S : Type 0} (g : Ghosts S) where
     import_names ask store key sheet moment rule out written refusal asks left = absurd asks
 
     pub once_leaves : (ask : Ask) (store : List ℕ) (key : Option (List ℕ)) (asked : Question) (moment : Option ℤ) (rule : List ℕ)
-        → IsOnceAsk store key asked moment rule ask → LeavesBy g was stands new ask
-        → Leaves was (stands store) new (LeavesStore g (StepsOf (option_map sha256 (option_map trim_ows key)) (IsDayBy moment rule) asked))
+        → IsOnceAsk store key asked moment rule ask → LeavesBy g clock was stands new ask
+        → Leaves was (stands store) new (LeavesStore g (StepsOf (option_map sha256 (option_map trim_ows key)) (IsDayBy (moment_of moment clock) rule) asked))
     once_leaves (Once ask) store key asked moment rule asks leaves =
-        subst (λ q. Leaves was (stands store) new (LeavesStore g (StepsOf (option_map sha256 (option_map trim_ows key)) (IsDayBy moment rule) q))) asks.question_is
-        (subst (λ k. Leaves was (stands store) new (LeavesStore g (StepsOf (option_map sha256 k) (IsDayBy moment rule) ask.question))) asks.key_is
-        (subst (λ s. Leaves was (stands s) new (LeavesStore g (StepsOf (option_map sha256 (option_map (λ k. k.now) ask.key)) (IsDayBy moment rule) ask.question))) asks.store_is
+        subst (λ q. Leaves was (stands store) new (LeavesStore g (StepsOf (option_map sha256 (option_map trim_ows key)) (IsDayBy (moment_of moment clock) rule) q))) asks.question_is
+        (subst (λ k. Leaves was (stands store) new (LeavesStore g (StepsOf (option_map sha256 k) (IsDayBy (moment_of moment clock) rule) ask.question))) asks.key_is
+        (subst (λ s. Leaves was (stands s) new (LeavesStore g (StepsOf (option_map sha256 (option_map (λ k. k.now) ask.key)) (IsDayBy (moment_of moment clock) rule) ask.question))) asks.store_is
         (leaves_weaker was (stands ask.store.now) new
-        (LeavesStore g (StepsOf (option_map sha256 (option_map (λ k. k.now) ask.key)) (IsDayAt ask.when.seconds ask.when.zone) ask.question))
-        (LeavesStore g (StepsOf (option_map sha256 (option_map (λ k. k.now) ask.key)) (IsDayBy moment rule) ask.question))
-        (λ before after leaves. store_weaker g (StepsOf (option_map sha256 (option_map (λ k. k.now) ask.key)) (IsDayAt ask.when.seconds ask.when.zone) ask.question)
-        (StepsOf (option_map sha256 (option_map (λ k. k.now) ask.key)) (IsDayBy moment rule) ask.question) before after
-        (λ d e. steps_on (IsDayAt ask.when.seconds ask.when.zone) (IsDayBy moment rule) (option_map sha256 (option_map (λ k. k.now) ask.key)) ask.question d e
-        (λ day at. record { zone = ask.when.zone; zone_is = asks.when_is.zone_is; day_is = subst (λ m. IsDayAt m ask.when.zone day) asks.when_is.moment_is at }))
+        (LeavesStore g (StepsOf (option_map sha256 (option_map (λ k. k.now) ask.key)) (IsDayAt (moment_of ask.when.seconds clock) ask.when.zone) ask.question))
+        (LeavesStore g (StepsOf (option_map sha256 (option_map (λ k. k.now) ask.key)) (IsDayBy (moment_of moment clock) rule) ask.question))
+        (λ before after leaves. store_weaker g (StepsOf (option_map sha256 (option_map (λ k. k.now) ask.key)) (IsDayAt (moment_of ask.when.seconds clock) ask.when.zone) ask.question)
+        (StepsOf (option_map sha256 (option_map (λ k. k.now) ask.key)) (IsDayBy (moment_of moment clock) rule) ask.question) before after
+        (λ d e. steps_on (IsDayAt (moment_of ask.when.seconds clock) ask.when.zone) (IsDayBy (moment_of moment clock) rule) (option_map sha256 (option_map (λ k. k.now) ask.key)) ask.question d e
+        (λ day at. record { zone = ask.when.zone; zone_is = asks.when_is.zone_is; day_is = subst (λ m. IsDayAt (moment_of m clock) ask.when.zone day) asks.when_is.moment_is at }))
         leaves) leaves)))
     once_leaves ask store key asked moment rule asks leaves = absurd asks
 

@@ -2,8 +2,10 @@ pub mod Inited
 pub mod Serving
 pub mod Imported
 pub mod Answered
-pub mod Pieces
 pub mod Left
 pub mod Stepped
+pub mod Told
+pub mod Filed
 pub mod Showing
+pub mod Visiting
 pub mod LeftBy

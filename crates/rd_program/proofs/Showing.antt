@@ -1,21 +1,22 @@
--- What is shown of a desk, and why it is not.
-use Rattle.std.proofs.Common.{◌≡◌, ◌≢◌, ◌⊎◌, ◌∙◌, ℕ, ℤ, List, Option, Some, None, Result, Ok, Err, IfErr, IfSome, OnOk, ap, arith, codes, false, option_map, true, inl, inr, refl, slice_index, subst, sym}
+-- What is shown and what is found of a desk, and why it is not.
+use Rattle.std.proofs.Common.{◌≡◌, ◌≢◌, ◌⊎◌, ◌∙◌, ℕ, ℤ, List, Option, Some, None, Result, Ok, Err, IfErr, IfOk, IfSome, IsOk, OnOk, ap, arith, false, option_map, true, inl, inr, refl, subst, sym}
 use Rattle.std.specs.Io.KnownBytes.{Appends, Keeps}
+use Rattle.std.proofs.KnownBytes.{Keeps-refl}
+use Rattle.std.proofs.lemmas.Result.{IfErr-weaker, on_ok_weaker}
 use Rattle.std.specs.Borrow.{Bor}
-use Rattle.std.specs.Prelude.{IsErrAnd, IsSome, IsSomeAnd}
+use Rattle.std.specs.Prelude.{IsErrAnd, IsSome}
 use Rattle.httparse.specs.Grammar.{trim_ows}
 use Rattle.sha2.specs.Sha256.{sha256}
-use Rattle.serde_json.proofs.OnLiterals.{serde_json_on_literals}
 use Rattle.sqlite.specs.Held.{Held, state}
 use Rattle.sqlite.specs.Store.{Ghosts}
-use Rattle.rd_store.specs.Held.{IsClean, IsOpen, desk}
+use Rattle.rd_store.specs.Held.{IsClean, IsOpen, Lasts, desk}
 use Rattle.rd_store.specs.Migrated.{IsMigrated, SpellsDesk}
 use Rattle.rd_holdings.specs.State.{Desk}
-use Rattle.rd_protocol.specs.Judged.{Conflicts, Holds, IsAsked, IsRefusedOn, JudgedFile, accession_of, deed_of, file_of, image_of}
-use Rattle.rd_protocol.specs.Requests.{IsRequest}
-use Rattle.rd_protocol.specs.Replies.{Answers, IsAnswered, IsReply, IsStep, carried_out}
-use Rattle.rd_protocol.specs.Texts.{UNAVAILABLE, reply_of}
-use Rattle.rd_protocol.specs.declared.refusal.Refusal.{Refusal as DeskRefusal}
+use Rattle.rd_policy.specs.declared.zone.Zone.{Zone}
+use Rattle.rd_holdings.specs.declared.rows.Outcome.{Outcome}
+use Rattle.rd_protocol.specs.Replies.{IsAnswered, IsStep, carried_out}
+use Rattle.rd_protocol.specs.Texts.{reply_of}
+use Rattle.rd_protocol.specs.declared.refusal.Refusal.{Refusal as Reason}
 use Rattle.rd_protocol.specs.declared.refusal.Refusal.TheVariants as desk_refusal
 use Rattle.rd_protocol.specs.declared.request.Request.{Request}
 use Rattle.rd_protocol.specs.declared.request.What.{What}
@@ -23,262 +24,219 @@ use Rattle.rd_protocol.specs.declared.request.What.TheVariants as request
 use Rattle.rd_protocol.specs.declared.response.Reply.{Reply}
 use Rattle.rd_protocol.specs.declared.response.Response.{Response}
 use Rattle.rd_protocol.specs.declared.response.Response.TheVariants as response
-use Rattle.rd_desk.specs.Served.{Serves}
+use Rattle.rd_desk.specs.Calls.{IsResponse}
+use Rattle.rd_desk.specs.Served.{IsTurnedAway, Responds}
+use Rattle.rd_commands.specs.Asks.{AsksOnce, IsCheckOf, IsOnceAsk}
 use Rattle.rd_commands.specs.Refusals.{IsOfDevice}
-use Rattle.rd_commands.specs.Shown.{IsShowable}
+use Rattle.rd_commands.specs.declared.done.Done.{Done}
+use Rattle.rd_commands.specs.declared.words.Ask.{Ask}
+use Rattle.rd_commands.specs.declared.words.Ask.TheVariants.{Once}
+use Rattle.rd_commands.specs.declared.words.OnceAsk.{OnceAsk}
+use Rattle.rd_commands.specs.declared.words.Question.{Question}
+use Rattle.rd_commands.specs.declared.words.Question.TheVariants as question
 use Rattle.rd_commands.specs.declared.refusal.Refusal.{Refusal}
 use Rattle.rd_commands.specs.declared.refusal.Refusal.TheVariants.{Device, NoAccession, NoMemory, StaffOnly, Store, UnknownKey}
-use Rattle.rd_commands.specs.declared.words.Shown.{Shown}
-use Rattle.rd_commands.specs.declared.words.Shown.TheVariants as item
+use Rattle.rd_program.specs.Answers.{answer_to_show, outcome_of, refusal_to_check, refusal_to_show}
 use Rattle.rd_program.specs.Asking.{RefusesOnce}
-use Rattle.rd_program.specs.Leaves.{IsSame, LeavesDesk}
+use Rattle.rd_program.specs.Leaves.{IsDayAt, IsDayBy, IsSame, LeavesDesk, StepsOf, moment_of}
 use Rattle.rd_program.specs.Serving.{IsClockRefusal, IsOpenRefusal}
-use Rattle.rd_program.specs.Showing.{EndsWith, IsDueIn, IsDueOn, IsOfNoKey, IsOfNoStaff, IsShowRefusal, OfDesk, OfStood, RefusesShow, Shows, ShowsStore, show_request, shown_text, what_of}
+use Rattle.rd_program.specs.Showing.{AnswersBy, AnswersOnce, EndsWith, Finds, FindsStore, IsDueIn, IsDueOn, IsRefusedFor, IsShowRefusal, IsToShow, OfDesk, OfStood, RefusesShow, Shows, ShowsStore, asked_of, badge_of, found_by, request_of, shown_text, what_to_show}
 use Rattle.rd_program.proofs.Left.{from_opened}
-use Rattle.rd_program.proofs.Stepped.{reply_step}
+use Rattle.rd_program.proofs.Stepped.{response_step}
 
 -- ---- the desk is as it was
 
-carried_same : (day : ℤ) (what : Shown) (stood : Desk) → carried_out day (what_of what) stood ≡ stood
-carried_same day item.Deeds stood = refl
-carried_same day item.Takedowns stood = refl
-carried_same day item.Keys stood = refl
-carried_same day item.Checks stood = refl
-carried_same day (item.Verdicts on) stood = refl
+carried_same : (day : ℤ) (what : What) (stood : Desk) → IsToShow what → carried_out day what stood ≡ stood
+carried_same day request.Catalogue stood to = refl
+carried_same day request.Deeds stood to = refl
+carried_same day request.Takedowns stood to = refl
+carried_same day request.Keys stood to = refl
+carried_same day request.Checks stood to = refl
+carried_same day (request.Verdicts on) stood to = refl
+carried_same day other stood to = absurd to
 
-same_after : (badge : Option (List ℕ)) (what : Shown) (day : ℤ) (old new : Desk)
-    → (new ≡ old) ⊎ IsStep old day (show_request badge what) new → new ≡ old
-same_after badge what day old new (inl same) = same
-same_after badge what day old new (inr (inl accepted)) = accepted.1 ∙ carried_same day what old
-same_after badge what day old new (inr (inr refused)) = refused.1
+same_after : (badge : Option (List ℕ)) (what : What) (day : ℤ) (old new : Desk) → IsToShow what
+    → (new ≡ old) ⊎ IsStep old day (request_of badge what) new → new ≡ old
+same_after badge what day old new to (inl same) = same
+same_after badge what day old new to (inr (inl accepted)) = accepted.1 ∙ carried_same day what old to
+same_after badge what day old new to (inr (inr refused)) = refused.1
 
--- ---- why the staff is refused
+-- ---- what the program makes of an answer
 
-module _ (badge : Option (List ℕ)) (stood : Desk) (file : Option JudgedFile) where
-  no_unread : (what : Shown) → Holds stood (show_request badge what) file desk_refusal.BadBody → ⊥
-  no_unread item.Deeds held = cc held
-  no_unread item.Takedowns held = cc held
-  no_unread item.Keys held = cc held
-  no_unread item.Checks held = cc held
-  no_unread (item.Verdicts on) held = cc held
+pub shown_is : {X : Type 0} (r : Result Response X) (answer : Response) → answer_to_show r ≡ Ok answer → (r ≡ Ok answer) × ((reply_of answer).status ≡ 200)
+shown_is (Ok (response.Refused reason)) answer is = absurd (cc is)
+shown_is (Ok other) answer is = let same : other ≡ answer = cc is in (ap Ok same, subst (λ a. (reply_of a).status ≡ 200) same refl)
+shown_is (Err fault) answer is = absurd (cc is)
 
-  no_accession : (what : Shown) → Holds stood (show_request badge what) file desk_refusal.NoAccession → ⊥
-  no_accession item.Deeds held = held
-  no_accession item.Takedowns held = held
-  no_accession item.Keys held = held
-  no_accession item.Checks held = held
-  no_accession (item.Verdicts on) held = held
+pub found_is : {X : Type 0} (r : Result Response X) (outcome : Outcome) → outcome_of r ≡ Ok outcome → r ≡ Ok (response.Checked outcome)
+found_is (Ok (response.Refused reason)) outcome is = absurd (cc is)
+found_is (Ok (response.Checked told)) outcome is = let same : told ≡ outcome = cc is in ap (λ o. Ok (response.Checked o)) same
+found_is (Ok other) outcome is = absurd (cc is)
+found_is (Err fault) outcome is = absurd (cc is)
 
-  no_place : (what : Shown) → Holds stood (show_request badge what) file desk_refusal.NoFile → ⊥
-  no_place item.Deeds held = held
-  no_place item.Takedowns held = held
-  no_place item.Keys held = held
-  no_place item.Checks held = held
-  no_place (item.Verdicts on) held = held
+-- ---- an answer of a desk
 
-  no_deed : (what : Shown) → Holds stood (show_request badge what) file desk_refusal.NoDeed → ⊥
-  no_deed item.Deeds held = held
-  no_deed item.Takedowns held = held
-  no_deed item.Keys held = held
-  no_deed item.Checks held = held
-  no_deed (item.Verdicts on) held = held
+module _ {S X : Type 0} (g : Ghosts S) (old new : Held S) (day : ℤ) (badge : Option (List ℕ)) (what : What) (result : Result Response X)
+    (responds : Responds g old new day (request_of badge what) result) where
+  answered_same : IsToShow what → IsOpen g new → desk g new ≡ desk g old
+  answered_same to is_open =
+      same_after badge what day (desk g old) (desk g new) to (response_step (desk g old) day (request_of badge what) result (desk g new) (responds.answers is_open))
 
-  no_size : (what : Shown) → Holds stood (show_request badge what) file desk_refusal.WrongSize → ⊥
-  no_size item.Deeds held = held
-  no_size item.Takedowns held = held
-  no_size item.Keys held = held
-  no_size item.Checks held = held
-  no_size (item.Verdicts on) held = held
+  pub shows_same : IsToShow what → LeavesDesk g IsSame old new
+  shows_same to = record { lasts = responds.lasts; reached = answered_same to }
 
-  no_digest : (what : Shown) → Holds stood (show_request badge what) file desk_refusal.DigestDiffers → ⊥
-  no_digest item.Deeds held = held
-  no_digest item.Takedowns held = held
-  no_digest item.Keys held = held
-  no_digest item.Checks held = held
-  no_digest (item.Verdicts on) held = held
+  -- an open desk has answered so
+  answered : (answer : Response) → result ≡ Ok answer → IsOpen g new → IsAnswered (desk g old) day (request_of badge what) answer (desk g new)
+  answered answer is is_open = subst (λ r. IsResponse (desk g old) day (request_of badge what) r (desk g new)) is (responds.answers is_open)
 
-  no_conflict : (what : Shown) → Holds stood (show_request badge what) file desk_refusal.Conflict → ⊥
-  no_conflict item.Deeds held = held
-  no_conflict item.Takedowns held = held
-  no_conflict item.Keys held = held
-  no_conflict item.Checks held = held
-  no_conflict (item.Verdicts on) held = held
+  -- after an answer the desk is open, unless the caller was turned away
+  open_unless : IsClean g new → (answer : Response) → result ≡ Ok answer → (IsTurnedAway old new (request_of badge what) (λ refused. result ≡ Ok refused) → ⊥)
+      → IsOpen g new
+  open_unless clean answer is none = elim (responds.ends_open clean (subst IsOk (sym is) refl)) [ inl is_open ↦ is_open | inr away ↦ absurd (none away) ]
 
-no_file_of : (what : Shown) → file_of (what_of what) ≡ None
-no_file_of item.Deeds = refl
-no_file_of item.Takedowns = refl
-no_file_of item.Keys = refl
-no_file_of item.Checks = refl
-no_file_of (item.Verdicts on) = refl
+  -- ---- what is shown and what is found
 
-module _ (badge : Option (List ℕ)) (what : Shown) (stood : Desk) (day : ℤ) where
-  -- no file is asked for
-  no_file : (file : Option JudgedFile) → IsAsked stood day (show_request badge what) file → file ≡ None
-  no_file (Some judged) asked = absurd (let none = sym (no_file_of what) ∙ asked.asked in cc none)
-  no_file None asked = refl
-
-  no_judged : (refusal : DeskRefusal) (file : Option JudgedFile) → IsAsked stood day (show_request badge what) file → Holds stood (show_request badge what) file refusal
-      → Holds stood (show_request badge what) None refusal
-  no_judged refusal file asked holds = subst (λ f. Holds stood (show_request badge what) f refusal) (no_file file asked) holds
-
-  caller_held : (file : Option JudgedFile) (refusal : DeskRefusal) → IsAsked stood day (show_request badge what) file
-      → Holds stood (show_request badge what) file refusal → (refusal ≡ desk_refusal.UnknownKey) ⊎ (refusal ≡ desk_refusal.StaffOnly)
-  caller_held file desk_refusal.UnknownKey asked holds = inl refl
-  caller_held file desk_refusal.StaffOnly asked holds = inr refl
-  caller_held file desk_refusal.BadBody asked holds = absurd (no_unread badge stood file what holds)
-  caller_held file desk_refusal.NoAccession asked holds = absurd (no_accession badge stood file what holds)
-  caller_held file desk_refusal.NoFile asked holds = absurd (no_place badge stood file what holds)
-  caller_held file desk_refusal.NoDeed asked holds = absurd (no_deed badge stood file what holds)
-  caller_held file (desk_refusal.Denied label) asked holds = absurd (no_judged (desk_refusal.Denied label) file asked holds)
-  caller_held file desk_refusal.ListedOnly asked holds = absurd (no_judged desk_refusal.ListedOnly file asked holds)
-  caller_held file (desk_refusal.Faulty kind faults) asked holds = absurd (no_judged (desk_refusal.Faulty kind faults) file asked holds)
-  caller_held file desk_refusal.WrongSize asked holds = absurd (no_size badge stood file what holds)
-  caller_held file desk_refusal.DigestDiffers asked holds = absurd (no_digest badge stood file what holds)
-  caller_held file desk_refusal.Conflict asked holds = absurd (no_conflict badge stood file what holds)
-
-  -- a staff question is refused because of its caller alone
-  by_caller : (refusal : DeskRefusal) → IsRefusedOn stood day (show_request badge what) refusal
-      → (refusal ≡ desk_refusal.UnknownKey) ⊎ (refusal ≡ desk_refusal.StaffOnly)
-  by_caller refusal is = caller_held is.file refusal is.asked is.refused.holds
-
--- ---- texts
-
-unknown_text : (reply_of (response.Refused desk_refusal.UnknownKey)).body.bytes ≡ codes "{\"error\":\"unknown-key\",\"rule\":\"K0\"}"
-unfolding serde_json_on_literals
-unknown_text = refl
-
-staff_text : (reply_of (response.Refused desk_refusal.StaffOnly)).body.bytes ≡ codes "{\"error\":\"staff-only\",\"rule\":\"S0\"}"
-unfolding serde_json_on_literals
-staff_text = refl
-
-unavailable_text : UNAVAILABLE.body.bytes ≡ codes "{\"error\":\"unavailable\"}"
-unfolding serde_json_on_literals
-unavailable_text = refl
-
--- the letters of a text at two places
-letter_at : (one other : List ℕ) (n : ℕ) → one ≡ other → slice_index one n ≡ slice_index other n
-letter_at one other n is = ap (λ text. slice_index text n) is
-
-abbrev unknown : List ℕ
-unknown = codes "{\"error\":\"unknown-key\",\"rule\":\"K0\"}"
-
-abbrev staff_only : List ℕ
-staff_only = codes "{\"error\":\"staff-only\",\"rule\":\"S0\"}"
-
-abbrev unavailable : List ℕ
-unavailable = codes "{\"error\":\"unavailable\"}"
-
-unknown_is_no_staff : unknown ≡ staff_only → ⊥
-unknown_is_no_staff is = let letter : 117 ≡ 115 = letter_at _ _ 10 is in omega (arith, letter)
-
-unknown_is_available : unknown ≡ unavailable → ⊥
-unknown_is_available is = let letter : 107 ≡ 97 = letter_at _ _ 12 is in omega (arith, letter)
-
-staff_is_available : staff_only ≡ unavailable → ⊥
-staff_is_available is = let letter : 115 ≡ 117 = letter_at _ _ 10 is in omega (arith, letter)
-
-body_is : (one other : Reply) → one ≡ other → one.body.bytes ≡ other.body.bytes
-body_is one other is = ap (λ (reply : Reply). reply.body.bytes) is
-
-status_is : (one other : Reply) → one ≡ other → one.status ≡ other.status
-status_is one other is = ap (λ (reply : Reply). reply.status) is
-
--- ---- a reply to the staff
-
-module _ {S : Type 0} (g : Ghosts S) (old new : Held S) (day : ℤ) (badge : Option (List ℕ)) (what : Shown) (reply : Reply)
-    (serves : Serves g old new day (show_request badge what) reply) where
-  answered_same : IsOpen g new → desk g new ≡ desk g old
-  answered_same is_open =
-      same_after badge what day (desk g old) (desk g new) (reply_step (desk g old) day (show_request badge what) reply (desk g new) (serves.answers is_open))
-
-  pub shows_same : LeavesDesk g IsSame old new
-  shows_same = record { lasts = serves.lasts; reached = answered_same }
-
-  -- an open desk has replied
-  replied : reply ≢ UNAVAILABLE → Answers (desk g old) day (show_request badge what) reply (desk g new) → IsReply (desk g old) day (show_request badge what) reply (desk g new)
-  replied available (inl is) = is
-  replied available (inr none) = absurd (available none.written)
-
-  -- ---- what is shown
-
-  available_200 : reply.status ≡ 200 → reply ≢ UNAVAILABLE
-  available_200 done is = let status : reply.status ≡ 503 = status_is _ _ is in omega (arith, done, status)
-
-  open_200 : reply.status ≡ 200 → IsClean g new → IsOpen g new
-  open_200 done clean = elim (serves.ends_open clean (available_200 done)) [
-    | inl is_open ↦ is_open
-    | inr away ↦ absurd (let status : reply.status ≡ 403 = status_is _ _ away.told in omega (arith, done, status))
-  ]
-
-  pub shows_desk : (out written : Option (List ℕ)) → reply.status ≡ 200 → Appends out written (shown_text reply)
-      → OfDesk g (λ stood. Shows (show_request badge what) stood out written) old new
-  shows_desk out written done wrote = λ clean.
-      let is_open = open_200 done clean in (
+  pub shows_desk : (answer : Response) (reply : Reply) (out written : Option (List ℕ)) → IsToShow what → answer_to_show result ≡ Ok answer
+      → reply ≡ reply_of answer → Appends out written (shown_text reply)
+      → OfDesk g (λ stood after. Shows (λ d. d ≡ day) (request_of badge what) stood out written) old new
+  shows_desk answer reply out written to told is wrote = λ clean.
+      let found = shown_is result answer told in
+      let is_open : IsOpen g new = open_unless clean answer found.0 (λ away.
+      let both : Ok answer ≡ Ok (response.Refused desk_refusal.StaffOnly) = sym found.0 ∙ away.refused in
+      let same : answer ≡ response.Refused desk_refusal.StaffOnly = cc both in
+      let status : 403 ≡ 200 = subst (λ a. (reply_of a).status ≡ 200) same found.1 in omega (arith, status)) in (
         is_open,
         record {
           day = day;
+          on = refl;
           reply = reply;
-          is = subst (λ d. IsReply (desk g old) day (show_request badge what) reply d) (answered_same is_open) (replied (available_200 done) (serves.answers is_open));
-          done = done;
+          is = record {
+            answer = answer;
+            answered = subst (λ d. IsAnswered (desk g old) day (request_of badge what) answer d) (answered_same to is_open) (answered answer found.0 is_open);
+            written = is;
+          };
+          done = subst (λ r. r.status ≡ 200) (sym is) found.1;
           written = wrote;
         },
       )
 
+  pub finds_desk : (outcome : Outcome) → outcome_of result ≡ Ok outcome → OfDesk g (Finds (λ d. d ≡ day) (request_of badge what) outcome) old new
+  finds_desk outcome told = λ clean.
+      let found = found_is result outcome told in
+      let is_open : IsOpen g new = open_unless clean (response.Checked outcome) found (λ away.
+      let both : Ok (response.Checked outcome) ≡ Ok (response.Refused desk_refusal.StaffOnly) = sym found ∙ away.refused in absurd (cc both)) in
+      (is_open, record { day = day; on = refl; is = answered (response.Checked outcome) found is_open })
+
   -- ---- why not
 
-  -- what an answer that is no success says
-  refused_by : (answer : Response) → reply ≡ reply_of answer → reply.status ≢ 200 → IsAnswered (desk g old) day (show_request badge what) answer (desk g new)
-      → (refusal : DeskRefusal) × IsRefusedOn (desk g old) day (show_request badge what) refusal × (reply ≡ reply_of (response.Refused refusal))
-  refused_by (response.Refused refusal) is failed answered = (refusal, answered.0, is)
-  refused_by answer is failed answered = absurd (failed (status_is _ _ is))
-
-  found_refusal : reply.status ≢ 200 → IsReply (desk g old) day (show_request badge what) reply (desk g new)
-      → (refusal : DeskRefusal) × IsRefusedOn (desk g old) day (show_request badge what) refusal × (reply ≡ reply_of (response.Refused refusal))
-  found_refusal failed is = refused_by is.answer is.written failed is.answered
-
-  no_key : reply.status ≢ 200 → reply.body.bytes ≡ unknown → OfDesk g (IsOfNoKey (show_request badge what)) old new
-  no_key failed text = λ clean.
-      let available : reply ≢ UNAVAILABLE = λ is. unknown_is_available (sym text ∙ body_is _ _ is ∙ unavailable_text) in
-      let is_open : IsOpen g new = elim (serves.ends_open clean available) [
-        | inl is_open ↦ is_open
-        | inr away ↦ absurd (unknown_is_no_staff (sym text ∙ body_is _ _ away.told ∙ staff_text))
-      ] in
-      let found = found_refusal failed (replied available (serves.answers is_open)) in (
-        is_open,
-        (
-          day,
-          elim (by_caller badge what (desk g old) day found.0 found.1) [
-            | inl is ↦ subst (IsRefusedOn (desk g old) day (show_request badge what)) is found.1
-            | inr is ↦ absurd (unknown_is_no_staff (sym text ∙ body_is _ _ (subst (λ r. reply ≡ reply_of (response.Refused r)) is found.2) ∙ staff_text))
-          ],
-        ),
-      )
-
   -- a caller who shows a badge is judged by the desk
-  no_staff : IsSome badge → reply.status ≢ 200 → reply.body.bytes ≡ staff_only → OfDesk g (IsOfNoStaff (show_request badge what)) old new
-  no_staff shown failed text = λ clean.
-      let available : reply ≢ UNAVAILABLE = λ is. staff_is_available (sym text ∙ body_is _ _ is ∙ unavailable_text) in
-      let is_open : IsOpen g new = elim (serves.ends_open clean available) [
-        | inl is_open ↦ is_open
-        | inr away ↦ absurd (let none : false ≡ true = subst IsSome away.nobody shown in cc none)
-      ] in
-      let found = found_refusal failed (replied available (serves.answers is_open)) in (
-        is_open,
-        (
-          day,
-          elim (by_caller badge what (desk g old) day found.0 found.1) [
-            | inl is ↦ absurd (unknown_is_no_staff (sym unknown_text ∙ sym (body_is _ _ (subst (λ r. reply ≡ reply_of (response.Refused r)) is found.2)) ∙ text))
-            | inr is ↦ subst (IsRefusedOn (desk g old) day (show_request badge what)) is found.1
-          ],
-        ),
-      )
+  refused_for : IsSome badge → (reason : Reason) → result ≡ Ok (response.Refused reason)
+      → OfDesk g (λ stood after. IsRefusedFor (λ d. d ≡ day) (request_of badge what) reason stood) old new
+  refused_for there reason is = λ clean.
+      let is_open : IsOpen g new = open_unless clean (response.Refused reason) is (λ away. let none : false ≡ true = subst IsSome away.nobody there in cc none) in
+      (is_open, (day, refl, (answered (response.Refused reason) is is_open).0))
 
-  pub due_by_reply : IsSome badge → reply.status ≢ 200 → (refusal : Refusal) → IsShowRefusal refusal
-      → (refusal ≡ UnknownKey → reply.body.bytes ≡ unknown) → (refusal ≡ StaffOnly → reply.body.bytes ≡ staff_only)
-      → IsDueOn g (show_request badge what) old new refusal
-  due_by_reply shown failed refusal (inl is) key staff = subst (IsDueOn g (show_request badge what) old new) (sym is) (no_key failed (key is))
-  due_by_reply shown failed refusal (inr (inl is)) key staff = subst (IsDueOn g (show_request badge what) old new) (sym is) (no_staff shown failed (staff is))
-  due_by_reply shown failed refusal (inr (inr is)) key staff = subst (IsDueOn g (show_request badge what) old new) (sym is) tt
+  due_to_show : IsSome badge → (reason : Reason) → result ≡ Ok (response.Refused reason)
+      → IsDueOn g (λ d. d ≡ day) (request_of badge what) old new (refusal_to_show reason)
+  due_to_show there desk_refusal.UnknownKey is = refused_for there desk_refusal.UnknownKey is
+  due_to_show there desk_refusal.StaffOnly is = refused_for there desk_refusal.StaffOnly is
+  due_to_show there other is = tt
+
+  due_to_check : IsSome badge → (reason : Reason) → result ≡ Ok (response.Refused reason)
+      → IsDueOn g (λ d. d ≡ day) (request_of badge what) old new (refusal_to_check reason)
+  due_to_check there desk_refusal.UnknownKey is = refused_for there desk_refusal.UnknownKey is
+  due_to_check there desk_refusal.StaffOnly is = refused_for there desk_refusal.StaffOnly is
+  due_to_check there desk_refusal.NoAccession is = refused_for there desk_refusal.NoAccession is
+  due_to_check there other is = tt
+
+  pub shown_due : IsSome badge → (refusal : Refusal) → answer_to_show result ≡ Err refusal → IsDueOn g (λ d. d ≡ day) (request_of badge what) old new refusal
+  shown_due there refusal told = go result refl told
+    where
+      go : (r : Result Response X) → result ≡ r → answer_to_show r ≡ Err refusal → IsDueOn g (λ d. d ≡ day) (request_of badge what) old new refusal
+      go (Ok (response.Refused reason)) is named =
+          let same : refusal_to_show reason ≡ refusal = cc named in
+          subst (IsDueOn g (λ d. d ≡ day) (request_of badge what) old new) same (due_to_show there reason is)
+      go (Ok other) is named = absurd (cc named)
+      go (Err fault) is named = let same : Store ≡ refusal = cc named in subst (IsDueOn g (λ d. d ≡ day) (request_of badge what) old new) same tt
+
+  pub found_due : IsSome badge → (refusal : Refusal) → outcome_of result ≡ Err refusal → IsDueOn g (λ d. d ≡ day) (request_of badge what) old new refusal
+  found_due there refusal told = go result refl told
+    where
+      go : (r : Result Response X) → result ≡ r → outcome_of r ≡ Err refusal → IsDueOn g (λ d. d ≡ day) (request_of badge what) old new refusal
+      go (Ok (response.Refused reason)) is named =
+          let same : refusal_to_check reason ≡ refusal = cc named in
+          subst (IsDueOn g (λ d. d ≡ day) (request_of badge what) old new) same (due_to_check there reason is)
+      go (Ok (response.Checked told)) is named = absurd (cc named)
+      go (Ok other) is named = let same : Store ≡ refusal = cc named in subst (IsDueOn g (λ d. d ≡ day) (request_of badge what) old new) same tt
+      go (Err fault) is named = let same : Store ≡ refusal = cc named in subst (IsDueOn g (λ d. d ≡ day) (request_of badge what) old new) same tt
+
+-- ---- on other days
+
+module _ (Days More : ℤ → Type 0) (weaker : (day : ℤ) → Days day → More day) (asked : Request) where
+  shows_on : (stood : Desk) (out written : Option (List ℕ)) → Shows Days asked stood out written → Shows More asked stood out written
+  shows_on stood out written shows = record {
+    day = shows.day;
+    on = weaker shows.day shows.on;
+    reply = shows.reply;
+    is = shows.is;
+    done = shows.done;
+    written = shows.written;
+  }
+
+  finds_on : (outcome : Outcome) (stood after : Desk) → Finds Days asked outcome stood after → Finds More asked outcome stood after
+  finds_on outcome stood after finds = record { day = finds.day; on = weaker finds.day finds.on; is = finds.is }
+
+  refused_on : (reason : Reason) (stood : Desk) → IsRefusedFor Days asked reason stood → IsRefusedFor More asked reason stood
+  refused_on reason stood refused = (refused.0, weaker refused.0 refused.1, refused.2)
+
+  module _ {S : Type 0} (g : Ghosts S) (old new : Held S) where
+    of_desk : (P Q : Desk → Desk → Type 0) → ((stood after : Desk) → P stood after → Q stood after) → OfDesk g P old new → OfDesk g Q old new
+    of_desk P Q more holds = λ clean. let at = holds clean in (at.0, more (desk g old) (desk g new) at.1)
+
+    pub shows_desk_on : (out written : Option (List ℕ)) → OfDesk g (λ stood after. Shows Days asked stood out written) old new
+        → OfDesk g (λ stood after. Shows More asked stood out written) old new
+    shows_desk_on out written = of_desk _ _ (λ stood after. shows_on stood out written)
+
+    pub finds_desk_on : (outcome : Outcome) → OfDesk g (Finds Days asked outcome) old new → OfDesk g (Finds More asked outcome) old new
+    finds_desk_on outcome = of_desk _ _ (finds_on outcome)
+
+    pub due_on : (refusal : Refusal) → IsDueOn g Days asked old new refusal → IsDueOn g More asked old new refusal
+    due_on UnknownKey = of_desk _ _ (λ stood after. refused_on desk_refusal.UnknownKey stood)
+    due_on StaffOnly = of_desk _ _ (λ stood after. refused_on desk_refusal.StaffOnly stood)
+    due_on NoAccession = of_desk _ _ (λ stood after. refused_on desk_refusal.NoAccession stood)
+    due_on other = λ due. tt
+
+    of_stood_on : (P Q : Desk → Desk → Type 0) → ((stood after : Desk) → P stood after → Q stood after) → OfStood g P old new → OfStood g Q old new
+    of_stood_on P Q more holds = λ clean. let at = holds clean in (at.0, at.1, more at.0 (desk g new) at.2)
+
+    pub shows_store_on : (out written : Option (List ℕ)) → ShowsStore g Days asked out written old new → ShowsStore g More asked out written old new
+    shows_store_on out written shows = record {
+      leaves = shows.leaves;
+      shows = of_stood_on _ _ (λ stood after. shows_on stood out written) shows.shows;
+    }
+
+    pub finds_stood_on : (outcome : Outcome) → OfStood g (Finds Days asked outcome) old new → OfStood g (Finds More asked outcome) old new
+    finds_stood_on outcome = of_stood_on _ _ (finds_on outcome)
+
+    pub refused_stood_on : (reason : Reason) → OfStood g (λ stood after. IsRefusedFor Days asked reason stood) old new
+        → OfStood g (λ stood after. IsRefusedFor More asked reason stood) old new
+    refused_stood_on reason = of_stood_on _ _ (λ stood after. refused_on reason stood)
+
+-- what a command ends with holds more weakly
+pub ends_weaker : {S : Type 0} (old new : Option (Held S)) (P Q : Held S → Held S → Type 0) → ((before last : Held S) → P before last → Q before last)
+    → EndsWith old new P → EndsWith old new Q
+ends_weaker None new P Q weaker ends = tt
+ends_weaker (Some before) new P Q weaker ends = (ends.0, weaker before ends.0 ends.1, ends.2)
+
+pub due_in_on : {S : Type 0} (g : Ghosts S) (Days More : ℤ → Type 0) (weaker : (day : ℤ) → Days day → More day) (asked : Request) (old new : Option (Held S)) (refusal : Refusal)
+    → IsDueIn g Days asked old new refusal → IsDueIn g More asked old new refusal
+due_in_on g Days More weaker asked old new UnknownKey due =
+    ends_weaker old new _ _ (λ before last. refused_stood_on Days More weaker asked g before last desk_refusal.UnknownKey) due
+due_in_on g Days More weaker asked old new StaffOnly due =
+    ends_weaker old new _ _ (λ before last. refused_stood_on Days More weaker asked g before last desk_refusal.StaffOnly) due
+due_in_on g Days More weaker asked old new NoAccession due =
+    ends_weaker old new _ _ (λ before last. refused_stood_on Days More weaker asked g before last desk_refusal.NoAccession) due
+due_in_on g Days More weaker asked old new other due = tt
 
 -- ---- by what is refused
 
@@ -291,16 +249,18 @@ pub device_no_accession : (refusal : Refusal) → IsOfDevice refusal → refusal
 device_no_accession NoAccession device is = device
 device_no_accession other device is = absurd (cc is)
 
-pub device_due : {S : Type 0} (g : Ghosts S) (asked : Request) (old new : Held S) (refusal : Refusal) → IsOfDevice refusal → IsDueOn g asked old new refusal
-device_due g asked old new UnknownKey device = absurd device
-device_due g asked old new StaffOnly device = absurd device
-device_due g asked old new other device = tt
+pub device_due : {S : Type 0} (g : Ghosts S) (Days : ℤ → Type 0) (asked : Request) (old new : Held S) (refusal : Refusal) → IsOfDevice refusal
+    → IsDueOn g Days asked old new refusal
+device_due g Days asked old new UnknownKey device = absurd device
+device_due g Days asked old new StaffOnly device = absurd device
+device_due g Days asked old new NoAccession device = absurd device
+device_due g Days asked old new other device = tt
 
 -- ---- the store that it was asked of
 
 module _ {S : Type 0} (g : Ghosts S) (old new : Option (Held S)) (opened last conn : Held S) where
   -- what holds of the connection that stood and of the last is what the command ends with
-  ends_with : (P : Held S → Held S → Type 0) → IfSome old (λ before. IsMigrated g before opened) → ((before : Held S) → IsMigrated g before opened → P before last)
+  pub ends_with : (P : Held S → Held S → Type 0) → IfSome old (λ before. IsMigrated g before opened) → ((before : Held S) → IsMigrated g before opened → P before last)
       → conn ≡ last → IfSome new (λ held. Some conn ≡ Some held) → EndsWith old new P
   ends_with P is makes same took = elim old as (λ o. IfSome o (λ before. IsMigrated g before opened) → EndsWith o new P) [
     | Some before ↦ λ at. (last, makes before at, taken new took)
@@ -311,36 +271,37 @@ module _ {S : Type 0} (g : Ghosts S) (old new : Option (Held S)) (opened last co
       taken (Some h) is = let one : conn ≡ h = cc in sym same ∙ one
       taken None is = tt
 
-  of_stood : (P : Desk → Type 0) (before : Held S) → IsMigrated g before opened → IsOpen g opened → P (desk g opened) → (stood : Desk) × SpellsDesk (state g before).now stood × P stood
-  of_stood P before at is_open holds = (desk g opened, at.is is_open, holds)
+  of_stood : (P : Desk → Desk → Type 0) (before : Held S) → IsMigrated g before opened → Lasts g opened last → OfDesk g P opened last → OfStood g P before last
+  of_stood P before at lasts holds = λ clean. let found = holds clean in (desk g opened, at.is (lasts.was_open found.0), found.1)
 
-  pub ends_showing : (asked : Request) (out written : Option (List ℕ)) → IfSome old (λ before. IsMigrated g before opened) → LeavesDesk g IsSame opened last
-      → OfDesk g (λ stood. Shows asked stood out written) opened last → conn ≡ last → IfSome new (λ held. Some conn ≡ Some held)
-      → EndsWith old new (ShowsStore g asked out written)
-  ends_showing asked out written is leaves shows =
-      ends_with (ShowsStore g asked out written) is (λ before at. record {
+  pub ends_showing : (Days : ℤ → Type 0) (asked : Request) (out written : Option (List ℕ)) → IfSome old (λ before. IsMigrated g before opened)
+      → LeavesDesk g IsSame opened last → OfDesk g (λ stood after. Shows Days asked stood out written) opened last → conn ≡ last
+      → IfSome new (λ held. Some conn ≡ Some held) → EndsWith old new (ShowsStore g Days asked out written)
+  ends_showing Days asked out written is leaves shows =
+      ends_with (ShowsStore g Days asked out written) is (λ before at. record {
         leaves = from_opened g IsSame before opened last at leaves;
-        shows = λ clean. let shown = shows clean in
-            of_stood (λ stood. Shows asked stood out written) before at (leaves.lasts.was_open shown.0) shown.1;
+        shows = of_stood (λ stood after. Shows Days asked stood out written) before at leaves.lasts shows;
       })
 
-  ends_due : (P : Desk → Type 0) → IfSome old (λ before. IsMigrated g before opened) → LeavesDesk g IsSame opened last → OfDesk g P opened last
+  pub ends_of_stood : (P : Desk → Desk → Type 0) → IfSome old (λ before. IsMigrated g before opened) → Lasts g opened last → OfDesk g P opened last
       → conn ≡ last → IfSome new (λ held. Some conn ≡ Some held) → EndsWith old new (OfStood g P)
-  ends_due P is leaves due = ends_with (OfStood g P) is (λ before at clean. let found = due clean in of_stood P before at (leaves.lasts.was_open found.0) found.1)
+  ends_of_stood P is lasts holds = ends_with (OfStood g P) is (λ before at. of_stood P before at lasts holds)
 
-  pub due_in : (asked : Request) (refusal : Refusal) → IfSome old (λ before. IsMigrated g before opened) → LeavesDesk g IsSame opened last
-      → IsDueOn g asked opened last refusal → conn ≡ last → IfSome new (λ held. Some conn ≡ Some held) → IsDueIn g asked old new refusal
-  due_in asked UnknownKey is leaves due same took = ends_due (IsOfNoKey asked) is leaves due same took
-  due_in asked StaffOnly is leaves due same took = ends_due (IsOfNoStaff asked) is leaves due same took
-  due_in asked refusal is leaves due same took = tt
+  pub due_in : (Days : ℤ → Type 0) (asked : Request) (refusal : Refusal) → IfSome old (λ before. IsMigrated g before opened) → Lasts g opened last
+      → IsDueOn g Days asked opened last refusal → conn ≡ last → IfSome new (λ held. Some conn ≡ Some held) → IsDueIn g Days asked old new refusal
+  due_in Days asked UnknownKey is lasts due same took = ends_of_stood (λ stood after. IsRefusedFor Days asked desk_refusal.UnknownKey stood) is lasts due same took
+  due_in Days asked StaffOnly is lasts due same took = ends_of_stood (λ stood after. IsRefusedFor Days asked desk_refusal.StaffOnly stood) is lasts due same took
+  due_in Days asked NoAccession is lasts due same took = ends_of_stood (λ stood after. IsRefusedFor Days asked desk_refusal.NoAccession stood) is lasts due same took
+  due_in Days asked refusal is lasts due same took = tt
 
 -- no caller is refused where no desk was opened
-pub open_due : {S : Type 0} (g : Ghosts S) (asked : Request) (old new : Option (Held S)) (refusal : Refusal) → IsOpenRefusal refusal → IsDueIn g asked old new refusal
-open_due g asked old new refusal (inl is) = subst (IsDueIn g asked old new) (sym is) tt
-open_due g asked old new refusal (inr (inl is)) = subst (IsDueIn g asked old new) (sym is) tt
-open_due g asked old new refusal (inr (inr (inl is))) = subst (IsDueIn g asked old new) (sym is) tt
-open_due g asked old new refusal (inr (inr (inr (inl is)))) = subst (IsDueIn g asked old new) (sym is) tt
-open_due g asked old new refusal (inr (inr (inr (inr is)))) = subst (IsDueIn g asked old new) (sym is) tt
+pub open_due : {S : Type 0} (g : Ghosts S) (Days : ℤ → Type 0) (asked : Request) (old new : Option (Held S)) (refusal : Refusal) → IsOpenRefusal refusal
+    → IsDueIn g Days asked old new refusal
+open_due g Days asked old new refusal (inl is) = subst (IsDueIn g Days asked old new) (sym is) tt
+open_due g Days asked old new refusal (inr (inl is)) = subst (IsDueIn g Days asked old new) (sym is) tt
+open_due g Days asked old new refusal (inr (inr (inl is))) = subst (IsDueIn g Days asked old new) (sym is) tt
+open_due g Days asked old new refusal (inr (inr (inr (inl is)))) = subst (IsDueIn g Days asked old new) (sym is) tt
+open_due g Days asked old new refusal (inr (inr (inr (inr is)))) = subst (IsDueIn g Days asked old new) (sym is) tt
 
 pub open_no_accession : (refusal : Refusal) → IsOpenRefusal refusal → refusal ≢ NoAccession
 open_no_accession refusal (inl is) same = cc (sym is ∙ same)
@@ -353,9 +314,10 @@ pub clock_no_accession : (refusal : Refusal) → IsClockRefusal refusal → refu
 clock_no_accession refusal (inl is) same = cc (sym is ∙ same)
 clock_no_accession refusal (inr is) same = cc (sym is ∙ same)
 
-pub clock_due : {S : Type 0} (g : Ghosts S) (asked : Request) (old new : Held S) (refusal : Refusal) → IsClockRefusal refusal → IsDueOn g asked old new refusal
-clock_due g asked old new refusal (inl is) = subst (IsDueOn g asked old new) (sym is) tt
-clock_due g asked old new refusal (inr is) = subst (IsDueOn g asked old new) (sym is) tt
+pub clock_due : {S : Type 0} (g : Ghosts S) (Days : ℤ → Type 0) (asked : Request) (old new : Held S) (refusal : Refusal) → IsClockRefusal refusal
+    → IsDueOn g Days asked old new refusal
+clock_due g Days asked old new refusal (inl is) = subst (IsDueOn g Days asked old new) (sym is) tt
+clock_due g Days asked old new refusal (inr is) = subst (IsDueOn g Days asked old new) (sym is) tt
 
 pub memory_no_accession : NoMemory ≢ NoAccession
 memory_no_accession same = cc same
@@ -379,3 +341,165 @@ due_of P Q (Err refusal) one other = (one, other)
 pub passed_on : {T : Type 0} (r : Result T Refusal) (refusal : Refusal) (P : Refusal → Type 0) → IsErrAnd r (λ other. other ≡ refusal) → P refusal → IfErr r P
 passed_on (Ok value) refusal P is fact = absurd is
 passed_on (Err other) refusal P is fact = subst P (sym is) fact
+
+-- ---- by what is asked for
+
+-- a check is nothing to show
+pub no_check : (acc : ℕ) (what : What) → what_to_show (question.Check acc) ≡ Some what → ⊥
+no_check acc what is = cc is
+
+module _ {T : Type 0} (r : Result T Refusal) {S : Type 0} (g : Ghosts S) (old new : Held S) (day : ℤ) (More : ℤ → Type 0) (on : More day)
+    (badge asked : Option (List ℕ)) (same : badge ≡ asked) where
+  on_day : (d : ℤ) → d ≡ day → More d
+  on_day d is = subst More (sym is) on
+
+  pub shows_asked : (what other : What) (out written : Option (List ℕ)) → what ≡ other
+      → OnOk r (OfDesk g (λ stood after. Shows (λ d. d ≡ day) (request_of badge what) stood out written) old new)
+      → OnOk r (OfDesk g (λ stood after. Shows More (request_of asked other) stood out written) old new)
+  shows_asked what other out written is shows =
+      subst (λ w. OnOk r (OfDesk g (λ stood after. Shows More (request_of asked w) stood out written) old new)) is
+      (subst (λ b. OnOk r (OfDesk g (λ stood after. Shows More (request_of b what) stood out written) old new)) same
+      (on_ok_weaker r (shows_desk_on (λ d. d ≡ day) More on_day (request_of badge what) g old new out written) shows))
+
+  pub due_asked : (what other : What) → what ≡ other → IfErr r (IsDueOn g (λ d. d ≡ day) (request_of badge what) old new)
+      → IfErr r (IsDueOn g More (request_of asked other) old new)
+  due_asked what other is due =
+      subst (λ w. IfErr r (IsDueOn g More (request_of asked w) old new)) is
+      (subst (λ b. IfErr r (IsDueOn g More (request_of b what) old new)) same
+      (IfErr-weaker r _ _ (due_on (λ d. d ≡ day) More on_day (request_of badge what) g old new) due))
+
+pub finds_asked : (r : Result Done Refusal) {S : Type 0} (g : Ghosts S) (old new : Held S) (day : ℤ) (More : ℤ → Type 0) (on : More day)
+    (badge asked : Option (List ℕ)) (acc other : ℕ) → badge ≡ asked → acc ≡ other
+    → IfOk r (λ done. OfDesk g (Finds (λ d. d ≡ day) (request_of badge (request.Check acc)) (found_by done)) old new)
+    → IfOk r (λ done. OfDesk g (Finds More (request_of asked (request.Check other)) (found_by done)) old new)
+finds_asked (Ok done) g old new day More on badge asked acc other same is finds =
+    subst (λ a. OfDesk g (Finds More (request_of asked (request.Check a)) (found_by done)) old new) is
+    (subst (λ b. OfDesk g (Finds More (request_of b (request.Check acc)) (found_by done)) old new) same
+    (finds_desk_on (λ d. d ≡ day) More (λ d at. subst More (sym at) on) (request_of badge (request.Check acc)) g old new (found_by done) finds))
+finds_asked (Err refusal) g old new day More on badge asked acc other same is finds = tt
+
+-- what is found of an open desk is found of the one that stood
+pub finds_ended : (r : Result Done Refusal) {S : Type 0} (g : Ghosts S) (old new : Option (Held S)) (opened last conn : Held S) (Days : ℤ → Type 0) (asked : Request)
+    → IfSome old (λ before. IsMigrated g before opened) → Lasts g opened last → conn ≡ last → IfSome new (λ held. Some conn ≡ Some held)
+    → IfOk r (λ done. OfDesk g (Finds Days asked (found_by done)) opened last) → IfOk r (λ done. EndsWith old new (OfStood g (Finds Days asked (found_by done))))
+finds_ended (Ok done) g old new opened last conn Days asked is lasts same took finds =
+    ends_of_stood g old new opened last conn (Finds Days asked (found_by done)) is lasts finds same took
+finds_ended (Err refusal) g old new opened last conn Days asked is lasts same took finds = tt
+
+-- the refusal of an opening shows nothing, and is no judgement of the desk
+pub not_opened_once : {S : Type 0} (g : Ghosts S) (clock : Option ℤ) (stood left : Option (Held S)) (out : Option (List ℕ)) (ask : OnceAsk) (r : Result Done Refusal)
+    (refusal : Refusal) → IsErrAnd r (λ other. other ≡ refusal) → IsOpenRefusal refusal → AnswersOnce g clock stood left out out ask r
+not_opened_once g clock stood left out ask (Ok done) refusal is opening = absurd is
+not_opened_once g clock stood left out ask (Err other) refusal is opening =
+    let why : IsOpenRefusal other = subst IsOpenRefusal (sym is) opening in
+    record {
+      shown = λ what asked. tt;
+      not_shown = λ what asked. (inl (inl why, Keeps-refl out), open_no_accession other why);
+      found = λ acc asked. tt;
+      due = λ some. open_due g (IsDayAt (moment_of ask.when.seconds clock) ask.when.zone) (request_of (badge_of ask) (asked_of ask.question)) stood left other why;
+    }
+
+-- what was asked of an open desk was asked of the one that stood
+pub answers_once : {S : Type 0} (g : Ghosts S) (ask : OnceAsk) (r : Result Done Refusal) (old new : Option (Held S)) (opened last conn : Held S) (clock later : Option ℤ)
+    (zone : Zone) (out written : Option (List ℕ)) → IfSome old (λ before. IsMigrated g before opened) → Lasts g opened last → conn ≡ last
+    → IfSome new (λ held. Some conn ≡ Some held) → later ≡ clock → zone ≡ ask.when.zone
+    → ((what : What) → what_to_show ask.question ≡ Some what
+    → OnOk r (OfDesk g (λ stood after. Shows (IsDayAt (moment_of ask.when.seconds later) zone) (request_of (badge_of ask) what) stood out written) opened last))
+    → ((what : What) → what_to_show ask.question ≡ Some what → IfErr r (RefusesShow out written))
+    → ((acc : ℕ) → IsCheckOf acc ask.question
+    → IfOk r (λ done. OfDesk g (Finds (IsDayAt (moment_of ask.when.seconds later) zone) (request_of (badge_of ask) (request.Check acc)) (found_by done)) opened last))
+    → (IsSome ask.key → IfErr r (IsDueOn g (IsDayAt (moment_of ask.when.seconds later) zone) (request_of (badge_of ask) (asked_of ask.question)) opened last))
+    → LeavesDesk g (StepsOf (badge_of ask) (IsDayAt (moment_of ask.when.seconds later) zone) ask.question) opened last
+    → AnswersOnce g clock old new out written ask r
+answers_once {S} g ask r old new opened last conn clock later zone out written is lasts same took at by shown not_shown found due steps = record {
+  shown = λ what asked.
+      subst (λ (d : ℤ → Type 0). OnOk r (EndsWith old new (ShowsStore g d (request_of (badge_of ask) what) out written))) days
+      (on_ok_weaker r (λ shows. ends_showing g old new opened last conn (IsDayAt (moment_of ask.when.seconds later) zone) (request_of (badge_of ask) what) out written is
+      (steps_to_show ask.question what asked steps) shows same took) (shown what asked));
+  not_shown = not_shown;
+  found = λ acc asked.
+      subst (λ (d : ℤ → Type 0). IfOk r (λ done. EndsWith old new (FindsStore g d (badge_of ask) acc (found_by done)))) days
+      (finds_ended r g old new opened last conn (IsDayAt (moment_of ask.when.seconds later) zone) (request_of (badge_of ask) (request.Check acc)) is lasts same took (found acc asked));
+  due = λ some.
+      subst (λ (d : ℤ → Type 0). IfErr r (IsDueIn g d (request_of (badge_of ask) (asked_of ask.question)) old new)) days
+      (IfErr-weaker r _ _ (λ refusal why. due_in g old new opened last conn (IsDayAt (moment_of ask.when.seconds later) zone) (request_of (badge_of ask) (asked_of ask.question))
+      refusal is lasts why same took) (due some));
+}
+  where
+    days : IsDayAt (moment_of ask.when.seconds later) zone ≡ IsDayAt (moment_of ask.when.seconds clock) ask.when.zone
+    days = ap (λ m. IsDayAt (moment_of ask.when.seconds m) zone) at ∙ ap (IsDayAt (moment_of ask.when.seconds clock)) by
+
+    steps_to_show : (asked : Question) (what : What) → what_to_show asked ≡ Some what
+        → LeavesDesk g (StepsOf (badge_of ask) (IsDayAt (moment_of ask.when.seconds later) zone) asked) opened last → LeavesDesk g IsSame opened last
+    steps_to_show question.Catalogue what is steps = steps
+    steps_to_show (question.Show shown) what is steps = steps
+    steps_to_show (question.Check acc) what is steps = absurd (cc is)
+
+-- ---- by the words
+
+module _ {S : Type 0} (g : Ghosts S) (clock : Option ℤ) (stands : List ℕ → Option (Held S)) (left : Option (Held S)) (out written : Option (List ℕ))
+    (result : Result Done Refusal) (store : List ℕ) (key : Option (List ℕ)) (asked : Question) (moment : Option ℤ) (rule : List ℕ) where
+  day_by : (ask : OnceAsk) → AsksOnce ask store key asked moment rule → (day : ℤ) → IsDayAt (moment_of ask.when.seconds clock) ask.when.zone day
+      → IsDayBy (moment_of moment clock) rule day
+  day_by ask asks day at = record {
+    zone = ask.when.zone;
+    zone_is = asks.when_is.zone_is;
+    day_is = subst (λ m. IsDayAt (moment_of m clock) ask.when.zone day) asks.when_is.moment_is at;
+  }
+
+  pub once_shows : (ask : Ask) → IsOnceAsk store key asked moment rule ask → AnswersBy g clock stands left out written ask result → (what : What)
+      → what_to_show asked ≡ Some what → OnOk result (EndsWith (stands store) left
+      (ShowsStore g (IsDayBy (moment_of moment clock) rule) (request_of (option_map sha256 (option_map trim_ows key)) what) out written))
+  once_shows (Once ask) asks answers what is =
+      subst (λ s. OnOk result (EndsWith (stands s) left (ShowsStore g (IsDayBy (moment_of moment clock) rule)
+      (request_of (option_map sha256 (option_map trim_ows key)) what) out written))) asks.store_is
+      (subst (λ k. OnOk result (EndsWith (stands ask.store.now) left (ShowsStore g (IsDayBy (moment_of moment clock) rule)
+      (request_of (option_map sha256 k) what) out written))) asks.key_is
+      (on_ok_weaker result (ends_weaker (stands ask.store.now) left _ _ (λ before last.
+      shows_store_on (IsDayAt (moment_of ask.when.seconds clock) ask.when.zone) (IsDayBy (moment_of moment clock) rule) (day_by ask asks)
+      (request_of (badge_of ask) what) g before last out written))
+      (answers.shown what (ap what_to_show asks.question_is ∙ is))))
+  once_shows ask asks answers what is = absurd asks
+
+  pub once_not_shown : (ask : Ask) → IsOnceAsk store key asked moment rule ask → AnswersBy g clock stands left out written ask result → (what : What)
+      → what_to_show asked ≡ Some what → IfErr result (RefusesShow out written)
+  once_not_shown (Once ask) asks answers what is = answers.not_shown what (ap what_to_show asks.question_is ∙ is)
+  once_not_shown ask asks answers what is = absurd asks
+
+  pub once_due : (ask : Ask) → IsOnceAsk store key asked moment rule ask → AnswersBy g clock stands left out written ask result → IsSome key
+      → IfErr result (IsDueIn g (IsDayBy (moment_of moment clock) rule) (request_of (option_map sha256 (option_map trim_ows key)) (asked_of asked)) (stands store) left)
+  once_due (Once ask) asks answers there =
+      subst (λ q. IfErr result (IsDueIn g (IsDayBy (moment_of moment clock) rule)
+      (request_of (option_map sha256 (option_map trim_ows key)) (asked_of q)) (stands store) left)) asks.question_is
+      (subst (λ s. IfErr result (IsDueIn g (IsDayBy (moment_of moment clock) rule)
+      (request_of (option_map sha256 (option_map trim_ows key)) (asked_of ask.question)) (stands s) left)) asks.store_is
+      (subst (λ k. IfErr result (IsDueIn g (IsDayBy (moment_of moment clock) rule)
+      (request_of (option_map sha256 k) (asked_of ask.question)) (stands ask.store.now) left)) asks.key_is
+      (IfErr-weaker result _ _ (due_in_on g (IsDayAt (moment_of ask.when.seconds clock) ask.when.zone) (IsDayBy (moment_of moment clock) rule)
+      (day_by ask asks) (request_of (badge_of ask) (asked_of ask.question)) (stands ask.store.now) left)
+      (answers.due (key_there ask.key key asks.key_is there)))))
+  once_due ask asks answers there = absurd asks
+
+pub once_finds : {S : Type 0} (g : Ghosts S) (clock : Option ℤ) (stands : List ℕ → Option (Held S)) (left : Option (Held S)) (out written : Option (List ℕ))
+    (result : Result Done Refusal) (store : List ℕ) (key : Option (List ℕ)) (acc : ℕ) (moment : Option ℤ) (rule : List ℕ)
+    (ask : Ask) → IsOnceAsk store key (question.Check acc) moment rule ask → AnswersBy g clock stands left out written ask result
+    → IfOk result (λ done. EndsWith (stands store) left
+    (FindsStore g (IsDayBy (moment_of moment clock) rule) (option_map sha256 (option_map trim_ows key)) acc (found_by done)))
+once_finds g clock stands left out written result store key acc moment rule (Once ask) asks answers =
+    subst (λ s. IfOk result (λ done. EndsWith (stands s) left
+    (FindsStore g (IsDayBy (moment_of moment clock) rule) (option_map sha256 (option_map trim_ows key)) acc (found_by done)))) asks.store_is
+    (subst (λ k. IfOk result (λ done. EndsWith (stands ask.store.now) left
+    (FindsStore g (IsDayBy (moment_of moment clock) rule) (option_map sha256 k) acc (found_by done)))) asks.key_is
+    (more result (answers.found acc (subst (IsCheckOf acc) (sym asks.question_is) refl))))
+  where
+    by : (day : ℤ) → IsDayAt (moment_of ask.when.seconds clock) ask.when.zone day → IsDayBy (moment_of moment clock) rule day
+    by = day_by g clock stands left out written result store key (question.Check acc) moment rule ask asks
+
+    more : (r : Result Done Refusal)
+        → IfOk r (λ done. EndsWith (stands ask.store.now) left (FindsStore g (IsDayAt (moment_of ask.when.seconds clock) ask.when.zone) (badge_of ask) acc (found_by done)))
+        → IfOk r (λ done. EndsWith (stands ask.store.now) left (FindsStore g (IsDayBy (moment_of moment clock) rule) (badge_of ask) acc (found_by done)))
+    more (Ok done) found = ends_weaker (stands ask.store.now) left _ _ (λ before last.
+        finds_stood_on (IsDayAt (moment_of ask.when.seconds clock) ask.when.zone) (IsDayBy (moment_of moment clock) rule) by
+        (request_of (badge_of ask) (request.Check acc)) g before last (found_by done)) found
+    more (Err refusal) found = tt
+once_finds g clock stands left out written result store key acc moment rule ask asks answers = absurd asks

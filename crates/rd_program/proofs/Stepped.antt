@@ -1,15 +1,15 @@
 -- The desk after what it was asked by a command.
-use Rattle.std.proofs.Common.{◌≡◌, ◌⊎◌, ◌++◌, ℕ, ℤ, List, [], ◌∷◌, Option, Some, inl, inr, refl, subst, sym}
+use Rattle.std.proofs.Common.{◌≡◌, ◌⊎◌, ◌++◌, ℕ, ℤ, List, [], ◌∷◌, Option, Some, Result, Ok, Err, inl, inr, refl, subst, sym}
 use Rattle.sqlite.specs.Held.{Held}
 use Rattle.sqlite.specs.Store.{Ghosts}
 use Rattle.rd_store.specs.Held.{desk}
 use Rattle.rd_holdings.specs.State.{Desk}
-use Rattle.rd_protocol.specs.Replies.{Answers, IsAnswered, IsStep}
-use Rattle.rd_desk.specs.Served.{Serves}
+use Rattle.rd_protocol.specs.Replies.{IsAnswered, IsStep}
+use Rattle.rd_desk.specs.Calls.{IsResponse}
+use Rattle.rd_desk.specs.Served.{Responds}
 use Rattle.rd_protocol.specs.declared.request.Request.{Request}
 use Rattle.rd_protocol.specs.declared.request.What.{What}
 use Rattle.rd_protocol.specs.declared.request.What.TheVariants as request
-use Rattle.rd_protocol.specs.declared.response.Reply.{Reply}
 use Rattle.rd_protocol.specs.declared.response.Response.{Response}
 use Rattle.rd_protocol.specs.declared.response.Response.TheVariants as response
 use Rattle.rd_program.specs.Leaves.{Checks, IsPutImage, LeavesDesk, StepsOf, TakesFields, TakesIn, TakesInTurn, TakesRow}
@@ -18,16 +18,16 @@ use Rattle.rd_commands.specs.declared.words.Question.{Question}
 use Rattle.rd_commands.specs.declared.words.Question.TheVariants as question
 use Rattle.rd_program.proofs.Left.{desk_then}
 
--- ---- after a reply
+-- ---- after an answer
 
 answered_step : (old : Desk) (day : ℤ) (request : Request) (answer : Response) (new : Desk) → IsAnswered old day request answer new → IsStep old day request new
 answered_step old day request (response.Refused refusal) new is = inr ((refusal, is.0), is.1)
 answered_step old day request answer new is = inl (record { file = is.file; asked = is.asked; accepted = is.accepted }, is.after)
 
-pub reply_step : (old : Desk) (day : ℤ) (request : Request) (reply : Reply) (new : Desk) → Answers old day request reply new
+pub response_step : {X : Type 0} (old : Desk) (day : ℤ) (request : Request) (result : Result Response X) (new : Desk) → IsResponse old day request result new
     → (new ≡ old) ⊎ IsStep old day request new
-reply_step old day request reply new (inl is) = inr (answered_step old day request is.answer new is.answered)
-reply_step old day request reply new (inr none) = inl none.after
+response_step old day request (Ok answer) new is = inr (answered_step old day request answer new is)
+response_step old day request (Err fault) new same = inl same
 
 row_step : (badge : List ℕ) (day : ℤ) (row : SheetRow) (bytes : List ℕ) (old new : Desk)
     → (new ≡ old) ⊎ IsStep old day (record { badge = Some badge; what = request.PutImage row.acc row.kind row.deed row.digest bytes }) new
@@ -40,26 +40,26 @@ check_step : (badge : Option (List ℕ)) (acc : ℕ) (day : ℤ) (old new : Desk
 check_step badge acc day old new (inl same) = inl same
 check_step badge acc day old new (inr step) = inr (day, refl, step)
 
-module _ {S : Type 0} (g : Ghosts S) (old new : Held S) (day : ℤ) (reply : Reply) where
+module _ {S X : Type 0} (g : Ghosts S) (old new : Held S) (day : ℤ) (result : Result Response X) where
   pub row_taken : (badge : List ℕ) (row : SheetRow) (bytes : List ℕ)
-      → Serves g old new day (record { badge = Some badge; what = request.PutImage row.acc row.kind row.deed row.digest bytes }) reply
+      → Responds g old new day (record { badge = Some badge; what = request.PutImage row.acc row.kind row.deed row.digest bytes }) result
       → LeavesDesk g (TakesRow badge day row) old new
-  row_taken badge row bytes serves =
+  row_taken badge row bytes responds =
       let asked : Request = record { badge = Some badge; what = request.PutImage row.acc row.kind row.deed row.digest bytes } in
       record {
-        lasts = serves.lasts;
+        lasts = responds.lasts;
         reached = λ is_open. row_step badge day row bytes (desk g old) (desk g new)
-            (reply_step (desk g old) day asked reply (desk g new) (serves.answers is_open));
+            (response_step (desk g old) day asked result (desk g new) (responds.answers is_open));
       }
 
-  pub check_made : (badge : Option (List ℕ)) (acc : ℕ) → Serves g old new day (record { badge = badge; what = request.Check acc }) reply
+  pub check_made : (badge : Option (List ℕ)) (acc : ℕ) → Responds g old new day (record { badge = badge; what = request.Check acc }) result
       → LeavesDesk g (Checks badge acc (λ d. d ≡ day)) old new
-  check_made badge acc serves =
+  check_made badge acc responds =
       let asked : Request = record { badge = badge; what = request.Check acc } in
       record {
-        lasts = serves.lasts;
+        lasts = responds.lasts;
         reached = λ is_open. check_step badge acc day (desk g old) (desk g new)
-            (reply_step (desk g old) day asked reply (desk g new) (serves.answers is_open));
+            (response_step (desk g old) day asked result (desk g new) (responds.answers is_open));
       }
 
 -- ---- on other days

@@ -1,8 +1,11 @@
 -- What the command `import` gives.
-use Rattle.std.specs.Prelude.{◌≡◌, ◌⊎◌, ℕ, List, Option, All, ◌++◌, codes}
+use Rattle.std.specs.Prelude.{◌≡◌, ◌⊎◌, ℕ, Err, List, Ok, Option, Result, All, ◌++◌, codes}
 use Rattle.std.specs.Fmt.{decimal}
 use Rattle.std.specs.Io.KnownBytes.{Appends, Keeps}
 use Rattle.std.specs.List.{concat}
+use Rattle.rd_protocol.specs.Refusals.{name_of}
+use Rattle.rd_protocol.specs.declared.response.Response.{Response}
+use Rattle.rd_protocol.specs.declared.response.Response.TheVariants.{Refused}
 use Rattle.rd_commands.specs.Output.{AppendsPart}
 use Rattle.rd_commands.specs.Printed.{line_feed}
 use Rattle.rd_program.specs.Serving.{IsClockRefusal, IsOpenRefusal}
@@ -60,6 +63,21 @@ TellsRows old new InPart = GainsLines IsRowLine old new
 abbrev pub TellsRow : Option (List ℕ) → Option (List ℕ) → Done → Type 0
 TellsRow old new Whole = GainsLine IsDoneLine old new
 TellsRow old new InPart = GainsLine IsRowLine old new
+
+-- what the line of an accession says of the desk's answer: that it is done, or the name of the refusal
+abbrev pub word_of : Response → List ℕ
+word_of (Refused refusal) = name_of refusal
+word_of answer = codes "done"
+
+-- and whether all was done
+abbrev pub done_by : Response → Done
+done_by (Refused refusal) = InPart
+done_by answer = Whole
+
+-- there was an answer, and the line that says it was written
+abbrev pub TellsAnswer : {X : Type 0} → ℕ → Result Response X → Option (List ℕ) → Option (List ℕ) → Done → Type 0
+TellsAnswer acc (Ok answer) old new done = Appends old new (accession_line acc (word_of answer)) × (done ≡ done_by answer)
+TellsAnswer acc (Err fault) old new done = ⊥
 
 -- the device failed, memory ran out, or the store failed
 abbrev pub IsRowRefusal : Refusal → Type 0

@@ -2,7 +2,7 @@
 -- that the machine took back, if the machine shows both. If there was no connection, the machine
 -- took none back, and nothing more is stated of such a run: only the machine knows what is in the
 -- file then.
-use Rattle.std.specs.Prelude.{◌≡◌, ◌⊎◌, ⊤, ◌++◌, ℕ, ℤ, List, [], ◌∷◌, IfSome, Option, Some, option_map}
+use Rattle.std.specs.Prelude.{◌≡◌, ◌⊎◌, ⊤, ◌++◌, ℕ, ℤ, List, [], ◌∷◌, IfSome, IsSome, IsTrue, Bool, None, Option, Some, option_map}
 use Rattle.std.specs.Io.KnownBytes.{Appends}
 use Rattle.sha2.specs.Sha256.{sha256}
 use Rattle.sqlite.specs.Store.{Ghosts}
@@ -25,7 +25,7 @@ use Rattle.rd_commands.specs.declared.refusal.Refusal.{Refusal}
 use Rattle.rd_commands.specs.declared.refusal.Refusal.TheVariants.{Clock, Device, Inconsistent, NoMemory, NotADesk, Store, Version}
 use Rattle.rd_commands.specs.declared.sheet.SheetRow.{SheetRow}
 use Rattle.rd_commands.specs.declared.words.Ask.{Ask}
-use Rattle.rd_commands.specs.declared.words.Ask.TheVariants.{Import, Once, Serve}
+use Rattle.rd_commands.specs.declared.words.Ask.TheVariants.{Import, Init, Once, Serve}
 use Rattle.rd_commands.specs.declared.words.Question.{Question}
 use Rattle.rd_commands.specs.declared.words.Question.TheVariants as question
 
@@ -44,6 +44,10 @@ LeavesNone was new = IfSome new (λ after. was ≡ Some after)
 -- or it took none back
 abbrev pub Leaves : {S : Type 0} → Option (Held S) → Option (Held S) → Option (Held S) → (Held S → Held S → Type 0) → Type 0
 Leaves was old new P = IfBoth old new (λ before after. (was ≡ Some after) ⊎ P before after)
+
+-- a machine that shows its connections, and had one, has one again
+abbrev pub GivesBack : {S : Type 0} → Bool → Option (Held S) → Option (Held S) → Type 0
+GivesBack shows was new = IsTrue shows → IsSome was → IsSome new
 
 -- A connection is open only where it was, and shows a desk that was reached so from the one that it showed.
 pub record LeavesDesk {S : Type 0} (g : Ghosts S) (Reached : Desk → Desk → Type 0) (before after : Held S) : Type 0 where
@@ -103,8 +107,13 @@ LeavesServe g was old new port out written refusal = LeavesUnopened g was old ne
 
 -- ---- what a desk is asked
 
--- The day by the clocks of a zone: that of the named moment or, if none is named, of the one that
--- the clock shows.
+-- the moment at which a desk is asked, as far as it is known: the one that is named or, if none is, the one that the
+-- clock shows
+abbrev pub moment_of : Option ℤ → Option ℤ → Option ℤ
+moment_of (Some moment) clock = Some moment
+moment_of None clock = clock
+
+-- The day of a moment by the clocks of a zone: of this one if it is known, and otherwise of some moment.
 pub record IsDayAt (moment : Option ℤ) (zone : Zone) (day : ℤ) : Type 0 where
   pub seconds : ℤ
   pub told : IfSome moment (λ asked. seconds ≡ asked)
@@ -163,14 +172,22 @@ TakesFields badge day fields old new = (new ≡ old) ⊎ ((row : SheetRow) × Sa
 
 -- ---- by what is asked for
 
+-- a machine that shows its connections had one for the store that the command names
+abbrev pub StandsThere : {S : Type 0} → Bool → (List ℕ → Option (Held S)) → Ask → Type 0
+StandsThere shows stands (Init ask) = IsTrue shows → IsSome (stands ask.store.now)
+StandsThere shows stands (Serve ask) = IsTrue shows → IsSome (stands ask.store.now)
+StandsThere shows stands (Import ask) = IsTrue shows → IsSome (stands ask.store.now)
+StandsThere shows stands (Once ask) = IsTrue shows → IsSome (stands ask.store.now)
+StandsThere shows stands other = ⊤
+
 -- what `serve`, `import`, `export`, `check` and `show` leave, however they end
-abbrev pub LeavesBy : {S : Type 0} → Ghosts S → Option (Held S) → (List ℕ → Option (Held S)) → Option (Held S) → Ask → Type 0
-LeavesBy g was stands new (Serve ask) = Leaves was (stands ask.store.now) new (Lasts g)
-LeavesBy g was stands new (Import ask) =
-    Leaves was (stands ask.store.now) new (LeavesStore g (TakesIn (sha256 ask.key.now) (IsDayAt ask.when.seconds ask.when.zone)))
-LeavesBy g was stands new (Once ask) =
-    Leaves was (stands ask.store.now) new (LeavesStore g (StepsOf (option_map sha256 (option_map (λ key. key.now) ask.key)) (IsDayAt ask.when.seconds ask.when.zone) ask.question))
-LeavesBy g was stands new ask = ⊤
+abbrev pub LeavesBy : {S : Type 0} → Ghosts S → Option ℤ → Option (Held S) → (List ℕ → Option (Held S)) → Option (Held S) → Ask → Type 0
+LeavesBy g clock was stands new (Serve ask) = Leaves was (stands ask.store.now) new (Lasts g)
+LeavesBy g clock was stands new (Import ask) =
+    Leaves was (stands ask.store.now) new (LeavesStore g (TakesIn (sha256 ask.key.now) (IsDayAt (moment_of ask.when.seconds clock) ask.when.zone)))
+LeavesBy g clock was stands new (Once ask) =
+    Leaves was (stands ask.store.now) new (LeavesStore g (StepsOf (option_map sha256 (option_map (λ key. key.now) ask.key)) (IsDayAt (moment_of ask.when.seconds clock) ask.when.zone) ask.question))
+LeavesBy g clock was stands new ask = ⊤
 
 -- and what stands after they fail
 abbrev pub LeavesRefused : {S : Type 0} → Ghosts S → Option (Held S) → (List ℕ → Option (Held S)) → Option (Held S)

@@ -5,6 +5,8 @@ pub mod Importing
 pub mod Asking
 pub mod Leaves
 pub mod Showing
+pub mod Doors
+pub mod Visiting
 pub use Rattle.rd_commands.specs.Words
 pub use Rattle.rd_commands.specs.CommandLine
 pub use Rattle.rd_commands.specs.Zones
@@ -22,4 +24,6 @@ pub use Rattle.rd_commands.specs.Versions
 -- ---- inside: what only private functions and proofs cite
 -- Only private functions and proofs cite what follows a line `inside` in a file.
 pub mod Faults
+pub mod Filing
+pub mod Answers
 pub use Rattle.rd_commands.specs.Sheets

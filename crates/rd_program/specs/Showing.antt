@@ -1,11 +1,15 @@
--- What the command `show` gives.
-use Rattle.std.specs.Prelude.{◌≡◌, ◌≢◌, ◌⊎◌, ⊤, ◌++◌, ℕ, ℤ, List, [], IfSome, Option}
+-- What the commands `export`, `check` and `show` give of a desk.
+use Rattle.std.specs.Prelude.{◌≡◌, ◌≢◌, ◌⊎◌, ⊤, ◌++◌, ℕ, ℤ, List, [], IfErr, IfOk, IfSome, IsSome, None, OnOk, Option, Result, Some, option_map}
 use Rattle.std.specs.Io.KnownBytes.{Appends}
+use Rattle.sha2.specs.Sha256.{sha256}
 use Rattle.sqlite.specs.Held.{Held, state}
 use Rattle.sqlite.specs.Store.{Ghosts}
 use Rattle.rd_holdings.specs.State.{Desk}
+use Rattle.rd_holdings.specs.declared.rows.Outcome.{Outcome}
+use Rattle.rd_holdings.specs.declared.rows.Outcome.TheVariants.{Changed, Sound}
 use Rattle.rd_protocol.specs.Judged.{IsRefusedOn}
-use Rattle.rd_protocol.specs.Replies.{IsReply}
+use Rattle.rd_protocol.specs.Replies.{IsAnswered, IsReply}
+use Rattle.rd_protocol.specs.declared.refusal.Refusal.{Refusal as Reason}
 use Rattle.rd_protocol.specs.declared.refusal.Refusal.TheVariants as desk_refusal
 use Rattle.rd_protocol.specs.declared.request.Request.{Request}
 use Rattle.rd_protocol.specs.declared.request.What.{What}
@@ -13,13 +17,22 @@ use Rattle.rd_protocol.specs.declared.request.What.TheVariants as request
 use Rattle.rd_protocol.specs.declared.response.Form.{Form}
 use Rattle.rd_protocol.specs.declared.response.Form.TheVariants.{Csv, Json, Octets}
 use Rattle.rd_protocol.specs.declared.response.Reply.{Reply}
+use Rattle.rd_protocol.specs.declared.response.Response.TheVariants.{Checked}
 use Rattle.rd_store.specs.Held.{IsClean, IsOpen, desk}
 use Rattle.rd_store.specs.Migrated.{SpellsDesk}
 use Rattle.rd_program.specs.Asking.{RefusesOnce}
-use Rattle.rd_program.specs.Leaves.{IsSame, LeavesStore}
+use Rattle.rd_program.specs.Leaves.{IsDayAt, IsSame, LeavesStore, moment_of}
+use Rattle.rd_commands.specs.Asks.{IsCheckOf}
 use Rattle.rd_commands.specs.Printed.{line_feed}
 use Rattle.rd_commands.specs.declared.refusal.Refusal.{Refusal}
 use Rattle.rd_commands.specs.declared.refusal.Refusal.TheVariants.{NoAccession, StaffOnly, Store, UnknownKey}
+use Rattle.rd_commands.specs.declared.done.Done.{Done}
+use Rattle.rd_commands.specs.declared.done.Done.TheVariants.{InPart, Whole}
+use Rattle.rd_commands.specs.declared.words.Ask.{Ask}
+use Rattle.rd_commands.specs.declared.words.Ask.TheVariants.{Once}
+use Rattle.rd_commands.specs.declared.words.OnceAsk.{OnceAsk}
+use Rattle.rd_commands.specs.declared.words.Question.{Question}
+use Rattle.rd_commands.specs.declared.words.Question.TheVariants as question
 use Rattle.rd_commands.specs.declared.words.Shown.{Shown}
 use Rattle.rd_commands.specs.declared.words.Shown.TheVariants as item
 
@@ -33,9 +46,21 @@ what_of item.Keys = request.Keys
 what_of item.Checks = request.Checks
 what_of (item.Verdicts day) = request.Verdicts day
 
--- a caller with this badge asks it
-abbrev pub show_request : Option (List ℕ) → Shown → Request
-show_request badge what = record { badge = badge; what = what_of what }
+-- what a desk is asked, for a question whose answer is shown
+abbrev pub what_to_show : Question → Option What
+what_to_show question.Catalogue = Some request.Catalogue
+what_to_show (question.Show shown) = Some (what_of shown)
+what_to_show (question.Check acc) = None
+
+-- what a desk is asked, for a question
+abbrev pub asked_of : Question → What
+asked_of question.Catalogue = request.Catalogue
+asked_of (question.Check acc) = request.Check acc
+asked_of (question.Show shown) = what_of shown
+
+-- a caller with this badge asks this
+abbrev pub request_of : Option (List ℕ) → What → Request
+request_of badge what = record { badge = badge; what = what }
 
 -- a line feed comes after a JSON value
 abbrev pub feed_after : Form → List ℕ
@@ -47,34 +72,38 @@ feed_after Octets = []
 abbrev pub shown_text : Reply → List ℕ
 shown_text reply = reply.body.bytes ++ feed_after reply.form
 
--- ---- what is shown, and what is refused
+-- ---- what is shown, what is found, and what is refused
 
--- The desk that stood replies to the request, on some day, with this reply, which has the status 200, and is as it was
--- after that; and the text of the reply was written.
-pub record Shows (asked : Request) (stood : Desk) (old new : Option (List ℕ)) : Type 0 where
+-- The desk that stood replies to the request, on one of these days, with this reply, which has the status 200, and is as
+-- it was after that; and the text of the reply was written.
+pub record Shows (Days : ℤ → Type 0) (asked : Request) (stood : Desk) (old new : Option (List ℕ)) : Type 0 where
   pub day : ℤ
+  pub on : Days day
   pub reply : Reply
   pub is : IsReply stood day asked reply stood
   pub done : reply.status ≡ 200
   pub written : Appends old new (shown_text reply)
 
+-- The desk that stood answers the request, on one of these days, that its check found this, and is this one after it.
+pub record Finds (Days : ℤ → Type 0) (asked : Request) (outcome : Outcome) (stood after : Desk) : Type 0 where
+  pub day : ℤ
+  pub on : Days day
+  pub is : IsAnswered stood day asked (Checked outcome) after
+
 -- why nothing is shown, and what was written then: as for `export`, but never `no-accession`
 abbrev pub RefusesShow : Option (List ℕ) → Option (List ℕ) → Refusal → Type 0
 RefusesShow old new refusal = RefusesOnce old new refusal × (refusal ≢ NoAccession)
 
--- the desk that stood refuses the request on some day because its caller has no key that it knows
-abbrev pub IsOfNoKey : Request → Desk → Type 0
-IsOfNoKey asked stood = (day : ℤ) × IsRefusedOn stood day asked desk_refusal.UnknownKey
-
--- the desk that stood refuses the request on some day because its caller is not of the staff
-abbrev pub IsOfNoStaff : Request → Desk → Type 0
-IsOfNoStaff asked stood = (day : ℤ) × IsRefusedOn stood day asked desk_refusal.StaffOnly
+-- the desk that stood refuses the request for this reason, on one of these days
+abbrev pub IsRefusedFor : (ℤ → Type 0) → Request → Reason → Desk → Type 0
+IsRefusedFor Days asked reason stood = (day : ℤ) × Days day × IsRefusedOn stood day asked reason
 
 -- ---- two connections
 
--- If the disk has returned what was written, this holds of the desk that the tables spelled.
-abbrev pub OfStood : {S : Type 0} → Ghosts S → (Desk → Type 0) → Held S → Held S → Type 0
-OfStood g P before last = IsClean g last → (stood : Desk) × SpellsDesk (state g before).now stood × P stood
+-- If the disk has returned what was written, this holds of the desk that the tables spelled and of the one that they
+-- spell now.
+abbrev pub OfStood : {S : Type 0} → Ghosts S → (Desk → Desk → Type 0) → Held S → Held S → Type 0
+OfStood g P before last = IsClean g last → (stood : Desk) × SpellsDesk (state g before).now stood × P stood (desk g last)
 
 -- A connection stood, and the command ended with this one, of which this holds; it is the one that the machine took
 -- back, if the machine shows both.
@@ -82,28 +111,75 @@ abbrev pub EndsWith : {S : Type 0} → Option (Held S) → Option (Held S) → (
 EndsWith {S} old new P = IfSome old (λ before. (last : Held S) × P before last × IfSome new (λ after. last ≡ after))
 
 -- The desk that stood is as it was, and what it shows was written.
-pub record ShowsStore {S : Type 0} (g : Ghosts S) (asked : Request) (out written : Option (List ℕ)) (before last : Held S) : Type 0 where
+pub record ShowsStore {S : Type 0} (g : Ghosts S) (Days : ℤ → Type 0) (asked : Request) (out written : Option (List ℕ)) (before last : Held S) : Type 0 where
   pub leaves : LeavesStore g IsSame before last
-  pub shows : OfStood g (λ stood. Shows asked stood out written) before last
+  pub shows : OfStood g (λ stood after. Shows Days asked stood out written) before last
 
--- the caller is refused by these names only where the desk that stood refuses them so
-abbrev pub IsDueIn : {S : Type 0} → Ghosts S → Request → Option (Held S) → Option (Held S) → Refusal → Type 0
-IsDueIn g asked old new UnknownKey = EndsWith old new (OfStood g (IsOfNoKey asked))
-IsDueIn g asked old new StaffOnly = EndsWith old new (OfStood g (IsOfNoStaff asked))
-IsDueIn g asked old new refusal = ⊤
+-- the desk that stood finds this of the image of the accession, for a caller with this badge, and records it
+abbrev pub FindsStore : {S : Type 0} → Ghosts S → (ℤ → Type 0) → Option (List ℕ) → ℕ → Outcome → Held S → Held S → Type 0
+FindsStore g Days badge acc outcome = OfStood g (Finds Days (request_of badge (request.Check acc)) outcome)
+
+-- a request is refused by these names only where the desk that stood refuses it so
+abbrev pub IsDueIn : {S : Type 0} → Ghosts S → (ℤ → Type 0) → Request → Option (Held S) → Option (Held S) → Refusal → Type 0
+IsDueIn g Days asked old new UnknownKey = EndsWith old new (OfStood g (λ stood after. IsRefusedFor Days asked desk_refusal.UnknownKey stood))
+IsDueIn g Days asked old new StaffOnly = EndsWith old new (OfStood g (λ stood after. IsRefusedFor Days asked desk_refusal.StaffOnly stood))
+IsDueIn g Days asked old new NoAccession = EndsWith old new (OfStood g (λ stood after. IsRefusedFor Days asked desk_refusal.NoAccession stood))
+IsDueIn g Days asked old new refusal = ⊤
+
+-- what a check has found, by how much was done
+abbrev pub found_by : Done → Outcome
+found_by Whole = Sound
+found_by InPart = Changed
+
+-- the SHA-256 of the key of the caller, if there is one
+abbrev pub badge_of : OnceAsk → Option (List ℕ)
+badge_of ask = option_map sha256 (option_map (λ key. key.now) ask.key)
+
+-- ---- by what is asked for
+
+-- What `export`, `check` and `show` do, by the moment that the clock shows, the connection that stood, the one that is
+-- left, and what was written: what was asked to be shown was written; a check has found what its line says, and recorded
+-- it; and a refusal of a caller who shows a key is due.
+pub record AnswersOnce {S : Type 0} (g : Ghosts S) (clock : Option ℤ) (stood left : Option (Held S)) (out written : Option (List ℕ)) (ask : OnceAsk)
+    (result : Result Done Refusal) : Type 0 where
+  pub shown : (what : What) → what_to_show ask.question ≡ Some what
+      → OnOk result (EndsWith stood left (ShowsStore g (IsDayAt (moment_of ask.when.seconds clock) ask.when.zone) (request_of (badge_of ask) what) out written))
+  pub not_shown : (what : What) → what_to_show ask.question ≡ Some what → IfErr result (RefusesShow out written)
+  pub found : (acc : ℕ) → IsCheckOf acc ask.question
+      → IfOk result (λ done. EndsWith stood left (FindsStore g (IsDayAt (moment_of ask.when.seconds clock) ask.when.zone) (badge_of ask) acc (found_by done)))
+  pub due : IsSome ask.key
+      → IfErr result (IsDueIn g (IsDayAt (moment_of ask.when.seconds clock) ask.when.zone) (request_of (badge_of ask) (asked_of ask.question)) stood left)
+
+-- and so of a command that asks a desk once
+abbrev pub AnswersBy : {S : Type 0} → Ghosts S → Option ℤ → (List ℕ → Option (Held S)) → Option (Held S) → Option (List ℕ) → Option (List ℕ) → Ask
+    → Result Done Refusal → Type 0
+AnswersBy g clock stands left out written (Once ask) result = AnswersOnce g clock (stands ask.store.now) left out written ask result
+AnswersBy g clock stands left out written ask result = ⊤
 
 -- ---- inside
+
+-- the request asks for something to show
+abbrev pub IsToShow : What → Type 0
+IsToShow request.Catalogue = ⊤
+IsToShow request.Deeds = ⊤
+IsToShow request.Takedowns = ⊤
+IsToShow request.Keys = ⊤
+IsToShow request.Checks = ⊤
+IsToShow (request.Verdicts day) = ⊤
+IsToShow other = ⊥
 
 -- of a reply to the staff: a refusal of the caller, or the store failed
 abbrev pub IsShowRefusal : Refusal → Type 0
 IsShowRefusal refusal = (refusal ≡ UnknownKey) ⊎ ((refusal ≡ StaffOnly) ⊎ (refusal ≡ Store))
 
--- if the disk has returned what was written, the connection is open, and this holds of the desk that it showed
-abbrev pub OfDesk : {S : Type 0} → Ghosts S → (Desk → Type 0) → Held S → Held S → Type 0
-OfDesk g P opened last = IsClean g last → IsOpen g last × P (desk g opened)
+-- if the disk has returned what was written, the connection is open, and this holds of the desk that it showed and of
+-- the one that it shows
+abbrev pub OfDesk : {S : Type 0} → Ghosts S → (Desk → Desk → Type 0) → Held S → Held S → Type 0
+OfDesk g P opened last = IsClean g last → IsOpen g last × P (desk g opened) (desk g last)
 
--- an open desk refuses the caller so where the program says so
-abbrev pub IsDueOn : {S : Type 0} → Ghosts S → Request → Held S → Held S → Refusal → Type 0
-IsDueOn g asked opened last UnknownKey = OfDesk g (IsOfNoKey asked) opened last
-IsDueOn g asked opened last StaffOnly = OfDesk g (IsOfNoStaff asked) opened last
-IsDueOn g asked opened last refusal = ⊤
+-- an open desk refuses the request so where the program says so
+abbrev pub IsDueOn : {S : Type 0} → Ghosts S → (ℤ → Type 0) → Request → Held S → Held S → Refusal → Type 0
+IsDueOn g Days asked opened last UnknownKey = OfDesk g (λ stood after. IsRefusedFor Days asked desk_refusal.UnknownKey stood) opened last
+IsDueOn g Days asked opened last StaffOnly = OfDesk g (λ stood after. IsRefusedFor Days asked desk_refusal.StaffOnly stood) opened last
+IsDueOn g Days asked opened last NoAccession = OfDesk g (λ stood after. IsRefusedFor Days asked desk_refusal.NoAccession stood) opened last
+IsDueOn g Days asked opened last refusal = ⊤

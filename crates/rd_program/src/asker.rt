@@ -1,12 +1,12 @@
-//! Who asks a desk a question, and its reply.
+//! Who asks a desk a question, and its answer.
 
 ghost use Rattle.std.specs.Prelude.{◌≡◌, option_map};
 ghost use Rattle.sha2.specs.Sha256.{sha256};
 ghost use Rattle.rd_policy.specs.Days.{IsDay};
 ghost use Rattle.rd_protocol.specs.Requests.{IsRequest};
-ghost use Rattle.rd_desk.specs.Served.{Serves};
+ghost use Rattle.rd_desk.specs.Served.{Responds};
 
-use rd_desk::{Desk, Reply, Request, What};
+use rd_desk::{Desk, Request, Response, Unavailable, What};
 use sha2::{Digest, Sha256};
 use sqlite::Alter;
 use std::alloc::Global;
@@ -30,18 +30,21 @@ pub(crate) fn badge_of(key: Option<&[u8]>) -> Option<[u8; 32]>
     }
 }
 
-/// Asks a desk, and gives its reply.
-pub(crate) fn reply_to<S: Alter + Drop>(
+/// Asks a desk, and gives its answer.
+///
+/// It fails with `Unavailable` when the store fails or memory runs out.
+pub(crate) fn answer_of<S: Alter + Drop>(
     alloc: Global,
     what: What,
     asker: Asker,
     desk: &mut Desk<S>,
-) -> Reply
+) -> Result<Response, Unavailable>
     requires day { IsDay asker.day }
     requires fits { IsRequest what }
-    ensures serves { Serves S.Store desk.old.store desk.new.store asker.day
+    ensures responds { Responds S.Store desk.old.store desk.new.store asker.day
         (record { badge = asker.badge; what = what }) result }
+    ensures zone { desk.new.zone ≡ desk.old.zone }
 {
     let badge = asker.badge;
-    desk.answer_on(alloc, asker.day, &Request { badge, what })
+    desk.respond(alloc, asker.day, &Request { badge, what })
 }

@@ -1,4 +1,4 @@
-ghost use Rattle.std.specs.Prelude.{◌≡◌, ◌≢◌, ◌⊎◌, ◌≤◌, ◌+◌, ⊤, IfErr, IfOk, IfSome, List, OnOk, Option, Some, codes, map, ℕ, ℤ};
+ghost use Rattle.std.specs.Prelude.{◌≡◌, ◌≢◌, ◌⊎◌, ◌≤◌, ◌+◌, ⊤, IfErr, IfOk, IfSome, List, IsSome, OnOk, Option, Some, codes, map, option_map, ℕ, ℤ};
 ghost use Rattle.std.specs.Io.KnownBytes.{Appends, Keeps};
 ghost use Rattle.httparse.specs.Grammar.{trim_ows};
 ghost use Rattle.sha2.specs.Sha256.{sha256};
@@ -7,23 +7,27 @@ ghost use Rattle.rd_store.specs.Held.{Lasts};
 ghost use Rattle.rd_geometry.specs.declared.kind.Kind.{Kind};
 ghost use Rattle.rd_geometry.specs.declared.kind.Kind.TheVariants as kinds;
 ghost use Rattle.rd_program.specs.Asking.{RefusesOnce, TellsCheck};
-ghost use Rattle.rd_commands.specs.Asks.{AsksADesk, AsksCheckOf, IsWithinLimits, IsFileAsk, IsFilesAsk, IsInitAsk, IsOnceAsk, IsServeAsk, TellsInRows, TellsOnOutput, most_read};
+ghost use Rattle.rd_commands.specs.Asks.{AsksADesk, AsksCheckOf, IsWithinLimits, IsFileAsk, IsFilesAsk, IsInitAsk, IsServeAsk, TellsInRows, TellsOnOutput, most_read};
 ghost use Rattle.rd_commands.specs.Cat.{HasNoSoundFile, IsCut, Refuses, Serves};
 ghost use Rattle.rd_commands.specs.CommandLine.{AsksForHelp, AsksForVersion, IsTaken, IsTakenTelling};
 ghost use Rattle.rd_commands.specs.Commands.{AsksCheck, AsksExport, AsksImport, AsksInit, AsksOfStore, AsksServe, AsksShow, IsCheckOf, IsCommand, IsImport, NamesWhatItShows, TellsARule};
 ghost use Rattle.rd_program.specs.Importing.{GainsLines, IsDoneLine, IsRowLine, RefusesImport, TellsRows};
 ghost use Rattle.rd_program.specs.Inits.{LeavesInit, MakesDesk, RefusesInit, done_line};
 ghost use Rattle.rd_commands.specs.Input.{ReadsUpTo};
-ghost use Rattle.rd_program.specs.Leaves.{Checks, IsDayBy, IsSame, Leaves, LeavesBy, LeavesRefused, LeavesServe, LeavesStore, NamesOpening, TakesIn};
+ghost use Rattle.rd_program.specs.Leaves.{Checks, GivesBack, IsDayBy, IsSame, Leaves, LeavesBy, LeavesRefused, LeavesServe, LeavesStore, NamesOpening, StandsThere, TakesIn, moment_of};
 ghost use Rattle.rd_commands.specs.Listed.{Lists, RefusesList};
-ghost use Rattle.rd_commands.specs.Refusals.{status_of};
+ghost use Rattle.rd_commands.specs.Refusals.{IsOfDevice, status_of};
 ghost use Rattle.rd_program.specs.Serving.{RefusesServe, serve_text};
-ghost use Rattle.rd_program.specs.Showing.{EndsWith, IsDueIn, RefusesShow, ShowsStore, show_request};
+ghost use Rattle.rd_holdings.specs.declared.rows.Outcome.TheVariants as Outcome;
+ghost use Rattle.rd_protocol.specs.declared.request.What.TheVariants as What;
+ghost use Rattle.rd_program.specs.Doors.Place.{Port};
+ghost use Rattle.rd_program.specs.Visiting.{ServesBy, ServesDoorBy};
+ghost use Rattle.rd_program.specs.Filing.{GivesFile, IsOfImage};
+ghost use Rattle.rd_program.specs.Showing.{AnswersBy, EndsWith, FindsStore, IsDueIn, RefusesShow, ShowsStore, request_of, what_of};
 ghost use Rattle.rd_commands.specs.RefusalLines.{Tells};
-ghost use Rattle.rd_commands.specs.declared.words.Question.TheVariants as Question;
 ghost use Rattle.rd_commands.specs.declared.words.Shown.{Shown};
 ghost use Rattle.rd_commands.specs.Versions.{RefusesVersion, version_line};
-ghost use Rattle.rd_commands.specs.Words.{AsksCat, AsksList, AsksOfKind, AsksVersion};
+ghost use Rattle.rd_commands.specs.Words.{AsksCat, AsksHelp, AsksList, AsksOfKind, AsksVersion};
 
 use crate::export_check::ask_once;
 use crate::import::import;
@@ -81,15 +85,15 @@ fn perform<R: Read, W: Write, M: Machine>(
         → IfOk result (TellsCheck acc (W.contents output.old) (W.contents output.new)) }
     ensures not_answered { AsksADesk ask.entry
         → IfErr result (RefusesOnce (W.contents output.old) (W.contents output.new)) }
-    ensures shown { (store key : List ℕ) (what : Shown) (moment : Option ℤ) (rule : List ℕ)
-        → IsOnceAsk store (Some key) (Question.Show what) moment rule ask.entry
-        → OnOk result (EndsWith (M.stands machine.old store) (M.left machine.new)
-        (ShowsStore M.Disk.Store (show_request (Some (sha256 (trim_ows key))) what) (W.contents output.old) (W.contents output.new))) }
-    ensures not_shown { (store key : List ℕ) (what : Shown) (moment : Option ℤ) (rule : List ℕ)
-        → IsOnceAsk store (Some key) (Question.Show what) moment rule ask.entry
-        → IfErr result (λ refusal. RefusesShow (W.contents output.old) (W.contents output.new) refusal
-        × IsDueIn M.Disk.Store (show_request (Some (sha256 (trim_ows key))) what) (M.stands machine.old store) (M.left machine.new) refusal) }
-    ensures leaves { LeavesBy M.Disk.Store (M.left machine.old) (M.stands machine.old) (M.left machine.new) ask.entry }
+    ensures answers { AnswersBy M.Disk.Store (M.clock machine.old) (M.stands machine.old) (M.left machine.new)
+        (W.contents output.old) (W.contents output.new) ask.entry result }
+    ensures serves { OnOk result (ServesBy M.Disk.Store M.Door.told M.Door.coming (M.door machine.old) (M.door machine.new)
+        (M.stands machine.old) (M.left machine.new) ask.entry) }
+    ensures of_file { GivesFile (M.file_bytes machine.old) (W.contents output.old) (W.contents output.new) ask.entry result }
+    ensures untouched { IsOfImage ask.entry → machine.new ≡ machine.old }
+    ensures back { GivesBack (M.shows machine.old) (M.left machine.old) (M.left machine.new) }
+    ensures there { OnOk result (StandsThere (M.shows machine.old) (M.stands machine.old) ask.entry) }
+    ensures leaves { LeavesBy M.Disk.Store (M.clock machine.old) (M.left machine.old) (M.stands machine.old) (M.left machine.new) ask.entry }
     ensures leaves_refused { IfErr result (LeavesRefused M.Disk.Store (M.left machine.old) (M.stands machine.old) (M.left machine.new)
         (W.contents output.old) (W.contents output.new) ask.entry) }
     ensures limit { ReadsUpTo (most_read ask.entry) (R.remaining input.old) (R.remaining input.new) }
@@ -199,8 +203,8 @@ pub fn run<R: Read, W: Write, E: Write, M: Machine>(
         result (E.contents errors.old) (E.contents errors.new) }
 
     // A `serve`: at 0 it has served as many visits as the words ask for, and said so. Not at 0 it
-    // names its refusal, whose status is never 1, and what stands is what stood, is that desk in
-    // tables of version 2, or is what visits left.
+    // names its refusal, whose status is never 1. At 0 the visits of the door at the port are those of a
+    // run over the desk that stood, with the clocks of the rule, and they left the desk as it is.
     ensures served { result ≡ 0 → (store : List ℕ) (port count : ℕ) (rule : List ℕ)
         → AsksServe (map (λ word. word.now) words.entry.now) store port count rule
         → Appends (W.contents output.old) (W.contents output.new) (serve_text port count) }
@@ -210,6 +214,10 @@ pub fn run<R: Read, W: Write, E: Write, M: Machine>(
         × LeavesServe M.Disk.Store (M.left machine.old) (M.stands machine.old store) (M.left machine.new) port
         (W.contents output.old) (W.contents output.new) refusal)
         result (E.contents errors.old) (E.contents errors.new) }
+    ensures visits { result ≡ 0 → (store : List ℕ) (port count : ℕ) (rule : List ℕ)
+        → AsksServe (map (λ word. word.now) words.entry.now) store port count rule
+        → ServesDoorBy M.Disk.Store M.Door.told M.Door.coming count rule (M.door machine.old (Port port)) (M.door machine.new (Port port))
+        (M.stands machine.old store) (M.left machine.new) }
     ensures serve_leaves { (store : List ℕ) (port count : ℕ) (rule : List ℕ)
         → AsksServe (map (λ word. word.now) words.entry.now) store port count rule
         → Leaves (M.left machine.old) (M.stands machine.old store) (M.left machine.new) (Lasts M.Disk.Store) }
@@ -229,28 +237,45 @@ pub fn run<R: Read, W: Write, E: Write, M: Machine>(
     ensures import_leaves { (store key sheet : List ℕ) (moment : Option ℤ) (rule : List ℕ)
         → AsksImport (map (λ word. word.now) words.entry.now) store key sheet moment rule
         → Leaves (M.left machine.old) (M.stands machine.old store) (M.left machine.new)
-        (LeavesStore M.Disk.Store (TakesIn (sha256 (trim_ows key)) (IsDayBy moment rule))) }
+        (LeavesStore M.Disk.Store (TakesIn (sha256 (trim_ows key)) (IsDayBy (moment_of moment (M.clock machine.old)) rule))) }
 
     // A `check`: at 0 it has said that the image is sound. Not at 0 it has said that the image is
-    // changed, or names its refusal. Not at 0 an `export` names its refusal. However they end, an
+    // changed, or names its refusal. What it has said is what the desk that stood finds, on the day of
+    // the moment, and the desk has recorded that. At 0 an `export` has written the catalogue of the desk
+    // that stood, on the day of the moment, and not at 0 it names its refusal. However they end, an
     // `export` leaves the desk as it was, and a check adds no more than its record.
     ensures sound { result ≡ 0 → (acc : ℕ) → IsCheckOf (map (λ word. word.now) words.entry.now) acc
         → TellsCheck acc (W.contents output.old) (W.contents output.new) Done.Whole }
+    ensures found_sound { result ≡ 0 → (store key : List ℕ) (acc : ℕ) (moment : Option ℤ) (rule : List ℕ)
+        → AsksCheck (map (λ word. word.now) words.entry.now) store key acc moment rule
+        → EndsWith (M.stands machine.old store) (M.left machine.new)
+        (FindsStore M.Disk.Store (IsDayBy (moment_of moment (M.clock machine.old)) rule) (Some (sha256 (trim_ows key))) acc Outcome.Sound) }
     ensures check_told { result ≢ 0 → (store key : List ℕ) (acc : ℕ) (moment : Option ℤ) (rule : List ℕ)
         → AsksCheck (map (λ word. word.now) words.entry.now) store key acc moment rule
         → ((result ≡ 1) × Keeps (E.contents errors.old) (E.contents errors.new)
-        × TellsCheck acc (W.contents output.old) (W.contents output.new) Done.InPart)
+        × TellsCheck acc (W.contents output.old) (W.contents output.new) Done.InPart
+        × EndsWith (M.stands machine.old store) (M.left machine.new)
+        (FindsStore M.Disk.Store (IsDayBy (moment_of moment (M.clock machine.old)) rule) (Some (sha256 (trim_ows key))) acc Outcome.Changed))
         ⊎ Tells (λ refusal. RefusesOnce (W.contents output.old) (W.contents output.new) refusal
-        × NamesOpening M.Disk.Store (M.stands machine.old store) (M.left machine.new) refusal)
+        × NamesOpening M.Disk.Store (M.stands machine.old store) (M.left machine.new) refusal
+        × IsDueIn M.Disk.Store (IsDayBy (moment_of moment (M.clock machine.old)) rule)
+        (request_of (Some (sha256 (trim_ows key))) (What.Check acc)) (M.stands machine.old store) (M.left machine.new) refusal)
         result (E.contents errors.old) (E.contents errors.new) }
     ensures check_leaves { (store key : List ℕ) (acc : ℕ) (moment : Option ℤ) (rule : List ℕ)
         → AsksCheck (map (λ word. word.now) words.entry.now) store key acc moment rule
         → Leaves (M.left machine.old) (M.stands machine.old store) (M.left machine.new)
-        (LeavesStore M.Disk.Store (Checks (Some (sha256 (trim_ows key))) acc (IsDayBy moment rule))) }
+        (LeavesStore M.Disk.Store (Checks (Some (sha256 (trim_ows key))) acc (IsDayBy (moment_of moment (M.clock machine.old)) rule))) }
+    ensures exported { result ≡ 0 → (store : List ℕ) (key : Option (List ℕ)) (moment : Option ℤ) (rule : List ℕ)
+        → AsksExport (map (λ word. word.now) words.entry.now) store key moment rule
+        → EndsWith (M.stands machine.old store) (M.left machine.new)
+        (ShowsStore M.Disk.Store (IsDayBy (moment_of moment (M.clock machine.old)) rule)
+        (request_of (option_map sha256 (option_map trim_ows key)) What.Catalogue) (W.contents output.old) (W.contents output.new)) }
     ensures export_told { result ≢ 0 → (store : List ℕ) (key : Option (List ℕ)) (moment : Option ℤ) (rule : List ℕ)
         → AsksExport (map (λ word. word.now) words.entry.now) store key moment rule
-        → Tells (λ refusal. RefusesOnce (W.contents output.old) (W.contents output.new) refusal
-        × NamesOpening M.Disk.Store (M.stands machine.old store) (M.left machine.new) refusal)
+        → Tells (λ refusal. RefusesShow (W.contents output.old) (W.contents output.new) refusal
+        × NamesOpening M.Disk.Store (M.stands machine.old store) (M.left machine.new) refusal
+        × (IsSome key → IsDueIn M.Disk.Store (IsDayBy (moment_of moment (M.clock machine.old)) rule)
+        (request_of (option_map sha256 (option_map trim_ows key)) What.Catalogue) (M.stands machine.old store) (M.left machine.new) refusal))
         result (E.contents errors.old) (E.contents errors.new) }
     ensures export_leaves { (store : List ℕ) (key : Option (List ℕ)) (moment : Option ℤ) (rule : List ℕ)
         → AsksExport (map (λ word. word.now) words.entry.now) store key moment rule
@@ -262,16 +287,36 @@ pub fn run<R: Read, W: Write, E: Write, M: Machine>(
     ensures shown { result ≡ 0 → (store key : List ℕ) (what : Shown) (moment : Option ℤ) (rule : List ℕ)
         → AsksShow (map (λ word. word.now) words.entry.now) store key what moment rule
         → EndsWith (M.stands machine.old store) (M.left machine.new)
-        (ShowsStore M.Disk.Store (show_request (Some (sha256 (trim_ows key))) what) (W.contents output.old) (W.contents output.new)) }
+        (ShowsStore M.Disk.Store (IsDayBy (moment_of moment (M.clock machine.old)) rule)
+        (request_of (Some (sha256 (trim_ows key))) (what_of what)) (W.contents output.old) (W.contents output.new)) }
     ensures show_refused { result ≢ 0 → (store key : List ℕ) (what : Shown) (moment : Option ℤ) (rule : List ℕ)
         → AsksShow (map (λ word. word.now) words.entry.now) store key what moment rule
         → Tells (λ refusal. RefusesShow (W.contents output.old) (W.contents output.new) refusal
         × NamesOpening M.Disk.Store (M.stands machine.old store) (M.left machine.new) refusal
-        × IsDueIn M.Disk.Store (show_request (Some (sha256 (trim_ows key))) what) (M.stands machine.old store) (M.left machine.new) refusal)
+        × IsDueIn M.Disk.Store (IsDayBy (moment_of moment (M.clock machine.old)) rule)
+        (request_of (Some (sha256 (trim_ows key))) (what_of what)) (M.stands machine.old store) (M.left machine.new) refusal)
         result (E.contents errors.old) (E.contents errors.new) }
     ensures show_leaves { (store key : List ℕ) (what : Shown) (moment : Option ℤ) (rule : List ℕ)
         → AsksShow (map (λ word. word.now) words.entry.now) store key what moment rule
         → Leaves (M.left machine.old) (M.stands machine.old store) (M.left machine.new) (LeavesStore M.Disk.Store IsSame) }
+
+    // A machine that shows its connections, and had one, has one again, whatever the words ask for. The
+    // machine stays as it was if the words ask for a file or the files of an image, and at 2.
+    ensures back { GivesBack (M.shows machine.old) (M.left machine.old) (M.left machine.new) }
+    ensures untouched { (kind : Kind) → AsksOfKind (map (λ word. word.now) words.entry.now) kind → machine.new ≡ machine.old }
+    ensures usage_untouched { result ≡ 2 → machine.new ≡ machine.old }
+
+    // A `cat` or a `list` of a file of the machine, as of standard input.
+    ensures file_done { result ≡ 0 → (kind : Kind) (path : List ℕ) (slot : ℕ) → path ≢ codes "-"
+        → AsksCat (map (λ word. word.now) words.entry.now) kind path slot → IfSome (M.file_bytes machine.old path) (λ image.
+        Serves kind slot image (W.contents output.old) (W.contents output.new)) }
+    ensures file_listed { result ≡ 0 → (kind : Kind) (path : List ℕ) → path ≢ codes "-"
+        → AsksList (map (λ word. word.now) words.entry.now) kind path → IfSome (M.file_bytes machine.old path) (λ image.
+        Lists kind image (W.contents output.old) (W.contents output.new)) }
+
+    // Help, if the first word asks for it: at 0, unless the output fails or memory runs out.
+    ensures help { AsksHelp (map (λ word. word.now) words.entry.now) → (result ≡ 0)
+        ⊎ Tells IsOfDevice result (E.contents errors.old) (E.contents errors.new) }
 
     // The version, if the first word asks for it: at 0 exactly its line is written, and otherwise
     // `errors` says why not.

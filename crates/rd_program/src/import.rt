@@ -1,23 +1,23 @@
 //! Takes in images, row by row of a sheet.
 
-ghost use Rattle.std.specs.Prelude.{◌≡◌, IfErr, IfOk, OnErr, OnOk};
+ghost use Rattle.std.specs.Prelude.{◌≡◌, IfErr, IfOk, IsSome, IsTrue, OnErr, OnOk, Some};
 ghost use Rattle.std.specs.Io.KnownBytes.{Appends};
 ghost use Rattle.csv.specs.Records.{fields_of};
 ghost use Rattle.sha2.specs.Sha256.{sha256};
 ghost use Rattle.rd_policy.specs.Days.{IsDay};
-ghost use Rattle.rd_desk.specs.Served.{Serves};
-ghost use Rattle.rd_program.specs.Importing.{RefusesImport, RefusesRow, RefusesRows, TellsRow, TellsRows, bad_row_line, accession_line};
-ghost use Rattle.rd_program.specs.Leaves.{IsDayAt, IsOfOpenDesk, Leaves, LeavesDesk, LeavesStore, NamesOpening, TakesFields, TakesIn, TakesRow};
+ghost use Rattle.rd_desk.specs.Served.{Responds};
+ghost use Rattle.rd_program.specs.Importing as spec;
+ghost use Rattle.rd_program.specs.Importing.{RefusesImport, RefusesRow, RefusesRows, TellsAnswer, TellsRow, TellsRows, bad_row_line, accession_line};
+ghost use Rattle.rd_program.specs.Leaves.{GivesBack, IsDayAt, IsOfOpenDesk, Leaves, LeavesDesk, LeavesStore, NamesOpening, TakesFields, TakesIn, TakesRow, moment_of};
 ghost use Rattle.rd_commands.specs.Output.{AppendsPart};
 ghost use Rattle.rd_commands.specs.Refusals.{IsOfDevice};
 ghost use Rattle.rd_commands.specs.Sheets.{IsWithin};
 
 use crate::machine::Machine;
 use crate::open_desk::{open_desk, visit_day};
-use crate::reply_body::{error_name, value_of};
 use csv::{ByteRecord, ReaderBuilder};
 use rd_commands::{Done, ImportAsk, Refusal, SheetRow, is_header, next_row, row_of, write_whole};
-use rd_desk::{Desk, Items, Reply, Request, What};
+use rd_desk::{Desk, Items, Request, Response, Unavailable, What};
 use sha2::{Digest, Sha256};
 use sqlite::Alter;
 use std::alloc::Global;
@@ -32,17 +32,19 @@ struct Giver {
     day: i32,
 }
 
-/// Asks a desk to take in the image of a row, and gives its reply.
+/// Asks a desk to take in the image of a row, and gives its answer.
+///
+/// It fails with `Unavailable` when the store fails or memory runs out.
 fn put_image<S: Alter + Drop>(
     alloc: Global,
     row: SheetRow,
     bytes: Vec<u8>,
     giver: Giver,
     desk: &mut Desk<S>,
-) -> Reply
+) -> Result<Response, Unavailable>
     requires day { IsDay giver.day }
     requires within { IsWithin row }
-    ensures serves { Serves S.Store desk.old.store desk.new.store giver.day
+    ensures responds { Responds S.Store desk.old.store desk.new.store giver.day
         (record { badge = Some giver.badge; what = What.PutImage row.entry.acc row.entry.kind row.entry.deed row.entry.digest bytes.items }) result }
     ensures zone { desk.new.zone ≡ desk.old.zone }
 {
@@ -54,7 +56,7 @@ fn put_image<S: Alter + Drop>(
         bytes: Items::of(bytes),
     };
     let badge = Some(giver.badge);
-    desk.answer_on(alloc, giver.day, &Request { badge, what })
+    desk.respond(alloc, giver.day, &Request { badge, what })
 }
 
 /// Writes the line of an accession, which says in a word what became of its row, and flushes the output.
@@ -88,48 +90,43 @@ fn tell_bad_row<W: Write>(alloc: Global, number: u64, output: &mut W) -> Result<
     write_whole(output, line.as_bytes())
 }
 
-/// Writes a line with the name by which a reply refuses an accession.
-///
-/// It fails with `Store` when the reply has no such name, with `NoMemory`, and with `Device` when
-/// a write or the flush fails.
-fn tell_refused<W: Write>(
-    alloc: Global,
-    acc: u32,
-    reply: &Reply,
-    output: &mut W,
-) -> Result<Done, Refusal>
-    ensures told { IfOk result (TellsRow (W.contents output.old) (W.contents output.new)) }
-    ensures refused { IfErr result (RefusesRow (W.contents output.old) (W.contents output.new)) }
+/// What the line of an accession says of a desk's answer: that it is done, or the name of the refusal.
+fn word_of(answer: &Response) -> &'static str
+    ensures { result.now ≡ spec.word_of answer.now }
 {
-    let value = value_of(alloc, &reply.body)?;
-    let Some(name) = error_name(&value) else {
-        return Err(Refusal::Store);
-    };
-    tell_accession(alloc, acc, name, output)?;
-    Ok(Done::InPart)
+    match answer {
+        Response::Refused(reason) => reason.name(),
+        _ => "done",
+    }
 }
 
-/// Writes a line with what a reply says of an accession.
+/// Whether an answer is that all was done.
+fn done_by(answer: &Response) -> Done
+    ensures { result ≡ spec.done_by answer.now }
+{
+    match answer {
+        Response::Refused(_) => Done::InPart,
+        _ => Done::Whole,
+    }
+}
+
+/// Writes a line with what a desk answers about an accession.
 ///
-/// It fails with `Store` when the reply says that the desk is unavailable, with `NoMemory`, and
-/// with `Device` when a write or the flush fails.
-fn tell_reply<W: Write>(
+/// It fails with `Store` when there is no answer, with `NoMemory`, and with `Device` when a write or the flush fails.
+fn tell_answer<W: Write>(
     alloc: Global,
     acc: u32,
-    reply: &Reply,
+    answer: Result<Response, Unavailable>,
     output: &mut W,
 ) -> Result<Done, Refusal>
-    ensures told { IfOk result (TellsRow (W.contents output.old) (W.contents output.new)) }
+    ensures told { IfOk result (TellsAnswer acc answer (W.contents output.old) (W.contents output.new)) }
     ensures refused { IfErr result (RefusesRow (W.contents output.old) (W.contents output.new)) }
 {
-    match reply.status {
-        200 => {
-            tell_accession(alloc, acc, "done", output)?;
-            Ok(Done::Whole)
-        }
-        503 => Err(Refusal::Store),
-        _ => tell_refused(alloc, acc, reply, output),
-    }
+    let Ok(answer) = answer else {
+        return Err(Refusal::Store);
+    };
+    tell_accession(alloc, acc, word_of(&answer), output)?;
+    Ok(done_by(&answer))
 }
 
 /// Takes in the image of a row, and writes a line that says what became of it.
@@ -149,6 +146,7 @@ fn import_row<W: Write, M: Machine>(
     ensures zone { desk.new.zone ≡ desk.old.zone }
     ensures takes { LeavesDesk M.Disk.Store (TakesRow giver.badge giver.day row.entry)
         desk.old.store desk.new.store }
+    ensures same { machine.new ≡ machine.old }
     ensures told { IfOk result (TellsRow (W.contents output.old) (W.contents output.new)) }
     ensures refused { IfErr result (RefusesRow (W.contents output.old) (W.contents output.new)) }
 {
@@ -156,8 +154,8 @@ fn import_row<W: Write, M: Machine>(
         Ok(bytes) => bytes,
         Err(fault) => return Err(fault.or(Refusal::Device)),
     };
-    let reply = put_image(alloc, row, bytes, giver, desk);
-    tell_reply(alloc, row.acc, &reply, output)
+    let answer = put_image(alloc, row, bytes, giver, desk);
+    tell_answer(alloc, row.acc, answer, output)
 }
 
 /// Takes in the image of the row with these fields, and writes a line that says what became of it,
@@ -177,6 +175,7 @@ fn import_fields<W: Write, M: Machine>(
     ensures zone { desk.new.zone ≡ desk.old.zone }
     ensures takes { LeavesDesk M.Disk.Store (TakesFields giver.badge giver.day (fields_of fields.now))
         desk.old.store desk.new.store }
+    ensures same { machine.new ≡ machine.old }
     ensures told { IfOk result (TellsRow (W.contents output.old) (W.contents output.new)) }
     ensures refused { IfErr result (RefusesRow (W.contents output.old) (W.contents output.new)) }
 {
@@ -207,6 +206,7 @@ fn import_rows<W: Write, M: Machine>(
     ensures refused { IfErr result (RefusesRows (W.contents output.old) (W.contents output.new)) }
     ensures takes { LeavesDesk M.Disk.Store (TakesIn giver.badge (λ day. day ≡ giver.day))
         desk.old.store desk.new.store }
+    ensures same { machine.new ≡ machine.old }
 {
     let mut reader = ReaderBuilder::new()
         .has_headers(false)
@@ -240,8 +240,9 @@ fn import_sheet<W: Write, M: Machine>(
     ensures told { IfOk result (TellsRows (W.contents output.old) (W.contents output.new)) }
     ensures refused { IfErr result (RefusesImport (W.contents output.old) (W.contents output.new)) }
     ensures opened { IfErr result IsOfOpenDesk }
-    ensures takes { LeavesDesk M.Disk.Store (TakesIn (sha256 ask.entry.key.now) (IsDayAt ask.entry.when.seconds desk.old.zone))
-        desk.old.store desk.new.store }
+    ensures takes { LeavesDesk M.Disk.Store (TakesIn (sha256 ask.entry.key.now)
+        (IsDayAt (moment_of ask.entry.when.seconds (M.clock machine.old)) desk.old.zone)) desk.old.store desk.new.store }
+    ensures shows { M.shows machine.new ≡ M.shows machine.old }
 {
     let day = visit_day(ask.when.seconds, desk, machine)?;
     let sheet = match machine.read_sheet(alloc, ask.sheet) {
@@ -267,7 +268,10 @@ pub(crate) fn import<W: Write, M: Machine>(
     ensures told { IfOk result (TellsRows (W.contents output.old) (W.contents output.new)) }
     ensures refused { IfErr result (RefusesImport (W.contents output.old) (W.contents output.new)) }
     ensures takes { Leaves (M.left machine.old) (M.stands machine.old ask.entry.store.now) (M.left machine.new)
-        (LeavesStore M.Disk.Store (TakesIn (sha256 ask.entry.key.now) (IsDayAt ask.entry.when.seconds ask.entry.when.zone))) }
+        (LeavesStore M.Disk.Store (TakesIn (sha256 ask.entry.key.now)
+        (IsDayAt (moment_of ask.entry.when.seconds (M.clock machine.old)) ask.entry.when.zone))) }
+    ensures back { GivesBack (M.shows machine.old) (M.left machine.old) (M.left machine.new) }
+    ensures there { OnOk result (IsTrue (M.shows machine.old) → IsSome (M.stands machine.old ask.entry.store.now)) }
     ensures opens { IfErr result (NamesOpening M.Disk.Store (M.stands machine.old ask.entry.store.now) (M.left machine.new)) }
 {
     let mut desk = open_desk(alloc, ask.store, ask.when.zone, machine)?;

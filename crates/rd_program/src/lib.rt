@@ -1,6 +1,7 @@
 //! The commands of the program `desk` on a store, and `run`, which runs any command on a machine that it is given.
 #![tactic(auto)]
 
+mod answers;
 mod asker;
 mod dispatch;
 mod export_check;
@@ -9,7 +10,6 @@ mod import;
 mod init;
 mod machine;
 mod open_desk;
-mod reply_body;
 mod serve;
 mod show;
 

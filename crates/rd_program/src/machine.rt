@@ -1,7 +1,10 @@
-ghost use Rattle.std.specs.Prelude.{◌↔◌, ◌≡◌, IfErr, IfOk, IfSome, List, Option, Some, false, ℕ};
+ghost use Rattle.std.specs.Prelude.{◌↔◌, ◌≡◌, Bool, IfErr, IfOk, IfSome, IsTrue, List, Option, Some, false, ℕ, ℤ};
 ghost use Rattle.sqlite.specs.Held.{Held};
 ghost use Rattle.sqlite.specs.declared.error.Error.TheVariants.{SqliteFailure};
 ghost use Rattle.sqlite.specs.declared.error.ErrorCode.TheVariants as code;
+ghost use Rattle.std.specs.Borrow.{sem};
+ghost use Rattle.rd_program.specs.Doors.{LendsDoor, Place};
+ghost use Rattle.rd_program.specs.Doors.Place.{Port};
 ghost use Rattle.rd_program.specs.Leaves.{LeavesNone};
 
 use rd_commands::{Files, MachineFault};
@@ -26,6 +29,15 @@ pub trait Machine: Files {
     /// Where visits come from.
     type Door: Door;
 
+    /// Whether it shows its connections.
+    ghost shows: { Self → Bool };
+
+    /// The moment that its clock shows next, in seconds since 1970-01-01T00:00:00 UTC, if the machine shows it.
+    ghost clock: { Self → Option ℤ };
+
+    /// The door at a place, if the machine shows it.
+    ghost door: { Self → Place → Option Self.Door };
+
     /// The connection that stands for a store at a path, if the machine shows it.
     ghost stands: { Self → List ℕ → Option (Held Self.Disk) };
 
@@ -39,20 +51,32 @@ pub trait Machine: Files {
     fn connect(&mut self, path: &str) -> Result<Connection<Self::Disk>, MachineFault>
         ensures outside { IfOk result (λ conn. conn.in_transaction ≡ false) }
         ensures stands { IfOk result (λ conn. IfSome (stands self.old path.now) (λ held. conn ≡ held)) }
-        ensures none { IfErr result (λ _. LeavesNone (left self.old) (left self.new)) };
+        ensures there { IfOk result (λ conn. IsTrue (shows self.old) → stands self.old path.now ≡ Some conn) }
+        ensures none { IfErr result (λ _. LeavesNone (left self.old) (left self.new)) }
+        ensures kept { IfErr result (λ _. IsTrue (shows self.old) → left self.new ≡ left self.old) }
+        ensures shows { shows self.new ≡ shows self.old }
+        ensures clock { clock self.new ≡ clock self.old }
+        ensures door { door self.new ≡ door self.old };
 
     /// Takes a connection back at the end of a command.
     fn release(&mut self, conn: &mut Option<Connection<Self::Disk>>)
-        ensures left { IfSome (left self.new) (λ held. conn.old ≡ Some held) };
+        ensures left { IfSome (left self.new) (λ held. conn.old ≡ Some held) }
+        ensures back { IsTrue (shows self.old) → left self.new ≡ conn.old }
+        ensures shows { shows self.new ≡ shows self.old }
+        ensures door { door self.new ≡ door self.old };
 
     /// The seconds since 1970-01-01T00:00:00 UTC.
     ///
     /// It fails when the clock fails.
-    fn now(&mut self) -> Result<i64, MachineFault>;
+    fn now(&mut self) -> Result<i64, MachineFault>
+        ensures shown { IfOk result (λ seconds. IfSome (clock self.old) (λ moment. seconds ≡ moment)) }
+        ensures shows { shows self.new ≡ shows self.old };
 
     /// Lends the door through which visits come at a port of the machine itself, 1 to 65,535. The machine keeps
     /// it.
     ///
     /// It fails when it cannot open the port.
-    fn listen(&mut self, port: u16) -> Result<&mut Self::Door, MachineFault>;
+    fn listen(&mut self, port: u16) -> Result<&mut Self::Door, MachineFault>
+        ensures* lends { sem 𝓛 (LendsDoor Self.row Self.Door.row shows door (Port port) self.entry result) }
+        ensures lent { IfOk result (λ lent. IfSome (door self.old (Port port)) (λ shown. lent.now ≡ shown)) };
 }

@@ -1,7 +1,7 @@
 //! Opens the desk in the file of a store, and finds the day on which to ask it.
 
-ghost use Rattle.std.specs.Prelude.{◌≡◌, Err, IfErr, IfOk, IfSome, Ok};
-ghost use Rattle.rd_program.specs.Leaves.{IsDayAt, LeavesUnopened};
+ghost use Rattle.std.specs.Prelude.{◌≡◌, Err, IfErr, IfOk, IfSome, IsSome, IsTrue, Ok};
+ghost use Rattle.rd_program.specs.Leaves.{GivesBack, IsDayAt, LeavesUnopened, moment_of};
 ghost use Rattle.rd_program.specs.Serving.{IsClockRefusal, IsOpenRefusal};
 ghost use Rattle.rd_store.specs.Migrated.{IsMigrated};
 ghost use Rattle.rd_policy.specs.Days.{HasDay, IsDay};
@@ -27,6 +27,11 @@ pub(crate) fn open_desk<M: Machine>(
 ) -> Result<Desk<M::Disk>, Refusal>
     ensures zone { IfOk result (λ desk. desk.zone ≡ zone) }
     ensures opened { IfOk result (λ desk. IfSome (M.stands machine.old store.now) (λ before. IsMigrated M.Disk.Store before desk.store)) }
+    ensures there { IfOk result (λ _. IsTrue (M.shows machine.old) → IsSome (M.stands machine.old store.now)) }
+    ensures shows { M.shows machine.new ≡ M.shows machine.old }
+    ensures clock { IfOk result (λ _. M.clock machine.new ≡ M.clock machine.old) }
+    ensures door { M.door machine.new ≡ M.door machine.old }
+    ensures back { IfErr result (λ _. GivesBack (M.shows machine.old) (M.left machine.old) (M.left machine.new)) }
     ensures refused { IfErr result IsOpenRefusal }
     ensures left { IfErr result
         (LeavesUnopened M.Disk.Store (M.left machine.old) (M.stands machine.old store.now) (M.left machine.new)) }
@@ -48,11 +53,28 @@ pub(crate) fn open_desk<M: Machine>(
 ///
 /// It fails with `Clock`, and with `NoMemory`.
 fn clock_seconds<M: Machine>(machine: &mut M) -> Result<i64, Refusal>
-    ensures { IfErr result IsClockRefusal }
+    ensures shown { IfOk result (λ seconds. IfSome (M.clock machine.old) (λ moment. seconds ≡ moment)) }
+    ensures shows { M.shows machine.new ≡ M.shows machine.old }
+    ensures refused { IfErr result IsClockRefusal }
 {
     match machine.now() {
         Ok(seconds) => Ok(seconds),
         Err(fault) => Err(fault.or(Refusal::Clock)),
+    }
+}
+
+/// The seconds of the moment that the words name, or of the one that the machine's clock shows.
+///
+/// It fails with `Clock`, and with `NoMemory`.
+fn seconds_of<M: Machine>(told: Option<i64>, machine: &mut M) -> Result<i64, Refusal>
+    ensures asked { IfOk result (λ seconds. IfSome (moment_of told (M.clock machine.old)) (λ moment. seconds ≡ moment)) }
+    ensures told { IfSome told (λ seconds. result ≡ Ok seconds) }
+    ensures shows { M.shows machine.new ≡ M.shows machine.old }
+    ensures refused { IfErr result IsClockRefusal }
+{
+    match told {
+        Some(seconds) => Ok(seconds),
+        None => clock_seconds(machine),
     }
 }
 
@@ -65,16 +87,14 @@ pub(crate) fn visit_day<S: Alter, M: Machine>(
     desk: &Desk<S>,
     machine: &mut M,
 ) -> Result<i32, Refusal>
-    ensures day { IfOk result (IsDayAt told desk.now.zone) }
+    ensures day { IfOk result (IsDayAt (moment_of told (M.clock machine.old)) desk.now.zone) }
+    ensures shows { M.shows machine.new ≡ M.shows machine.old }
     ensures in_range { IfOk result IsDay }
     ensures told { IfSome told (λ seconds.
         (HasDay seconds → result ≡ Ok (day_number seconds desk.now.zone)) × (¬ HasDay seconds → result ≡ Err Refusal.Clock)) }
     ensures refused { IfErr result IsClockRefusal }
 {
-    let seconds = match told {
-        Some(seconds) => seconds,
-        None => clock_seconds(machine)?,
-    };
+    let seconds = seconds_of(told, machine)?;
     match desk.day(seconds) {
         Ok(day) => Ok(day),
         Err(DayFault::OutOfRange) => Err(Refusal::Clock),

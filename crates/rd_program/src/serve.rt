@@ -1,7 +1,9 @@
-ghost use Rattle.std.specs.Prelude.{◌≡◌, IfErr, IfOk, OnErr, OnOk};
+ghost use Rattle.std.specs.Prelude.{◌≡◌, IfErr, IfOk, IfSome, IsSome, IsSomeAnd, IsTrue, OnErr, OnOk};
 ghost use Rattle.std.specs.Io.KnownBytes.{Appends};
 ghost use Rattle.rd_store.specs.Held.{Lasts};
-ghost use Rattle.rd_program.specs.Leaves.{Leaves, LeavesServe};
+ghost use Rattle.rd_program.specs.Doors.Place.{Port};
+ghost use Rattle.rd_program.specs.Leaves.{GivesBack, Leaves, LeavesServe};
+ghost use Rattle.rd_program.specs.Visiting.{RunsVisits, ServesDoor};
 ghost use Rattle.rd_commands.specs.Output.{AppendsPart};
 ghost use Rattle.rd_commands.specs.Refusals.{IsOfDevice};
 ghost use Rattle.rd_program.specs.Serving.{RefusesServe, RefusesToEnd, listening_line, serve_text, served_line};
@@ -56,6 +58,10 @@ fn serve_visits<W: Write, M: Machine>(
     ensures count { IfOk result (λ served. served.ended ≡ Ended.Count → served.visits ≡ ask.entry.count) }
     ensures lasts { IfOk result (λ _. Lasts M.Disk.Store desk.old.store desk.new.store) }
     ensures unserved { IfErr result (λ _. desk.new.store ≡ desk.old.store) }
+    ensures shows { M.shows machine.new ≡ M.shows machine.old }
+    ensures visits { IfOk result (λ served. IfSome (M.door machine.old (Port ask.entry.port))
+        (λ before. IsSomeAnd (M.door machine.new (Port ask.entry.port)) (λ after.
+        RunsVisits M.Disk.Store M.Door.told M.Door.coming desk.old.zone before after served desk.old.store desk.new.store))) }
 {
     let door = match machine.listen(ask.port) {
         Ok(door) => door,
@@ -99,6 +105,11 @@ pub(crate) fn serve<W: Write, M: Machine>(
     ensures lasts { Leaves (M.left machine.old) (M.stands machine.old ask.entry.store.now) (M.left machine.new) (Lasts M.Disk.Store) }
     ensures left { IfErr result (LeavesServe M.Disk.Store (M.left machine.old) (M.stands machine.old ask.entry.store.now) (M.left machine.new)
         ask.entry.port (W.contents output.old) (W.contents output.new)) }
+    ensures visits { OnOk result (ServesDoor M.Disk.Store M.Door.told M.Door.coming ask.entry.count ask.entry.zone
+        (M.door machine.old (Port ask.entry.port)) (M.door machine.new (Port ask.entry.port))
+        (M.stands machine.old ask.entry.store.now) (M.left machine.new)) }
+    ensures back { GivesBack (M.shows machine.old) (M.left machine.old) (M.left machine.new) }
+    ensures there { OnOk result (IsTrue (M.shows machine.old) → IsSome (M.stands machine.old ask.entry.store.now)) }
 {
     let mut desk = open_desk(alloc, ask.store, ask.zone, machine)?;
     let served = serve_visits(alloc, ask, &mut desk, output, machine);

@@ -1,4 +1,4 @@
-//! Shows the staff what stands in a desk.
+//! Shows what stands in a desk: the catalogue, and what the staff asks to see.
 
 ghost use Rattle.std.specs.Prelude.{◌≡◌, ◌≢◌, IfErr, IfOk, IsSome, OnOk};
 ghost use Rattle.std.specs.Io.KnownBytes.{Appends};
@@ -9,26 +9,21 @@ ghost use Rattle.rd_commands.specs.Shown.{IsShowable};
 ghost use Rattle.rd_program.specs.Asking.{RefusesOnce};
 ghost use Rattle.rd_program.specs.Leaves.{IsOfOpenDesk, IsSame, LeavesDesk};
 ghost use Rattle.rd_program.specs.Showing as spec;
-ghost use Rattle.rd_program.specs.Showing.{IsDueOn, OfDesk, RefusesShow, Shows, show_request, shown_text};
+ghost use Rattle.rd_program.specs.Showing.{IsDueOn, IsToShow, OfDesk, RefusesShow, Shows, shown_text};
 
-use crate::asker::{Asker, reply_to};
-use crate::reply_body::{bytes_of, is_text};
+use crate::answers::answer_to_show;
+use crate::asker::{Asker, answer_of};
 use rd_commands::{Done, Refusal, Shown, write_whole};
-use rd_desk::{Desk, Form, Reply, What};
+use rd_desk::{Body, Desk, Form, Reply, What, reply_to};
 use sqlite::Alter;
-use std::alloc::Global;
+use std::alloc::{AllocError, Global};
 use std::io::Write;
 
-/// The body of the reply to a caller whose key is not one of the desk.
-const UNKNOWN_KEY: &[u8] = b"{\"error\":\"unknown-key\",\"rule\":\"K0\"}";
-
-/// The body of the reply to a caller who is not of the staff.
-const STAFF_ONLY: &[u8] = b"{\"error\":\"staff-only\",\"rule\":\"S0\"}";
-
 /// What is asked of a desk to show this.
-fn what_of(shown: Shown) -> What
+pub(crate) fn what_of(shown: Shown) -> What
     ensures asks { result ≡ spec.what_of shown }
     ensures fits { IsShowable shown → IsRequest result }
+    ensures to_show { IsToShow result }
 {
     match shown {
         Shown::Deeds => What::Deeds,
@@ -39,20 +34,15 @@ fn what_of(shown: Shown) -> What
     }
 }
 
-/// The refusal of the caller that a reply names; `Store` if it names neither. It takes no memory.
-fn refusal_shown(reply: &Reply) -> Refusal
-    ensures unknown { result ≡ Refusal.UnknownKey → reply.now.body.bytes ≡ UNKNOWN_KEY.now }
-    ensures staff_only { result ≡ Refusal.StaffOnly → reply.now.body.bytes ≡ STAFF_ONLY.now }
-    ensures store { result ≡ Refusal.Store → (reply.now.body.bytes ≢ UNKNOWN_KEY.now) × (reply.now.body.bytes ≢ STAFF_ONLY.now) }
-    ensures of { spec.IsShowRefusal result }
+/// The bytes of a body. It fails when memory runs out.
+fn bytes_of(alloc: Global, body: &Body) -> Result<Vec<u8>, AllocError>
+    ensures { IfOk result (λ bytes. bytes.items ≡ body.now.bytes) }
 {
-    if is_text(&reply.body, UNKNOWN_KEY) {
-        return Refusal::UnknownKey;
+    let mut bytes = Vec::new(alloc);
+    for piece in body.pieces() {
+        bytes.extend_from_slice(piece)?;
     }
-    if is_text(&reply.body, STAFF_ONLY) {
-        return Refusal::StaffOnly;
-    }
-    Refusal::Store
+    Ok(bytes)
 }
 
 /// Writes the body of a reply, and a line feed after it if it is JSON, and flushes the output.
@@ -70,31 +60,33 @@ fn write_shown<W: Write>(alloc: Global, reply: &Reply, output: &mut W) -> Result
     write_whole(output, bytes.as_slice())
 }
 
-/// Writes what the staff asks to be shown. It changes nothing.
+/// Writes what is asked to be shown. It changes nothing.
 ///
-/// It fails with the refusal of the reply, with `Store` when the desk is unavailable, and as
+/// It fails with the refusal of the caller, with `Store` when the desk is unavailable, and as
 /// `write_shown` does.
 pub(crate) fn show<S: Alter + Drop, W: Write>(
     alloc: Global,
-    shown: Shown,
+    what: What,
     asker: Asker,
     desk: &mut Desk<S>,
     output: &mut W,
 ) -> Result<Done, Refusal>
     requires day { IsDay asker.day }
-    requires within { IsShowable shown }
+    requires fits { IsRequest what }
+    requires to_show { IsToShow what }
     ensures whole { IfOk result (λ done. done ≡ Done.Whole) }
-    ensures shown { OnOk result (OfDesk S.Store (λ stood. Shows (show_request asker.badge shown) stood
+    ensures shown { OnOk result (OfDesk S.Store (λ stood after. Shows (λ day. day ≡ asker.day)
+        (record { badge = asker.badge; what = what }) stood
         (W.contents output.old) (W.contents output.new)) desk.old.store desk.new.store) }
     ensures refused { IfErr result (RefusesShow (W.contents output.old) (W.contents output.new)) }
-    ensures due { IsSome asker.badge → IfErr result (IsDueOn S.Store (show_request asker.badge shown) desk.old.store desk.new.store) }
+    ensures due { IsSome asker.badge → IfErr result (IsDueOn S.Store (λ day. day ≡ asker.day)
+        (record { badge = asker.badge; what = what }) desk.old.store desk.new.store) }
     ensures opened { IfErr result IsOfOpenDesk }
     ensures same { LeavesDesk S.Store IsSame desk.old.store desk.new.store }
 {
-    let reply = reply_to(alloc, what_of(shown), asker, desk);
-    if reply.status != 200 {
-        return Err(refusal_shown(&reply));
-    }
+    let told = answer_of(alloc, what, asker, desk);
+    let answer = answer_to_show(told)?;
+    let reply = reply_to(alloc, answer)?;
     write_shown(alloc, &reply, output)?;
     Ok(Done::Whole)
 }

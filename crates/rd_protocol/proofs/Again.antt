@@ -149,15 +149,18 @@ module _ (day : ℤ) where
       after = sym (carried_again request.what desk);
     }
 
--- ---- replies
+-- ---- answers and replies
 
--- what leaves its caller's key as it is has the same reply again
+-- what leaves its caller's key as it is has the same answer again
+pub answered_again : (old : Desk) (day : ℤ) (request : Request) (answer : Response) (new : Desk) → IsForStaff request.what
+    → audience_of new request.badge ≡ audience_of old request.badge → IsAnswered old day request answer new → IsAnswered new day request answer new
+answered_again old day request (response.Refused refusal) new command stays refused = (subst (λ desk. IsRefusedOn desk day request refusal) (sym refused.1) refused.0, refl)
+answered_again old day request answer new command stays done =
+    subst (λ desk. IsDone desk day request answer desk) (sym done.after)
+    (done_again day old request command done.file done.accepted answer
+    (subst (λ desk. audience_of desk request.badge ≡ audience_of old request.badge) done.after stays) done.audience done.caller done.tells)
+
+-- and the same reply
 pub same_again : SameAgain
-same_again old day request reply new command stays is = record { answer = is.answer; answered = again is.answer is.answered; written = is.written }
-  where
-    again : (answer : Response) → IsAnswered old day request answer new → IsAnswered new day request answer new
-    again (response.Refused refusal) refused = (subst (λ desk. IsRefusedOn desk day request refusal) (sym refused.1) refused.0, refl)
-    again answer done =
-        subst (λ desk. IsDone desk day request answer desk) (sym done.after)
-        (done_again day old request command done.file done.accepted answer
-        (subst (λ desk. audience_of desk request.badge ≡ audience_of old request.badge) done.after stays) done.audience done.caller done.tells)
+same_again old day request reply new command stays is =
+    record { answer = is.answer; answered = answered_again old day request is.answer new command stays is.answered; written = is.written }

@@ -1,6 +1,6 @@
 -- Why the desk refuses a request: the number that orders the reasons, the name that the reply
 -- gives, and its status.
-use Rattle.std.specs.Prelude.{◌≡◌, ℕ, List, codes}
+use Rattle.std.specs.Prelude.{ℕ, List, codes}
 use Rattle.rd_protocol.specs.declared.refusal.Refusal.{Refusal}
 use Rattle.rd_protocol.specs.declared.refusal.Refusal.TheVariants.{UnknownKey, StaffOnly, BadBody, NoAccession, NoFile, NoDeed, Denied, ListedOnly, Faulty, WrongSize, DigestDiffers, Conflict}
 
@@ -34,12 +34,6 @@ name_of (Faulty kind faults) = codes "faulty"
 name_of WrongSize = codes "wrong-size"
 name_of DigestDiffers = codes "digest-differs"
 name_of Conflict = codes "conflict"
-
--- the name alone tells the refusal: it is its name, and it has neither a label nor faults
-abbrev pub IsToldBy : List ℕ → Refusal → Type 0
-IsToldBy name (Denied label) = ⊥
-IsToldBy name (Faulty kind faults) = ⊥
-IsToldBy name refusal = name ≡ name_of refusal
 
 -- the HTTP status
 abbrev pub status_of : Refusal → ℕ

@@ -1,4 +1,4 @@
-ghost use Rattle.std.specs.Prelude.{◌≡◌, IfNone, IfSome};
+ghost use Rattle.std.specs.Prelude.{◌≡◌};
 
 use rd_geometry::Kind;
 use rd_policy::Label;
@@ -35,10 +35,10 @@ pub enum Refusal {
 }
 
 impl Refusal {
-    ghost use Rattle.rd_protocol.specs.Refusals.{IsToldBy, name_of, status_of};
+    ghost use Rattle.rd_protocol.specs.Refusals.{name_of, status_of};
 
     /// The name that the reply gives.
-    pub(crate) fn name(self) -> &'static str
+    pub fn name(self) -> &'static str
         ensures { result.now ≡ name_of self }
     {
         match self {
@@ -54,27 +54,6 @@ impl Refusal {
             Refusal::WrongSize => "wrong-size",
             Refusal::DigestDiffers => "digest-differs",
             Refusal::Conflict => "conflict",
-        }
-    }
-
-    /// The refusal that has this name. It is `None` if no refusal has it, and for `denied` and
-    /// `faulty`, since their names say nothing of the label and of the faults.
-    pub fn from_name(name: &str) -> Option<Refusal>
-        ensures found { IfSome result (IsToldBy name.now) }
-        ensures none { IfNone result ((refusal : Refusal) → ¬ IsToldBy name.now refusal) }
-    {
-        match name {
-            "unknown-key" => Some(Refusal::UnknownKey),
-            "staff-only" => Some(Refusal::StaffOnly),
-            "bad-body" => Some(Refusal::BadBody),
-            "no-accession" => Some(Refusal::NoAccession),
-            "no-file" => Some(Refusal::NoFile),
-            "no-deed" => Some(Refusal::NoDeed),
-            "listed-only" => Some(Refusal::ListedOnly),
-            "wrong-size" => Some(Refusal::WrongSize),
-            "digest-differs" => Some(Refusal::DigestDiffers),
-            "conflict" => Some(Refusal::Conflict),
-            _ => None,
         }
     }
 

@@ -1,6 +1,7 @@
 //! A machine whose store is a database on two files in memory, and `desk import` on it.
 
-ghost use Rattle.std.specs.Prelude.{None};
+ghost use Rattle.std.specs.Prelude.{None, Some, true};
+ghost use Rattle.rd_stops.specs.declared.desk.TheConstants.{MOMENT};
 
 use crate::commands::{STAFF_KEY, Sample, bytes_of};
 use crate::desk::MOMENT;
@@ -53,6 +54,10 @@ fn sheet(alloc: Global, rows: usize) -> Result<String, AllocError> {
 }
 
 impl<S: Alter + Drop> Files for Museum<S> {
+    ghost file_bytes = { λ _ _. None };
+
+    ghost sheet_bytes = { λ _ _. None };
+
     fn read_file(&mut self, alloc: Global, _path: &str) -> Result<Vec<u8>, MachineFault> {
         bytes_of(alloc, Sample::Program).map_err(|_| MachineFault::NoMemory)
     }
@@ -70,15 +75,25 @@ impl<S: Alter + Drop> Machine for Museum<S> {
 
     type Door = MemoryDoor;
 
-    ghost stands = { λ _ _. None };
+    ghost shows = { λ _. true };
 
-    ghost left = { λ _. None };
+    ghost clock = { λ _. Some MOMENT };
+
+    ghost door = { λ machine _. Some machine.door };
+
+    ghost stands = { λ machine _. machine.conn };
+
+    ghost left = { λ machine. machine.conn };
 
     fn connect(&mut self, _path: &str) -> Result<Connection<S>, MachineFault> {
-        match self.conn.take() {
-            Some(conn) if conn.is_autocommit() => Ok(conn),
-            _ => Err(MachineFault::Failed),
+        let Some(conn) = self.conn.take() else {
+            return Err(MachineFault::Failed);
+        };
+        if conn.is_autocommit() {
+            return Ok(conn);
         }
+        self.conn = Some(conn);
+        Err(MachineFault::Failed)
     }
 
     /// It closes nothing: the one that runs the program does.

@@ -101,10 +101,7 @@ const PATHS: [(&str, Result<usize, MachineFault>); 3] = [
 
 #[test]
 fn the_machine_reads_no_folder_and_no_more_than_an_image(rt: HostRuntime) {
-    let mut host = Host {
-        rt: &rt,
-        door: None,
-    };
+    let mut host = Host::new(&rt);
     for (path, wanted) in PATHS {
         let given = host.read_file(rt.alloc(), path);
         assert!(rt; given.map(|bytes| bytes.len()) == wanted, "{path}");
@@ -130,11 +127,7 @@ fn fresh_path(rt: &HostRuntime) -> Result<String, Fail> {
 fn the_machine_reads_a_file(rt: HostRuntime) -> Result<(), Fail> {
     let path = fresh_path(&rt)?;
     fs::write(&rt, path.as_str(), b"BYTES")?;
-    let given = Host {
-        rt: &rt,
-        door: None,
-    }
-    .read_file(rt.alloc(), path.as_str());
+    let given = Host::new(&rt).read_file(rt.alloc(), path.as_str());
     fs::remove_file(&rt, path.as_str())?;
     assert!(rt; given.is_ok_and(|bytes| bytes.as_slice() == b"BYTES".as_slice()));
     Ok(())
@@ -149,10 +142,7 @@ const SHEETS: [(&str, Result<usize, MachineFault>); 3] = [
 
 #[test]
 fn the_machine_reads_no_folder_as_a_sheet(rt: HostRuntime) {
-    let mut host = Host {
-        rt: &rt,
-        door: None,
-    };
+    let mut host = Host::new(&rt);
     for (path, wanted) in SHEETS {
         let given = host.read_sheet(rt.alloc(), path);
         assert!(rt; given.map(|bytes| bytes.len()) == wanted, "{path}");
@@ -164,11 +154,7 @@ fn the_machine_reads_a_sheet_whole(rt: HostRuntime) -> Result<(), Fail> {
     let path = fresh_path(&rt)?;
     let bytes = vec![in rt.alloc(); b','; 300_000]?;
     fs::write(&rt, path.as_str(), bytes.as_slice())?;
-    let given = Host {
-        rt: &rt,
-        door: None,
-    }
-    .read_sheet(rt.alloc(), path.as_str());
+    let given = Host::new(&rt).read_sheet(rt.alloc(), path.as_str());
     fs::remove_file(&rt, path.as_str())?;
     assert!(rt; given.is_ok_and(|given| given == bytes));
     Ok(())
@@ -193,7 +179,7 @@ fn run_on_host(rt: &HostRuntime, words: &[&str]) -> Ran {
         &mut [].as_slice(),
         &mut output,
         &mut errors,
-        &mut Host { rt, door: None },
+        &mut Host::new(rt),
     );
     Ran {
         status,

@@ -1,6 +1,7 @@
 //! Readers, writers and machines that fail.
 
-ghost use Rattle.std.specs.Prelude.{None};
+ghost use Rattle.std.specs.Prelude.{None, Some, false, true};
+ghost use Rattle.std.specs.Result.{result_ok};
 
 use rd_http::MemoryDoor;
 use rd_program::{Files, Machine, MachineFault};
@@ -105,6 +106,10 @@ impl Write for Stumbling {
 pub(crate) struct Bare;
 
 impl Files for Bare {
+    ghost file_bytes = { λ _ _. None };
+
+    ghost sheet_bytes = { λ _ _. None };
+
     fn read_file(&mut self, _alloc: Global, _path: &str) -> Result<Vec<u8>, MachineFault> {
         Err(MachineFault::Failed)
     }
@@ -118,6 +123,12 @@ impl Machine for Bare {
     type Disk = MemStore;
 
     type Door = MemoryDoor;
+
+    ghost shows = { λ _. false };
+
+    ghost clock = { λ _. None };
+
+    ghost door = { λ _ _. None };
 
     ghost stands = { λ _ _. None };
 
@@ -184,6 +195,10 @@ pub(crate) struct Museum<S: Alter + Drop = MemStore> {
 }
 
 impl<S: Alter + Drop> Files for Museum<S> {
+    ghost file_bytes = { λ _ _. None };
+
+    ghost sheet_bytes = { λ _ _. None };
+
     fn read_file(&mut self, alloc: Global, path: &str) -> Result<Vec<u8>, MachineFault> {
         image_at(alloc, path)
     }
@@ -204,6 +219,12 @@ impl<S: Alter + Drop> Machine for Museum<S> {
 
     type Door = MemoryDoor;
 
+    ghost shows = { λ _. true };
+
+    ghost clock = { λ machine. result_ok machine.moment };
+
+    ghost door = { λ machine _. Some machine.door };
+
     ghost stands = { λ machine _. machine.conn };
 
     ghost left = { λ machine. machine.conn };
@@ -214,10 +235,14 @@ impl<S: Alter + Drop> Machine for Museum<S> {
         if path != STORE {
             return Err(MachineFault::Failed);
         }
-        match self.conn.take() {
-            Some(conn) if conn.is_autocommit() => Ok(conn),
-            _ => Err(MachineFault::Failed),
+        let Some(conn) = self.conn.take() else {
+            return Err(MachineFault::Failed);
+        };
+        if conn.is_autocommit() {
+            return Ok(conn);
         }
+        self.conn = Some(conn);
+        Err(MachineFault::Failed)
     }
 
     fn release(&mut self, conn: &mut Option<Connection<S>>) {

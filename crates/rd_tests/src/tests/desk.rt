@@ -1,6 +1,7 @@
 mod bodies;
 mod cases;
 mod checks;
+mod days;
 mod images;
 mod limits;
 mod refused;

@@ -15,7 +15,7 @@ use std::test::Fail;
 pub(super) type Memory = Desk<MemStore>;
 
 /// The rule of its clocks, those of central Europe.
-const CENTRAL: &str = "CET-1CEST,M3.5.0,M10.5.0/3";
+pub(super) const CENTRAL: &str = "CET-1CEST,M3.5.0,M10.5.0/3";
 
 /// Asks how many tables and indexes stand.
 const MADE: &str = "SELECT count(*) FROM sqlite_master";
@@ -102,6 +102,11 @@ fn desk_over(store: Store<MemStore>) -> Result<Memory, Fail> {
 /// A desk with one staff key.
 pub(super) fn new_desk(rt: &impl Abort, alloc: Global) -> Result<Memory, Fail> {
     desk_over(new_store(rt, alloc)?)
+}
+
+/// A desk with one staff key, and with clocks by a rule.
+pub(super) fn new_desk_by(rt: &impl Abort, alloc: Global, rule: &str) -> Result<Memory, Fail> {
+    Ok(Desk::new(new_store(rt, alloc)?, Zone::read(rule)?))
 }
 
 /// The same. What memory is refused for is tried once more.

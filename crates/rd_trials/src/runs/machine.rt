@@ -1,6 +1,6 @@
 //! A machine in memory.
 
-ghost use Rattle.std.specs.Prelude.{None};
+ghost use Rattle.std.specs.Prelude.{◌≡◌, None, Some, true};
 
 use crate::image::build_with;
 use anyhow::Result;
@@ -15,17 +15,17 @@ const STORE: &str = "museum.sqlite";
 
 /// A file of the machine: its path and its bytes.
 #[derive(Drop)]
-pub(crate) struct File<'a> {
-    path: &'a str,
+pub(crate) struct File {
+    path: String,
     bytes: Vec<u8>,
 }
 
-impl<'a> File<'a> {
-    pub(crate) fn new(alloc: Global, path: &'a str) -> File<'a> {
-        File {
-            path,
+impl File {
+    pub(crate) fn new(alloc: Global, path: &str) -> Result<File> {
+        Ok(File {
+            path: String::from_str(alloc, path)?,
             bytes: Vec::new(alloc),
-        }
+        })
     }
 
     /// Reads a line about the bytes of the file: its first word, and the text after it.
@@ -35,19 +35,19 @@ impl<'a> File<'a> {
 }
 
 /// What the machine does not give, and why: the `store`, the `door`, the `clock`, or the file at a path.
-#[derive(Clone, Copy)]
-pub(crate) struct Lack<'a> {
-    pub(crate) what: &'a str,
-    pub(crate) fault: MachineFault,
+#[derive(Drop)]
+struct Lack {
+    what: String,
+    fault: MachineFault,
 }
 
 /// A machine with one store, which stays between runs, with files, and with visits to come.
 #[derive(Drop)]
-pub(crate) struct Museum<'a> {
+pub(crate) struct Museum {
     /// The store; `None` while a command has it.
     pub(crate) store: Option<Connection<MemStore>>,
-    files: Vec<File<'a>>,
-    pub(crate) lacks: Vec<Lack<'a>>,
+    files: Vec<File>,
+    lacks: Vec<Lack>,
     /// What the clock shows; `None` if it shows nothing.
     pub(crate) clock: Option<i64>,
     pub(crate) door: MemoryDoor,
@@ -65,9 +65,9 @@ fn new_connection(alloc: Global) -> Result<Connection<MemStore>, NoMemory> {
     Ok(Connection::open_in_memory(alloc)?)
 }
 
-impl<'a> Museum<'a> {
+impl Museum {
     /// A machine whose store is an empty database, and which has no file.
-    pub(crate) fn new(alloc: Global) -> Result<Museum<'a>, NoMemory> {
+    pub(crate) fn new(alloc: Global) -> Result<Museum, NoMemory> {
         Ok(Museum {
             store: Some(new_connection(alloc)?),
             files: Vec::new(alloc),
@@ -79,16 +79,37 @@ impl<'a> Museum<'a> {
     }
 
     /// Takes in a file. If there are several at a path, the last one counts.
-    pub(crate) fn keep(&mut self, file: File<'a>) -> Result<()> {
+    pub(crate) fn keep(&mut self, file: File) -> Result<()> {
         Ok(self.files.push(file)?)
+    }
+
+    /// Lacks nothing from now on.
+    pub(crate) fn give_all(&mut self) {
+        self.lacks.clear();
+    }
+
+    /// Does not give something from now on, and why.
+    pub(crate) fn lack(&mut self, alloc: Global, what: &str, fault: MachineFault) -> Result<()> {
+        let what = String::from_str(alloc, what)?;
+        Ok(self.lacks.push(Lack { what, fault })?)
     }
 
     /// It fails when the machine does not give something.
     fn given(&self, what: &str) -> Result<(), MachineFault> {
-        match self.lacks.iter().find(|lack| lack.what == what) {
+        match self.lacks.iter().find(|lack| lack.what.as_str() == what) {
             Some(lack) => Err(lack.fault),
             None => Ok(()),
         }
+    }
+
+    /// Notes the port that the program asks for.
+    ///
+    /// It fails when the machine does not give the door.
+    fn given_door(&mut self, port: u16) -> Result<(), MachineFault>
+        ensures { self.new.door ≡ self.old.door }
+    {
+        self.port = Some(port);
+        self.given("door")
     }
 
     /// The bytes of the file at a path.
@@ -96,7 +117,7 @@ impl<'a> Museum<'a> {
         self.given(path)?;
         let mut found = Err(MachineFault::Failed);
         for file in &self.files {
-            if file.path == path {
+            if file.path.as_str() == path {
                 found = Ok(file.bytes.as_slice());
             }
         }
@@ -108,7 +129,11 @@ fn copied(alloc: Global, bytes: &[u8]) -> Result<Vec<u8>, MachineFault> {
     Vec::from_slice(alloc, bytes).map_err(|_| MachineFault::NoMemory)
 }
 
-impl Files for Museum<'_> {
+impl Files for Museum {
+    ghost file_bytes = { λ _ _. None };
+
+    ghost sheet_bytes = { λ _ _. None };
+
     fn read_file(&mut self, alloc: Global, path: &str) -> Result<Vec<u8>, MachineFault> {
         copied(alloc, front_of(self.bytes_at(path)?))
     }
@@ -118,14 +143,20 @@ impl Files for Museum<'_> {
     }
 }
 
-impl Machine for Museum<'_> {
+impl Machine for Museum {
     type Disk = MemStore;
 
     type Door = MemoryDoor;
 
-    ghost stands = { λ _ _. None };
+    ghost shows = { λ _. true };
 
-    ghost left = { λ _. None };
+    ghost clock = { λ machine. machine.clock };
+
+    ghost door = { λ machine _. Some machine.door };
+
+    ghost stands = { λ machine _. machine.store };
+
+    ghost left = { λ machine. machine.store };
 
     /// It also fails at a path without a store, and if the store has not come back, or is inside a
     /// transaction.
@@ -134,10 +165,14 @@ impl Machine for Museum<'_> {
         if path != STORE {
             return Err(MachineFault::Failed);
         }
-        match self.store.take() {
-            Some(conn) if conn.is_autocommit() => Ok(conn),
-            _ => Err(MachineFault::Failed),
+        let Some(conn) = self.store.take() else {
+            return Err(MachineFault::Failed);
+        };
+        if conn.is_autocommit() {
+            return Ok(conn);
         }
+        self.store = Some(conn);
+        Err(MachineFault::Failed)
     }
 
     fn release(&mut self, conn: &mut Option<Connection<MemStore>>) {
@@ -150,8 +185,7 @@ impl Machine for Museum<'_> {
     }
 
     fn listen(&mut self, port: u16) -> Result<&mut MemoryDoor, MachineFault> {
-        self.port = Some(port);
-        self.given("door")?;
+        self.given_door(port)?;
         Ok(&mut self.door)
     }
 }

@@ -14,7 +14,7 @@ use std::mem;
 enum Item<'a> {
     Nothing,
     Run(Run<'a>),
-    File(File<'a>),
+    File(File),
     Change(Change<'a>),
     Question(Question<'a>),
 }
@@ -23,7 +23,7 @@ enum Item<'a> {
 #[derive(Drop)]
 struct Player<'a> {
     tally: Tally,
-    museum: Museum<'a>,
+    museum: Museum,
     /// The moment of visits, which the clock shows.
     seconds: Option<i64>,
     item: Item<'a>,
@@ -107,7 +107,7 @@ impl<'a> Player<'a> {
             "no-command" => {
                 self.item = Item::Run(Run::mistake(rt.alloc(), place, text, self.seconds)?)
             }
-            "file" => self.item = Item::File(File::new(rt.alloc(), text)),
+            "file" => self.item = Item::File(File::new(rt.alloc(), text)?),
             "query" => self.item = Item::Question(Question::new(rt.alloc(), place, text)),
             "anew" => self.museum = Museum::new(rt.alloc())?,
             "tables" => self.compare(rt, place, text)?,

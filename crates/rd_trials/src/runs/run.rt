@@ -1,6 +1,6 @@
 //! Runs as a trial describes them.
 
-use super::machine::{Lack, Museum};
+use super::machine::Museum;
 use super::output::Output;
 use super::visitor::{Visitor, outcome_at};
 use super::wanted::{Ran, Wanted};
@@ -11,6 +11,13 @@ use rd_http::MemoryDoor;
 use rd_played::{Tally, bytes_of};
 use rd_program::{MachineFault, run};
 use std::alloc::{AllocError, Global};
+
+/// What the machine does not give, and why: the `store`, the `door`, the `clock`, or the file at a path.
+#[derive(Clone, Copy)]
+struct Lack<'a> {
+    what: &'a str,
+    fault: MachineFault,
+}
 
 /// A run: its name and its place, the words, the standard input, how much the output takes, what
 /// the machine does not give, the visits, and what the run must leave.
@@ -64,7 +71,7 @@ fn run_program(
     words: &[&str],
     mut input: &[u8],
     (output, errors): (&mut Output, &mut Vec<u8>),
-    museum: &mut Museum<'_>,
+    museum: &mut Museum,
 ) -> u8 {
     run(alloc, words, &mut input, output, errors, museum)
 }
@@ -160,8 +167,11 @@ impl<'a> Run<'a> {
     }
 
     /// Makes the machine ready for the run.
-    fn prepare(&self, rt: &HostRuntime, museum: &mut Museum<'a>) -> Result<()> {
-        museum.lacks = self.lacks.clone()?;
+    fn prepare(&self, rt: &HostRuntime, museum: &mut Museum) -> Result<()> {
+        museum.give_all();
+        for lack in &self.lacks {
+            museum.lack(rt.alloc(), lack.what, lack.fault)?;
+        }
         museum.clock = self.clock;
         museum.door = door_of(rt, self.visitors.as_slice())?;
         museum.port = None;
@@ -169,7 +179,7 @@ impl<'a> Run<'a> {
     }
 
     /// Runs the program on a machine.
-    fn ran(&self, alloc: Global, museum: &mut Museum<'a>) -> Result<Ran> {
+    fn ran(&self, alloc: Global, museum: &mut Museum) -> Result<Ran> {
         let words = slices_of(alloc, self.words.as_slice())?;
         let mut output = Output::new(alloc);
         output.room = self.room;
@@ -192,7 +202,7 @@ impl<'a> Run<'a> {
     }
 
     /// Compares the outcome of each visit with the expected one.
-    fn judge_visits(&self, rt: &HostRuntime, museum: &Museum<'a>, tally: &mut Tally) -> Result<()> {
+    fn judge_visits(&self, rt: &HostRuntime, museum: &Museum, tally: &mut Tally) -> Result<()> {
         let mut number = 0usize;
         for visitor in &self.visitors {
             let case = (visitor.place, visitor.name);
@@ -210,7 +220,7 @@ impl<'a> Run<'a> {
     pub(crate) fn play(
         &self,
         rt: &HostRuntime,
-        museum: &mut Museum<'a>,
+        museum: &mut Museum,
         tally: &mut Tally,
     ) -> Result<()> {
         self.prepare(rt, museum)?;

@@ -103,7 +103,7 @@ impl<'a> Visit<'a> {
             "ask" | "key" | "body" => Ok(self.came.read_request(word, text)?),
             "json" | "csv" | "octets" | "field" => Ok(self.reply.read_head(word, text)?),
             "out" | "out-fill" | "alike" | "unlike" => self.read_reply(rt.alloc(), word, text),
-            "reads" | "writes" | "ends" | "front" => self.read_plan(word, text),
+            "reads" | "writes" | "takes" | "ends" | "front" => self.read_plan(word, text),
             _ => build_with(rt, &mut self.came.body, word, text),
         }
     }
@@ -131,6 +131,7 @@ impl<'a> Visit<'a> {
                 self.plan.most_taken = most;
                 self.plan.writes = writes;
             }
+            "takes" => self.plan.room = text.parse()?,
             "ends" => self.ending = Err(fault_of(text)?),
             _ => self.front = Some(text.parse()?),
         }

@@ -6,13 +6,14 @@ use rd_http::{Broken, Wire};
 use std::alloc::Global;
 
 /// How a connection behaves: how many bytes a read gives at most, and how many reads there are before one
-/// fails; the same of writes.
+/// fails; the same of writes; and how many bytes it takes before a write takes none.
 #[derive(Clone, Copy, PartialEq, Eq)]
 pub(crate) struct Plan {
     pub(crate) most_given: usize,
     pub(crate) reads: usize,
     pub(crate) most_taken: usize,
     pub(crate) writes: usize,
+    pub(crate) room: usize,
 }
 
 /// A connection at which nothing fails.
@@ -21,6 +22,7 @@ pub(crate) const WHOLE: Plan = Plan {
     reads: usize::MAX,
     most_taken: usize::MAX,
     writes: usize::MAX,
+    room: usize::MAX,
 };
 
 /// A connection at which these bytes come.
@@ -74,7 +76,7 @@ impl Wire for Tape<'_> {
     }
 
     fn put(&mut self, bytes: &[u8]) -> Result<usize, Broken> {
-        let count = bytes.len().min(self.plan.most_taken);
+        let count = bytes.len().min(self.plan.most_taken).min(self.plan.room);
         if self.plan.writes == 0
             || count == 0
             || self.out.extend_from_slice(&bytes[..count]).is_err()
@@ -83,6 +85,7 @@ impl Wire for Tape<'_> {
             return Err(Broken);
         }
         self.plan.writes -= 1;
+        self.plan.room -= count;
         Ok(count)
     }
 

@@ -5,6 +5,7 @@ use Rattle.rd_commands.specs.CommandLine.{IsTakenAs}
 use Rattle.rd_commands.specs.Commands.{NamesWhatItShows, TellsARule}
 use Rattle.rd_commands.specs.declared.words.Unread.TheVariants.{Day, NoMemory, Usage}
 use Rattle.rd_commands.proofs.Asked.{GivesRows, ask_given, ask_accession, ask_read, ask_unread, day_mistake, day_no_fault, entered_is, fails_for_memory, names_what_it_shows, never_faulty, no_day, no_fault_in, on_ok_always, passed_on, rule_read, taken_on_output, taken_showing, unnamed, unread_usage, words_at_fault, words_taken}
+use Rattle.rd_commands.proofs.HelpLine.{help_not_parsed, help_unread, not_help}
 use Rattle.rd_commands.proofs.VersionLine.{not_version, version_not_parsed, version_unread}
 use Rattle.rd_commands.proofs.words.read_words.Goals as goal
 
@@ -123,3 +124,15 @@ pub returns-in_err-shown-in-Ok-clause-version : goal.returns-in_err-shown-in-Ok-
 returns-in_err-shown-in-Ok-clause-version c =
     passed_on c.from_residual-in_err-shown-in-Ok.result c.in_err-shown-in-Ok.field-0.0 _ c.from_residual-in_err-shown-in-Ok.ensures.1
     (λ asks. absurd (not_version (app_of c.in_ok-desk.desk) _ c.in_ok-desk.ensures c.in-Ok.ensures.kinds asks))
+
+pub returns-in_ok-shown-in-Ok-clause-help : goal.returns-in_ok-shown-in-Ok-clause-help
+returns-in_ok-shown-in-Ok-clause-help c = help_not_parsed c.ok_or.result _ (app_of c.in_ok-desk.desk) _ c.in_ok-desk.ensures c.in-Ok.ensures.kinds
+
+pub returns-in-Err-clause-help : goal.returns-in-Err-clause-help
+returns-in-Err-clause-help c =
+    help_unread (app_of c.in_ok-desk.desk) _ c.in-Err.error c.from.result c.in_ok-desk.ensures c.in-Err.ensures.kinds c.from.ensures.0 c.from.ensures.1
+
+pub returns-in_err-shown-in-Ok-clause-help : goal.returns-in_err-shown-in-Ok-clause-help
+returns-in_err-shown-in-Ok-clause-help c =
+    passed_on c.from_residual-in_err-shown-in-Ok.result c.in_err-shown-in-Ok.field-0.0 _ c.from_residual-in_err-shown-in-Ok.ensures.1
+    (λ asks. absurd (not_help (app_of c.in_ok-desk.desk) _ c.in_ok-desk.ensures c.in-Ok.ensures.kinds asks))

@@ -4,9 +4,6 @@ use Rattle.rd_protocol.proofs.Reading.{catalogue_names_nothing, question_accepte
 use Rattle.rd_protocol.proofs.Cataloguing.{listings_are}
 use Rattle.rd_desk.proofs.overviews.catalogue.Goals as goal
 
-pub over_all-requires : goal.over_all-requires
-over_all-requires g c = record { none = λ desk. tt }
-
 pub returns : goal.returns
 returns g c = record {
   keeps = search rules;

@@ -4,9 +4,6 @@ use Rattle.rd_protocol.proofs.Reading.{images_name_nothing, question_accepted, q
 use Rattle.rd_protocol.proofs.Selecting.{image_lines_are}
 use Rattle.rd_desk.proofs.overviews.images.Goals as goal
 
-pub over_all-requires : goal.over_all-requires
-over_all-requires g c = record { none = λ desk. refl }
-
 pub returns : goal.returns
 returns g c = record {
   keeps = search rules;

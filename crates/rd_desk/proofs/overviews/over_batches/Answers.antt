@@ -10,7 +10,7 @@ use Rattle.rd_desk.proofs.overviews.over_batches.Goals as goal
 pub loop-at-init : goal.loop-at-init
 loop-at-init g c =
     let d = desk g.S.Store c.args.store.now in
-    record { keeps = search rules; awake = search rules; told = λ o. subst (g.O.Overview.says c.args.overview.now d []) (sym c.new-lines.ensures.items) (c.requires.none d) }
+    record { keeps = search rules; awake = search rules; told = λ o. subst (g.O.Overview.says c.args.overview.now d []) (sym c.new-lines.ensures.items) (g.met.O.Overview.none c.args.overview.now d) }
 
 pub loop-at-preserved : goal.loop-at-preserved
 loop-at-preserved g c = record {

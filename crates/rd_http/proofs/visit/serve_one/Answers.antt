@@ -25,6 +25,6 @@ returns-clause-hidden g c =
     let result = c.serve_visit.result in
     if_told (λ stream. Visits (IsAnswer g.S.Store stream old.store new.store day) old.store new.store before after result)
     (λ stream. Visits (λ text. IsOpen g.S.Store new.store → HidesFromVisitor stream (tables g.S.Store old.store) day text) old.store new.store before after result)
-    (g.W.Wire.incoming c.args.wire.now) (returns-clause-served g c).replied (λ stream visits.
+    (g.W.Wire.incoming c.args.wire.now) (returns-clause-served g c).answered (λ stream visits.
     visits_then (IsAnswer g.S.Store stream old.store new.store day) (λ text. IsOpen g.S.Store new.store → HidesFromVisitor stream (tables g.S.Store old.store) day text) old.store new.store
     (λ text answer. answer_hides g.S.Store old.zone stream old.store new.store day text answer) before after result visits)

@@ -19,7 +19,7 @@ returns-in-Ok-send-clause-served g c =
     let answers = subst (λ day. (stream : List ℕ) → IsReading stream reading → IsAnswer g.S.Store stream old.store new.store day text)
     (to_z-of_z w32 c.in-Ok.day fits ∙ same) c.answer_to-reply.ensures.answers in
     record {
-      replied = sent_whole (λ stream. IsReading stream reading) (λ stream text. IsAnswer g.S.Store stream old.store new.store day text)
+      answered = sent_whole (λ stream. IsReading stream reading) (λ stream text. IsAnswer g.S.Store stream old.store new.store day text)
           old.store new.store text answers
           (g.W.Wire.incoming c.args.wire.now) (g.W.Wire.outgoing c.args.wire.now) (g.W.Wire.outgoing c.read_request.new.wire) (g.W.Wire.outgoing c.send.new.wire)
           c.in-Ok-read_request.ensures.reading c.in-Ok-read_request.ensures.kept c.in-Ok-send.ensures.sends;
@@ -46,7 +46,7 @@ returns-in-Err-clause-served g c =
     let answers = subst (λ day. (stream : List ℕ) → IsReading stream reading → IsAnswer g.S.Store stream old.store new.store day text)
     (to_z-of_z w32 c.in-Ok.day fits ∙ same) c.answer_to-reply.ensures.answers in
     record {
-      replied = sent_cut (λ stream. IsReading stream reading) (λ stream text. IsAnswer g.S.Store stream old.store new.store day text)
+      answered = sent_cut (λ stream. IsReading stream reading) (λ stream text. IsAnswer g.S.Store stream old.store new.store day text)
           old.store new.store text answers
           (g.W.Wire.incoming c.args.wire.now) (g.W.Wire.outgoing c.args.wire.now) (g.W.Wire.outgoing c.read_request.new.wire) (g.W.Wire.outgoing c.send.new.wire)
           c.in-Ok-read_request.ensures.reading c.in-Ok-read_request.ensures.kept c.in-Err.ensures.sends;

@@ -1,21 +1,23 @@
 use Rattle.std.proofs.Common.{◌≡◌, IfErr, IfOk, IfSome, OnOk, Some, codes, inl, option_map, refl, subst, sym}
 use Rattle.std.proofs.lemmas.Result.{IfErr-weaker}
-use Rattle.rd_commands.specs.Asks.{AsksADesk, AsksCheckOf, AsksFile, AsksFiles, AsksNew, AsksOnce, AsksVisits, IsFileAsk, IsFilesAsk, IsInitAsk, IsOnceAsk, IsServeAsk, TellsInRows, TellsOnOutput}
+use Rattle.rd_commands.specs.Asks.{AsksADesk, AsksCheckOf, AsksFile, AsksFiles, AsksNew, AsksVisits, IsFileAsk, IsFilesAsk, IsInitAsk, IsServeAsk, TellsInRows, TellsOnOutput}
 use Rattle.rd_commands.specs.Cat.{Refuses, Serves}
 use Rattle.std.specs.Io.KnownBytes.{Appends}
-use Rattle.rd_program.specs.Leaves.{LeavesBy, LeavesRefused}
+use Rattle.rd_program.specs.Leaves.{LeavesBy, LeavesRefused, StandsThere}
 use Rattle.rd_commands.specs.Listed.{Lists, RefusesList}
 use Rattle.rd_program.specs.Serving.{RefusesServe, serve_text}
 use Rattle.rd_program.proofs.Answered.{once_kept, once_never}
 use Rattle.rd_program.proofs.Imported.{err_whole, ok_whole, whole_is}
 use Rattle.rd_program.proofs.Inited.{at_err_both, left_as, made_as, on_both}
 use Rattle.rd_program.proofs.LeftBy.{no_refusal}
-use Rattle.rd_program.proofs.Showing.{key_there}
+use Rattle.rd_program.proofs.Filed.{stands_nowhere}
 use Rattle.rd_commands.proofs.Ran.{as_asked}
 use Rattle.httparse.specs.Grammar.{trim_ows}
 use Rattle.sha2.specs.Sha256.{sha256}
-use Rattle.rd_program.specs.Showing.{EndsWith, IsDueIn, RefusesShow, ShowsStore, show_request}
-use Rattle.rd_commands.specs.declared.words.Question.TheVariants.{Show}
+use Rattle.std.specs.Prelude.{IsSome}
+use Rattle.rd_program.specs.Filing.{GivesFile, IsOfImage}
+use Rattle.rd_program.specs.Showing.{AnswersBy}
+use Rattle.rd_program.specs.Visiting.{ServesBy}
 use Rattle.rd_commands.specs.declared.done.Done.TheVariants.{InPart}
 use Rattle.rd_program.proofs.dispatch.perform.Goals as goal
 
@@ -282,7 +284,7 @@ returns-in-Once-clause-not_answered g c = λ asked. c.ask_once.ensures.refused
 
 pub returns-in-Serve-clause-leaves : goal.returns-in-Serve-clause-leaves
 returns-in-Serve-clause-leaves g c =
-    subst (LeavesBy g.M.Disk.Store (g.M.Machine.left c.args.machine.now) (g.M.Machine.stands c.args.machine.now) (g.M.Machine.left c.serve.new.machine)) (sym c.in-Serve.is) c.serve.ensures.lasts
+    subst (LeavesBy g.M.Disk.Store (g.M.Machine.clock c.args.machine.now) (g.M.Machine.left c.args.machine.now) (g.M.Machine.stands c.args.machine.now) (g.M.Machine.left c.serve.new.machine)) (sym c.in-Serve.is) c.serve.ensures.lasts
 
 pub returns-in-Serve-clause-leaves_refused : goal.returns-in-Serve-clause-leaves_refused
 returns-in-Serve-clause-leaves_refused g c =
@@ -292,7 +294,7 @@ returns-in-Serve-clause-leaves_refused g c =
 
 pub returns-in-Import-clause-leaves : goal.returns-in-Import-clause-leaves
 returns-in-Import-clause-leaves g c =
-    subst (LeavesBy g.M.Disk.Store (g.M.Machine.left c.args.machine.now) (g.M.Machine.stands c.args.machine.now) (g.M.Machine.left c.import.new.machine)) (sym c.in-Import.is) c.import.ensures.takes
+    subst (LeavesBy g.M.Disk.Store (g.M.Machine.clock c.args.machine.now) (g.M.Machine.left c.args.machine.now) (g.M.Machine.stands c.args.machine.now) (g.M.Machine.left c.import.new.machine)) (sym c.in-Import.is) c.import.ensures.takes
 
 pub returns-in-Import-clause-leaves_refused : goal.returns-in-Import-clause-leaves_refused
 returns-in-Import-clause-leaves_refused g c =
@@ -301,7 +303,7 @@ returns-in-Import-clause-leaves_refused g c =
 
 pub returns-in-Once-clause-leaves : goal.returns-in-Once-clause-leaves
 returns-in-Once-clause-leaves g c =
-    subst (LeavesBy g.M.Disk.Store (g.M.Machine.left c.args.machine.now) (g.M.Machine.stands c.args.machine.now) (g.M.Machine.left c.ask_once.new.machine)) (sym c.in-Once.is) c.ask_once.ensures.steps
+    subst (LeavesBy g.M.Disk.Store (g.M.Machine.clock c.args.machine.now) (g.M.Machine.left c.args.machine.now) (g.M.Machine.stands c.args.machine.now) (g.M.Machine.left c.ask_once.new.machine)) (sym c.in-Once.is) c.ask_once.ensures.steps
 
 pub returns-in-Once-clause-leaves_refused : goal.returns-in-Once-clause-leaves_refused
 returns-in-Once-clause-leaves_refused g c =
@@ -310,7 +312,7 @@ returns-in-Once-clause-leaves_refused g c =
 
 pub returns-in-File-clause-leaves : goal.returns-in-File-clause-leaves
 returns-in-File-clause-leaves g c =
-    subst (LeavesBy g.M.Disk.Store (g.M.Machine.left c.args.machine.now) (g.M.Machine.stands c.args.machine.now) (g.M.Machine.left c.cat.new.machine)) (sym c.in-File.is) tt
+    subst (LeavesBy g.M.Disk.Store (g.M.Machine.clock c.args.machine.now) (g.M.Machine.left c.args.machine.now) (g.M.Machine.stands c.args.machine.now) (g.M.Machine.left c.cat.new.machine)) (sym c.in-File.is) tt
 
 pub returns-in-File-clause-leaves_refused : goal.returns-in-File-clause-leaves_refused
 returns-in-File-clause-leaves_refused g c =
@@ -319,7 +321,7 @@ returns-in-File-clause-leaves_refused g c =
 
 pub returns-in-Files-clause-leaves : goal.returns-in-Files-clause-leaves
 returns-in-Files-clause-leaves g c =
-    subst (LeavesBy g.M.Disk.Store (g.M.Machine.left c.args.machine.now) (g.M.Machine.stands c.args.machine.now) (g.M.Machine.left c.list.new.machine)) (sym c.in-Files.is) tt
+    subst (LeavesBy g.M.Disk.Store (g.M.Machine.clock c.args.machine.now) (g.M.Machine.left c.args.machine.now) (g.M.Machine.stands c.args.machine.now) (g.M.Machine.left c.list.new.machine)) (sym c.in-Files.is) tt
 
 pub returns-in-Files-clause-leaves_refused : goal.returns-in-Files-clause-leaves_refused
 returns-in-Files-clause-leaves_refused g c =
@@ -328,57 +330,159 @@ returns-in-Files-clause-leaves_refused g c =
 
 pub returns-in-Init-clause-leaves : goal.returns-in-Init-clause-leaves
 returns-in-Init-clause-leaves g c =
-    subst (LeavesBy g.M.Disk.Store (g.M.Machine.left c.args.machine.now) (g.M.Machine.stands c.args.machine.now) (g.M.Machine.left c.init.new.machine)) (sym c.in-Init.is) tt
+    subst (LeavesBy g.M.Disk.Store (g.M.Machine.clock c.args.machine.now) (g.M.Machine.left c.args.machine.now) (g.M.Machine.stands c.args.machine.now) (g.M.Machine.left c.init.new.machine)) (sym c.in-Init.is) tt
 
 pub returns-in-Init-clause-leaves_refused : goal.returns-in-Init-clause-leaves_refused
 returns-in-Init-clause-leaves_refused g c =
     subst (λ ask. IfErr c.whole-in-Init.result (LeavesRefused g.M.Disk.Store (g.M.Machine.left c.args.machine.now) (g.M.Machine.stands c.args.machine.now) (g.M.Machine.left c.init.new.machine)
     (g.W.Write.contents c.args.output.now) (g.W.Write.contents c.init.new.output) ask)) (sym c.in-Init.is) (no_refusal c.whole-in-Init.result)
 
-pub returns-in-File-clause-shown : goal.returns-in-File-clause-shown
-returns-in-File-clause-shown g c = λ store key what moment rule asked. absurd (subst (IsOnceAsk store (Some key) (Show what) moment rule) c.in-File.is asked)
+pub returns-in-File-clause-answers : goal.returns-in-File-clause-answers
+returns-in-File-clause-answers g c =
+    subst (λ ask. AnswersBy g.M.Disk.Store (g.M.Machine.clock c.args.machine.now) (g.M.Machine.stands c.args.machine.now) (g.M.Machine.left c.cat.new.machine)
+    (g.W.Write.contents c.args.output.now) (g.W.Write.contents c.cat.new.output) ask c.whole.result) (sym c.in-File.is) tt
 
-pub returns-in-File-clause-not_shown : goal.returns-in-File-clause-not_shown
-returns-in-File-clause-not_shown g c = λ store key what moment rule asked. absurd (subst (IsOnceAsk store (Some key) (Show what) moment rule) c.in-File.is asked)
+pub returns-in-File-clause-of_file : goal.returns-in-File-clause-of_file
+returns-in-File-clause-of_file g c =
+    subst (λ ask. GivesFile (g.M.Files.file_bytes c.args.machine.now) (g.W.Write.contents c.args.output.now) (g.W.Write.contents c.cat.new.output) ask c.whole.result) (sym c.in-File.is) (λ other. record {
+      done = ok_whole _ c.cat.result c.whole.result c.whole.ensures (c.cat.ensures.done_file other);
+      refused = err_whole _ c.cat.result c.whole.result c.whole.ensures (c.cat.ensures.refused_file other);
+    })
 
-pub returns-in-Files-clause-shown : goal.returns-in-Files-clause-shown
-returns-in-Files-clause-shown g c = λ store key what moment rule asked. absurd (subst (IsOnceAsk store (Some key) (Show what) moment rule) c.in-Files.is asked)
+pub returns-in-File-clause-untouched : goal.returns-in-File-clause-untouched
+returns-in-File-clause-untouched g c = λ of. c.cat.ensures.same
 
-pub returns-in-Files-clause-not_shown : goal.returns-in-Files-clause-not_shown
-returns-in-Files-clause-not_shown g c = λ store key what moment rule asked. absurd (subst (IsOnceAsk store (Some key) (Show what) moment rule) c.in-Files.is asked)
+pub returns-in-File-clause-back : goal.returns-in-File-clause-back
+returns-in-File-clause-back g c = λ shows had. subst (λ m. IsSome (g.M.Machine.left m)) (sym c.cat.ensures.same) had
 
-pub returns-in-Init-clause-shown : goal.returns-in-Init-clause-shown
-returns-in-Init-clause-shown g c = λ store key what moment rule asked. absurd (subst (IsOnceAsk store (Some key) (Show what) moment rule) c.in-Init.is asked)
+pub returns-in-File-clause-there : goal.returns-in-File-clause-there
+returns-in-File-clause-there g c =
+    subst (λ ask. OnOk c.whole.result (StandsThere (g.M.Machine.shows c.args.machine.now) (g.M.Machine.stands c.args.machine.now) ask)) (sym c.in-File.is)
+    (stands_nowhere c.whole.result)
 
-pub returns-in-Init-clause-not_shown : goal.returns-in-Init-clause-not_shown
-returns-in-Init-clause-not_shown g c = λ store key what moment rule asked. absurd (subst (IsOnceAsk store (Some key) (Show what) moment rule) c.in-Init.is asked)
+pub returns-in-Files-clause-answers : goal.returns-in-Files-clause-answers
+returns-in-Files-clause-answers g c =
+    subst (λ ask. AnswersBy g.M.Disk.Store (g.M.Machine.clock c.args.machine.now) (g.M.Machine.stands c.args.machine.now) (g.M.Machine.left c.list.new.machine)
+    (g.W.Write.contents c.args.output.now) (g.W.Write.contents c.list.new.output) ask c.whole-in-Files.result) (sym c.in-Files.is) tt
 
-pub returns-in-Serve-clause-shown : goal.returns-in-Serve-clause-shown
-returns-in-Serve-clause-shown g c = λ store key what moment rule asked. absurd (subst (IsOnceAsk store (Some key) (Show what) moment rule) c.in-Serve.is asked)
+pub returns-in-Files-clause-of_file : goal.returns-in-Files-clause-of_file
+returns-in-Files-clause-of_file g c =
+    subst (λ ask. GivesFile (g.M.Files.file_bytes c.args.machine.now) (g.W.Write.contents c.args.output.now) (g.W.Write.contents c.list.new.output) ask c.whole-in-Files.result) (sym c.in-Files.is) (λ other. record {
+      done = ok_whole _ c.list.result c.whole-in-Files.result c.whole-in-Files.ensures (c.list.ensures.done_file other);
+      refused = err_whole _ c.list.result c.whole-in-Files.result c.whole-in-Files.ensures (c.list.ensures.refused_file other);
+    })
 
-pub returns-in-Serve-clause-not_shown : goal.returns-in-Serve-clause-not_shown
-returns-in-Serve-clause-not_shown g c = λ store key what moment rule asked. absurd (subst (IsOnceAsk store (Some key) (Show what) moment rule) c.in-Serve.is asked)
+pub returns-in-Files-clause-untouched : goal.returns-in-Files-clause-untouched
+returns-in-Files-clause-untouched g c = λ of. c.list.ensures.same
 
-pub returns-in-Import-clause-shown : goal.returns-in-Import-clause-shown
-returns-in-Import-clause-shown g c = λ store key what moment rule asked. absurd (subst (IsOnceAsk store (Some key) (Show what) moment rule) c.in-Import.is asked)
+pub returns-in-Files-clause-back : goal.returns-in-Files-clause-back
+returns-in-Files-clause-back g c = λ shows had. subst (λ m. IsSome (g.M.Machine.left m)) (sym c.list.ensures.same) had
 
-pub returns-in-Import-clause-not_shown : goal.returns-in-Import-clause-not_shown
-returns-in-Import-clause-not_shown g c = λ store key what moment rule asked. absurd (subst (IsOnceAsk store (Some key) (Show what) moment rule) c.in-Import.is asked)
+pub returns-in-Files-clause-there : goal.returns-in-Files-clause-there
+returns-in-Files-clause-there g c =
+    subst (λ ask. OnOk c.whole-in-Files.result (StandsThere (g.M.Machine.shows c.args.machine.now) (g.M.Machine.stands c.args.machine.now) ask)) (sym c.in-Files.is)
+    (stands_nowhere c.whole-in-Files.result)
 
-pub returns-in-Once-clause-shown : goal.returns-in-Once-clause-shown
-returns-in-Once-clause-shown g c = λ store key what moment rule asked.
-    let asks : AsksOnce c.in-Once.ask store (Some key) (Show what) moment rule = subst (IsOnceAsk store (Some key) (Show what) moment rule) c.in-Once.is asked in
-    subst (λ s. OnOk c.ask_once.result (EndsWith (g.M.Machine.stands c.args.machine.now s) (g.M.Machine.left c.ask_once.new.machine)
-    (ShowsStore g.M.Disk.Store (show_request (Some (sha256 (trim_ows key))) what) (g.W.Write.contents c.args.output.now) (g.W.Write.contents c.ask_once.new.output)))) asks.store_is
-    (subst (λ k. OnOk c.ask_once.result (EndsWith (g.M.Machine.stands c.args.machine.now c.in-Once.ask.store.now) (g.M.Machine.left c.ask_once.new.machine)
-    (ShowsStore g.M.Disk.Store (show_request (option_map sha256 k) what) (g.W.Write.contents c.args.output.now) (g.W.Write.contents c.ask_once.new.output)))) asks.key_is
-    (c.ask_once.ensures.shown what asks.question_is))
+pub returns-in-Init-clause-answers : goal.returns-in-Init-clause-answers
+returns-in-Init-clause-answers g c =
+    subst (λ ask. AnswersBy g.M.Disk.Store (g.M.Machine.clock c.args.machine.now) (g.M.Machine.stands c.args.machine.now) (g.M.Machine.left c.init.new.machine)
+    (g.W.Write.contents c.args.output.now) (g.W.Write.contents c.init.new.output) ask c.whole-in-Init.result) (sym c.in-Init.is) tt
 
-pub returns-in-Once-clause-not_shown : goal.returns-in-Once-clause-not_shown
-returns-in-Once-clause-not_shown g c = λ store key what moment rule asked.
-    let asks : AsksOnce c.in-Once.ask store (Some key) (Show what) moment rule = subst (IsOnceAsk store (Some key) (Show what) moment rule) c.in-Once.is asked in
-    subst (λ s. IfErr c.ask_once.result (λ refusal. RefusesShow (g.W.Write.contents c.args.output.now) (g.W.Write.contents c.ask_once.new.output) refusal
-    × IsDueIn g.M.Disk.Store (show_request (Some (sha256 (trim_ows key))) what) (g.M.Machine.stands c.args.machine.now s) (g.M.Machine.left c.ask_once.new.machine) refusal)) asks.store_is
-    (subst (λ k. IfErr c.ask_once.result (λ refusal. RefusesShow (g.W.Write.contents c.args.output.now) (g.W.Write.contents c.ask_once.new.output) refusal
-    × IsDueIn g.M.Disk.Store (show_request (option_map sha256 k) what) (g.M.Machine.stands c.args.machine.now c.in-Once.ask.store.now) (g.M.Machine.left c.ask_once.new.machine) refusal)) asks.key_is
-    (c.ask_once.ensures.not_shown what asks.question_is (key_there c.in-Once.ask.key (Some key) asks.key_is refl)))
+pub returns-in-Init-clause-of_file : goal.returns-in-Init-clause-of_file
+returns-in-Init-clause-of_file g c =
+    subst (λ ask. GivesFile (g.M.Files.file_bytes c.args.machine.now) (g.W.Write.contents c.args.output.now) (g.W.Write.contents c.init.new.output) ask c.whole-in-Init.result) (sym c.in-Init.is) tt
+
+pub returns-in-Init-clause-untouched : goal.returns-in-Init-clause-untouched
+returns-in-Init-clause-untouched g c = λ of. absurd (subst IsOfImage c.in-Init.is of)
+
+pub returns-in-Init-clause-there : goal.returns-in-Init-clause-there
+returns-in-Init-clause-there g c =
+    subst (λ ask. OnOk c.whole-in-Init.result (StandsThere (g.M.Machine.shows c.args.machine.now) (g.M.Machine.stands c.args.machine.now) ask)) (sym c.in-Init.is)
+    (ok_whole _ c.init.result c.whole-in-Init.result c.whole-in-Init.ensures c.init.ensures.there)
+
+pub returns-in-Serve-clause-answers : goal.returns-in-Serve-clause-answers
+returns-in-Serve-clause-answers g c =
+    subst (λ ask. AnswersBy g.M.Disk.Store (g.M.Machine.clock c.args.machine.now) (g.M.Machine.stands c.args.machine.now) (g.M.Machine.left c.serve.new.machine)
+    (g.W.Write.contents c.args.output.now) (g.W.Write.contents c.serve.new.output) ask c.whole-in-Serve.result) (sym c.in-Serve.is) tt
+
+pub returns-in-Serve-clause-of_file : goal.returns-in-Serve-clause-of_file
+returns-in-Serve-clause-of_file g c =
+    subst (λ ask. GivesFile (g.M.Files.file_bytes c.args.machine.now) (g.W.Write.contents c.args.output.now) (g.W.Write.contents c.serve.new.output) ask c.whole-in-Serve.result) (sym c.in-Serve.is) tt
+
+pub returns-in-Serve-clause-untouched : goal.returns-in-Serve-clause-untouched
+returns-in-Serve-clause-untouched g c = λ of. absurd (subst IsOfImage c.in-Serve.is of)
+
+pub returns-in-Serve-clause-there : goal.returns-in-Serve-clause-there
+returns-in-Serve-clause-there g c =
+    subst (λ ask. OnOk c.whole-in-Serve.result (StandsThere (g.M.Machine.shows c.args.machine.now) (g.M.Machine.stands c.args.machine.now) ask)) (sym c.in-Serve.is)
+    (ok_whole _ c.serve.result c.whole-in-Serve.result c.whole-in-Serve.ensures c.serve.ensures.there)
+
+pub returns-in-Import-clause-answers : goal.returns-in-Import-clause-answers
+returns-in-Import-clause-answers g c =
+    subst (λ ask. AnswersBy g.M.Disk.Store (g.M.Machine.clock c.args.machine.now) (g.M.Machine.stands c.args.machine.now) (g.M.Machine.left c.import.new.machine)
+    (g.W.Write.contents c.args.output.now) (g.W.Write.contents c.import.new.output) ask c.import.result) (sym c.in-Import.is) tt
+
+pub returns-in-Import-clause-of_file : goal.returns-in-Import-clause-of_file
+returns-in-Import-clause-of_file g c =
+    subst (λ ask. GivesFile (g.M.Files.file_bytes c.args.machine.now) (g.W.Write.contents c.args.output.now) (g.W.Write.contents c.import.new.output) ask c.import.result) (sym c.in-Import.is) tt
+
+pub returns-in-Import-clause-untouched : goal.returns-in-Import-clause-untouched
+returns-in-Import-clause-untouched g c = λ of. absurd (subst IsOfImage c.in-Import.is of)
+
+pub returns-in-Import-clause-there : goal.returns-in-Import-clause-there
+returns-in-Import-clause-there g c =
+    subst (λ ask. OnOk c.import.result (StandsThere (g.M.Machine.shows c.args.machine.now) (g.M.Machine.stands c.args.machine.now) ask)) (sym c.in-Import.is)
+    c.import.ensures.there
+
+pub returns-in-Once-clause-answers : goal.returns-in-Once-clause-answers
+returns-in-Once-clause-answers g c =
+    subst (λ ask. AnswersBy g.M.Disk.Store (g.M.Machine.clock c.args.machine.now) (g.M.Machine.stands c.args.machine.now) (g.M.Machine.left c.ask_once.new.machine)
+    (g.W.Write.contents c.args.output.now) (g.W.Write.contents c.ask_once.new.output) ask c.ask_once.result) (sym c.in-Once.is) c.ask_once.ensures.answers
+
+pub returns-in-Once-clause-of_file : goal.returns-in-Once-clause-of_file
+returns-in-Once-clause-of_file g c =
+    subst (λ ask. GivesFile (g.M.Files.file_bytes c.args.machine.now) (g.W.Write.contents c.args.output.now) (g.W.Write.contents c.ask_once.new.output) ask c.ask_once.result) (sym c.in-Once.is) tt
+
+pub returns-in-Once-clause-untouched : goal.returns-in-Once-clause-untouched
+returns-in-Once-clause-untouched g c = λ of. absurd (subst IsOfImage c.in-Once.is of)
+
+pub returns-in-Once-clause-there : goal.returns-in-Once-clause-there
+returns-in-Once-clause-there g c =
+    subst (λ ask. OnOk c.ask_once.result (StandsThere (g.M.Machine.shows c.args.machine.now) (g.M.Machine.stands c.args.machine.now) ask)) (sym c.in-Once.is)
+    c.ask_once.ensures.there
+
+pub returns-in-File-clause-serves : goal.returns-in-File-clause-serves
+returns-in-File-clause-serves g c =
+    subst (λ ask. OnOk c.whole.result (ServesBy g.M.Disk.Store g.M.Door.Door.told g.M.Door.Door.coming (g.M.Machine.door c.args.machine.now) (g.M.Machine.door c.cat.new.machine)
+    (g.M.Machine.stands c.args.machine.now) (g.M.Machine.left c.cat.new.machine) ask)) (sym c.in-File.is)
+    (stands_nowhere c.whole.result)
+
+pub returns-in-Files-clause-serves : goal.returns-in-Files-clause-serves
+returns-in-Files-clause-serves g c =
+    subst (λ ask. OnOk c.whole-in-Files.result (ServesBy g.M.Disk.Store g.M.Door.Door.told g.M.Door.Door.coming (g.M.Machine.door c.args.machine.now) (g.M.Machine.door c.list.new.machine)
+    (g.M.Machine.stands c.args.machine.now) (g.M.Machine.left c.list.new.machine) ask)) (sym c.in-Files.is)
+    (stands_nowhere c.whole-in-Files.result)
+
+pub returns-in-Init-clause-serves : goal.returns-in-Init-clause-serves
+returns-in-Init-clause-serves g c =
+    subst (λ ask. OnOk c.whole-in-Init.result (ServesBy g.M.Disk.Store g.M.Door.Door.told g.M.Door.Door.coming (g.M.Machine.door c.args.machine.now) (g.M.Machine.door c.init.new.machine)
+    (g.M.Machine.stands c.args.machine.now) (g.M.Machine.left c.init.new.machine) ask)) (sym c.in-Init.is)
+    (stands_nowhere c.whole-in-Init.result)
+
+pub returns-in-Serve-clause-serves : goal.returns-in-Serve-clause-serves
+returns-in-Serve-clause-serves g c =
+    subst (λ ask. OnOk c.whole-in-Serve.result (ServesBy g.M.Disk.Store g.M.Door.Door.told g.M.Door.Door.coming (g.M.Machine.door c.args.machine.now) (g.M.Machine.door c.serve.new.machine)
+    (g.M.Machine.stands c.args.machine.now) (g.M.Machine.left c.serve.new.machine) ask)) (sym c.in-Serve.is)
+    (ok_whole _ c.serve.result c.whole-in-Serve.result c.whole-in-Serve.ensures c.serve.ensures.visits)
+
+pub returns-in-Import-clause-serves : goal.returns-in-Import-clause-serves
+returns-in-Import-clause-serves g c =
+    subst (λ ask. OnOk c.import.result (ServesBy g.M.Disk.Store g.M.Door.Door.told g.M.Door.Door.coming (g.M.Machine.door c.args.machine.now) (g.M.Machine.door c.import.new.machine)
+    (g.M.Machine.stands c.args.machine.now) (g.M.Machine.left c.import.new.machine) ask)) (sym c.in-Import.is)
+    (stands_nowhere c.import.result)
+
+pub returns-in-Once-clause-serves : goal.returns-in-Once-clause-serves
+returns-in-Once-clause-serves g c =
+    subst (λ ask. OnOk c.ask_once.result (ServesBy g.M.Disk.Store g.M.Door.Door.told g.M.Door.Door.coming (g.M.Machine.door c.args.machine.now) (g.M.Machine.door c.ask_once.new.machine)
+    (g.M.Machine.stands c.args.machine.now) (g.M.Machine.left c.ask_once.new.machine) ask)) (sym c.in-Once.is)
+    (stands_nowhere c.ask_once.result)

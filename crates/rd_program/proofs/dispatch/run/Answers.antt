@@ -1,4 +1,4 @@
-use Rattle.std.proofs.Common.{◌≡◌, ◌∙◌, Some, arith, codes, inl, inr, refl, subst, sym}
+use Rattle.std.proofs.Common.{◌≡◌, ◌∙◌, Err, Ok, Some, arith, codes, inl, inr, refl, subst, sym}
 use Rattle.std.specs.Prelude.{⊤}
 use Rattle.rd_program.specs.Asking.{TellsCheck}
 use Rattle.rd_commands.specs.Input.{ReadsUpTo}
@@ -8,12 +8,21 @@ use Rattle.rd_commands.specs.RefusalLines.{Tells}
 use Rattle.rd_commands.specs.Versions.{RefusesVersion}
 use Rattle.rd_commands.specs.declared.refusal.Refusal.TheVariants.{NoMemory}
 use Rattle.rd_commands.specs.declared.words.Question.TheVariants.{Catalogue, Check, Show}
+use Rattle.httparse.specs.Grammar.{trim_ows}
+use Rattle.sha2.specs.Sha256.{sha256}
+use Rattle.rd_protocol.specs.declared.request.What.TheVariants as request
+use Rattle.rd_commands.specs.Refusals.{IsOfDevice}
+use Rattle.rd_program.specs.Leaves.{IsDayBy, moment_of}
+use Rattle.rd_program.specs.Showing.{EndsWith, FindsStore, found_by, what_of}
+use Rattle.rd_commands.proofs.HelpLine.{help_not_taken}
+use Rattle.rd_program.proofs.Visiting.{serves_by}
+use Rattle.rd_program.proofs.Filed.{files_done, help_told, of_image, one_file_done}
 use Rattle.rd_commands.proofs.Asked.{help_asked, no_fault_in}
 use Rattle.std.proofs.KnownBytes.{Keeps-refl}
-use Rattle.rd_program.proofs.Answered.{check_asks, check_of_desk, export_asks, export_is_whole, show_is_whole}
+use Rattle.rd_program.proofs.Answered.{check_asks, check_of_desk, export_is_whole, show_is_whole}
 use Rattle.rd_program.proofs.Imported.{done_lines, import_tells, in_part_is_one, not_in_rows, one_is_some, rows_of, rows_tell}
 use Rattle.rd_program.proofs.Left.{none_still, still_left}
-use Rattle.rd_program.proofs.Showing.{memory_no_accession}
+use Rattle.rd_program.proofs.Showing.{memory_no_accession, once_due, once_finds, once_not_shown, once_shows}
 use Rattle.rd_program.proofs.LeftBy.{import_leaves, import_names, once_leaves, once_names, serve_leaves, serve_refused}
 use Rattle.rd_commands.proofs.Ran.{is_cut, kept_is_cut, no_sound_file, not_done, of_all, of_known, reads_few, reads_no_input, reads_of_kind, tells}
 use Rattle.rd_commands.proofs.ReadUpTo.{reads_none, reads_within}
@@ -189,7 +198,7 @@ returns-in-Err-perform-clause-serve_told g c = λ some store port count rule ask
     let asks = c.in-Ok.ensures.read.serve store port count rule asked in
     tells _ c.in-Err-perform.refused _ _ _ (
       c.in-Err-perform.ensures.not_served store port count rule asks,
-      serve_refused g.M.Disk.Store (g.M.Machine.left c.args.machine.now) (g.M.Machine.stands c.args.machine.now) (g.M.Machine.left c.perform.new.machine)
+      serve_refused g.M.Disk.Store (g.M.Machine.clock c.args.machine.now) (g.M.Machine.left c.args.machine.now) (g.M.Machine.stands c.args.machine.now) (g.M.Machine.left c.perform.new.machine)
           c.in-Ok.ask store port count rule (g.W.Write.contents c.args.output.now) (g.W.Write.contents c.perform.new.output) c.in-Err-perform.refused asks c.in-Err-perform.ensures.leaves_refused,
     )
     c.tell_refusal.ensures.status c.tell_refusal.ensures.told
@@ -280,7 +289,7 @@ returns-in-Err-perform-clause-imported g c = λ zero. absurd (not_done c.in-Err-
 
 pub returns-in-Err-perform-clause-import_told : goal.returns-in-Err-perform-clause-import_told
 returns-in-Err-perform-clause-import_told g c = λ some store key sheet moment rule asks.
-    let names = import_names g.M.Disk.Store (g.M.Machine.left c.args.machine.now) (g.M.Machine.stands c.args.machine.now) (g.M.Machine.left c.perform.new.machine)
+    let names = import_names g.M.Disk.Store (g.M.Machine.clock c.args.machine.now) (g.M.Machine.left c.args.machine.now) (g.M.Machine.stands c.args.machine.now) (g.M.Machine.left c.perform.new.machine)
     c.in-Ok.ask store key sheet moment rule (g.W.Write.contents c.args.output.now) (g.W.Write.contents c.perform.new.output) c.in-Err-perform.refused (c.in-Ok.ensures.read.import store key sheet moment rule asks) c.in-Err-perform.ensures.leaves_refused in
     inr (tells _ c.in-Err-perform.refused _ _ _
     (c.in-Err-perform.ensures.not_imported (import_tells _ c.in-Ok.ask c.in-Ok.ensures.read (store, key, sheet, moment, rule, asks)), names)
@@ -305,11 +314,17 @@ returns-in-Ok-perform-clause-sound g c = λ zero acc asks.
 
 pub returns-in-Ok-perform-clause-check_told : goal.returns-in-Ok-perform-clause-check_told
 returns-in-Ok-perform-clause-check_told g c = λ some store key acc moment rule asks.
+    let found = once_finds g.M.Disk.Store (g.M.Machine.clock c.args.machine.now) (g.M.Machine.stands c.args.machine.now) (g.M.Machine.left c.perform.new.machine)
+    (g.W.Write.contents c.args.output.now) (g.W.Write.contents c.perform.new.output) (Ok c.in-Ok-perform.done)
+    store (Some key) acc moment rule c.in-Ok.ask (c.in-Ok.ensures.read.check store key acc moment rule asks) c.in-Ok-perform.ensures.answers in
     inl (
       in_part_is_one _ c.status.ensures.most some,
       Keeps-refl _,
       subst (TellsCheck acc _ _) (c.status.ensures.in_part some)
           (c.in-Ok-perform.ensures.checked acc (check_asks _ acc c.in-Ok.ask c.in-Ok.ensures.read (store, key, moment, rule, asks))),
+      subst (λ done. EndsWith (g.M.Machine.stands c.args.machine.now store) (g.M.Machine.left c.perform.new.machine)
+          (FindsStore g.M.Disk.Store (IsDayBy (moment_of moment (g.M.Machine.clock c.args.machine.now)) rule) (Some (sha256 (trim_ows key))) acc (found_by done)))
+          (c.status.ensures.in_part some) found,
     )
 
 pub returns-in-Ok-perform-clause-export_told : goal.returns-in-Ok-perform-clause-export_told
@@ -322,16 +337,29 @@ returns-in-Err-perform-clause-sound g c = λ zero. absurd (not_done c.in-Err-per
 pub returns-in-Err-perform-clause-check_told : goal.returns-in-Err-perform-clause-check_told
 returns-in-Err-perform-clause-check_told g c = λ some store key acc moment rule asks.
     let asked = check_of_desk acc c.in-Ok.ask (check_asks _ acc c.in-Ok.ask c.in-Ok.ensures.read (store, key, moment, rule, asks)) in
-    let names = once_names g.M.Disk.Store (g.M.Machine.left c.args.machine.now) (g.M.Machine.stands c.args.machine.now) (g.M.Machine.left c.perform.new.machine)
-    c.in-Ok.ask store (Some key) (Check acc) moment rule (g.W.Write.contents c.args.output.now) (g.W.Write.contents c.perform.new.output) c.in-Err-perform.refused (c.in-Ok.ensures.read.check store key acc moment rule asks) c.in-Err-perform.ensures.leaves_refused in
-    inr (tells _ c.in-Err-perform.refused _ _ _ (c.in-Err-perform.ensures.not_answered asked, names) c.tell_refusal.ensures.status c.tell_refusal.ensures.told)
+    let read = c.in-Ok.ensures.read.check store key acc moment rule asks in
+    let names = once_names g.M.Disk.Store (g.M.Machine.clock c.args.machine.now) (g.M.Machine.left c.args.machine.now) (g.M.Machine.stands c.args.machine.now) (g.M.Machine.left c.perform.new.machine)
+    c.in-Ok.ask store (Some key) (Check acc) moment rule (g.W.Write.contents c.args.output.now) (g.W.Write.contents c.perform.new.output) c.in-Err-perform.refused read c.in-Err-perform.ensures.leaves_refused in
+    let due = once_due g.M.Disk.Store (g.M.Machine.clock c.args.machine.now) (g.M.Machine.stands c.args.machine.now) (g.M.Machine.left c.perform.new.machine)
+    (g.W.Write.contents c.args.output.now) (g.W.Write.contents c.perform.new.output) (Err c.in-Err-perform.refused)
+    store (Some key) (Check acc) moment rule c.in-Ok.ask read c.in-Err-perform.ensures.answers refl in
+    inr (tells _ c.in-Err-perform.refused _ _ _ (c.in-Err-perform.ensures.not_answered asked, names, due) c.tell_refusal.ensures.status c.tell_refusal.ensures.told)
 
 pub returns-in-Err-perform-clause-export_told : goal.returns-in-Err-perform-clause-export_told
 returns-in-Err-perform-clause-export_told g c = λ some store key moment rule asks.
-    let asked = export_asks _ c.in-Ok.ask c.in-Ok.ensures.read (store, key, moment, rule, asks) in
-    let names = once_names g.M.Disk.Store (g.M.Machine.left c.args.machine.now) (g.M.Machine.stands c.args.machine.now) (g.M.Machine.left c.perform.new.machine)
-    c.in-Ok.ask store key Catalogue moment rule (g.W.Write.contents c.args.output.now) (g.W.Write.contents c.perform.new.output) c.in-Err-perform.refused (c.in-Ok.ensures.read.export store key moment rule asks) c.in-Err-perform.ensures.leaves_refused in
-    tells _ c.in-Err-perform.refused _ _ _ (c.in-Err-perform.ensures.not_answered asked, names) c.tell_refusal.ensures.status c.tell_refusal.ensures.told
+    let read = c.in-Ok.ensures.read.export store key moment rule asks in
+    let names = once_names g.M.Disk.Store (g.M.Machine.clock c.args.machine.now) (g.M.Machine.left c.args.machine.now) (g.M.Machine.stands c.args.machine.now) (g.M.Machine.left c.perform.new.machine)
+    c.in-Ok.ask store key Catalogue moment rule (g.W.Write.contents c.args.output.now) (g.W.Write.contents c.perform.new.output) c.in-Err-perform.refused read c.in-Err-perform.ensures.leaves_refused in
+    let why = once_not_shown g.M.Disk.Store (g.M.Machine.clock c.args.machine.now) (g.M.Machine.stands c.args.machine.now) (g.M.Machine.left c.perform.new.machine)
+    (g.W.Write.contents c.args.output.now) (g.W.Write.contents c.perform.new.output) (Err c.in-Err-perform.refused)
+    store key Catalogue moment rule c.in-Ok.ask read c.in-Err-perform.ensures.answers request.Catalogue refl in
+    tells _ c.in-Err-perform.refused _ _ _ (
+      why,
+      names,
+      once_due g.M.Disk.Store (g.M.Machine.clock c.args.machine.now) (g.M.Machine.stands c.args.machine.now) (g.M.Machine.left c.perform.new.machine)
+          (g.W.Write.contents c.args.output.now) (g.W.Write.contents c.perform.new.output) (Err c.in-Err-perform.refused)
+          store key Catalogue moment rule c.in-Ok.ask read c.in-Err-perform.ensures.answers,
+    ) c.tell_refusal.ensures.status c.tell_refusal.ensures.told
 
 pub returns-in-Err-clause-sound : goal.returns-in-Err-clause-sound
 returns-in-Err-clause-sound g c = λ zero acc asks.
@@ -342,13 +370,13 @@ pub returns-in-Err-clause-check_told : goal.returns-in-Err-clause-check_told
 returns-in-Err-clause-check_told g c = λ some store key acc moment rule asks.
     let none = c.in-Err.ensures.unread (inr (inr (inr (inr (inr (inr (inl (acc, (store, key, moment, rule, asks))))))))) in
     let memory = c.tell_unread.ensures.memory none in
-    inr (tells _ NoMemory _ _ _ (inl (inr (inl (inr refl)), memory.1), tt) memory.0 (c.tell_unread.ensures.no_memory none))
+    inr (tells _ NoMemory _ _ _ (inl (inr (inl (inr refl)), memory.1), tt, tt) memory.0 (c.tell_unread.ensures.no_memory none))
 
 pub returns-in-Err-clause-export_told : goal.returns-in-Err-clause-export_told
 returns-in-Err-clause-export_told g c = λ some store key moment rule asks.
     let none = c.in-Err.ensures.unread (inr (inr (inr (inr (inr (inl (store, key, moment, rule, asks))))))) in
     let memory = c.tell_unread.ensures.memory none in
-    tells _ NoMemory _ _ _ (inl (inr (inl (inr refl)), memory.1), tt) memory.0 (c.tell_unread.ensures.no_memory none)
+    tells _ NoMemory _ _ _ ((inl (inr (inl (inr refl)), memory.1), memory_no_accession), tt, λ there. tt) memory.0 (c.tell_unread.ensures.no_memory none)
 
 -- ---- the version
 
@@ -412,42 +440,42 @@ returns-in-Err-clause-no_rule g c = λ none. elim (c.in-Err.ensures.no_rule none
 
 pub returns-in-Ok-perform-clause-serve_leaves : goal.returns-in-Ok-perform-clause-serve_leaves
 returns-in-Ok-perform-clause-serve_leaves g c = λ store port count rule asked.
-    serve_leaves g.M.Disk.Store (g.M.Machine.left c.args.machine.now) (g.M.Machine.stands c.args.machine.now) (g.M.Machine.left c.perform.new.machine)
+    serve_leaves g.M.Disk.Store (g.M.Machine.clock c.args.machine.now) (g.M.Machine.left c.args.machine.now) (g.M.Machine.stands c.args.machine.now) (g.M.Machine.left c.perform.new.machine)
     c.in-Ok.ask store port count rule (c.in-Ok.ensures.read.serve store port count rule asked) c.perform.ensures.leaves
 
 pub returns-in-Ok-perform-clause-import_leaves : goal.returns-in-Ok-perform-clause-import_leaves
 returns-in-Ok-perform-clause-import_leaves g c = λ store key sheet moment rule asked.
-    import_leaves g.M.Disk.Store (g.M.Machine.left c.args.machine.now) (g.M.Machine.stands c.args.machine.now) (g.M.Machine.left c.perform.new.machine)
+    import_leaves g.M.Disk.Store (g.M.Machine.clock c.args.machine.now) (g.M.Machine.left c.args.machine.now) (g.M.Machine.stands c.args.machine.now) (g.M.Machine.left c.perform.new.machine)
     c.in-Ok.ask store key sheet moment rule (c.in-Ok.ensures.read.import store key sheet moment rule asked) c.perform.ensures.leaves
 
 pub returns-in-Ok-perform-clause-check_leaves : goal.returns-in-Ok-perform-clause-check_leaves
 returns-in-Ok-perform-clause-check_leaves g c = λ store key acc moment rule asked.
-    once_leaves g.M.Disk.Store (g.M.Machine.left c.args.machine.now) (g.M.Machine.stands c.args.machine.now) (g.M.Machine.left c.perform.new.machine)
+    once_leaves g.M.Disk.Store (g.M.Machine.clock c.args.machine.now) (g.M.Machine.left c.args.machine.now) (g.M.Machine.stands c.args.machine.now) (g.M.Machine.left c.perform.new.machine)
     c.in-Ok.ask store (Some key) (Check acc) moment rule (c.in-Ok.ensures.read.check store key acc moment rule asked) c.perform.ensures.leaves
 
 pub returns-in-Ok-perform-clause-export_leaves : goal.returns-in-Ok-perform-clause-export_leaves
 returns-in-Ok-perform-clause-export_leaves g c = λ store key moment rule asked.
-    once_leaves g.M.Disk.Store (g.M.Machine.left c.args.machine.now) (g.M.Machine.stands c.args.machine.now) (g.M.Machine.left c.perform.new.machine)
+    once_leaves g.M.Disk.Store (g.M.Machine.clock c.args.machine.now) (g.M.Machine.left c.args.machine.now) (g.M.Machine.stands c.args.machine.now) (g.M.Machine.left c.perform.new.machine)
     c.in-Ok.ask store key Catalogue moment rule (c.in-Ok.ensures.read.export store key moment rule asked) c.perform.ensures.leaves
 
 pub returns-in-Err-perform-clause-serve_leaves : goal.returns-in-Err-perform-clause-serve_leaves
 returns-in-Err-perform-clause-serve_leaves g c = λ store port count rule asked.
-    serve_leaves g.M.Disk.Store (g.M.Machine.left c.args.machine.now) (g.M.Machine.stands c.args.machine.now) (g.M.Machine.left c.perform.new.machine)
+    serve_leaves g.M.Disk.Store (g.M.Machine.clock c.args.machine.now) (g.M.Machine.left c.args.machine.now) (g.M.Machine.stands c.args.machine.now) (g.M.Machine.left c.perform.new.machine)
     c.in-Ok.ask store port count rule (c.in-Ok.ensures.read.serve store port count rule asked) c.perform.ensures.leaves
 
 pub returns-in-Err-perform-clause-import_leaves : goal.returns-in-Err-perform-clause-import_leaves
 returns-in-Err-perform-clause-import_leaves g c = λ store key sheet moment rule asked.
-    import_leaves g.M.Disk.Store (g.M.Machine.left c.args.machine.now) (g.M.Machine.stands c.args.machine.now) (g.M.Machine.left c.perform.new.machine)
+    import_leaves g.M.Disk.Store (g.M.Machine.clock c.args.machine.now) (g.M.Machine.left c.args.machine.now) (g.M.Machine.stands c.args.machine.now) (g.M.Machine.left c.perform.new.machine)
     c.in-Ok.ask store key sheet moment rule (c.in-Ok.ensures.read.import store key sheet moment rule asked) c.perform.ensures.leaves
 
 pub returns-in-Err-perform-clause-check_leaves : goal.returns-in-Err-perform-clause-check_leaves
 returns-in-Err-perform-clause-check_leaves g c = λ store key acc moment rule asked.
-    once_leaves g.M.Disk.Store (g.M.Machine.left c.args.machine.now) (g.M.Machine.stands c.args.machine.now) (g.M.Machine.left c.perform.new.machine)
+    once_leaves g.M.Disk.Store (g.M.Machine.clock c.args.machine.now) (g.M.Machine.left c.args.machine.now) (g.M.Machine.stands c.args.machine.now) (g.M.Machine.left c.perform.new.machine)
     c.in-Ok.ask store (Some key) (Check acc) moment rule (c.in-Ok.ensures.read.check store key acc moment rule asked) c.perform.ensures.leaves
 
 pub returns-in-Err-perform-clause-export_leaves : goal.returns-in-Err-perform-clause-export_leaves
 returns-in-Err-perform-clause-export_leaves g c = λ store key moment rule asked.
-    once_leaves g.M.Disk.Store (g.M.Machine.left c.args.machine.now) (g.M.Machine.stands c.args.machine.now) (g.M.Machine.left c.perform.new.machine)
+    once_leaves g.M.Disk.Store (g.M.Machine.clock c.args.machine.now) (g.M.Machine.left c.args.machine.now) (g.M.Machine.stands c.args.machine.now) (g.M.Machine.left c.perform.new.machine)
     c.in-Ok.ask store key Catalogue moment rule (c.in-Ok.ensures.read.export store key moment rule asked) c.perform.ensures.leaves
 
 pub returns-in-Err-clause-serve_leaves : goal.returns-in-Err-clause-serve_leaves
@@ -466,7 +494,9 @@ returns-in-Err-clause-export_leaves g c = λ store key moment rule asked. still_
 
 pub returns-in-Ok-perform-clause-shown : goal.returns-in-Ok-perform-clause-shown
 returns-in-Ok-perform-clause-shown g c = λ zero store key what moment rule asked.
-    c.in-Ok-perform.ensures.shown store key what moment rule (c.in-Ok.ensures.read.show store key what moment rule asked)
+    once_shows g.M.Disk.Store (g.M.Machine.clock c.args.machine.now) (g.M.Machine.stands c.args.machine.now) (g.M.Machine.left c.perform.new.machine)
+    (g.W.Write.contents c.args.output.now) (g.W.Write.contents c.perform.new.output) (Ok c.in-Ok-perform.done)
+    store (Some key) (Show what) moment rule c.in-Ok.ask (c.in-Ok.ensures.read.show store key what moment rule asked) c.in-Ok-perform.ensures.answers (what_of what) refl
 
 pub returns-in-Ok-perform-clause-show_refused : goal.returns-in-Ok-perform-clause-show_refused
 returns-in-Ok-perform-clause-show_refused g c = λ some store key what moment rule asked.
@@ -478,10 +508,15 @@ returns-in-Err-perform-clause-shown g c = λ zero. absurd (not_done c.in-Err-per
 pub returns-in-Err-perform-clause-show_refused : goal.returns-in-Err-perform-clause-show_refused
 returns-in-Err-perform-clause-show_refused g c = λ some store key what moment rule asked.
     let asks = c.in-Ok.ensures.read.show store key what moment rule asked in
-    let names = once_names g.M.Disk.Store (g.M.Machine.left c.args.machine.now) (g.M.Machine.stands c.args.machine.now) (g.M.Machine.left c.perform.new.machine)
+    let names = once_names g.M.Disk.Store (g.M.Machine.clock c.args.machine.now) (g.M.Machine.left c.args.machine.now) (g.M.Machine.stands c.args.machine.now) (g.M.Machine.left c.perform.new.machine)
     c.in-Ok.ask store (Some key) (Show what) moment rule (g.W.Write.contents c.args.output.now) (g.W.Write.contents c.perform.new.output) c.in-Err-perform.refused asks c.in-Err-perform.ensures.leaves_refused in
-    let why = c.in-Err-perform.ensures.not_shown store key what moment rule asks in
-    tells _ c.in-Err-perform.refused _ _ _ (why.0, names, why.1) c.tell_refusal.ensures.status c.tell_refusal.ensures.told
+    let why = once_not_shown g.M.Disk.Store (g.M.Machine.clock c.args.machine.now) (g.M.Machine.stands c.args.machine.now) (g.M.Machine.left c.perform.new.machine)
+    (g.W.Write.contents c.args.output.now) (g.W.Write.contents c.perform.new.output) (Err c.in-Err-perform.refused)
+    store (Some key) (Show what) moment rule c.in-Ok.ask asks c.in-Err-perform.ensures.answers (what_of what) refl in
+    let due = once_due g.M.Disk.Store (g.M.Machine.clock c.args.machine.now) (g.M.Machine.stands c.args.machine.now) (g.M.Machine.left c.perform.new.machine)
+    (g.W.Write.contents c.args.output.now) (g.W.Write.contents c.perform.new.output) (Err c.in-Err-perform.refused)
+    store (Some key) (Show what) moment rule c.in-Ok.ask asks c.in-Err-perform.ensures.answers refl in
+    tells _ c.in-Err-perform.refused _ _ _ (why, names, due) c.tell_refusal.ensures.status c.tell_refusal.ensures.told
 
 pub returns-in-Err-clause-shown : goal.returns-in-Err-clause-shown
 returns-in-Err-clause-shown g c = λ zero store key what moment rule asked.
@@ -496,12 +531,12 @@ returns-in-Err-clause-show_refused g c = λ some store key what moment rule aske
 
 pub returns-in-Ok-perform-clause-show_leaves : goal.returns-in-Ok-perform-clause-show_leaves
 returns-in-Ok-perform-clause-show_leaves g c = λ store key what moment rule asked.
-    once_leaves g.M.Disk.Store (g.M.Machine.left c.args.machine.now) (g.M.Machine.stands c.args.machine.now) (g.M.Machine.left c.perform.new.machine)
+    once_leaves g.M.Disk.Store (g.M.Machine.clock c.args.machine.now) (g.M.Machine.left c.args.machine.now) (g.M.Machine.stands c.args.machine.now) (g.M.Machine.left c.perform.new.machine)
     c.in-Ok.ask store (Some key) (Show what) moment rule (c.in-Ok.ensures.read.show store key what moment rule asked) c.perform.ensures.leaves
 
 pub returns-in-Err-perform-clause-show_leaves : goal.returns-in-Err-perform-clause-show_leaves
 returns-in-Err-perform-clause-show_leaves g c = λ store key what moment rule asked.
-    once_leaves g.M.Disk.Store (g.M.Machine.left c.args.machine.now) (g.M.Machine.stands c.args.machine.now) (g.M.Machine.left c.perform.new.machine)
+    once_leaves g.M.Disk.Store (g.M.Machine.clock c.args.machine.now) (g.M.Machine.left c.args.machine.now) (g.M.Machine.stands c.args.machine.now) (g.M.Machine.left c.perform.new.machine)
     c.in-Ok.ask store (Some key) (Show what) moment rule (c.in-Ok.ensures.read.show store key what moment rule asked) c.perform.ensures.leaves
 
 pub returns-in-Err-clause-show_leaves : goal.returns-in-Err-clause-show_leaves
@@ -532,3 +567,107 @@ returns-in-Err-clause-none_named g c = λ none. elim (c.in-Err.ensures.none_show
   | inl day ↦ inl (c.tell_unread.ensures.mistaken (inr day))
   | inr memory ↦ inr (tells (λ refusal. refusal ≡ NoMemory) NoMemory _ _ _ refl (c.tell_unread.ensures.memory memory).0 (c.tell_unread.ensures.no_memory memory))
 ]
+
+pub returns-in-Ok-perform-clause-exported : goal.returns-in-Ok-perform-clause-exported
+returns-in-Ok-perform-clause-exported g c = λ zero store key moment rule asked.
+    once_shows g.M.Disk.Store (g.M.Machine.clock c.args.machine.now) (g.M.Machine.stands c.args.machine.now) (g.M.Machine.left c.perform.new.machine)
+    (g.W.Write.contents c.args.output.now) (g.W.Write.contents c.perform.new.output) (Ok c.in-Ok-perform.done)
+    store key Catalogue moment rule c.in-Ok.ask (c.in-Ok.ensures.read.export store key moment rule asked) c.in-Ok-perform.ensures.answers request.Catalogue refl
+
+pub returns-in-Err-perform-clause-exported : goal.returns-in-Err-perform-clause-exported
+returns-in-Err-perform-clause-exported g c = λ zero. absurd (not_done c.in-Err-perform.refused (sym c.tell_refusal.ensures.status ∙ zero))
+
+pub returns-in-Err-clause-exported : goal.returns-in-Err-clause-exported
+returns-in-Err-clause-exported g c = λ zero store key moment rule asks.
+    let memory = c.tell_unread.ensures.memory (c.in-Err.ensures.unread (inr (inr (inr (inr (inr (inl (store, key, moment, rule, asks)))))))) in
+    let three : c.tell_unread.result ≡ 3 = memory.0 in absurd (omega arith)
+
+pub returns-in-Ok-perform-clause-found_sound : goal.returns-in-Ok-perform-clause-found_sound
+returns-in-Ok-perform-clause-found_sound g c = λ zero store key acc moment rule asks.
+    subst (λ done. EndsWith (g.M.Machine.stands c.args.machine.now store) (g.M.Machine.left c.perform.new.machine)
+    (FindsStore g.M.Disk.Store (IsDayBy (moment_of moment (g.M.Machine.clock c.args.machine.now)) rule) (Some (sha256 (trim_ows key))) acc (found_by done)))
+    (c.status.ensures.whole zero)
+    (once_finds g.M.Disk.Store (g.M.Machine.clock c.args.machine.now) (g.M.Machine.stands c.args.machine.now) (g.M.Machine.left c.perform.new.machine)
+    (g.W.Write.contents c.args.output.now) (g.W.Write.contents c.perform.new.output) (Ok c.in-Ok-perform.done)
+    store (Some key) acc moment rule c.in-Ok.ask (c.in-Ok.ensures.read.check store key acc moment rule asks) c.in-Ok-perform.ensures.answers)
+
+pub returns-in-Err-perform-clause-found_sound : goal.returns-in-Err-perform-clause-found_sound
+returns-in-Err-perform-clause-found_sound g c = λ zero. absurd (not_done c.in-Err-perform.refused (sym c.tell_refusal.ensures.status ∙ zero))
+
+pub returns-in-Err-clause-found_sound : goal.returns-in-Err-clause-found_sound
+returns-in-Err-clause-found_sound g c = λ zero store key acc moment rule asks.
+    let memory = c.tell_unread.ensures.memory (c.in-Err.ensures.unread (inr (inr (inr (inr (inr (inr (inl (acc, (store, key, moment, rule, asks)))))))))) in
+    let three : c.tell_unread.result ≡ 3 = memory.0 in absurd (omega arith)
+
+-- ---- the machine
+
+pub returns-in-Ok-perform-clause-untouched : goal.returns-in-Ok-perform-clause-untouched
+returns-in-Ok-perform-clause-untouched g c = λ kind asks. c.perform.ensures.untouched (of_image _ c.in-Ok.ask c.in-Ok.ensures.read kind asks)
+
+pub returns-in-Err-perform-clause-untouched : goal.returns-in-Err-perform-clause-untouched
+returns-in-Err-perform-clause-untouched g c = λ kind asks. c.perform.ensures.untouched (of_image _ c.in-Ok.ask c.in-Ok.ensures.read kind asks)
+
+pub returns-in-Ok-perform-clause-usage_untouched : goal.returns-in-Ok-perform-clause-usage_untouched
+returns-in-Ok-perform-clause-usage_untouched g c = λ two. absurd (omega (arith, c.status.ensures.most, two))
+
+pub returns-in-Err-perform-clause-usage_untouched : goal.returns-in-Err-perform-clause-usage_untouched
+returns-in-Err-perform-clause-usage_untouched g c = λ two. absurd (c.in-Err-perform.ensures.never (sym c.tell_refusal.ensures.status ∙ two))
+
+pub returns-in-Ok-perform-clause-file_done : goal.returns-in-Ok-perform-clause-file_done
+returns-in-Ok-perform-clause-file_done g c = λ zero kind path slot other asks.
+    one_file_done (g.M.Files.file_bytes c.args.machine.now) (g.W.Write.contents c.args.output.now) (g.W.Write.contents c.perform.new.output) c.in-Ok-perform.done
+    c.in-Ok.ask kind path slot other (c.in-Ok.ensures.read.file kind path slot asks) c.in-Ok-perform.ensures.of_file
+
+pub returns-in-Err-perform-clause-file_done : goal.returns-in-Err-perform-clause-file_done
+returns-in-Err-perform-clause-file_done g c = λ zero. absurd (not_done c.in-Err-perform.refused (sym c.tell_refusal.ensures.status ∙ zero))
+
+pub returns-in-Err-clause-file_done : goal.returns-in-Err-clause-file_done
+returns-in-Err-clause-file_done g c = λ zero kind path slot other asks.
+    let memory = c.tell_unread.ensures.memory (c.in-Err.ensures.unread (inl (kind, path, slot, asks))) in
+    let three : c.tell_unread.result ≡ 3 = memory.0 in absurd (omega arith)
+
+pub returns-in-Ok-perform-clause-file_listed : goal.returns-in-Ok-perform-clause-file_listed
+returns-in-Ok-perform-clause-file_listed g c = λ zero kind path other asks.
+    files_done (g.M.Files.file_bytes c.args.machine.now) (g.W.Write.contents c.args.output.now) (g.W.Write.contents c.perform.new.output) c.in-Ok-perform.done
+    c.in-Ok.ask kind path other (c.in-Ok.ensures.read.files kind path asks) c.in-Ok-perform.ensures.of_file
+
+pub returns-in-Err-perform-clause-file_listed : goal.returns-in-Err-perform-clause-file_listed
+returns-in-Err-perform-clause-file_listed g c = λ zero. absurd (not_done c.in-Err-perform.refused (sym c.tell_refusal.ensures.status ∙ zero))
+
+pub returns-in-Err-clause-file_listed : goal.returns-in-Err-clause-file_listed
+returns-in-Err-clause-file_listed g c = λ zero kind path other asks.
+    let memory = c.tell_unread.ensures.memory (c.in-Err.ensures.unread (inr (inl (kind, path, asks)))) in
+    let three : c.tell_unread.result ≡ 3 = memory.0 in absurd (omega arith)
+
+-- ---- help
+
+pub returns-in-Ok-perform-clause-help : goal.returns-in-Ok-perform-clause-help
+returns-in-Ok-perform-clause-help g c = λ asks. absurd (help_not_taken _ c.in-Ok.ensures.taken asks)
+
+pub returns-in-Err-perform-clause-help : goal.returns-in-Err-perform-clause-help
+returns-in-Err-perform-clause-help g c = λ asks. absurd (help_not_taken _ c.in-Ok.ensures.taken asks)
+
+pub returns-in-Err-clause-help : goal.returns-in-Err-clause-help
+returns-in-Err-clause-help g c = λ asks. elim (c.in-Err.ensures.help asks) [
+  | inl none ↦ inr (tells IsOfDevice NoMemory _ _ _ tt (c.tell_unread.ensures.memory none).0 (c.tell_unread.ensures.no_memory none))
+  | inr help ↦ help_told c.tell_unread.result (g.E.Write.contents c.args.errors.now) (g.E.Write.contents c.tell_unread.new.errors) (c.tell_unread.ensures.help help)
+]
+
+-- ---- visits
+
+pub returns-in-Ok-perform-clause-visits : goal.returns-in-Ok-perform-clause-visits
+returns-in-Ok-perform-clause-visits g c = λ zero store port count rule asked.
+    serves_by g.M.Disk.Store g.M.Door.Door.told g.M.Door.Door.coming (g.M.Machine.door c.args.machine.now) (g.M.Machine.door c.perform.new.machine)
+    (g.M.Machine.stands c.args.machine.now) (g.M.Machine.left c.perform.new.machine) c.in-Ok.ask store port count rule
+    (c.in-Ok.ensures.read.serve store port count rule asked) c.in-Ok-perform.ensures.serves
+
+pub returns-in-Err-perform-clause-visits : goal.returns-in-Err-perform-clause-visits
+returns-in-Err-perform-clause-visits g c = λ zero. absurd (not_done c.in-Err-perform.refused (sym c.tell_refusal.ensures.status ∙ zero))
+
+pub returns-in-Err-clause-visits : goal.returns-in-Err-clause-visits
+returns-in-Err-clause-visits g c = λ zero store port count rule asks.
+    let memory = c.tell_unread.ensures.memory (c.in-Err.ensures.unread (inr (inr (inr (inl (store, port, count, rule, asks)))))) in
+    let three : c.tell_unread.result ≡ 3 = memory.0 in absurd (omega arith)
+
+pub returns-in-Err-clause-back : goal.returns-in-Err-clause-back
+returns-in-Err-clause-back g c = λ shows had. had

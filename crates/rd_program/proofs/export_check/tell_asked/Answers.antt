@@ -1,53 +1,109 @@
-use Rattle.std.proofs.Common.{◌≡◌, ◌∙◌, IfErr, OnOk, inl, inr, option_map, subst, sym}
+use Rattle.std.proofs.Common.{◌≡◌, ◌∙◌, FitsSigned, Some, ap, inl, inr, option_map, rules, subst, sym, w32}
+use Rattle.std.proofs.lemmas.Int.{to_z-of_z}
 use Rattle.std.specs.Prelude.{IsSome}
 use Rattle.std.proofs.KnownBytes.{Keeps-refl}
 use Rattle.std.proofs.lemmas.Result.{IfErr-weaker}
 use Rattle.sha2.specs.Sha256.{sha256}
-use Rattle.rd_commands.specs.declared.words.Question.TheVariants.{Catalogue, Check, Show}
-use Rattle.rd_program.specs.Showing.{IsDueOn, OfDesk, RefusesShow, Shows, show_request}
-use Rattle.rd_program.proofs.Showing.{badge_there, clock_due, clock_no_accession, due_of, passed_on}
+use Rattle.rd_commands.specs.Asks.{IsCheckOf}
+use Rattle.rd_protocol.specs.declared.request.What.TheVariants as request
+use Rattle.rd_program.specs.Leaves.{IsDayAt, moment_of}
+use Rattle.rd_program.specs.Showing.{asked_of, request_of, what_of, what_to_show}
+use Rattle.rd_program.proofs.Showing.{badge_there, clock_due, clock_no_accession, due_asked, finds_asked, no_check, passed_on, shows_asked}
 use Rattle.rd_program.proofs.export_check.tell_asked.Goals as goal
 
 pub returns-in_err-day-clause-not_shown : goal.returns-in_err-day-clause-not_shown
-returns-in_err-day-clause-not_shown g c = λ what is some.
-    passed_on c.from_residual.result c.in_err-day.field-0.0 _ c.from_residual.ensures.1 (
-      (inl (inr (inl c.in_err-day.ensures.refused), Keeps-refl _), clock_no_accession c.in_err-day.field-0.0 c.in_err-day.ensures.refused),
-      clock_due g.S.Store (show_request (option_map sha256 (option_map (λ key. key.now) c.args.ask.now.key)) what) c.args.desk.now.store c.args.desk.now.store
-          c.in_err-day.field-0.0 c.in_err-day.ensures.refused,
-    )
+returns-in_err-day-clause-not_shown g c = λ what is.
+    passed_on c.from_residual.result c.in_err-day.field-0.0 _ c.from_residual.ensures.1
+    (inl (inr (inl c.in_err-day.ensures.refused), Keeps-refl _), clock_no_accession c.in_err-day.field-0.0 c.in_err-day.ensures.refused)
+
+pub returns-in_err-day-clause-due : goal.returns-in_err-day-clause-due
+returns-in_err-day-clause-due g c = λ some.
+    passed_on c.from_residual.result c.in_err-day.field-0.0 _ c.from_residual.ensures.1
+    (clock_due g.S.Store (IsDayAt (moment_of c.args.ask.now.when.seconds (g.M.Machine.clock c.args.machine.now)) c.args.desk.now.zone)
+    (request_of (option_map sha256 (option_map (λ key. key.now) c.args.ask.now.key)) (asked_of c.args.ask.now.question)) c.args.desk.now.store c.args.desk.now.store
+    c.in_err-day.field-0.0 c.in_err-day.ensures.refused)
 
 pub returns-in-Catalogue-clause-shown : goal.returns-in-Catalogue-clause-shown
-returns-in-Catalogue-clause-shown g c = λ what is. let other : Catalogue ≡ Show what = sym c.in-Catalogue.is ∙ is in absurd (cc other)
+returns-in-Catalogue-clause-shown g c = λ what is.
+    let both : Some request.Catalogue ≡ Some what = sym (ap what_to_show c.in-Catalogue.is) ∙ is in
+    let same : request.Catalogue ≡ what = cc both in
+    let fits : FitsSigned w32 c.in_ok-day.day = search rules in
+    shows_asked c.show.result g.S.Store c.args.desk.now.store c.show.new.desk.store _
+    (IsDayAt (moment_of c.args.ask.now.when.seconds (g.M.Machine.clock c.args.machine.now)) c.args.desk.now.zone)
+    (subst (IsDayAt (moment_of c.args.ask.now.when.seconds (g.M.Machine.clock c.args.machine.now)) c.args.desk.now.zone) (sym (to_z-of_z w32 c.in_ok-day.day fits)) c.in_ok-day.ensures.day)
+    c.badge_of-badge.result (option_map sha256 (option_map (λ key. key.now) c.args.ask.now.key)) c.badge_of-badge.ensures request.Catalogue what
+    (g.W.Write.contents c.args.output.now) (g.W.Write.contents c.show.new.output) same c.show.ensures.shown
 
 pub returns-in-Catalogue-clause-not_shown : goal.returns-in-Catalogue-clause-not_shown
-returns-in-Catalogue-clause-not_shown g c = λ what is some. let other : Catalogue ≡ Show what = sym c.in-Catalogue.is ∙ is in absurd (cc other)
+returns-in-Catalogue-clause-not_shown g c = λ what is. c.show.ensures.refused
+
+pub returns-in-Catalogue-clause-refused : goal.returns-in-Catalogue-clause-refused
+returns-in-Catalogue-clause-refused g c = IfErr-weaker c.show.result _ _ (λ refusal why. why.0) c.show.ensures.refused
+
+pub returns-in-Catalogue-clause-found : goal.returns-in-Catalogue-clause-found
+returns-in-Catalogue-clause-found g c = λ acc is. absurd (subst (IsCheckOf acc) c.in-Catalogue.is is)
+
+pub returns-in-Catalogue-clause-due : goal.returns-in-Catalogue-clause-due
+returns-in-Catalogue-clause-due g c = λ some.
+    let there = subst (λ badge. IsSome badge) (sym c.badge_of-badge.ensures) (badge_there c.args.ask.now.key some) in
+    let fits : FitsSigned w32 c.in_ok-day.day = search rules in
+    due_asked c.show.result g.S.Store c.args.desk.now.store c.show.new.desk.store _
+    (IsDayAt (moment_of c.args.ask.now.when.seconds (g.M.Machine.clock c.args.machine.now)) c.args.desk.now.zone)
+    (subst (IsDayAt (moment_of c.args.ask.now.when.seconds (g.M.Machine.clock c.args.machine.now)) c.args.desk.now.zone) (sym (to_z-of_z w32 c.in_ok-day.day fits)) c.in_ok-day.ensures.day)
+    c.badge_of-badge.result (option_map sha256 (option_map (λ key. key.now) c.args.ask.now.key)) c.badge_of-badge.ensures request.Catalogue (asked_of c.args.ask.now.question)
+    (sym (ap asked_of c.in-Catalogue.is)) (c.show.ensures.due there)
 
 pub returns-in-Check-clause-shown : goal.returns-in-Check-clause-shown
-returns-in-Check-clause-shown g c = λ what is. let other : Check c.in-Check.acc ≡ Show what = sym c.in-Check.is ∙ is in absurd (cc other)
+returns-in-Check-clause-shown g c = λ what is. absurd (no_check c.in-Check.acc what (sym (ap what_to_show c.in-Check.is) ∙ is))
 
 pub returns-in-Check-clause-not_shown : goal.returns-in-Check-clause-not_shown
-returns-in-Check-clause-not_shown g c = λ what is some. let other : Check c.in-Check.acc ≡ Show what = sym c.in-Check.is ∙ is in absurd (cc other)
+returns-in-Check-clause-not_shown g c = λ what is. absurd (no_check c.in-Check.acc what (sym (ap what_to_show c.in-Check.is) ∙ is))
+
+pub returns-in-Check-clause-found : goal.returns-in-Check-clause-found
+returns-in-Check-clause-found g c = λ acc is.
+    let same : c.in-Check.acc ≡ acc = subst (IsCheckOf acc) c.in-Check.is is in
+    let fits : FitsSigned w32 c.in_ok-day.day = search rules in
+    finds_asked c.check.result g.S.Store c.args.desk.now.store c.check.new.desk.store _
+    (IsDayAt (moment_of c.args.ask.now.when.seconds (g.M.Machine.clock c.args.machine.now)) c.args.desk.now.zone)
+    (subst (IsDayAt (moment_of c.args.ask.now.when.seconds (g.M.Machine.clock c.args.machine.now)) c.args.desk.now.zone) (sym (to_z-of_z w32 c.in_ok-day.day fits)) c.in_ok-day.ensures.day)
+    c.badge_of-badge.result (option_map sha256 (option_map (λ key. key.now) c.args.ask.now.key)) c.in-Check.acc acc c.badge_of-badge.ensures same c.check.ensures.found
+
+pub returns-in-Check-clause-due : goal.returns-in-Check-clause-due
+returns-in-Check-clause-due g c = λ some.
+    let there = subst (λ badge. IsSome badge) (sym c.badge_of-badge.ensures) (badge_there c.args.ask.now.key some) in
+    let fits : FitsSigned w32 c.in_ok-day.day = search rules in
+    due_asked c.check.result g.S.Store c.args.desk.now.store c.check.new.desk.store _
+    (IsDayAt (moment_of c.args.ask.now.when.seconds (g.M.Machine.clock c.args.machine.now)) c.args.desk.now.zone)
+    (subst (IsDayAt (moment_of c.args.ask.now.when.seconds (g.M.Machine.clock c.args.machine.now)) c.args.desk.now.zone) (sym (to_z-of_z w32 c.in_ok-day.day fits)) c.in_ok-day.ensures.day)
+    c.badge_of-badge.result (option_map sha256 (option_map (λ key. key.now) c.args.ask.now.key)) c.badge_of-badge.ensures (request.Check c.in-Check.acc) (asked_of c.args.ask.now.question)
+    (sym (ap asked_of c.in-Check.is)) (c.check.ensures.due there)
 
 pub returns-in-Show-clause-refused : goal.returns-in-Show-clause-refused
-returns-in-Show-clause-refused g c = IfErr-weaker c.show.result _ _ (λ refusal why. why.0) c.show.ensures.refused
+returns-in-Show-clause-refused g c = IfErr-weaker c.show-in-Show.result _ _ (λ refusal why. why.0) c.show-in-Show.ensures.refused
 
 pub returns-in-Show-clause-shown : goal.returns-in-Show-clause-shown
 returns-in-Show-clause-shown g c = λ what is.
-    let both : Show c.in-Show.shown ≡ Show what = sym c.in-Show.is ∙ is in
-    let same : c.in-Show.shown ≡ what = cc in
-    subst (λ w. OnOk c.show.result (OfDesk g.S.Store (λ stood. Shows (show_request (option_map sha256 (option_map (λ key. key.now) c.args.ask.now.key)) w) stood
-    (g.W.Write.contents c.args.output.now) (g.W.Write.contents c.show.new.output)) c.args.desk.now.store c.show.new.desk.store)) same
-    (subst (λ badge. OnOk c.show.result (OfDesk g.S.Store (λ stood. Shows (show_request badge c.in-Show.shown) stood
-    (g.W.Write.contents c.args.output.now) (g.W.Write.contents c.show.new.output)) c.args.desk.now.store c.show.new.desk.store)) c.badge_of-badge.ensures
-    c.show.ensures.shown)
+    let both : Some (what_of c.in-Show.shown) ≡ Some what = sym (ap what_to_show c.in-Show.is) ∙ is in
+    let named : what_of c.in-Show.shown ≡ what = cc both in
+    let fits : FitsSigned w32 c.in_ok-day.day = search rules in
+    shows_asked c.show-in-Show.result g.S.Store c.args.desk.now.store c.show-in-Show.new.desk.store _
+    (IsDayAt (moment_of c.args.ask.now.when.seconds (g.M.Machine.clock c.args.machine.now)) c.args.desk.now.zone)
+    (subst (IsDayAt (moment_of c.args.ask.now.when.seconds (g.M.Machine.clock c.args.machine.now)) c.args.desk.now.zone) (sym (to_z-of_z w32 c.in_ok-day.day fits)) c.in_ok-day.ensures.day)
+    c.badge_of-badge.result (option_map sha256 (option_map (λ key. key.now) c.args.ask.now.key)) c.badge_of-badge.ensures c.what_of.result what
+    (g.W.Write.contents c.args.output.now) (g.W.Write.contents c.show-in-Show.new.output) (c.what_of.ensures.asks ∙ named) c.show-in-Show.ensures.shown
 
 pub returns-in-Show-clause-not_shown : goal.returns-in-Show-clause-not_shown
-returns-in-Show-clause-not_shown g c = λ what is some.
-    let both : Show c.in-Show.shown ≡ Show what = sym c.in-Show.is ∙ is in
-    let same : c.in-Show.shown ≡ what = cc in
-    let there = badge_there c.args.ask.now.key some in
-    let due = c.show.ensures.due (subst (λ badge. IsSome badge) (sym c.badge_of-badge.ensures) there) in
-    due_of _ _ c.show.result
-    c.show.ensures.refused
-    (subst (λ w. IfErr c.show.result (IsDueOn g.S.Store (show_request (option_map sha256 (option_map (λ key. key.now) c.args.ask.now.key)) w) c.args.desk.now.store c.show.new.desk.store)) same
-    (subst (λ badge. IfErr c.show.result (IsDueOn g.S.Store (show_request badge c.in-Show.shown) c.args.desk.now.store c.show.new.desk.store)) c.badge_of-badge.ensures due))
+returns-in-Show-clause-not_shown g c = λ what is. c.show-in-Show.ensures.refused
+
+pub returns-in-Show-clause-found : goal.returns-in-Show-clause-found
+returns-in-Show-clause-found g c = λ acc is. absurd (subst (IsCheckOf acc) c.in-Show.is is)
+
+pub returns-in-Show-clause-due : goal.returns-in-Show-clause-due
+returns-in-Show-clause-due g c = λ some.
+    let there = subst (λ badge. IsSome badge) (sym c.badge_of-badge.ensures) (badge_there c.args.ask.now.key some) in
+    let fits : FitsSigned w32 c.in_ok-day.day = search rules in
+    due_asked c.show-in-Show.result g.S.Store c.args.desk.now.store c.show-in-Show.new.desk.store _
+    (IsDayAt (moment_of c.args.ask.now.when.seconds (g.M.Machine.clock c.args.machine.now)) c.args.desk.now.zone)
+    (subst (IsDayAt (moment_of c.args.ask.now.when.seconds (g.M.Machine.clock c.args.machine.now)) c.args.desk.now.zone) (sym (to_z-of_z w32 c.in_ok-day.day fits)) c.in_ok-day.ensures.day)
+    c.badge_of-badge.result (option_map sha256 (option_map (λ key. key.now) c.args.ask.now.key)) c.badge_of-badge.ensures c.what_of.result (asked_of c.args.ask.now.question)
+    (c.what_of.ensures.asks ∙ sym (ap asked_of c.in-Show.is)) (c.show-in-Show.ensures.due there)

@@ -1,21 +1,33 @@
-use Rattle.std.proofs.Common.{subst, ◌∙◌}
+use Rattle.std.proofs.Common.{◌∙◌, IsTrue, subst, sym}
 use Rattle.sha2.specs.Sha256.{sha256}
-use Rattle.rd_program.specs.Leaves.{IsDayAt, LeavesDesk, TakesIn}
-use Rattle.rd_program.proofs.Left.{desk_left, unopened_left}
+use Rattle.rd_program.specs.Leaves.{IsDayAt, LeavesDesk, TakesIn, moment_of}
+use Rattle.rd_program.proofs.Filed.{on_ok_always}
+use Rattle.rd_program.proofs.Left.{desk_left, gives_back, unopened_left}
 use Rattle.rd_program.proofs.import.import.Goals as goal
+
+pub returns-clause-back : goal.returns-clause-back
+returns-clause-back g c =
+    gives_back (g.M.Machine.shows c.args.machine.now) (g.M.Machine.left c.args.machine.now) (g.M.Machine.left c.release.new.self) _
+    (λ shows. c.release.ensures.back (subst (λ b. IsTrue b) (sym (c.import_sheet-imported.ensures.shows ∙ c.open_desk.ensures.shows)) shows))
 
 pub returns-clause-takes : goal.returns-clause-takes
 returns-clause-takes g c =
     let opened = c.in_ok-desk.desk.store in
     let last = c.import_sheet-imported.new.desk.store in
     let badge = sha256 c.args.ask.key.now in
-    let takes = subst (λ z. LeavesDesk g.M.Disk.Store (TakesIn badge (IsDayAt c.args.ask.when.seconds z)) opened last) c.in_ok-desk.ensures.zone c.import_sheet-imported.ensures.takes in
+    let told = c.args.ask.when.seconds in
+    let clock = g.M.Machine.clock c.args.machine.now in
+    let later = subst (λ m. LeavesDesk g.M.Disk.Store (TakesIn badge (IsDayAt (moment_of told m) c.in_ok-desk.desk.zone)) opened last) c.in_ok-desk.ensures.clock c.import_sheet-imported.ensures.takes in
+    let takes = subst (λ z. LeavesDesk g.M.Disk.Store (TakesIn badge (IsDayAt (moment_of told clock) z)) opened last) c.in_ok-desk.ensures.zone later in
     desk_left g.M.Disk.Store (g.M.Machine.left c.args.machine.now) (g.M.Machine.stands c.args.machine.now c.args.ask.store.now) (g.M.Machine.left c.release.new.self)
-    (TakesIn badge (IsDayAt c.args.ask.when.seconds c.args.ask.when.zone)) opened last c.into_connection.result
+    (TakesIn badge (IsDayAt (moment_of told clock) c.args.ask.when.zone)) opened last c.into_connection.result
     c.in_ok-desk.ensures.opened takes (c.into_connection.ensures.same ∙ c.into_store.ensures) c.release.ensures.left
 
 pub returns-in_err-desk-clause-takes : goal.returns-in_err-desk-clause-takes
 returns-in_err-desk-clause-takes g c =
     unopened_left g.M.Disk.Store (g.M.Machine.left c.args.machine.now) (g.M.Machine.stands c.args.machine.now c.args.ask.store.now) (g.M.Machine.left c.open_desk.new.machine)
-    (TakesIn (sha256 c.args.ask.key.now) (IsDayAt c.args.ask.when.seconds c.args.ask.when.zone)) c.in_err-desk.field-0.0
+    (TakesIn (sha256 c.args.ask.key.now) (IsDayAt (moment_of c.args.ask.when.seconds (g.M.Machine.clock c.args.machine.now)) c.args.ask.when.zone)) c.in_err-desk.field-0.0
     c.in_err-desk.ensures.refused c.in_err-desk.ensures.left
+
+pub returns-clause-there : goal.returns-clause-there
+returns-clause-there g c = on_ok_always c.import_sheet-imported.result _ c.in_ok-desk.ensures.there

@@ -1,4 +1,4 @@
-use Rattle.rd_program.proofs.Imported.{machine_failed, none_of_line}
+use Rattle.rd_program.proofs.Imported.{answer_row, machine_failed, none_of_line}
 use Rattle.rd_program.proofs.Stepped.{row_taken}
 use Rattle.rd_program.proofs.import.import_row.Goals as goal
 
@@ -7,6 +7,9 @@ returns-in-Err-clause-refused g c = (machine_failed c.in-Err.fault c.or.result c
 
 pub returns-clause-takes : goal.returns-clause-takes
 returns-clause-takes g c =
-    let asked = c.put_image-reply in
+    let asked = c.put_image-answer in
     row_taken g.M.Disk.Store c.args.desk.now.store asked.new.desk.store c.args.giver.day asked.result
-    c.args.giver.badge c.args.row c.in-Ok.bytes.items asked.ensures.serves
+    c.args.giver.badge c.args.row c.in-Ok.bytes.items asked.ensures.responds
+
+pub returns-clause-told : goal.returns-clause-told
+returns-clause-told g c = answer_row c.args.row.acc c.put_image-answer.result c.tell_answer.result _ _ c.tell_answer.ensures.told

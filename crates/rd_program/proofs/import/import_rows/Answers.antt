@@ -25,6 +25,7 @@ pub loop-number-preserved : goal.loop-number-preserved
 loop-number-preserved g c = record {
   told = subst (TellsRows (g.W.Write.contents c.args.output.now) (g.W.Write.contents c.import_fields.new.output)) (sym c.and-done.ensures)
       (rows_more c.loop-number.done c.in_ok-row.row _ _ _ c.loop-number.invariant.told c.in_ok-row.ensures.told);
+  same = c.import_fields.ensures.same ∙ c.loop-number.invariant.same;
   zone = c.import_fields.ensures.zone ∙ c.loop-number.invariant.zone;
   takes = row_more g.M.Disk.Store c.args.giver.badge c.args.giver.day _ c.args.desk.now.store c.loop-number.desk.store c.import_fields.new.desk.store c.loop-number.invariant.takes c.import_fields.ensures.takes;
 }

@@ -6,6 +6,7 @@ use Rattle.rd_program.proofs.import.import_rows.Given as goal
 abbrev pub invariant-loop-number : goal.invariant-loop-number
 invariant-loop-number g l = record {
   told : TellsRows (g.W.Write.contents l.fn.output) (g.W.Write.contents l.output) l.done;
+  same : l.machine ≡ l.fn.machine;
   zone : l.desk.zone ≡ l.fn.desk.zone;
   takes : LeavesDesk g.M.Disk.Store (TakesIn l.giver.badge (λ day. day ≡ l.giver.day)) l.fn.desk.store l.desk.store;
 }

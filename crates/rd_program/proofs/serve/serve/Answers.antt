@@ -1,4 +1,8 @@
-use Rattle.std.proofs.Common.{rules, ◌∙◌}
+use Rattle.std.proofs.Common.{◌∙◌, IsTrue, ap, rules, subst, sym}
+use Rattle.rd_program.specs.Doors.Place.{Port}
+use Rattle.rd_program.proofs.Filed.{on_ok_always}
+use Rattle.rd_program.proofs.Left.{gives_back}
+use Rattle.rd_program.proofs.Visiting.{serves_door}
 use Rattle.rd_program.proofs.LeftBy.{lasts_left, opened_left, serve_ended, serve_not_begun, unserved_left}
 use Rattle.rd_program.proofs.Serving.{both_lines, ends, not_listening, not_opened}
 use Rattle.rd_program.proofs.serve.serve.Goals as goal
@@ -50,3 +54,26 @@ returns-clause-left g c =
     serve_ended g.M.Disk.Store c.tell_ended.result (g.M.Machine.left c.args.machine.now) (g.M.Machine.stands c.args.machine.now c.args.ask.store.now)
     (g.M.Machine.left c.release.new.self) c.in_ok-served.field-0.ended c.args.ask.port c.in_ok-served.field-0.visits _ _ _
     c.in_ok-served.ensures.listening c.tell_ended.ensures.refused
+
+pub returns-clause-back : goal.returns-clause-back
+returns-clause-back g c =
+    gives_back (g.M.Machine.shows c.args.machine.now) (g.M.Machine.left c.args.machine.now) (g.M.Machine.left c.release.new.self) _
+    (λ shows. c.release.ensures.back (subst (λ b. IsTrue b) (sym (c.serve_visits-served.ensures.shows ∙ c.open_desk.ensures.shows)) shows))
+
+pub returns-in_err-served-clause-back : goal.returns-in_err-served-clause-back
+returns-in_err-served-clause-back g c =
+    gives_back (g.M.Machine.shows c.args.machine.now) (g.M.Machine.left c.args.machine.now) (g.M.Machine.left c.release.new.self) _
+    (λ shows. c.release.ensures.back (subst (λ b. IsTrue b) (sym (c.serve_visits-served.ensures.shows ∙ c.open_desk.ensures.shows)) shows))
+
+pub returns-clause-visits : goal.returns-clause-visits
+returns-clause-visits g c =
+    let at = Port c.args.ask.port in
+    serves_door g.M.Disk.Store g.M.Door.Door.told g.M.Door.Door.coming c.tell_ended.result c.in_ok-served.field-0 c.args.ask.count c.in_ok-desk.desk.zone c.args.ask.zone
+    (g.M.Machine.door c.open_desk.new.machine at) (g.M.Machine.door c.args.machine.now at) (g.M.Machine.door c.serve_visits-served.new.machine at)
+    (g.M.Machine.door c.release.new.self at) (g.M.Machine.stands c.args.machine.now c.args.ask.store.now) (g.M.Machine.left c.release.new.self)
+    c.in_ok-desk.desk.store c.serve_visits-served.new.desk.store c.into_connection.result
+    c.in_ok-desk.ensures.zone (ap (λ d. d at) c.open_desk.ensures.door) (ap (λ d. d at) c.release.ensures.door) c.in_ok-desk.ensures.opened c.in_ok-served.ensures.lasts
+    (c.into_connection.ensures.same ∙ c.into_store.ensures) c.release.ensures.left c.in_ok-served.ensures.count c.tell_ended.ensures.count c.in_ok-served.ensures.visits
+
+pub returns-clause-there : goal.returns-clause-there
+returns-clause-there g c = on_ok_always c.tell_ended.result _ c.in_ok-desk.ensures.there

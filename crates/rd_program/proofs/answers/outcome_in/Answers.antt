@@ -1,0 +1,5 @@
+use Rattle.rd_program.proofs.Told.{none_found}
+use Rattle.rd_program.proofs.answers.outcome_in.Goals as goal
+
+pub returns-in_default-clause-is : goal.returns-in_default-clause-is
+returns-in_default-clause-is c = none_found _ c.in_default.not-Refused c.in_default.not-Checked

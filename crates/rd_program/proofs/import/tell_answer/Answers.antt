@@ -1,0 +1,20 @@
+use Rattle.std.proofs.Common.{◌≡◌, Ok, inr, refl, rules, subst, sym}
+use Rattle.std.specs.Io.KnownBytes.{Appends}
+use Rattle.rd_program.specs.Importing.{TellsAnswer, accession_line}
+use Rattle.rd_program.proofs.Imported.{accession_refused, none_of_line}
+use Rattle.rd_program.proofs.import.tell_answer.Goals as goal
+
+pub returns-clause-told : goal.returns-clause-told
+returns-clause-told g c =
+    subst (λ a. TellsAnswer c.args.acc a (g.W.Write.contents c.args.output.now) (g.W.Write.contents c.tell_accession.new.output) c.done_by.result) (sym c.in-Ok.is) (
+      subst (λ word. Appends (g.W.Write.contents c.args.output.now) (g.W.Write.contents c.tell_accession.new.output) (accession_line c.args.acc word)) c.word_of.ensures
+          c.in_ok-tell_accession.ensures.done,
+      c.done_by.ensures,
+    )
+
+pub returns-in_err-tell_accession-clause-refused : goal.returns-in_err-tell_accession-clause-refused
+returns-in_err-tell_accession-clause-refused g c =
+    let refused = accession_refused c.args.acc c.word_of.result.now _ _ _ c.in_err-tell_accession.ensures.refused c.in_err-tell_accession.ensures.cut in search rules
+
+pub returns-in_default-clause-refused : goal.returns-in_default-clause-refused
+returns-in_default-clause-refused g c = (inr (inr refl), none_of_line (g.W.Write.contents c.args.output.now))
