@@ -9,3 +9,4 @@ pub mod Filed
 pub mod Showing
 pub mod Visiting
 pub mod LeftBy
+pub mod RowLemmas

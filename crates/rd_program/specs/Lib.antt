@@ -7,6 +7,7 @@ pub mod Leaves
 pub mod Showing
 pub mod Doors
 pub mod Visiting
+pub mod Rows
 pub use Rattle.rd_commands.specs.Words
 pub use Rattle.rd_commands.specs.CommandLine
 pub use Rattle.rd_commands.specs.Zones

@@ -17,6 +17,7 @@ ghost use Rattle.rd_commands.specs.Input.{ReadsUpTo};
 ghost use Rattle.rd_program.specs.Leaves.{Checks, GivesBack, IsDayBy, IsSame, Leaves, LeavesBy, LeavesRefused, LeavesServe, LeavesStore, NamesOpening, StandsThere, TakesIn, moment_of};
 ghost use Rattle.rd_commands.specs.Listed.{Lists, RefusesList};
 ghost use Rattle.rd_commands.specs.Refusals.{IsOfDevice, status_of};
+ghost use Rattle.rd_program.specs.Rows.{ImportsBy, TakesSheetIn};
 ghost use Rattle.rd_program.specs.Serving.{RefusesServe, serve_text};
 ghost use Rattle.rd_holdings.specs.declared.rows.Outcome.TheVariants as Outcome;
 ghost use Rattle.rd_protocol.specs.declared.request.What.TheVariants as What;
@@ -89,6 +90,8 @@ fn perform<R: Read, W: Write, M: Machine>(
         (W.contents output.old) (W.contents output.new) ask.entry result }
     ensures serves { OnOk result (ServesBy M.Disk.Store M.Door.told M.Door.coming (M.door machine.old) (M.door machine.new)
         (M.stands machine.old) (M.left machine.new) ask.entry) }
+    ensures imports { ImportsBy M.Disk.Store (M.file_bytes machine.old) (M.sheet_bytes machine.old) (M.clock machine.old) (M.stands machine.old)
+        (M.left machine.new) (W.contents output.old) (W.contents output.new) ask.entry result }
     ensures of_file { GivesFile (M.file_bytes machine.old) (W.contents output.old) (W.contents output.new) ask.entry result }
     ensures untouched { IsOfImage ask.entry → machine.new ≡ machine.old }
     ensures back { GivesBack (M.shows machine.old) (M.left machine.old) (M.left machine.new) }
@@ -234,6 +237,15 @@ pub fn run<R: Read, W: Write, E: Write, M: Machine>(
         ⊎ Tells (λ refusal. RefusesImport (W.contents output.old) (W.contents output.new) refusal
         × NamesOpening M.Disk.Store (M.stands machine.old store) (M.left machine.new) refusal)
         result (E.contents errors.old) (E.contents errors.new) }
+    ensures rows { result ≡ 0 → (store key sheet : List ℕ) (moment : Option ℤ) (rule : List ℕ)
+        → AsksImport (map (λ word. word.now) words.entry.now) store key sheet moment rule
+        → EndsWith (M.stands machine.old store) (M.left machine.new) (TakesSheetIn M.Disk.Store (M.file_bytes machine.old) (sha256 (trim_ows key))
+        (IsDayBy (moment_of moment (M.clock machine.old)) rule) (M.sheet_bytes machine.old sheet) (W.contents output.old) (W.contents output.new) Done.Whole) }
+    ensures rows_in_part { result ≡ 1 → (store key sheet : List ℕ) (moment : Option ℤ) (rule : List ℕ)
+        → AsksImport (map (λ word. word.now) words.entry.now) store key sheet moment rule
+        → EndsWith (M.stands machine.old store) (M.left machine.new) (TakesSheetIn M.Disk.Store (M.file_bytes machine.old) (sha256 (trim_ows key))
+        (IsDayBy (moment_of moment (M.clock machine.old)) rule) (M.sheet_bytes machine.old sheet) (W.contents output.old) (W.contents output.new) Done.InPart)
+        ⊎ Tells (λ _. ⊤) result (E.contents errors.old) (E.contents errors.new) }
     ensures import_leaves { (store key sheet : List ℕ) (moment : Option ℤ) (rule : List ℕ)
         → AsksImport (map (λ word. word.now) words.entry.now) store key sheet moment rule
         → Leaves (M.left machine.old) (M.stands machine.old store) (M.left machine.new)

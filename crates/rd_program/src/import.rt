@@ -1,5 +1,6 @@
 //! Takes in images, row by row of a sheet.
 
+ghost use Rattle.rd_store.specs.Held.{IsOpen, desk as desk_in};
 ghost use Rattle.std.specs.Prelude.{◌≡◌, IfErr, IfOk, IsSome, IsTrue, OnErr, OnOk, Some};
 ghost use Rattle.std.specs.Io.KnownBytes.{Appends};
 ghost use Rattle.csv.specs.Records.{fields_of};
@@ -7,6 +8,8 @@ ghost use Rattle.sha2.specs.Sha256.{sha256};
 ghost use Rattle.rd_policy.specs.Days.{IsDay};
 ghost use Rattle.rd_desk.specs.Served.{Responds};
 ghost use Rattle.rd_program.specs.Importing as spec;
+ghost use Rattle.rd_program.specs.Rows.{GivesLine, IsRowTaken, TakesImage, TakesSheet, TakesSheetIn, TakesSheetOn};
+ghost use Rattle.rd_program.specs.Showing.{EndsWith};
 ghost use Rattle.rd_program.specs.Importing.{RefusesImport, RefusesRow, RefusesRows, TellsAnswer, TellsRow, TellsRows, bad_row_line, accession_line};
 ghost use Rattle.rd_program.specs.Leaves.{GivesBack, IsDayAt, IsOfOpenDesk, Leaves, LeavesDesk, LeavesStore, NamesOpening, TakesFields, TakesIn, TakesRow, moment_of};
 ghost use Rattle.rd_commands.specs.Output.{AppendsPart};
@@ -147,6 +150,9 @@ fn import_row<W: Write, M: Machine>(
     ensures takes { LeavesDesk M.Disk.Store (TakesRow giver.badge giver.day row.entry)
         desk.old.store desk.new.store }
     ensures same { machine.new ≡ machine.old }
+    ensures row { IfOk result (λ done. GivesLine M.Disk.Store
+        (λ line. TakesImage (M.file_bytes machine.old) giver.badge giver.day row.entry line done)
+        (W.contents output.old) (W.contents output.new) desk.old.store desk.new.store) }
     ensures told { IfOk result (TellsRow (W.contents output.old) (W.contents output.new)) }
     ensures refused { IfErr result (RefusesRow (W.contents output.old) (W.contents output.new)) }
 {
@@ -176,6 +182,9 @@ fn import_fields<W: Write, M: Machine>(
     ensures takes { LeavesDesk M.Disk.Store (TakesFields giver.badge giver.day (fields_of fields.now))
         desk.old.store desk.new.store }
     ensures same { machine.new ≡ machine.old }
+    ensures row { IfOk result (λ done. GivesLine M.Disk.Store
+        (λ line. IsRowTaken (M.file_bytes machine.old) giver.badge giver.day number (fields_of fields.now) line done)
+        (W.contents output.old) (W.contents output.new) desk.old.store desk.new.store) }
     ensures told { IfOk result (TellsRow (W.contents output.old) (W.contents output.new)) }
     ensures refused { IfErr result (RefusesRow (W.contents output.old) (W.contents output.new)) }
 {
@@ -207,6 +216,9 @@ fn import_rows<W: Write, M: Machine>(
     ensures takes { LeavesDesk M.Disk.Store (TakesIn giver.badge (λ day. day ≡ giver.day))
         desk.old.store desk.new.store }
     ensures same { machine.new ≡ machine.old }
+    ensures rows { IfOk result (λ done. IsOpen M.Disk.Store desk.new.store
+        → TakesSheet (M.file_bytes machine.old) giver.badge giver.day (Some sheet.now) (W.contents output.old) (W.contents output.new) done
+        (desk_in M.Disk.Store desk.old.store) (desk_in M.Disk.Store desk.new.store)) }
 {
     let mut reader = ReaderBuilder::new()
         .has_headers(false)
@@ -223,7 +235,8 @@ fn import_rows<W: Write, M: Machine>(
         let row = import_fields(alloc, &fields, number, giver, desk, output, machine)?;
         done = done.and(row);
     }
-    Ok(done)
+    // No sheet has so many rows.
+    Err(Refusal::BadSheet)
 }
 
 /// Takes in the images of the sheet that the command names, at the moment that it names.
@@ -242,6 +255,10 @@ fn import_sheet<W: Write, M: Machine>(
     ensures opened { IfErr result IsOfOpenDesk }
     ensures takes { LeavesDesk M.Disk.Store (TakesIn (sha256 ask.entry.key.now)
         (IsDayAt (moment_of ask.entry.when.seconds (M.clock machine.old)) desk.old.zone)) desk.old.store desk.new.store }
+    ensures rows { IfOk result (λ done. IsOpen M.Disk.Store desk.new.store
+        → TakesSheetOn (M.file_bytes machine.old) (sha256 ask.entry.key.now) (IsDayAt (moment_of ask.entry.when.seconds (M.clock machine.old)) desk.old.zone)
+        (M.sheet_bytes machine.old ask.entry.sheet.now) (W.contents output.old) (W.contents output.new) done
+        (desk_in M.Disk.Store desk.old.store) (desk_in M.Disk.Store desk.new.store)) }
     ensures shows { M.shows machine.new ≡ M.shows machine.old }
 {
     let day = visit_day(ask.when.seconds, desk, machine)?;
@@ -270,6 +287,10 @@ pub(crate) fn import<W: Write, M: Machine>(
     ensures takes { Leaves (M.left machine.old) (M.stands machine.old ask.entry.store.now) (M.left machine.new)
         (LeavesStore M.Disk.Store (TakesIn (sha256 ask.entry.key.now)
         (IsDayAt (moment_of ask.entry.when.seconds (M.clock machine.old)) ask.entry.when.zone))) }
+    ensures rows { IfOk result (λ done. EndsWith (M.stands machine.old ask.entry.store.now) (M.left machine.new)
+        (TakesSheetIn M.Disk.Store (M.file_bytes machine.old) (sha256 ask.entry.key.now)
+        (IsDayAt (moment_of ask.entry.when.seconds (M.clock machine.old)) ask.entry.when.zone)
+        (M.sheet_bytes machine.old ask.entry.sheet.now) (W.contents output.old) (W.contents output.new) done)) }
     ensures back { GivesBack (M.shows machine.old) (M.left machine.old) (M.left machine.new) }
     ensures there { OnOk result (IsTrue (M.shows machine.old) → IsSome (M.stands machine.old ask.entry.store.now)) }
     ensures opens { IfErr result (NamesOpening M.Disk.Store (M.stands machine.old ask.entry.store.now) (M.left machine.new)) }

@@ -6,6 +6,7 @@ ghost use Rattle.std.specs.Borrow.{sem};
 ghost use Rattle.rd_program.specs.Doors.{LendsDoor, Place};
 ghost use Rattle.rd_program.specs.Doors.Place.{Port};
 ghost use Rattle.rd_program.specs.Leaves.{LeavesNone};
+ghost use Rattle.rd_program.specs.Rows.{KeepsFiles};
 
 use rd_commands::{Files, MachineFault};
 use rd_http::Door;
@@ -56,6 +57,7 @@ pub trait Machine: Files {
         ensures kept { IfErr result (λ _. IsTrue (shows self.old) → left self.new ≡ left self.old) }
         ensures shows { shows self.new ≡ shows self.old }
         ensures clock { clock self.new ≡ clock self.old }
+        ensures files { KeepsFiles Self.file_bytes Self.sheet_bytes self.old self.new }
         ensures door { door self.new ≡ door self.old };
 
     /// Takes a connection back at the end of a command.
@@ -70,6 +72,7 @@ pub trait Machine: Files {
     /// It fails when the clock fails.
     fn now(&mut self) -> Result<i64, MachineFault>
         ensures shown { IfOk result (λ seconds. IfSome (clock self.old) (λ moment. seconds ≡ moment)) }
+        ensures files { KeepsFiles Self.file_bytes Self.sheet_bytes self.old self.new }
         ensures shows { shows self.new ≡ shows self.old };
 
     /// Lends the door through which visits come at a port of the machine itself, 1 to 65,535. The machine keeps

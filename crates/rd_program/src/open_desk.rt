@@ -2,6 +2,7 @@
 
 ghost use Rattle.std.specs.Prelude.{◌≡◌, Err, IfErr, IfOk, IfSome, IsSome, IsTrue, Ok};
 ghost use Rattle.rd_program.specs.Leaves.{GivesBack, IsDayAt, LeavesUnopened, moment_of};
+ghost use Rattle.rd_program.specs.Rows.{KeepsFiles};
 ghost use Rattle.rd_program.specs.Serving.{IsClockRefusal, IsOpenRefusal};
 ghost use Rattle.rd_store.specs.Migrated.{IsMigrated};
 ghost use Rattle.rd_policy.specs.Days.{HasDay, IsDay};
@@ -30,6 +31,7 @@ pub(crate) fn open_desk<M: Machine>(
     ensures there { IfOk result (λ _. IsTrue (M.shows machine.old) → IsSome (M.stands machine.old store.now)) }
     ensures shows { M.shows machine.new ≡ M.shows machine.old }
     ensures clock { IfOk result (λ _. M.clock machine.new ≡ M.clock machine.old) }
+    ensures files { IfOk result (λ _. KeepsFiles M.file_bytes M.sheet_bytes machine.old machine.new) }
     ensures door { M.door machine.new ≡ M.door machine.old }
     ensures back { IfErr result (λ _. GivesBack (M.shows machine.old) (M.left machine.old) (M.left machine.new)) }
     ensures refused { IfErr result IsOpenRefusal }
@@ -54,6 +56,7 @@ pub(crate) fn open_desk<M: Machine>(
 /// It fails with `Clock`, and with `NoMemory`.
 fn clock_seconds<M: Machine>(machine: &mut M) -> Result<i64, Refusal>
     ensures shown { IfOk result (λ seconds. IfSome (M.clock machine.old) (λ moment. seconds ≡ moment)) }
+    ensures files { KeepsFiles M.file_bytes M.sheet_bytes machine.old machine.new }
     ensures shows { M.shows machine.new ≡ M.shows machine.old }
     ensures refused { IfErr result IsClockRefusal }
 {
@@ -69,6 +72,7 @@ fn clock_seconds<M: Machine>(machine: &mut M) -> Result<i64, Refusal>
 fn seconds_of<M: Machine>(told: Option<i64>, machine: &mut M) -> Result<i64, Refusal>
     ensures asked { IfOk result (λ seconds. IfSome (moment_of told (M.clock machine.old)) (λ moment. seconds ≡ moment)) }
     ensures told { IfSome told (λ seconds. result ≡ Ok seconds) }
+    ensures files { KeepsFiles M.file_bytes M.sheet_bytes machine.old machine.new }
     ensures shows { M.shows machine.new ≡ M.shows machine.old }
     ensures refused { IfErr result IsClockRefusal }
 {
@@ -88,6 +92,7 @@ pub(crate) fn visit_day<S: Alter, M: Machine>(
     machine: &mut M,
 ) -> Result<i32, Refusal>
     ensures day { IfOk result (IsDayAt (moment_of told (M.clock machine.old)) desk.now.zone) }
+    ensures files { KeepsFiles M.file_bytes M.sheet_bytes machine.old machine.new }
     ensures shows { M.shows machine.new ≡ M.shows machine.old }
     ensures in_range { IfOk result IsDay }
     ensures told { IfSome told (λ seconds.

@@ -17,6 +17,7 @@ use Rattle.sha2.specs.Sha256.{sha256}
 use Rattle.std.specs.Prelude.{IsSome}
 use Rattle.rd_program.specs.Filing.{GivesFile, IsOfImage}
 use Rattle.rd_program.specs.Showing.{AnswersBy}
+use Rattle.rd_program.specs.Rows.{ImportsBy}
 use Rattle.rd_program.specs.Visiting.{ServesBy}
 use Rattle.rd_commands.specs.declared.done.Done.TheVariants.{InPart}
 use Rattle.rd_program.proofs.dispatch.perform.Goals as goal
@@ -421,6 +422,11 @@ pub returns-in-Import-clause-answers : goal.returns-in-Import-clause-answers
 returns-in-Import-clause-answers g c =
     subst (λ ask. AnswersBy g.M.Disk.Store (g.M.Machine.clock c.args.machine.now) (g.M.Machine.stands c.args.machine.now) (g.M.Machine.left c.import.new.machine)
     (g.W.Write.contents c.args.output.now) (g.W.Write.contents c.import.new.output) ask c.import.result) (sym c.in-Import.is) tt
+
+pub returns-in-Import-clause-imports : goal.returns-in-Import-clause-imports
+returns-in-Import-clause-imports g c =
+    subst (λ ask. ImportsBy g.M.Disk.Store (g.M.Files.file_bytes c.args.machine.now) (g.M.Files.sheet_bytes c.args.machine.now) (g.M.Machine.clock c.args.machine.now) (g.M.Machine.stands c.args.machine.now)
+    (g.M.Machine.left c.import.new.machine) (g.W.Write.contents c.args.output.now) (g.W.Write.contents c.import.new.output) ask c.import.result) (sym c.in-Import.is) c.import.ensures.rows
 
 pub returns-in-Import-clause-of_file : goal.returns-in-Import-clause-of_file
 returns-in-Import-clause-of_file g c =

@@ -15,6 +15,8 @@ use Rattle.rd_commands.specs.Refusals.{IsOfDevice}
 use Rattle.rd_program.specs.Leaves.{IsDayBy, moment_of}
 use Rattle.rd_program.specs.Showing.{EndsWith, FindsStore, found_by, what_of}
 use Rattle.rd_commands.proofs.HelpLine.{help_not_taken}
+use Rattle.rd_program.specs.Rows.{TakesSheetIn}
+use Rattle.rd_program.proofs.RowLemmas.{imports_by}
 use Rattle.rd_program.proofs.Visiting.{serves_by}
 use Rattle.rd_program.proofs.Filed.{files_done, help_told, of_image, one_file_done}
 use Rattle.rd_commands.proofs.Asked.{help_asked, no_fault_in}
@@ -671,3 +673,38 @@ returns-in-Err-clause-visits g c = λ zero store port count rule asks.
 
 pub returns-in-Err-clause-back : goal.returns-in-Err-clause-back
 returns-in-Err-clause-back g c = λ shows had. had
+
+-- ---- rows
+
+pub returns-in-Ok-perform-clause-rows : goal.returns-in-Ok-perform-clause-rows
+returns-in-Ok-perform-clause-rows g c = λ zero store key sheet moment rule asked.
+    subst (λ done. EndsWith (g.M.Machine.stands c.args.machine.now store) (g.M.Machine.left c.perform.new.machine) (TakesSheetIn g.M.Disk.Store (g.M.Files.file_bytes c.args.machine.now) (sha256 (trim_ows key))
+    (IsDayBy (moment_of moment (g.M.Machine.clock c.args.machine.now)) rule) (g.M.Files.sheet_bytes c.args.machine.now sheet) (g.W.Write.contents c.args.output.now) (g.W.Write.contents c.perform.new.output) done))
+    (c.status.ensures.whole zero)
+    (imports_by g.M.Disk.Store (g.M.Files.file_bytes c.args.machine.now) (g.M.Files.sheet_bytes c.args.machine.now) (g.M.Machine.clock c.args.machine.now) (g.M.Machine.stands c.args.machine.now)
+    (g.M.Machine.left c.perform.new.machine) (g.W.Write.contents c.args.output.now) (g.W.Write.contents c.perform.new.output) c.in-Ok.ask c.in-Ok-perform.done store key sheet moment rule
+    (c.in-Ok.ensures.read.import store key sheet moment rule asked) c.in-Ok-perform.ensures.imports)
+
+pub returns-in-Err-perform-clause-rows : goal.returns-in-Err-perform-clause-rows
+returns-in-Err-perform-clause-rows g c = λ zero. absurd (not_done c.in-Err-perform.refused (sym c.tell_refusal.ensures.status ∙ zero))
+
+pub returns-in-Ok-perform-clause-rows_in_part : goal.returns-in-Ok-perform-clause-rows_in_part
+returns-in-Ok-perform-clause-rows_in_part g c = λ one store key sheet moment rule asked.
+    inl (subst (λ done. EndsWith (g.M.Machine.stands c.args.machine.now store) (g.M.Machine.left c.perform.new.machine) (TakesSheetIn g.M.Disk.Store (g.M.Files.file_bytes c.args.machine.now) (sha256 (trim_ows key))
+    (IsDayBy (moment_of moment (g.M.Machine.clock c.args.machine.now)) rule) (g.M.Files.sheet_bytes c.args.machine.now sheet) (g.W.Write.contents c.args.output.now) (g.W.Write.contents c.perform.new.output) done))
+    (c.status.ensures.in_part (one_is_some one))
+    (imports_by g.M.Disk.Store (g.M.Files.file_bytes c.args.machine.now) (g.M.Files.sheet_bytes c.args.machine.now) (g.M.Machine.clock c.args.machine.now) (g.M.Machine.stands c.args.machine.now)
+    (g.M.Machine.left c.perform.new.machine) (g.W.Write.contents c.args.output.now) (g.W.Write.contents c.perform.new.output) c.in-Ok.ask c.in-Ok-perform.done store key sheet moment rule
+    (c.in-Ok.ensures.read.import store key sheet moment rule asked) c.in-Ok-perform.ensures.imports))
+
+pub returns-in-Err-perform-clause-rows_in_part : goal.returns-in-Err-perform-clause-rows_in_part
+returns-in-Err-perform-clause-rows_in_part g c = λ one store key sheet moment rule asked.
+    inr (tells (λ _. ⊤) c.in-Err-perform.refused _ _ _ tt c.tell_refusal.ensures.status c.tell_refusal.ensures.told)
+
+pub returns-in-Err-clause-rows_in_part : goal.returns-in-Err-clause-rows_in_part
+returns-in-Err-clause-rows_in_part g c = λ one. absurd (c.tell_unread.ensures.not_refused one)
+
+pub returns-in-Err-clause-rows : goal.returns-in-Err-clause-rows
+returns-in-Err-clause-rows g c = λ zero store key sheet moment rule asks.
+    let memory = c.tell_unread.ensures.memory (c.in-Err.ensures.unread (inr (inr (inr (inr (inl (store, key, sheet, moment, rule, asks))))))) in
+    let three : c.tell_unread.result ≡ 3 = memory.0 in absurd (omega arith)

@@ -1,7 +1,8 @@
-use Rattle.std.proofs.Common.{◌∙◌, IsTrue, subst, sym}
+use Rattle.std.proofs.Common.{◌∙◌, IsTrue, ap, subst, sym}
 use Rattle.sha2.specs.Sha256.{sha256}
 use Rattle.rd_program.specs.Leaves.{IsDayAt, LeavesDesk, TakesIn, moment_of}
 use Rattle.rd_program.proofs.Filed.{on_ok_always}
+use Rattle.rd_program.proofs.RowLemmas.{sheet_ended}
 use Rattle.rd_program.proofs.Left.{desk_left, gives_back, unopened_left}
 use Rattle.rd_program.proofs.import.import.Goals as goal
 
@@ -28,6 +29,19 @@ returns-in_err-desk-clause-takes g c =
     unopened_left g.M.Disk.Store (g.M.Machine.left c.args.machine.now) (g.M.Machine.stands c.args.machine.now c.args.ask.store.now) (g.M.Machine.left c.open_desk.new.machine)
     (TakesIn (sha256 c.args.ask.key.now) (IsDayAt (moment_of c.args.ask.when.seconds (g.M.Machine.clock c.args.machine.now)) c.args.ask.when.zone)) c.in_err-desk.field-0.0
     c.in_err-desk.ensures.refused c.in_err-desk.ensures.left
+
+pub returns-clause-rows : goal.returns-clause-rows
+returns-clause-rows g c =
+    let told = c.args.ask.when.seconds in
+    let before = c.args.machine.now in
+    let opened = c.open_desk.new.machine in
+    sheet_ended g.M.Disk.Store (g.M.Files.file_bytes before) (g.M.Files.file_bytes opened) (sha256 c.args.ask.key.now)
+    (IsDayAt (moment_of told (g.M.Machine.clock before)) c.args.ask.when.zone) (IsDayAt (moment_of told (g.M.Machine.clock opened)) c.in_ok-desk.desk.zone)
+    (g.M.Files.sheet_bytes before c.args.ask.sheet.now) (g.M.Files.sheet_bytes opened c.args.ask.sheet.now) (g.W.Write.contents c.args.output.now) (g.W.Write.contents c.import_sheet-imported.new.output)
+    c.import_sheet-imported.result (g.M.Machine.stands before c.args.ask.store.now) (g.M.Machine.left c.release.new.self)
+    c.in_ok-desk.desk.store c.import_sheet-imported.new.desk.store c.into_connection.result c.in_ok-desk.ensures.files.0 (ap (λ sheets. sheets c.args.ask.sheet.now) c.in_ok-desk.ensures.files.1)
+    (λ day at. subst (λ m. IsDayAt (moment_of told m) c.args.ask.when.zone day) c.in_ok-desk.ensures.clock (subst (λ z. IsDayAt (moment_of told (g.M.Machine.clock opened)) z day) c.in_ok-desk.ensures.zone at))
+    c.in_ok-desk.ensures.opened c.import_sheet-imported.ensures.takes.lasts (c.into_connection.ensures.same ∙ c.into_store.ensures) c.release.ensures.left c.import_sheet-imported.ensures.rows
 
 pub returns-clause-there : goal.returns-clause-there
 returns-clause-there g c = on_ok_always c.import_sheet-imported.result _ c.in_ok-desk.ensures.there

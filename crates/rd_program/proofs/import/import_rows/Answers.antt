@@ -1,10 +1,12 @@
-use Rattle.std.proofs.Common.{rules, subst, sym, ◌∙◌}
+use Rattle.std.proofs.Common.{◌+◌, inl, refl, rules, subst, sym, ◌∙◌}
 use Rattle.csv.specs.Records.{fields_of}
 use Rattle.rd_policy.specs.Zones.{day_number}
 use Rattle.rd_program.specs.Leaves.{LeavesDesk, TakesFields}
 use Rattle.rd_program.specs.Importing.{IsDoneLine, TellsRows}
 use Rattle.rd_commands.specs.declared.done.Done.TheVariants.{Whole}
-use Rattle.rd_program.proofs.Imported.{ends_at_row, ends_between, no_rows, rows_more}
+use Rattle.rd_program.proofs.Imported.{ends_at_row, ends_between, no_rows, rows_more, rows_of}
+use Rattle.rd_program.proofs.RowLemmas.{RowsSoFar, after_rows, before_rows, row_then}
+use Rattle.rd_program.specs.Rows.{GivesLine, IsRowTaken}
 use Rattle.rd_program.proofs.Stepped.{row_more}
 use Rattle.rd_program.proofs.import.import_rows.Goals as goal
 
@@ -27,8 +29,39 @@ loop-number-preserved g c = record {
       (rows_more c.loop-number.done c.in_ok-row.row _ _ _ c.loop-number.invariant.told c.in_ok-row.ensures.told);
   same = c.import_fields.ensures.same ∙ c.loop-number.invariant.same;
   zone = c.import_fields.ensures.zone ∙ c.loop-number.invariant.zone;
+  rows = subst (λ d. RowsSoFar g.M.Disk.Store (g.M.Files.file_bytes c.args.machine.now) c.args.giver.badge c.args.giver.day c.args.sheet.now (g.W.Write.contents c.args.output.now)
+      (g.W.Write.contents c.import_fields.new.output) c.args.desk.now.store c.import_fields.new.desk.store c.next_row-in-loop-number.new.reader (c.loop-number.number + 1) d) (sym c.and-done.ensures)
+      (row_then g.M.Disk.Store (g.M.Files.file_bytes c.args.machine.now) c.args.giver.badge c.args.giver.day c.args.sheet.now (g.W.Write.contents c.args.output.now) c.args.desk.now.store
+      c.loop-number.desk.store c.import_fields.new.desk.store (g.W.Write.contents c.loop-number.output) (g.W.Write.contents c.import_fields.new.output) c.loop-number.reader c.next_row-in-loop-number.new.reader
+      c.loop-number.number c.loop-number.done c.in_ok-row.row c.in_ok-next_row-2.field-0 _ c.loop-number.invariant.rows
+      (c.in_ok-next_row-2.ensures.read c.loop-number.invariant.rows.at.untrimmed c.loop-number.invariant.rows.at.ready)
+      (c.in_ok-next_row-2.ensures.kept) (c.in_ok-next_row-2.ensures.ready c.loop-number.invariant.rows.at.untrimmed) (search rules)
+      (λ o. c.import_fields.ensures.takes.lasts.was_open o)
+      (subst (λ m. GivesLine g.M.Disk.Store (λ line. IsRowTaken (g.M.Files.file_bytes m) c.args.giver.badge c.args.giver.day c.loop-number.number (fields_of c.next_row-in-loop-number.new.fields) line c.in_ok-row.row) (g.W.Write.contents c.loop-number.output) (g.W.Write.contents c.import_fields.new.output) c.loop-number.desk.store c.import_fields.new.desk.store) c.loop-number.invariant.same c.in_ok-row.ensures.row));
   takes = row_more g.M.Disk.Store c.args.giver.badge c.args.giver.day _ c.args.desk.now.store c.loop-number.desk.store c.import_fields.new.desk.store c.loop-number.invariant.takes c.import_fields.ensures.takes;
 }
+
+pub loop-number-init : goal.loop-number-init
+loop-number-init g c = record {
+  told = search rules;
+  same = search rules;
+  zone = search rules;
+  rows = before_rows g.M.Disk.Store (g.M.Files.file_bytes c.args.machine.now) c.args.giver.badge c.args.giver.day c.args.sheet.now (g.W.Write.contents c.args.output.now) c.args.desk.now.store
+      c.from_reader-reader.result c.next_row.new.reader c.in_ok-next_row.field-0 _
+      (record { source = search rules; state_is = search rules; config = search rules; untrimmed = search rules; ready = search rules; well = search rules })
+      (c.in_ok-next_row.ensures.read (search rules) (search rules)) c.in_ok-next_row.ensures.kept (c.in_ok-next_row.ensures.ready (search rules)) (search rules) (search rules);
+  takes = search rules;
+}
+
+pub returns-then-not-branch-2-clause-rows : goal.returns-then-not-branch-2-clause-rows
+returns-then-not-branch-2-clause-rows g c is_open =
+    after_rows g.M.Disk.Store (g.M.Files.file_bytes c.args.machine.now) c.args.giver.badge c.args.giver.day c.args.sheet.now (g.W.Write.contents c.args.output.now) c.args.desk.now.store
+    c.loop-number.desk.store (g.W.Write.contents c.loop-number.output) c.loop-number.reader c.next_row-in-loop-number.new.reader c.loop-number.number c.loop-number.done c.in_ok-next_row-2.field-0 _
+    c.loop-number.invariant.rows (c.in_ok-next_row-2.ensures.read c.loop-number.invariant.rows.at.untrimmed c.loop-number.invariant.rows.at.ready)
+    c.in_ok-next_row-2.ensures.kept (c.in_ok-next_row-2.ensures.ready c.loop-number.invariant.rows.at.untrimmed) (search rules) is_open
+
+pub returns-clause-refused : goal.returns-clause-refused
+returns-clause-refused g c = inl (refl, rows_of c.loop-number.done _ _ c.loop-number.invariant.told)
 
 pub returns-in_err-row-clause-takes : goal.returns-in_err-row-clause-takes
 returns-in_err-row-clause-takes g c =

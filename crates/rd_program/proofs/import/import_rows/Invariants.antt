@@ -1,6 +1,7 @@
 use Rattle.std.proofs.Common.{◌≡◌}
 use Rattle.rd_program.specs.Importing.{TellsRows}
 use Rattle.rd_program.specs.Leaves.{LeavesDesk, TakesIn}
+use Rattle.rd_program.proofs.RowLemmas.{RowsSoFar}
 use Rattle.rd_program.proofs.import.import_rows.Given as goal
 
 abbrev pub invariant-loop-number : goal.invariant-loop-number
@@ -8,5 +9,7 @@ invariant-loop-number g l = record {
   told : TellsRows (g.W.Write.contents l.fn.output) (g.W.Write.contents l.output) l.done;
   same : l.machine ≡ l.fn.machine;
   zone : l.desk.zone ≡ l.fn.desk.zone;
+  rows : RowsSoFar g.M.Disk.Store (g.M.Files.file_bytes l.fn.machine) l.giver.badge l.giver.day l.sheet (g.W.Write.contents l.fn.output) (g.W.Write.contents l.output)
+      l.fn.desk.store l.desk.store l.reader l.number l.done;
   takes : LeavesDesk g.M.Disk.Store (TakesIn l.giver.badge (λ day. day ≡ l.giver.day)) l.fn.desk.store l.desk.store;
 }
