@@ -10,3 +10,4 @@ pub mod Showing
 pub mod Visiting
 pub mod LeftBy
 pub mod RowLemmas
+pub mod Unasked

@@ -8,6 +8,7 @@ pub mod Showing
 pub mod Doors
 pub mod Visiting
 pub mod Rows
+pub mod Asked
 pub use Rattle.rd_commands.specs.Words
 pub use Rattle.rd_commands.specs.CommandLine
 pub use Rattle.rd_commands.specs.Zones

@@ -1,7 +1,8 @@
 -- What the command `serve` gives.
-use Rattle.std.specs.Prelude.{◌≡◌, ◌⊎◌, ℕ, List, Option, ◌++◌, codes}
+use Rattle.std.specs.Prelude.{◌≡◌, ◌⊎◌, ℕ, ℤ, Err, IfSome, List, Ok, Option, Result, ◌++◌, codes}
 use Rattle.std.specs.Fmt.{decimal}
 use Rattle.std.specs.Io.KnownBytes.{Appends, Keeps}
+use Rattle.rd_policy.specs.Days.{HasDay}
 use Rattle.rd_http.specs.declared.serve.Ended.{Ended}
 use Rattle.rd_http.specs.declared.serve.Ended.TheVariants as ended
 use Rattle.rd_commands.specs.Output.{AppendsPart}
@@ -29,6 +30,23 @@ IsOpenRefusal refusal = (refusal ≡ NotADesk) ⊎ ((refusal ≡ Version) ⊎ ((
 -- why there is no moment that has a day
 abbrev pub IsClockRefusal : Refusal → Type 0
 IsClockRefusal refusal = (refusal ≡ Clock) ⊎ (refusal ≡ NoMemory)
+
+-- If the moment is known and has no day, no desk is asked: this is refused because of the moment, or for want of memory.
+abbrev pub IsDayless : {T : Type 0} → Option ℤ → Result T Refusal → Type 0
+IsDayless moment result = IfSome moment (λ seconds. ¬ HasDay seconds → (result ≡ Err Clock) ⊎ (result ≡ Err NoMemory))
+
+-- this result is a refusal of which this holds
+abbrev pub IsRefused : {T : Type 0} → (Refusal → Type 0) → Result T Refusal → Type 0
+IsRefused P (Ok value) = ⊥
+IsRefused P (Err refusal) = P refusal
+
+-- why a command that opens a desk and asks at a moment fails before it asks
+abbrev pub IsUnaskedRefusal : Refusal → Type 0
+IsUnaskedRefusal refusal = IsOpenRefusal refusal ⊎ IsClockRefusal refusal
+
+-- If the moment is known and has no day, the command fails before it asks the desk.
+abbrev pub IsUnasked : {T : Type 0} → Option ℤ → Result T Refusal → Type 0
+IsUnasked moment result = IfSome moment (λ seconds. ¬ HasDay seconds → IsRefused IsUnaskedRefusal result)
 
 -- Why `serve` fails, and what was written then: nothing if the desk was not opened, the first line
 -- if a moment had no day, and a front part of both lines if the device failed or memory ran out.

@@ -18,7 +18,9 @@ ghost use Rattle.rd_program.specs.Leaves.{Checks, GivesBack, IsDayBy, IsSame, Le
 ghost use Rattle.rd_commands.specs.Listed.{Lists, RefusesList};
 ghost use Rattle.rd_commands.specs.Refusals.{IsOfDevice, status_of};
 ghost use Rattle.rd_program.specs.Rows.{ImportsBy, TakesSheetIn};
-ghost use Rattle.rd_program.specs.Serving.{RefusesServe, serve_text};
+ghost use Rattle.rd_policy.specs.Days.{HasDay};
+ghost use Rattle.rd_program.specs.Asked.{AsksAt, IsUnaskedBy};
+ghost use Rattle.rd_program.specs.Serving.{IsUnaskedRefusal, RefusesServe, serve_text};
 ghost use Rattle.rd_holdings.specs.declared.rows.Outcome.TheVariants as Outcome;
 ghost use Rattle.rd_protocol.specs.declared.request.What.TheVariants as What;
 ghost use Rattle.rd_program.specs.Doors.Place.{Port};
@@ -92,6 +94,7 @@ fn perform<R: Read, W: Write, M: Machine>(
         (M.stands machine.old) (M.left machine.new) ask.entry) }
     ensures imports { ImportsBy M.Disk.Store (M.file_bytes machine.old) (M.sheet_bytes machine.old) (M.clock machine.old) (M.stands machine.old)
         (M.left machine.new) (W.contents output.old) (W.contents output.new) ask.entry result }
+    ensures unasked { IsUnaskedBy (M.clock machine.old) ask.entry result }
     ensures of_file { GivesFile (M.file_bytes machine.old) (W.contents output.old) (W.contents output.new) ask.entry result }
     ensures untouched { IsOfImage ask.entry → machine.new ≡ machine.old }
     ensures back { GivesBack (M.shows machine.old) (M.left machine.old) (M.left machine.new) }
@@ -314,6 +317,10 @@ pub fn run<R: Read, W: Write, E: Write, M: Machine>(
 
     // A machine that shows its connections, and had one, has one again, whatever the words ask for. The
     // machine stays as it was if the words ask for a file or the files of an image, and at 2.
+    // An `import`, an `export`, a `check` and a `show` look at the store first, then at the moment, and then at all else.
+    ensures unasked { (store : List ℕ) (moment : Option ℤ) (rule : List ℕ) → AsksAt (map (λ word. word.now) words.entry.now) store moment rule
+        → IfSome (moment_of moment (M.clock machine.old)) (λ seconds. ¬ HasDay seconds
+        → Tells IsUnaskedRefusal result (E.contents errors.old) (E.contents errors.new)) }
     ensures back { GivesBack (M.shows machine.old) (M.left machine.old) (M.left machine.new) }
     ensures untouched { (kind : Kind) → AsksOfKind (map (λ word. word.now) words.entry.now) kind → machine.new ≡ machine.old }
     ensures usage_untouched { result ≡ 2 → machine.new ≡ machine.old }

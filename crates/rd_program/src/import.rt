@@ -9,6 +9,7 @@ ghost use Rattle.rd_policy.specs.Days.{IsDay};
 ghost use Rattle.rd_desk.specs.Served.{Responds};
 ghost use Rattle.rd_program.specs.Importing as spec;
 ghost use Rattle.rd_program.specs.Rows.{GivesLine, IsRowTaken, TakesImage, TakesSheet, TakesSheetIn, TakesSheetOn};
+ghost use Rattle.rd_program.specs.Serving.{IsDayless, IsUnasked};
 ghost use Rattle.rd_program.specs.Showing.{EndsWith};
 ghost use Rattle.rd_program.specs.Importing.{RefusesImport, RefusesRow, RefusesRows, TellsAnswer, TellsRow, TellsRows, bad_row_line, accession_line};
 ghost use Rattle.rd_program.specs.Leaves.{GivesBack, IsDayAt, IsOfOpenDesk, Leaves, LeavesDesk, LeavesStore, NamesOpening, TakesFields, TakesIn, TakesRow, moment_of};
@@ -252,6 +253,7 @@ fn import_sheet<W: Write, M: Machine>(
 ) -> Result<Done, Refusal>
     ensures told { IfOk result (TellsRows (W.contents output.old) (W.contents output.new)) }
     ensures refused { IfErr result (RefusesImport (W.contents output.old) (W.contents output.new)) }
+    ensures dayless { IsDayless (moment_of ask.entry.when.seconds (M.clock machine.old)) result }
     ensures opened { IfErr result IsOfOpenDesk }
     ensures takes { LeavesDesk M.Disk.Store (TakesIn (sha256 ask.entry.key.now)
         (IsDayAt (moment_of ask.entry.when.seconds (M.clock machine.old)) desk.old.zone)) desk.old.store desk.new.store }
@@ -291,6 +293,7 @@ pub(crate) fn import<W: Write, M: Machine>(
         (TakesSheetIn M.Disk.Store (M.file_bytes machine.old) (sha256 ask.entry.key.now)
         (IsDayAt (moment_of ask.entry.when.seconds (M.clock machine.old)) ask.entry.when.zone)
         (M.sheet_bytes machine.old ask.entry.sheet.now) (W.contents output.old) (W.contents output.new) done)) }
+    ensures unasked { IsUnasked (moment_of ask.entry.when.seconds (M.clock machine.old)) result }
     ensures back { GivesBack (M.shows machine.old) (M.left machine.old) (M.left machine.new) }
     ensures there { OnOk result (IsTrue (M.shows machine.old) → IsSome (M.stands machine.old ask.entry.store.now)) }
     ensures opens { IfErr result (NamesOpening M.Disk.Store (M.stands machine.old ask.entry.store.now) (M.left machine.new)) }

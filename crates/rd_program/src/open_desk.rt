@@ -3,7 +3,7 @@
 ghost use Rattle.std.specs.Prelude.{◌≡◌, Err, IfErr, IfOk, IfSome, IsSome, IsTrue, Ok};
 ghost use Rattle.rd_program.specs.Leaves.{GivesBack, IsDayAt, LeavesUnopened, moment_of};
 ghost use Rattle.rd_program.specs.Rows.{KeepsFiles};
-ghost use Rattle.rd_program.specs.Serving.{IsClockRefusal, IsOpenRefusal};
+ghost use Rattle.rd_program.specs.Serving.{IsClockRefusal, IsDayless, IsOpenRefusal};
 ghost use Rattle.rd_store.specs.Migrated.{IsMigrated};
 ghost use Rattle.rd_policy.specs.Days.{HasDay, IsDay};
 ghost use Rattle.rd_policy.specs.Zones.{day_number};
@@ -97,6 +97,7 @@ pub(crate) fn visit_day<S: Alter, M: Machine>(
     ensures in_range { IfOk result IsDay }
     ensures told { IfSome told (λ seconds.
         (HasDay seconds → result ≡ Ok (day_number seconds desk.now.zone)) × (¬ HasDay seconds → result ≡ Err Refusal.Clock)) }
+    ensures dayless { IsDayless (moment_of told (M.clock machine.old)) result }
     ensures refused { IfErr result IsClockRefusal }
 {
     let seconds = seconds_of(told, machine)?;

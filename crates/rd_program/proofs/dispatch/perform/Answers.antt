@@ -17,6 +17,7 @@ use Rattle.sha2.specs.Sha256.{sha256}
 use Rattle.std.specs.Prelude.{IsSome}
 use Rattle.rd_program.specs.Filing.{GivesFile, IsOfImage}
 use Rattle.rd_program.specs.Showing.{AnswersBy}
+use Rattle.rd_program.specs.Asked.{IsUnaskedBy}
 use Rattle.rd_program.specs.Rows.{ImportsBy}
 use Rattle.rd_program.specs.Visiting.{ServesBy}
 use Rattle.rd_commands.specs.declared.done.Done.TheVariants.{InPart}
@@ -422,6 +423,12 @@ pub returns-in-Import-clause-answers : goal.returns-in-Import-clause-answers
 returns-in-Import-clause-answers g c =
     subst (λ ask. AnswersBy g.M.Disk.Store (g.M.Machine.clock c.args.machine.now) (g.M.Machine.stands c.args.machine.now) (g.M.Machine.left c.import.new.machine)
     (g.W.Write.contents c.args.output.now) (g.W.Write.contents c.import.new.output) ask c.import.result) (sym c.in-Import.is) tt
+
+pub returns-in-Import-clause-unasked : goal.returns-in-Import-clause-unasked
+returns-in-Import-clause-unasked g c = subst (λ ask. IsUnaskedBy (g.M.Machine.clock c.args.machine.now) ask c.import.result) (sym c.in-Import.is) c.import.ensures.unasked
+
+pub returns-in-Once-clause-unasked : goal.returns-in-Once-clause-unasked
+returns-in-Once-clause-unasked g c = subst (λ ask. IsUnaskedBy (g.M.Machine.clock c.args.machine.now) ask c.ask_once.result) (sym c.in-Once.is) c.ask_once.ensures.unasked
 
 pub returns-in-Import-clause-imports : goal.returns-in-Import-clause-imports
 returns-in-Import-clause-imports g c =

@@ -17,6 +17,8 @@ use Rattle.rd_program.specs.Showing.{EndsWith, FindsStore, found_by, what_of}
 use Rattle.rd_commands.proofs.HelpLine.{help_not_taken}
 use Rattle.rd_program.specs.Rows.{TakesSheetIn}
 use Rattle.rd_program.proofs.RowLemmas.{imports_by}
+use Rattle.rd_program.specs.Serving.{IsUnaskedRefusal}
+use Rattle.rd_program.proofs.Unasked.{always, command_at, unasked_by}
 use Rattle.rd_program.proofs.Visiting.{serves_by}
 use Rattle.rd_program.proofs.Filed.{files_done, help_told, of_image, one_file_done}
 use Rattle.rd_commands.proofs.Asked.{help_asked, no_fault_in}
@@ -708,3 +710,19 @@ pub returns-in-Err-clause-rows : goal.returns-in-Err-clause-rows
 returns-in-Err-clause-rows g c = λ zero store key sheet moment rule asks.
     let memory = c.tell_unread.ensures.memory (c.in-Err.ensures.unread (inr (inr (inr (inr (inl (store, key, sheet, moment, rule, asks))))))) in
     let three : c.tell_unread.result ≡ 3 = memory.0 in absurd (omega arith)
+
+-- ---- a moment without a day
+
+pub returns-in-Ok-perform-clause-unasked : goal.returns-in-Ok-perform-clause-unasked
+returns-in-Ok-perform-clause-unasked g c = λ store moment rule asks.
+    unasked_by _ _ (g.M.Machine.clock c.args.machine.now) c.in-Ok.ask (Ok c.in-Ok-perform.done) store moment rule c.in-Ok.ensures.read asks c.in-Ok-perform.ensures.unasked (λ none. absurd none)
+
+pub returns-in-Err-perform-clause-unasked : goal.returns-in-Err-perform-clause-unasked
+returns-in-Err-perform-clause-unasked g c = λ store moment rule asks.
+    unasked_by _ _ (g.M.Machine.clock c.args.machine.now) c.in-Ok.ask (Err c.in-Err-perform.refused) store moment rule c.in-Ok.ensures.read asks c.in-Err-perform.ensures.unasked
+    (λ is. tells IsUnaskedRefusal c.in-Err-perform.refused _ _ _ is c.tell_refusal.ensures.status c.tell_refusal.ensures.told)
+
+pub returns-in-Err-clause-unasked : goal.returns-in-Err-clause-unasked
+returns-in-Err-clause-unasked g c = λ store moment rule asks.
+    let none = c.in-Err.ensures.unread (command_at _ store moment rule asks) in
+    always _ (moment_of moment (g.M.Machine.clock c.args.machine.now)) (tells IsUnaskedRefusal NoMemory _ _ _ (inr (inr refl)) (c.tell_unread.ensures.memory none).0 (c.tell_unread.ensures.no_memory none))

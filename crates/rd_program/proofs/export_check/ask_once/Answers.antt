@@ -4,6 +4,7 @@ use Rattle.rd_program.specs.Leaves.{IsDayAt, LeavesDesk, StepsOf, moment_of}
 use Rattle.rd_program.proofs.Filed.{on_ok_always}
 use Rattle.rd_program.proofs.Showing.{answers_once, not_opened_once}
 use Rattle.rd_program.proofs.Left.{desk_left, gives_back, unopened_left}
+use Rattle.rd_program.proofs.Unasked.{unasked}
 use Rattle.rd_program.proofs.export_check.ask_once.Goals as goal
 
 pub returns-clause-back : goal.returns-clause-back
@@ -48,3 +49,8 @@ returns-in_err-desk-clause-answers g c =
 
 pub returns-clause-there : goal.returns-clause-there
 returns-clause-there g c = on_ok_always c.tell_asked-told.result _ c.in_ok-desk.ensures.there
+
+pub returns-clause-unasked : goal.returns-clause-unasked
+returns-clause-unasked g c =
+    unasked c.args.ask.when.seconds (g.M.Machine.clock c.args.machine.now) (g.M.Machine.clock c.open_desk.new.machine) c.tell_asked-told.result c.in_ok-desk.ensures.clock
+    c.tell_asked-told.ensures.dayless

@@ -3,6 +3,7 @@ use Rattle.sha2.specs.Sha256.{sha256}
 use Rattle.rd_program.specs.Leaves.{IsDayAt, LeavesDesk, TakesIn, moment_of}
 use Rattle.rd_program.proofs.Filed.{on_ok_always}
 use Rattle.rd_program.proofs.RowLemmas.{sheet_ended}
+use Rattle.rd_program.proofs.Unasked.{unasked}
 use Rattle.rd_program.proofs.Left.{desk_left, gives_back, unopened_left}
 use Rattle.rd_program.proofs.import.import.Goals as goal
 
@@ -45,3 +46,8 @@ returns-clause-rows g c =
 
 pub returns-clause-there : goal.returns-clause-there
 returns-clause-there g c = on_ok_always c.import_sheet-imported.result _ c.in_ok-desk.ensures.there
+
+pub returns-clause-unasked : goal.returns-clause-unasked
+returns-clause-unasked g c =
+    unasked c.args.ask.when.seconds (g.M.Machine.clock c.args.machine.now) (g.M.Machine.clock c.open_desk.new.machine) c.import_sheet-imported.result c.in_ok-desk.ensures.clock
+    c.import_sheet-imported.ensures.dayless
