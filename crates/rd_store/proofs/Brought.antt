@@ -1,5 +1,5 @@
 -- What bringing the tables of version 1 to version 2 comes to.
-use Rattle.std.proofs.Common.{◌≡◌, inl, inr, ℕ, pos, List, [], ◌∷◌, map, length, get_or, true, false, None, Ok, Err, Result, IfOk, IfErr, refl, sym, ap, subst, subst₂, ◌∙◌, arith}
+use Rattle.std.proofs.Common.{◌≡◌, inl, inr, ℕ, pos, List, [], ◌∷◌, map, length, get_or, true, false, None, Ok, Err, Result, IfOk, IfErr, IsTrue, refl, sym, ap, subst, subst₂, ◌∙◌, arith}
 use Rattle.sqlite.specs.declared.types.Value.TheVariants.{Int}
 use Rattle.sqlite.specs.Order.{Row, column}
 use Rattle.sqlite.specs.Tree.{Trees}
@@ -30,7 +30,7 @@ use Rattle.rd_store.specs.Held.{Holds, HoldsDesk, IsClean, IsDeskAt, IsLeft, IsO
 use Rattle.rd_store.specs.Opened.{IsHeld, IsSettledAt}
 use Rattle.rd_store.specs.Migrated.{IsFirst, IsFirstConsistent, IsHalfway, IsHeldFirst, IsMigrated, IsNotMigrated, IsSecondConsistent, LeavesOldOrMigrated, first_desk}
 use Rattle.rd_store.proofs.Creating.{one_made}
-use Rattle.rd_store.proofs.Laws.{Laws, lasts_still, lasts_then, leaves_only, left_is}
+use Rattle.rd_store.proofs.Laws.{Laws, lasts_still, lasts_then, leaves_only, left_is, same_commit}
 use Rattle.rd_store.proofs.Single.{rests_on}
 
 -- ---- trees that differ in the version alone
@@ -197,8 +197,8 @@ module _ {S : Type 0} (g : Ghosts S) (a b : Held S) (settled : IsSettledAt (stat
           apart : ¬ (first_schema ≡ desk_schema)
           apart e = let n : 7 ≡ 8 = ap (λ (s : Schema). length s.tables) e in omega (arith, n)
 
-    pub not_brought : {T X : Type 0} (e : X) → Turns {T = T} g b c Brought (Err e) → has_desk_columns a.schema ≡ true → (fault : OpenFault) → fault ≡ Sql → IsNotMigrated g a c fault
-    not_brought e turns named fault is = subst (IsNotMigrated g a c) (sym is) (record {
+    pub not_brought : {T X : Type 0} (e : X) → Laws g → ((s : S) → IsTrue (g.view s).is_open → g.recovers s (g.view s).committed) → Turns {T = T} g b c Brought (Err e) → has_desk_columns a.schema ≡ true → (fault : OpenFault) → fault ≡ Sql → IsNotMigrated g a c fault
+    not_brought e laws stays_so turns named fault is = subst (IsNotMigrated g a c) (sym is) (record {
       lasts = lasts_then g a b c stays.lasts turns.lasts;
       no_desk = rw named (λ wrong. absurd cc);
       foreign = λ other. refl;
@@ -211,6 +211,10 @@ module _ {S : Type 0} (g : Ghosts S) (a b : Held S) (settled : IsSettledAt (stat
           record { was_open = stays.lasts.was_open was; now = now; committed = at.settled ∙ now ∙ sym (settled.settled (stays.lasts.was_open was)); autocommit = at.autocommit ∙ sym settled.autocommit };
       ends_open = λ not_desk not_sql clean. absurd (not_sql refl);
       quiet = λ not_sql was clean left may. absurd (not_sql refl);
+      durable = λ o.
+          let was = turns.lasts.was_open o in
+          let at = turns.err o in
+          same_commit g laws stays_so a c o (at.settled ∙ at.holds ∙ stays.now was ∙ sym (settled.settled (stays.lasts.was_open was)));
       crash = crashed (Err e) turns;
     })
 
@@ -223,9 +227,9 @@ module _ {S : Type 0} (g : Ghosts S) (a b : Held S) (settled : IsSettledAt (stat
     all_brought (Ok value) turns = brought value turns
     all_brought (Err e) turns = tt
 
-    pub none_brought : {T : Type 0} (r : Result T OpenFault) → Turns g b c Brought r → has_desk_columns a.schema ≡ true → IfErr r (λ fault. fault ≡ Sql) → IfErr r (IsNotMigrated g a c)
-    none_brought (Ok value) turns named is = tt
-    none_brought {T} (Err fault) turns named is = not_brought {T = T} fault turns named fault is
+    pub none_brought : {T : Type 0} (r : Result T OpenFault) → Laws g → ((s : S) → IsTrue (g.view s).is_open → g.recovers s (g.view s).committed) → Turns g b c Brought r → has_desk_columns a.schema ≡ true → IfErr r (λ fault. fault ≡ Sql) → IfErr r (IsNotMigrated g a c)
+    none_brought (Ok value) laws stays_so turns named is = tt
+    none_brought {T} (Err fault) laws stays_so turns named is = not_brought {T = T} fault laws stays_so turns named fault is
 
 -- a transaction that is not begun
 pub not_begun : {S T : Type 0} (g : Ghosts S) (h : Held S) (Before After : Database → Type 0) → (IsOpen g h → IsAt Before (state g h)) → (fault : OpenFault) → Turns {T = T} g h h After (Err fault)

@@ -12,7 +12,7 @@ use Rattle.std.specs.FinMap.{get}
 use Rattle.rd_store.specs.Spelled.{desk_of, index_of}
 use Rattle.rd_store.proofs.FilesFound.{files_in, files_of}
 use Rattle.rd_store.specs.Opened.{HoldsMarksIf}
-use Rattle.rd_store.specs.Held.{Holds, IsAtRest, IsLeft, HoldsDesk, HoldsTables, HoldsCommonTables, Lasts, LeavesOnly, Stays, IsOpen, IsClean, desk}
+use Rattle.rd_store.specs.Held.{Holds, IsAtRest, IsLeft, HoldsDesk, HoldsTables, HoldsCommonTables, Lasts, LeavesOld, LeavesOnly, Stays, IsOpen, IsClean, desk}
 
 pub record Laws {S : Type 0} (g : Ghosts S) : Type 0 where
   -- while the store is open, a crash leaves the last commit
@@ -43,6 +43,11 @@ module _ {S : Type 0} (g : Ghosts S) (laws : Laws g) where
         );
     leaves = λ is_open. leaves_only h holds is_open;
   }
+
+  -- where the last commit is what it was, a crash leaves what it left
+  pub same_commit : ((s : S) → IsTrue (g.view s).is_open → g.recovers s (g.view s).committed) → (old new : Held S) → IsOpen g new → (state g new).committed ≡ (state g old).committed → LeavesOld g old new
+  same_commit stays old new is_open same was clean left may =
+      subst (g.recovers old.store) (sym (laws.settles new.store left is_open may ∙ ap (λ (db : Database). db.trees) same)) (stays old.store was)
 
 -- ---- one call after another
 

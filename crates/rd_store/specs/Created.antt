@@ -13,7 +13,7 @@ use Rattle.rd_tables.specs.Statements.{schema_after}
 use Rattle.rd_store.specs.declared.faults.CreateFault.{CreateFault}
 use Rattle.rd_store.specs.declared.faults.CreateFault.TheVariants.{Exists, Sql}
 use Rattle.rd_holdings.specs.State.{Desk, with_key}
-use Rattle.rd_store.specs.Held.{IsOpen, IsClean, IsLeft, Lasts, LeavesOnly, LeavesOpen, desk as desk_at}
+use Rattle.rd_store.specs.Held.{IsOpen, IsClean, IsLeft, Lasts, LeavesOld, LeavesOnly, LeavesOpen, desk as desk_at}
 
 -- nothing at all
 abbrev pub empty_desk : Desk
@@ -43,13 +43,16 @@ pub record IsCreated {S : Type 0} (g : Ghosts S) (old new : Held S) (staff : Lis
   pub crash : LeavesOldOrNew g old new (new_desk staff)
   pub durable : IsOpen g new → LeavesOnly g new (new_desk staff)
 
--- No desk was made: Exists exactly where a table `desk` stands, and then nothing was done. Where the
--- connection is open, its database is as it was.
+-- No desk was made: Exists exactly where a table `desk` stands, and then nothing was done; nor was anything done
+-- where any table, index or view stands. Where the connection is open, its database is as it was, and a crash
+-- leaves what it left before.
 pub record IsNotCreated {S : Type 0} (g : Ghosts S) (old new : Held S) (staff : List ℕ) (fault : CreateFault) : Type 0 where
   pub lasts : Lasts g old new
   pub exists : MatchBool (has_desk old.schema) (fault ≡ Exists) (fault ≡ Sql)
   pub same : fault ≡ Exists → new ≡ old
+  pub occupied : ¬ IsBlank old.schema → new ≡ old
   pub untouched : IsOpen g new → IsUntouched g old new
+  pub durable : IsOpen g new → LeavesOld g old new
   pub crash : LeavesOldOrNew g old new (new_desk staff)
 
 -- ---- inside

@@ -68,7 +68,7 @@ pub record IsMigrated {S : Type 0} (g : Ghosts S) (old new : Held S) : Type 0 wh
 -- No desk was opened: NotADesk exactly where no table `desk` with its columns stands, nor one whose columns
 -- are not told, and then nothing was done; where there is one whose columns are not told it is Sql. After Version
 -- and Inconsistent the connection is open, where the disk has returned what was written. Where it is open, its
--- database is as it was. After each refusal but Sql a crash leaves what it left before.
+-- database is as it was, and a crash leaves what it left before; so it does after each refusal but Sql.
 pub record IsNotMigrated {S : Type 0} (g : Ghosts S) (old new : Held S) (fault : OpenFault) : Type 0 where
   pub lasts : Lasts g old new
   pub no_desk : MatchBool (may_be_desk old.schema) (fault ≢ NotADesk) (fault ≡ NotADesk)
@@ -78,6 +78,7 @@ pub record IsNotMigrated {S : Type 0} (g : Ghosts S) (old new : Held S) (fault :
   pub untouched : IsOpen g new → IsUntouched g old new
   pub ends_open : fault ≢ NotADesk → fault ≢ Sql → IsClean g new → IsOpen g new
   pub quiet : fault ≢ Sql → LeavesOld g old new
+  pub durable : IsOpen g new → LeavesOld g old new
   pub crash : LeavesOldOrMigrated g old new
 
 -- ---- inside

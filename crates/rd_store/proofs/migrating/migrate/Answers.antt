@@ -26,6 +26,7 @@ returns-in_err-version-clause-refused g c =
       untouched = untouched_by g.S.Store old new c.requires.settled tests.stays;
       ends_open = tests.refuses;
       quiet = λ not_sql. tests.stays.quiet;
+      durable = λ is_open. tests.stays.quiet;
       crash = λ was clean left may. inl (tests.stays.quiet was clean left may);
     })
 
@@ -50,9 +51,10 @@ returns-in-First-clause-holds g c =
 
 pub returns-in-First-clause-refused : goal.returns-in-First-clause-refused
 returns-in-First-clause-refused g c =
+    let laws : Laws g.S.Store = record { settles = g.met.S.Store.settled; shuts = g.met.S.Store.shut_if_dirty } in
     let tests = c.in_ok-version.ensures.tests in
     let held = λ (is_open : IsOpen g.S.Store c.judge_each.new.conn). subst (λ (v : Version). IsHeldIn v (state g.S.Store c.args.conn.now).now) c.in-First.is (tests.holds is_open) in
-    none_brought g.S.Store c.args.conn.now c.judge_each.new.conn c.requires.settled tests.stays held tests.ends_open c.bring_up.new.conn c.bring_up.result c.bring_up.ensures.turns c.in_ok-version.ensures.names.named.0 c.bring_up.ensures.fault
+    none_brought g.S.Store c.args.conn.now c.judge_each.new.conn c.requires.settled tests.stays held tests.ends_open c.bring_up.new.conn c.bring_up.result laws g.met.S.Store.stays c.bring_up.ensures.turns c.in_ok-version.ensures.names.named.0 c.bring_up.ensures.fault
 
 pub returns-in-Second-clause-migrated : goal.returns-in-Second-clause-migrated
 returns-in-Second-clause-migrated g c =

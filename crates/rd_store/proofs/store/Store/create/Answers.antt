@@ -1,9 +1,10 @@
-use Rattle.std.proofs.Common.{◌≡◌, ◌∙◌, ap, length, rules, sym}
+use Rattle.std.proofs.Common.{◌≡◌, ◌∙◌, ap, length, refl, rules, sym}
+use Rattle.rd_tables.specs.Schemas.{IsBlank}
 use Rattle.rd_store.specs.Held.{HoldsDesk}
 use Rattle.sqlite.specs.Held.{state}
 use Rattle.rd_store.specs.Register.{register_of}
 use Rattle.rd_holdings.specs.State.{Desk}
-use Rattle.rd_store.proofs.Laws.{Laws}
+use Rattle.rd_store.proofs.Laws.{Laws, same_commit}
 use Rattle.rd_store.proofs.Registers.{register_empty}
 use Rattle.rd_store.proofs.Creating.{rests_new, made_or_old, only_new}
 use Rattle.rd_store.proofs.store.Store.create.Goals as goal
@@ -41,6 +42,8 @@ returns-in-Err-clause-refused g c =
       lasts = turns.lasts;
       exists = search rules;
       same = search rules;
+      occupied = λ stands. let blank : IsBlank c.args.conn.schema = search rules in absurd (stands blank);
       untouched = search rules;
+      durable = λ o. same_commit g.S.Store laws g.met.S.Store.stays c.args.conn c.write_desk.new.conn o ((turns.err o).settled ∙ (turns.err o).holds ∙ c.if-not-is_autocommit.ensures.settled refl (turns.lasts.was_open o));
       crash = made_or_old g.S.Store laws c.args.conn c.write_desk.new.conn c.args.staff.now long _ turns;
     }
