@@ -21,6 +21,7 @@ pub mod Rulebooks
 pub mod Searching
 pub mod Filed
 pub mod FilesTold
+pub mod OneSchema
 pub mod Brought
 pub mod Judged
 pub mod Registers

@@ -1,9 +1,9 @@
-use Rattle.std.proofs.Common.{◌≡◌, ◌∙◌, inl, inr, length, refl, sym, ap, subst, true≢false, true, false, arith}
-use Rattle.sqlite.specs.Effect.{Database}
+use Rattle.std.proofs.Common.{◌≡◌, ◌∙◌, [], ◌∷◌, ◌⊎◌, inl, inr, length, refl, sym, ap, subst, true≢false, true, false, arith}
+use Rattle.sqlite.specs.Effect.{Database, IsDatabase}
 use Rattle.sqlite.specs.Tree.{Trees}
 use Rattle.sqlite.specs.Schema.{Schema}
 use Rattle.sqlite_schema.specs.Names.{same_name}
-use Rattle.rd_tables.specs.Schemas.{desk_schema, first_schema, may_be_desk}
+use Rattle.rd_tables.specs.Schemas.{desk_schema, first_schema, marks_table, may_be_desk}
 use Rattle.rd_store.specs.declared.faults.OpenFault.{OpenFault}
 use Rattle.rd_store.specs.declared.faults.OpenFault.TheVariants.{NotADesk, Version as OtherVersion, Inconsistent, Sql}
 use Rattle.rd_store.specs.Held.{IsLeft}
@@ -13,6 +13,7 @@ use Rattle.rd_store.specs.Migrated.{IsFirstConsistent, IsSecondConsistent, Refus
 use Rattle.rd_store.specs.Opened.{IsConsistent, Refuses}
 use Rattle.rd_store.specs.Spelled.{index_of}
 use Rattle.rd_holdings.specs.State.{Desk}
+use Rattle.rd_store.proofs.OneSchema.{HaveOneKey, one_schema}
 use Rattle.rd_store.proofs.crash_laws.left_desks_open.Goals as goal
 
 consistent : (desk : Desk) (left : Trees) → IsLeft desk left → IsConsistent left
@@ -22,12 +23,12 @@ consistent desk left h = record {
   index = subst (λ (d : Desk). IsIndexOf d.images (index_of left)) (sym h.of.is) h.of.index;
 }
 
-opened : (desk : Desk) (left : Trees) → IsLeft desk left → (fault : OpenFault) → Refuses fault (record { schema = desk_schema; trees = left }) → fault ≡ Sql
+opened_here : (desk : Desk) (left : Trees) → IsLeft desk left → (fault : OpenFault) → Refuses fault (record { schema = desk_schema; trees = left }) → fault ≡ Sql
 unfolding same_name
-opened desk left h NotADesk refused = let e : true ≡ false = refused in absurd (true≢false e)
-opened desk left h OtherVersion refused = absurd (refused.2 h.of.rows.version)
-opened desk left h Inconsistent refused = absurd (refused.2 (consistent desk left h))
-opened desk left h Sql refused = refl
+opened_here desk left h NotADesk refused = let e : true ≡ false = refused in absurd (true≢false e)
+opened_here desk left h OtherVersion refused = absurd (refused.2 h.of.rows.version)
+opened_here desk left h Inconsistent refused = absurd (refused.2 (consistent desk left h))
+opened_here desk left h Sql refused = refl
 
 apart : ¬ (desk_schema ≡ first_schema)
 apart e = let n : 8 ≡ 7 = ap (λ (s : Schema). length s.tables) e in absurd (omega (arith, n))
@@ -48,8 +49,23 @@ second db is Inconsistent (inl one) = absurd (apart (sym is.0 ∙ one.0))
 second db is Inconsistent (inr two) = absurd (two.2 is.1)
 second db is Sql refused = refl
 
-migrated : (desk : Desk) (left : Trees) → IsLeft desk left → (fault : OpenFault) → RefusesEach fault (record { schema = desk_schema; trees = left }) → fault ≡ Sql
-migrated desk left h = second (record { schema = desk_schema; trees = left }) (refl, consistent desk left h)
+-- one more table after those of version 1 has no other key
+marks_short : HaveOneKey (marks_table 11 ∷ [])
+marks_short = (omega arith, tt)
+
+shown : (db : Database) → IsDatabase db → IsFirstConsistent db ⊎ IsSecondConsistent db → (schema : Schema) → IsDatabase (record { schema = schema; trees = db.trees }) → schema ≡ db.schema
+shown db sound (inl is) schema other = one_schema [] tt schema db.trees (subst (λ (s : Schema). IsDatabase (record { schema = s; trees = db.trees })) is.0 sound) other ∙ sym is.0
+shown db sound (inr is) schema other = one_schema (marks_table 11 ∷ []) marks_short schema db.trees (subst (λ (s : Schema). IsDatabase (record { schema = s; trees = db.trees })) is.0 sound) other ∙ sym is.0
+
+left_shows : (desk : Desk) (left : Trees) → IsLeft desk left → (schema : Schema) → IsDatabase (record { schema = schema; trees = left }) → schema ≡ desk_schema
+left_shows desk left h schema other = one_schema (marks_table 11 ∷ []) marks_short schema left h.of.sound other
+
+opened : (desk : Desk) (left : Trees) → IsLeft desk left → (schema : Schema) → IsDatabase (record { schema = schema; trees = left }) → (fault : OpenFault) → Refuses fault (record { schema = schema; trees = left }) → fault ≡ Sql
+opened desk left h schema other fault refused = opened_here desk left h fault (subst (λ (s : Schema). Refuses fault (record { schema = s; trees = left })) (left_shows desk left h schema other) refused)
+
+migrated : (desk : Desk) (left : Trees) → IsLeft desk left → (schema : Schema) → IsDatabase (record { schema = schema; trees = left }) → (fault : OpenFault) → RefusesEach fault (record { schema = schema; trees = left }) → fault ≡ Sql
+migrated desk left h schema other fault refused =
+    second (record { schema = desk_schema; trees = left }) (refl, consistent desk left h) fault (subst (λ (s : Schema). RefusesEach fault (record { schema = s; trees = left })) (left_shows desk left h schema other) refused)
 
 pub returns-clause-consistent : goal.returns-clause-consistent
 returns-clause-consistent c = consistent
@@ -65,3 +81,6 @@ returns-clause-first c = first
 
 pub returns-clause-second : goal.returns-clause-second
 returns-clause-second c = second
+
+pub returns-clause-shown : goal.returns-clause-shown
+returns-clause-shown c = shown
