@@ -1,4 +1,5 @@
 pub mod OneAsked
+pub mod EachAsked
 pub mod ReadLemmas
 pub mod FramingLemmas
 pub mod HeadLemmas

@@ -113,3 +113,7 @@ HasFramedHead stream =
 -- bytes ask for one thing
 abbrev pub OneAsked : Type 0
 OneAsked = (stream : List ℕ) (one other : Asked) → IsAsked stream one → IsAsked stream other → one ≡ other
+
+-- no bytes ask for nothing
+abbrev pub EachAsked : Type 0
+EachAsked = (stream : List ℕ) → ¬ ((asked : Asked) → ¬ IsAsked stream asked)

@@ -28,7 +28,7 @@ pub use answer::{of_desk, send};
 pub use fault::RequestFault;
 pub use limits::{LONGEST_BODY, LONGEST_HEAD, LONGEST_REQUEST, MOST_FIELDS};
 pub use memory::{MemoryDoor, MemoryVisit, MemoryWire, memory_reads};
-pub use request_laws::{one_asked, shown_rules_are_sent_back};
+pub use request_laws::{each_asked, one_asked, shown_rules_are_sent_back};
 pub use tcp::{Clock, TcpDoor, TcpWire};
 pub use wire::{Broken, Door, Shut, Wire};
 pub use workspace::Workspace;

@@ -1,0 +1,5 @@
+use Rattle.rd_messages.proofs.EachAsked.{each_asked}
+use Rattle.rd_messages.proofs.request_laws.each_asked.Goals as goal
+
+pub returns : goal.returns
+returns c = each_asked
