@@ -1,7 +1,7 @@
 -- What goes to a visitor rests on nothing that is hidden from them.
-use Rattle.std.proofs.Common.{◌≡◌, ◌∙◌, inl, inr, ℕ, ℤ, Bool, true, false, List, [], ◌∷◌, ◌++◌, Option, length, refl}
+use Rattle.std.proofs.Common.{◌≡◌, ◌∙◌, inl, inr, ℕ, ℤ, Bool, true, false, List, [], ◌∷◌, ◌++◌, Option, length, refl, sym, ap}
 use Rattle.sqlite.specs.Store.{Ghosts}
-use Rattle.sqlite.specs.Held.{Held}
+use Rattle.sqlite.specs.Held.{Held, state}
 use Rattle.rd_policy.specs.Zones.{day_number}
 use Rattle.rd_policy.specs.declared.zone.Zone.{Zone}
 use Rattle.rd_store.specs.Held.{IsOpen, desk}
@@ -12,11 +12,12 @@ use Rattle.rd_protocol.proofs.Showing.{shown_decides}
 use Rattle.rd_messages.specs.Asked.{request, fault}
 use Rattle.rd_http.specs.Hidden.{HiddenBytesReachNoVisitor, HidesFromVisitor, RepliesAndHides}
 use Rattle.rd_messages.specs.ReplyText.{challenge_of, head_text, reply_bytes}
-use Rattle.rd_http.specs.Runs.{Ends, HasRun, Runs}
+use Rattle.rd_http.specs.Cut.{AreRepliedUntilShut}
+use Rattle.rd_http.specs.Runs.{Ends, HasRun, IsVisit, Runs}
 use Rattle.rd_messages.specs.DoorVisits.{Coming, Told, Visit}
 use Rattle.rd_http.specs.Visits.{IsAnswer, IsReplied}
 use Rattle.rd_http.specs.declared.serve.Served.{Served}
-use Rattle.rd_http.proofs.RunLemmas.{replied}
+use Rattle.rd_http.proofs.RunLemmas.{ended_replied, replied}
 use Rattle.rd_messages.specs.Answers.{answer_bytes}
 
 -- replies that read the same have the same text
@@ -73,3 +74,51 @@ module _ (zone : Zone) where
     write_faults = run.write_faults;
     ended = run.ended;
   }
+
+-- ---- until the connection is shut
+
+module _ {S : Type 0} (g : Ghosts S) (zone : Zone) where
+  one_replied : (visit : Visit) (old mid : Held S) → IsVisit (IsAnswer g) zone visit old mid → IsOpen g mid → IsVisit RepliesAndHides zone visit (desk g old) (desk g mid)
+  one_replied visit old mid is is_open = record {
+    day = is.day;
+    ends = ended_hidden zone visit.came (desk g old) (desk g mid) (day_number visit.moment zone) visit.out visit.take_failed visit.put_failed
+        (ended_replied g zone visit.came old mid (day_number visit.moment zone) visit.out visit.take_failed visit.put_failed is.ends is_open);
+  }
+
+  one_more : (visit : Visit) (visits : List Visit) (old mid new : Held S) → IsVisit RepliesAndHides zone visit (desk g old) (desk g mid) → AreRepliedUntilShut g zone visits mid new
+      → AreRepliedUntilShut g zone (visit ∷ visits) old new
+  one_more visit visits old mid new is (inl all) = inl (desk g mid, is, all)
+  one_more visit visits old mid new is (inr cut) = inr (record {
+    before = visit ∷ cut.before;
+    last = cut.last;
+    later = cut.later;
+    mid = cut.mid;
+    shut = cut.shut;
+    are = ap (λ vs. visit ∷ vs) cut.are;
+    replied = (desk g mid, is, cut.replied);
+    was_open = cut.was_open;
+    answered = cut.answered;
+    is_shut = cut.is_shut;
+    rest = cut.rest;
+  })
+
+  by_end : (visit : Visit) (visits : List Visit) (old mid new : Held S) (b : Bool) → (state g mid).is_open ≡ b → IsOpen g old → IsVisit (IsAnswer g) zone visit old mid → Runs (IsAnswer g) zone visits mid new
+      → (IsOpen g mid → AreRepliedUntilShut g zone visits mid new) → AreRepliedUntilShut g zone (visit ∷ visits) old new
+  by_end visit visits old mid new true end was_open is runs later = one_more visit visits old mid new (one_replied visit old mid is end) (later end)
+  by_end visit visits old mid new false end was_open is runs later = inr (record {
+    before = [];
+    last = visit;
+    later = visits;
+    mid = old;
+    shut = mid;
+    are = refl;
+    replied = refl;
+    was_open = was_open;
+    answered = is;
+    is_shut = λ is_open. let e : true ≡ false = sym is_open ∙ end in cc;
+    rest = runs;
+  })
+
+  pub replied_until_shut : (visits : List Visit) (old new : Held S) → IsOpen g old → Runs (IsAnswer g) zone visits old new → AreRepliedUntilShut g zone visits old new
+  replied_until_shut [] old new is_open same = inl (ap (desk g) same)
+  replied_until_shut (visit ∷ visits) old new is_open (mid, is, runs) = by_end visit visits old mid new (state g mid).is_open refl is_open is runs (λ o. replied_until_shut visits mid new o runs)

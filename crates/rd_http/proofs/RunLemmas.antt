@@ -260,7 +260,7 @@ module _ {S : Type 0} (g : Ghosts S) (zone : Zone) where
   ended_open came old new day out false true (text, answer, cut) is_open = was_open came old new day text answer is_open
   ended_open came old new day out true pf (put, none, same) is_open = subst (IsOpen g) same is_open
 
-  ended_replied : (came : List ℕ) (old new : Held S) (day : ℤ) (out : List ℕ) (tf pf : Bool) → Ends (IsAnswer g) zone came old new day out tf pf → IsOpen g new
+  pub ended_replied : (came : List ℕ) (old new : Held S) (day : ℤ) (out : List ℕ) (tf pf : Bool) → Ends (IsAnswer g) zone came old new day out tf pf → IsOpen g new
       → Ends IsReplied zone came (desk g old) (desk g new) day out tf pf
   ended_replied came old new day out false false answer is_open = replied came old new day out answer is_open
   ended_replied came old new day out false true (text, answer, cut) is_open = (text, replied came old new day text answer is_open, cut)

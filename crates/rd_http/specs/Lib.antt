@@ -2,6 +2,7 @@
 pub mod Visits
 pub mod Hidden
 pub mod Runs
+pub mod Cut
 pub use Rattle.rd_protocol.specs.Parts
 pub use Rattle.rd_messages.specs.DoorVisits
 pub use Rattle.rd_messages.specs.Faults

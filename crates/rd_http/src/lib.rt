@@ -6,7 +6,7 @@ mod laws;
 mod serve;
 mod visit;
 
-pub use laws::hidden_bytes_reach_no_visitor;
+pub use laws::{hidden_bytes_reach_no_visitor, visits_are_replied_until_shut};
 pub use rd_messages::{
     Broken, Clock, Door, MemoryDoor, MemoryVisit, MemoryWire, Shut, TcpDoor, TcpWire, Wire,
     memory_reads, one_asked,
