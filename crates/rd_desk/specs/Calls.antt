@@ -100,7 +100,7 @@ abbrev pub LeavesStep : {S : Type 0} → Ghosts S → Held S → Held S → ℤ 
 LeavesStep g old new day request = (left : Trees) → g.recovers new.store left
     → IsLeft (desk g old) left ⊎ ((after : Desk) × IsStep (desk g old) day request after × IsLeft after left)
 
--- Any request, which makes at most one transaction.
+-- Any request.
 pub record MakesResponse {S X : Type 0} (g : Ghosts S) (old new : Held S) (day : ℤ) (request : Request) (result : Result Response X) : Type 0 where
   pub lasts : Lasts g old new
   pub judged : IsOpen g new → IsResponse (desk g old) day request result (desk g new)

@@ -4,6 +4,7 @@ use Rattle.std.specs.FinMap.{get}
 use Rattle.rd_geometry.specs.declared.kind.Kind.{Kind}
 use Rattle.rd_policy.specs.declared.audience.Audience.{Audience}
 use Rattle.rd_policy.specs.declared.rule.Band.TheVariants.{Takedown, Deed as OfDeed}
+use Rattle.rd_policy.specs.declared.rule.Effect.TheVariants.{Read}
 use Rattle.rd_policy.specs.declared.rule.Rule.{Rule}
 use Rattle.rd_volume.specs.NeededLaw.{tell_the_same}
 use Rattle.rd_volume.specs.Needed.{TellTheSame}
@@ -14,7 +15,7 @@ use Rattle.rd_holdings.specs.State.{Desk, rules_at, rules_for, rules_with, acces
 use Rattle.rd_holdings.specs.declared.rows.ImageRow.{ImageRow}
 use Rattle.rd_protocol.specs.Hidden.{HiddenBytesAreNotTold, HidesTheRest, LooksAlike, LooksAlikeShowsTheSame, LooksLike, LooksLikeAt}
 use Rattle.rd_protocol.specs.Replies.{Answers, IsLine}
-use Rattle.rd_protocol.specs.Shown.{AreReadAt, HasBytes, HasFile, IsDenied, IsListed, IsShown, IsShownAt, Shown}
+use Rattle.rd_protocol.specs.Shown.{AreReadOf, HasBytes, HasFile, IsDenied, IsListed, IsShown, IsShownAt, Shown}
 use Rattle.rd_protocol.specs.declared.request.Request.{Request}
 use Rattle.rd_protocol.specs.declared.response.Line.{Line}
 use Rattle.rd_protocol.specs.declared.response.Reply.{Reply}
@@ -46,9 +47,9 @@ module _ (rules : List Rule) (audience : Audience) (day : ℤ) (standing image :
   line_here line is = record { told = told_here line.file is.told; decided = is.decided; shown = is.shown }
 
   -- the slot of a file that is read is among those
-  slot_read : (slot : ℕ) (bytes : List ℕ) → AreReadAt standing rules audience day slot bytes → Contains like.slots slot
-  slot_read slot bytes is = subst (Contains like.slots) is.at_slot
-      (like.complete is.line.file (record { verdict = is.line.verdict; told = is.listed.told; decided = is.listed.decided; read = is.read }))
+  slot_read : (file : Found) (bytes : List ℕ) → AreReadOf standing rules audience day file bytes → Contains like.slots file.slot
+  slot_read file bytes is =
+      like.complete file (record { verdict = record { effect = Read; label = is.label }; told = is.told; decided = is.decided; read = refl })
 
   sound_there : (slot : ℕ) → IsSoundSlot standing.kind standing.bytes slot → IsSoundSlot image.kind image.bytes slot
   sound_there slot is = at_image (λ kind. IsSoundSlot kind image.bytes slot) ((same.sound slot).1 is)
@@ -56,42 +57,40 @@ module _ (rules : List Rule) (audience : Audience) (day : ℤ) (standing image :
   sound_here : (slot : ℕ) → IsSoundSlot image.kind image.bytes slot → IsSoundSlot standing.kind standing.bytes slot
   sound_here slot is = (same.sound slot).0 (at_standing (λ kind. IsSoundSlot kind image.bytes slot) is)
 
-  read_there : (slot : ℕ) (bytes : List ℕ) → AreReadAt standing rules audience day slot bytes → AreReadAt image rules audience day slot bytes
-  read_there slot bytes is = record {
-    line = is.line;
-    at_slot = is.at_slot;
-    listed = line_there is.line is.listed;
-    read = is.read;
-    sound = sound_there slot is.sound;
-    are = at_image (λ kind. AreBytesOf kind image.bytes slot bytes) ((same.bytes slot bytes (slot_read slot bytes is) is.sound).1 is.are);
+  read_there : (file : Found) (bytes : List ℕ) → AreReadOf standing rules audience day file bytes → AreReadOf image rules audience day file bytes
+  read_there file bytes is = record {
+    label = is.label;
+    told = told_there file is.told;
+    decided = is.decided;
+    sound = sound_there file.slot is.sound;
+    are = at_image (λ kind. AreBytesOf kind image.bytes file.slot bytes) ((same.bytes file.slot bytes (slot_read file bytes is) is.sound).1 is.are);
   }
 
-  read_here : (slot : ℕ) (bytes : List ℕ) → AreReadAt image rules audience day slot bytes → AreReadAt standing rules audience day slot bytes
-  read_here slot bytes is =
-      let listed : IsLine standing rules audience day is.line = line_here is.line is.listed in
-      let sound : IsSoundSlot standing.kind standing.bytes slot = sound_here slot is.sound in
-      let inside : Contains like.slots slot = subst (Contains like.slots) is.at_slot
-      (like.complete is.line.file (record { verdict = is.line.verdict; told = listed.told; decided = listed.decided; read = is.read })) in
+  read_here : (file : Found) (bytes : List ℕ) → AreReadOf image rules audience day file bytes → AreReadOf standing rules audience day file bytes
+  read_here file bytes is =
+      let told : IsFound standing.kind standing.bytes file = told_here file is.told in
+      let sound : IsSoundSlot standing.kind standing.bytes file.slot = sound_here file.slot is.sound in
+      let inside : Contains like.slots file.slot =
+      like.complete file (record { verdict = record { effect = Read; label = is.label }; told = told; decided = is.decided; read = refl }) in
       record {
-        line = is.line;
-        at_slot = is.at_slot;
-        listed = listed;
-        read = is.read;
+        label = is.label;
+        told = told;
+        decided = is.decided;
         sound = sound;
-        are = (same.bytes slot bytes inside sound).0 (at_standing (λ kind. AreBytesOf kind image.bytes slot bytes) is.are);
+        are = (same.bytes file.slot bytes inside sound).0 (at_standing (λ kind. AreBytesOf kind image.bytes file.slot bytes) is.are);
       }
 
   shown_there : (it : Shown) → IsShown standing rules audience day it → IsShown image rules audience day it
   shown_there (HasFile slot) is = at_image (λ kind. IsSlotOfFile kind image.bytes slot) ((same.file slot).1 is)
   shown_there (IsDenied slot label) is = record { file = is.file; at_slot = is.at_slot; told = told_there is.file is.told; decided = is.decided }
-  shown_there (IsListed line) is = line_there line is
-  shown_there (HasBytes slot bytes) is = read_there slot bytes is
+  shown_there (IsListed listed) is = record { line = is.line; told = line_there is.line is.told; shown = is.shown }
+  shown_there (HasBytes file bytes) is = read_there file bytes is
 
   shown_here : (it : Shown) → IsShown image rules audience day it → IsShown standing rules audience day it
   shown_here (HasFile slot) is = (same.file slot).0 (at_standing (λ kind. IsSlotOfFile kind image.bytes slot) is)
   shown_here (IsDenied slot label) is = record { file = is.file; at_slot = is.at_slot; told = told_here is.file is.told; decided = is.decided }
-  shown_here (IsListed line) is = line_here line is
-  shown_here (HasBytes slot bytes) is = read_here slot bytes is
+  shown_here (IsListed listed) is = record { line = is.line; told = line_here is.line is.told; shown = is.shown }
+  shown_here (HasBytes file bytes) is = read_here file bytes is
 
 -- ---- desks that look alike
 

@@ -10,6 +10,8 @@ pub mod Crashes
 pub mod OneAnswer
 pub mod Stepping
 pub mod Telling
+pub mod Counterparts
+pub mod ListedLemmas
 pub mod Showing
 pub mod Hiding
 pub mod Replying

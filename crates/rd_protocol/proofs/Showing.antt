@@ -1,5 +1,5 @@
 -- Desks that show the same to a caller reply the same to them, unless the staff asks what only they may.
-use Rattle.std.proofs.Common.{◌≡◌, ◌≢◌, ◌<◌, ◌⊎◌, inl, inr, ◌∙◌, ℕ, ℤ, List, Contains, IfSome, IsSomeAnd, Option, Some, None, ap, arith, get_or, length, option_map, refl, subst, sym}
+use Rattle.std.proofs.Common.{◌≡◌, ◌≢◌, ◌<◌, ◌⊎◌, inl, inr, ◌∙◌, ℕ, ℤ, List, Contains, IfSome, IsSomeAnd, Option, Some, None, ap, arith, false, get_or, length, map, option_map, refl, subst, sym}
 use Rattle.std.specs.FinMap.{get}
 use Rattle.std.proofs.lemmas.Option.{none-some}
 use Rattle.sha2.specs.Sha256.{sha256}
@@ -10,6 +10,7 @@ use Rattle.rd_policy.specs.declared.audience.Audience.TheVariants.{Staff}
 use Rattle.rd_policy.specs.declared.rule.Effect.{Effect}
 use Rattle.rd_policy.specs.declared.rule.Effect.TheVariants.{Deny, Read}
 use Rattle.rd_policy.specs.declared.rule.Rule.{Rule}
+use Rattle.rd_policy.specs.declared.verdict.Label.{Label}
 use Rattle.rd_policy.specs.declared.verdict.Verdict.{Verdict}
 use Rattle.rd_volume.specs.Founds.{IsSoundFile}
 use Rattle.rd_volume.specs.Reports.{IsSoundSlot}
@@ -24,16 +25,17 @@ use Rattle.rd_holdings.specs.declared.rows.ImageRow.{ImageRow}
 use Rattle.rd_protocol.specs.Hidden.{IsCallerOf, IsOfStaff, ReadsTheSame, ShowsItself, TellsWhatIsShown, WhatIsShownDecides}
 use Rattle.rd_protocol.specs.Judged.{Conflicts, Holds, IsAccepted, IsAsked, IsJudgedFile, IsRefused, IsRefusedOn, JudgedFile, accession_of, audience_of, deed_of, file_of, image_of}
 use Rattle.rd_protocol.specs.Refusals.{number_of}
-use Rattle.rd_protocol.specs.Lent.{Lent, bytes_lent}
+use Rattle.rd_protocol.specs.Lent.{Lent, bytes_lent, held}
 use Rattle.rd_protocol.specs.Replies.{AreImageLines, AreLines, AreListings, Answers, IsAnswered, IsDone, IsImageLine, IsLine, IsListing, LendsFile, Tells, carried_out}
 use Rattle.rd_protocol.specs.Requests.{IsForStaff}
-use Rattle.rd_protocol.specs.Texts.{reply_of}
-use Rattle.rd_protocol.specs.Shown.{AreReadAt, HasBytes, HasFile, IsDenied, IsDeniedAt, IsListed, IsShown, Shown, ShowsTheSame}
+use Rattle.rd_protocol.specs.Texts.{in_json, reply_of}
+use Rattle.rd_protocol.specs.Shown.{AreReadOf, HasBytes, HasFile, IsDenied, IsDeniedAt, IsListed, IsListedAs, IsShown, ListedFile, Shown, ShowsTheSame, listed_of}
 use Rattle.rd_protocol.specs.declared.refusal.Refusal.{Refusal}
 use Rattle.rd_protocol.specs.declared.refusal.Refusal.TheVariants.{UnknownKey, StaffOnly, BadBody, NoAccession, NoFile, NoDeed, Denied, ListedOnly, Faulty, WrongSize, DigestDiffers, Conflict}
 use Rattle.rd_protocol.specs.declared.request.Request.{Request}
 use Rattle.rd_protocol.specs.declared.request.What.{What}
 use Rattle.rd_protocol.specs.declared.request.What.TheVariants.{Images, Listing, Bytes, Catalogue}
+use Rattle.rd_protocol.specs.declared.response.Form.TheVariants.{Csv}
 use Rattle.rd_protocol.specs.declared.response.ImageLine.{ImageLine}
 use Rattle.rd_protocol.specs.declared.response.Line.{Line}
 use Rattle.rd_protocol.specs.declared.response.Listing.{Listing as Lines}
@@ -41,7 +43,9 @@ use Rattle.rd_protocol.specs.declared.response.Reply.{Reply}
 use Rattle.rd_protocol.specs.declared.response.Response.{Response}
 use Rattle.rd_protocol.specs.declared.response.Response.TheVariants as response
 use Rattle.rd_protocol.proofs.Accepting.{is_for_staff, nothing_asked}
-use Rattle.rd_protocol.proofs.OneAnswer.{named, sound_slot}
+use Rattle.rd_protocol.proofs.Counterparts.{Counterpart, HasTwin, ascends_too, complete_too, counterpart, same_length}
+use Rattle.rd_protocol.proofs.ListedLemmas.{ListedImage, same_catalogue, same_listing, shown_of}
+use Rattle.rd_protocol.proofs.OneAnswer.{named, one_listing, sound_slot}
 use Rattle.rd_protocol.proofs.Passes.{to_5}
 use Rattle.rd_protocol.proofs.Telling.{told_bytes, told_catalogue, told_images, told_listing}
 
@@ -88,40 +92,89 @@ module _ (desk other : Desk) (audience : Audience) (day : ℤ) (same : ShowsTheS
 -- ---- what is listed
 
 module _ (desk other : Desk) (audience : Audience) (day : ℤ) (same : ShowsTheSame desk audience day other) where
-  back : ShowsTheSame other audience day desk
-  back = turned desk other audience day same
+  line_too : (acc : ℕ) (image row : ImageRow) → get desk.images acc ≡ Some image → get other.images acc ≡ Some row → (line : Line)
+      → IsLine image (rules_for desk acc) audience day line → HasTwin listed_of (IsLine row (rules_for other acc) audience day) line
+  line_too acc image row here there line is =
+      let shows : IsListedAs row (rules_for other acc) audience day (listed_of line) =
+      shown_too desk other audience day same acc image row here there (IsListed (listed_of line)) (record { line = line; told = is; shown = refl }) in
+      (shows.line, shows.told, shows.shown)
 
+-- lines of one image that show the same are one
+one_line : (image : ImageRow) (rules : List Rule) (audience : Audience) (day : ℤ) (line twin : Line) → IsLine image rules audience day line
+    → IsLine image rules audience day twin → listed_of line ≡ listed_of twin → line ≡ twin
+one_line image rules audience day line twin is too same =
+    let file = one_found image.kind image.bytes line.file twin.file is.told too.told (ap (λ (listed : ListedFile). listed.slot) same) in
+    λ i. record { file = file i; verdict = (same i).verdict }
+
+-- The files that one image lists, as another lists them.
+record ListsTheSame (image : ImageRow) (rules : List Rule) (audience : Audience) (day : ℤ) (lines : List Line) : Type 0 where
+  twins : List Line
+  listed : AreLines image rules audience day twins
+  same : map listed_of twins ≡ map listed_of lines
+
+module _ (desk other : Desk) (audience : Audience) (day : ℤ) (same : ShowsTheSame desk audience day other) where
   files_too : (acc : ℕ) (image row : ImageRow) (lines : List Line) → get desk.images acc ≡ Some image → get other.images acc ≡ Some row
-      → AreLines image (rules_for desk acc) audience day lines → AreLines row (rules_for other acc) audience day lines
-  files_too acc image row lines here there are = record {
-    each = λ k line inside. shown_too desk other audience day same acc image row here there (IsListed (get_or lines k line)) (are.each k line inside);
-    ascending = are.ascending;
-    complete = λ line is. are.complete line (shown_too other desk audience day back acc row image there here (IsListed line) is);
-  }
+      → AreLines image (rules_for desk acc) audience day lines → ListsTheSame row (rules_for other acc) audience day lines
+  files_too acc image row lines here there are =
+      let Here : Line → Type 0 = IsLine image (rules_for desk acc) audience day in
+      let There : Line → Type 0 = IsLine row (rules_for other acc) audience day in
+      let twins : Counterpart listed_of There lines = counterpart listed_of Here There (line_too desk other audience day same acc image row here there) lines are.each in
+      record {
+        twins = twins.list;
+        listed = record {
+          each = twins.each;
+          ascending = ascends_too listed_of (λ (listed : ListedFile). listed.slot) lines twins.list twins.same are.ascending;
+          complete = complete_too listed_of Here There lines twins.list twins.same twins.each
+              (line_too other desk audience day (turned desk other audience day same) acc row image there here)
+              (one_line row (rules_for other acc) audience day) are.complete;
+        };
+        same = twins.same;
+      }
 
   image_line_too : (line : ImageLine) → IsImageLine desk audience day line → IsImageLine other audience day line
   image_line_too line is =
-      let there = stands desk other audience day same line.accession is.image is.standing in record {
+      let there = stands desk other audience day same line.accession is.image is.standing in
+      let files = files_too line.accession is.image there.0 is.lines is.standing there.1 is.listed in
+      record {
         image = there.0;
-        lines = is.lines;
+        lines = files.twins;
         standing = there.1;
         deed = is.deed ∙ there.3;
         kind = is.kind ∙ there.2;
-        listed = files_too line.accession is.image there.0 is.lines is.standing there.1 is.listed;
-        count = is.count;
+        listed = files.listed;
+        count = is.count ∙ sym (same_length listed_of is.lines files.twins files.same);
         some = is.some;
       }
 
-  listing_too : (acc : ℕ) (listing : Lines) → IsListing desk audience day acc listing → IsListing other audience day acc listing
+  listing_too : (acc : ℕ) (listing : Lines) → IsListing desk audience day acc listing → HasTwin shown_of (IsListing other audience day acc) listing
   listing_too acc listing is =
-      let there = stands desk other audience day same acc is.image is.standing in record {
-        image = there.0;
-        standing = there.1;
-        accession = is.accession;
-        deed = is.deed ∙ there.3;
-        kind = is.kind ∙ there.2;
-        listed = files_too acc is.image there.0 listing.files is.standing there.1 is.listed;
-      }
+      let there = stands desk other audience day same acc is.image is.standing in
+      let files = files_too acc is.image there.0 listing.files is.standing there.1 is.listed in (
+        record { accession = listing.accession; deed = listing.deed; kind = listing.kind; files = files.twins },
+        record {
+          image = there.0;
+          standing = there.1;
+          accession = is.accession;
+          deed = is.deed ∙ there.3;
+          kind = is.kind ∙ there.2;
+          listed = files.listed;
+        },
+        λ i. record { accession = listing.accession; deed = listing.deed; kind = listing.kind; files = files.same i },
+      )
+
+  own_listing_too : (listing : Lines) → IsListing desk audience day listing.accession listing
+      → HasTwin shown_of (λ (twin : Lines). IsListing other audience day twin.accession twin) listing
+  own_listing_too listing is =
+      let there = listing_too listing.accession listing is in
+      let accession : there.0.accession ≡ listing.accession = ap (λ (listed : ListedImage). listed.accession) there.2 in
+      (there.0, subst (λ acc. IsListing other audience day acc there.0) (sym accession) there.1, there.2)
+
+-- listings of one desk that show the same are one
+same_shown : (desk : Desk) (audience : Audience) (day : ℤ) (one twin : Lines) → IsListing desk audience day one.accession one
+    → IsListing desk audience day twin.accession twin → shown_of one ≡ shown_of twin → one ≡ twin
+same_shown desk audience day one twin is too same =
+    let accession : one.accession ≡ twin.accession = ap (λ (listed : ListedImage). listed.accession) same in
+    one_listing audience day desk one.accession one twin is (subst (λ acc. IsListing desk audience day acc twin) (sym accession) too)
 
 -- ---- what is asked for
 
@@ -138,13 +191,42 @@ record AreDenied (file twin : JudgedFile) : Type 0 where
   verdict : file.verdict ≡ twin.verdict
   denied : file.verdict.effect ≡ Deny
 
+-- Files of images of one kind, of which a refusal says the same.
+record AreListed (file twin : JudgedFile) : Type 0 where
+  kind : file.kind ≡ twin.kind
+  class : file.file.served_class ≡ twin.file.served_class
+  faults : file.file.faults ≡ twin.file.faults
+  verdict : file.verdict ≡ twin.verdict
+
 abbrev BothDenied : Option JudgedFile → Option JudgedFile → Type 0
 BothDenied (Some file) (Some twin) = AreDenied file twin
 BothDenied file twin = ⊥
 
--- the same file is asked for, or none; or files that are denied
+-- two such files, or none
+abbrev BothListed : Option JudgedFile → Option JudgedFile → Type 0
+BothListed None None = Unit {0}
+BothListed (Some file) (Some twin) = AreListed file twin
+BothListed file twin = ⊥
+
+-- files of which the same is shown, or none; or files that are denied
 abbrev AreAlike : Option JudgedFile → Option JudgedFile → Type 0
-AreAlike file twin = (file ≡ twin) ⊎ BothDenied file twin
+AreAlike file twin = BothListed file twin ⊎ BothDenied file twin
+
+listed_itself : (file : JudgedFile) → AreListed file file
+listed_itself file = record { kind = refl; class = refl; faults = refl; verdict = refl }
+
+listed_back : (file twin : Option JudgedFile) → BothListed file twin → BothListed twin file
+listed_back None None both = both
+listed_back (Some file) (Some twin) both = record { kind = sym both.kind; class = sym both.class; faults = sym both.faults; verdict = sym both.verdict }
+listed_back None (Some twin) wrong = absurd wrong
+listed_back (Some file) None wrong = absurd wrong
+
+-- what is said of the one is said of the other
+said_too : (P : JudgedFile → Type 0) → ((file twin : JudgedFile) → AreListed file twin → P file → P twin)
+    → (file twin : Option JudgedFile) → BothListed file twin → IsSomeAnd file P → IsSomeAnd twin P
+said_too P too None twin both h = absurd h
+said_too P too (Some file) None wrong h = absurd wrong
+said_too P too (Some file) (Some twin) both h = too file twin both h
 
 module _ (desk other : Desk) (audience : Audience) (day : ℤ) (same : ShowsTheSame desk audience day other) (request : Request) (of_caller : IsCallerOf desk request audience) where
   same_caller : (caller : Audience) → audience_of desk request.badge ≡ Some caller → caller ≡ audience
@@ -192,21 +274,27 @@ module _ (desk other : Desk) (audience : Audience) (day : ℤ) (same : ShowsTheS
         decided = subst (λ who. IsVerdict (Contains (rules_for desk is.accession)) who day judged.file judged.verdict) (same_caller is.audience is.caller) is.decided;
         shown = shown;
       } in
-      let there : IsLine row.0 (rules_for other is.accession) audience day line =
-      shown_too desk other audience day same is.accession is.image row.0 is.standing row.1 (IsListed line) here in (
-        Some judged,
+      let there = line_too desk other audience day same is.accession is.image row.0 is.standing row.1 line here in
+      let told : IsLine row.0 (rules_for other is.accession) audience day there.0 = there.1 in
+      let twin : JudgedFile = record { kind = row.0.kind; file = there.0.file; verdict = there.0.verdict } in (
+        Some twin,
         record {
           accession = is.accession;
           image = row.0;
           audience = audience;
-          asked = is.asked;
+          asked = is.asked ∙ ap (λ (listed : ListedFile). Some (is.accession, listed.slot)) (sym there.2);
           caller = caller_there is.audience is.caller ∙ ap Some (same_caller is.audience is.caller);
           standing = row.1;
-          of_kind = is.of_kind ∙ row.2;
-          told = there.told;
-          decided = there.decided;
+          of_kind = refl;
+          told = told.told;
+          decided = told.decided;
         },
-        inl refl,
+        inl (record {
+          kind = is.of_kind ∙ row.2;
+          class = ap (λ (listed : ListedFile). listed.served_class) (sym there.2);
+          faults = ap (λ (listed : ListedFile). listed.faults) (sym there.2);
+          verdict = ap (λ (listed : ListedFile). listed.verdict) (sym there.2);
+        }),
       )
 
   judged_there : (judged : JudgedFile) → IsJudgedFile desk day request judged
@@ -225,7 +313,7 @@ caller_too desk other request audience same of_caller =
 asked_here : (desk : Desk) (day : ℤ) (request : Request) (file : JudgedFile) (twin : Option JudgedFile) → IsAsked desk day request twin → AreAlike (Some file) twin
     → (judged : JudgedFile) × IsJudgedFile desk day request judged
 asked_here desk day request file (Some twin) is alike = (twin, is)
-asked_here desk day request file None none (inl wrong) = absurd (none-some file (sym wrong))
+asked_here desk day request file None none (inl wrong) = absurd wrong
 asked_here desk day request file None none (inr wrong) = absurd wrong
 
 asked_too : (desk other : Desk) (audience : Audience) (day : ℤ) → ShowsTheSame desk audience day other → (request : Request) → IsCallerOf desk request audience
@@ -236,7 +324,7 @@ asked_too desk other audience day same request of_caller None none = (
       let there = judged_there other desk audience day (turned desk other audience day same) request (caller_too desk other request audience (sym same.keys) of_caller) judged is in
       let here = asked_here desk day request judged there.0 there.1 there.2 in
       none here.0 here.1,
-  inl refl,
+  inl tt,
 )
 asked_too desk other audience day same request of_caller (Some judged) is = judged_there desk other audience day same request of_caller judged is
 
@@ -284,20 +372,28 @@ module _ (desk other : Desk) (audience : Audience) (day : ℤ) (same : ShowsTheS
   no_file_too (Some at) h = no_slot at.0 at.1 (get desk.images at.0) (get other.images at.0) refl refl h
 
   module _ (request : Request) (question : ¬ IsForStaff request.what) where
-    -- of the same file
-    holds_too : (asked : Option JudgedFile) (refusal : Refusal) → Holds desk request asked refusal → Holds other request asked refusal
-    holds_too asked UnknownKey h = audience_too other desk request.badge same.keys ∙ h
-    holds_too asked StaffOnly h = absurd (question h.0)
-    holds_too asked BadBody h = h
-    holds_too asked NoAccession h = no_accession_too (accession_of request.what) h
-    holds_too asked NoFile h = no_file_too (file_of request.what) h
-    holds_too asked NoDeed h = absurd (subst (λ num. IsSomeAnd num (λ num. get desk.deeds num ≡ None)) (no_deed request.what question) h)
-    holds_too asked (Denied label) h = h
-    holds_too asked ListedOnly h = h
-    holds_too asked (Faulty kind faults) h = h
-    holds_too asked WrongSize h = absurd (subst (λ image. IsSomeAnd image (λ image. length image.bytes ≢ size_of image.kind)) (no_image request.what question) h)
-    holds_too asked DigestDiffers h = absurd (subst (λ image. IsSomeAnd image (λ image. sha256 image.bytes ≢ image.digest)) (no_image request.what question) h)
-    holds_too asked Conflict h = absurd (no_conflict desk request.what question h)
+    -- of files of which the same is shown
+    holds_too : (file twin : Option JudgedFile) → BothListed file twin → (refusal : Refusal) → Holds desk request file refusal → Holds other request twin refusal
+    holds_too file twin both UnknownKey h = audience_too other desk request.badge same.keys ∙ h
+    holds_too file twin both StaffOnly h = absurd (question h.0)
+    holds_too file twin both BadBody h = h
+    holds_too file twin both NoAccession h = no_accession_too (accession_of request.what) h
+    holds_too file twin both NoFile h = no_file_too (file_of request.what) h
+    holds_too file twin both NoDeed h = absurd (subst (λ num. IsSomeAnd num (λ num. get desk.deeds num ≡ None)) (no_deed request.what question) h)
+    holds_too file twin both (Denied label) h =
+        said_too (λ judged. (judged.verdict.effect ≢ Read) × (judged.verdict.label ≡ label))
+        (λ one too alike held. (
+          λ read. held.0 (ap (λ (v : Verdict). v.effect) alike.verdict ∙ read),
+          ap (λ (v : Verdict). v.label) (sym alike.verdict) ∙ held.1,
+        )) file twin both h
+    holds_too file twin both ListedOnly h =
+        said_too (λ judged. judged.file.served_class ≡ false) (λ one too alike held. sym alike.class ∙ held) file twin both h
+    holds_too file twin both (Faulty kind faults) h =
+        said_too (λ judged. (judged.file.faults ≢ 0) × (judged.kind ≡ kind) × (judged.file.faults ≡ faults))
+        (λ one too alike held. (λ none. held.0 (alike.faults ∙ none), sym alike.kind ∙ held.1, sym alike.faults ∙ held.2)) file twin both h
+    holds_too file twin both WrongSize h = absurd (subst (λ image. IsSomeAnd image (λ image. length image.bytes ≢ size_of image.kind)) (no_image request.what question) h)
+    holds_too file twin both DigestDiffers h = absurd (subst (λ image. IsSomeAnd image (λ image. sha256 image.bytes ≢ image.digest)) (no_image request.what question) h)
+    holds_too file twin both Conflict h = absurd (no_conflict desk request.what question h)
 
     -- of a file that is denied, up to its denial
     holds_denied : (file twin : JudgedFile) → AreDenied file twin → (refusal : Refusal) → number_of refusal < 12
@@ -308,7 +404,7 @@ module _ (desk other : Desk) (audience : Audience) (day : ℤ) (same : ShowsTheS
     )
     holds_denied file twin denied ListedOnly low h = absurd (omega (arith, low))
     holds_denied file twin denied (Faulty kind faults) low h = absurd (omega (arith, low))
-    holds_denied file twin denied refusal low h = holds_too (Some file) refusal h
+    holds_denied file twin denied refusal low h = holds_too (Some file) (Some file) (listed_itself file) refusal h
 
 -- it is denied
 is_denied : (desk : Desk) (request : Request) (file : JudgedFile) → file.verdict.effect ≡ Deny → Holds desk request (Some file) (Denied file.verdict.label)
@@ -319,11 +415,11 @@ at_most n none = omega arith
 
 module _ (desk other : Desk) (audience : Audience) (day : ℤ) (same : ShowsTheSame desk audience day other) (request : Request) (question : ¬ IsForStaff request.what) where
   refused_as : (file twin : Option JudgedFile) (refusal : Refusal) → AreAlike file twin → IsRefused desk request file refusal → IsRefused other request twin refusal
-  refused_as file twin refusal (inl one) is =
-      subst (λ (f : Option JudgedFile). IsRefused other request f refusal) one (record {
-        holds = holds_too desk other audience day same request question file refusal is.holds;
-        lowest = λ lower below h. is.lowest lower below (holds_too other desk audience day (turned desk other audience day same) request question file lower h);
-      })
+  refused_as file twin refusal (inl both) is = record {
+    holds = holds_too desk other audience day same request question file twin both refusal is.holds;
+    lowest = λ lower below h.
+        is.lowest lower below (holds_too other desk audience day (turned desk other audience day same) request question twin file (listed_back file twin both) lower h);
+  }
   refused_as (Some file) (Some twin) refusal (inr denied) is =
       let back : AreDenied twin file = record { verdict = sym denied.verdict; denied = ap (λ (v : Verdict). v.effect) (sym denied.verdict) ∙ denied.denied } in
       let low : number_of refusal < 12 = at_most (number_of refusal) (λ above. is.lowest (Denied file.verdict.label) above (is_denied desk request file denied.denied)) in
@@ -336,14 +432,15 @@ module _ (desk other : Desk) (audience : Audience) (day : ℤ) (same : ShowsTheS
   refused_as None twin refusal (inr wrong) is = absurd wrong
 
   -- an accepted request asks for no file that is denied
-  accepted_one : (file twin : Option JudgedFile) → AreAlike file twin → IsAccepted desk request file → file ≡ twin
-  accepted_one file twin (inl one) accepted = one
-  accepted_one (Some file) (Some twin) (inr denied) accepted = absurd (accepted (Denied file.verdict.label) (is_denied desk request file denied.denied))
-  accepted_one (Some file) None (inr wrong) accepted = absurd wrong
-  accepted_one None twin (inr wrong) accepted = absurd wrong
+  accepted_listed : (file twin : Option JudgedFile) → AreAlike file twin → IsAccepted desk request file → BothListed file twin
+  accepted_listed file twin (inl both) accepted = both
+  accepted_listed (Some file) (Some twin) (inr denied) accepted = absurd (accepted (Denied file.verdict.label) (is_denied desk request file denied.denied))
+  accepted_listed (Some file) None (inr wrong) accepted = absurd wrong
+  accepted_listed None twin (inr wrong) accepted = absurd wrong
 
-  accepted_too : (file : Option JudgedFile) → IsAccepted desk request file → IsAccepted other request file
-  accepted_too file accepted refusal h = accepted refusal (holds_too other desk audience day (turned desk other audience day same) request question file refusal h)
+  accepted_too : (file twin : Option JudgedFile) → BothListed file twin → IsAccepted desk request file → IsAccepted other request twin
+  accepted_too file twin both accepted refusal h =
+      accepted refusal (holds_too other desk audience day (turned desk other audience day same) request question twin file (listed_back file twin both) refusal h)
 
   refused_too : (refusal : Refusal) → IsCallerOf desk request audience → IsRefusedOn desk day request refusal → IsRefusedOn other day request refusal
   refused_too refusal of_caller is =
@@ -375,6 +472,14 @@ contents_read answer lent other is same =
     subst (λ told. ReadsTheSame (reply_of told) (reply_of (response.File other))) (sym is)
     (record { status = refl; form = refl; bytes = same.bytes; lent = λ i. Some (same.kind i, same.file i) })
 
+-- the reply whose body is this table
+abbrev table : List ℕ → Reply
+table text = record { status = 200; form = Csv; body = held text }
+
+-- a text that is the same reads the same
+text_read : (answer twin : Response) → reply_of answer ≡ reply_of twin → ReadsTheSame (reply_of answer) (reply_of twin)
+text_read answer twin same = subst (ReadsTheSame (reply_of answer)) same (reads_itself (reply_of answer))
+
 -- what is done is answered
 pub done_answered : (desk : Desk) (day : ℤ) (request : Request) (answer : Response) (new : Desk) → IsDone desk day request answer new → IsAnswered desk day request answer new
 done_answered desk day request (response.Refused refusal) new done = absurd done.tells
@@ -386,16 +491,23 @@ AnswersToo other day request answer = (same : Response) × ReadsTheSame (reply_o
 
 -- the contents of a file that is read are lent, by its description
 lent_there : (other : Desk) (acc : ℕ) (row : ImageRow) (rules : List Rule) (audience : Audience) (day : ℤ) (slot : ℕ) (lent : Lent) → get other.images acc ≡ Some row
-    → AreReadAt row rules audience day slot (bytes_lent lent) → lent.kind ≡ row.kind → lent.file.slot ≡ slot → IsFound row.kind row.bytes lent.file
+    → AreReadOf row rules audience day lent.file (bytes_lent lent) → lent.kind ≡ row.kind → lent.file.slot ≡ slot
     → (same : Lent) × LendTheSame lent same × LendsFile other acc slot same
-lent_there other acc row rules audience day slot lent standing is kind at_slot told =
-    let sound : IsSoundFile lent.file = (told_sound row.kind row.bytes lent.file told).1 (subst (IsSoundSlot row.kind row.bytes) (sym at_slot) is.sound) in
+lent_there other acc row rules audience day slot lent standing is kind at_slot =
+    let sound : IsSoundFile lent.file = (told_sound row.kind row.bytes lent.file is.told).1 is.sound in
     let same : Lent = record { kind = row.kind; image = row.bytes; file = lent.file } in
-    let are : AreBytesOf row.kind row.bytes slot (bytes_lent same) =
-    subst (λ k. AreBytesOf row.kind row.bytes k (bytes_lent same)) at_slot (told_file_bytes row.kind row.bytes lent.file told sound) in (
+    let are : AreBytesOf row.kind row.bytes lent.file.slot (bytes_lent same) = told_file_bytes row.kind row.bytes lent.file is.told sound in (
       same,
-      record { kind = kind; file = refl; bytes = one_contents row.kind row.bytes slot (bytes_lent lent) (bytes_lent same) is.sound is.are are },
-      record { image = row; standing = standing; kind = refl; from_image = refl; at_slot = at_slot; told = told; are = are },
+      record { kind = kind; file = refl; bytes = one_contents row.kind row.bytes lent.file.slot (bytes_lent lent) (bytes_lent same) is.sound is.are are },
+      record {
+        image = row;
+        standing = standing;
+        kind = refl;
+        from_image = refl;
+        at_slot = at_slot;
+        told = is.told;
+        are = subst (λ k. AreBytesOf row.kind row.bytes k (bytes_lent same)) at_slot are;
+      },
     )
 
 module _ (desk other : Desk) (audience : Audience) (day : ℤ) (same : ShowsTheSame desk audience day other) where
@@ -406,12 +518,22 @@ module _ (desk other : Desk) (audience : Audience) (day : ℤ) (same : ShowsTheS
     complete = λ line is. are.complete line (image_line_too other desk audience day (turned desk other audience day same) line is);
   }
 
-  listings_too : (listings : List Lines) → AreListings desk audience day listings → AreListings other audience day listings
-  listings_too listings are = record {
-    each = λ k listing inside. listing_too desk other audience day same (get_or listings k listing).accession (get_or listings k listing) (are.each k listing inside);
-    ascending = are.ascending;
-    complete = λ listing is. are.complete listing (listing_too other desk audience day (turned desk other audience day same) listing.accession listing is);
-  }
+  listings_too : (listings : List Lines) → AreListings desk audience day listings
+      → (twins : List Lines) × AreListings other audience day twins × (map shown_of twins ≡ map shown_of listings)
+  listings_too listings are =
+      let Here : Lines → Type 0 = λ (listing : Lines). IsListing desk audience day listing.accession listing in
+      let There : Lines → Type 0 = λ (listing : Lines). IsListing other audience day listing.accession listing in
+      let twins : Counterpart shown_of There listings = counterpart shown_of Here There (own_listing_too desk other audience day same) listings are.each in (
+        twins.list,
+        record {
+          each = twins.each;
+          ascending = ascends_too shown_of (λ (listed : ListedImage). listed.accession) listings twins.list twins.same are.ascending;
+          complete = complete_too shown_of Here There listings twins.list twins.same twins.each
+              (own_listing_too other desk audience day (turned desk other audience day same))
+              (same_shown other audience day) are.complete;
+        },
+        twins.same,
+      )
 
   module _ (badge : Option (List ℕ)) (caller : audience_of desk badge ≡ Some audience) (acc slot : ℕ) where
     abbrev asking : Request
@@ -428,72 +550,79 @@ module _ (desk other : Desk) (audience : Audience) (day : ℤ) (same : ShowsTheS
         let standing = ap (get desk.images) accession in
         let image : is.image ≡ lends.image = cc (standing, lends.standing, is.standing) in
         let who : is.audience ≡ audience = cc (is.caller, caller) in
-        let line : Line = record { file = judged.file; verdict = judged.verdict } in
-        let listed : IsLine lends.image (rules_for desk acc) audience day line = record {
-          told = subst (λ (r : ImageRow). IsFound r.kind r.bytes judged.file) image is.told;
-          decided = subst (λ n. IsVerdict (Contains (rules_for desk n)) audience day judged.file judged.verdict) (sym accession)
-              (subst (λ a. IsVerdict (Contains (rules_for desk is.accession)) a day judged.file judged.verdict) who is.decided);
-          shown = λ denied. let wrong : Deny ≡ Read = sym denied ∙ read in cc;
-        } in
-        let here : AreReadAt lends.image (rules_for desk acc) audience day slot (bytes_lent lent) = record {
-          line = line;
-          at_slot = sym same_slot;
-          listed = listed;
-          read = read;
-          sound = sound_slot desk day badge acc slot judged lends.image is accepted lends.standing;
-          are = lends.are;
+        let label : Label = judged.verdict.label in
+        let verdict : judged.verdict ≡ record { effect = Read; label = label } = λ i. record { effect = read i; label = label } in
+        let told : IsFound lends.image.kind lends.image.bytes judged.file = subst (λ (r : ImageRow). IsFound r.kind r.bytes judged.file) image is.told in
+        let file : judged.file ≡ lent.file =
+        one_found lends.image.kind lends.image.bytes judged.file lent.file told lends.told (sym same_slot ∙ sym lends.at_slot) in
+        let decided : IsVerdict (Contains (rules_for desk acc)) audience day judged.file judged.verdict =
+        subst (λ n. IsVerdict (Contains (rules_for desk n)) audience day judged.file judged.verdict) (sym accession)
+        (subst (λ a. IsVerdict (Contains (rules_for desk is.accession)) a day judged.file judged.verdict) who is.decided) in
+        let sound : IsSoundSlot lends.image.kind lends.image.bytes slot = sound_slot desk day badge acc slot judged lends.image is accepted lends.standing in
+        let here : AreReadOf lends.image (rules_for desk acc) audience day lent.file (bytes_lent lent) = record {
+          label = label;
+          told = lends.told;
+          decided = subst (λ (f : Found). IsVerdict (Contains (rules_for desk acc)) audience day f (record { effect = Read; label = label })) file
+              (subst (λ (v : Verdict). IsVerdict (Contains (rules_for desk acc)) audience day judged.file v) verdict decided);
+          sound = subst (IsSoundSlot lends.image.kind lends.image.bytes) (sym lends.at_slot) sound;
+          are = subst (λ k. AreBytesOf lends.image.kind lends.image.bytes k (bytes_lent lent)) (sym lends.at_slot) lends.are;
         } in
         let row = stands desk other audience day same acc lends.image lends.standing in
-        let there : AreReadAt row.0 (rules_for other acc) audience day slot (bytes_lent lent) =
-        shown_too desk other audience day same acc lends.image row.0 lends.standing row.1 (HasBytes slot (bytes_lent lent)) here in
-        let line_there : IsLine row.0 (rules_for other acc) audience day line =
-        shown_too desk other audience day same acc lends.image row.0 lends.standing row.1 (IsListed line) listed in
-        let file : judged.file ≡ lent.file =
-        one_found lends.image.kind lends.image.bytes judged.file lent.file listed.told lends.told (sym same_slot ∙ sym lends.at_slot) in
+        let there : AreReadOf row.0 (rules_for other acc) audience day lent.file (bytes_lent lent) =
+        shown_too desk other audience day same acc lends.image row.0 lends.standing row.1 (HasBytes lent.file (bytes_lent lent)) here in
         lent_there other acc row.0 (rules_for other acc) audience day slot lent row.1 there (lends.kind ∙ row.2) lends.at_slot
-        (subst (λ (f : Found). IsFound row.0.kind row.0.bytes f) file line_there.told)
 
-  module _ (badge : Option (List ℕ)) (caller : audience_of desk badge ≡ Some audience) (file : Option JudgedFile) (answer : Response) where
+  module _ (badge : Option (List ℕ)) (caller : audience_of desk badge ≡ Some audience) (file twin : Option JudgedFile) (both : BothListed file twin) (answer : Response) where
     abbrev Asks : What → Request
     Asks what = record { badge = badge; what = what }
 
     abbrev TellsToo : What → Type 0
-    TellsToo what = (same : Response) × ReadsTheSame (reply_of answer) (reply_of same) × Tells other audience day file same what
+    TellsToo what = (same : Response) × ReadsTheSame (reply_of answer) (reply_of same) × Tells other audience day twin same what
 
     tells_too : (what : What) → ¬ IsForStaff what → IsAsked desk day (Asks what) file → IsAccepted desk (Asks what) file
         → Tells desk audience day file answer what → TellsToo what
     tells_too Images question asked accepted tells =
         let told = told_images desk audience day file answer tells in
-        (answer, reads_itself (reply_of answer), subst (λ answer. Tells other audience day file answer Images) (sym told.1) (images_too told.0 told.2))
+        (response.Images told.0, text_read answer (response.Images told.0) (ap reply_of told.1), images_too told.0 told.2)
     tells_too (Listing acc) question asked accepted tells =
         let told = told_listing desk audience day file acc answer tells in
-        (answer, reads_itself (reply_of answer), subst (λ answer. Tells other audience day file answer (Listing acc)) (sym told.1) (listing_too desk other audience day same acc told.0 told.2))
+        let there = listing_too desk other audience day same acc told.0 told.2 in (
+          response.Listed there.0,
+          text_read answer (response.Listed there.0) (ap reply_of told.1 ∙ ap (in_json 200) (same_listing told.0 there.0 (sym there.2))),
+          there.1,
+        )
     tells_too (Bytes acc slot) question asked accepted tells =
         let told = told_bytes desk audience day file acc slot answer tells in
         let there = file_too badge caller acc slot file told.0 asked accepted told.2 told.3 in
-        (response.File there.0, contents_read answer told.0 there.0 told.1 there.1, (told.2, there.2))
+        let read = said_too (λ judged. judged.verdict.effect ≡ Read)
+        (λ one too alike read. ap (λ (v : Verdict). v.effect) (sym alike.verdict) ∙ read) file twin both told.2 in
+        (response.File there.0, contents_read answer told.0 there.0 told.1 there.1, (read, there.2))
     tells_too Catalogue question asked accepted tells =
         let told = told_catalogue desk audience day file answer tells in
-        (answer, reads_itself (reply_of answer), subst (λ answer. Tells other audience day file answer Catalogue) (sym told.1) (listings_too told.0 told.2))
+        let there = listings_too told.0 told.2 in (
+          response.Catalogue there.0,
+          text_read answer (response.Catalogue there.0) (ap reply_of told.1 ∙ ap table (same_catalogue told.0 there.0 (sym there.2))),
+          there.1,
+        )
     tells_too what question asked accepted tells = absurd (question tt)
 
   module _ (request : Request) (of_caller : IsCallerOf desk request audience) (question : ¬ IsForStaff request.what) where
     done_too : (answer : Response) (new : Desk) → IsDone desk day request answer new → AnswersToo other day request answer
     done_too answer new done =
         let there = asked_too desk other audience day same request of_caller done.file done.asked in
-        let one : done.file ≡ there.0 = accepted_one desk other audience day same request question done.file there.0 there.2 done.accepted in
+        let both : BothListed done.file there.0 = accepted_listed desk other audience day same request question done.file there.0 there.2 done.accepted in
         let who : done.audience ≡ audience = same_caller desk other audience day same request of_caller done.audience done.caller in
         let caller : audience_of desk request.badge ≡ Some audience = done.caller ∙ ap Some who in
-        let told = tells_too request.badge caller done.file answer request.what question done.asked done.accepted
+        let told = tells_too request.badge caller done.file there.0 both answer request.what question done.asked done.accepted
         (subst (λ a. Tells desk a day done.file answer request.what) who done.tells) in (
           told.0,
           told.1,
           done_answered other day request told.0 other (record {
-            file = done.file;
+            file = there.0;
             audience = audience;
-            asked = subst (IsAsked other day request) (sym one) there.1;
+            asked = there.1;
             caller = caller_there desk other audience day same request of_caller audience caller;
-            accepted = accepted_too desk other audience day same request question done.file done.accepted;
+            accepted = accepted_too desk other audience day same request question done.file there.0 both done.accepted;
             tells = told.2;
             after = nothing_changes day request.what other question;
           }),

@@ -91,10 +91,10 @@ impl Body {
         }
     }
 
-    /// Its bytes in pieces, in order. No piece is empty, so an empty body has none. A text or a
-    /// table is one piece. Each piece of a file is a slice of the image that the body lends from: it
-    /// lies in the unit of the disk that holds these bytes, and begins at the first byte of a CP/M
-    /// sector, or at the third byte of a 1541 block, after the link.
+    /// Its bytes in pieces, in order. No piece is empty, so an empty body has none. Each piece of a
+    /// file is a slice of the image that the body lends from: it lies in the unit of the disk that
+    /// holds these bytes, and begins at the first byte of a CP/M sector, or at the third byte of a
+    /// 1541 block, after the link.
     pub fn pieces(&self) -> BodyPieces<'_>
         ensures whole { concat (pieces_left result) ≡ self.now.bytes }
         ensures filled { All (λ piece. 0 < length piece) (pieces_left result) }

@@ -153,7 +153,7 @@ fn write_listings(
     Ok(())
 }
 
-/// The table, with a line of the names of its columns. It fails only when memory runs out.
+/// The table, with a line of the names of its columns. An error is `NoMemory`.
 pub(crate) fn table(alloc: Global, listings: &[Listing]) -> Result<Items<u8>, NoMemory>
     ensures { IfOk result (λ table. table ≡ catalogue_text listings.now) }
 {

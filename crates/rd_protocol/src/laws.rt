@@ -43,9 +43,10 @@ pub fn hidden_bytes_are_not_told()
 /// Law: two desks that show the same to a caller on a day give the same reply to each request of the caller on that day.
 /// Desks show the same to a caller if they have the same keys and, at the same accessions, images of the same kinds and
 /// deeds that show the same. An image shows the slots of its files. Of a file that is denied it shows the label of the
-/// rule, and of any other file its description, its units and the verdict on it. Of a sound file that the caller may read
-/// it also shows the bytes. So a reply shows of the name, size, type and faults of a denied file only what the label of
-/// the rule or a crossed file shows. The law leaves out what the staff asks and only the staff may ask.
+/// rule, and of any other file its name, type, user, class, size and faults, and the verdict on it. Of a sound file that
+/// the caller may read it also shows the units and the bytes. So a reply shows of the name, size, type and faults of a
+/// denied file only what the label of the rule or a crossed file shows, and of the units of a listed file that the caller
+/// may not read only what its size and faults show. The law leaves out what the staff asks and only the staff may ask.
 ///
 /// A desk shows the same as itself, and two desks that look alike to the caller show the same to them.
 pub fn what_is_shown_decides()

@@ -180,8 +180,7 @@ pub(crate) fn images_reply(alloc: Global, lines: &[ImageLine]) -> Result<Reply, 
 {
     match serde_json::to_string(alloc, &Images { lines }) {
         Ok(text) => Ok(listed_reply(text)),
-        // Keys are texts, nothing is flattened and no number is a float, so this fails only when
-        // memory runs out.
+        // Each error becomes `NoMemory`: keys are texts, nothing is flattened, no number is a float.
         Err(_) => Err(NoMemory),
     }
 }

@@ -191,7 +191,7 @@ pub fn unavailable() -> Reply
 }
 
 /// The reply that gives an answer: its status, and its body as JSON (RFC 8259), as CSV (RFC 4180)
-/// for a catalogue, or as the bytes of a file. It fails only when memory runs out.
+/// for a catalogue, or as the bytes of a file. An error is `NoMemory`.
 pub fn reply_to(alloc: Global, answer: Response) -> Result<Reply, NoMemory>
     ensures { IfOk result (λ reply. reply ≡ reply_of answer) }
 {

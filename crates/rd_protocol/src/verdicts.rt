@@ -121,7 +121,7 @@ fn write_each(
     Ok(())
 }
 
-/// The table of verdicts, with a line of the names of its columns. It fails only when memory runs out.
+/// The table of verdicts, with a line of the names of its columns. An error is `NoMemory`.
 pub(crate) fn verdicts_table(alloc: Global, verdicts: &[Verdicts]) -> Result<Items<u8>, NoMemory>
     ensures { IfOk result (λ table. table ≡ verdicts_text verdicts.now) }
 {
@@ -186,7 +186,7 @@ fn write_differences(
     Ok(())
 }
 
-/// The table of a rehearsal, with a line of the names of its columns. It fails only when memory runs out.
+/// The table of a rehearsal, with a line of the names of its columns. An error is `NoMemory`.
 pub(crate) fn differences_table(
     alloc: Global,
     differences: &[Difference],

@@ -127,9 +127,9 @@ pub record IsAtRest {S : Type 0} (g : Ghosts S) (h : Held S) : Type 0 where
   pub files : IsOpen g h → (acc : ℕ) → (files : List Found) × AreFilesIn (get (desk g h).images acc) files
   pub leaves : IsOpen g h → LeavesOnly g h (desk g h)
 
--- A call that changes the desk to this one, in one transaction. Where the connection is open at the end,
--- the desk is the new one after Ok and the old one after an error, and a crash leaves it and nothing else.
--- Where it was open, and the disk has returned what was written, a crash leaves one of the two.
+-- A call that changes the desk to this one. Where the connection is open at the end, the desk is the new one
+-- after Ok and the old one after an error, and a crash leaves it and nothing else. Where it was open, and the
+-- disk has returned what was written, a crash leaves one of the two.
 pub record Changes {S T X : Type 0} (g : Ghosts S) (old new : Held S) (after : Desk) (result : Result T X) : Type 0 where
   pub lasts : Lasts g old new
   pub ok : IsOpen g new → OnOk result (desk g new ≡ after)
