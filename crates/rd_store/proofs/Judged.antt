@@ -1,17 +1,20 @@
 -- What the tests of a database say of it, from the tests of its rows.
-use Rattle.std.proofs.Common.{◌≡◌, ◌≢◌, inl, inr, ◌||◌, List, [], get_or, Bool, true, false, Result, Ok, Err, IfOk, IfErr, refl, sym, ap, subst, ◌∙◌, true≢false, arith}
+use Rattle.std.proofs.Common.{◌≡◌, ◌≢◌, inl, inr, ◌||◌, ℕ, List, [], get_or, Bool, true, false, Option, Result, Ok, Err, IfOk, IfErr, refl, sym, ap, subst, ◌∙◌, true≢false, arith}
 use Rattle.std.specs.Prelude.{IsErrAnd}
 use Rattle.sqlite.specs.Order.{Row, column}
 use Rattle.sqlite.specs.Store.{Ghosts}
 use Rattle.sqlite.specs.Effect.{Database, IsDatabase}
 use Rattle.sqlite.specs.Held.{Held, state}
-use Rattle.rd_tables.specs.Schemas.{desk_schema, first_schema, has_desk_columns, has_foreign_desk, may_be_desk}
+use Rattle.sqlite.specs.Table.{Table}
+use Rattle.rd_tables.specs.Schemas.{TellsVersion, desk_schema, desk_with, first_schema, has_desk_columns, has_foreign_desk, may_be_desk}
 use Rattle.rd_tables.specs.Sheets.{natural}
+use Rattle.rd_tables.proofs.VersionText.{desk_first, one_tree}
 use Rattle.rd_store.specs.declared.faults.OpenFault.{OpenFault}
 use Rattle.rd_store.specs.declared.faults.OpenFault.TheVariants.{NotADesk, Version as OtherVersion, Inconsistent, Sql}
+use Rattle.rd_store.specs.declared.version.Version.{Version}
 use Rattle.rd_store.specs.Spelled.{HasVersion, HaveOwnRowids, unmarked}
-use Rattle.rd_store.specs.Held.{IsClean, IsOpen, Stays}
-use Rattle.rd_store.specs.Opened.{IsConsistent, IsConsistentAs, IsNamed, IsNoDesk, IsResting, IsSettledAt, Judged, IsHeld, NamesDesk, Refuses, Tests, TestsDatabase}
+use Rattle.rd_store.specs.Held.{Asks, IsClean, IsOpen, Stays}
+use Rattle.rd_store.specs.Opened.{IsConsistent, IsConsistentAs, IsNamed, IsNoDesk, IsResting, IsSaid, IsSettledAt, Judged, IsHeld, NamesDesk, Refuses, Says, Tests, TestsDatabase}
 use Rattle.rd_store.specs.Migrated.{IsHeldFirst, RefusesEach}
 use Rattle.rd_store.proofs.Laws.{stays_here, stays_then}
 
@@ -78,13 +81,13 @@ module _ {S : Type 0} (g : Ghosts S) (a b : Held S) {T U : Type 0} (Good : T →
   told_err fault (Err other) is worse tests = subst (λ e. TestsDatabase {T = U} g a b (Err e) More Worse) (sym is) (record { stays = tests.stays; holds = λ o. tt; refused = λ o. worse (tests.refused o); ends_open = λ clean. tt; refuses = tests.refuses })
 
 -- a refusal of tables that say version 2
-pub each_of : (fault : OpenFault) (db : Database) → HasVersion 2 (db.trees 0) → Refuses fault db → RefusesEach fault db
+pub each_of : (fault : OpenFault) (db : Database) → Says (HasVersion 2) db → Refuses fault db → RefusesEach fault db
 each_of NotADesk db version refused = refused
-each_of OtherVersion db version refused = absurd (refused.2 version)
+each_of OtherVersion db version refused = absurd (refused.1.told (subst (λ tree. HasVersion 2 (db.trees tree)) (one_tree db.schema version.tree refused.1.tree version.tells refused.1.tells) version.told))
 each_of Inconsistent db version refused = inr refused
 each_of Sql db version refused = refused
 
-pub each_database : {S T : Type 0} (g : Ghosts S) (a b : Held S) (r : Result T OpenFault) → (IsOpen g a → HasVersion 2 ((state g a).now.trees 0)) → TestsDatabase g a b r (λ _. IsHeld) Refuses → TestsDatabase g a b r (λ _. IsHeld) RefusesEach
+pub each_database : {S T : Type 0} (g : Ghosts S) (a b : Held S) (r : Result T OpenFault) → (IsOpen g a → Says (HasVersion 2) (state g a).now) → TestsDatabase g a b r (λ _. IsHeld) Refuses → TestsDatabase g a b r (λ _. IsHeld) RefusesEach
 each_database g a b (Ok value) version tests = record { stays = tests.stays; holds = tests.holds; refused = λ o. tt; ends_open = tests.ends_open; refuses = tt }
 each_database g a b (Err fault) version tests = record {
   stays = tests.stays;
@@ -141,6 +144,16 @@ ok_any (Err e) P holds = tt
 -- what is told of the version
 pub other_version : (rows : List Row) → HasVersion 1 rows → ¬ HasVersion 2 rows
 other_version rows one two = let e : 1 ≡ 2 = ap (λ (shown : List Row). natural (column (get_or shown 0 []) 1)) (sym one ∙ two) in absurd (omega (arith, e))
+
+-- over the tables of each version it is the first of them that says it
+pub said_here : {Told : List Row → Type 0} (more : List Table) (db : Database) → db.schema ≡ desk_with more → Says Told db → Told (db.trees 0)
+said_here {Told} more db is says = subst (λ tree. Told (db.trees tree)) (desk_first more says.tree (subst (TellsVersion says.tree) is says.tells)) says.told
+
+-- what a query of the table `desk` tells
+pub says_asked : {S : Type 0} (g : Ghosts S) (old new : Held S) (r : Result (Option Version) OpenFault) (tree : ℕ) → TellsVersion tree (state g old).now.schema
+    → Asks g old new r Sql (λ said. IsSaid said ((state g old).now.trees tree)) → Asks g old new r Sql (λ said. Says (IsSaid said) (state g old).now)
+says_asked g old new (Ok said) tree tells asks = record { stays = asks.stays; answer = λ o. record { tree = tree; tells = tells; told = asks.answer o }; ends_open = asks.ends_open; fault = tt }
+says_asked g old new (Err fault) tree tells asks = record { stays = asks.stays; answer = λ o. tt; ends_open = asks.ends_open; fault = asks.fault }
 
 -- what a query leaves of a connection at rest
 module _ {S : Type 0} (g : Ghosts S) (a b : Held S) (stays : Stays g a b) where

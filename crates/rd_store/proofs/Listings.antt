@@ -1,17 +1,15 @@
 -- What the texts that ask for all rows of a table show.
-use Rattle.std.proofs.Common.{◌≡◌, ◌⊎◌, inl, inr, ℕ, zero, suc, ◌+◌, ◌<◌, List, [], ◌∷◌, length, slice_index_or, get_or, refl, sym, ap, ◌∙◌, IsTrue, arith}
+use Rattle.std.proofs.Common.{◌≡◌, ◌⊎◌, inl, inr, ℕ, zero, suc, ◌+◌, ◌<◌, List, [], ◌∷◌, length, slice_index_or, refl, sym, ap, ◌∙◌, IsTrue, arith}
 use Rattle.sqlite.specs.Order.{Row}
 use Rattle.sqlite.specs.State.{State, Shown}
 use Rattle.rd_tables.specs.Asked.{IsPicked}
-use Rattle.sqlite.specs.Schema.{Schema}
-use Rattle.sqlite.specs.Table.{Table}
-use Rattle.rd_tables.specs.Schemas.{desk_schema, desk_table, SharesFirstTable}
+use Rattle.rd_tables.specs.Schemas.{desk_schema}
 use Rattle.rd_tables.proofs.QueryTexts.{all_deeds_asks, all_rules_asks, all_keys_asks, all_checks_asks, all_files_asks, all_marks_asks}
 use Rattle.rd_tables.proofs.Reading.{shown_picks}
 use Rattle.rd_store.specs.declared.opening.Listing.{Listing}
 use Rattle.rd_store.specs.declared.opening.Listing.TheVariants.{Deeds, Rules, Keys, Checks, Files, Marks}
 use Rattle.rd_store.specs.Held.{IsReadable}
-use Rattle.rd_store.specs.Opened.{HasDeskFirst, HoldsListed, IsSettledAt, StartsWithDesk, listing_text, listing_query, listing_tree}
+use Rattle.rd_store.specs.Opened.{HoldsListed, listing_text, listing_query, listing_tree}
 
 pub listing_reads : (table : Listing) (s : State) → HoldsListed table s → IsTrue s.is_open → IsReadable (listing_text table) s
 listing_reads Deeds s held is_open = let at = held is_open in record { over = _; rests = at.rests; plain = (all_deeds_asks at.more).plain }
@@ -28,21 +26,6 @@ listing_picks Keys old new held is_open rows shown = let at = held is_open in sh
 listing_picks Checks old new held is_open rows shown = let at = held is_open in shown_picks (all_checks_asks at.more) [] old new at.rests.schema rows shown
 listing_picks Files old new held is_open rows shown = let at = held is_open in shown_picks (all_files_asks at.more) [] old new at.rests.schema rows shown
 listing_picks Marks old new held is_open rows shown = shown_picks all_marks_asks [] old new (held is_open).schema rows shown
-
--- the desk's own table comes first where it does in a desk's schema
-pub desk_first : (schema other : Schema) → other ≡ desk_schema → SharesFirstTable schema other → HasDeskFirst schema
-desk_first schema other is shares =
-    let first : shares.first ≡ desk_table 0 = ap (λ (tables : List Table). get_or tables 0 (desk_table 0)) (sym shares.there ∙ ap (λ (o : Schema). o.tables) is) in
-    let tables : schema.tables ≡ desk_table 0 ∷ shares.more = shares.here ∙ ap (λ f. f ∷ shares.more) first in
-    record { more = shares.more; indexes = schema.indexes; views = schema.views; is = λ i. record { tables = tables i; indexes = schema.indexes; views = schema.views } }
-
-pub starts : (s : State) → HasDeskFirst s.now.schema → IsSettledAt s → StartsWithDesk s
-starts s first settled = record {
-  more = first.more;
-  indexes = first.indexes;
-  views = first.views;
-  rests = λ is_open. record { schema = first.is; settled = settled.settled is_open; autocommit = settled.autocommit };
-}
 
 -- ---- places in a list
 

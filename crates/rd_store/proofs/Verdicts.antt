@@ -45,16 +45,16 @@ use Rattle.rd_store.proofs.Shapes.{deed_to, deed_from, image_to, image_from, mar
 abbrev said : ℕ → Row
 said number = Int (pos 1) ∷ Int (pos number) ∷ []
 
-versions_listed : (table rows : List Row) → IsPicked version_query [] table rows → IsPermutation (map (λ row. column row 0 ∷ column row 2 ∷ []) table) (map (λ row. column row 0 ∷ column row 1 ∷ []) rows)
-versions_listed table rows picks =
-    subst (λ l. IsPermutation l (map (λ row. column row 0 ∷ column row 1 ∷ []) rows)) (map_map (λ row. column row 0 ∷ column row 1 ∷ []) (show 0 (col 1 0) (col 1 2 ∷ []) [] table rows) table)
-    (IsPermutation-map (λ row. column row 0 ∷ column row 1 ∷ []) _ _ (all_shown 0 (col 1 0) (col 1 2 ∷ []) [] table rows picks))
+versions_listed : (tree : ℕ) (table rows : List Row) → IsPicked (version_query tree) [] table rows → IsPermutation (map (λ row. column row 0 ∷ column row 2 ∷ []) table) (map (λ row. column row 0 ∷ column row 1 ∷ []) rows)
+versions_listed tree table rows picks =
+    subst (λ l. IsPermutation l (map (λ row. column row 0 ∷ column row 1 ∷ []) rows)) (map_map (λ row. column row 0 ∷ column row 1 ∷ []) (show tree (col 1 0) (col 1 2 ∷ []) [] table rows) table)
+    (IsPermutation-map (λ row. column row 0 ∷ column row 1 ∷ []) _ _ (all_shown tree (col 1 0) (col 1 2 ∷ []) [] table rows picks))
 
-pub version_told : (number : ℕ) (b : Bool) (table rows : List Row) → IsPicked version_query [] table rows
+pub version_told : (tree number : ℕ) (b : Bool) (table rows : List Row) → IsPicked (version_query tree) [] table rows
     → MatchBool b (map (λ row. column row 0 ∷ column row 1 ∷ []) rows ≡ said number ∷ []) (¬ (map (λ row. column row 0 ∷ column row 1 ∷ []) rows ≡ said number ∷ [])) → MatchBool b (HasVersion number table) (¬ HasVersion number table)
-version_told number true table rows picks is =
-    one_permutation (said number) _ (IsPermutation-sym _ _ (subst (IsPermutation (map (λ row. column row 0 ∷ column row 2 ∷ []) table)) is (versions_listed table rows picks)))
-version_told number false table rows picks isnt = λ is. isnt (one_permutation (said number) _ (subst (λ l. IsPermutation l (map (λ row. column row 0 ∷ column row 1 ∷ []) rows)) is (versions_listed table rows picks)))
+version_told tree number true table rows picks is =
+    one_permutation (said number) _ (IsPermutation-sym _ _ (subst (IsPermutation (map (λ row. column row 0 ∷ column row 2 ∷ []) table)) is (versions_listed tree table rows picks)))
+version_told tree number false table rows picks isnt = λ is. isnt (one_permutation (said number) _ (subst (λ l. IsPermutation l (map (λ row. column row 0 ∷ column row 1 ∷ []) rows)) is (versions_listed tree table rows picks)))
 
 -- ---- a table
 

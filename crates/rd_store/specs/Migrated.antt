@@ -18,7 +18,7 @@ use Rattle.rd_store.specs.Spelled.{SpellDesk, HasVersion, HaveOwnRowids, desk_of
 use Rattle.rd_store.specs.Register.{listed, register_of}
 use Rattle.rd_store.specs.Created.{IsUntouched}
 use Rattle.rd_store.specs.Held.{IsOpen, IsClean, IsLeft, Lasts, LeavesOld, LeavesOnly, desk as desk_at}
-use Rattle.rd_store.specs.Opened.{HasDeskFirst, IsConsistent, IsConsistentAs, IsHeld}
+use Rattle.rd_store.specs.Opened.{Says, IsConsistent, IsConsistentAs, IsHeld}
 
 -- the desk that the tables of version 1 spell
 abbrev pub first_desk : Trees → Desk
@@ -39,7 +39,7 @@ SpellsDesk db desk = (IsFirstConsistent db × (first_desk db.trees ≡ desk)) �
 -- what is told of a database by each refusal; why Sql is answered is not told
 abbrev pub RefusesEach : OpenFault → Database → Type 0
 RefusesEach NotADesk db = may_be_desk db.schema ≡ false
-RefusesEach OtherVersion db = (has_desk_columns db.schema ≡ true) × HasDeskFirst db.schema × ¬ HasVersion 1 (db.trees 0) × ¬ HasVersion 2 (db.trees 0)
+RefusesEach OtherVersion db = (has_desk_columns db.schema ≡ true) × Says (λ rows. (¬ HasVersion 1 rows) × (¬ HasVersion 2 rows)) db
 RefusesEach Inconsistent db =
     ((db.schema ≡ first_schema) × HasVersion 1 (db.trees 0) × ¬ IsConsistentAs 1 (unmarked db.trees)) ⊎ ((db.schema ≡ desk_schema) × HasVersion 2 (db.trees 0) × ¬ IsConsistent db.trees)
 RefusesEach Sql db = may_be_desk db.schema ≡ true

@@ -6,15 +6,12 @@ use Rattle.sqlite.specs.declared.types.Value.TheVariants.{Int}
 use Rattle.sqlite.specs.Order.{Row, column}
 use Rattle.sqlite.specs.Tree.{Trees}
 use Rattle.sqlite.specs.Store.{Ghosts}
-use Rattle.sqlite.specs.Table.{Table}
 use Rattle.sqlite.specs.Query.{Query}
 use Rattle.sqlite.specs.Effect.{Database, IsDatabase}
 use Rattle.sqlite.specs.State.{State}
 use Rattle.sqlite.specs.Held.{Held, state}
 use Rattle.sqlite_rules.specs.Lists.{Has}
 use Rattle.sqlite.specs.Schema.{Schema}
-use Rattle.sqlite_schema.specs.declared.schema.Index.{Index}
-use Rattle.sqlite_schema.specs.declared.schema.View.{View}
 use Rattle.rd_geometry.specs.Blocks.{CBM_BLOCKS}
 use Rattle.rd_geometry.specs.declared.kind.Kind.TheVariants.{D64}
 use Rattle.rd_policy.specs.Days.{IsDay}
@@ -24,7 +21,7 @@ use Rattle.rd_policy.specs.declared.rule.Band.{Band}
 use Rattle.rd_policy.specs.declared.rule.Band.TheVariants.{Takedown, Deed}
 use Rattle.rd_tables.specs.Asked.{IsListed}
 use Rattle.rd_tables.specs.Queries as ask
-use Rattle.rd_tables.specs.Schemas.{desk_schema, has_desk_columns, has_foreign_desk, may_be_desk, starts_with_desk}
+use Rattle.rd_tables.specs.Schemas.{desk_schema, has_desk_columns, has_foreign_desk, may_be_desk, TellsVersion}
 use Rattle.rd_volume.specs.declared.found.Found.{Found}
 use Rattle.rd_tables.specs.Sheets.{HaveRowids, Spells, SpellLawful, map_of, seen}
 use Rattle.rd_store.specs.declared.faults.OpenFault.{OpenFault}
@@ -54,17 +51,16 @@ pub record IsConsistentAs (number : ℕ) (trees : Trees) : Type 0 where
 abbrev pub IsConsistent : Trees → Type 0
 IsConsistent = IsConsistentAs 2
 
--- the desk's own table comes first, as it is declared in each desk
-pub record HasDeskFirst (schema : Schema) : Type 0 where
-  pub more : List Table
-  pub indexes : List Index
-  pub views : List View
-  pub is : schema ≡ starts_with_desk more indexes views
+-- The table `desk` tells a version, wherever it stands and whatever stands beside it, and this is so of its rows.
+pub record Says (Told : List Row → Type 0) (db : Database) : Type 0 where
+  pub tree : ℕ
+  pub tells : TellsVersion tree db.schema
+  pub told : Told (db.trees tree)
 
 -- what is told of a database by each refusal; why Sql is answered is not told
 abbrev pub Refuses : OpenFault → Database → Type 0
 Refuses NotADesk db = may_be_desk db.schema ≡ false
-Refuses OtherVersion db = (has_desk_columns db.schema ≡ true) × HasDeskFirst db.schema × ¬ HasVersion 2 (db.trees 0)
+Refuses OtherVersion db = (has_desk_columns db.schema ≡ true) × Says (λ rows. ¬ HasVersion 2 rows) db
 Refuses Inconsistent db = (db.schema ≡ desk_schema) × HasVersion 2 (db.trees 0) × ¬ IsConsistent db.trees
 Refuses Sql db = may_be_desk db.schema ≡ true
 
@@ -97,13 +93,6 @@ pub record IsNotOpened {S : Type 0} (g : Ghosts S) (old new : Held S) (fault : O
   pub crash : LeavesOld g old new
 
 -- ---- inside
-
--- the desk's own table comes first
-pub record StartsWithDesk (s : State) : Type 0 where
-  pub more : List Table
-  pub indexes : List Index
-  pub views : List View
-  pub rests : IsTrue s.is_open → RestsOver (starts_with_desk more indexes views) s
 
 -- after a refusal that is told the connection is open, where the disk has returned what was written
 abbrev pub RefusesOpen : {S T : Type 0} → Ghosts S → Held S → Result T OpenFault → Type 0

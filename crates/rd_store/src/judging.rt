@@ -2,19 +2,18 @@ ghost use Rattle.std.specs.Prelude.{◌≡◌, ◌≢◌, true, IfOk, IfErr, Som
 ghost use Rattle.sqlite.specs.Held.{state};
 ghost use Rattle.sqlite.specs.Steps.{over_memory};
 ghost use Rattle.rd_tables.specs.Schemas.{desk_schema, first_schema, has_desk_columns};
-ghost use Rattle.rd_store.specs.Held.{Asks, HoldsDesk, IsOpen};
+ghost use Rattle.rd_store.specs.Held.{HoldsDesk, IsOpen};
 ghost use Rattle.rd_store.specs.Migrated.{IsHeldFirst, IsHeldIn, IsRegisterIn, RefusesEach};
-ghost use Rattle.rd_store.specs.Opened.{HasDeskFirst, IsNamed, IsNoDesk, IsResting, IsSaid, IsSettledAt, IsSoundAt, NamesDesk, TestsDatabase, TestsDesk};
+ghost use Rattle.rd_store.specs.Opened.{IsNamed, IsNoDesk, IsResting, IsSaid, IsSettledAt, IsSoundAt, NamesDesk, Says, TestsDatabase, TestsDesk};
 ghost use Rattle.rd_store.specs.Register.{IsRegisterOf};
-ghost use Rattle.rd_store.specs.Spelled.{HasVersion};
 
 use crate::create::make_first_tables;
 use crate::faults::{OpenFault, Refused};
 use crate::opening::{check_first_rows, check_rows};
 use crate::register::Register;
 use crate::store::Store;
-use crate::version::{Version, said_version};
-use rd_tables::{has_desk_columns, has_foreign_desk, is_blank, same_first_table, same_schema};
+use crate::version::{Version, known_version};
+use rd_tables::{has_desk_columns, has_foreign_desk, is_blank, same_schema};
 use sqlite::{Alter, Connection, MemStore};
 use std::alloc::Global;
 
@@ -54,39 +53,18 @@ fn first_sample(alloc: Global) -> Result<Connection<MemStore>, OpenFault>
     }
 }
 
-/// The version that the row of `desk` says, in a database whose first table is that of the sample.
-fn known_version<S: Alter>(
-    conn: &mut Connection<S>,
-    sample: &Connection<MemStore>,
-) -> Result<Option<Version>, OpenFault>
-    requires settled { IsSettledAt (state S.Store conn.old) }
-    requires sample { (state over_memory sample.now).now.schema ≡ desk_schema }
-    ensures asks { Asks S.Store conn.old conn.new result OpenFault.Sql (λ said.
-        IsSaid said ((state S.Store conn.old).now.trees 0)) }
-    ensures first { IfOk result (λ said. HasDeskFirst (state S.Store conn.old).now.schema) }
-{
-    if !same_first_table(conn.schema(), sample.schema()) {
-        return Err(OpenFault::Sql);
-    }
-    said_version(conn)
-}
-
-/// The register of the desk of a database that says version 2, if it is one, whose tables are those of the sample.
-fn judge_second<S: Alter>(
-    alloc: Global,
-    conn: &mut Connection<S>,
-    sample: &Connection<MemStore>,
-) -> Result<Register, OpenFault>
+/// The register of the desk of a database that says version 2, if it is one.
+fn judge_second<S: Alter>(alloc: Global, conn: &mut Connection<S>) -> Result<Register, OpenFault>
     requires rests { IsResting (state S.Store conn.old) }
     requires sound { IsSoundAt (state S.Store conn.old) }
-    requires sample { (state over_memory sample.now).now.schema ≡ desk_schema }
     requires desk { IsOpen S.Store conn.old → has_desk_columns (state S.Store conn.old).now.schema ≡ true }
-    requires version { IsOpen S.Store conn.old → HasVersion 2 ((state S.Store conn.old).now.trees 0) }
+    requires said { IsOpen S.Store conn.old → Says (IsSaid (Some Version.Second)) (state S.Store conn.old).now }
     ensures tests { TestsDesk S.Store conn.old conn.new result }
     ensures listed { IsOpen S.Store conn.new → IfOk result (IsRegisterIn Version.Second (state S.Store conn.old).now.trees) }
     ensures no_desk { IfErr result (λ fault. fault ≢ OpenFault.NotADesk) }
 {
-    if !same_schema(conn.schema(), sample.schema()) {
+    let second = sample(alloc)?;
+    if !same_schema(conn.schema(), second.schema()) {
         return Err(OpenFault::Sql);
     }
     check_rows(alloc, conn)
@@ -97,7 +75,7 @@ fn judge_first<S: Alter>(alloc: Global, conn: &mut Connection<S>) -> Result<Regi
     requires rests { IsResting (state S.Store conn.old) }
     requires sound { IsSoundAt (state S.Store conn.old) }
     requires desk { IsOpen S.Store conn.old → has_desk_columns (state S.Store conn.old).now.schema ≡ true }
-    requires version { IsOpen S.Store conn.old → HasVersion 1 ((state S.Store conn.old).now.trees 0) }
+    requires said { IsOpen S.Store conn.old → Says (IsSaid (Some Version.First)) (state S.Store conn.old).now }
     ensures tests { TestsDatabase S.Store conn.old conn.new result (λ register. IsHeldFirst) RefusesEach }
     ensures listed { IsOpen S.Store conn.new → IfOk result (IsRegisterIn Version.First (state S.Store conn.old).now.trees) }
     ensures no_desk { IfErr result (λ fault. fault ≢ OpenFault.NotADesk) }
@@ -109,26 +87,23 @@ fn judge_first<S: Alter>(alloc: Global, conn: &mut Connection<S>) -> Result<Regi
     check_first_rows(alloc, conn)
 }
 
-/// The register of the desk of a database, if it is one of the version that it says. The sample has the tables of
-/// version 2.
+/// The register of the desk of a database, if it is one of the version that it says.
 fn judge_as<S: Alter>(
     alloc: Global,
     conn: &mut Connection<S>,
-    sample: &Connection<MemStore>,
     version: Version,
 ) -> Result<Register, OpenFault>
     requires rests { IsResting (state S.Store conn.old) }
     requires sound { IsSoundAt (state S.Store conn.old) }
-    requires sample { (state over_memory sample.now).now.schema ≡ desk_schema }
     requires desk { IsOpen S.Store conn.old → has_desk_columns (state S.Store conn.old).now.schema ≡ true }
-    requires said { IsOpen S.Store conn.old → IsSaid (Some version) ((state S.Store conn.old).now.trees 0) }
+    requires said { IsOpen S.Store conn.old → Says (IsSaid (Some version)) (state S.Store conn.old).now }
     ensures tests { TestsDatabase S.Store conn.old conn.new result (λ register. IsHeldIn version) RefusesEach }
     ensures listed { IsOpen S.Store conn.new → IfOk result (IsRegisterIn version (state S.Store conn.old).now.trees) }
     ensures no_desk { IfErr result (λ fault. fault ≢ OpenFault.NotADesk) }
 {
     match version {
         Version::First => judge_first(alloc, conn),
-        Version::Second => judge_second(alloc, conn, sample),
+        Version::Second => judge_second(alloc, conn),
     }
 }
 
@@ -141,14 +116,13 @@ fn judge_tables<S: Alter>(alloc: Global, conn: &mut Connection<S>) -> Result<Reg
     ensures listed { IsOpen S.Store conn.new → IfOk result (IsRegisterIn Version.Second (state S.Store conn.old).now.trees) }
     ensures no_desk { IfErr result (λ fault. fault ≢ OpenFault.NotADesk) }
 {
-    let sample = sample(alloc)?;
-    let said = known_version(conn, &sample)?;
+    let said = known_version(conn)?;
     let Some(version) = said else {
         return Err(OpenFault::Version);
     };
     match version {
         Version::First => Err(OpenFault::Version),
-        Version::Second => judge_second(alloc, conn, &sample),
+        Version::Second => judge_second(alloc, conn),
     }
 }
 
@@ -164,12 +138,11 @@ fn judge_each_tables<S: Alter>(
     ensures listed { IsOpen S.Store conn.new → IfOk result (λ found. IsRegisterIn found.0 (state S.Store conn.old).now.trees found.1) }
     ensures no_desk { IfErr result (λ fault. fault ≢ OpenFault.NotADesk) }
 {
-    let sample = sample(alloc)?;
-    let said = known_version(conn, &sample)?;
+    let said = known_version(conn)?;
     let Some(version) = said else {
         return Err(OpenFault::Version);
     };
-    let register = judge_as(alloc, conn, &sample, version)?;
+    let register = judge_as(alloc, conn, version)?;
     Ok((version, register))
 }
 

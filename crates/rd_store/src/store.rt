@@ -83,12 +83,13 @@ impl<S: Alter> Store<S> {
     /// Opens the desk that a database holds. The connection is outside a transaction.
     ///
     /// It fails with `NotADesk` if there is no table `desk` with the columns of one; then with
-    /// `Version` if that table comes first and does not have its one row, or the row says
-    /// another version than 2 (`migrate` opens a desk of version 1 too); then with `Inconsistent`
-    /// if the rows are not those of a desk. It fails with `Sql` if the database fails or memory runs
-    /// out, if there is another table, if one is declared in another way, and if SQL does not show
-    /// the columns of a table `desk`, because it does not understand something on it, such as a
-    /// trigger.
+    /// `Version` if that table, wherever it stands, does not have its one row, or the row says
+    /// another version than 2 (`migrate` opens a desk of version 1 too); then with `Sql` if there is
+    /// another table, view or index, or a table is missing or declared in another way; and then with
+    /// `Inconsistent` if the rows are not those of a desk. It fails with `Sql` at any time if the
+    /// database fails or memory runs out, and before all else if SQL does not show the columns of a
+    /// table `desk`, because it does not understand something on it, such as a trigger. `Sql` also
+    /// comes in place of `Version` if `id` is not the rowid of that table.
     pub fn open(alloc: Global, mut conn: Connection<S>) -> Result<Store<S>, Refused<OpenFault, S>>
         requires outside { conn.in_transaction ≡ false }
         ensures opened { IfOk result (λ store. IsOpened S.Store conn store) }

@@ -3,6 +3,7 @@ pub mod Values
 pub mod CreateTexts
 pub mod StatementTexts
 pub mod QueryTexts
+pub mod VersionText
 pub mod Picking
 pub mod Entries
 pub mod Finding

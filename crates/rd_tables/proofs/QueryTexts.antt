@@ -3,9 +3,7 @@ use Rattle.std.proofs.Common.{◌≡◌, ℕ, List, [], ◌∷◌, codes, false,
 use Rattle.sqlite.specs.Command.TheVariants.{Select}
 use Rattle.sqlite.specs.Query.{Query}
 use Rattle.sqlite.specs.Table.{Table}
-use Rattle.sqlite_schema.specs.declared.schema.Index.{Index}
 use Rattle.sqlite.specs.Schema.{Schema}
-use Rattle.sqlite_schema.specs.declared.schema.View.{View}
 use Rattle.sqlite.specs.Listing.{understood, reads_listing}
 use Rattle.sqlite.specs.Program.{overlay}
 use Rattle.sqlite.specs.Tree.{Trees}
@@ -14,8 +12,8 @@ use Rattle.sqlite_value.specs.declared.keys.Key.{Key}
 use Rattle.sqlite.proofs.Callers.{IsPlain, command_of}
 use Rattle.sqlite_tied.specs.Compute.{everything}
 use Rattle.rd_tables.specs.Asked.{asks_of, at_most}
-use Rattle.rd_tables.specs.Schemas.{desk_schema, desk_with, starts_with_desk}
-use Rattle.rd_tables.specs.Queries.{deed_text, deed_query, image_text, image_query, marks_text, marks_query, audience_text, audience_query, rules_text, rules_query, keys_text, keys_query, all_deeds_text, all_deeds_query, all_rules_text, all_rules_query, placed_rules_text, placed_rules_query, batch_text, batch_query, all_keys_text, all_keys_query, all_checks_text, all_checks_query, file_text, file_query, files_text, files_query, all_files_text, all_files_query, all_marks_text, all_marks_query, first_images_text, all_images_query, next_images_text, later_images_query, version_text, version_query}
+use Rattle.rd_tables.specs.Schemas.{desk_schema, desk_with}
+use Rattle.rd_tables.specs.Queries.{deed_text, deed_query, image_text, image_query, marks_text, marks_query, audience_text, audience_query, rules_text, rules_query, keys_text, keys_query, all_deeds_text, all_deeds_query, all_rules_text, all_rules_query, placed_rules_text, placed_rules_query, batch_text, batch_query, all_keys_text, all_keys_query, all_checks_text, all_checks_query, file_text, file_query, files_text, files_query, all_files_text, all_files_query, all_marks_text, all_marks_query, first_images_text, all_images_query, next_images_text, later_images_query}
 
 -- Over these tables the text asks this of the rows on one tree.
 pub record AsksOver (schema : Schema) (text : List ℕ) (tree : ℕ) (tests shown : List Term) (order : List (Term × Key)) : Type 0 where
@@ -146,8 +144,3 @@ first_images_asks more = record { names = image_names; means = refl; plain = (re
 pub next_images_asks : AsksStartInEach next_images_text 8 2 later_images_query
 unfolding understood everything image_names
 next_images_asks more = record { names = image_names; means = refl; plain = (refl, refl); stored = refl; here = λ trees. refl }
-
--- the version is read in one way whatever tables follow the first
-pub version_asks : (more : List Table) (indexes : List Index) (views : List View) → AsksOver (starts_with_desk more indexes views) version_text 0 version_query.filter version_query.project version_query.order
-unfolding understood everything
-version_asks more indexes views = record { names = codes "id" ∷ codes "version" ∷ []; means = refl; plain = (refl, refl); stored = refl; here = λ trees. refl }

@@ -170,12 +170,12 @@ next_images_text = codes "SELECT acc, kind, deed, digest, length(bytes), typeof(
 abbrev pub later_images_query : Query
 later_images_query = asks_of 2 (greater 0 0 ∷ []) image_columns ((col 1 0, rising) ∷ [])
 
--- ---- the version, whatever tables follow the first
+-- ---- the version, whatever other tables stand
 
 -- the version of the desk
 abbrev pub version_text : List ℕ
 version_text = codes "SELECT id, version FROM desk"
 
--- the query that the text means
-abbrev pub version_query : Query
-version_query = asks_of 0 [] (col 1 0 ∷ col 1 2 ∷ []) []
+-- the query that the text means, where the rows of the table lie on this tree
+abbrev pub version_query : ℕ → Query
+version_query tree = asks_of tree [] (col 1 0 ∷ col 1 2 ∷ []) []

@@ -1,6 +1,6 @@
 -- The tables of the desk as SQL understands their declarations. A column's place is one more than its
 -- number, since the rowid stands first; a tree is where the rows of a table or of its index lie.
-use Rattle.std.specs.Prelude.{◌≡◌, ℕ, Bool, true, false, List, [], ◌∷◌, Option, Some, None, ◌&&◌, ◌||◌, not, codes, option_map, pos, unwrap_or}
+use Rattle.std.specs.Prelude.{◌≡◌, ℕ, ◌^◌, ◌==◌, nat_lt, Bool, true, false, List, [], ◌∷◌, take, slice_get, Option, Some, None, ◌&&◌, ◌||◌, not, codes, option_map, pos, unwrap_or}
 use Rattle.std.specs.List.{list_any}
 use Rattle.sqlite.specs.Collation.TheVariants.{Binary}
 use Rattle.sqlite.specs.declared.types.Value.TheVariants.{Null, Int}
@@ -8,7 +8,7 @@ use Rattle.sqlite.specs.Table.{Table}
 use Rattle.sqlite.specs.Schema.{Schema}
 use Rattle.sqlite.specs.Kind.{Kind}
 use Rattle.sqlite.specs.Kind.TheVariants.{Integer, Text, Blob}
-use Rattle.sqlite_schema.specs.Names.{same_name}
+use Rattle.sqlite_schema.specs.Names.{is_key, same_name}
 use Rattle.sqlite_schema.specs.declared.schema.Column.{Column}
 use Rattle.sqlite_schema.specs.declared.schema.Index.{Index}
 use Rattle.sqlite_schema.specs.declared.schema.Reference.{Reference}
@@ -158,10 +158,6 @@ first_schema = desk_with []
 abbrev pub desk_schema : Schema
 desk_schema = desk_with (marks_table 11 ∷ [])
 
--- the desk's own table comes first, and whatever else stands follows
-abbrev pub starts_with_desk : List Table → List Index → List View → Schema
-starts_with_desk more indexes views = record { tables = desk_table 0 ∷ more; indexes = indexes; views = views }
-
 -- a table `desk` that is kept as it is, since something on it is not understood, as a trigger
 abbrev pub is_foreign_desk : View → Bool
 is_foreign_desk view = unwrap_or (option_map (λ owner. same_name owner (codes "desk")) view.foreign) false && same_name view.name (codes "desk") && not view.binds
@@ -187,13 +183,28 @@ has_desk_columns schema = list_any (λ table. same_name table.name (codes "desk"
 abbrev pub may_be_desk : Schema → Bool
 may_be_desk schema = has_desk_columns schema || has_foreign_desk schema
 
--- Both have a first table, and it is the same.
-pub record SharesFirstTable (schema other : Schema) : Type 0 where
-  pub first : Table
-  pub more : List Table
-  pub rest : List Table
-  pub here : schema.tables ≡ first ∷ more
-  pub there : other.tables ≡ first ∷ rest
+-- the table is named `desk`, in small or capital letters
+abbrev pub is_named_desk : Table → Bool
+is_named_desk table = same_name table.name (codes "desk")
+
+-- the rows of a table are on this tree
+abbrev pub has_tree : List Table → ℕ → Bool
+has_tree tables tree = list_any (λ table. table.tree == tree) tables
+
+-- the table has the columns of a `desk`, of which `id` is the rowid, and a tree that none of these tables has
+abbrev pub tells_version : List Table → Table → Bool
+tells_version others table =
+    are_desk_columns table.columns && is_key table.key 0 && nat_lt table.tree (2 ^ 31) && not (has_tree others table.tree)
+
+-- The first table named `desk` tells a version by its rows, which are on this tree; whatever else stands.
+pub record TellsVersion (tree : ℕ) (schema : Schema) : Type 0 where
+  pub at : ℕ
+  pub table : Table
+  pub here : slice_get schema.tables at ≡ Some table
+  pub named : is_named_desk table ≡ true
+  pub first : list_any is_named_desk (take at schema.tables) ≡ false
+  pub tells : tells_version (take at schema.tables) table ≡ true
+  pub on : table.tree ≡ tree
 
 -- Nothing stands.
 pub record IsBlank (schema : Schema) : Type 0 where

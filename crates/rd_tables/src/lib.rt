@@ -3,8 +3,10 @@
 //! finite map. Only `rd_store` uses it.
 #![tactic(auto)]
 
+mod desk;
 mod same;
 mod schema;
 
-pub use same::{same_first_table, same_schema};
+pub use desk::desk_tree;
+pub use same::same_schema;
 pub use schema::{has_desk, has_desk_columns, has_foreign_desk, is_blank};

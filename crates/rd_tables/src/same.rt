@@ -2,7 +2,6 @@
 //! with a view.
 
 ghost use Rattle.std.specs.Prelude.{◌≡◌, IsTrue};
-ghost use Rattle.rd_tables.specs.Schemas.{SharesFirstTable};
 
 use sqlite_schema::code::{Op, Terms};
 use sqlite_schema::schema::{Column, Index, Reference, Schema, Stamps, Table};
@@ -168,14 +167,4 @@ pub fn same_schema(schema: &Schema, other: &Schema) -> bool
         && other.views.is_empty()
         && all_same(schema.tables.as_slice(), other.tables.as_slice())
         && all_same(schema.indexes.as_slice(), other.indexes.as_slice())
-}
-
-/// `true` only if both have a first table, and it is the same. `false` says nothing.
-pub fn same_first_table(schema: &Schema, other: &Schema) -> bool
-    ensures { IsTrue result → SharesFirstTable schema.now other.now }
-{
-    match (schema.tables.as_slice(), other.tables.as_slice()) {
-        ([table, ..], [other_table, ..]) => table.same(other_table),
-        _ => false,
-    }
 }

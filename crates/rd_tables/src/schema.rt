@@ -40,7 +40,7 @@ pub fn has_desk(schema: &Schema) -> bool
 }
 
 /// Whether the columns are `id` and `version`.
-fn are_desk_columns(columns: &[Column]) -> bool
+pub(crate) fn are_desk_columns(columns: &[Column]) -> bool
     ensures { result ≡ are_desk_columns columns.now }
 {
     match columns {

@@ -13,6 +13,7 @@ use Rattle.rd_store.specs.Migrated.{IsFirstConsistent, IsSecondConsistent, Refus
 use Rattle.rd_store.specs.Opened.{IsConsistent, Refuses}
 use Rattle.rd_store.specs.Spelled.{index_of}
 use Rattle.rd_holdings.specs.State.{Desk}
+use Rattle.rd_store.proofs.Judged.{said_here}
 use Rattle.rd_store.proofs.OneSchema.{HaveOneKey, one_schema}
 use Rattle.rd_store.proofs.crash_laws.left_desks_open.Goals as goal
 
@@ -26,7 +27,7 @@ consistent desk left h = record {
 opened_here : (desk : Desk) (left : Trees) → IsLeft desk left → (fault : OpenFault) → Refuses fault (record { schema = desk_schema; trees = left }) → fault ≡ Sql
 unfolding same_name
 opened_here desk left h NotADesk refused = let e : true ≡ false = refused in absurd (true≢false e)
-opened_here desk left h OtherVersion refused = absurd (refused.2 h.of.rows.version)
+opened_here desk left h OtherVersion refused = absurd (said_here (marks_table 11 ∷ []) (record { schema = desk_schema; trees = left }) refl refused.1 h.of.rows.version)
 opened_here desk left h Inconsistent refused = absurd (refused.2 (consistent desk left h))
 opened_here desk left h Sql refused = refl
 
@@ -36,7 +37,7 @@ apart e = let n : 8 ≡ 7 = ap (λ (s : Schema). length s.tables) e in absurd (o
 first : (db : Database) → IsFirstConsistent db → (fault : OpenFault) → RefusesEach fault db → fault ≡ Sql
 unfolding same_name
 first db is NotADesk refused = let e : true ≡ false = subst (λ (s : Schema). may_be_desk s ≡ false) is.0 refused in absurd (true≢false e)
-first db is OtherVersion refused = absurd (refused.2 is.1.spelled.version)
+first db is OtherVersion refused = absurd ((said_here [] db is.0 refused.1).0 is.1.spelled.version)
 first db is Inconsistent (inl one) = absurd (one.2 is.1)
 first db is Inconsistent (inr two) = absurd (apart (sym two.0 ∙ is.0))
 first db is Sql refused = refl
@@ -44,7 +45,7 @@ first db is Sql refused = refl
 second : (db : Database) → IsSecondConsistent db → (fault : OpenFault) → RefusesEach fault db → fault ≡ Sql
 unfolding same_name
 second db is NotADesk refused = let e : true ≡ false = subst (λ (s : Schema). may_be_desk s ≡ false) is.0 refused in absurd (true≢false e)
-second db is OtherVersion refused = absurd (refused.3 is.1.spelled.version)
+second db is OtherVersion refused = absurd ((said_here (marks_table 11 ∷ []) db is.0 refused.1).1 is.1.spelled.version)
 second db is Inconsistent (inl one) = absurd (apart (sym is.0 ∙ one.0))
 second db is Inconsistent (inr two) = absurd (two.2 is.1)
 second db is Sql refused = refl

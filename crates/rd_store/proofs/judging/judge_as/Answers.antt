@@ -1,16 +1,16 @@
 use Rattle.std.proofs.Common.{Some, IfOk, subst, sym}
 use Rattle.sqlite.specs.Held.{state}
 use Rattle.rd_store.specs.Migrated.{IsHeldIn, IsRegisterIn, RefusesEach}
-use Rattle.rd_store.specs.Opened.{IsSaid, TestsDatabase}
+use Rattle.rd_store.specs.Opened.{IsSaid, Says, TestsDatabase}
 use Rattle.rd_store.specs.declared.version.Version.{Version}
 use Rattle.rd_store.proofs.Judged.{each_database}
 use Rattle.rd_store.proofs.judging.judge_as.Goals as goal
 
-pub judge_first-requires-clause-version : goal.judge_first-requires-clause-version
-judge_first-requires-clause-version g c is_open = subst (λ (v : Version). IsSaid (Some v) ((state g.S.Store c.args.conn.now).now.trees 0)) c.in-First.is (c.requires.said is_open)
+pub judge_first-requires-clause-said : goal.judge_first-requires-clause-said
+judge_first-requires-clause-said g c is_open = subst (λ (v : Version). Says (IsSaid (Some v)) (state g.S.Store c.args.conn.now).now) c.in-First.is (c.requires.said is_open)
 
-pub judge_second-requires-clause-version : goal.judge_second-requires-clause-version
-judge_second-requires-clause-version g c is_open = subst (λ (v : Version). IsSaid (Some v) ((state g.S.Store c.args.conn.now).now.trees 0)) c.in-Second.is (c.requires.said is_open)
+pub judge_second-requires-clause-said : goal.judge_second-requires-clause-said
+judge_second-requires-clause-said g c is_open = subst (λ (v : Version). Says (IsSaid (Some v)) (state g.S.Store c.args.conn.now).now) c.in-Second.is (c.requires.said is_open)
 
 pub returns-in-First-clause-tests : goal.returns-in-First-clause-tests
 returns-in-First-clause-tests g c = subst (λ (v : Version). TestsDatabase g.S.Store c.args.conn.now c.judge_first.new.conn c.judge_first.result (λ _. IsHeldIn v) RefusesEach) (sym c.in-First.is) c.judge_first.ensures.tests
@@ -18,7 +18,7 @@ returns-in-First-clause-tests g c = subst (λ (v : Version). TestsDatabase g.S.S
 pub returns-in-Second-clause-tests : goal.returns-in-Second-clause-tests
 returns-in-Second-clause-tests g c =
     subst (λ (v : Version). TestsDatabase g.S.Store c.args.conn.now c.judge_second.new.conn c.judge_second.result (λ _. IsHeldIn v) RefusesEach) (sym c.in-Second.is)
-    (each_database g.S.Store c.args.conn.now c.judge_second.new.conn c.judge_second.result (λ is_open. subst (λ (v : Version). IsSaid (Some v) ((state g.S.Store c.args.conn.now).now.trees 0)) c.in-Second.is (c.requires.said is_open)) c.judge_second.ensures.tests)
+    (each_database g.S.Store c.args.conn.now c.judge_second.new.conn c.judge_second.result (λ is_open. subst (λ (v : Version). Says (IsSaid (Some v)) (state g.S.Store c.args.conn.now).now) c.in-Second.is (c.requires.said is_open)) c.judge_second.ensures.tests)
 
 pub returns-in-First-clause-listed : goal.returns-in-First-clause-listed
 returns-in-First-clause-listed g c is_open =

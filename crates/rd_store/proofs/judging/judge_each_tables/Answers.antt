@@ -3,7 +3,7 @@ use Rattle.sqlite.specs.Effect.{Database, IsDatabase}
 use Rattle.sqlite.specs.Held.{state}
 use Rattle.rd_tables.specs.Schemas.{has_desk_columns}
 use Rattle.rd_store.specs.Migrated.{IsHeldIn, IsRegisterIn, RefusesEach}
-use Rattle.rd_store.specs.Opened.{IsSaid}
+use Rattle.rd_store.specs.Opened.{IsSaid, Says}
 use Rattle.rd_store.specs.declared.register.Register.{Register}
 use Rattle.rd_store.specs.declared.version.Version.{Version}
 use Rattle.rd_store.proofs.Judged.{still, still_resting, then_database, told_err, told_ok}
@@ -13,7 +13,7 @@ pub returns-in_default-clause-tests : goal.returns-in_default-clause-tests
 returns-in_default-clause-tests g c = record {
   stays = c.known_version.ensures.asks.stays;
   holds = λ is_open. tt;
-  refused = λ is_open. (c.requires.desk, c.in_ok-said.ensures.first, (subst (λ said. IsSaid said ((state g.S.Store c.args.conn.now).now.trees 0)) c.in_default.is (c.in_ok-said.ensures.asks.answer is_open)).0, (subst (λ said. IsSaid said ((state g.S.Store c.args.conn.now).now.trees 0)) c.in_default.is (c.in_ok-said.ensures.asks.answer is_open)).1);
+  refused = λ is_open. (c.requires.desk, let it = subst (λ said. Says (IsSaid said) (state g.S.Store c.args.conn.now).now) c.in_default.is (c.in_ok-said.ensures.asks.answer is_open) in record { tree = it.tree; tells = it.tells; told = it.told });
   ends_open = λ clean. tt;
   refuses = λ not_desk not_sql clean. c.in_ok-said.ensures.asks.ends_open clean;
 }
@@ -30,7 +30,7 @@ judge_as-requires-clause-desk g c = still g.S.Store c.args.conn.now c.known_vers
 pub judge_as-requires-clause-said : goal.judge_as-requires-clause-said
 judge_as-requires-clause-said g c is_open =
     let stays = c.known_version.ensures.asks.stays in
-    subst (λ (db : Database). IsSaid (Some c.in-Some.version) (db.trees 0)) (sym (stays.now is_open)) (subst (λ said. IsSaid said ((state g.S.Store c.args.conn.now).now.trees 0)) c.in-Some.is (c.in_ok-said.ensures.asks.answer is_open))
+    subst (Says (IsSaid (Some c.in-Some.version))) (sym (stays.now is_open)) (subst (λ said. Says (IsSaid said) (state g.S.Store c.args.conn.now).now) c.in-Some.is (c.in_ok-said.ensures.asks.answer is_open))
 
 pub returns-in_err-register-clause-tests : goal.returns-in_err-register-clause-tests
 returns-in_err-register-clause-tests g c =

@@ -1,7 +1,7 @@
-use Rattle.std.proofs.Common.{◌≡◌, refl, sym, ◌∙◌, rules}
+use Rattle.std.proofs.Common.{◌≡◌, [], refl, sym, ◌∙◌, rules}
 use Rattle.sqlite.specs.Held.{state}
 use Rattle.rd_tables.specs.Schemas.{first_schema}
-use Rattle.rd_store.proofs.Judged.{judged_first}
+use Rattle.rd_store.proofs.Judged.{judged_first, said_here}
 use Rattle.rd_store.proofs.Laws.{stays_here}
 use Rattle.rd_store.proofs.judging.judge_first.Goals as goal
 
@@ -10,6 +10,11 @@ check_first_rows-requires-clause-tables g c is_open =
     let rests = c.requires.rests is_open in
     let schema : (state g.S.Store c.args.conn.now).now.schema ≡ first_schema = sym c.schema.ensures.value ∙ c.if-not-same_schema.ensures refl ∙ c.schema-2.ensures.value ∙ c.in_ok-first.ensures.schema in
     record { more = _; rests = record { schema = schema; settled = rests.settled; autocommit = rests.autocommit } }
+
+pub check_first_rows-requires-clause-version : goal.check_first_rows-requires-clause-version
+check_first_rows-requires-clause-version g c is_open =
+    let schema : (state g.S.Store c.args.conn.now).now.schema ≡ first_schema = sym c.schema.ensures.value ∙ c.if-not-same_schema.ensures refl ∙ c.schema-2.ensures.value ∙ c.in_ok-first.ensures.schema in
+    said_here [] (state g.S.Store c.args.conn.now).now schema (c.requires.said is_open)
 
 pub returns-in_err-first-clause-tests : goal.returns-in_err-first-clause-tests
 returns-in_err-first-clause-tests g c = record {
@@ -32,7 +37,7 @@ returns-then-not-same_schema-clause-tests g c = record {
 pub returns-clause-tests : goal.returns-clause-tests
 returns-clause-tests g c =
     let schema : (state g.S.Store c.args.conn.now).now.schema ≡ first_schema = sym c.schema.ensures.value ∙ c.if-not-same_schema.ensures refl ∙ c.schema-2.ensures.value ∙ c.in_ok-first.ensures.schema in
-    judged_first g.S.Store c.args.conn.now c.check_first_rows.new.conn c.requires.desk c.requires.sound c.check_first_rows.result schema c.requires.version c.check_first_rows.ensures.tests c.check_first_rows.ensures.rowids
+    judged_first g.S.Store c.args.conn.now c.check_first_rows.new.conn c.requires.desk c.requires.sound c.check_first_rows.result schema (λ is_open. said_here [] (state g.S.Store c.args.conn.now).now schema (c.requires.said is_open)) c.check_first_rows.ensures.tests c.check_first_rows.ensures.rowids
 
 pub returns-clause-listed : goal.returns-clause-listed
 returns-clause-listed g c = c.check_first_rows.ensures.listed

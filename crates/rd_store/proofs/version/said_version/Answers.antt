@@ -12,7 +12,7 @@ returns-then-is_version g c = record {
     fault = search rules;
     answer = λ is_open.
         let picks = c.in_ok-rows.ensures.asks.answer is_open in
-        version_told 2 true _ c.in_ok-rows.rows.items picks (subst (λ rows. map (λ row. column row 0 ∷ column row 1 ∷ []) rows ≡ (Int (pos 1) ∷ Int (pos 2) ∷ []) ∷ []) c.deref.ensures.value c.if-is_version.ensures);
+        version_told c.args.tree 2 true _ c.in_ok-rows.rows.items picks (subst (λ rows. map (λ row. column row 0 ∷ column row 1 ∷ []) rows ≡ (Int (pos 1) ∷ Int (pos 2) ∷ []) ∷ []) c.deref.ensures.value c.if-is_version.ensures);
   };
 }
 
@@ -24,7 +24,7 @@ returns-then-is_version-2 g c = record {
     fault = search rules;
     answer = λ is_open.
         let picks = c.in_ok-rows.ensures.asks.answer is_open in
-        version_told 1 true _ c.in_ok-rows.rows.items picks (subst (λ rows. map (λ row. column row 0 ∷ column row 1 ∷ []) rows ≡ (Int (pos 1) ∷ Int (pos 1) ∷ []) ∷ []) c.deref-2.ensures.value c.if-is_version-2.ensures);
+        version_told c.args.tree 1 true _ c.in_ok-rows.rows.items picks (subst (λ rows. map (λ row. column row 0 ∷ column row 1 ∷ []) rows ≡ (Int (pos 1) ∷ Int (pos 1) ∷ []) ∷ []) c.deref-2.ensures.value c.if-is_version-2.ensures);
   };
 }
 
@@ -36,6 +36,6 @@ returns g c = record {
     fault = search rules;
     answer = λ is_open.
         let picks = c.in_ok-rows.ensures.asks.answer is_open in
-        (version_told 1 false _ c.in_ok-rows.rows.items picks (subst (λ rows. ¬ (map (λ row. column row 0 ∷ column row 1 ∷ []) rows ≡ (Int (pos 1) ∷ Int (pos 1) ∷ []) ∷ [])) c.deref-2.ensures.value c.if-is_version-2.ensures), version_told 2 false _ c.in_ok-rows.rows.items picks (subst (λ rows. ¬ (map (λ row. column row 0 ∷ column row 1 ∷ []) rows ≡ (Int (pos 1) ∷ Int (pos 2) ∷ []) ∷ [])) c.deref.ensures.value c.if-is_version.ensures));
+        (version_told c.args.tree 1 false _ c.in_ok-rows.rows.items picks (subst (λ rows. ¬ (map (λ row. column row 0 ∷ column row 1 ∷ []) rows ≡ (Int (pos 1) ∷ Int (pos 1) ∷ []) ∷ [])) c.deref-2.ensures.value c.if-is_version-2.ensures), version_told c.args.tree 2 false _ c.in_ok-rows.rows.items picks (subst (λ rows. ¬ (map (λ row. column row 0 ∷ column row 1 ∷ []) rows ≡ (Int (pos 1) ∷ Int (pos 2) ∷ []) ∷ [])) c.deref.ensures.value c.if-is_version.ensures));
   };
 }
