@@ -34,6 +34,8 @@ pub(crate) enum Base {
     Logged,
     /// The same with a check of the image on the day of the requests. The check is in the log.
     Checked,
+    /// The desk with an image, a takedown of it, and another key of the staff. The key is in the log.
+    Takedown,
     /// The desk with three images and a third deed, in the tables of version 1. The deed is in the
     /// log.
     First,
@@ -69,6 +71,12 @@ const MORE_IMAGES: &[Command] = &[
 
 /// The command for a check of the image.
 const CHECK: &[Command] = &[Command::Check(12)];
+
+/// The command for a takedown of the image.
+const TAKEDOWN: &[Command] = &[Command::PutRule(SampleRule::Takedown)];
+
+/// The command for another key of the staff.
+const OTHER_STAFF: &[Command] = &[Command::PutKey("other", Audience::Staff)];
 
 /// Statements that drop all tables.
 const DROPS: &[&str] = &[
@@ -231,6 +239,12 @@ fn checked(alloc: Global) -> Result<Pair> {
     logged_commands(alloc, &desk, CHECK)
 }
 
+/// The files of the desk with an image, a takedown of it, and another key of the staff.
+fn with_takedown(alloc: Global) -> Result<Pair> {
+    let desk = copied_desk(alloc, &[NEW_DESK, LAST_RULE, FIRST_IMAGE, TAKEDOWN])?;
+    logged_commands(alloc, &desk, OTHER_STAFF)
+}
+
 /// The files of a desk with three images and a third deed, in the tables of version 1.
 fn first_version(alloc: Global) -> Result<Pair> {
     let desk = copied_desk(alloc, &[NEW_DESK, LAST_RULE, FIRST_IMAGE, MORE_IMAGES])?;
@@ -248,6 +262,7 @@ pub(crate) fn files_of(alloc: Global, base: Base) -> Result<Pair> {
         Base::Image => with_image(alloc),
         Base::Logged => with_logged_image(alloc),
         Base::Checked => checked(alloc),
+        Base::Takedown => with_takedown(alloc),
         Base::First => first_version(alloc),
     }
 }

@@ -56,8 +56,7 @@ pub(crate) enum Command {
         signed: i32,
     },
     PutRule(SampleRule),
-    /// The rank of a rule of deed 7.
-    DropRule(u16),
+    DropRule(SampleRule),
     /// An accession under deed 7, and its image.
     PutImage(u32, Sample),
     Check(u32),
@@ -134,6 +133,16 @@ fn rule_of(sample: SampleRule) -> Rule {
     }
 }
 
+/// Asks that a rule be dropped from its place.
+fn drop_rule(sample: SampleRule) -> What {
+    let rule = rule_of(sample);
+    What::DropRule {
+        band: rule.band,
+        scope: rule.scope,
+        rank: rule.rank,
+    }
+}
+
 fn put_deed(alloc: Global, num: u32, donor: &str, signed: i32) -> Result<What, NoMemory> {
     let donor = Text::of(String::from_str(alloc, donor)?);
     Ok(What::PutDeed { num, donor, signed })
@@ -161,11 +170,7 @@ fn what_of(alloc: Global, command: Command) -> Result<What, NoMemory> {
         },
         Command::PutDeed { num, donor, signed } => put_deed(alloc, num, donor, signed)?,
         Command::PutRule(rule) => What::PutRule(rule_of(rule)),
-        Command::DropRule(rank) => What::DropRule {
-            band: Band::Deed,
-            scope: 7,
-            rank,
-        },
+        Command::DropRule(rule) => drop_rule(rule),
         Command::PutImage(acc, sample) => put_image(alloc, acc, sample)?,
         Command::Check(acc) => What::Check(acc),
     })

@@ -1,8 +1,8 @@
-//! Stops the two files of a desk's database at each of their calls, one file after the other. The
-//! file that stops refuses all calls from then on; the other goes on until the run has ended with
-//! its error. Then a crash loses what was not synced, or a part of it, and the program opens the
-//! database again: it must hold the desk after the last change that was reported as done, or the
-//! one after the next change.
+//! Stops the two files of a desk's database at each of their calls, one file after the other, or at
+//! calls that are drawn. The file that stops refuses all calls from then on; the other goes on until
+//! the run has ended with its error. In the end neither file stops. Then a crash loses what was not
+//! synced, or a part of it, and the program opens the database again: it must hold the desk after the
+//! last change that was reported as done, or the one after the next change.
 //!
 //! The argument is the seed of all draws.
 #![tactic(auto)]

@@ -5,9 +5,10 @@ use crate::files::{File, Pair, Stop, syncs_of};
 use crate::judging::{Counts, Outcome, Stopped, outcome_of};
 use crate::leavings::{Kept, Left, leavings};
 use crate::running::{Ending, Ran, Report, carry_out};
-use crate::runs::{Run, Wanted};
+use crate::runs::{Run, Stops, Wanted};
 use crate::seen::Seen;
 use anyhow::{Context, Result, bail, ensure};
+use rand_core::Rng;
 use rand_pcg::Pcg32;
 use std::alloc::Global;
 
@@ -151,6 +152,36 @@ struct Needed {
     syncs: u64,
 }
 
+impl Needed {
+    /// How many stops there are: each file stops after 0, 1, 2 and more of its calls, up to as many as
+    /// the run needs. After so many it stops no more, so that a crash comes after a whole run, too.
+    fn stops(self) -> u64 {
+        self.db.saturating_add(self.log).saturating_add(2)
+    }
+
+    /// The stop with a number, counted from 0: first those of the database file, then those of the
+    /// log.
+    fn stop(self, number: u64) -> Stop {
+        match number.checked_sub(self.db.saturating_add(1)) {
+            None => Stop {
+                file: File::Database,
+                calls: number,
+            },
+            Some(calls) => Stop {
+                file: File::Log,
+                calls,
+            },
+        }
+    }
+
+    /// A drawn one of all stops.
+    fn drawn_stop(self, draws: &mut Pcg32) -> Stop {
+        let drawn = u64::from(draws.next_u32());
+        let stops = self.stops();
+        self.stop(if stops == 0 { 0 } else { drawn % stops })
+    }
+}
+
 /// A run that is played.
 #[derive(Drop)]
 struct Player<'a> {
@@ -250,13 +281,29 @@ impl<'a> Player<'a> {
         self.judge(rt, &Stopped { run, stop, ran })
     }
 
-    /// Plays the run with a stop of a file after 0, 1, 2 and more of its calls, up to as many as a
-    /// run without a stop needs.
-    fn stop_each_call(&mut self, rt: &HostRuntime, file: File, needed: u64) -> Result<()> {
-        for calls in 0..needed {
-            self.stop_at(rt, Stop { file, calls })?;
+    /// Plays the run with each stop.
+    fn stop_each_call(&mut self, rt: &HostRuntime, needed: Needed) -> Result<()> {
+        for number in 0..needed.stops() {
+            self.stop_at(rt, needed.stop(number))?;
         }
         Ok(())
+    }
+
+    /// Plays the run with so many stops that are drawn.
+    fn stop_drawn(&mut self, rt: &HostRuntime, needed: Needed, count: u32) -> Result<()> {
+        for _ in 0..count {
+            let stop = needed.drawn_stop(&mut self.draws);
+            self.stop_at(rt, stop)?;
+        }
+        Ok(())
+    }
+
+    /// Plays the run with the stops that it asks for.
+    fn stop_all(&mut self, rt: &HostRuntime, needed: Needed) -> Result<()> {
+        match self.start.run.stops {
+            Stops::Each => self.stop_each_call(rt, needed),
+            Stops::Drawn(count) => self.stop_drawn(rt, needed, count),
+        }
     }
 
     /// Prints the line of the run, which without a stop needs so much.
@@ -264,10 +311,11 @@ impl<'a> Player<'a> {
         let Needed { db, log, syncs } = needed;
         let (name, sort) = (self.start.run.name, self.start.sort.words());
         let changes = self.start.run.action.changes();
+        let stops = self.start.run.stops.words(rt.alloc())?;
         let counts = self.counts;
         let (before, after, wrong) = (counts.before, counts.after, counts.wrong);
         println!(rt;
-            "{name}, {sort}: {db} stops of the database file, {log} of the log; the desk before {before} times, after {after}, neither {wrong}; {syncs} syncs for {changes} changes"
+            "{name}, {sort}: {stops} of {db} calls of the database file and {log} of the log; the desk before {before} times, after {after}, neither {wrong}; {syncs} syncs for {changes} changes"
         )?;
         Ok(())
     }
@@ -296,12 +344,10 @@ impl<'a> Player<'a> {
         self.counts.faults == 0 && is_wrong == (self.start.run.wanted == Wanted::Wrong)
     }
 
-    /// Plays the run with stops of one file and then of the other, and prints a line. Gives whether
-    /// what came is what was wanted.
+    /// Plays the run with its stops, and prints a line. Gives whether what came is what was wanted.
     fn play(&mut self, rt: &HostRuntime) -> Result<bool> {
         let needed = self.start.needed(rt.alloc())?;
-        self.stop_each_call(rt, File::Database, needed.db)?;
-        self.stop_each_call(rt, File::Log, needed.log)?;
+        self.stop_all(rt, needed)?;
         self.print(rt, needed)?;
         self.check_outcomes()?;
         Ok(self.is_as_wanted())

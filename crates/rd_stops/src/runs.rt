@@ -5,6 +5,7 @@ use crate::commands::{Command, Sample, SampleRule};
 use crate::drive::Sort;
 use crate::files::USUAL_FRAMES;
 use rd_policy::Audience;
+use std::alloc::{AllocError, Global};
 
 /// What a run does.
 #[derive(Clone, Copy)]
@@ -47,6 +48,25 @@ impl Action {
     }
 }
 
+/// Where a file stops.
+#[derive(Clone, Copy)]
+pub(crate) enum Stops {
+    /// Each file after 0, 1, 2 and more of its calls, and then none.
+    Each,
+    /// So many of these, drawn by the seed.
+    Drawn(u32),
+}
+
+impl Stops {
+    /// What the output says of it.
+    pub(crate) fn words(self, alloc: Global) -> Result<String, AllocError> {
+        match self {
+            Stops::Each => String::from_str(alloc, "a stop at each"),
+            Stops::Drawn(count) => format!(in alloc; "{count} stops drawn"),
+        }
+    }
+}
+
 /// What must come in a run.
 #[derive(Clone, Copy, PartialEq, Eq)]
 pub(crate) enum Wanted {
@@ -64,6 +84,7 @@ pub(crate) struct Run {
     pub(crate) sorts: &'static [Sort],
     pub(crate) base: Base,
     pub(crate) action: Action,
+    pub(crate) stops: Stops,
     /// How many pages the log holds when a commit copies it into the database before it writes.
     pub(crate) frames: usize,
     /// Whether it closes the files in the end, so that the log is copied into the database.
@@ -103,6 +124,7 @@ const MADE: Run = Run {
     sorts: BOTH,
     base: Base::Empty,
     action: Action::Create,
+    stops: Stops::Each,
     frames: 1,
     is_closed: true,
     least_syncs: None,
@@ -217,7 +239,7 @@ pub(crate) const RUNS: &[Run] = &[
     },
     Run {
         name: "a rule is dropped",
-        action: Action::Ask(&[Command::DropRule(10)]),
+        action: Action::Ask(&[Command::DropRule(SampleRule::Closed)]),
         question: "SELECT rank FROM rule ORDER BY rank",
         before: "version 2\n10\n20\n",
         after: "version 2\n20\n",
@@ -324,5 +346,53 @@ pub(crate) const RUNS: &[Run] = &[
         sorts: &[Sort::Forgetful],
         wanted: Wanted::Wrong,
         ..DEED_PUT
+    },
+    Run {
+        name: "a takedown is dropped",
+        sorts: BOTH,
+        base: Base::Takedown,
+        action: Action::Ask(&[Command::DropRule(SampleRule::Takedown)]),
+        question: "SELECT scope, rank FROM rule ORDER BY band, rank",
+        before: "version 2\n12|1\n7|10\n7|20\n",
+        after: "version 2\n7|10\n7|20\n",
+        ..DEED_PUT
+    },
+    Run {
+        name: "a key of the staff is dropped",
+        sorts: BOTH,
+        base: Base::Takedown,
+        action: Action::Ask(&[Command::DropKey("other")]),
+        question: "SELECT audience FROM badge ORDER BY audience",
+        before: "version 2\n1\n2\n2\n",
+        after: "version 2\n1\n2\n",
+        ..DEED_PUT
+    },
+    Run {
+        name: "a key is put that is new",
+        sorts: BOTH,
+        action: Action::Ask(&[Command::PutKey("guest", Audience::Room)]),
+        question: "SELECT audience FROM badge ORDER BY audience",
+        before: "version 2\n1\n2\n",
+        after: "version 2\n1\n1\n2\n",
+        ..DEED_PUT
+    },
+    Run {
+        name: "a CP/M image is put",
+        sorts: BOTH,
+        action: Action::Ask(&[Command::PutImage(15, Sample::Record)]),
+        question: "SELECT kind, length(bytes), name FROM image JOIN found ON found.acc = image.acc",
+        before: "version 2\n",
+        after: "version 2\n0|256256|HELLO.TXT\n",
+        ..DEED_PUT
+    },
+    Run {
+        name: "forty images are imported",
+        action: Action::Import(40),
+        stops: Stops::Drawn(100),
+        is_closed: true,
+        question: "SELECT count(*), min(acc), max(acc) FROM found",
+        before: "version 2\n0|NULL|NULL\n",
+        after: "version 2\n40|21|60\n",
+        ..IMPORTED
     },
 ];

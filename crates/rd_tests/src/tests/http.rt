@@ -68,6 +68,7 @@ mod cases;
 mod doors;
 mod fakes;
 mod faults;
+mod long_reply;
 mod refused;
 mod runs;
 mod tcp;
