@@ -17,7 +17,7 @@ use std::{env, fs};
 const SHEET_LIMIT: u64 = 67_108_864;
 
 /// The clock of the machine.
-#[derive(Drop)]
+#[derive(Clone, Copy)]
 pub(crate) struct HostClock<'a> {
     rt: &'a HostRuntime,
     /// When the clock was made.

@@ -1,24 +1,17 @@
-//! Visits over TCP.
+//! Visits over the streams of a listener: TCP, or a socket of the machine.
 
-ghost use Rattle.std.specs.Duration.{as_nanos};
-ghost use Rattle.std.specs.Io.KnownBytes.{Appends};
+ghost use Rattle.std.specs.Io.{ReadsAtMost, WritesAtMost};
+ghost use Rattle.std.specs.Io.KnownBytes.{Appends, WriteAppends};
 ghost use Rattle.std.specs.Prelude.{◌≡◌, ◌↔◌, ◌≤◌, ◌*◌, ◌<◌, None, true, false, length, vec_len, IfOk, IfSome, IsErr, OnOk};
 
+use crate::pace::{Clock, Limits, Pace, time_left};
+use crate::stream::{Listener, Stream};
 use crate::wire::{Broken, Door, Shut, Wire};
 use std::alloc::Global;
-use std::io::{Read, Write};
 use std::mem;
-use std::net::{Shutdown, TcpListener, TcpStream};
+use std::net::TcpListener;
+use std::os::unix::net::UnixListener;
 use std::time::Duration;
-
-/// A clock.
-pub trait Clock {
-    /// The seconds since 1970-01-01T00:00:00 UTC; `None` if the clock fails.
-    fn now(&mut self) -> Option<i64>;
-
-    /// The milliseconds since a fixed moment; `None` if the clock fails.
-    fn milliseconds(&mut self) -> Option<u64>;
-}
 
 /// How long a connection lingers at most, in milliseconds.
 const LINGER_MILLISECONDS: u64 = 200;
@@ -29,28 +22,62 @@ const LINGER_BYTES: usize = 4_194_304;
 /// How many bytes a connection holds back at most.
 const MOST_HELD: usize = 16_384;
 
-/// A connection over TCP, and whether a read and whether a write of it has failed. An interrupted
-/// call counts as failed.
+/// A connection over a stream, and whether a read and whether a write of it has failed. An interrupted
+/// call counts as failed, and so does what a visitor takes too long for.
 ///
 /// It holds back up to 16,384 bytes that were put, so that a file's many short slices take few
 /// system calls. It sends them as soon as it may hold no more; `flush` sends the last of them. If
 /// there is no memory for them, it sends at once what is put.
 #[derive(Drop)]
-pub struct TcpWire {
-    stream: TcpStream,
+pub struct StreamWire<S, C> {
+    stream: S,
+    pace: Pace<C>,
     held: Vec<u8>,
     take_failed: bool,
     put_failed: bool,
     ghost within: { vec_len held ≤ 16384 },
 }
 
-/// Writes bytes, all of them and in their order. It fails with `Broken` when a write fails or takes no byte.
-fn send<W: Write>(stream: &mut W, bytes: &[u8]) -> Result<(), Broken>
-    ensures { OnOk result (Appends (W.contents stream.old) (W.contents stream.new) bytes.now) }
+/// Reads once, while the time of the request lasts, and gives how many bytes came.
+///
+/// It fails with `Broken` when the time is over, and when the read fails.
+fn read_in_time<S: Stream, C: Clock>(
+    stream: &mut S,
+    pace: &mut Pace<C>,
+    into: &mut [u8],
+) -> Result<usize, Broken>
+    ensures { ReadsAtMost result into.new }
+{
+    let time = pace.for_read().ok_or(Broken)?;
+    stream.limit_reads(time).map_err(|_| Broken)?;
+    stream.read(into).map_err(|_| Broken)
+}
+
+/// Writes once, while the time of the reply lasts, and gives how many bytes went.
+///
+/// It fails with `Broken` when the time is over, and when the write fails.
+fn write_in_time<S: Stream, C: Clock>(
+    stream: &mut S,
+    pace: &mut Pace<C>,
+    bytes: &[u8],
+) -> Result<usize, Broken>
+    ensures bound { WritesAtMost result bytes.now }
+    ensures bytes { WriteAppends (S.Write.contents stream.old) (S.Write.contents stream.new) result bytes.now }
+{
+    let time = pace.for_write().ok_or(Broken)?;
+    stream.limit_writes(time).map_err(|_| Broken)?;
+    stream.write(bytes).map_err(|_| Broken)
+}
+
+/// Writes bytes, all of them and in their order, while the time of the reply lasts.
+///
+/// It fails with `Broken` when the time is over, and when a write fails or takes no byte.
+fn send<S: Stream, C: Clock>(stream: &mut S, pace: &mut Pace<C>, bytes: &[u8]) -> Result<(), Broken>
+    ensures { OnOk result (Appends (S.Write.contents stream.old) (S.Write.contents stream.new) bytes.now) }
 {
     let mut sent = 0;
     while sent < bytes.len() {
-        match stream.write(&bytes[sent..]) {
+        match write_in_time(stream, pace, &bytes[sent..]) {
             Ok(count) if count > 0 => sent += count,
             _ => return Err(Broken),
         }
@@ -58,17 +85,18 @@ fn send<W: Write>(stream: &mut W, bytes: &[u8]) -> Result<(), Broken>
     Ok(())
 }
 
-impl TcpWire {
+impl<S: Stream, C: Clock + Drop> StreamWire<S, C> {
     /// A connection over a stream on which nothing has failed yet. It holds bytes back in the list
     /// `held`, which it empties first.
-    fn new(stream: TcpStream, mut held: Vec<u8>) -> TcpWire
+    fn new(stream: S, pace: Pace<C>, mut held: Vec<u8>) -> StreamWire<S, C>
         ensures take { result.take_failed ≡ false }
         ensures put { result.put_failed ≡ false }
         ensures unsent { vec_len result.held ≡ 0 }
     {
         held.clear();
-        TcpWire {
+        StreamWire {
             stream,
+            pace,
             held,
             take_failed: false,
             put_failed: false,
@@ -99,13 +127,13 @@ impl TcpWire {
         ensures take_kept { self.new.take_failed ≡ self.old.take_failed }
     {
         self.flush()?;
-        let sent = send(&mut &self.stream, bytes);
+        let sent = send(&mut self.stream, &mut self.pace, bytes);
         self.tell(sent)?;
         Ok(bytes.len())
     }
 }
 
-impl Wire for TcpWire {
+impl<S: Stream, C: Clock + Drop> Wire for StreamWire<S, C> {
     ghost came = { λ _. None };
 
     ghost incoming = { λ _. None };
@@ -119,7 +147,7 @@ impl Wire for TcpWire {
     ghost unsent = { λ wire. vec_len wire.held };
 
     fn take(&mut self, into: &mut [u8]) -> Result<usize, Broken> {
-        match self.stream.read(into) {
+        match read_in_time(&mut self.stream, &mut self.pace, into) {
             Ok(count) => Ok(count),
             Err(_) => {
                 self.take_failed = true;
@@ -140,7 +168,7 @@ impl Wire for TcpWire {
     }
 
     fn flush(&mut self) -> Result<(), Broken> {
-        let sent = send(&mut &self.stream, self.held.as_slice());
+        let sent = send(&mut self.stream, &mut self.pace, self.held.as_slice());
         self.held.clear();
         self.tell(sent)
     }
@@ -152,25 +180,40 @@ impl Wire for TcpWire {
 /// The list in which a connection holds bytes back goes from one connection to the next, and what
 /// lingering connections still send is read into one array.
 #[derive(Drop)]
-pub struct TcpDoor<C> {
+pub struct StreamDoor<L, C> {
     alloc: Global,
-    listener: TcpListener,
+    listener: L,
     clock: C,
+    limits: Limits,
     spare: Vec<u8>,
     leftover: [u8; 16_384],
     has_shut: bool,
 }
 
-impl<C: Clock> TcpDoor<C> {
-    /// The door of a listener, with a clock. It takes no memory; its connections take some for
+/// A door at a port.
+pub type TcpDoor<C> = StreamDoor<TcpListener, C>;
+
+/// A door at a socket of the machine.
+pub type SocketDoor<C> = StreamDoor<UnixListener, C>;
+
+impl<L: Listener, C: Clock + Copy + Drop> StreamDoor<L, C> {
+    /// The door of a listener, with a clock and the usual limits. It takes no memory; its connections take some for
     /// what they hold back.
-    pub fn new(alloc: Global, listener: TcpListener, clock: C) -> TcpDoor<C>
-        ensures { ⟦<TcpDoor<C> as Door>⟧.has_shut result ≡ false }
+    pub fn new(alloc: Global, listener: L, clock: C) -> StreamDoor<L, C>
+        ensures { ⟦<StreamDoor<L, C> as Door>⟧.has_shut result ≡ false }
     {
-        TcpDoor {
+        StreamDoor::with_limits(alloc, listener, clock, Limits::usual())
+    }
+
+    /// The door of a listener, with a clock, and how long its visitors may take. It takes memory as that of `new` does.
+    pub fn with_limits(alloc: Global, listener: L, clock: C, limits: Limits) -> StreamDoor<L, C>
+        ensures { ⟦<StreamDoor<L, C> as Door>⟧.has_shut result ≡ false }
+    {
+        StreamDoor {
             alloc,
             listener,
             clock,
+            limits,
             spare: Vec::new(alloc),
             leftover: [0; 16_384],
             has_shut: false,
@@ -178,32 +221,24 @@ impl<C: Clock> TcpDoor<C> {
     }
 }
 
-/// The next visitor of a listener, and the moment that a clock shows then; `None` if one of them
+/// The next visitor of a listener, and the moment and the millisecond that a clock shows then; `None` if one of them
 /// fails.
-fn next_visitor<C: Clock>(listener: &TcpListener, clock: &mut C) -> Option<(i64, TcpStream)> {
-    let (stream, _) = listener.accept().ok()?;
+fn next_visitor<L: Listener, C: Clock>(
+    listener: &L,
+    clock: &mut C,
+) -> Option<(i64, u64, L::Stream)> {
+    let stream = listener.next().ok()?;
     let moment = clock.now()?;
-    Some((moment, stream))
-}
-
-/// What is left of the time that a connection lingers, which began at this millisecond; `None` if
-/// it is over, or if the clock fails or has gone back.
-fn time_left<C: Clock>(clock: &mut C, began: u64) -> Option<Duration>
-    ensures { IfSome result (λ left. as_nanos left ≤ 200 * 1_000_000) }
-{
-    let passed = clock.milliseconds()?.checked_sub(began)?;
-    match LINGER_MILLISECONDS.checked_sub(passed)? {
-        0 => None,
-        left => Some(Duration::from_millis(left)),
-    }
+    let millisecond = clock.milliseconds()?;
+    Some((moment, millisecond, stream))
 }
 
 /// Reads what a peer still sends into a buffer, and gives how many bytes came; `None` if the peer
 /// has ended, nothing has come in this time, or the connection fails.
-fn read_within(stream: &mut TcpStream, buffer: &mut [u8], time: Duration) -> Option<usize>
+fn read_within<S: Stream>(stream: &mut S, buffer: &mut [u8], time: Duration) -> Option<usize>
     ensures { IfSome result (λ count. (0 < count) × (count ≤ length buffer.old)) }
 {
-    stream.set_read_timeout(Some(time)).ok()?;
+    stream.limit_reads(time).ok()?;
     match stream.read(buffer) {
         Ok(count) if count > 0 => Some(count),
         _ => None,
@@ -213,13 +248,14 @@ fn read_within(stream: &mut TcpStream, buffer: &mut [u8], time: Duration) -> Opt
 /// Reads what a peer still sends, until it ends, and throws it away: for `LINGER_MILLISECONDS` at most, by this clock,
 /// and at most `LINGER_BYTES`. A connection that is closed with bytes unread is reset, and the peer may then lose what
 /// it has not yet read of the reply.
-fn linger<C: Clock>(stream: &mut TcpStream, buffer: &mut [u8], clock: &mut C) {
+fn linger<S: Stream, C: Clock>(stream: &mut S, buffer: &mut [u8], clock: &mut C) {
     let Some(began) = clock.milliseconds() else {
         return;
     };
+    let whole = Duration::from_millis(LINGER_MILLISECONDS);
     let mut left = LINGER_BYTES;
     for _ in 0..LINGER_BYTES {
-        let Some(time) = time_left(clock, began) else {
+        let Some(time) = time_left(clock, began, whole) else {
             return;
         };
         let most = buffer.len().min(left);
@@ -230,8 +266,8 @@ fn linger<C: Clock>(stream: &mut TcpStream, buffer: &mut [u8], clock: &mut C) {
     }
 }
 
-impl<C: Clock> Door for TcpDoor<C> {
-    type Conn = TcpWire;
+impl<L: Listener, C: Clock + Copy + Drop> Door for StreamDoor<L, C> {
+    type Conn = StreamWire<L::Stream, C>;
 
     ghost told = { λ _. None };
 
@@ -239,14 +275,15 @@ impl<C: Clock> Door for TcpDoor<C> {
 
     ghost has_shut = { λ door. door.has_shut };
 
-    fn admit(&mut self) -> Result<(i64, TcpWire), Shut> {
+    fn admit(&mut self) -> Result<(i64, StreamWire<L::Stream, C>), Shut> {
         if self.has_shut {
             return Err(Shut);
         }
         match next_visitor(&self.listener, &mut self.clock) {
-            Some((moment, stream)) => {
+            Some((moment, millisecond, stream)) => {
                 let held = mem::replace(&mut self.spare, Vec::new(self.alloc));
-                Ok((moment, TcpWire::new(stream, held)))
+                let pace = Pace::new(self.clock, self.limits, millisecond);
+                Ok((moment, StreamWire::new(stream, pace, held)))
             }
             None => {
                 self.has_shut = true;
@@ -255,14 +292,14 @@ impl<C: Clock> Door for TcpDoor<C> {
         }
     }
 
-    fn leave(&mut self, conn: TcpWire) {
-        let TcpWire {
+    fn leave(&mut self, conn: StreamWire<L::Stream, C>) {
+        let StreamWire {
             mut stream,
             held,
             ..
         } = conn;
         self.spare = held;
-        if stream.shutdown(Shutdown::Write).is_ok() {
+        if stream.end().is_ok() {
             linger(&mut stream, &mut self.leftover, &mut self.clock);
         }
     }

@@ -68,6 +68,7 @@ mod cases;
 mod doors;
 mod fakes;
 mod faults;
+mod limits;
 mod long_reply;
 mod refused;
 mod runs;

@@ -5,7 +5,7 @@ use Rattle.rd_messages.proofs.tcp.send.Given as goal
 abbrev pub invariant-loop-sent : goal.invariant-loop-sent
 invariant-loop-sent g l = record {
   within : l.sent ≤ length l.bytes;
-  sends : Appends (g.W.Write.contents l.fn.stream) (g.W.Write.contents l.stream) (take l.sent l.bytes);
+  sends : Appends (g.S.Write.contents l.fn.stream) (g.S.Write.contents l.stream) (take l.sent l.bytes);
 }
 
 abbrev pub decreases-loop-sent : goal.decreases-loop-sent

@@ -95,6 +95,14 @@ pub(super) const FOR_HELLO: Came = Came::Text(
     "GET /images/12/files/0 HTTP/1.1\r\nHost: desk\r\n\r\n",
 );
 
+/// A disk with a file of 16,384 bytes is taken in.
+pub(super) const LONG: &[Visit] = table![
+    ("image 15", AFTER, Came::Image("PUT /accessions/15/cpm8/7/7a7b9c0cedb0e0e6f3a5eb46bfc5b7a95909e17fc784e4652e498d4ad0eea2cb", Picture::Extent), DONE);
+];
+
+/// A request for that file.
+pub(super) const FOR_LONG: Came = Came::Text("GET /images/15/files/0 HTTP/1.1\r\n\r\n");
+
 /// Where deed 7 is closed to all but the staff.
 pub(super) const CLOSED: Wanted = Wanted::Texts(&[(
     "HTTP/1.1 403 Forbidden\r\nContent-Type: application/json\r\nContent-Length: 33\r\nConnection: close\r\n\r\n{\"error\":\"denied\",\"rule\":\"R7.10\"}",

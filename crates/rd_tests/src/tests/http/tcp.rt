@@ -1,8 +1,8 @@
 //! Visits over TCP, in one process.
 
 use super::cases::{
-    BAD_HEAD, CLOSED, Came, DONE, FOR_HELLO, HELLO, Picture, Visit, Wanted, assert_visits,
-    bytes_of, filled_desk, text_of,
+    BAD_HEAD, CLOSED, Came, FOR_HELLO, FOR_LONG, HELLO, LONG, Wanted, assert_visits, bytes_of,
+    filled_desk, text_of,
 };
 use crate::tests::desks::{AFTER, BEFORE, Memory};
 use rd_http::{Clock, Ended, Served, TcpDoor, serve_in_memory};
@@ -14,7 +14,7 @@ use std::process::Abort;
 use std::test::Fail;
 
 /// A clock that stands still, or fails.
-#[derive(Drop)]
+#[derive(Clone, Copy)]
 struct Standing(Option<i64>);
 
 impl Clock for Standing {
@@ -87,11 +87,6 @@ fn visits_come_over_tcp(rt: HostRuntime) -> Result<(), Fail> {
     Ok(())
 }
 
-/// A disk with a file of 16,384 bytes is taken in.
-const LONG: &[Visit] = table![
-    ("image 15", AFTER, Came::Image("PUT /accessions/15/cpm8/7/7a7b9c0cedb0e0e6f3a5eb46bfc5b7a95909e17fc784e4652e498d4ad0eea2cb", Picture::Extent), DONE);
-];
-
 const HEAD_OF_LONG: &str =
     "HTTP/1.1 200 OK\r\nContent-Type: application/octet-stream\r\nContent-Length: 16384\r\nConnection: close\r\n\r\n";
 
@@ -100,13 +95,12 @@ const HEAD_OF_LONG: &str =
 fn a_reply_longer_than_what_is_held_back_comes_over_tcp(rt: HostRuntime) -> Result<(), Fail> {
     let mut desk = filled_desk(&rt, rt.alloc())?;
     assert_visits(&rt, rt.alloc(), &mut desk, LONG)?;
-    let came = Came::Text("GET /images/15/files/0 HTTP/1.1\r\n\r\n");
     let read = read_after(
         &rt,
         &mut desk,
         "a long file",
         Some(AFTER),
-        came,
+        FOR_LONG,
         served!(1, 0, 0, Count),
     )?;
     let mut file = scattered_file(rt.alloc())?;

@@ -1,0 +1,137 @@
+#!/usr/bin/env python3
+"""scripts/no-visitor-stays.py [PROGRAM]: looks how long a visitor holds the desk who sends or takes little.
+
+The desk serves one visitor at a time. It gives them ten seconds to send their request, ten seconds to take the next
+bytes of the reply, and a minute to take all of it. Five visitors keep the desk, one after the other, each as long as
+they can: they send nothing, send a byte a second, take nothing of a long reply, take a byte a second, and take so
+little that their reply would last three minutes. Behind each waits a reader. The reader gets the reply that they get
+when the desk is free, and waits no longer than the limit of the visitor before them, and two seconds for all else.
+After the first four the reader also waits for most of that limit: so each limit is at work, and nothing else is. One
+more visitor takes a long reply slowly, but in time, and gets all of it.
+
+It takes two minutes and a half. You need Python 3 with its standard library alone, and Linux. PROGRAM is ./desk of this
+repository where none is named."""
+
+import contextlib
+import sys
+import threading
+import time
+
+import reading_room
+
+from client_cases import FIRST, LONG, LONG_FILE, MORE, content, head
+from clients import connected, read_all
+
+# The limits in seconds, and how much longer the next visitor may wait.
+REQUEST, WRITE, REPLY, MORE_TIME = 10, 10, 60, 2
+# How many bytes the system keeps for a client that has not read them.
+LITTLE_ROOM = 4096
+QUESTION = head("GET /images HTTP/1.1")
+LONG_QUESTION = head("GET /images/21/files/0 HTTP/1.1")
+
+
+def silent(connection, ended):
+    """Sends nothing."""
+    ended.wait()
+
+
+def dripping(connection, ended):
+    """Sends a byte a second."""
+    for byte in QUESTION[:-4] + b"\r\nField: " + b"x" * 1000:
+        connection.sendall(bytes([byte]))
+        if ended.wait(1):
+            return
+
+
+def taking(size, pause):
+    """A visitor who asks for a long file, and takes this many bytes of it at a time."""
+
+    def take(connection, ended):
+        connection.sendall(LONG_QUESTION)
+        while not ended.wait(pause):
+            if size:
+                connection.recv(size)
+
+    return take
+
+
+# What visitors do, what they are called, how long they may hold the desk, and whether they hold it for most of that.
+VISITORS = [
+    ("who sends nothing", silent, REQUEST, True),
+    ("who sends a byte a second", dripping, REQUEST, True),
+    ("who takes nothing of a long reply", taking(0, 1), WRITE, True),
+    ("who takes a byte a second", taking(1, 1), REPLY, True),
+    ("who takes 700 bytes each half second", taking(700, 0.5), REPLY, False),
+]
+
+
+@contextlib.contextmanager
+def staying(port, visitor):
+    """A visitor keeps the desk until the block ends, or until their connection does."""
+    ended = threading.Event()
+    with connected(port, LITTLE_ROOM) as connection:
+
+        def stay():
+            with contextlib.suppress(OSError):
+                visitor(connection, ended)
+
+        thread = threading.Thread(target=stay)
+        thread.start()
+        # so long that the desk has admitted them
+        time.sleep(0.3)
+        try:
+            yield
+        finally:
+            ended.set()
+            thread.join()
+
+
+def reply_of(port, limit=None):
+    """What comes of a short visit, and how long it takes."""
+    begun = time.monotonic()
+    with connected(port) as connection:
+        connection.settimeout(limit)
+        connection.sendall(QUESTION)
+        try:
+            came = read_all(connection)
+        except TimeoutError:
+            came = "no answer"
+    return came, time.monotonic() - begun
+
+
+def see_visitor(seen, port, due, label, visitor, limit, holds):
+    """A reader waits behind a visitor, and for no longer than the limit of that visitor."""
+    with staying(port, visitor):
+        came, taken = reply_of(port, limit + MORE_TIME)
+    print(f"behind a visitor {label}: a reader waits {taken:.1f} s", flush=True)
+    seen.same(f"behind a visitor {label}", due, came)
+    if holds:
+        seen.same(f"a visitor {label} holds the desk for most of their limit", True, taken > 0.8 * min(limit, WRITE))
+
+
+def take_in_time(port):
+    """Takes a long file slowly, in half a minute."""
+    came = b""
+    with connected(port, LITTLE_ROOM) as connection:
+        connection.sendall(LONG_QUESTION)
+        while part := connection.recv(4096):
+            came += part
+            time.sleep(len(part) / 10000)
+    return came
+
+
+def main():
+    seen = reading_room.Seen()
+    with reading_room.Room(reading_room.program(sys.argv[1:])) as room:
+        room.fill((*FIRST, *MORE, *LONG))
+        due, _ = reply_of(room.desk_port)
+        seen.same("a reader, while the desk is free", (True, "an end"), (due[0].startswith(b"HTTP/1.1 200 "), due[1]))
+        for label, visitor, limit, holds in VISITORS:
+            see_visitor(seen, room.desk_port, due, label, visitor, limit, holds)
+        seen.same("a visitor who takes a long reply slowly, in time", content(LONG_FILE), take_in_time(room.desk_port))
+        seen.same("the desk still serves", None, room.desk.poll())
+    sys.exit(seen.told())
+
+
+if __name__ == "__main__":
+    main()
