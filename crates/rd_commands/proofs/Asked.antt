@@ -13,7 +13,7 @@ use Rattle.clap.specs.declared.parser.matches.SubCommand.{SubCommand}
 use Rattle.clap.specs.Values.{kind_of}
 use Rattle.clap.specs.Kinds.{IsAmong}
 use Rattle.clap.specs.declared.error.Error.{Error}
-use Rattle.clap.specs.declared.error.kind.ErrorKind.TheVariants.{OutOfMemory}
+use Rattle.clap.specs.declared.error.kind.ErrorKind.TheVariants.{DisplayHelp, OutOfMemory}
 use Rattle.clap.specs.declared.parser.matches.ArgMatches.{ArgMatches}
 use Rattle.clap.specs.Matches.{ReadsOne}
 use Rattle.clap.specs.declared.parser.matches.Found.{Found}
@@ -24,7 +24,7 @@ use Rattle.rd_policy.specs.declared.zone.Zone.{Zone}
 use Rattle.rd_policy.specs.declared.zone.ZoneFault.{ZoneFault}
 use Rattle.rd_geometry.specs.Kinds.{word_of}
 use Rattle.clap.specs.declared.error.kind.ErrorKind.{ErrorKind}
-use Rattle.rd_commands.specs.Asks.{EntersAs, EntersByRule, EntersCat, EntersCheck, EntersExport, EntersImport, EntersInit, EntersList, EntersNaming, EntersNamingNone, EntersServe, EntersShow, EntersTelling, IsMistake, IsWithinLimits, IsFaultOf, IsFileAsk, IsFilesAsk, IsHelp, IsImportAsk, IsInitAsk, IsMomentTold, IsOnceAsk, IsServeAsk, TellsOnOutput}
+use Rattle.rd_commands.specs.Asks.{EntersAs, EntersByRule, EntersCat, EntersCheck, EntersExport, EntersImport, EntersInit, EntersList, EntersNaming, EntersNamingNone, EntersServe, EntersShow, EntersTelling, IsMistake, IsWithinLimits, IsFaultOf, IsForMemory, IsFileAsk, IsFilesAsk, IsHelp, IsImportAsk, IsInitAsk, IsMomentTold, IsOnceAsk, IsServeAsk, TellsOnOutput}
 use Rattle.rd_commands.specs.CommandLine.{AsksForHelp, Enters, HasFault, IsDeskApp, IsTaken, IsTakenAs, IsTakenTelling, NameList, desk_app}
 use Rattle.rd_commands.specs.Commands.{AsksCheck, AsksExport, AsksImport, AsksInit, AsksServe, AsksShow, IsAskOf, IsCommand, NamesWhatItShows, TellsARule}
 use Rattle.rd_commands.specs.Words.{AsksCat, AsksList, IsSlotText}
@@ -169,27 +169,30 @@ ask_accession None fault r is has = subst (λ x. IfOk x IsWithinLimits) (sym is)
 free : (kinds others shown : NameList) → is_simple_and_free (desk_app kinds others shown) ≡ true
 free kinds others shown = refl
 
--- where a parse of the words succeeds, they have no fault
+-- words that a parse takes have no fault
+pub taken_by : (app : App) (words : List Text) → IsDeskApp app → (is_simple_and_free app ≡ true → fault_of app words ≡ []) → IsTaken words
+taken_by app words desk none = record { app = app; is_desk = desk; no_fault = none (ap is_simple_and_free desk.is ∙ free desk.cat_kinds desk.list_kinds desk.shown) }
+
+-- so where a parse of the words succeeds
 pub words_taken : {T E : Type 0} (r : Result T E) (app : App) (words : List Text) → IsDeskApp app → (is_simple_and_free app ≡ true → fault_of app words ≡ [])
     → OnOk r (IsTaken words)
-words_taken (Ok value) app words desk none = record { app = app; is_desk = desk; no_fault = none (ap is_simple_and_free desk.is ∙ free desk.cat_kinds desk.list_kinds desk.shown) }
+words_taken (Ok value) app words desk none = taken_by app words desk none
 words_taken (Err error) app words desk none = tt
 
--- where it fails, they have a fault of the error's kind
-pub words_at_fault : (app : App) (words : List Text) (error : Error) (unread : Unread) → IsDeskApp app
-    → (is_simple_and_free app ≡ true → HasKind (fault_of app words) error) → (kind_of error ≡ OutOfMemory → unread ≡ NoMemory)
-    → (unread ≡ NoMemory) ⊎ (unread ≡ Told error) → IsFaultOf words unread
-words_at_fault app words error unread desk has memory told = elim told [
-  | inl none ↦ subst (IsFaultOf words) (sym none) tt
-  | inr is ↦ elim (has (ap is_simple_and_free desk.is ∙ free desk.cat_kinds desk.list_kinds desk.shown)) [
-    | inl out ↦ subst (IsFaultOf words) (sym (memory out)) tt
-    | inr among ↦ subst (IsFaultOf words) (sym is) (record { app = app; is_desk = desk; fault = among })
-  ]
+-- where it fails, they have a fault of the error's kind, or memory ran out
+pub words_at_fault : (app : App) (words : List Text) (error : Error) → IsDeskApp app → (is_simple_and_free app ≡ true → HasKind (fault_of app words) error)
+    → IsFaultOf words (Told error)
+words_at_fault app words error desk has = elim (has (ap is_simple_and_free desk.is ∙ free desk.cat_kinds desk.list_kinds desk.shown)) [
+  | inl out ↦ inl out
+  | inr among ↦ inr (record { app = app; is_desk = desk; fault = among })
 ]
 
 -- what is told of the words is help only where they ask for it
 pub help_asked : (words : List Text) (unread : Unread) → IsHelp unread → IsFaultOf words unread → AsksForHelp words
-help_asked words (Told error) help fault = subst (HasFault words) help fault
+help_asked words (Told error) help fault = elim fault [
+  | inl out ↦ let same : DisplayHelp ≡ OutOfMemory = sym help ∙ out in cc
+  | inr found ↦ subst (HasFault words) help found
+]
 help_asked words Usage help fault = absurd help
 help_asked words Day help fault = absurd help
 help_asked words NoMemory help fault = absurd help
@@ -300,9 +303,9 @@ rule_read words entered (Some ask) fault r is found tells = subst (λ x. OnOk x 
 rule_read words entered None fault r is found tells = subst (λ x. OnOk x (TellsARule words)) (sym is) tt
 
 -- words of which nothing is found are a mistake
-pub unread_usage : (P : Type 0) (o : Option Ask) (r : Result Ask Unread) → r ≡ ok_or o Usage → IfErr r (λ fault. P → IsMistake fault ⊎ (fault ≡ NoMemory))
-unread_usage P (Some ask) r is = subst (λ x. IfErr x (λ fault. P → IsMistake fault ⊎ (fault ≡ NoMemory))) (sym is) tt
-unread_usage P None r is = subst (λ x. IfErr x (λ fault. P → IsMistake fault ⊎ (fault ≡ NoMemory))) (sym is) (λ p. inl (inl refl))
+pub unread_usage : (P : Type 0) (o : Option Ask) (r : Result Ask Unread) → r ≡ ok_or o Usage → IfErr r (λ fault. P → IsMistake fault ⊎ IsForMemory fault)
+unread_usage P (Some ask) r is = subst (λ x. IfErr x (λ fault. P → IsMistake fault ⊎ IsForMemory fault)) (sym is) tt
+unread_usage P None r is = subst (λ x. IfErr x (λ fault. P → IsMistake fault ⊎ IsForMemory fault)) (sym is) (λ p. inl (inl refl))
 
 -- words that a parse takes as `show` name what it shows
 pub names_what_it_shows : (app : App) (words : List Text) (m : ArgMatches) (shown : Option Shown) → IsDeskApp app → HasMatchesOf app words m
@@ -310,13 +313,17 @@ pub names_what_it_shows : (app : App) (words : List Text) (m : ArgMatches) (show
 names_what_it_shows app words m shown desk matches naming rows enters =
     named_some shown rows (naming rows (sym (entered_is app words m desk matches) ∙ enters.into app desk))
 
+-- a fault that says so is want of memory
+pub for_memory : (fault : Unread) → fault ≡ NoMemory → IsForMemory fault
+for_memory fault is = subst IsForMemory (sym is) tt
+
 -- words of which nothing to show is found are no command
 pub unnamed : (app : App) (words : List Text) (m : ArgMatches) (fault : Unread) → IsDeskApp app → HasMatchesOf app words m
-    → (fault ≡ Day) ⊎ (fault ≡ NoMemory) → (fault ≡ Day → EntersNamingNone (subcommand_rows_of m)) → IsCommand words → fault ≡ NoMemory
+    → (fault ≡ Day) ⊎ (fault ≡ NoMemory) → (fault ≡ Day → EntersNamingNone (subcommand_rows_of m)) → IsCommand words → IsForMemory fault
 unnamed app words m fault desk matches (inl day) none command =
     let entered = none day in
     absurd (entered.2 (command_names app words entered.0 desk (entered_is app words m desk matches ∙ entered.1) command))
-unnamed app words m fault desk matches (inr memory) none command = memory
+unnamed app words m fault desk matches (inr memory) none command = for_memory fault memory
 
 pub on_ok_always : {T E P : Type 0} (r : Result T E) → P → OnOk r P
 on_ok_always (Ok value) fact = fact
@@ -338,9 +345,14 @@ never_faulty Q P (Ok ask) holds = tt
 never_faulty Q P (Err fault) holds = λ none. absurd (none holds)
 
 -- they are a mistake, or memory ran out
-pub day_mistake : (fault : Unread) → (fault ≡ Day) ⊎ (fault ≡ NoMemory) → IsMistake fault ⊎ (fault ≡ NoMemory)
+pub day_mistake : (fault : Unread) → (fault ≡ Day) ⊎ (fault ≡ NoMemory) → IsMistake fault ⊎ IsForMemory fault
 day_mistake fault (inl day) = inl (inr day)
-day_mistake fault (inr memory) = inr memory
+day_mistake fault (inr memory) = inr (for_memory fault memory)
+
+-- the day is a mistake, or memory ran out
+pub day_or_memory : (fault : Unread) → (fault ≡ Day) ⊎ (fault ≡ NoMemory) → (fault ≡ Day) ⊎ IsForMemory fault
+day_or_memory fault (inl day) = inl day
+day_or_memory fault (inr memory) = inr (for_memory fault memory)
 
 -- of which `clap` finds no fault
 pub day_no_fault : (words : List Text) (fault : Unread) → (fault ≡ Day) ⊎ (fault ≡ NoMemory) → IsFaultOf words fault

@@ -6,11 +6,10 @@ use Rattle.clap.specs.declared.error.Error.{Error}
 use Rattle.clap.specs.declared.error.kind.ErrorKind.{ErrorKind}
 use Rattle.clap.specs.declared.error.kind.ErrorKind.TheVariants.{DisplayHelp, OutOfMemory}
 use Rattle.clap.proofs.OnLiterals.{clap_on_literals}
-use Rattle.rd_commands.specs.Asks.{IsHelp}
+use Rattle.rd_commands.specs.Asks.{IsForMemory, IsHelp}
 use Rattle.rd_commands.specs.CommandLine.{IsDeskApp, IsTaken, NameList, desk_app}
 use Rattle.rd_commands.specs.Words.{AsksHelp}
-use Rattle.rd_commands.specs.declared.words.Unread.{Unread}
-use Rattle.rd_commands.specs.declared.words.Unread.TheVariants.{NoMemory, Told}
+use Rattle.rd_commands.specs.declared.words.Unread.TheVariants.{Told}
 
 long_shows : (kinds others shown : NameList) (rest : List Text) → fault_of (desk_app kinds others shown) (codes "--help" ∷ rest) ≡ DisplayHelp ∷ []
 unfolding clap_on_literals
@@ -60,14 +59,7 @@ one_kind kinds error is has = elim (subst (λ ks. HasKind ks error) is has) [
 ]
 
 -- where it fails, help is what is told, but for want of memory
-pub help_unread : (app : App) (words : List Text) (error : Error) (unread : Unread) → IsDeskApp app
-    → (is_simple_and_free app ≡ true → HasKind (fault_of app words) error) → (kind_of error ≡ OutOfMemory → unread ≡ NoMemory)
-    → (unread ≡ NoMemory) ⊎ (unread ≡ Told error) → AsksHelp words → (unread ≡ NoMemory) ⊎ IsHelp unread
-help_unread app words error unread desk has memory told asks = elim told [
-  | inl none ↦ inl none
-  | inr is ↦ elim (one_kind (fault_of app words) error (shows_help app words desk asks)
-      (has (ap is_simple_and_free desk.is ∙ free desk.cat_kinds desk.list_kinds desk.shown))) [
-        | inl out ↦ inl (memory out)
-        | inr shown ↦ inr (subst IsHelp (sym is) shown)
-      ]
-]
+pub help_unread : (app : App) (words : List Text) (error : Error) → IsDeskApp app → (is_simple_and_free app ≡ true → HasKind (fault_of app words) error)
+    → AsksHelp words → IsForMemory (Told error) ⊎ IsHelp (Told error)
+help_unread app words error desk has asks =
+    one_kind (fault_of app words) error (shows_help app words desk asks) (has (ap is_simple_and_free desk.is ∙ free desk.cat_kinds desk.list_kinds desk.shown))

@@ -6,7 +6,7 @@ use Rattle.clap.specs.declared.error.Error.{Error}
 use Rattle.clap.specs.declared.error.kind.ErrorKind.{ErrorKind}
 use Rattle.clap.specs.declared.error.kind.ErrorKind.TheVariants.{DisplayHelp, DisplayVersion, OutOfMemory}
 use Rattle.clap.proofs.OnLiterals.{clap_on_literals}
-use Rattle.rd_commands.specs.Asks.{IsFaultOf, IsHelp, IsVersion}
+use Rattle.rd_commands.specs.Asks.{IsFaultOf, IsForMemory, IsHelp, IsVersion}
 use Rattle.rd_commands.specs.CommandLine.{AsksForVersion, HasFault, IsDeskApp, IsTaken, NameList, desk_app}
 use Rattle.rd_commands.specs.Words.{AsksVersion}
 use Rattle.rd_commands.specs.declared.words.Unread.{Unread}
@@ -61,21 +61,17 @@ one_kind kinds error is has = elim (subst (λ ks. HasKind ks error) is has) [
 ]
 
 -- where it fails, the version is what is told, but for want of memory
-pub version_unread : (app : App) (words : List Text) (error : Error) (unread : Unread) → IsDeskApp app
-    → (is_simple_and_free app ≡ true → HasKind (fault_of app words) error) → (kind_of error ≡ OutOfMemory → unread ≡ NoMemory)
-    → (unread ≡ NoMemory) ⊎ (unread ≡ Told error) → AsksVersion words → (unread ≡ NoMemory) ⊎ IsVersion unread
-version_unread app words error unread desk has memory told asks = elim told [
-  | inl none ↦ inl none
-  | inr is ↦ elim (one_kind (fault_of app words) error (shows_version app words desk asks)
-      (has (ap is_simple_and_free desk.is ∙ free desk.cat_kinds desk.list_kinds desk.shown))) [
-        | inl out ↦ inl (memory out)
-        | inr shown ↦ inr (subst IsVersion (sym is) shown)
-      ]
-]
+pub version_unread : (app : App) (words : List Text) (error : Error) → IsDeskApp app → (is_simple_and_free app ≡ true → HasKind (fault_of app words) error)
+    → AsksVersion words → IsForMemory (Told error) ⊎ IsVersion (Told error)
+version_unread app words error desk has asks =
+    one_kind (fault_of app words) error (shows_version app words desk asks) (has (ap is_simple_and_free desk.is ∙ free desk.cat_kinds desk.list_kinds desk.shown))
 
 -- what is told of the words is the version only where they ask for it
 pub version_asked : (words : List Text) (unread : Unread) → IsVersion unread → IsFaultOf words unread → AsksForVersion words
-version_asked words (Told error) shown fault = subst (HasFault words) shown fault
+version_asked words (Told error) shown fault = elim fault [
+  | inl out ↦ let same : DisplayVersion ≡ OutOfMemory = sym shown ∙ out in cc
+  | inr found ↦ subst (HasFault words) shown found
+]
 version_asked words Usage shown fault = absurd shown
 version_asked words Day shown fault = absurd shown
 version_asked words NoMemory shown fault = absurd shown

@@ -5,7 +5,7 @@ use Rattle.std.specs.Str.Parse.{ParsesSigned, ParsesUnsigned}
 use Rattle.std.specs.declared.num.ParseIntError.{ParseIntError}
 use Rattle.clap.specs.Values.{kind_of}
 use Rattle.clap.specs.Words.{Row, Text, first_of, one_of}
-use Rattle.clap.specs.declared.error.kind.ErrorKind.TheVariants.{DisplayHelp, DisplayVersion}
+use Rattle.clap.specs.declared.error.kind.ErrorKind.TheVariants.{DisplayHelp, DisplayVersion, OutOfMemory}
 use Rattle.rd_geometry.specs.declared.kind.Kind.{Kind}
 use Rattle.httparse.specs.Grammar.{trim_ows}
 use Rattle.rd_geometry.specs.Kinds.{size_of, word_of}
@@ -180,9 +180,20 @@ IsVersion NoMemory = ⊥
 abbrev pub IsMistake : Unread → Type 0
 IsMistake unread = (unread ≡ Usage) ⊎ (unread ≡ Day)
 
--- the text to write is a fault that `clap` finds in the words
+-- memory ran out, in `clap` or elsewhere
+abbrev pub IsForMemory : Unread → Type 0
+IsForMemory (Told error) = kind_of error ≡ OutOfMemory
+IsForMemory NoMemory = ⊤
+IsForMemory other = ⊥
+
+-- `clap` says why
+abbrev pub IsTold : Unread → Type 0
+IsTold (Told error) = ⊤
+IsTold other = ⊥
+
+-- what `clap` says is a fault that it finds in the words, or that memory ran out
 abbrev pub IsFaultOf : List Text → Unread → Type 0
-IsFaultOf words (Told error) = HasFault words (kind_of error)
+IsFaultOf words (Told error) = (kind_of error ≡ OutOfMemory) ⊎ HasFault words (kind_of error)
 IsFaultOf words Usage = Unit {0}
 IsFaultOf words Day = Unit {0}
 IsFaultOf words NoMemory = Unit {0}

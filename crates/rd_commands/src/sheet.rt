@@ -138,6 +138,7 @@ pub fn next_row(reader: &mut Reader<&[u8]>, fields: &mut ByteRecord) -> Result<b
     ensures refused { IfErr result IsReadRefusal }
     ensures read { IfOk result (λ found. reader_trim reader.old ≡ trim.None → Ready reader.old
         → ReadRecord (λ rest. Some rest.now) reader.old reader.new found (fields_of fields.new)) }
+    ensures reads_on { IfOk result (λ found. found ≡ true → ReadsOn reader.old reader.new) }
     ensures length { IfErr result (λ refusal. Ready reader.old → refusal ≡ Refusal.BadSheet → HasOtherLength reader.old reader.new) }
     ensures goes_on { IfErr result (λ refusal. refusal ≡ Refusal.BadSheet → (has_failed reader.new ≡ false) × ReadsOn reader.old reader.new) }
     ensures ready { reader_trim reader.old ≡ trim.None → OnOk result (took_first reader.new ≡ true) }

@@ -5,9 +5,9 @@ ghost use Rattle.std.specs.Io.KnownBytes.{Appends, Keeps};
 ghost use Rattle.std.specs.Process.{exit_status};
 ghost use Rattle.clap.specs.Values.{kind_of};
 ghost use Rattle.clap.specs.declared.error.Error.{Error};
-ghost use Rattle.clap.specs.declared.error.kind.ErrorKind.TheVariants.{DisplayHelp, DisplayVersion};
+ghost use Rattle.clap.specs.declared.error.kind.ErrorKind.TheVariants.{DisplayHelp, DisplayVersion, OutOfMemory};
 ghost use Rattle.rd_volume.specs.Words.{words_left};
-ghost use Rattle.rd_commands.specs.Asks.{IsHelp, IsMistake, IsVersion};
+ghost use Rattle.rd_commands.specs.Asks.{IsForMemory, IsHelp, IsMistake, IsVersion};
 ghost use Rattle.rd_commands.specs.Output.{AppendsPart};
 ghost use Rattle.rd_commands.specs.Printed.{blanked, refusal_line, words_after};
 ghost use Rattle.rd_commands.specs.Refusals.{status_of};
@@ -130,7 +130,7 @@ fn tell_help<W: Write>(help: &Error, output: &mut W) -> Result<(), Refusal>
     flush(output)
 }
 
-/// Writes help, the version, or what is wrong with the words, and gives the status: 0 if the words
+/// Writes help, the version, what is wrong with the words, or that memory ran out, and gives the status: 0 if the words
 /// ask for help or the version and it is written, 2 if the words are no command, otherwise 3.
 pub fn tell_unread<W: Write, E: Write>(unread: Unread, output: &mut W, errors: &mut E) -> u8
     ensures status { result ≤ 3 }
@@ -140,13 +140,14 @@ pub fn tell_unread<W: Write, E: Write>(unread: Unread, output: &mut W, errors: &
     ensures silent { result ≡ 0 → Keeps (E.contents errors.old) (E.contents errors.new) }
     ensures usage { result ≡ 2 → Keeps (W.contents output.old) (W.contents output.new) }
     ensures mistake { (error : Error) → unread ≡ Unread.Told error → kind_of error ≢ DisplayHelp
-        → kind_of error ≢ DisplayVersion → result ≡ 2 }
+        → kind_of error ≢ DisplayVersion → kind_of error ≢ OutOfMemory → result ≡ 2 }
     ensures mistaken { IsMistake unread → result ≡ 2 }
+    ensures one_of { (result ≡ 2) ⊎ (IsHelp unread ⊎ (IsVersion unread ⊎ IsForMemory unread)) }
     ensures mistake_told { unread ≡ Unread.Usage → AppendsPart (E.contents errors.old) (E.contents errors.new) ZONE_MISTAKE.now }
     ensures day_mistake { unread ≡ Unread.Day → AppendsPart (E.contents errors.old) (E.contents errors.new) DAY_MISTAKE.now }
-    ensures memory { unread ≡ Unread.NoMemory
+    ensures memory { IsForMemory unread
         → (result ≡ 3) × Keeps (W.contents output.old) (W.contents output.new) }
-    ensures no_memory { unread ≡ Unread.NoMemory
+    ensures no_memory { IsForMemory unread
         → AppendsPart (E.contents errors.old) (E.contents errors.new) (refusal_line NoMemory) }
     ensures told { result ≡ 3
         → Tells (λ _. ⊤) 3 (E.contents errors.old) (E.contents errors.new) }
@@ -170,6 +171,7 @@ pub fn tell_unread<W: Write, E: Write>(unread: Unread, output: &mut W, errors: &
             let told = match error.kind() {
                 ErrorKind::DisplayHelp => tell_help(&error, output),
                 ErrorKind::DisplayVersion => tell_version(output),
+                ErrorKind::OutOfMemory => return tell_refusal(Refusal::NoMemory, errors),
                 _ => {
                     let _ = write!(errors, "{error}");
                     return 2;

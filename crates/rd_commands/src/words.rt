@@ -2,9 +2,8 @@ ghost use Rattle.std.specs.Option.{ForSome};
 ghost use Rattle.std.specs.Prelude.{◌≡◌, ◌⊎◌, IfErr, IfNone, IfOk, IfSome, IsSomeAnd, List, Ok, OnOk, OnSome, Option, Some, codes, map, option_map, ℕ, ℤ};
 ghost use Rattle.std.specs.Str.Parse.{ParsesUnsigned};
 ghost use Rattle.std.specs.declared.num.ParseIntError.{ParseIntError};
-ghost use Rattle.clap.specs.Words.{first_of, found_of, kind_of, one_of, rows_of};
+ghost use Rattle.clap.specs.Words.{app_of, first_of, found_of, one_of, rows_of};
 ghost use Rattle.clap.specs.Words.{subcommand_rows_of};
-ghost use Rattle.clap.specs.declared.error.kind.ErrorKind.TheVariants.{OutOfMemory};
 ghost use Rattle.httparse.specs.Grammar.{trim_ows};
 ghost use Rattle.rd_geometry.specs.Kinds.{word_of};
 ghost use Rattle.rd_policy.specs.Rules.{IsScope};
@@ -12,8 +11,8 @@ ghost use Rattle.rd_policy.specs.Zones.{IsZoneOf};
 ghost use Rattle.rd_commands.specs.Asks.{AreCatRows, AreCheckRows, AreExportRows, AreImportRows, AreInitRows, AreListRows, AreServeRows, AreShowRows, IsMomentTold};
 ghost use Rattle.rd_commands.specs.Asks.{AsksFile, AsksFiles, AsksImages, AsksNew, AsksOnce, AsksVisits, AsksWhen, IsAskable};
 ghost use Rattle.rd_commands.specs.Asks.{EntersByRule, EntersCat, EntersCheck, EntersExport, EntersImport, EntersInit, EntersList, EntersNaming, EntersNamingNone, EntersServe, EntersShow, EntersTelling};
-ghost use Rattle.rd_commands.specs.Asks.{IsWithinLimits, IsFaultOf, IsFileAsk, IsFilesAsk, IsHelp, IsImportAsk, IsInitAsk, IsMistake, IsOnceAsk, IsServeAsk, IsVersion, TellsOnOutput};
-ghost use Rattle.rd_commands.specs.CommandLine.{IsTaken, IsTakenAs, IsTakenTelling};
+ghost use Rattle.rd_commands.specs.Asks.{IsWithinLimits, IsFaultOf, IsFileAsk, IsFilesAsk, IsForMemory, IsHelp, IsImportAsk, IsInitAsk, IsMistake, IsOnceAsk, IsServeAsk, IsTold, IsVersion, TellsOnOutput};
+ghost use Rattle.rd_commands.specs.CommandLine.{IsDeskApp, IsTaken, IsTakenAs, IsTakenTelling};
 ghost use Rattle.rd_commands.specs.Commands.{IsAskOf, IsCommand, NamesWhatItShows, TellsARule};
 ghost use Rattle.rd_commands.specs.Shown.{IsDayGiven, IsShowable, IsShownAs, NamesAny, NamesShown};
 ghost use Rattle.rd_commands.specs.Words.{AsksHelp, AsksVersion, IsSlotText};
@@ -22,7 +21,6 @@ ghost use Rattle.rd_commands.specs.declared.words.Unread.TheVariants as Unread;
 
 use crate::blanks::trimmed;
 use crate::command_line::desk_command;
-use clap::error::ErrorKind;
 use clap::{ArgMatches, Command, Error};
 use rd_policy::{DateFault, Zone, date_read, is_scope};
 use rd_volume::Kind;
@@ -152,15 +150,15 @@ pub enum Ask<'a> {
 /// Why the words do not run a command.
 #[derive(Debug, Drop)]
 pub enum Unread {
-    /// The text to write: help or the version, if the words ask for it, or what is wrong with the
-    /// words.
+    /// What `clap` says in place of a command: help or the version, if the words ask for it, what is
+    /// wrong with the words, or that memory ran out while it read them.
     Told(Error),
     /// The words are no command, although `clap` accepts them: the text of `--zone` is no rule.
     Usage,
     /// The words are no command, although `clap` accepts them: the text of `--on` is no date, `show verdicts` has no
     /// `--on`, or `show` of anything else has one.
     Day,
-    /// Memory ran out.
+    /// Memory ran out, and `clap` did not say so.
     NoMemory,
 }
 
@@ -169,20 +167,6 @@ impl From<AllocError> for Unread {
 
     fn from(_error: AllocError) -> Unread {
         Unread::NoMemory
-    }
-}
-
-impl From<Error> for Unread {
-    ghost from_gives = { λ error unread. (kind_of error ≡ OutOfMemory → unread ≡ Unread.NoMemory)
-        × ((unread ≡ Unread.NoMemory) ⊎ (unread ≡ Unread.Told error))
-        × (unread ≡ Unread.NoMemory → kind_of error ≡ OutOfMemory) };
-
-    fn from(error: Error) -> Unread {
-        if error.kind() == ErrorKind::OutOfMemory {
-            Unread::NoMemory
-        } else {
-            Unread::Told(error)
-        }
     }
 }
 
@@ -513,11 +497,46 @@ fn ask_found<'a>(matches: &ArgMatches<'a>, shown: Option<Shown>) -> Option<Ask<'
     }
 }
 
+/// Reads the words of a command by the command line of the program.
+///
+/// It fails as `read_words` does, but says `NoMemory` of no words in which `clap` finds a fault: of these it gives what
+/// `clap` says.
+fn read_by<'a>(alloc: Global, desk: Command<'a>, words: &'a [&'a str]) -> Result<Ask<'a>, Unread>
+    requires { IsDeskApp (app_of desk) }
+    ensures read { IfOk result (IsAskOf (map (λ word. word.now) words.entry.now)) }
+    ensures told_on_output { IfOk result (λ ask. TellsOnOutput ask → IsTakenTelling (map (λ word. word.now) words.entry.now)) }
+    ensures accession { IfOk result IsWithinLimits }
+    ensures zone { OnOk result (TellsARule (map (λ word. word.now) words.entry.now)) }
+    ensures shown { OnOk result (NamesWhatItShows (map (λ word. word.now) words.entry.now)) }
+    ensures no_rule { IfErr result (λ fault. ¬ TellsARule (map (λ word. word.now) words.entry.now)
+        → IsMistake fault ⊎ (IsForMemory fault)) }
+    ensures none_shown { IfErr result (λ fault. ¬ NamesWhatItShows (map (λ word. word.now) words.entry.now)
+        → (fault ≡ Unread.Day) ⊎ (IsForMemory fault)) }
+    ensures day { IfErr result (λ fault. fault ≡ Unread.Day → IsTakenAs (codes "show") (map (λ word. word.now) words.entry.now)) }
+    ensures taken { OnOk result (IsTaken (map (λ word. word.now) words.entry.now)) }
+    ensures told { IfErr result (IsFaultOf (map (λ word. word.now) words.entry.now)) }
+    ensures unread { IfErr result (λ fault. IsCommand (map (λ word. word.now) words.entry.now)
+        → IsForMemory fault) }
+    ensures version { IfErr result (λ fault. AsksVersion (map (λ word. word.now) words.entry.now)
+        → (IsForMemory fault) ⊎ IsVersion fault) }
+    ensures help { IfErr result (λ fault. AsksHelp (map (λ word. word.now) words.entry.now)
+        → (IsForMemory fault) ⊎ IsHelp fault) }
+    ensures of_clap { IfErr result (λ fault. ¬ IsTaken (map (λ word. word.now) words.entry.now) → IsTold fault) }
+{
+    match desk.try_get_matches_from(words) {
+        Ok(matches) => {
+            let shown = shown_asked(alloc, &matches)?;
+            ask_found(&matches, shown).ok_or(Unread::Usage)
+        }
+        Err(error) => Err(Unread::Told(error)),
+    }
+}
+
 /// Reads the words of a command, without the program's name.
 ///
-/// It fails with `Told` when they ask for help or the version or are no command, with `Day` when the
-/// operand of `show` and the text of `--on` name nothing that it shows, with `Usage` when the parse
-/// gives no command or not all its operands, or the text of `--zone` is no rule, and with `NoMemory`.
+/// It fails with `Told` when they ask for help or the version or are no command, and when memory runs out while `clap`
+/// reads them; with `Day` when the operand of `show` and the text of `--on` name nothing that it shows; with `Usage`
+/// when the parse gives no command or not all its operands, or the text of `--zone` is no rule; and with `NoMemory`.
 pub fn read_words<'a>(alloc: Global, words: &'a [&'a str]) -> Result<Ask<'a>, Unread>
     ensures read { IfOk result (IsAskOf (map (λ word. word.now) words.entry.now)) }
     ensures told_on_output { IfOk result (λ ask. TellsOnOutput ask → IsTakenTelling (map (λ word. word.now) words.entry.now)) }
@@ -525,25 +544,19 @@ pub fn read_words<'a>(alloc: Global, words: &'a [&'a str]) -> Result<Ask<'a>, Un
     ensures zone { OnOk result (TellsARule (map (λ word. word.now) words.entry.now)) }
     ensures shown { OnOk result (NamesWhatItShows (map (λ word. word.now) words.entry.now)) }
     ensures no_rule { IfErr result (λ fault. ¬ TellsARule (map (λ word. word.now) words.entry.now)
-        → IsMistake fault ⊎ (fault ≡ Unread.NoMemory)) }
+        → IsMistake fault ⊎ (IsForMemory fault)) }
     ensures none_shown { IfErr result (λ fault. ¬ NamesWhatItShows (map (λ word. word.now) words.entry.now)
-        → (fault ≡ Unread.Day) ⊎ (fault ≡ Unread.NoMemory)) }
+        → (fault ≡ Unread.Day) ⊎ (IsForMemory fault)) }
     ensures day { IfErr result (λ fault. fault ≡ Unread.Day → IsTakenAs (codes "show") (map (λ word. word.now) words.entry.now)) }
     ensures taken { OnOk result (IsTaken (map (λ word. word.now) words.entry.now)) }
     ensures told { IfErr result (IsFaultOf (map (λ word. word.now) words.entry.now)) }
     ensures unread { IfErr result (λ fault. IsCommand (map (λ word. word.now) words.entry.now)
-        → fault ≡ Unread.NoMemory) }
+        → IsForMemory fault) }
     ensures version { IfErr result (λ fault. AsksVersion (map (λ word. word.now) words.entry.now)
-        → (fault ≡ Unread.NoMemory) ⊎ IsVersion fault) }
+        → (IsForMemory fault) ⊎ IsVersion fault) }
     ensures help { IfErr result (λ fault. AsksHelp (map (λ word. word.now) words.entry.now)
-        → (fault ≡ Unread.NoMemory) ⊎ IsHelp fault) }
+        → (IsForMemory fault) ⊎ IsHelp fault) }
 {
     let desk: Command<'a> = desk_command(alloc)?;
-    match desk.try_get_matches_from(words) {
-        Ok(matches) => {
-            let shown = shown_asked(alloc, &matches)?;
-            ask_found(&matches, shown).ok_or(Unread::Usage)
-        }
-        Err(error) => Err(Unread::from(error)),
-    }
+    read_by(alloc, desk, words)
 }

@@ -1,20 +1,20 @@
-use Rattle.std.proofs.Common.{◌≡◌, ◌∙◌, ◌⊎◌, codes, inl, inr, map, subst, sym}
+use Rattle.std.proofs.Common.{◌≡◌, ◌∙◌, ◌⊎◌, codes, inl, inr, map, sym}
 use Rattle.clap.specs.Words.{app_of, subcommand_rows_of}
-use Rattle.rd_commands.specs.Asks.{IsFaultOf}
-use Rattle.rd_commands.specs.CommandLine.{IsTakenAs}
+use Rattle.rd_commands.specs.Asks.{IsForMemory, IsTold}
+use Rattle.rd_commands.specs.CommandLine.{IsTaken, IsTakenAs}
 use Rattle.rd_commands.specs.Commands.{NamesWhatItShows, TellsARule}
-use Rattle.rd_commands.specs.declared.words.Unread.TheVariants.{Day, NoMemory, Usage}
-use Rattle.rd_commands.proofs.Asked.{GivesRows, ask_given, ask_accession, ask_read, ask_unread, day_mistake, day_no_fault, entered_is, fails_for_memory, names_what_it_shows, never_faulty, no_day, no_fault_in, on_ok_always, passed_on, rule_read, taken_on_output, taken_showing, unnamed, unread_usage, words_at_fault, words_taken}
+use Rattle.rd_commands.specs.declared.words.Unread.TheVariants.{Day, Usage}
+use Rattle.rd_commands.proofs.Asked.{GivesRows, ask_given, ask_accession, ask_read, ask_unread, day_mistake, day_no_fault, day_or_memory, entered_is, fails_for_memory, names_what_it_shows, never_faulty, no_day, no_fault_in, on_ok_always, passed_on, rule_read, taken_by, taken_on_output, taken_showing, unnamed, unread_usage, words_at_fault, words_taken}
 use Rattle.rd_commands.proofs.HelpLine.{help_not_parsed, help_unread, not_help}
 use Rattle.rd_commands.proofs.VersionLine.{not_version, version_not_parsed, version_unread}
-use Rattle.rd_commands.proofs.words.read_words.Goals as goal
+use Rattle.rd_commands.proofs.words.read_by.Goals as goal
 
 pub returns-in_ok-shown-in-Ok-clause-read : goal.returns-in_ok-shown-in-Ok-clause-read
 returns-in_ok-shown-in-Ok-clause-read c =
     let words = map (λ word. word.now) c.args.words.now in
     let rows : GivesRows (subcommand_rows_of c.in-Ok.matches) c.in_ok-shown-in-Ok.shown c.ask_found.result = record { file = c.ask_found.ensures.file; files = c.ask_found.ensures.files; init = c.ask_found.ensures.init; serve = c.ask_found.ensures.serve; import = c.ask_found.ensures.import; export = c.ask_found.ensures.export; check = c.ask_found.ensures.check; show = c.ask_found.ensures.show } in
     ask_read c.ask_found.result Usage c.ok_or.result words c.ok_or.ensures.value
-    (ask_given c.ask_found.result c.in_ok-shown-in-Ok.shown (app_of c.in_ok-desk.desk) words c.in-Ok.matches c.in_ok-desk.ensures c.in-Ok.ensures.matches c.in_ok-shown-in-Ok.ensures.named rows)
+    (ask_given c.ask_found.result c.in_ok-shown-in-Ok.shown (app_of c.args.desk) words c.in-Ok.matches c.requires c.in-Ok.ensures.matches c.in_ok-shown-in-Ok.ensures.named rows)
 
 pub returns-in_ok-shown-in-Ok-clause-accession : goal.returns-in_ok-shown-in-Ok-clause-accession
 returns-in_ok-shown-in-Ok-clause-accession c = ask_accession c.ask_found.result Usage c.ok_or.result c.ok_or.ensures.value c.ask_found.ensures.accession
@@ -23,38 +23,38 @@ pub returns-in_ok-shown-in-Ok-clause-unread : goal.returns-in_ok-shown-in-Ok-cla
 returns-in_ok-shown-in-Ok-clause-unread c =
     let words = map (λ word. word.now) c.args.words.now in
     let rows : GivesRows (subcommand_rows_of c.in-Ok.matches) c.in_ok-shown-in-Ok.shown c.ask_found.result = record { file = c.ask_found.ensures.file; files = c.ask_found.ensures.files; init = c.ask_found.ensures.init; serve = c.ask_found.ensures.serve; import = c.ask_found.ensures.import; export = c.ask_found.ensures.export; check = c.ask_found.ensures.check; show = c.ask_found.ensures.show } in
-    ask_unread c.ask_found.result Usage c.ok_or.result words (λ f. f ≡ NoMemory) c.ok_or.ensures.value
-    (ask_given c.ask_found.result c.in_ok-shown-in-Ok.shown (app_of c.in_ok-desk.desk) words c.in-Ok.matches c.in_ok-desk.ensures c.in-Ok.ensures.matches c.in_ok-shown-in-Ok.ensures.named rows)
+    ask_unread c.ask_found.result Usage c.ok_or.result words IsForMemory c.ok_or.ensures.value
+    (ask_given c.ask_found.result c.in_ok-shown-in-Ok.shown (app_of c.args.desk) words c.in-Ok.matches c.requires c.in-Ok.ensures.matches c.in_ok-shown-in-Ok.ensures.named rows)
 
 pub returns-in-Err-clause-unread : goal.returns-in-Err-clause-unread
 returns-in-Err-clause-unread c = λ command.
-    c.from.ensures.0 (fails_for_memory (app_of c.in_ok-desk.desk) _ c.in-Err.error c.in_ok-desk.ensures command c.in-Err.ensures.passes c.in-Err.ensures.kinds)
+    fails_for_memory (app_of c.args.desk) _ c.in-Err.error c.requires command c.in-Err.ensures.passes c.in-Err.ensures.kinds
 
 pub returns-in_ok-shown-in-Ok-clause-taken : goal.returns-in_ok-shown-in-Ok-clause-taken
-returns-in_ok-shown-in-Ok-clause-taken c = words_taken c.ok_or.result (app_of c.in_ok-desk.desk) _ c.in_ok-desk.ensures c.in-Ok.ensures.kinds
+returns-in_ok-shown-in-Ok-clause-taken c = words_taken c.ok_or.result (app_of c.args.desk) _ c.requires c.in-Ok.ensures.kinds
 
 pub returns-in-Err-clause-told : goal.returns-in-Err-clause-told
 returns-in-Err-clause-told c =
-    words_at_fault (app_of c.in_ok-desk.desk) _ c.in-Err.error c.from.result c.in_ok-desk.ensures c.in-Err.ensures.kinds c.from.ensures.0 c.from.ensures.1
+    words_at_fault (app_of c.args.desk) _ c.in-Err.error c.requires c.in-Err.ensures.kinds
 
 pub returns-in_ok-shown-in-Ok-clause-told_on_output : goal.returns-in_ok-shown-in-Ok-clause-told_on_output
 returns-in_ok-shown-in-Ok-clause-told_on_output c =
-    taken_on_output (app_of c.in_ok-desk.desk) _ c.in-Ok.matches c.in_ok-desk.ensures c.in-Ok.ensures.matches c.in-Ok.ensures.kinds c.ask_found.result Usage c.ok_or.result
+    taken_on_output (app_of c.args.desk) _ c.in-Ok.matches c.requires c.in-Ok.ensures.matches c.in-Ok.ensures.kinds c.ask_found.result Usage c.ok_or.result
     c.ok_or.ensures.value c.ask_found.ensures.told_on_output
 
 pub returns-in_ok-shown-in-Ok-clause-version : goal.returns-in_ok-shown-in-Ok-clause-version
-returns-in_ok-shown-in-Ok-clause-version c = version_not_parsed c.ok_or.result _ (app_of c.in_ok-desk.desk) _ c.in_ok-desk.ensures c.in-Ok.ensures.kinds
+returns-in_ok-shown-in-Ok-clause-version c = version_not_parsed c.ok_or.result _ (app_of c.args.desk) _ c.requires c.in-Ok.ensures.kinds
 
 pub returns-in-Err-clause-version : goal.returns-in-Err-clause-version
 returns-in-Err-clause-version c =
-    version_unread (app_of c.in_ok-desk.desk) _ c.in-Err.error c.from.result c.in_ok-desk.ensures c.in-Err.ensures.kinds c.from.ensures.0 c.from.ensures.1
+    version_unread (app_of c.args.desk) _ c.in-Err.error c.requires c.in-Err.ensures.kinds
 
 pub returns-in_ok-shown-in-Ok-clause-zone : goal.returns-in_ok-shown-in-Ok-clause-zone
 returns-in_ok-shown-in-Ok-clause-zone c =
     let words = map (λ word. word.now) c.args.words.now in
-    let app = app_of c.in_ok-desk.desk in
+    let app = app_of c.args.desk in
     rule_read words (subcommand_rows_of c.in-Ok.matches) c.ask_found.result Usage c.ok_or.result c.ok_or.ensures.value c.ask_found.ensures.zone (λ found name rows enters clocks.
-    found name rows (sym (entered_is app words c.in-Ok.matches c.in_ok-desk.ensures c.in-Ok.ensures.matches) ∙ enters.into app c.in_ok-desk.ensures) clocks)
+    found name rows (sym (entered_is app words c.in-Ok.matches c.requires c.in-Ok.ensures.matches) ∙ enters.into app c.requires) clocks)
 
 pub returns-in_ok-shown-in-Ok-clause-no_rule : goal.returns-in_ok-shown-in-Ok-clause-no_rule
 returns-in_ok-shown-in-Ok-clause-no_rule c = unread_usage (TellsARule (map (λ word. word.now) c.args.words.now) → ⊥) c.ask_found.result c.ok_or.result c.ok_or.ensures.value
@@ -62,77 +62,89 @@ returns-in_ok-shown-in-Ok-clause-no_rule c = unread_usage (TellsARule (map (λ w
 pub returns-in-Err-clause-no_rule : goal.returns-in-Err-clause-no_rule
 returns-in-Err-clause-no_rule c =
     let words = map (λ word. word.now) c.args.words.now in
-    let wrong = words_at_fault (app_of c.in_ok-desk.desk) _ c.in-Err.error c.from.result c.in_ok-desk.ensures c.in-Err.ensures.kinds c.from.ensures.0 c.from.ensures.1 in
-    λ none. elim c.from.ensures.1 [
-      | inl memory ↦ inr memory
-      | inr told ↦ absurd (none (λ name rows enters clocks. absurd (no_fault_in words name rows _ enters (subst (IsFaultOf words) told wrong))))
+    let wrong = words_at_fault (app_of c.args.desk) _ c.in-Err.error c.requires c.in-Err.ensures.kinds in
+    λ none. elim wrong [
+      | inl out ↦ inr out
+      | inr found ↦ absurd (none (λ name rows enters clocks. absurd (no_fault_in words name rows _ enters found)))
     ]
 
 pub returns-in_ok-shown-in-Ok-clause-shown : goal.returns-in_ok-shown-in-Ok-clause-shown
 returns-in_ok-shown-in-Ok-clause-shown c =
     on_ok_always c.ok_or.result
-    (names_what_it_shows (app_of c.in_ok-desk.desk) _ c.in-Ok.matches c.in_ok-shown-in-Ok.shown c.in_ok-desk.ensures c.in-Ok.ensures.matches c.in_ok-shown-in-Ok.ensures.named)
+    (names_what_it_shows (app_of c.args.desk) _ c.in-Ok.matches c.in_ok-shown-in-Ok.shown c.requires c.in-Ok.ensures.matches c.in_ok-shown-in-Ok.ensures.named)
 
 pub returns-in_ok-shown-in-Ok-clause-none_shown : goal.returns-in_ok-shown-in-Ok-clause-none_shown
 returns-in_ok-shown-in-Ok-clause-none_shown c =
-    never_faulty (NamesWhatItShows (map (λ word. word.now) c.args.words.now)) (λ fault. (fault ≡ Day) ⊎ (fault ≡ NoMemory)) c.ok_or.result
-    (names_what_it_shows (app_of c.in_ok-desk.desk) _ c.in-Ok.matches c.in_ok-shown-in-Ok.shown c.in_ok-desk.ensures c.in-Ok.ensures.matches c.in_ok-shown-in-Ok.ensures.named)
+    never_faulty (NamesWhatItShows (map (λ word. word.now) c.args.words.now)) (λ fault. (fault ≡ Day) ⊎ IsForMemory fault) c.ok_or.result
+    (names_what_it_shows (app_of c.args.desk) _ c.in-Ok.matches c.in_ok-shown-in-Ok.shown c.requires c.in-Ok.ensures.matches c.in_ok-shown-in-Ok.ensures.named)
 
 pub returns-in_ok-shown-in-Ok-clause-day : goal.returns-in_ok-shown-in-Ok-clause-day
 returns-in_ok-shown-in-Ok-clause-day c = no_day (λ fault. IsTakenAs (codes "show") (map (λ word. word.now) c.args.words.now)) c.ask_found.result c.ok_or.result c.ok_or.ensures.value
 
 pub returns-in-Err-clause-day : goal.returns-in-Err-clause-day
-returns-in-Err-clause-day c = λ day. elim c.from.ensures.1 [ inl memory ↦ absurd cc | inr told ↦ absurd cc ]
+returns-in-Err-clause-day c = λ day. absurd cc
 
 pub returns-in-Err-clause-none_shown : goal.returns-in-Err-clause-none_shown
 returns-in-Err-clause-none_shown c =
     let words = map (λ word. word.now) c.args.words.now in
-    let wrong = words_at_fault (app_of c.in_ok-desk.desk) _ c.in-Err.error c.from.result c.in_ok-desk.ensures c.in-Err.ensures.kinds c.from.ensures.0 c.from.ensures.1 in
-    λ none. elim c.from.ensures.1 [
-      | inl memory ↦ inr memory
-      | inr told ↦ absurd (none (λ rows enters. absurd (no_fault_in words (codes "show") rows _ enters (subst (IsFaultOf words) told wrong))))
+    let wrong = words_at_fault (app_of c.args.desk) _ c.in-Err.error c.requires c.in-Err.ensures.kinds in
+    λ none. elim wrong [
+      | inl out ↦ inr out
+      | inr found ↦ absurd (none (λ rows enters. absurd (no_fault_in words (codes "show") rows _ enters found)))
     ]
 
 -- ---- words of `show` that name nothing
 
 pub returns-in_err-shown-in-Ok-clause-unread : goal.returns-in_err-shown-in-Ok-clause-unread
 returns-in_err-shown-in-Ok-clause-unread c =
-    passed_on c.from_residual-in_err-shown-in-Ok.result c.in_err-shown-in-Ok.field-0.0 _ c.from_residual-in_err-shown-in-Ok.ensures.1
-    (unnamed (app_of c.in_ok-desk.desk) _ c.in-Ok.matches c.in_err-shown-in-Ok.field-0.0 c.in_ok-desk.ensures c.in-Ok.ensures.matches c.in_err-shown-in-Ok.ensures.failed
+    passed_on c.from_residual.result c.in_err-shown-in-Ok.field-0.0 _ c.from_residual.ensures.1
+    (unnamed (app_of c.args.desk) _ c.in-Ok.matches c.in_err-shown-in-Ok.field-0.0 c.requires c.in-Ok.ensures.matches c.in_err-shown-in-Ok.ensures.failed
     c.in_err-shown-in-Ok.ensures.none)
 
 pub returns-in_err-shown-in-Ok-clause-told : goal.returns-in_err-shown-in-Ok-clause-told
 returns-in_err-shown-in-Ok-clause-told c =
-    passed_on c.from_residual-in_err-shown-in-Ok.result c.in_err-shown-in-Ok.field-0.0 _ c.from_residual-in_err-shown-in-Ok.ensures.1
+    passed_on c.from_residual.result c.in_err-shown-in-Ok.field-0.0 _ c.from_residual.ensures.1
     (day_no_fault _ c.in_err-shown-in-Ok.field-0.0 c.in_err-shown-in-Ok.ensures.failed)
 
 pub returns-in_err-shown-in-Ok-clause-no_rule : goal.returns-in_err-shown-in-Ok-clause-no_rule
 returns-in_err-shown-in-Ok-clause-no_rule c =
-    passed_on c.from_residual-in_err-shown-in-Ok.result c.in_err-shown-in-Ok.field-0.0 _ c.from_residual-in_err-shown-in-Ok.ensures.1
+    passed_on c.from_residual.result c.in_err-shown-in-Ok.field-0.0 _ c.from_residual.ensures.1
     (λ none. day_mistake c.in_err-shown-in-Ok.field-0.0 c.in_err-shown-in-Ok.ensures.failed)
 
 pub returns-in_err-shown-in-Ok-clause-none_shown : goal.returns-in_err-shown-in-Ok-clause-none_shown
 returns-in_err-shown-in-Ok-clause-none_shown c =
-    passed_on c.from_residual-in_err-shown-in-Ok.result c.in_err-shown-in-Ok.field-0.0 _ c.from_residual-in_err-shown-in-Ok.ensures.1 (λ none. c.in_err-shown-in-Ok.ensures.failed)
+    passed_on c.from_residual.result c.in_err-shown-in-Ok.field-0.0 _ c.from_residual.ensures.1
+    (λ none. day_or_memory c.in_err-shown-in-Ok.field-0.0 c.in_err-shown-in-Ok.ensures.failed)
 
 pub returns-in_err-shown-in-Ok-clause-day : goal.returns-in_err-shown-in-Ok-clause-day
 returns-in_err-shown-in-Ok-clause-day c =
-    passed_on c.from_residual-in_err-shown-in-Ok.result c.in_err-shown-in-Ok.field-0.0 _ c.from_residual-in_err-shown-in-Ok.ensures.1
-    (λ day. taken_showing (app_of c.in_ok-desk.desk) _ c.in-Ok.matches c.in_ok-desk.ensures c.in-Ok.ensures.matches c.in-Ok.ensures.kinds (c.in_err-shown-in-Ok.ensures.none day))
+    passed_on c.from_residual.result c.in_err-shown-in-Ok.field-0.0 _ c.from_residual.ensures.1
+    (λ day. taken_showing (app_of c.args.desk) _ c.in-Ok.matches c.requires c.in-Ok.ensures.matches c.in-Ok.ensures.kinds (c.in_err-shown-in-Ok.ensures.none day))
 
 pub returns-in_err-shown-in-Ok-clause-version : goal.returns-in_err-shown-in-Ok-clause-version
 returns-in_err-shown-in-Ok-clause-version c =
-    passed_on c.from_residual-in_err-shown-in-Ok.result c.in_err-shown-in-Ok.field-0.0 _ c.from_residual-in_err-shown-in-Ok.ensures.1
-    (λ asks. absurd (not_version (app_of c.in_ok-desk.desk) _ c.in_ok-desk.ensures c.in-Ok.ensures.kinds asks))
+    passed_on c.from_residual.result c.in_err-shown-in-Ok.field-0.0 _ c.from_residual.ensures.1
+    (λ asks. absurd (not_version (app_of c.args.desk) _ c.requires c.in-Ok.ensures.kinds asks))
 
 pub returns-in_ok-shown-in-Ok-clause-help : goal.returns-in_ok-shown-in-Ok-clause-help
-returns-in_ok-shown-in-Ok-clause-help c = help_not_parsed c.ok_or.result _ (app_of c.in_ok-desk.desk) _ c.in_ok-desk.ensures c.in-Ok.ensures.kinds
+returns-in_ok-shown-in-Ok-clause-help c = help_not_parsed c.ok_or.result _ (app_of c.args.desk) _ c.requires c.in-Ok.ensures.kinds
 
 pub returns-in-Err-clause-help : goal.returns-in-Err-clause-help
 returns-in-Err-clause-help c =
-    help_unread (app_of c.in_ok-desk.desk) _ c.in-Err.error c.from.result c.in_ok-desk.ensures c.in-Err.ensures.kinds c.from.ensures.0 c.from.ensures.1
+    help_unread (app_of c.args.desk) _ c.in-Err.error c.requires c.in-Err.ensures.kinds
 
 pub returns-in_err-shown-in-Ok-clause-help : goal.returns-in_err-shown-in-Ok-clause-help
 returns-in_err-shown-in-Ok-clause-help c =
-    passed_on c.from_residual-in_err-shown-in-Ok.result c.in_err-shown-in-Ok.field-0.0 _ c.from_residual-in_err-shown-in-Ok.ensures.1
-    (λ asks. absurd (not_help (app_of c.in_ok-desk.desk) _ c.in_ok-desk.ensures c.in-Ok.ensures.kinds asks))
+    passed_on c.from_residual.result c.in_err-shown-in-Ok.field-0.0 _ c.from_residual.ensures.1
+    (λ asks. absurd (not_help (app_of c.args.desk) _ c.requires c.in-Ok.ensures.kinds asks))
+
+-- ---- what `clap` says
+
+pub returns-in_ok-shown-in-Ok-clause-of_clap : goal.returns-in_ok-shown-in-Ok-clause-of_clap
+returns-in_ok-shown-in-Ok-clause-of_clap c =
+    never_faulty (IsTaken (map (λ word. word.now) c.args.words.now)) IsTold c.ok_or.result (taken_by (app_of c.args.desk) _ c.requires c.in-Ok.ensures.kinds)
+
+pub returns-in_err-shown-in-Ok-clause-of_clap : goal.returns-in_err-shown-in-Ok-clause-of_clap
+returns-in_err-shown-in-Ok-clause-of_clap c =
+    passed_on c.from_residual.result c.in_err-shown-in-Ok.field-0.0 _ c.from_residual.ensures.1
+    (λ none. absurd (none (taken_by (app_of c.args.desk) _ c.requires c.in-Ok.ensures.kinds)))
