@@ -1,5 +1,5 @@
-//! What only the staff may do: `respond` calls `command` only for the staff. Each function makes at
-//! most one transaction, as its last step, and says that it is done only after the commit.
+//! What only the staff may do: `respond` calls `command` only for the staff. Each function calls the
+//! store to change it at most once, as its last step, and says that it is done only after Ok.
 
 ghost use Rattle.std.specs.Prelude.{◌≡◌, ◌≢◌, length, ℤ};
 ghost use Rattle.sha2.specs.Sha256.{sha256};

@@ -10,7 +10,8 @@ pub fn one_asked()
 {}
 
 /// Law: there are no bytes that ask for nothing: whatever comes is a request, or there is a reason
-/// why it is none. So no definition leaves bytes for which status 503 is the only reply.
+/// why it is none. With `each_request_has_a_reply` of `rd_protocol`, no definition leaves bytes for
+/// which status 503 is the only reply.
 pub fn each_asked()
     ensures { EachAsked }
 {}

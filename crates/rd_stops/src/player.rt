@@ -289,13 +289,14 @@ impl<'a> Player<'a> {
         Ok(())
     }
 
-    /// Plays the run with so many stops that are drawn.
+    /// Plays the run with so many stops that are drawn, and at last with each file in turn as one that stops no more.
     fn stop_drawn(&mut self, rt: &HostRuntime, needed: Needed, count: u32) -> Result<()> {
         for _ in 0..count {
             let stop = needed.drawn_stop(&mut self.draws);
             self.stop_at(rt, stop)?;
         }
-        Ok(())
+        self.stop_at(rt, needed.stop(needed.db))?;
+        self.stop_at(rt, needed.stop(needed.stops().saturating_sub(1)))
     }
 
     /// Plays the run with the stops that it asks for.
