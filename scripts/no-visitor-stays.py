@@ -6,7 +6,7 @@ bytes of the reply, and a minute to take all of it. Five visitors keep the desk,
 they can: they send nothing, send a byte a second, take nothing of a long reply, take a byte a second, and take so
 little that their reply would last three minutes. Behind each waits a reader. The reader gets the reply that they get
 when the desk is free, and waits no longer than the limit of the visitor before them, and two seconds for all else.
-After the first four the reader also waits for most of that limit: so each limit is at work, and nothing else is. One
+Behind the first four the reader also waits for at least eight seconds, since nothing but a limit of ten ends them. One
 more visitor takes a long reply slowly, but in time, and gets all of it.
 
 It takes two minutes and a half. You need Python 3 with its standard library alone, and Linux. PROGRAM is ./desk of this
@@ -55,7 +55,7 @@ def taking(size, pause):
     return take
 
 
-# What visitors do, what they are called, how long they may hold the desk, and whether they hold it for most of that.
+# What visitors do, what they are called, how long they may hold the desk, and whether they hold it for eight seconds.
 VISITORS = [
     ("who sends nothing", silent, REQUEST, True),
     ("who sends a byte a second", dripping, REQUEST, True),
@@ -106,7 +106,7 @@ def see_visitor(seen, port, due, label, visitor, limit, holds):
     print(f"behind a visitor {label}: a reader waits {taken:.1f} s", flush=True)
     seen.same(f"behind a visitor {label}", due, came)
     if holds:
-        seen.same(f"a visitor {label} holds the desk for most of their limit", True, taken > 0.8 * min(limit, WRITE))
+        seen.same(f"a visitor {label} holds the desk for eight seconds", True, taken > 0.8 * WRITE)
 
 
 def take_in_time(port):

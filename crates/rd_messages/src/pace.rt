@@ -23,7 +23,7 @@ pub trait Clock {
 pub struct Limits {
     /// For the whole request, from when the door admits the visitor.
     pub request: Duration,
-    /// For each write, until the visitor takes a byte of it.
+    /// For each write, until the system has room for a byte of it.
     pub write: Duration,
     /// For the whole reply, from its first write.
     pub reply: Duration,
@@ -84,7 +84,10 @@ pub(crate) struct Pace<C> {
 impl<C: Clock> Pace<C> {
     /// The time of a visitor whom the door admitted at a millisecond of this clock.
     pub(crate) fn new(clock: C, limits: Limits, admitted: u64) -> Pace<C>
-        ensures { result.limits ≡ limits }
+        ensures clock { result.clock ≡ clock }
+        ensures limits { result.limits ≡ limits }
+        ensures admitted { result.admitted ≡ admitted }
+        ensures replying { result.replying ≡ None }
     {
         Pace {
             clock,
@@ -109,7 +112,8 @@ impl<C: Clock> Pace<C> {
 
     /// The millisecond of the first write, which is now if there was none; `None` if the clock fails.
     fn first_write(&mut self) -> Option<u64>
-        ensures stays { IfSome self.old.replying (λ began. result ≡ Some began) }
+        ensures stays { IfSome self.old.replying (λ began. (result ≡ Some began) × (self.new.clock ≡ self.old.clock)) }
+        ensures begins { self.old.replying ≡ None → IfSome (C.shows self.old.clock) (λ at. result ≡ Some at) }
         ensures kept { IfSome result (λ began. self.new.replying ≡ Some began) }
         ensures limits { self.new.limits ≡ self.old.limits }
         ensures admitted { self.new.admitted ≡ self.old.admitted }
@@ -125,6 +129,8 @@ impl<C: Clock> Pace<C> {
     pub(crate) fn for_write(&mut self) -> Option<Duration>
         ensures write { IfSome result (λ time. as_nanos time ≤ as_nanos self.old.limits.write) }
         ensures reply { IfSome result (λ time. as_nanos time ≤ as_nanos self.old.limits.reply) }
+        ensures left { IfSome self.old.replying (λ began. IfSome (C.shows self.old.clock) (λ at. IfSome result (λ time.
+            as_nanos time + at * 1_000_000 ≤ as_nanos self.old.limits.reply + began * 1_000_000))) }
         ensures stays { IfSome self.old.replying (λ began. self.new.replying ≡ Some began) }
         ensures begun { IfSome result (λ _. IsSome self.new.replying) }
         ensures limits { self.new.limits ≡ self.old.limits }

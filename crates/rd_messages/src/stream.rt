@@ -1,4 +1,4 @@
-//! The streams of visitors, over TCP or over a socket of the machine.
+//! The streams of visitors, over TCP or over a Unix socket.
 
 use std::io::{Read, Result, Write};
 use std::net::{Shutdown, TcpListener, TcpStream};

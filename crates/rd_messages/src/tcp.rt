@@ -1,5 +1,6 @@
-//! Visits over the streams of a listener: TCP, or a socket of the machine.
+//! Visits over the streams of a listener: TCP, or a Unix socket.
 
+ghost use Rattle.std.specs.Duration.{as_nanos};
 ghost use Rattle.std.specs.Io.{ReadsAtMost, WritesAtMost};
 ghost use Rattle.std.specs.Io.KnownBytes.{Appends, WriteAppends};
 ghost use Rattle.std.specs.Prelude.{◌≡◌, ◌↔◌, ◌≤◌, ◌*◌, ◌<◌, None, true, false, length, vec_len, IfOk, IfSome, IsErr, OnOk};
@@ -9,7 +10,7 @@ use crate::stream::{Listener, Stream};
 use crate::wire::{Broken, Door, Shut, Wire};
 use std::alloc::Global;
 use std::mem;
-use std::net::TcpListener;
+use std::net::{TcpListener, TcpStream};
 use std::os::unix::net::UnixListener;
 use std::time::Duration;
 
@@ -119,7 +120,7 @@ impl<S: Stream, C: Clock + Drop> StreamWire<S, C> {
 
     /// Sends what is held back, and then these bytes, and gives how many they are.
     ///
-    /// It fails with `Broken` when a write fails or takes no byte.
+    /// It fails with `Broken` when the time of the reply is over, and when a write fails or takes no byte.
     fn put_at_once(&mut self, bytes: &[u8]) -> Result<usize, Broken>
         requires { self.old.put_failed ≡ false }
         ensures count { IfOk result (λ count. count ≡ length bytes.now) }
@@ -190,11 +191,14 @@ pub struct StreamDoor<L, C> {
     has_shut: bool,
 }
 
+/// A connection over TCP.
+pub type TcpWire<C> = StreamWire<TcpStream, C>;
+
 /// A door at a port.
 pub type TcpDoor<C> = StreamDoor<TcpListener, C>;
 
-/// A door at a socket of the machine.
-pub type SocketDoor<C> = StreamDoor<UnixListener, C>;
+/// A door at a Unix socket.
+pub type UnixDoor<C> = StreamDoor<UnixListener, C>;
 
 impl<L: Listener, C: Clock + Copy + Drop> StreamDoor<L, C> {
     /// The door of a listener, with a clock and the usual limits. It takes no memory; its connections take some for
@@ -245,6 +249,14 @@ fn read_within<S: Stream>(stream: &mut S, buffer: &mut [u8], time: Duration) -> 
     }
 }
 
+/// What is left of the time that a connection lingers, which began at this millisecond; `None` if it is over, or if
+/// the clock fails or has gone back.
+fn linger_time<C: Clock>(clock: &mut C, began: u64) -> Option<Duration>
+    ensures { IfSome result (λ left. as_nanos left ≤ 200 * 1_000_000) }
+{
+    time_left(clock, began, Duration::from_millis(LINGER_MILLISECONDS))
+}
+
 /// Reads what a peer still sends, until it ends, and throws it away: for `LINGER_MILLISECONDS` at most, by this clock,
 /// and at most `LINGER_BYTES`. A connection that is closed with bytes unread is reset, and the peer may then lose what
 /// it has not yet read of the reply.
@@ -252,10 +264,9 @@ fn linger<S: Stream, C: Clock>(stream: &mut S, buffer: &mut [u8], clock: &mut C)
     let Some(began) = clock.milliseconds() else {
         return;
     };
-    let whole = Duration::from_millis(LINGER_MILLISECONDS);
     let mut left = LINGER_BYTES;
     for _ in 0..LINGER_BYTES {
-        let Some(time) = time_left(clock, began, whole) else {
+        let Some(time) = linger_time(clock, began) else {
             return;
         };
         let most = buffer.len().min(left);

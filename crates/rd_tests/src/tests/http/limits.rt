@@ -1,4 +1,4 @@
-//! Visitors who send or take too little, over TCP and over a socket of the machine, in one process.
+//! Visitors who send or take too little, over TCP and over a Unix socket, in one process.
 
 use super::cases::{
     Came, FOR_HELLO, FOR_LONG, HELLO, LONG, Wanted, assert_visits, bytes_of, filled_desk, text_of,
@@ -66,7 +66,7 @@ fn serve_call<L: Listener>(alloc: Global, desk: &mut Memory, listener: L, call: 
     let (_, step, request, ..) = call;
     let clock = Ticking {
         step: *step,
-        shown: 0,
+        shown: 1_000_000,
     };
     let limits = Limits {
         request: Duration::from_millis(*request),
