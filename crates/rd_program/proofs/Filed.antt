@@ -3,9 +3,10 @@ use Rattle.std.proofs.Common.{◌≡◌, ◌≢◌, ◌⊎◌, ℕ, List, Err, O
 use Rattle.std.specs.Prelude.{⊤}
 use Rattle.rd_geometry.specs.declared.kind.Kind.{Kind}
 use Rattle.rd_commands.specs.Asks.{IsFileAsk, IsFilesAsk}
-use Rattle.rd_commands.specs.Cat.{Serves}
+use Rattle.rd_commands.specs.Cat.{Refuses, Serves}
 use Rattle.rd_commands.specs.Commands.{IsAskOf}
-use Rattle.rd_commands.specs.Listed.{Lists}
+use Rattle.rd_commands.specs.Listed.{Lists, RefusesList}
+use Rattle.rd_commands.specs.declared.refusal.Refusal.{Refusal}
 use Rattle.rd_commands.specs.RefusalLines.{Tells}
 use Rattle.rd_commands.specs.Refusals.{IsOfDevice}
 use Rattle.rd_commands.specs.Words.{AsksOfKind}
@@ -45,6 +46,24 @@ module _ (files : List ℕ → Option (List ℕ)) (out written : Option (List �
       (subst (λ p. IfSome (files p) (λ image. Lists ask.kind image out written)) asks.image_is
       (gives (subst (λ p. p ≢ codes "-") (sym asks.image_is) other)).done)
   files_done ask kind path other asks gives = absurd asks
+
+module _ (files : List ℕ → Option (List ℕ)) (out written : Option (List ℕ)) (refusal : Refusal) where
+  pub one_file_refused : (ask : Ask) (kind : Kind) (path : List ℕ) (slot : ℕ) → path ≢ codes "-" → IsFileAsk kind path slot ask → GivesFile files out written ask (Err refusal)
+      → IfSome (files path) (λ image. Refuses refusal kind slot image out written)
+  one_file_refused (File ask) kind path slot other asks gives =
+      subst (λ k. IfSome (files path) (λ image. Refuses refusal k slot image out written)) asks.kind_is
+      (subst (λ n. IfSome (files path) (λ image. Refuses refusal ask.kind n image out written)) asks.slot_is
+      (subst (λ p. IfSome (files p) (λ image. Refuses refusal ask.kind ask.slot image out written)) asks.image_is
+      (gives (subst (λ p. p ≢ codes "-") (sym asks.image_is) other)).refused))
+  one_file_refused ask kind path slot other asks gives = absurd asks
+
+  pub files_refused : (ask : Ask) (kind : Kind) (path : List ℕ) → path ≢ codes "-" → IsFilesAsk kind path ask → GivesFile files out written ask (Err refusal)
+      → IfSome (files path) (λ image. RefusesList refusal kind image out written)
+  files_refused (Files ask) kind path other asks gives =
+      subst (λ k. IfSome (files path) (λ image. RefusesList refusal k image out written)) asks.kind_is
+      (subst (λ p. IfSome (files p) (λ image. RefusesList refusal ask.kind image out written)) asks.image_is
+      (gives (subst (λ p. p ≢ codes "-") (sym asks.image_is) other)).refused)
+  files_refused ask kind path other asks gives = absurd asks
 
 -- help is written, or the device failed
 pub help_told : (status : ℕ) (old new : Option (List ℕ)) → (status ≢ 0 → (status ≡ 3) × Tells (λ refusal. refusal ≡ Device) 3 old new)

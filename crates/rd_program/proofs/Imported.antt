@@ -14,6 +14,7 @@ use Rattle.rd_commands.specs.Commands.{AsksInit, AsksServe, IsAskOf, IsImport}
 use Rattle.rd_program.specs.Importing.{GainsFront, GainsFrontOfLine, GainsLine, GainsLines, IsDoneLine, IsImportRefusal, IsRowLine, IsRowRefusal, RefusesImport, RefusesRow, RefusesRows, TellsAnswer, TellsRow, TellsRows, bad_row_line, accession_line, done_by, word_of}
 use Rattle.rd_commands.specs.Output.{AppendsPart}
 use Rattle.rd_commands.specs.Refusals.{IsOfDevice, refusal_for, status_of}
+use Rattle.rd_program.specs.Leaves.{OnEnded}
 use Rattle.rd_program.specs.Serving.{IsOpenRefusal}
 use Rattle.rd_commands.specs.Sheets.{IsReadRefusal}
 use Rattle.rd_commands.specs.RefusalLines.{both, whole}
@@ -73,7 +74,7 @@ pub none_of_line : (old : Option (List ℕ)) → GainsFrontOfLine old old
 none_of_line old = record { line = accession_line 0 []; is = inl (0, [], refl); gained = none_written old old (accession_line 0 []) (Keeps-refl old) }
 
 -- nothing of any line
-front_kept : (old new : Option (List ℕ)) → GainsLines IsRowLine old new → GainsFront old new
+pub front_kept : (old new : Option (List ℕ)) → GainsLines IsRowLine old new → GainsFront old new
 front_kept old new rows = front_of old new new rows (none_of_line new)
 
 -- ---- one row
@@ -170,6 +171,10 @@ ok_whole P (Err refusal) r is fact = subst (λ x. OnOk x P) (sym is) tt
 pub err_whole : {T : Type 0} (P : Refusal → Type 0) (ended : Result T Refusal) (r : Result Done Refusal) → r ≡ whole ended → IfErr ended P → IfErr r P
 err_whole P (Ok value) r is fact = subst (λ x. IfErr x P) (sym is) tt
 err_whole P (Err refusal) r is fact = subst (λ x. IfErr x P) (sym is) fact
+
+pub ended_whole : {T : Type 0} (P : Type 0) (ended : Result T Refusal) (r : Result Done Refusal) → r ≡ whole ended → OnEnded ended P → OnEnded r P
+ended_whole P (Ok value) r is fact = subst (λ x. OnEnded x P) (sym is) fact
+ended_whole P (Err refusal) r is fact = subst (λ x. OnEnded x P) (sym is) fact
 
 -- it is not done in part
 pub whole_is : {T : Type 0} (P : Type 0) (ended : Result T Refusal) (r : Result Done Refusal) → r ≡ whole ended → IfOk r (λ done. done ≡ InPart → P)

@@ -1,6 +1,6 @@
 -- What is left of the store, by what each part of a command does to its connection.
-use Rattle.std.proofs.Common.{◌≡◌, ◌⊎◌, Bool, IsTrue, Option, Some, None, IfSome, inl, inr, refl, subst, sym}
-use Rattle.std.specs.Prelude.{IsSome}
+use Rattle.std.proofs.Common.{◌≡◌, ◌∙◌, ◌⊎◌, Bool, IsTrue, Option, Some, None, Result, Ok, Err, IfSome, ap, arith, inl, inr, refl, subst, sym}
+use Rattle.std.specs.Prelude.{IsErrAnd, IsSome}
 use Rattle.sqlite.specs.Effect.{Database}
 use Rattle.sqlite.specs.Held.{Held, state}
 use Rattle.sqlite.specs.Store.{Ghosts}
@@ -10,8 +10,9 @@ use Rattle.rd_holdings.specs.State.{Desk}
 use Rattle.rd_store.specs.declared.faults.OpenFault.{OpenFault}
 use Rattle.rd_store.specs.declared.faults.OpenFault.TheVariants as open_fault
 use Rattle.rd_store.proofs.Laws.{lasts_then}
-use Rattle.rd_program.specs.Leaves.{GivesBack, IfBoth, IsReached, Leaves, LeavesDesk, LeavesNone, LeavesStore, LeavesUnopened}
+use Rattle.rd_program.specs.Leaves.{GivesBack, HasBoth, IfBoth, IsReached, Leaves, LeavesDesk, LeavesNone, LeavesStore, LeavesUnopened, OnEnded}
 use Rattle.rd_program.specs.Serving.{IsOpenRefusal}
+use Rattle.rd_commands.specs.Refusals.{status_of}
 use Rattle.rd_commands.specs.declared.refusal.Refusal.{Refusal}
 
 -- ---- two connections that are told
@@ -40,6 +41,29 @@ module _ {S : Type 0} where
 -- a machine that shows its connections has the one that it was given last
 pub gives_back : {S : Type 0} (shows : Bool) (was new : Option (Held S)) (conn : Held S) → (IsTrue shows → new ≡ Some conn) → GivesBack shows was new
 gives_back shows was new conn took is had = subst (λ o. IsSome o) (sym (took is)) refl
+
+-- it had one for the store, and has taken back the one that it was given last
+pub has_both : {S : Type 0} (shows : Bool) (stood left : Option (Held S)) (conn : Held S) → (IsTrue shows → IsSome stood) → (IsTrue shows → left ≡ Some conn)
+    → HasBoth shows stood left
+has_both shows stood left conn there took is = (there is, subst (λ o. IsSome o) (sym (took is)) refl)
+
+-- what holds anyhow holds after a command that is done or refused
+pub on_ended_always : {T : Type 0} (r : Result T Refusal) (P : Type 0) → P → OnEnded r P
+on_ended_always (Ok value) P holds = holds
+on_ended_always (Err refusal) P holds = λ one. holds
+
+opening_is_3 : (refusal : Refusal) → IsOpenRefusal refusal → status_of refusal ≡ 3
+opening_is_3 refusal (inl is) = ap status_of is
+opening_is_3 refusal (inr (inl is)) = ap status_of is
+opening_is_3 refusal (inr (inr (inl is))) = ap status_of is
+opening_is_3 refusal (inr (inr (inr (inl is)))) = ap status_of is
+opening_is_3 refusal (inr (inr (inr (inr is)))) = ap status_of is
+
+-- a desk that is not opened is a failure
+pub opening_fails : {T : Type 0} (r : Result T Refusal) (refusal : Refusal) (P : Type 0) → IsErrAnd r (λ other. other ≡ refusal) → IsOpenRefusal refusal → OnEnded r P
+opening_fails (Ok value) refusal P is opening = absurd is
+opening_fails (Err other) refusal P is opening = λ one.
+    let three : 1 ≡ 3 = sym one ∙ ap status_of is ∙ opening_is_3 refusal opening in absurd (omega (arith, three))
 
 module _ {S : Type 0} (g : Ghosts S) where
   -- ---- one part after another

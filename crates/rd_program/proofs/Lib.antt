@@ -11,3 +11,5 @@ pub mod Visiting
 pub mod LeftBy
 pub mod RowLemmas
 pub mod Unasked
+pub mod Dated
+pub mod Named

@@ -1,17 +1,25 @@
 -- The rows of a sheet, as they are read and taken one after the other.
-use Rattle.std.proofs.Common.{◌≡◌, ◌+◌, ◌∙◌, ◌++◌, ◌&&◌, ◌==◌, ℕ, ℤ, Bool, true, false, not, if◌then◌else◌, option_map, List, [], ◌∷◌, Option, None, Some, Result, Ok, Err, IfOk, IfSome, inl, refl, ap, subst, sym, arith, length, length-append}
+use Rattle.std.proofs.Common.{◌≡◌, ◌≢◌, ◌+◌, ◌∙◌, ◌++◌, ◌&&◌, ◌==◌, ℕ, ℤ, Bool, true, false, not, if◌then◌else◌, option_map, List, [], ◌∷◌, Option, None, Some, Result, Ok, Err, IfErr, IfOk, IfSome, inl, inr, refl, ap, ap₂, subst, sym, arith, length, length-append}
 use Rattle.std.specs.Borrow.{Bor}
 use Rattle.std.specs.List.{concat}
+use Rattle.std.specs.Prelude.{All}
+use Rattle.std.proofs.lemmas.List.Elements.{All-cons, All-head, All-nil, All-push, All-tail}
 use Rattle.std.specs.Io.KnownBytes.{Appends}
 use Rattle.csv.specs.Machine.{Read, next_record}
-use Rattle.csv.specs.Reading.{NextIs, ReadRecord, ReadsNext, Ready, buffered_of, default_config, has_failed, pending_of, reader_config, reader_state, reader_trim, source_of, strip_bom, took_first}
+use Rattle.csv.specs.Reading.{NextIs, ReadRecord, ReadsNext, ReadsOn, Ready, TookRecord, buffered_of, default_config, expected_len, has_failed, is_flexible, pending_of, reader_config, reader_state, reader_trim, source_of, strip_bom, took_first}
 use Rattle.csv.specs.declared.parser.State.{State}
 use Rattle.csv.specs.declared.parser.State.TheVariants.{StartRecord}
 use Rattle.csv.specs.declared.reader.Reader.{Reader}
 use Rattle.csv.specs.declared.reader.Trim.TheVariants as trim
 use Rattle.rd_holdings.specs.State.{Desk}
 use Rattle.rd_commands.specs.RefusalLines.{both}
-use Rattle.rd_commands.specs.Sheets.{header}
+use Rattle.rd_commands.specs.Refusals.{refusal_for, status_of}
+use Rattle.rd_commands.specs.Sheets.{HasOtherLength, header}
+use Rattle.rd_commands.specs.declared.files.MachineFault.{MachineFault}
+use Rattle.rd_commands.specs.declared.files.MachineFault.TheVariants as machine_fault
+use Rattle.rd_commands.specs.declared.refusal.Refusal.TheVariants.{BadSheet, Device, NoMemory}
+use Rattle.rd_program.specs.Importing.{IsImportRefusal, IsRowRefusal, RefusesImport}
+use Rattle.rd_program.specs.Serving.{IsClockRefusal, IsOpenRefusal}
 use Rattle.rd_commands.specs.declared.done.Done.{Done}
 use Rattle.rd_commands.specs.declared.done.Done.TheVariants.{InPart, Whole}
 use Rattle.sqlite.specs.Held.{Held}
@@ -30,7 +38,7 @@ use Rattle.rd_commands.specs.declared.words.Ask.TheVariants.{Import}
 use Rattle.rd_program.specs.Leaves.{IsDayAt, IsDayBy, moment_of}
 use Rattle.rd_program.specs.Showing.{EndsWith}
 use Rattle.rd_program.proofs.Showing.{ends_weaker, ends_with}
-use Rattle.rd_program.specs.Rows.{AreRowsTaken, GivesLine, HasRows, ImportsBy, IsRowTaken, IsSheetOf, TakesRecords, TakesSheet, TakesSheetIn, TakesSheetOn}
+use Rattle.rd_program.specs.Rows.{AreRowsTaken, GivesLine, HasRows, ImportsBy, IsBadSheetDue, IsRowTaken, IsSheetOf, RefusesSheetBy, TakesRecords, TakesSheet, TakesSheetIn, TakesSheetOn}
 
 -- ---- records
 
@@ -148,6 +156,27 @@ next_none : (next : Option Read) (fields : List (List ℕ)) (last : State) (rest
 next_none None fields last rest is = refl
 next_none (Some p) fields last rest (found, is, state, left) = let e : false ≡ true = found in cc
 
+-- A reader takes rows of as many fields as there are columns alone.
+pub record IsStrict (reader : Reader (Bor (List ℕ))) : Type 0 where
+  pub strict : is_flexible reader ≡ false
+  pub columns : expected_len reader ≡ Some (length header)
+
+-- so once it has taken the names of the columns
+strict_first : (old new : Reader (Bor (List ℕ))) (found : Bool) (fields : List (List ℕ)) → ReadRecord slice_rest old new found fields → (found ≡ true → ReadsOn old new)
+    → found ≡ true → fields ≡ header → is_flexible old ≡ false → IsStrict new
+strict_first old new found fields read on is named strict = record {
+  strict = (on is).2 ∙ strict;
+  columns = (read.5 is strict).1 ∙ ap (λ f. Some (length f)) named;
+}
+
+-- a row that it takes has as many
+strict_next : (old new : Reader (Bor (List ℕ))) (found : Bool) (fields : List (List ℕ)) → ReadRecord slice_rest old new found fields → (found ≡ true → ReadsOn old new)
+    → found ≡ true → IsStrict old → IsStrict new × (length fields ≡ length header)
+strict_next old new found fields read on is strict =
+    let kept : expected_len new ≡ Some (length header) = subst (λ o. IfSome o (λ e. expected_len new ≡ Some e)) strict.columns (read.5 is strict.strict).0 in
+    let both : Some (length fields) ≡ Some (length header) = sym (read.5 is strict.strict).1 ∙ kept in
+    (record { strict = (on is).2 ∙ strict.strict; columns = kept }, cc both)
+
 -- ---- the rows so far
 
 -- The rows that were read of a sheet, the lines that were written of them, and the desk after them.
@@ -160,14 +189,17 @@ pub record RowsSoFar {S : Type 0} (g : Ghosts S) (files : List ℕ → Option (L
   pub at : IsAt reader state rest
   pub has : HasRows sheet rows state rest
   pub count : 1 + length rows ≡ number
+  pub strict : IsStrict reader
+  pub fit : All (λ fields. length fields ≡ length header) rows
   pub gained : Appends out written (concat lines)
   pub taken : IsOpen g now → AreRowsTaken files badge day 1 rows lines done (desk g opened) (desk g now)
 
 module _ {S : Type 0} (g : Ghosts S) (files : List ℕ → Option (List ℕ)) (badge : List ℕ) (day : ℤ) (sheet : List ℕ) (out : Option (List ℕ)) (opened : Held S) where
   -- no row yet
-  pub before_rows : (reader after : Reader (Bor (List ℕ))) (found : Bool) (fields : List (List ℕ)) → IsAt reader StartRecord (strip_bom sheet) → ReadRecord slice_rest reader after found fields
+  pub before_rows : (reader after : Reader (Bor (List ℕ))) (found : Bool) (fields : List (List ℕ)) → is_flexible reader ≡ false → (found ≡ true → ReadsOn reader after)
+      → IsAt reader StartRecord (strip_bom sheet) → ReadRecord slice_rest reader after found fields
       → has_failed after ≡ has_failed reader → took_first after ≡ true → found ≡ true → fields ≡ header → RowsSoFar g files badge day sheet out out opened opened after 1 Whole
-  before_rows reader after found fields at read kept took is named =
+  before_rows reader after found fields strict on at read kept took is named =
       let now = reads_on reader after StartRecord (strip_bom sheet) found fields at read kept took in
       let next = next_some (next_record default_config StartRecord [] [] (strip_bom sheet)) fields now.last now.rest
       (subst (λ b. NextIs (next_record default_config StartRecord [] [] (strip_bom sheet)) b fields now.last now.rest) is now.next) in
@@ -179,17 +211,20 @@ module _ {S : Type 0} (g : Ghosts S) (files : List ℕ → Option (List ℕ)) (b
         at = now.at;
         has = (now.last, now.rest, subst (λ f. next_record default_config StartRecord [] [] (strip_bom sheet) ≡ Some (f, now.last, now.rest)) named next, (refl, refl));
         count = refl;
+        strict = strict_first reader after found fields read on is named strict;
+        fit = All-nil (λ row. length row ≡ length header);
         gained = Appends-nil out;
         taken = λ is_open. (refl, refl);
       }
 
   module _ (mid new : Held S) (written more : Option (List ℕ)) (reader after : Reader (Bor (List ℕ))) (number : ℕ) (done one : Done) where
     -- one row more
-    pub row_then : (found : Bool) (fields : List (List ℕ)) → RowsSoFar g files badge day sheet out written opened mid reader number done → ReadRecord slice_rest reader after found fields
+    pub row_then : (found : Bool) (fields : List (List ℕ)) → (found ≡ true → ReadsOn reader after) → RowsSoFar g files badge day sheet out written opened mid reader number done → ReadRecord slice_rest reader after found fields
         → has_failed after ≡ has_failed reader → took_first after ≡ true → found ≡ true → (IsOpen g new → IsOpen g mid)
         → GivesLine g (λ line. IsRowTaken files badge day number fields line one) written more mid new
         → RowsSoFar g files badge day sheet out more opened new after (number + 1) (both done one)
-    row_then found fields so_far read kept took is was_open (line, gained, taken) =
+    row_then found fields on so_far read kept took is was_open (line, gained, taken) =
+        let strict = strict_next reader after found fields read on is so_far.strict in
         let now = reads_on reader after so_far.state so_far.rest found fields so_far.at read kept took in
         let next = next_some (next_record default_config so_far.state [] [] so_far.rest) fields now.last now.rest
         (subst (λ b. NextIs (next_record default_config so_far.state [] [] so_far.rest) b fields now.last now.rest) is now.next) in
@@ -202,6 +237,8 @@ module _ {S : Type 0} (g : Ghosts S) (files : List ℕ → Option (List ℕ)) (b
           at = now.at;
           has = records_more StartRecord (strip_bom sheet) (header ∷ so_far.rows) so_far.state now.last so_far.rest now.rest fields so_far.has next;
           count = omega (arith, count, length-append so_far.rows (fields ∷ []));
+          strict = strict.0;
+          fit = All-push (λ row. length row ≡ length header) so_far.rows fields so_far.fit strict.1;
           gained = piece_more out written more so_far.lines line so_far.gained gained;
           taken = λ is_open. rows_then files badge day 1 so_far.rows so_far.lines done one fields line (desk g opened) (desk g mid) (desk g new) (so_far.taken (was_open is_open))
               (subst (λ n. IsRowTaken files badge day n fields line one (desk g mid) (desk g new)) (sym count) (taken is_open));
@@ -222,10 +259,161 @@ module _ {S : Type 0} (g : Ghosts S) (files : List ℕ → Option (List ℕ)) (b
           has = so_far.has;
           ends = next_none (next_record default_config so_far.state [] [] so_far.rest) fields ends.last ends.rest
               (subst (λ b. NextIs (next_record default_config so_far.state [] [] so_far.rest) b fields ends.last ends.rest) is ends.next);
+          fit = so_far.fit;
         };
         taken = so_far.taken is_open;
         gained = so_far.gained;
       }
+
+-- ---- a sheet that is none
+
+same_read : (p q : Read) → Some p ≡ Some q → p ≡ q
+same_read p q is = cc is
+
+none_read : (p : Read) → Some p ≡ None → ⊥
+none_read p is = let no : Some p ≡ None = is in cc no
+
+-- where a row of another number of fields comes after some rows, these and all others are not all rows
+no_fit : (state : State) (bytes : List ℕ) (rows others : List (List (List ℕ))) (mid last after : State) (left rest over : List ℕ) (fields : List (List ℕ))
+    → TakesRecords state bytes rows mid left → next_record default_config mid [] [] left ≡ Some (fields, after, over) → length fields ≢ length header
+    → TakesRecords state bytes others last rest → next_record default_config last [] [] rest ≡ None → All (λ row. length row ≡ length header) others → ⊥
+no_fit state bytes [] [] mid last after left rest over fields (same, all) next other (last_is, rest_is) ends fit =
+    none_read (fields, after, over) (sym next ∙ ap₂ (λ s b. next_record default_config s [] [] b) (same ∙ sym last_is) (all ∙ sym rest_is) ∙ ends)
+no_fit state bytes [] (first ∷ more) mid last after left rest over fields (same, all) next other (step, past, is, takes) ends fit =
+    let both = same_read (fields, after, over) (first, step, past) (sym next ∙ ap₂ (λ s b. next_record default_config s [] [] b) same all ∙ is) in
+    other (ap (λ (p : Read). length p.0) both ∙ All-head (λ row. length row ≡ length header) first more fit)
+no_fit state bytes (row ∷ rows) [] mid last after left rest over fields (step, past, is, takes) next other (last_is, rest_is) ends fit =
+    none_read (row, step, past) (sym is ∙ ap₂ (λ s b. next_record default_config s [] [] b) (sym last_is) (sym rest_is) ∙ ends)
+no_fit state bytes (row ∷ rows) (first ∷ more) mid last after left rest over fields (step, past, is, takes) next other (then_step, then_past, then_is, then_takes) ends fit =
+    let both = same_read (row, step, past) (first, then_step, then_past) (sym is ∙ then_is) in
+    no_fit step past rows more mid last after left rest over fields takes next other
+    (subst (λ s. TakesRecords s past more last rest) (sym (ap (λ (p : Read). p.1) both))
+    (subst (λ b. TakesRecords then_step b more last rest) (sym (ap (λ (p : Read). p.2) both)) then_takes))
+    ends (All-tail (λ row. length row ≡ length header) first more fit)
+
+-- the record that a reader took, although it gives it as an error
+took_next : (old new : Reader (Bor (List ℕ))) (state : State) (bytes : List ℕ) (fields : List (List ℕ)) → IsAt old state bytes → TookRecord slice_rest old new fields
+    → (rest : List ℕ) × (next_record default_config state [] [] bytes ≡ Some (fields, reader_state new, rest))
+took_next old new state bytes fields at took =
+    go (pending_of (slice_rest new.rdr) new)
+    (subst (λ b. ReadsNext default_config state b (pending_of (slice_rest new.rdr) new) true fields (reader_state new)) at.source
+    (subst (λ s. ReadsNext default_config s (source_of slice_rest old) (pending_of (slice_rest new.rdr) new) true fields (reader_state new)) at.state_is
+    (subst (λ c. ReadsNext c (reader_state old) (source_of slice_rest old) (pending_of (slice_rest new.rdr) new) true fields (reader_state new)) at.config took)))
+  where
+    go : (after : Option (List ℕ)) → ReadsNext default_config state (Some bytes) after true fields (reader_state new)
+        → (rest : List ℕ) × (next_record default_config state [] [] bytes ≡ Some (fields, reader_state new, rest))
+    go None next = absurd next
+    go (Some rest) next = (rest, next_some (next_record default_config state [] [] bytes) fields (reader_state new) rest next)
+
+-- a row of another number of fields comes after some rows
+pub no_sheet_after : {S : Type 0} (g : Ghosts S) (files : List ℕ → Option (List ℕ)) (badge : List ℕ) (day : ℤ) (sheet : List ℕ) (out written : Option (List ℕ)) (opened now : Held S)
+    (reader after : Reader (Bor (List ℕ))) (number : ℕ) (done : Done) → RowsSoFar g files badge day sheet out written opened now reader number done
+    → HasOtherLength reader after → (rows : List (List (List ℕ))) → IsSheetOf sheet rows → ⊥
+no_sheet_after g files badge day sheet out written opened now reader after number done so_far longer rows is =
+    let next = took_next reader after so_far.state so_far.rest longer.fields so_far.at longer.took in
+    let both : Some longer.expected ≡ Some (length header) = sym longer.first ∙ so_far.strict.columns in
+    let columns : longer.expected ≡ length header = cc both in
+    no_fit StartRecord (strip_bom sheet) (header ∷ so_far.rows) (header ∷ rows) so_far.state is.last (reader_state after) so_far.rest is.rest next.0 longer.fields
+    so_far.has next.1 (λ same. longer.other (columns ∙ sym same)) is.has is.ends (All-cons (λ row. length row ≡ length header) header rows refl is.fit)
+
+-- a reader that has read nothing refuses no first record for its length
+pub none_expected : (reader after : Reader (Bor (List ℕ))) → expected_len reader ≡ None → HasOtherLength reader after → ⊥
+none_expected reader after fresh longer = let no : Some longer.expected ≡ None = sym longer.first ∙ fresh in cc no
+
+-- the first record is not the names of the columns, or there is none
+pub no_header : (sheet : List ℕ) (reader after : Reader (Bor (List ℕ))) (found : Bool) (fields : List (List ℕ)) → IsAt reader StartRecord (strip_bom sheet)
+    → ReadRecord slice_rest reader after found fields → has_failed after ≡ has_failed reader → took_first after ≡ true → (found ≡ true → fields ≢ header)
+    → (rows : List (List (List ℕ))) → IsSheetOf sheet rows → ⊥
+no_header sheet reader after found fields at read kept took other rows is =
+    let now = reads_on reader after StartRecord (strip_bom sheet) found fields at read kept took in
+    go found now.last now.rest now.next other
+  where
+    go : (b : Bool) (last : State) (rest : List ℕ) → NextIs (next_record default_config StartRecord [] [] (strip_bom sheet)) b fields last rest → (b ≡ true → fields ≢ header) → ⊥
+    go true last rest next named =
+        let has = is.has in
+        let both = same_read (fields, last, rest) (header, has.0, has.1) (sym (next_some (next_record default_config StartRecord [] [] (strip_bom sheet)) fields last rest next) ∙ has.2) in
+        named refl (ap (λ (p : Read). p.0) both)
+    go false last rest next named =
+        let has = is.has in
+        none_read (header, has.0, has.1) (sym has.2 ∙ next_none (next_record default_config StartRecord [] [] (strip_bom sheet)) fields last rest next)
+
+-- a refusal is due that is not of the sheet, or of one that is none
+pub due_if : (sheet : List ℕ) (refusal : Refusal) → (refusal ≡ BadSheet → (rows : List (List (List ℕ))) → IsSheetOf sheet rows → ⊥) → IsBadSheetDue sheet refusal
+due_if sheet BadSheet none = none refl
+due_if sheet refusal none = tt
+
+pub row_no_sheet : (sheet : List ℕ) (refusal : Refusal) → IsRowRefusal refusal → IsBadSheetDue sheet refusal
+row_no_sheet sheet refusal (inl is) = subst (IsBadSheetDue sheet) (sym is) tt
+row_no_sheet sheet refusal (inr (inl is)) = subst (IsBadSheetDue sheet) (sym is) tt
+row_no_sheet sheet refusal (inr (inr is)) = subst (IsBadSheetDue sheet) (sym is) tt
+
+always_due : (shown : Option (List ℕ)) (refusal : Refusal) → ((sheet : List ℕ) → IsBadSheetDue sheet refusal) → IfSome shown (λ bytes. IsBadSheetDue bytes refusal)
+always_due None refusal due = tt
+always_due (Some sheet) refusal due = due sheet
+
+pub opening_no_sheet : (shown : Option (List ℕ)) (refusal : Refusal) → IsOpenRefusal refusal → IfSome shown (λ bytes. IsBadSheetDue bytes refusal)
+opening_no_sheet shown refusal opening = always_due shown refusal (of opening)
+  where
+    of : IsOpenRefusal refusal → (sheet : List ℕ) → IsBadSheetDue sheet refusal
+    of (inl is) sheet = subst (IsBadSheetDue sheet) (sym is) tt
+    of (inr (inl is)) sheet = subst (IsBadSheetDue sheet) (sym is) tt
+    of (inr (inr (inl is))) sheet = subst (IsBadSheetDue sheet) (sym is) tt
+    of (inr (inr (inr (inl is)))) sheet = subst (IsBadSheetDue sheet) (sym is) tt
+    of (inr (inr (inr (inr is)))) sheet = subst (IsBadSheetDue sheet) (sym is) tt
+
+pub clock_no_sheet : (shown : Option (List ℕ)) (refusal : Refusal) → IsClockRefusal refusal → IfSome shown (λ bytes. IsBadSheetDue bytes refusal)
+clock_no_sheet shown refusal (inl is) = always_due shown refusal (λ sheet. subst (IsBadSheetDue sheet) (sym is) tt)
+clock_no_sheet shown refusal (inr is) = always_due shown refusal (λ sheet. subst (IsBadSheetDue sheet) (sym is) tt)
+
+pub no_memory_sheet : (shown : Option (List ℕ)) → IfSome shown (λ bytes. IsBadSheetDue bytes NoMemory)
+no_memory_sheet shown = always_due shown NoMemory (λ sheet. tt)
+
+-- the device failed, or memory ran out
+pub device_no_sheet : (shown : Option (List ℕ)) (fault : MachineFault) → IfSome shown (λ bytes. IsBadSheetDue bytes (refusal_for Device fault))
+device_no_sheet shown machine_fault.Failed = always_due shown Device (λ sheet. tt)
+device_no_sheet shown machine_fault.NoMemory = always_due shown NoMemory (λ sheet. tt)
+
+-- the sheet is the one that the machine shows
+pub shown_bad : (r : Result Done Refusal) (shown other : Option (List ℕ)) (bytes : List ℕ) → other ≡ shown → IfSome other (λ sheet. bytes ≡ sheet) → IfErr r (IsBadSheetDue bytes)
+    → IfErr r (λ refusal. IfSome shown (λ sheet. IsBadSheetDue sheet refusal))
+shown_bad (Ok done) shown other bytes same is due = tt
+shown_bad (Err refusal) shown other bytes same is due = subst (λ o. IfSome o (λ sheet. IsBadSheetDue sheet refusal)) same (at other is)
+  where
+    at : (o : Option (List ℕ)) → IfSome o (λ sheet. bytes ≡ sheet) → IfSome o (λ sheet. IsBadSheetDue sheet refusal)
+    at None is = tt
+    at (Some sheet) is = subst (λ b. IsBadSheetDue b refusal) is due
+
+-- and the one that it showed before
+pub shown_before : (r : Result Done Refusal) (later shown : Option (List ℕ)) → later ≡ shown → IfErr r (λ refusal. IfSome later (λ sheet. IsBadSheetDue sheet refusal))
+    → IfErr r (λ refusal. IfSome shown (λ sheet. IsBadSheetDue sheet refusal))
+shown_before r later shown same due = subst (λ o. IfErr r (λ refusal. IfSome o (λ sheet. IsBadSheetDue sheet refusal))) same due
+
+-- an import that ends at the status 1 without all rows names the sheet
+pub import_at_1 : (old new : Option (List ℕ)) (refusal : Refusal) → RefusesImport old new refusal → status_of refusal ≡ 1 → refusal ≡ BadSheet
+import_at_1 old new refusal (inl (inl why)) one = why.0
+import_at_1 old new refusal (inl (inr why)) one = absurd (row_is_3 why.0)
+  where
+    row_is_3 : IsRowRefusal refusal → ⊥
+    row_is_3 (inl is) = let no : 1 ≡ 3 = sym one ∙ ap status_of is in omega (arith, no)
+    row_is_3 (inr (inl is)) = let no : 1 ≡ 3 = sym one ∙ ap status_of is in omega (arith, no)
+    row_is_3 (inr (inr is)) = let no : 1 ≡ 3 = sym one ∙ ap status_of is in omega (arith, no)
+import_at_1 old new refusal (inr why) one = absurd (import_is_3 why.0)
+  where
+    import_is_3 : IsImportRefusal refusal → ⊥
+    import_is_3 (inl (inl is)) = let no : 1 ≡ 3 = sym one ∙ ap status_of is in omega (arith, no)
+    import_is_3 (inl (inr (inl is))) = let no : 1 ≡ 3 = sym one ∙ ap status_of is in omega (arith, no)
+    import_is_3 (inl (inr (inr (inl is)))) = let no : 1 ≡ 3 = sym one ∙ ap status_of is in omega (arith, no)
+    import_is_3 (inl (inr (inr (inr (inl is))))) = let no : 1 ≡ 3 = sym one ∙ ap status_of is in omega (arith, no)
+    import_is_3 (inl (inr (inr (inr (inr is))))) = let no : 1 ≡ 3 = sym one ∙ ap status_of is in omega (arith, no)
+    import_is_3 (inr (inl (inl is))) = let no : 1 ≡ 3 = sym one ∙ ap status_of is in omega (arith, no)
+    import_is_3 (inr (inl (inr is))) = let no : 1 ≡ 3 = sym one ∙ ap status_of is in omega (arith, no)
+    import_is_3 (inr (inr is)) = let no : 1 ≡ 3 = sym one ∙ ap status_of is in omega (arith, no)
+
+-- by the words
+pub sheet_of_words : (sheets : List ℕ → Option (List ℕ)) (ask : Ask) (refusal : Refusal) (store key sheet : List ℕ) (moment : Option ℤ) (rule : List ℕ)
+    → IsImportAsk store key sheet moment rule ask → RefusesSheetBy sheets ask refusal → IfSome (sheets sheet) (λ bytes. IsBadSheetDue bytes refusal)
+sheet_of_words sheets (Import ask) refusal store key sheet moment rule asks due = subst (λ s. IfSome (sheets s) (λ bytes. IsBadSheetDue bytes refusal)) asks.sheet_is due
+sheet_of_words sheets ask refusal store key sheet moment rule asks due = absurd asks
 
 -- ---- the sheet that the machine gives, and the store
 

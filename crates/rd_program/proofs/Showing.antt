@@ -7,13 +7,14 @@ use Rattle.std.specs.Borrow.{Bor}
 use Rattle.std.specs.Prelude.{IsErrAnd, IsSome}
 use Rattle.httparse.specs.Grammar.{trim_ows}
 use Rattle.sha2.specs.Sha256.{sha256}
-use Rattle.sqlite.specs.Held.{Held, state}
+use Rattle.sqlite.specs.Held.{Held}
 use Rattle.sqlite.specs.Store.{Ghosts}
 use Rattle.rd_store.specs.Held.{IsClean, IsOpen, Lasts, desk}
-use Rattle.rd_store.specs.Migrated.{IsMigrated, SpellsDesk}
+use Rattle.rd_store.specs.Migrated.{IsMigrated}
 use Rattle.rd_holdings.specs.State.{Desk}
 use Rattle.rd_policy.specs.declared.zone.Zone.{Zone}
 use Rattle.rd_holdings.specs.declared.rows.Outcome.{Outcome}
+use Rattle.rd_protocol.specs.Requests.{IsForStaff}
 use Rattle.rd_protocol.specs.Replies.{IsAnswered, IsStep, carried_out}
 use Rattle.rd_protocol.specs.Texts.{reply_of}
 use Rattle.rd_protocol.specs.declared.refusal.Refusal.{Refusal as Reason}
@@ -33,11 +34,11 @@ use Rattle.rd_commands.specs.declared.words.Ask.{Ask}
 use Rattle.rd_commands.specs.declared.words.Ask.TheVariants.{Once}
 use Rattle.rd_commands.specs.declared.words.OnceAsk.{OnceAsk}
 use Rattle.rd_commands.specs.declared.words.Question.{Question}
+use Rattle.rd_commands.specs.declared.words.Shown.{Shown}
 use Rattle.rd_commands.specs.declared.words.Question.TheVariants as question
 use Rattle.rd_commands.specs.declared.refusal.Refusal.{Refusal}
-use Rattle.rd_commands.specs.declared.refusal.Refusal.TheVariants.{Device, NoAccession, NoMemory, StaffOnly, Store, UnknownKey}
+use Rattle.rd_commands.specs.declared.refusal.Refusal.TheVariants.{NoAccession, NoMemory, StaffOnly, Store, UnknownKey}
 use Rattle.rd_program.specs.Answers.{answer_to_show, outcome_of, refusal_to_check, refusal_to_show}
-use Rattle.rd_program.specs.Asking.{RefusesOnce}
 use Rattle.rd_program.specs.Leaves.{IsDayAt, IsDayBy, IsSame, LeavesDesk, StepsOf, moment_of}
 use Rattle.rd_program.specs.Serving.{IsClockRefusal, IsOpenRefusal}
 use Rattle.rd_program.specs.Showing.{AnswersBy, AnswersOnce, EndsWith, Finds, FindsStore, IsDueIn, IsDueOn, IsRefusedFor, IsShowRefusal, IsToShow, OfDesk, OfStood, RefusesShow, Shows, ShowsStore, asked_of, badge_of, found_by, request_of, shown_text, what_to_show}
@@ -129,27 +130,30 @@ module _ {S X : Type 0} (g : Ghosts S) (old new : Held S) (day : ℤ) (badge : O
 
   -- ---- why not
 
-  -- a caller who shows a badge is judged by the desk
-  refused_for : IsSome badge → (reason : Reason) → result ≡ Ok (response.Refused reason)
+  -- a caller who shows a badge, or asks for what anyone may ask for, is judged by the desk
+  refused_for : IsSome badge ⊎ ¬ IsForStaff what → (reason : Reason) → result ≡ Ok (response.Refused reason)
       → OfDesk g (λ stood after. IsRefusedFor (λ d. d ≡ day) (request_of badge what) reason stood) old new
   refused_for there reason is = λ clean.
-      let is_open : IsOpen g new = open_unless clean (response.Refused reason) is (λ away. let none : false ≡ true = subst IsSome away.nobody there in cc none) in
+      let is_open : IsOpen g new = open_unless clean (response.Refused reason) is (λ away. elim there as (λ _. ⊥) [
+        | inl some ↦ let none : false ≡ true = subst IsSome away.nobody some in cc none
+        | inr other ↦ other away.for_staff
+      ]) in
       (is_open, (day, refl, (answered (response.Refused reason) is is_open).0))
 
-  due_to_show : IsSome badge → (reason : Reason) → result ≡ Ok (response.Refused reason)
+  due_to_show : IsSome badge ⊎ ¬ IsForStaff what → (reason : Reason) → result ≡ Ok (response.Refused reason)
       → IsDueOn g (λ d. d ≡ day) (request_of badge what) old new (refusal_to_show reason)
   due_to_show there desk_refusal.UnknownKey is = refused_for there desk_refusal.UnknownKey is
   due_to_show there desk_refusal.StaffOnly is = refused_for there desk_refusal.StaffOnly is
   due_to_show there other is = tt
 
-  due_to_check : IsSome badge → (reason : Reason) → result ≡ Ok (response.Refused reason)
+  due_to_check : IsSome badge ⊎ ¬ IsForStaff what → (reason : Reason) → result ≡ Ok (response.Refused reason)
       → IsDueOn g (λ d. d ≡ day) (request_of badge what) old new (refusal_to_check reason)
   due_to_check there desk_refusal.UnknownKey is = refused_for there desk_refusal.UnknownKey is
   due_to_check there desk_refusal.StaffOnly is = refused_for there desk_refusal.StaffOnly is
   due_to_check there desk_refusal.NoAccession is = refused_for there desk_refusal.NoAccession is
   due_to_check there other is = tt
 
-  pub shown_due : IsSome badge → (refusal : Refusal) → answer_to_show result ≡ Err refusal → IsDueOn g (λ d. d ≡ day) (request_of badge what) old new refusal
+  pub shown_due : IsSome badge ⊎ ¬ IsForStaff what → (refusal : Refusal) → answer_to_show result ≡ Err refusal → IsDueOn g (λ d. d ≡ day) (request_of badge what) old new refusal
   shown_due there refusal told = go result refl told
     where
       go : (r : Result Response X) → result ≡ r → answer_to_show r ≡ Err refusal → IsDueOn g (λ d. d ≡ day) (request_of badge what) old new refusal
@@ -159,7 +163,7 @@ module _ {S X : Type 0} (g : Ghosts S) (old new : Held S) (day : ℤ) (badge : O
       go (Ok other) is named = absurd (cc named)
       go (Err fault) is named = let same : Store ≡ refusal = cc named in subst (IsDueOn g (λ d. d ≡ day) (request_of badge what) old new) same tt
 
-  pub found_due : IsSome badge → (refusal : Refusal) → outcome_of result ≡ Err refusal → IsDueOn g (λ d. d ≡ day) (request_of badge what) old new refusal
+  pub found_due : IsSome badge ⊎ ¬ IsForStaff what → (refusal : Refusal) → outcome_of result ≡ Err refusal → IsDueOn g (λ d. d ≡ day) (request_of badge what) old new refusal
   found_due there refusal told = go result refl told
     where
       go : (r : Result Response X) → result ≡ r → outcome_of r ≡ Err refusal → IsDueOn g (λ d. d ≡ day) (request_of badge what) old new refusal
@@ -328,6 +332,21 @@ key_there (Some key) asked is some = refl
 key_there None (Some key) is some = let none : None ≡ Some (trim_ows key) = is in cc none
 key_there None None is some = cc some
 
+-- or the catalogue is asked for
+judged_there : (key : Option (Bor (List ℕ))) (told : Option (List ℕ)) (found asked : Question) → option_map (λ k. k.now) key ≡ option_map trim_ows told → found ≡ asked
+    → IsSome told ⊎ (asked ≡ question.Catalogue) → IsSome key ⊎ (found ≡ question.Catalogue)
+judged_there key told found asked is same (inl some) = inl (key_there key told is some)
+judged_there key told found asked is same (inr catalogue) = inr (same ∙ catalogue)
+
+-- a check and what is shown are not the catalogue, so there is a key
+pub key_of_check : (key : Option (Bor (List ℕ))) (acc : ℕ) (asked : Question) → asked ≡ question.Check acc → IsSome key ⊎ (asked ≡ question.Catalogue) → IsSome key
+key_of_check key acc asked is (inl some) = some
+key_of_check key acc asked is (inr catalogue) = let no : question.Check acc ≡ question.Catalogue = sym is ∙ catalogue in absurd (cc no)
+
+pub key_of_show : (key : Option (Bor (List ℕ))) (shown : Shown) (asked : Question) → asked ≡ question.Show shown → IsSome key ⊎ (asked ≡ question.Catalogue) → IsSome key
+key_of_show key shown asked is (inl some) = some
+key_of_show key shown asked is (inr catalogue) = let no : question.Show shown ≡ question.Catalogue = sym is ∙ catalogue in absurd (cc no)
+
 pub badge_there : (key : Option (Bor (List ℕ))) → IsSome key → IsSome (option_map sha256 (option_map (λ k. k.now) key))
 badge_there (Some key) some = refl
 badge_there None some = cc some
@@ -396,7 +415,7 @@ not_opened_once g clock stood left out ask (Err other) refusal is opening =
       shown = λ what asked. tt;
       not_shown = λ what asked. (inl (inl why, Keeps-refl out), open_no_accession other why);
       found = λ acc asked. tt;
-      due = λ some. open_due g (IsDayAt (moment_of ask.when.seconds clock) ask.when.zone) (request_of (badge_of ask) (asked_of ask.question)) stood left other why;
+      due = λ judged. open_due g (IsDayAt (moment_of ask.when.seconds clock) ask.when.zone) (request_of (badge_of ask) (asked_of ask.question)) stood left other why;
     }
 
 -- what was asked of an open desk was asked of the one that stood
@@ -408,7 +427,7 @@ pub answers_once : {S : Type 0} (g : Ghosts S) (ask : OnceAsk) (r : Result Done 
     → ((what : What) → what_to_show ask.question ≡ Some what → IfErr r (RefusesShow out written))
     → ((acc : ℕ) → IsCheckOf acc ask.question
     → IfOk r (λ done. OfDesk g (Finds (IsDayAt (moment_of ask.when.seconds later) zone) (request_of (badge_of ask) (request.Check acc)) (found_by done)) opened last))
-    → (IsSome ask.key → IfErr r (IsDueOn g (IsDayAt (moment_of ask.when.seconds later) zone) (request_of (badge_of ask) (asked_of ask.question)) opened last))
+    → (IsSome ask.key ⊎ (ask.question ≡ question.Catalogue) → IfErr r (IsDueOn g (IsDayAt (moment_of ask.when.seconds later) zone) (request_of (badge_of ask) (asked_of ask.question)) opened last))
     → LeavesDesk g (StepsOf (badge_of ask) (IsDayAt (moment_of ask.when.seconds later) zone) ask.question) opened last
     → AnswersOnce g clock old new out written ask r
 answers_once {S} g ask r old new opened last conn clock later zone out written is lasts same took at by shown not_shown found due steps = record {
@@ -420,10 +439,10 @@ answers_once {S} g ask r old new opened last conn clock later zone out written i
   found = λ acc asked.
       subst (λ (d : ℤ → Type 0). IfOk r (λ done. EndsWith old new (FindsStore g d (badge_of ask) acc (found_by done)))) days
       (finds_ended r g old new opened last conn (IsDayAt (moment_of ask.when.seconds later) zone) (request_of (badge_of ask) (request.Check acc)) is lasts same took (found acc asked));
-  due = λ some.
+  due = λ judged.
       subst (λ (d : ℤ → Type 0). IfErr r (IsDueIn g d (request_of (badge_of ask) (asked_of ask.question)) old new)) days
       (IfErr-weaker r _ _ (λ refusal why. due_in g old new opened last conn (IsDayAt (moment_of ask.when.seconds later) zone) (request_of (badge_of ask) (asked_of ask.question))
-      refusal is lasts why same took) (due some));
+      refusal is lasts why same took) (due judged));
 }
   where
     days : IsDayAt (moment_of ask.when.seconds later) zone ≡ IsDayAt (moment_of ask.when.seconds clock) ask.when.zone
@@ -466,7 +485,7 @@ module _ {S : Type 0} (g : Ghosts S) (clock : Option ℤ) (stands : List ℕ →
   once_not_shown (Once ask) asks answers what is = answers.not_shown what (ap what_to_show asks.question_is ∙ is)
   once_not_shown ask asks answers what is = absurd asks
 
-  pub once_due : (ask : Ask) → IsOnceAsk store key asked moment rule ask → AnswersBy g clock stands left out written ask result → IsSome key
+  pub once_due : (ask : Ask) → IsOnceAsk store key asked moment rule ask → AnswersBy g clock stands left out written ask result → IsSome key ⊎ (asked ≡ question.Catalogue)
       → IfErr result (IsDueIn g (IsDayBy (moment_of moment clock) rule) (request_of (option_map sha256 (option_map trim_ows key)) (asked_of asked)) (stands store) left)
   once_due (Once ask) asks answers there =
       subst (λ q. IfErr result (IsDueIn g (IsDayBy (moment_of moment clock) rule)
@@ -477,7 +496,7 @@ module _ {S : Type 0} (g : Ghosts S) (clock : Option ℤ) (stands : List ℕ →
       (request_of (option_map sha256 k) (asked_of ask.question)) (stands ask.store.now) left)) asks.key_is
       (IfErr-weaker result _ _ (due_in_on g (IsDayAt (moment_of ask.when.seconds clock) ask.when.zone) (IsDayBy (moment_of moment clock) rule)
       (day_by ask asks) (request_of (badge_of ask) (asked_of ask.question)) (stands ask.store.now) left)
-      (answers.due (key_there ask.key key asks.key_is there)))))
+      (answers.due (judged_there ask.key key ask.question asked asks.key_is asks.question_is there)))))
   once_due ask asks answers there = absurd asks
 
 pub once_finds : {S : Type 0} (g : Ghosts S) (clock : Option ℤ) (stands : List ℕ → Option (Held S)) (left : Option (Held S)) (out written : Option (List ℕ))

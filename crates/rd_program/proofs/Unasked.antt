@@ -1,6 +1,9 @@
 -- A moment without a day: no desk is asked.
-use Rattle.std.proofs.Common.{◌≡◌, ◌⊎◌, ℤ, Option, Some, None, Result, Ok, Err, inl, inr, refl, subst, sym}
-use Rattle.std.proofs.Common.{ℕ, List, IfSome}
+use Rattle.std.proofs.Common.{◌≡◌, ◌≢◌, ◌⊎◌, ℕ, ℤ, List, Option, Some, None, Result, Ok, Err, IfErr, IfSome, inl, inr, refl, subst, sym}
+use Rattle.std.proofs.lemmas.Result.{IfErr-weaker}
+use Rattle.sqlite.specs.Held.{Held}
+use Rattle.sqlite.specs.Store.{Ghosts}
+use Rattle.rd_store.specs.Migrated.{IsMigrated}
 use Rattle.rd_policy.specs.Days.{HasDay}
 use Rattle.rd_commands.specs.Asks.{IsImportAsk, IsOnceAsk}
 use Rattle.rd_commands.specs.Commands.{IsAskOf, IsCommand}
@@ -9,11 +12,12 @@ use Rattle.rd_commands.specs.declared.words.Ask.{Ask}
 use Rattle.rd_commands.specs.declared.words.Ask.TheVariants.{Import, Once}
 use Rattle.rd_commands.specs.declared.words.Question.{Question}
 use Rattle.rd_commands.specs.declared.words.Question.TheVariants.{Catalogue, Check, Show}
-use Rattle.rd_program.specs.Asked.{AsksAt, IsUnaskedBy}
+use Rattle.rd_program.specs.Asked.{AsksAt, IsClockDue, IsClockDueBy, IsClockOn, IsUnaskedBy}
 use Rattle.rd_commands.specs.declared.refusal.Refusal.{Refusal}
 use Rattle.rd_commands.specs.declared.refusal.Refusal.TheVariants.{Clock, NoMemory}
 use Rattle.rd_program.specs.Leaves.{moment_of}
-use Rattle.rd_program.specs.Serving.{IsDayless, IsRefused, IsUnasked, IsUnaskedRefusal}
+use Rattle.rd_program.proofs.Showing.{ends_with}
+use Rattle.rd_program.specs.Serving.{IsDayless, IsOpenRefusal, IsRefused, IsUnasked, IsUnaskedRefusal}
 
 -- after a desk was opened, by a clock that shows the same as before
 pub unasked : {T : Type 0} (told clock other : Option ℤ) (r : Result T Refusal) → other ≡ clock → IsDayless (moment_of told other) r → IsUnasked (moment_of told clock) r
@@ -26,6 +30,49 @@ unasked told clock other r same dayless = subst (λ c. IsUnasked (moment_of told
     at : (moment : Option ℤ) → IsDayless moment r → IsUnasked moment r
     at None dayless = tt
     at (Some seconds) dayless = λ none. refused (dayless none)
+
+-- ---- why the clock is named
+
+clock_in : {S : Type 0} (g : Ghosts S) (moment : Option ℤ) (old new : Option (Held S)) (opened last conn : Held S) (refusal : Refusal)
+    → IfSome old (λ before. IsMigrated g before opened) → conn ≡ last → IfSome new (λ held. Some conn ≡ Some held) → IsClockOn moment opened last refusal
+    → IsClockDue g moment old new refusal
+clock_in g moment old new opened last conn Clock is same took due =
+    (due.0, ends_with g old new opened last conn (IsMigrated g) is (λ before at. subst (IsMigrated g before) (sym due.1) at) same took)
+clock_in g moment old new opened last conn refusal is same took due = tt
+
+-- what is so of an open desk is so of the one that stood
+pub clock_ended : {T : Type 0} (r : Result T Refusal) {S : Type 0} (g : Ghosts S) (moment : Option ℤ) (old new : Option (Held S)) (opened last conn : Held S)
+    → IfSome old (λ before. IsMigrated g before opened) → conn ≡ last → IfSome new (λ held. Some conn ≡ Some held) → IfErr r (IsClockOn moment opened last)
+    → IfErr r (IsClockDue g moment old new)
+clock_ended r g moment old new opened last conn is same took =
+    IfErr-weaker r _ _ (λ refusal. clock_in g moment old new opened last conn refusal is same took)
+
+-- no opening names it
+pub opening_no_clock : {S : Type 0} (g : Ghosts S) (moment : Option ℤ) (old new : Option (Held S)) (refusal : Refusal) → IsOpenRefusal refusal → IsClockDue g moment old new refusal
+opening_no_clock g moment old new refusal (inl is) = subst (IsClockDue g moment old new) (sym is) tt
+opening_no_clock g moment old new refusal (inr (inl is)) = subst (IsClockDue g moment old new) (sym is) tt
+opening_no_clock g moment old new refusal (inr (inr (inl is))) = subst (IsClockDue g moment old new) (sym is) tt
+opening_no_clock g moment old new refusal (inr (inr (inr (inl is)))) = subst (IsClockDue g moment old new) (sym is) tt
+opening_no_clock g moment old new refusal (inr (inr (inr (inr is)))) = subst (IsClockDue g moment old new) (sym is) tt
+
+-- and once the day is known nothing else does
+pub no_clock_on : {S : Type 0} (moment : Option ℤ) (opened last : Held S) (refusal : Refusal) → refusal ≢ Clock → IsClockOn moment opened last refusal
+no_clock_on moment opened last Clock other = absurd (other refl)
+no_clock_on moment opened last refusal other = tt
+
+-- no day was found
+abbrev pub no_day : Refusal → Result ℤ Refusal
+no_day refusal = Err refusal
+
+refused_day : (refusal : Refusal) (day : ℤ) → Err refusal ≡ Ok day → ⊥
+refused_day refusal day is = cc is
+
+-- a day was not found: the moment that is named has none
+pub dayless_on : {S : Type 0} (moment : Option ℤ) (day : ℤ → ℤ) (opened : Held S) (refusal : Refusal)
+    → IfSome moment (λ seconds. (HasDay seconds → Err refusal ≡ Ok (day seconds)) × (¬ HasDay seconds → Err refusal ≡ no_day Clock)) → IsClockOn moment opened opened refusal
+dayless_on None day opened Clock told = (tt, refl)
+dayless_on (Some seconds) day opened Clock told = (λ has. refused_day Clock (day seconds) (told.0 has), refl)
+dayless_on moment day opened refusal told = tt
 
 -- ---- by the words
 
@@ -74,3 +121,20 @@ command_at words store moment rule (inl (key, sheet, asks)) = inr (inr (inr (inr
 command_at words store moment rule (inr (inl (key, asks))) = inr (inr (inr (inr (inr (inl (store, key, moment, rule, asks))))))
 command_at words store moment rule (inr (inr (inl (key, acc, asks)))) = inr (inr (inr (inr (inr (inr (inl (acc, (store, key, moment, rule, asks))))))))
 command_at words store moment rule (inr (inr (inr (key, what, asks)))) = inr (inr (inr (inr (inr (inr (inr (store, key, what, moment, rule, asks)))))))
+
+-- ---- the clock, by the words
+
+module _ {S : Type 0} (g : Ghosts S) (stands : List ℕ → Option (Held S)) (left : Option (Held S)) (refusal : Refusal) (store : List ℕ) (moment : Option ℤ) (rule : List ℕ) where
+  pub import_clock : (ask : Ask) (key sheet : List ℕ) → IsImportAsk store key sheet moment rule ask → IsClockDueBy g stands left ask refusal
+      → IsClockDue g moment (stands store) left refusal
+  import_clock (Import ask) key sheet asks due =
+      subst (λ s. IsClockDue g moment (stands s) left refusal) asks.store_is
+      (subst (λ m. IsClockDue g m (stands ask.store.now) left refusal) asks.when_is.moment_is due)
+  import_clock ask key sheet asks due = absurd asks
+
+  pub once_clock : (ask : Ask) (key : Option (List ℕ)) (asked : Question) → IsOnceAsk store key asked moment rule ask → IsClockDueBy g stands left ask refusal
+      → IsClockDue g moment (stands store) left refusal
+  once_clock (Once ask) key asked asks due =
+      subst (λ s. IsClockDue g moment (stands s) left refusal) asks.store_is
+      (subst (λ m. IsClockDue g m (stands ask.store.now) left refusal) asks.when_is.moment_is due)
+  once_clock ask key asked asks due = absurd asks

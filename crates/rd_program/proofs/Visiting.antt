@@ -1,11 +1,10 @@
 -- The visits that `serve` serves, over the desk that stood.
-use Rattle.std.proofs.Common.{◌≡◌, ℕ, List, Option, Some, None, Result, Ok, Err, IfSome, OnOk, refl, subst, sym}
+use Rattle.std.proofs.Common.{◌≡◌, ℕ, List, Option, Some, None, Result, Ok, Err, IfSome, OnOk, subst, sym}
 use Rattle.std.specs.Prelude.{IsSomeAnd}
-use Rattle.sqlite.specs.Held.{Held, state}
+use Rattle.sqlite.specs.Held.{Held}
 use Rattle.sqlite.specs.Store.{Ghosts}
-use Rattle.rd_policy.specs.Zones.{IsZoneOf}
 use Rattle.rd_policy.specs.declared.zone.Zone.{Zone}
-use Rattle.rd_store.specs.Held.{IsOpen, Lasts, desk}
+use Rattle.rd_store.specs.Held.{Lasts, desk}
 use Rattle.rd_store.specs.Migrated.{IsMigrated}
 use Rattle.rd_messages.specs.DoorVisits.{Coming, Told}
 use Rattle.rd_http.specs.declared.serve.Ended.TheVariants.{Count}

@@ -1,13 +1,20 @@
 -- The moment at which a command asks a desk.
-use Rattle.std.specs.Prelude.{◌⊎◌, ⊤, ℕ, ℤ, List, Option, Result}
-use Rattle.rd_commands.specs.Commands.{AsksCheck, AsksExport, AsksImport, AsksShow}
+use Rattle.std.specs.Prelude.{◌≡◌, ◌⊎◌, ⊤, ℕ, ℤ, IfSome, List, Option, Result}
+use Rattle.sqlite.specs.Held.{Held}
+use Rattle.sqlite.specs.Store.{Ghosts}
+use Rattle.rd_policy.specs.Days.{HasDay}
+use Rattle.rd_store.specs.Migrated.{IsMigrated}
+use Rattle.rd_commands.specs.Commands.{AsksCheck, AsksExport, AsksImport, AsksInit, AsksServe, AsksShow}
 use Rattle.rd_commands.specs.declared.done.Done.{Done}
 use Rattle.rd_commands.specs.declared.refusal.Refusal.{Refusal}
+use Rattle.rd_commands.specs.declared.refusal.Refusal.TheVariants.{Clock}
 use Rattle.rd_commands.specs.declared.words.Ask.{Ask}
-use Rattle.rd_commands.specs.declared.words.Ask.TheVariants.{Import, Once}
+use Rattle.rd_commands.specs.declared.words.Ask.TheVariants.{Import, Init, Once, Serve}
 use Rattle.rd_commands.specs.declared.words.Shown.{Shown}
+use Rattle.rd_program.specs.Doors.{AsksPath}
 use Rattle.rd_program.specs.Leaves.{moment_of}
 use Rattle.rd_program.specs.Serving.{IsUnasked}
+use Rattle.rd_program.specs.Showing.{EndsWith}
 
 -- the words ask the desk in the file of a store at a moment, by the clocks of a rule: they are an `import`, an `export`,
 -- a `check` or a `show`
@@ -18,7 +25,39 @@ AsksAt words store moment rule =
     ⊎ (((key : List ℕ) × (acc : ℕ) × AsksCheck words store key acc moment rule)
     ⊎ ((key : List ℕ) × (what : Shown) × AsksShow words store key what moment rule)))
 
+-- the words name the store in this file: they are an `init`, a `serve`, or a command that asks a desk at a moment
+abbrev pub NamesStore : List (List ℕ) → List ℕ → Type 0
+NamesStore words store =
+    ((key : List ℕ) × AsksInit words store key)
+    ⊎ (((port : ℕ) × (count : ℕ) × (rule : List ℕ) × AsksServe words store port count rule)
+    ⊎ ((moment : Option ℤ) × (rule : List ℕ) × AsksAt words store moment rule))
+
+-- `clock` comes only where a desk was opened in the store and nothing more was done, and never if the words name a
+-- moment that has a day
+abbrev pub IsClockDue : {S : Type 0} → Ghosts S → Option ℤ → Option (Held S) → Option (Held S) → Refusal → Type 0
+IsClockDue g moment stood left Clock = IfSome moment (λ seconds. ¬ HasDay seconds) × EndsWith stood left (IsMigrated g)
+IsClockDue g moment stood left refusal = ⊤
+
 -- ---- inside
+
+-- and so over an open desk
+abbrev pub IsClockOn : {S : Type 0} → Option ℤ → Held S → Held S → Refusal → Type 0
+IsClockOn moment opened last Clock = IfSome moment (λ seconds. ¬ HasDay seconds) × (last ≡ opened)
+IsClockOn moment opened last refusal = ⊤
+
+-- a command asks for a connection to its store alone, or for none
+abbrev pub AsksBy : Option (List (List ℕ)) → Ask → Option (List (List ℕ)) → Type 0
+AsksBy old (Init ask) new = AsksPath old ask.store.now new
+AsksBy old (Serve ask) new = AsksPath old ask.store.now new
+AsksBy old (Import ask) new = AsksPath old ask.store.now new
+AsksBy old (Once ask) new = AsksPath old ask.store.now new
+AsksBy old other new = new ≡ old
+
+-- and of a command that asks at a moment
+abbrev pub IsClockDueBy : {S : Type 0} → Ghosts S → (List ℕ → Option (Held S)) → Option (Held S) → Ask → Refusal → Type 0
+IsClockDueBy g stands left (Import ask) refusal = IsClockDue g ask.when.seconds (stands ask.store.now) left refusal
+IsClockDueBy g stands left (Once ask) refusal = IsClockDue g ask.when.seconds (stands ask.store.now) left refusal
+IsClockDueBy g stands left ask refusal = ⊤
 
 -- such a command fails before it asks the desk, if its moment is known and has no day
 abbrev pub IsUnaskedBy : Option ℤ → Ask → Result Done Refusal → Type 0

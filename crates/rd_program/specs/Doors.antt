@@ -1,19 +1,28 @@
--- The door that a machine lends.
-use Rattle.std.specs.Prelude.{◌≡◌, ℕ, Bool, IfSome, Option, Result, Some}
+-- The door that a machine lends, and the connections that it is asked for.
+use Rattle.std.specs.Prelude.{◌≡◌, ◌⊎◌, ℕ, Bool, IfSome, List, ◌∷◌, Option, Result, Some}
 use Rattle.std.specs.Borrow.{Fml, LendsSoOk, MutBor, RattleType}
 
 -- a place at which visits come: a port of the machine itself
 pub data Place : Type 0 where
   Port : ℕ → Place
 
--- The machine shows its connections as before, and at the place, if it showed the door there, the door as its borrower
+-- a connection was asked for at this path, and at no other
+abbrev pub AsksPath : Option (List (List ℕ)) → List ℕ → Option (List (List ℕ)) → Type 0
+AsksPath old path new = IfSome old (λ before. new ≡ Some (path ∷ before))
+
+-- or none was
+abbrev pub AsksNoOther : Option (List (List ℕ)) → List ℕ → Option (List (List ℕ)) → Type 0
+AsksNoOther old path new = IfSome old (λ before. (new ≡ Some before) ⊎ (new ≡ Some (path ∷ before)))
+
+-- The machine shows its connections as before, no connection was asked for, and at the place, if it showed the door there, the door as its borrower
 -- left it.
-pub record KeepsDoor {M D : Type 0} (shows : M → Bool) (doors : M → Place → Option D) (place : Place) (old new : M) (door : D) : Type 0 where
+pub record KeepsDoor {M D : Type 0} (shows : M → Bool) (paths : M → Option (List (List ℕ))) (doors : M → Place → Option D) (place : Place) (old new : M) (door : D) : Type 0 where
   pub shown : shows new ≡ shows old
+  pub asked : paths new ≡ paths old
   pub kept : IfSome (doors old place) (λ before. doors new place ≡ Some door)
 
 module _ (R T : RattleType) where
   -- the machine lends the door at a place, and keeps it as its borrower leaves it
-  abbrev pub LendsDoor : {E : Type 0} → (R.Denot → Bool) → (R.Denot → Place → Option T.Denot) → Place → MutBor R.Denot → Result (MutBor T.Denot) E → Fml
-  LendsDoor shows doors place machine lent =
-      LendsSoOk R T machine lent (KeepsDoor shows doors place machine.now) (λ new. shows new ≡ shows machine.now)
+  abbrev pub LendsDoor : {E : Type 0} → (R.Denot → Bool) → (R.Denot → Option (List (List ℕ))) → (R.Denot → Place → Option T.Denot) → Place → MutBor R.Denot → Result (MutBor T.Denot) E → Fml
+  LendsDoor shows paths doors place machine lent =
+      LendsSoOk R T machine lent (KeepsDoor shows paths doors place machine.now) (λ new. (shows new ≡ shows machine.now) × (paths new ≡ paths machine.now))

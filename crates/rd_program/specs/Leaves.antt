@@ -2,7 +2,7 @@
 -- that the machine took back, if the machine shows both. If there was no connection, the machine
 -- took none back, and nothing more is stated of such a run: only the machine knows what is in the
 -- file then.
-use Rattle.std.specs.Prelude.{◌≡◌, ◌⊎◌, ⊤, ◌++◌, ℕ, ℤ, List, [], ◌∷◌, IfSome, IsSome, IsTrue, Bool, None, Option, Some, option_map}
+use Rattle.std.specs.Prelude.{◌≡◌, ◌⊎◌, ⊤, ◌++◌, ℕ, ℤ, List, [], ◌∷◌, Err, IfSome, IsSome, IsTrue, Bool, None, Ok, Option, Result, Some, option_map}
 use Rattle.std.specs.Io.KnownBytes.{Appends}
 use Rattle.sha2.specs.Sha256.{sha256}
 use Rattle.sqlite.specs.Store.{Ghosts}
@@ -20,6 +20,7 @@ use Rattle.rd_protocol.specs.Replies.{IsStep}
 use Rattle.rd_protocol.specs.declared.request.What.{What}
 use Rattle.rd_protocol.specs.declared.request.What.TheVariants as request
 use Rattle.rd_program.specs.Serving.{listening_line}
+use Rattle.rd_commands.specs.Refusals.{status_of}
 use Rattle.rd_commands.specs.Sheets.{Says}
 use Rattle.rd_commands.specs.declared.refusal.Refusal.{Refusal}
 use Rattle.rd_commands.specs.declared.refusal.Refusal.TheVariants.{Clock, Device, Inconsistent, NoMemory, NotADesk, Store, Version}
@@ -44,6 +45,15 @@ LeavesNone was new = IfSome new (λ after. was ≡ Some after)
 -- or it took none back
 abbrev pub Leaves : {S : Type 0} → Option (Held S) → Option (Held S) → Option (Held S) → (Held S → Held S → Type 0) → Type 0
 Leaves was old new P = IfBoth old new (λ before after. (was ≡ Some after) ⊎ P before after)
+
+-- a machine that shows its connections had one for the store, and has taken one back
+abbrev pub HasBoth : {S : Type 0} → Bool → Option (Held S) → Option (Held S) → Type 0
+HasBoth shows stood left = IsTrue shows → IsSome stood × IsSome left
+
+-- this holds after a command that is done or refused, at the status 0 or 1
+abbrev pub OnEnded : {T : Type 0} → Result T Refusal → Type 0 → Type 0
+OnEnded (Ok value) P = P
+OnEnded (Err refusal) P = status_of refusal ≡ 1 → P
 
 -- a machine that shows its connections, and had one, has one again
 abbrev pub GivesBack : {S : Type 0} → Bool → Option (Held S) → Option (Held S) → Type 0
@@ -97,7 +107,7 @@ abbrev pub HasListened : ℕ → Option (List ℕ) → Option (List ℕ) → Typ
 HasListened port old new = (more : List ℕ) × Appends old new (listening_line port ++ more)
 
 -- What stands after `serve` fails: no desk was opened; or one was, and nothing more was done, unless
--- the line about visits was written, and visits may have come: the run of visits says what these did.
+-- the line about visits was written, and visits may have come.
 abbrev pub LeavesServe : {S : Type 0} → Ghosts S → Option (Held S) → Option (Held S) → Option (Held S) → ℕ
     → Option (List ℕ) → Option (List ℕ) → Refusal → Type 0
 LeavesServe g was old new port out written Clock = HasListened port out written
@@ -172,13 +182,13 @@ TakesFields badge day fields old new = (new ≡ old) ⊎ ((row : SheetRow) × Sa
 
 -- ---- by what is asked for
 
--- a machine that shows its connections had one for the store that the command names
-abbrev pub StandsThere : {S : Type 0} → Bool → (List ℕ → Option (Held S)) → Ask → Type 0
-StandsThere shows stands (Init ask) = IsTrue shows → IsSome (stands ask.store.now)
-StandsThere shows stands (Serve ask) = IsTrue shows → IsSome (stands ask.store.now)
-StandsThere shows stands (Import ask) = IsTrue shows → IsSome (stands ask.store.now)
-StandsThere shows stands (Once ask) = IsTrue shows → IsSome (stands ask.store.now)
-StandsThere shows stands other = ⊤
+-- a machine that shows its connections had one for the store that the command names, and has taken one back
+abbrev pub StandsThere : {S : Type 0} → Bool → (List ℕ → Option (Held S)) → Option (Held S) → Ask → Type 0
+StandsThere shows stands left (Init ask) = HasBoth shows (stands ask.store.now) left
+StandsThere shows stands left (Serve ask) = HasBoth shows (stands ask.store.now) left
+StandsThere shows stands left (Import ask) = HasBoth shows (stands ask.store.now) left
+StandsThere shows stands left (Once ask) = HasBoth shows (stands ask.store.now) left
+StandsThere shows stands left other = ⊤
 
 -- what `serve`, `import`, `export`, `check` and `show` leave, however they end
 abbrev pub LeavesBy : {S : Type 0} → Ghosts S → Option ℤ → Option (Held S) → (List ℕ → Option (Held S)) → Option (Held S) → Ask → Type 0

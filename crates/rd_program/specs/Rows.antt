@@ -1,5 +1,5 @@
 -- What becomes of the rows of a sheet: the line that is written of each, and the desk after it.
-use Rattle.std.specs.Prelude.{◌≡◌, ◌⊎◌, ◌+◌, ⊤, ℕ, ℤ, IfOk, IfSome, List, [], ◌∷◌, None, Option, Result, Some}
+use Rattle.std.specs.Prelude.{◌≡◌, ◌⊎◌, ◌+◌, ⊤, ℕ, ℤ, All, IfOk, IfSome, List, [], ◌∷◌, None, Option, Result, Some, length}
 use Rattle.std.specs.Io.KnownBytes.{Appends}
 use Rattle.std.specs.List.{concat}
 use Rattle.csv.specs.Machine.{next_record}
@@ -20,6 +20,7 @@ use Rattle.rd_commands.specs.Sheets.{IsBad, Says, header}
 use Rattle.rd_commands.specs.declared.done.Done.{Done}
 use Rattle.rd_commands.specs.declared.done.Done.TheVariants.{InPart, Whole}
 use Rattle.rd_commands.specs.declared.refusal.Refusal.{Refusal}
+use Rattle.rd_commands.specs.declared.refusal.Refusal.TheVariants.{BadSheet}
 use Rattle.rd_commands.specs.declared.sheet.SheetRow.{SheetRow}
 use Rattle.rd_commands.specs.declared.words.Ask.{Ask}
 use Rattle.rd_commands.specs.declared.words.Ask.TheVariants.{Import}
@@ -40,12 +41,18 @@ TakesRecords first bytes (fields ∷ more) last rest =
 abbrev pub HasRows : List ℕ → List (List (List ℕ)) → State → List ℕ → Type 0
 HasRows sheet rows last rest = TakesRecords StartRecord (strip_bom sheet) (header ∷ rows) last rest
 
--- The bytes of a sheet are the names of its columns and these rows.
+-- The bytes of a sheet are the names of its columns and these rows, each with as many fields as there are columns.
 pub record IsSheetOf (sheet : List ℕ) (rows : List (List (List ℕ))) : Type 0 where
   pub last : State
   pub rest : List ℕ
   pub has : HasRows sheet rows last rest
   pub ends : next_record default_config last [] [] rest ≡ None
+  pub fit : All (λ fields. length fields ≡ length header) rows
+
+-- `bad-sheet` comes only of bytes that are no sheet
+abbrev pub IsBadSheetDue : List ℕ → Refusal → Type 0
+IsBadSheetDue sheet BadSheet = (rows : List (List (List ℕ))) → ¬ IsSheetOf sheet rows
+IsBadSheetDue sheet refusal = ⊤
 
 -- ---- one row
 
@@ -104,6 +111,11 @@ abbrev pub ImportsBy : {S : Type 0} → Ghosts S → (List ℕ → Option (List 
 ImportsBy g files sheets clock stands left out written (Import ask) result =
     IfOk result (λ done. EndsWith (stands ask.store.now) left (TakesSheetIn g files (sha256 ask.key.now) (IsDayAt (moment_of ask.when.seconds clock) ask.when.zone) (sheets ask.sheet.now) out written done))
 ImportsBy g files sheets clock stands left out written ask result = ⊤
+
+-- and why it fails
+abbrev pub RefusesSheetBy : (List ℕ → Option (List ℕ)) → Ask → Refusal → Type 0
+RefusesSheetBy sheets (Import ask) refusal = IfSome (sheets ask.sheet.now) (λ bytes. IsBadSheetDue bytes refusal)
+RefusesSheetBy sheets ask refusal = ⊤
 
 -- the machine shows the same files and sheets
 abbrev pub KeepsFiles : {M : Type 0} → (M → List ℕ → Option (List ℕ)) → (M → List ℕ → Option (List ℕ)) → M → M → Type 0

@@ -90,7 +90,7 @@ pub record Finds (Days : ℤ → Type 0) (asked : Request) (outcome : Outcome) (
   pub on : Days day
   pub is : IsAnswered stood day asked (Checked outcome) after
 
--- why nothing is shown, and what was written then: as for `export`, but never `no-accession`
+-- why nothing is shown, and what was written then: as for a check, but never `no-accession`
 abbrev pub RefusesShow : Option (List ℕ) → Option (List ℕ) → Refusal → Type 0
 RefusesShow old new refusal = RefusesOnce old new refusal × (refusal ≢ NoAccession)
 
@@ -139,7 +139,7 @@ badge_of ask = option_map sha256 (option_map (λ key. key.now) ask.key)
 
 -- What `export`, `check` and `show` do, by the moment that the clock shows, the connection that stood, the one that is
 -- left, and what was written: what was asked to be shown was written; a check has found what its line says, and recorded
--- it; and a refusal of a caller who shows a key is due.
+-- it; and a refusal of a caller who shows a key, or who asks for the catalogue, is due.
 pub record AnswersOnce {S : Type 0} (g : Ghosts S) (clock : Option ℤ) (stood left : Option (Held S)) (out written : Option (List ℕ)) (ask : OnceAsk)
     (result : Result Done Refusal) : Type 0 where
   pub shown : (what : What) → what_to_show ask.question ≡ Some what
@@ -147,7 +147,7 @@ pub record AnswersOnce {S : Type 0} (g : Ghosts S) (clock : Option ℤ) (stood l
   pub not_shown : (what : What) → what_to_show ask.question ≡ Some what → IfErr result (RefusesShow out written)
   pub found : (acc : ℕ) → IsCheckOf acc ask.question
       → IfOk result (λ done. EndsWith stood left (FindsStore g (IsDayAt (moment_of ask.when.seconds clock) ask.when.zone) (badge_of ask) acc (found_by done)))
-  pub due : IsSome ask.key
+  pub due : IsSome ask.key ⊎ (ask.question ≡ question.Catalogue)
       → IfErr result (IsDueIn g (IsDayAt (moment_of ask.when.seconds clock) ask.when.zone) (request_of (badge_of ask) (asked_of ask.question)) stood left)
 
 -- and so of a command that asks a desk once

@@ -1,4 +1,4 @@
-ghost use Rattle.std.specs.Prelude.{◌≡◌, ◌≢◌, ◌⊎◌, ◌≤◌, ◌+◌, ⊤, IfErr, IfOk, IfSome, List, IsSome, OnOk, Option, Some, codes, map, option_map, ℕ, ℤ};
+ghost use Rattle.std.specs.Prelude.{◌≡◌, ◌≢◌, ◌⊎◌, ◌≤◌, ◌+◌, ⊤, IfErr, IfOk, IfSome, List, OnOk, Option, Some, codes, map, option_map, ℕ, ℤ};
 ghost use Rattle.std.specs.Io.KnownBytes.{Appends, Keeps};
 ghost use Rattle.httparse.specs.Grammar.{trim_ows};
 ghost use Rattle.sha2.specs.Sha256.{sha256};
@@ -14,15 +14,16 @@ ghost use Rattle.rd_commands.specs.Commands.{AsksCheck, AsksExport, AsksImport, 
 ghost use Rattle.rd_program.specs.Importing.{GainsLines, IsDoneLine, IsRowLine, RefusesImport, TellsRows};
 ghost use Rattle.rd_program.specs.Inits.{LeavesInit, MakesDesk, RefusesInit, done_line};
 ghost use Rattle.rd_commands.specs.Input.{ReadsUpTo};
-ghost use Rattle.rd_program.specs.Leaves.{Checks, GivesBack, IsDayBy, IsSame, Leaves, LeavesBy, LeavesRefused, LeavesServe, LeavesStore, NamesOpening, StandsThere, TakesIn, moment_of};
+ghost use Rattle.rd_program.specs.Leaves.{Checks, GivesBack, HasBoth, IsDayBy, IsSame, Leaves, LeavesBy, LeavesRefused, LeavesServe, LeavesStore, NamesOpening, OnEnded, StandsThere, TakesIn, moment_of};
 ghost use Rattle.rd_commands.specs.Listed.{Lists, RefusesList};
 ghost use Rattle.rd_commands.specs.Refusals.{IsOfDevice, status_of};
-ghost use Rattle.rd_program.specs.Rows.{ImportsBy, TakesSheetIn};
+ghost use Rattle.rd_program.specs.Rows.{ImportsBy, IsBadSheetDue, RefusesSheetBy, TakesSheetIn};
 ghost use Rattle.rd_policy.specs.Days.{HasDay};
-ghost use Rattle.rd_program.specs.Asked.{AsksAt, IsUnaskedBy};
+ghost use Rattle.rd_program.specs.Asked.{AsksAt, AsksBy, IsClockDue, IsClockDueBy, IsUnaskedBy, NamesStore};
 ghost use Rattle.rd_program.specs.Serving.{IsUnaskedRefusal, RefusesServe, serve_text};
 ghost use Rattle.rd_holdings.specs.declared.rows.Outcome.TheVariants as Outcome;
 ghost use Rattle.rd_protocol.specs.declared.request.What.TheVariants as What;
+ghost use Rattle.rd_program.specs.Doors.{AsksNoOther};
 ghost use Rattle.rd_program.specs.Doors.Place.{Port};
 ghost use Rattle.rd_program.specs.Visiting.{ServesBy, ServesDoorBy};
 ghost use Rattle.rd_program.specs.Filing.{GivesFile, IsOfImage};
@@ -98,7 +99,10 @@ fn perform<R: Read, W: Write, M: Machine>(
     ensures of_file { GivesFile (M.file_bytes machine.old) (W.contents output.old) (W.contents output.new) ask.entry result }
     ensures untouched { IsOfImage ask.entry → machine.new ≡ machine.old }
     ensures back { GivesBack (M.shows machine.old) (M.left machine.old) (M.left machine.new) }
-    ensures there { OnOk result (StandsThere (M.shows machine.old) (M.stands machine.old) ask.entry) }
+    ensures there { OnEnded result (StandsThere (M.shows machine.old) (M.stands machine.old) (M.left machine.new) ask.entry) }
+    ensures asked { AsksBy (M.paths machine.old) ask.entry (M.paths machine.new) }
+    ensures clock { IfErr result (IsClockDueBy M.Disk.Store (M.stands machine.old) (M.left machine.new) ask.entry) }
+    ensures bad_sheet { IfErr result (RefusesSheetBy (M.sheet_bytes machine.old) ask.entry) }
     ensures leaves { LeavesBy M.Disk.Store (M.clock machine.old) (M.left machine.old) (M.stands machine.old) (M.left machine.new) ask.entry }
     ensures leaves_refused { IfErr result (LeavesRefused M.Disk.Store (M.left machine.old) (M.stands machine.old) (M.left machine.new)
         (W.contents output.old) (W.contents output.new) ask.entry) }
@@ -229,7 +233,8 @@ pub fn run<R: Read, W: Write, E: Write, M: Machine>(
         → Leaves (M.left machine.old) (M.stands machine.old store) (M.left machine.new) (Lasts M.Disk.Store) }
 
     // An `import`: at 0 it has written only lines that say that an image was taken in. Not at 0 it
-    // has written only lines of rows, and after them it names its refusal or, at 1, nothing.
+    // has written only lines of rows, and after them it names its refusal or, at 1, nothing. It names `bad-sheet` only
+    // of a sheet that is none, and `clock` only of a store that it opened.
     // However it ends, the desk that stood may have taken in images, and nothing else has changed.
     ensures imported { result ≡ 0 → IsImport (map (λ word. word.now) words.entry.now)
         → GainsLines IsDoneLine (W.contents output.old) (W.contents output.new) }
@@ -238,7 +243,9 @@ pub fn run<R: Read, W: Write, E: Write, M: Machine>(
         → ((result ≡ 1) × Keeps (E.contents errors.old) (E.contents errors.new)
         × GainsLines IsRowLine (W.contents output.old) (W.contents output.new))
         ⊎ Tells (λ refusal. RefusesImport (W.contents output.old) (W.contents output.new) refusal
-        × NamesOpening M.Disk.Store (M.stands machine.old store) (M.left machine.new) refusal)
+        × NamesOpening M.Disk.Store (M.stands machine.old store) (M.left machine.new) refusal
+        × IsClockDue M.Disk.Store moment (M.stands machine.old store) (M.left machine.new) refusal
+        × IfSome (M.sheet_bytes machine.old sheet) (λ bytes. IsBadSheetDue bytes refusal))
         result (E.contents errors.old) (E.contents errors.new) }
     ensures rows { result ≡ 0 → (store key sheet : List ℕ) (moment : Option ℤ) (rule : List ℕ)
         → AsksImport (map (λ word. word.now) words.entry.now) store key sheet moment rule
@@ -248,7 +255,8 @@ pub fn run<R: Read, W: Write, E: Write, M: Machine>(
         → AsksImport (map (λ word. word.now) words.entry.now) store key sheet moment rule
         → EndsWith (M.stands machine.old store) (M.left machine.new) (TakesSheetIn M.Disk.Store (M.file_bytes machine.old) (sha256 (trim_ows key))
         (IsDayBy (moment_of moment (M.clock machine.old)) rule) (M.sheet_bytes machine.old sheet) (W.contents output.old) (W.contents output.new) Done.InPart)
-        ⊎ Tells (λ _. ⊤) result (E.contents errors.old) (E.contents errors.new) }
+        ⊎ (Tells (λ refusal. refusal ≡ Refusal.BadSheet) result (E.contents errors.old) (E.contents errors.new)
+        × IfSome (M.sheet_bytes machine.old sheet) (λ bytes. IsBadSheetDue bytes Refusal.BadSheet)) }
     ensures import_leaves { (store key sheet : List ℕ) (moment : Option ℤ) (rule : List ℕ)
         → AsksImport (map (λ word. word.now) words.entry.now) store key sheet moment rule
         → Leaves (M.left machine.old) (M.stands machine.old store) (M.left machine.new)
@@ -274,7 +282,8 @@ pub fn run<R: Read, W: Write, E: Write, M: Machine>(
         ⊎ Tells (λ refusal. RefusesOnce (W.contents output.old) (W.contents output.new) refusal
         × NamesOpening M.Disk.Store (M.stands machine.old store) (M.left machine.new) refusal
         × IsDueIn M.Disk.Store (IsDayBy (moment_of moment (M.clock machine.old)) rule)
-        (request_of (Some (sha256 (trim_ows key))) (What.Check acc)) (M.stands machine.old store) (M.left machine.new) refusal)
+        (request_of (Some (sha256 (trim_ows key))) (What.Check acc)) (M.stands machine.old store) (M.left machine.new) refusal
+        × IsClockDue M.Disk.Store moment (M.stands machine.old store) (M.left machine.new) refusal)
         result (E.contents errors.old) (E.contents errors.new) }
     ensures check_leaves { (store key : List ℕ) (acc : ℕ) (moment : Option ℤ) (rule : List ℕ)
         → AsksCheck (map (λ word. word.now) words.entry.now) store key acc moment rule
@@ -289,8 +298,9 @@ pub fn run<R: Read, W: Write, E: Write, M: Machine>(
         → AsksExport (map (λ word. word.now) words.entry.now) store key moment rule
         → Tells (λ refusal. RefusesShow (W.contents output.old) (W.contents output.new) refusal
         × NamesOpening M.Disk.Store (M.stands machine.old store) (M.left machine.new) refusal
-        × (IsSome key → IsDueIn M.Disk.Store (IsDayBy (moment_of moment (M.clock machine.old)) rule)
-        (request_of (option_map sha256 (option_map trim_ows key)) What.Catalogue) (M.stands machine.old store) (M.left machine.new) refusal))
+        × IsDueIn M.Disk.Store (IsDayBy (moment_of moment (M.clock machine.old)) rule)
+        (request_of (option_map sha256 (option_map trim_ows key)) What.Catalogue) (M.stands machine.old store) (M.left machine.new) refusal
+        × IsClockDue M.Disk.Store moment (M.stands machine.old store) (M.left machine.new) refusal)
         result (E.contents errors.old) (E.contents errors.new) }
     ensures export_leaves { (store : List ℕ) (key : Option (List ℕ)) (moment : Option ℤ) (rule : List ℕ)
         → AsksExport (map (λ word. word.now) words.entry.now) store key moment rule
@@ -309,20 +319,33 @@ pub fn run<R: Read, W: Write, E: Write, M: Machine>(
         → Tells (λ refusal. RefusesShow (W.contents output.old) (W.contents output.new) refusal
         × NamesOpening M.Disk.Store (M.stands machine.old store) (M.left machine.new) refusal
         × IsDueIn M.Disk.Store (IsDayBy (moment_of moment (M.clock machine.old)) rule)
-        (request_of (Some (sha256 (trim_ows key))) (what_of what)) (M.stands machine.old store) (M.left machine.new) refusal)
+        (request_of (Some (sha256 (trim_ows key))) (what_of what)) (M.stands machine.old store) (M.left machine.new) refusal
+        × IsClockDue M.Disk.Store moment (M.stands machine.old store) (M.left machine.new) refusal)
         result (E.contents errors.old) (E.contents errors.new) }
     ensures show_leaves { (store key : List ℕ) (what : Shown) (moment : Option ℤ) (rule : List ℕ)
         → AsksShow (map (λ word. word.now) words.entry.now) store key what moment rule
         → Leaves (M.left machine.old) (M.stands machine.old store) (M.left machine.new) (LeavesStore M.Disk.Store IsSame) }
 
-    // A machine that shows its connections, and had one, has one again, whatever the words ask for. The
-    // machine stays as it was if the words ask for a file or the files of an image, and at 2.
-    // An `import`, an `export`, a `check` and a `show` look at the store first, then at the moment, and then at all else.
+    // An `import`, an `export`, a `check` and a `show` at a moment without a day ask the desk nothing: their refusal is
+    // that of the opening or of the moment.
     ensures unasked { (store : List ℕ) (moment : Option ℤ) (rule : List ℕ) → AsksAt (map (λ word. word.now) words.entry.now) store moment rule
         → IfSome (moment_of moment (M.clock machine.old)) (λ seconds. ¬ HasDay seconds
         → Tells IsUnaskedRefusal result (E.contents errors.old) (E.contents errors.new)) }
+
+    // A machine that shows its connections, and had one, has one again, whatever the words ask for. At 0 and 1, if the
+    // words name a store, it had one for that store and has taken one back.
     ensures back { GivesBack (M.shows machine.old) (M.left machine.old) (M.left machine.new) }
+    ensures there { result ≤ 1 → (store : List ℕ) → NamesStore (map (λ word. word.now) words.entry.now) store
+        → HasBoth (M.shows machine.old) (M.stands machine.old store) (M.left machine.new) }
+
+    // If the words name a store, the machine is asked for no connection but one to that store.
+    ensures asked { (store : List ℕ) → NamesStore (map (λ word. word.now) words.entry.now) store
+        → AsksNoOther (M.paths machine.old) store (M.paths machine.new) }
+
+    // The machine stays as it was if the words ask for a file or the files of an image, if they are no command, as those
+    // that ask for help or the version, and at 2.
     ensures untouched { (kind : Kind) → AsksOfKind (map (λ word. word.now) words.entry.now) kind → machine.new ≡ machine.old }
+    ensures untaken_untouched { ¬ IsTaken (map (λ word. word.now) words.entry.now) → machine.new ≡ machine.old }
     ensures usage_untouched { result ≡ 2 → machine.new ≡ machine.old }
 
     // A `cat` or a `list` of a file of the machine, as of standard input.
@@ -332,6 +355,14 @@ pub fn run<R: Read, W: Write, E: Write, M: Machine>(
     ensures file_listed { result ≡ 0 → (kind : Kind) (path : List ℕ) → path ≢ codes "-"
         → AsksList (map (λ word. word.now) words.entry.now) kind path → IfSome (M.file_bytes machine.old path) (λ image.
         Lists kind image (W.contents output.old) (W.contents output.new)) }
+    ensures file_told { result ≢ 0 → (kind : Kind) (path : List ℕ) (slot : ℕ) → path ≢ codes "-"
+        → AsksCat (map (λ word. word.now) words.entry.now) kind path slot → IfSome (M.file_bytes machine.old path) (λ image.
+        Tells (λ refusal. Refuses refusal kind slot image (W.contents output.old) (W.contents output.new))
+        result (E.contents errors.old) (E.contents errors.new)) }
+    ensures list_file_told { result ≢ 0 → (kind : Kind) (path : List ℕ) → path ≢ codes "-"
+        → AsksList (map (λ word. word.now) words.entry.now) kind path → IfSome (M.file_bytes machine.old path) (λ image.
+        Tells (λ refusal. RefusesList refusal kind image (W.contents output.old) (W.contents output.new))
+        result (E.contents errors.old) (E.contents errors.new)) }
 
     // Help, if the first word asks for it: at 0, unless the output fails or memory runs out.
     ensures help { AsksHelp (map (λ word. word.now) words.entry.now) → (result ≡ 0)
@@ -344,6 +375,12 @@ pub fn run<R: Read, W: Write, E: Write, M: Machine>(
     ensures version_told { result ≢ 0 → AsksVersion (map (λ word. word.now) words.entry.now)
         → Tells (RefusesVersion (W.contents output.old) (W.contents output.new))
         result (E.contents errors.old) (E.contents errors.new) }
+
+    // Words that are no command end with 2, unless they ask for help or the version, or memory runs out.
+    ensures mistake { ¬ IsTaken (map (λ word. word.now) words.entry.now) → (result ≡ 2)
+        ⊎ (AsksForHelp (map (λ word. word.now) words.entry.now)
+        ⊎ (AsksForVersion (map (λ word. word.now) words.entry.now)
+        ⊎ Tells (λ refusal. refusal ≡ Refusal.NoMemory) result (E.contents errors.old) (E.contents errors.new))) }
 
     // At 2 the output gets nothing, and the words are no form of a command.
     ensures usage { result ≡ 2 → ¬ IsCommand (map (λ word. word.now) words.entry.now) }

@@ -1,16 +1,18 @@
 //! Asks a desk one question: for the catalogue, what a check of an image finds, or what stands.
 
-ghost use Rattle.std.specs.Prelude.{◌≡◌, IfErr, IfOk, IsSome, IsTrue, OnOk, Some, option_map, ℕ};
+ghost use Rattle.std.specs.Prelude.{◌≡◌, ◌≢◌, ◌⊎◌, IfErr, IfOk, IsSome, OnOk, Some, option_map, ℕ};
 ghost use Rattle.std.specs.String.{string_bytes};
 ghost use Rattle.sha2.specs.Sha256.{sha256};
 ghost use Rattle.rd_policy.specs.Days.{IsDay};
 ghost use Rattle.rd_policy.specs.Rules.{IsScope};
 ghost use Rattle.rd_holdings.specs.Findings.{outcome_word};
+ghost use Rattle.rd_program.specs.Doors.{AsksPath};
+ghost use Rattle.rd_program.specs.Asked.{IsClockDue, IsClockOn};
 ghost use Rattle.rd_program.specs.Asking.{RefusesOnce, TellsCheck};
 ghost use Rattle.rd_commands.specs.Asks.{IsAskable, IsCheck, IsCheckOf};
 ghost use Rattle.rd_program.specs.Importing.{accession_line};
 ghost use Rattle.rd_protocol.specs.declared.request.What.{What};
-ghost use Rattle.rd_program.specs.Leaves.{Checks, GivesBack, IsDayAt, IsOfOpenDesk, Leaves, LeavesDesk, LeavesStore, NamesOpening, StepsOf, moment_of};
+ghost use Rattle.rd_program.specs.Leaves.{Checks, GivesBack, HasBoth, IsDayAt, IsOfOpenDesk, Leaves, LeavesDesk, LeavesStore, NamesOpening, OnEnded, StepsOf, moment_of};
 ghost use Rattle.rd_program.specs.Serving.{IsDayless, IsUnasked};
 ghost use Rattle.rd_program.specs.Showing.{AnswersOnce, Finds, IsDueOn, OfDesk, RefusesShow, Shows, asked_of, found_by, request_of, what_to_show};
 
@@ -53,6 +55,7 @@ fn check<S: Alter + Drop, W: Write>(
     ensures told { IfOk result (TellsCheck acc (W.contents output.old) (W.contents output.new)) }
     ensures refused { IfErr result (RefusesOnce (W.contents output.old) (W.contents output.new)) }
     ensures opened { IfErr result IsOfOpenDesk }
+    ensures dated { IfErr result (λ refusal. refusal ≢ Refusal.Clock) }
     ensures checks { LeavesDesk S.Store (Checks asker.badge acc (λ day. day ≡ asker.day))
         desk.old.store desk.new.store }
     ensures found { IfOk result (λ done. OfDesk S.Store (Finds (λ day. day ≡ asker.day)
@@ -93,6 +96,7 @@ fn tell_asked<S: Alter + Drop, W: Write, M: Machine>(
         → IfOk result (TellsCheck acc (W.contents output.old) (W.contents output.new)) }
     ensures refused { IfErr result (RefusesOnce (W.contents output.old) (W.contents output.new)) }
     ensures dayless { IsDayless (moment_of ask.now.when.seconds (M.clock machine.old)) result }
+    ensures clock { IfErr result (IsClockOn ask.now.when.seconds desk.old.store desk.new.store) }
     ensures opened { IfErr result IsOfOpenDesk }
     ensures steps { LeavesDesk S.Store (StepsOf (option_map sha256 (option_map (λ key. key.now) ask.now.key))
         (IsDayAt (moment_of ask.now.when.seconds (M.clock machine.old)) desk.old.zone) ask.now.question) desk.old.store desk.new.store }
@@ -105,10 +109,11 @@ fn tell_asked<S: Alter + Drop, W: Write, M: Machine>(
     ensures found { (acc : ℕ) → IsCheckOf acc ask.now.question
         → IfOk result (λ done. OfDesk S.Store (Finds (IsDayAt (moment_of ask.now.when.seconds (M.clock machine.old)) desk.old.zone)
         (request_of (option_map sha256 (option_map (λ key. key.now) ask.now.key)) (asked_of (Question.Check acc))) (found_by done)) desk.old.store desk.new.store) }
-    ensures due { IsSome ask.now.key
+    ensures due { IsSome ask.now.key ⊎ (ask.now.question ≡ Question.Catalogue)
         → IfErr result (IsDueOn S.Store (IsDayAt (moment_of ask.now.when.seconds (M.clock machine.old)) desk.old.zone)
         (request_of (option_map sha256 (option_map (λ key. key.now) ask.now.key)) (asked_of ask.now.question)) desk.old.store desk.new.store) }
     ensures shows { M.shows machine.new ≡ M.shows machine.old }
+    ensures asked { M.paths machine.new ≡ M.paths machine.old }
 {
     let day = visit_day(ask.when.seconds, desk, machine)?;
     let badge = badge_of(ask.key);
@@ -141,7 +146,9 @@ pub(crate) fn ask_once<W: Write, M: Machine>(
         (IsDayAt (moment_of ask.entry.when.seconds (M.clock machine.old)) ask.entry.when.zone) ask.entry.question)) }
     ensures unasked { IsUnasked (moment_of ask.entry.when.seconds (M.clock machine.old)) result }
     ensures back { GivesBack (M.shows machine.old) (M.left machine.old) (M.left machine.new) }
-    ensures there { OnOk result (IsTrue (M.shows machine.old) → IsSome (M.stands machine.old ask.entry.store.now)) }
+    ensures there { OnEnded result (HasBoth (M.shows machine.old) (M.stands machine.old ask.entry.store.now) (M.left machine.new)) }
+    ensures asked { AsksPath (M.paths machine.old) ask.entry.store.now (M.paths machine.new) }
+    ensures clock { IfErr result (IsClockDue M.Disk.Store ask.entry.when.seconds (M.stands machine.old ask.entry.store.now) (M.left machine.new)) }
     ensures opens { IfErr result (NamesOpening M.Disk.Store (M.stands machine.old ask.entry.store.now) (M.left machine.new)) }
     ensures answers { AnswersOnce M.Disk.Store (M.clock machine.old) (M.stands machine.old ask.entry.store.now) (M.left machine.new)
         (W.contents output.old) (W.contents output.new) ask.entry result }

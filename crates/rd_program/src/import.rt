@@ -1,18 +1,20 @@
 //! Takes in images, row by row of a sheet.
 
 ghost use Rattle.rd_store.specs.Held.{IsOpen, desk as desk_in};
-ghost use Rattle.std.specs.Prelude.{◌≡◌, IfErr, IfOk, IsSome, IsTrue, OnErr, OnOk, Some};
+ghost use Rattle.std.specs.Prelude.{◌≡◌, IfErr, IfOk, IfSome, OnErr, OnOk, Some};
 ghost use Rattle.std.specs.Io.KnownBytes.{Appends};
 ghost use Rattle.csv.specs.Records.{fields_of};
 ghost use Rattle.sha2.specs.Sha256.{sha256};
 ghost use Rattle.rd_policy.specs.Days.{IsDay};
 ghost use Rattle.rd_desk.specs.Served.{Responds};
+ghost use Rattle.rd_program.specs.Doors.{AsksPath};
 ghost use Rattle.rd_program.specs.Importing as spec;
-ghost use Rattle.rd_program.specs.Rows.{GivesLine, IsRowTaken, TakesImage, TakesSheet, TakesSheetIn, TakesSheetOn};
+ghost use Rattle.rd_program.specs.Asked.{IsClockDue, IsClockOn};
+ghost use Rattle.rd_program.specs.Rows.{GivesLine, IsBadSheetDue, IsRowTaken, TakesImage, TakesSheet, TakesSheetIn, TakesSheetOn};
 ghost use Rattle.rd_program.specs.Serving.{IsDayless, IsUnasked};
 ghost use Rattle.rd_program.specs.Showing.{EndsWith};
 ghost use Rattle.rd_program.specs.Importing.{RefusesImport, RefusesRow, RefusesRows, TellsAnswer, TellsRow, TellsRows, bad_row_line, accession_line};
-ghost use Rattle.rd_program.specs.Leaves.{GivesBack, IsDayAt, IsOfOpenDesk, Leaves, LeavesDesk, LeavesStore, NamesOpening, TakesFields, TakesIn, TakesRow, moment_of};
+ghost use Rattle.rd_program.specs.Leaves.{GivesBack, HasBoth, IsDayAt, IsOfOpenDesk, Leaves, LeavesDesk, LeavesStore, NamesOpening, OnEnded, TakesFields, TakesIn, TakesRow, moment_of};
 ghost use Rattle.rd_commands.specs.Output.{AppendsPart};
 ghost use Rattle.rd_commands.specs.Refusals.{IsOfDevice};
 ghost use Rattle.rd_commands.specs.Sheets.{IsWithin};
@@ -214,6 +216,7 @@ fn import_rows<W: Write, M: Machine>(
     requires day { IsDay giver.day }
     ensures told { IfOk result (TellsRows (W.contents output.old) (W.contents output.new)) }
     ensures refused { IfErr result (RefusesRows (W.contents output.old) (W.contents output.new)) }
+    ensures bad_sheet { IfErr result (IsBadSheetDue sheet.now) }
     ensures takes { LeavesDesk M.Disk.Store (TakesIn giver.badge (λ day. day ≡ giver.day))
         desk.old.store desk.new.store }
     ensures same { machine.new ≡ machine.old }
@@ -236,8 +239,8 @@ fn import_rows<W: Write, M: Machine>(
         let row = import_fields(alloc, &fields, number, giver, desk, output, machine)?;
         done = done.and(row);
     }
-    // No sheet has so many rows.
-    Err(Refusal::BadSheet)
+    // No memory holds a sheet of so many rows.
+    Err(Refusal::NoMemory)
 }
 
 /// Takes in the images of the sheet that the command names, at the moment that it names.
@@ -254,6 +257,8 @@ fn import_sheet<W: Write, M: Machine>(
     ensures told { IfOk result (TellsRows (W.contents output.old) (W.contents output.new)) }
     ensures refused { IfErr result (RefusesImport (W.contents output.old) (W.contents output.new)) }
     ensures dayless { IsDayless (moment_of ask.entry.when.seconds (M.clock machine.old)) result }
+    ensures clock { IfErr result (IsClockOn ask.entry.when.seconds desk.old.store desk.new.store) }
+    ensures bad_sheet { IfErr result (λ refusal. IfSome (M.sheet_bytes machine.old ask.entry.sheet.now) (λ bytes. IsBadSheetDue bytes refusal)) }
     ensures opened { IfErr result IsOfOpenDesk }
     ensures takes { LeavesDesk M.Disk.Store (TakesIn (sha256 ask.entry.key.now)
         (IsDayAt (moment_of ask.entry.when.seconds (M.clock machine.old)) desk.old.zone)) desk.old.store desk.new.store }
@@ -262,6 +267,7 @@ fn import_sheet<W: Write, M: Machine>(
         (M.sheet_bytes machine.old ask.entry.sheet.now) (W.contents output.old) (W.contents output.new) done
         (desk_in M.Disk.Store desk.old.store) (desk_in M.Disk.Store desk.new.store)) }
     ensures shows { M.shows machine.new ≡ M.shows machine.old }
+    ensures asked { M.paths machine.new ≡ M.paths machine.old }
 {
     let day = visit_day(ask.when.seconds, desk, machine)?;
     let sheet = match machine.read_sheet(alloc, ask.sheet) {
@@ -295,7 +301,10 @@ pub(crate) fn import<W: Write, M: Machine>(
         (M.sheet_bytes machine.old ask.entry.sheet.now) (W.contents output.old) (W.contents output.new) done)) }
     ensures unasked { IsUnasked (moment_of ask.entry.when.seconds (M.clock machine.old)) result }
     ensures back { GivesBack (M.shows machine.old) (M.left machine.old) (M.left machine.new) }
-    ensures there { OnOk result (IsTrue (M.shows machine.old) → IsSome (M.stands machine.old ask.entry.store.now)) }
+    ensures there { OnEnded result (HasBoth (M.shows machine.old) (M.stands machine.old ask.entry.store.now) (M.left machine.new)) }
+    ensures asked { AsksPath (M.paths machine.old) ask.entry.store.now (M.paths machine.new) }
+    ensures clock { IfErr result (IsClockDue M.Disk.Store ask.entry.when.seconds (M.stands machine.old ask.entry.store.now) (M.left machine.new)) }
+    ensures bad_sheet { IfErr result (λ refusal. IfSome (M.sheet_bytes machine.old ask.entry.sheet.now) (λ bytes. IsBadSheetDue bytes refusal)) }
     ensures opens { IfErr result (NamesOpening M.Disk.Store (M.stands machine.old ask.entry.store.now) (M.left machine.new)) }
 {
     let mut desk = open_desk(alloc, ask.store, ask.when.zone, machine)?;

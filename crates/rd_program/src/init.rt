@@ -1,8 +1,9 @@
-ghost use Rattle.std.specs.Prelude.{◌≡◌, IfErr, IsSome, IsTrue, OnOk, false};
+ghost use Rattle.std.specs.Prelude.{◌≡◌, IfErr, OnOk, false};
 ghost use Rattle.std.specs.Io.KnownBytes.{Appends};
 ghost use Rattle.sha2.specs.Sha256.{sha256};
 ghost use Rattle.rd_store.specs.Created.{IsCreated};
-ghost use Rattle.rd_program.specs.Leaves.{GivesBack};
+ghost use Rattle.rd_program.specs.Doors.{AsksPath};
+ghost use Rattle.rd_program.specs.Leaves.{GivesBack, HasBoth, OnEnded};
 ghost use Rattle.rd_program.specs.Inits.{IsInitRefusal, LeavesInit, MakesDesk, NotMade, RefusesInit, done_line};
 
 use crate::faults::not_made;
@@ -37,7 +38,8 @@ fn make_desk<M: Machine>(ask: InitAsk, machine: &mut M) -> Result<(), Refusal>
         (LeavesInit M.Disk.Store (M.left machine.old) (M.stands machine.old ask.entry.store.now) (M.left machine.new) (sha256 ask.entry.key.now)) }
     ensures refused { IfErr result IsInitRefusal }
     ensures back { GivesBack (M.shows machine.old) (M.left machine.old) (M.left machine.new) }
-    ensures there { OnOk result (IsTrue (M.shows machine.old) → IsSome (M.stands machine.old ask.entry.store.now)) }
+    ensures there { OnEnded result (HasBoth (M.shows machine.old) (M.stands machine.old ask.entry.store.now) (M.left machine.new)) }
+    ensures asked { AsksPath (M.paths machine.old) ask.entry.store.now (M.paths machine.new) }
 {
     let conn = match machine.connect(ask.store) {
         Ok(conn) => conn,
@@ -66,7 +68,8 @@ pub(crate) fn init<W: Write, M: Machine>(
     ensures left { IfErr result
         (LeavesInit M.Disk.Store (M.left machine.old) (M.stands machine.old ask.entry.store.now) (M.left machine.new) (sha256 ask.entry.key.now)) }
     ensures back { GivesBack (M.shows machine.old) (M.left machine.old) (M.left machine.new) }
-    ensures there { OnOk result (IsTrue (M.shows machine.old) → IsSome (M.stands machine.old ask.entry.store.now)) }
+    ensures there { OnEnded result (HasBoth (M.shows machine.old) (M.stands machine.old ask.entry.store.now) (M.left machine.new)) }
+    ensures asked { AsksPath (M.paths machine.old) ask.entry.store.now (M.paths machine.new) }
 {
     make_desk(ask, machine)?;
     write_whole(output, b"done\n")

@@ -1,9 +1,9 @@
-ghost use Rattle.std.specs.Prelude.{◌↔◌, ◌≡◌, Bool, IfErr, IfOk, IfSome, IsTrue, List, Option, Some, false, ℕ, ℤ};
+ghost use Rattle.std.specs.Prelude.{◌↔◌, ◌≡◌, Bool, IfErr, IfOk, IfSome, IsTrue, List, None, Option, Some, false, ℕ, ℤ};
 ghost use Rattle.sqlite.specs.Held.{Held};
 ghost use Rattle.sqlite.specs.declared.error.Error.TheVariants.{SqliteFailure};
 ghost use Rattle.sqlite.specs.declared.error.ErrorCode.TheVariants as code;
 ghost use Rattle.std.specs.Borrow.{sem};
-ghost use Rattle.rd_program.specs.Doors.{LendsDoor, Place};
+ghost use Rattle.rd_program.specs.Doors.{AsksPath, LendsDoor, Place};
 ghost use Rattle.rd_program.specs.Doors.Place.{Port};
 ghost use Rattle.rd_program.specs.Leaves.{LeavesNone};
 ghost use Rattle.rd_program.specs.Rows.{KeepsFiles};
@@ -42,6 +42,9 @@ pub trait Machine: Files {
     /// The connection that stands for a store at a path, if the machine shows it.
     ghost stands: { Self → List ℕ → Option (Held Self.Disk) };
 
+    /// The paths for which connections were asked, the latest first, if the machine shows them.
+    ghost paths: { Self → Option (List (List ℕ)) } = { λ _. None };
+
     /// The connection that it took back last, if the machine shows it.
     ghost left: { Self → Option (Held Self.Disk) };
 
@@ -55,6 +58,7 @@ pub trait Machine: Files {
         ensures there { IfOk result (λ conn. IsTrue (shows self.old) → stands self.old path.now ≡ Some conn) }
         ensures none { IfErr result (λ _. LeavesNone (left self.old) (left self.new)) }
         ensures kept { IfErr result (λ _. IsTrue (shows self.old) → left self.new ≡ left self.old) }
+        ensures asked { AsksPath (paths self.old) path.now (paths self.new) }
         ensures shows { shows self.new ≡ shows self.old }
         ensures clock { clock self.new ≡ clock self.old }
         ensures files { KeepsFiles Self.file_bytes Self.sheet_bytes self.old self.new }
@@ -64,6 +68,7 @@ pub trait Machine: Files {
     fn release(&mut self, conn: &mut Option<Connection<Self::Disk>>)
         ensures left { IfSome (left self.new) (λ held. conn.old ≡ Some held) }
         ensures back { IsTrue (shows self.old) → left self.new ≡ conn.old }
+        ensures asked { paths self.new ≡ paths self.old }
         ensures shows { shows self.new ≡ shows self.old }
         ensures door { door self.new ≡ door self.old };
 
@@ -73,6 +78,7 @@ pub trait Machine: Files {
     fn now(&mut self) -> Result<i64, MachineFault>
         ensures shown { IfOk result (λ seconds. IfSome (clock self.old) (λ moment. seconds ≡ moment)) }
         ensures files { KeepsFiles Self.file_bytes Self.sheet_bytes self.old self.new }
+        ensures asked { paths self.new ≡ paths self.old }
         ensures shows { shows self.new ≡ shows self.old };
 
     /// Lends the door through which visits come at a port of the machine itself, 1 to 65,535. The machine keeps
@@ -80,6 +86,6 @@ pub trait Machine: Files {
     ///
     /// It fails when it cannot open the port.
     fn listen(&mut self, port: u16) -> Result<&mut Self::Door, MachineFault>
-        ensures* lends { sem 𝓛 (LendsDoor Self.row Self.Door.row shows door (Port port) self.entry result) }
+        ensures* lends { sem 𝓛 (LendsDoor Self.row Self.Door.row shows paths door (Port port) self.entry result) }
         ensures lent { IfOk result (λ lent. IfSome (door self.old (Port port)) (λ shown. lent.now ≡ shown)) };
 }

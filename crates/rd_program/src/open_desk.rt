@@ -1,6 +1,7 @@
 //! Opens the desk in the file of a store, and finds the day on which to ask it.
 
 ghost use Rattle.std.specs.Prelude.{◌≡◌, Err, IfErr, IfOk, IfSome, IsSome, IsTrue, Ok};
+ghost use Rattle.rd_program.specs.Doors.{AsksPath};
 ghost use Rattle.rd_program.specs.Leaves.{GivesBack, IsDayAt, LeavesUnopened, moment_of};
 ghost use Rattle.rd_program.specs.Rows.{KeepsFiles};
 ghost use Rattle.rd_program.specs.Serving.{IsClockRefusal, IsDayless, IsOpenRefusal};
@@ -30,6 +31,7 @@ pub(crate) fn open_desk<M: Machine>(
     ensures opened { IfOk result (λ desk. IfSome (M.stands machine.old store.now) (λ before. IsMigrated M.Disk.Store before desk.store)) }
     ensures there { IfOk result (λ _. IsTrue (M.shows machine.old) → IsSome (M.stands machine.old store.now)) }
     ensures shows { M.shows machine.new ≡ M.shows machine.old }
+    ensures asked { AsksPath (M.paths machine.old) store.now (M.paths machine.new) }
     ensures clock { IfOk result (λ _. M.clock machine.new ≡ M.clock machine.old) }
     ensures files { IfOk result (λ _. KeepsFiles M.file_bytes M.sheet_bytes machine.old machine.new) }
     ensures door { M.door machine.new ≡ M.door machine.old }
@@ -58,6 +60,7 @@ fn clock_seconds<M: Machine>(machine: &mut M) -> Result<i64, Refusal>
     ensures shown { IfOk result (λ seconds. IfSome (M.clock machine.old) (λ moment. seconds ≡ moment)) }
     ensures files { KeepsFiles M.file_bytes M.sheet_bytes machine.old machine.new }
     ensures shows { M.shows machine.new ≡ M.shows machine.old }
+    ensures asked { M.paths machine.new ≡ M.paths machine.old }
     ensures refused { IfErr result IsClockRefusal }
 {
     match machine.now() {
@@ -74,6 +77,7 @@ fn seconds_of<M: Machine>(told: Option<i64>, machine: &mut M) -> Result<i64, Ref
     ensures told { IfSome told (λ seconds. result ≡ Ok seconds) }
     ensures files { KeepsFiles M.file_bytes M.sheet_bytes machine.old machine.new }
     ensures shows { M.shows machine.new ≡ M.shows machine.old }
+    ensures paths { M.paths machine.new ≡ M.paths machine.old }
     ensures refused { IfErr result IsClockRefusal }
 {
     match told {
@@ -94,6 +98,7 @@ pub(crate) fn visit_day<S: Alter, M: Machine>(
     ensures day { IfOk result (IsDayAt (moment_of told (M.clock machine.old)) desk.now.zone) }
     ensures files { KeepsFiles M.file_bytes M.sheet_bytes machine.old machine.new }
     ensures shows { M.shows machine.new ≡ M.shows machine.old }
+    ensures asked { M.paths machine.new ≡ M.paths machine.old }
     ensures in_range { IfOk result IsDay }
     ensures told { IfSome told (λ seconds.
         (HasDay seconds → result ≡ Ok (day_number seconds desk.now.zone)) × (¬ HasDay seconds → result ≡ Err Refusal.Clock)) }

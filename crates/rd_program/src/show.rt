@@ -1,9 +1,9 @@
 //! Shows what stands in a desk: the catalogue, and what the staff asks to see.
 
-ghost use Rattle.std.specs.Prelude.{◌≡◌, ◌≢◌, IfErr, IfOk, IsSome, OnOk};
+ghost use Rattle.std.specs.Prelude.{◌≡◌, ◌≢◌, ◌⊎◌, IfErr, IfOk, IsSome, OnOk};
 ghost use Rattle.std.specs.Io.KnownBytes.{Appends};
 ghost use Rattle.rd_policy.specs.Days.{IsDay};
-ghost use Rattle.rd_protocol.specs.Requests.{IsRequest};
+ghost use Rattle.rd_protocol.specs.Requests.{IsForStaff, IsRequest};
 ghost use Rattle.rd_commands.specs.Refusals.{IsOfDevice};
 ghost use Rattle.rd_commands.specs.Shown.{IsShowable};
 ghost use Rattle.rd_program.specs.Asking.{RefusesOnce};
@@ -79,9 +79,10 @@ pub(crate) fn show<S: Alter + Drop, W: Write>(
         (record { badge = asker.badge; what = what }) stood
         (W.contents output.old) (W.contents output.new)) desk.old.store desk.new.store) }
     ensures refused { IfErr result (RefusesShow (W.contents output.old) (W.contents output.new)) }
-    ensures due { IsSome asker.badge → IfErr result (IsDueOn S.Store (λ day. day ≡ asker.day)
+    ensures due { IsSome asker.badge ⊎ ¬ IsForStaff what → IfErr result (IsDueOn S.Store (λ day. day ≡ asker.day)
         (record { badge = asker.badge; what = what }) desk.old.store desk.new.store) }
     ensures opened { IfErr result IsOfOpenDesk }
+    ensures dated { IfErr result (λ refusal. refusal ≢ Refusal.Clock) }
     ensures same { LeavesDesk S.Store IsSame desk.old.store desk.new.store }
 {
     let told = answer_of(alloc, what, asker, desk);

@@ -1,24 +1,23 @@
-use Rattle.std.proofs.Common.{◌≡◌, IfErr, IfOk, IfSome, OnOk, Some, codes, inl, option_map, refl, subst, sym}
+use Rattle.std.proofs.Common.{◌≡◌, IfErr, IfOk, IfSome, OnOk, ap, codes, inl, subst, sym}
 use Rattle.std.proofs.lemmas.Result.{IfErr-weaker}
 use Rattle.rd_commands.specs.Asks.{AsksADesk, AsksCheckOf, AsksFile, AsksFiles, AsksNew, AsksVisits, IsFileAsk, IsFilesAsk, IsInitAsk, IsServeAsk, TellsInRows, TellsOnOutput}
 use Rattle.rd_commands.specs.Cat.{Refuses, Serves}
 use Rattle.std.specs.Io.KnownBytes.{Appends}
-use Rattle.rd_program.specs.Leaves.{LeavesBy, LeavesRefused, StandsThere}
+use Rattle.rd_program.specs.Leaves.{LeavesBy, LeavesRefused, OnEnded, StandsThere}
 use Rattle.rd_commands.specs.Listed.{Lists, RefusesList}
 use Rattle.rd_program.specs.Serving.{RefusesServe, serve_text}
 use Rattle.rd_program.proofs.Answered.{once_kept, once_never}
-use Rattle.rd_program.proofs.Imported.{err_whole, ok_whole, whole_is}
+use Rattle.rd_program.proofs.Imported.{ended_whole, err_whole, ok_whole, whole_is}
 use Rattle.rd_program.proofs.Inited.{at_err_both, left_as, made_as, on_both}
+use Rattle.rd_program.proofs.Left.{on_ended_always}
 use Rattle.rd_program.proofs.LeftBy.{no_refusal}
 use Rattle.rd_program.proofs.Filed.{stands_nowhere}
 use Rattle.rd_commands.proofs.Ran.{as_asked}
-use Rattle.httparse.specs.Grammar.{trim_ows}
-use Rattle.sha2.specs.Sha256.{sha256}
 use Rattle.std.specs.Prelude.{IsSome}
 use Rattle.rd_program.specs.Filing.{GivesFile, IsOfImage}
 use Rattle.rd_program.specs.Showing.{AnswersBy}
-use Rattle.rd_program.specs.Asked.{IsUnaskedBy}
-use Rattle.rd_program.specs.Rows.{ImportsBy}
+use Rattle.rd_program.specs.Asked.{AsksBy, IsClockDueBy, IsUnaskedBy}
+use Rattle.rd_program.specs.Rows.{ImportsBy, RefusesSheetBy}
 use Rattle.rd_program.specs.Visiting.{ServesBy}
 use Rattle.rd_commands.specs.declared.done.Done.TheVariants.{InPart}
 use Rattle.rd_program.proofs.dispatch.perform.Goals as goal
@@ -357,11 +356,6 @@ returns-in-File-clause-untouched g c = λ of. c.cat.ensures.same
 pub returns-in-File-clause-back : goal.returns-in-File-clause-back
 returns-in-File-clause-back g c = λ shows had. subst (λ m. IsSome (g.M.Machine.left m)) (sym c.cat.ensures.same) had
 
-pub returns-in-File-clause-there : goal.returns-in-File-clause-there
-returns-in-File-clause-there g c =
-    subst (λ ask. OnOk c.whole.result (StandsThere (g.M.Machine.shows c.args.machine.now) (g.M.Machine.stands c.args.machine.now) ask)) (sym c.in-File.is)
-    (stands_nowhere c.whole.result)
-
 pub returns-in-Files-clause-answers : goal.returns-in-Files-clause-answers
 returns-in-Files-clause-answers g c =
     subst (λ ask. AnswersBy g.M.Disk.Store (g.M.Machine.clock c.args.machine.now) (g.M.Machine.stands c.args.machine.now) (g.M.Machine.left c.list.new.machine)
@@ -380,11 +374,6 @@ returns-in-Files-clause-untouched g c = λ of. c.list.ensures.same
 pub returns-in-Files-clause-back : goal.returns-in-Files-clause-back
 returns-in-Files-clause-back g c = λ shows had. subst (λ m. IsSome (g.M.Machine.left m)) (sym c.list.ensures.same) had
 
-pub returns-in-Files-clause-there : goal.returns-in-Files-clause-there
-returns-in-Files-clause-there g c =
-    subst (λ ask. OnOk c.whole-in-Files.result (StandsThere (g.M.Machine.shows c.args.machine.now) (g.M.Machine.stands c.args.machine.now) ask)) (sym c.in-Files.is)
-    (stands_nowhere c.whole-in-Files.result)
-
 pub returns-in-Init-clause-answers : goal.returns-in-Init-clause-answers
 returns-in-Init-clause-answers g c =
     subst (λ ask. AnswersBy g.M.Disk.Store (g.M.Machine.clock c.args.machine.now) (g.M.Machine.stands c.args.machine.now) (g.M.Machine.left c.init.new.machine)
@@ -397,11 +386,6 @@ returns-in-Init-clause-of_file g c =
 pub returns-in-Init-clause-untouched : goal.returns-in-Init-clause-untouched
 returns-in-Init-clause-untouched g c = λ of. absurd (subst IsOfImage c.in-Init.is of)
 
-pub returns-in-Init-clause-there : goal.returns-in-Init-clause-there
-returns-in-Init-clause-there g c =
-    subst (λ ask. OnOk c.whole-in-Init.result (StandsThere (g.M.Machine.shows c.args.machine.now) (g.M.Machine.stands c.args.machine.now) ask)) (sym c.in-Init.is)
-    (ok_whole _ c.init.result c.whole-in-Init.result c.whole-in-Init.ensures c.init.ensures.there)
-
 pub returns-in-Serve-clause-answers : goal.returns-in-Serve-clause-answers
 returns-in-Serve-clause-answers g c =
     subst (λ ask. AnswersBy g.M.Disk.Store (g.M.Machine.clock c.args.machine.now) (g.M.Machine.stands c.args.machine.now) (g.M.Machine.left c.serve.new.machine)
@@ -413,11 +397,6 @@ returns-in-Serve-clause-of_file g c =
 
 pub returns-in-Serve-clause-untouched : goal.returns-in-Serve-clause-untouched
 returns-in-Serve-clause-untouched g c = λ of. absurd (subst IsOfImage c.in-Serve.is of)
-
-pub returns-in-Serve-clause-there : goal.returns-in-Serve-clause-there
-returns-in-Serve-clause-there g c =
-    subst (λ ask. OnOk c.whole-in-Serve.result (StandsThere (g.M.Machine.shows c.args.machine.now) (g.M.Machine.stands c.args.machine.now) ask)) (sym c.in-Serve.is)
-    (ok_whole _ c.serve.result c.whole-in-Serve.result c.whole-in-Serve.ensures c.serve.ensures.there)
 
 pub returns-in-Import-clause-answers : goal.returns-in-Import-clause-answers
 returns-in-Import-clause-answers g c =
@@ -442,11 +421,6 @@ returns-in-Import-clause-of_file g c =
 pub returns-in-Import-clause-untouched : goal.returns-in-Import-clause-untouched
 returns-in-Import-clause-untouched g c = λ of. absurd (subst IsOfImage c.in-Import.is of)
 
-pub returns-in-Import-clause-there : goal.returns-in-Import-clause-there
-returns-in-Import-clause-there g c =
-    subst (λ ask. OnOk c.import.result (StandsThere (g.M.Machine.shows c.args.machine.now) (g.M.Machine.stands c.args.machine.now) ask)) (sym c.in-Import.is)
-    c.import.ensures.there
-
 pub returns-in-Once-clause-answers : goal.returns-in-Once-clause-answers
 returns-in-Once-clause-answers g c =
     subst (λ ask. AnswersBy g.M.Disk.Store (g.M.Machine.clock c.args.machine.now) (g.M.Machine.stands c.args.machine.now) (g.M.Machine.left c.ask_once.new.machine)
@@ -458,11 +432,6 @@ returns-in-Once-clause-of_file g c =
 
 pub returns-in-Once-clause-untouched : goal.returns-in-Once-clause-untouched
 returns-in-Once-clause-untouched g c = λ of. absurd (subst IsOfImage c.in-Once.is of)
-
-pub returns-in-Once-clause-there : goal.returns-in-Once-clause-there
-returns-in-Once-clause-there g c =
-    subst (λ ask. OnOk c.ask_once.result (StandsThere (g.M.Machine.shows c.args.machine.now) (g.M.Machine.stands c.args.machine.now) ask)) (sym c.in-Once.is)
-    c.ask_once.ensures.there
 
 pub returns-in-File-clause-serves : goal.returns-in-File-clause-serves
 returns-in-File-clause-serves g c =
@@ -499,3 +468,107 @@ returns-in-Once-clause-serves g c =
     subst (λ ask. OnOk c.ask_once.result (ServesBy g.M.Disk.Store g.M.Door.Door.told g.M.Door.Door.coming (g.M.Machine.door c.args.machine.now) (g.M.Machine.door c.ask_once.new.machine)
     (g.M.Machine.stands c.args.machine.now) (g.M.Machine.left c.ask_once.new.machine) ask)) (sym c.in-Once.is)
     (stands_nowhere c.ask_once.result)
+
+-- ---- the store, the clock and the sheet
+
+pub returns-in-File-clause-there : goal.returns-in-File-clause-there
+returns-in-File-clause-there g c =
+    subst (λ ask. OnEnded c.whole.result (StandsThere (g.M.Machine.shows c.args.machine.now) (g.M.Machine.stands c.args.machine.now) (g.M.Machine.left c.cat.new.machine) ask)) (sym c.in-File.is)
+    (on_ended_always c.whole.result _ tt)
+
+pub returns-in-File-clause-clock : goal.returns-in-File-clause-clock
+returns-in-File-clause-clock g c =
+    subst (λ ask. IfErr c.whole.result (IsClockDueBy g.M.Disk.Store (g.M.Machine.stands c.args.machine.now) (g.M.Machine.left c.cat.new.machine) ask)) (sym c.in-File.is) (no_refusal c.whole.result)
+
+pub returns-in-File-clause-bad_sheet : goal.returns-in-File-clause-bad_sheet
+returns-in-File-clause-bad_sheet g c =
+    subst (λ ask. IfErr c.whole.result (RefusesSheetBy (g.M.Files.sheet_bytes c.args.machine.now) ask)) (sym c.in-File.is) (no_refusal c.whole.result)
+
+pub returns-in-Files-clause-there : goal.returns-in-Files-clause-there
+returns-in-Files-clause-there g c =
+    subst (λ ask. OnEnded c.whole-in-Files.result (StandsThere (g.M.Machine.shows c.args.machine.now) (g.M.Machine.stands c.args.machine.now) (g.M.Machine.left c.list.new.machine) ask)) (sym c.in-Files.is)
+    (on_ended_always c.whole-in-Files.result _ tt)
+
+pub returns-in-Files-clause-clock : goal.returns-in-Files-clause-clock
+returns-in-Files-clause-clock g c =
+    subst (λ ask. IfErr c.whole-in-Files.result (IsClockDueBy g.M.Disk.Store (g.M.Machine.stands c.args.machine.now) (g.M.Machine.left c.list.new.machine) ask)) (sym c.in-Files.is) (no_refusal c.whole-in-Files.result)
+
+pub returns-in-Files-clause-bad_sheet : goal.returns-in-Files-clause-bad_sheet
+returns-in-Files-clause-bad_sheet g c =
+    subst (λ ask. IfErr c.whole-in-Files.result (RefusesSheetBy (g.M.Files.sheet_bytes c.args.machine.now) ask)) (sym c.in-Files.is) (no_refusal c.whole-in-Files.result)
+
+pub returns-in-Init-clause-there : goal.returns-in-Init-clause-there
+returns-in-Init-clause-there g c =
+    subst (λ ask. OnEnded c.whole-in-Init.result (StandsThere (g.M.Machine.shows c.args.machine.now) (g.M.Machine.stands c.args.machine.now) (g.M.Machine.left c.init.new.machine) ask)) (sym c.in-Init.is)
+    (ended_whole _ c.init.result c.whole-in-Init.result c.whole-in-Init.ensures c.init.ensures.there)
+
+pub returns-in-Init-clause-clock : goal.returns-in-Init-clause-clock
+returns-in-Init-clause-clock g c =
+    subst (λ ask. IfErr c.whole-in-Init.result (IsClockDueBy g.M.Disk.Store (g.M.Machine.stands c.args.machine.now) (g.M.Machine.left c.init.new.machine) ask)) (sym c.in-Init.is) (no_refusal c.whole-in-Init.result)
+
+pub returns-in-Init-clause-bad_sheet : goal.returns-in-Init-clause-bad_sheet
+returns-in-Init-clause-bad_sheet g c =
+    subst (λ ask. IfErr c.whole-in-Init.result (RefusesSheetBy (g.M.Files.sheet_bytes c.args.machine.now) ask)) (sym c.in-Init.is) (no_refusal c.whole-in-Init.result)
+
+pub returns-in-Serve-clause-there : goal.returns-in-Serve-clause-there
+returns-in-Serve-clause-there g c =
+    subst (λ ask. OnEnded c.whole-in-Serve.result (StandsThere (g.M.Machine.shows c.args.machine.now) (g.M.Machine.stands c.args.machine.now) (g.M.Machine.left c.serve.new.machine) ask)) (sym c.in-Serve.is)
+    (ended_whole _ c.serve.result c.whole-in-Serve.result c.whole-in-Serve.ensures c.serve.ensures.there)
+
+pub returns-in-Serve-clause-clock : goal.returns-in-Serve-clause-clock
+returns-in-Serve-clause-clock g c =
+    subst (λ ask. IfErr c.whole-in-Serve.result (IsClockDueBy g.M.Disk.Store (g.M.Machine.stands c.args.machine.now) (g.M.Machine.left c.serve.new.machine) ask)) (sym c.in-Serve.is) (no_refusal c.whole-in-Serve.result)
+
+pub returns-in-Serve-clause-bad_sheet : goal.returns-in-Serve-clause-bad_sheet
+returns-in-Serve-clause-bad_sheet g c =
+    subst (λ ask. IfErr c.whole-in-Serve.result (RefusesSheetBy (g.M.Files.sheet_bytes c.args.machine.now) ask)) (sym c.in-Serve.is) (no_refusal c.whole-in-Serve.result)
+
+pub returns-in-Import-clause-there : goal.returns-in-Import-clause-there
+returns-in-Import-clause-there g c =
+    subst (λ ask. OnEnded c.import.result (StandsThere (g.M.Machine.shows c.args.machine.now) (g.M.Machine.stands c.args.machine.now) (g.M.Machine.left c.import.new.machine) ask)) (sym c.in-Import.is)
+    c.import.ensures.there
+
+pub returns-in-Import-clause-clock : goal.returns-in-Import-clause-clock
+returns-in-Import-clause-clock g c =
+    subst (λ ask. IfErr c.import.result (IsClockDueBy g.M.Disk.Store (g.M.Machine.stands c.args.machine.now) (g.M.Machine.left c.import.new.machine) ask)) (sym c.in-Import.is) c.import.ensures.clock
+
+pub returns-in-Import-clause-bad_sheet : goal.returns-in-Import-clause-bad_sheet
+returns-in-Import-clause-bad_sheet g c =
+    subst (λ ask. IfErr c.import.result (RefusesSheetBy (g.M.Files.sheet_bytes c.args.machine.now) ask)) (sym c.in-Import.is) c.import.ensures.bad_sheet
+
+pub returns-in-Once-clause-there : goal.returns-in-Once-clause-there
+returns-in-Once-clause-there g c =
+    subst (λ ask. OnEnded c.ask_once.result (StandsThere (g.M.Machine.shows c.args.machine.now) (g.M.Machine.stands c.args.machine.now) (g.M.Machine.left c.ask_once.new.machine) ask)) (sym c.in-Once.is)
+    c.ask_once.ensures.there
+
+pub returns-in-Once-clause-clock : goal.returns-in-Once-clause-clock
+returns-in-Once-clause-clock g c =
+    subst (λ ask. IfErr c.ask_once.result (IsClockDueBy g.M.Disk.Store (g.M.Machine.stands c.args.machine.now) (g.M.Machine.left c.ask_once.new.machine) ask)) (sym c.in-Once.is) c.ask_once.ensures.clock
+
+pub returns-in-Once-clause-bad_sheet : goal.returns-in-Once-clause-bad_sheet
+returns-in-Once-clause-bad_sheet g c =
+    subst (λ ask. IfErr c.ask_once.result (RefusesSheetBy (g.M.Files.sheet_bytes c.args.machine.now) ask)) (sym c.in-Once.is) (no_refusal c.ask_once.result)
+
+pub returns-in-File-clause-asked : goal.returns-in-File-clause-asked
+returns-in-File-clause-asked g c =
+    subst (λ ask. AsksBy (g.M.Machine.paths c.args.machine.now) ask (g.M.Machine.paths c.cat.new.machine)) (sym c.in-File.is) (ap g.M.Machine.paths c.cat.ensures.same)
+
+pub returns-in-Files-clause-asked : goal.returns-in-Files-clause-asked
+returns-in-Files-clause-asked g c =
+    subst (λ ask. AsksBy (g.M.Machine.paths c.args.machine.now) ask (g.M.Machine.paths c.list.new.machine)) (sym c.in-Files.is) (ap g.M.Machine.paths c.list.ensures.same)
+
+pub returns-in-Init-clause-asked : goal.returns-in-Init-clause-asked
+returns-in-Init-clause-asked g c =
+    subst (λ ask. AsksBy (g.M.Machine.paths c.args.machine.now) ask (g.M.Machine.paths c.init.new.machine)) (sym c.in-Init.is) c.init.ensures.asked
+
+pub returns-in-Serve-clause-asked : goal.returns-in-Serve-clause-asked
+returns-in-Serve-clause-asked g c =
+    subst (λ ask. AsksBy (g.M.Machine.paths c.args.machine.now) ask (g.M.Machine.paths c.serve.new.machine)) (sym c.in-Serve.is) c.serve.ensures.asked
+
+pub returns-in-Import-clause-asked : goal.returns-in-Import-clause-asked
+returns-in-Import-clause-asked g c =
+    subst (λ ask. AsksBy (g.M.Machine.paths c.args.machine.now) ask (g.M.Machine.paths c.import.new.machine)) (sym c.in-Import.is) c.import.ensures.asked
+
+pub returns-in-Once-clause-asked : goal.returns-in-Once-clause-asked
+returns-in-Once-clause-asked g c =
+    subst (λ ask. AsksBy (g.M.Machine.paths c.args.machine.now) ask (g.M.Machine.paths c.ask_once.new.machine)) (sym c.in-Once.is) c.ask_once.ensures.asked

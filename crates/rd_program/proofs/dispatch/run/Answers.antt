@@ -1,4 +1,4 @@
-use Rattle.std.proofs.Common.{◌≡◌, ◌∙◌, Err, Ok, Some, arith, codes, inl, inr, refl, subst, sym}
+use Rattle.std.proofs.Common.{◌≡◌, ◌∙◌, ◌≤◌, Err, IfSome, Ok, Some, arith, codes, inl, inr, refl, subst, sym}
 use Rattle.std.specs.Prelude.{⊤}
 use Rattle.rd_program.specs.Asking.{TellsCheck}
 use Rattle.rd_commands.specs.Input.{ReadsUpTo}
@@ -6,7 +6,7 @@ use Rattle.rd_commands.specs.Refusals.{status_of}
 use Rattle.rd_program.specs.Serving.{serve_text}
 use Rattle.rd_commands.specs.RefusalLines.{Tells}
 use Rattle.rd_commands.specs.Versions.{RefusesVersion}
-use Rattle.rd_commands.specs.declared.refusal.Refusal.TheVariants.{NoMemory}
+use Rattle.rd_commands.specs.declared.refusal.Refusal.TheVariants.{BadSheet, NoMemory}
 use Rattle.rd_commands.specs.declared.words.Question.TheVariants.{Catalogue, Check, Show}
 use Rattle.httparse.specs.Grammar.{trim_ows}
 use Rattle.sha2.specs.Sha256.{sha256}
@@ -15,17 +15,18 @@ use Rattle.rd_commands.specs.Refusals.{IsOfDevice}
 use Rattle.rd_program.specs.Leaves.{IsDayBy, moment_of}
 use Rattle.rd_program.specs.Showing.{EndsWith, FindsStore, found_by, what_of}
 use Rattle.rd_commands.proofs.HelpLine.{help_not_taken}
-use Rattle.rd_program.specs.Rows.{TakesSheetIn}
-use Rattle.rd_program.proofs.RowLemmas.{imports_by}
+use Rattle.rd_program.specs.Rows.{IsBadSheetDue, TakesSheetIn}
+use Rattle.rd_program.proofs.RowLemmas.{import_at_1, imports_by, no_memory_sheet, sheet_of_words}
 use Rattle.rd_program.specs.Serving.{IsUnaskedRefusal}
-use Rattle.rd_program.proofs.Unasked.{always, command_at, unasked_by}
+use Rattle.rd_program.proofs.Unasked.{always, command_at, import_clock, once_clock, unasked_by}
 use Rattle.rd_program.proofs.Visiting.{serves_by}
-use Rattle.rd_program.proofs.Filed.{files_done, help_told, of_image, one_file_done}
+use Rattle.rd_program.proofs.Filed.{files_done, files_refused, help_told, of_image, one_file_done, one_file_refused}
 use Rattle.rd_commands.proofs.Asked.{help_asked, no_fault_in}
 use Rattle.std.proofs.KnownBytes.{Keeps-refl}
 use Rattle.rd_program.proofs.Answered.{check_asks, check_of_desk, export_is_whole, show_is_whole}
 use Rattle.rd_program.proofs.Imported.{done_lines, import_tells, in_part_is_one, not_in_rows, one_is_some, rows_of, rows_tell}
 use Rattle.rd_program.proofs.Left.{none_still, still_left}
+use Rattle.rd_program.proofs.Named.{asks_by, asks_none, command_of_store, has_both_by, one_of_status}
 use Rattle.rd_program.proofs.Showing.{memory_no_accession, once_due, once_finds, once_not_shown, once_shows}
 use Rattle.rd_program.proofs.LeftBy.{import_leaves, import_names, once_leaves, once_names, serve_leaves, serve_refused}
 use Rattle.rd_commands.proofs.Ran.{is_cut, kept_is_cut, no_sound_file, not_done, of_all, of_known, reads_few, reads_no_input, reads_of_kind, tells}
@@ -295,8 +296,14 @@ pub returns-in-Err-perform-clause-import_told : goal.returns-in-Err-perform-clau
 returns-in-Err-perform-clause-import_told g c = λ some store key sheet moment rule asks.
     let names = import_names g.M.Disk.Store (g.M.Machine.clock c.args.machine.now) (g.M.Machine.left c.args.machine.now) (g.M.Machine.stands c.args.machine.now) (g.M.Machine.left c.perform.new.machine)
     c.in-Ok.ask store key sheet moment rule (g.W.Write.contents c.args.output.now) (g.W.Write.contents c.perform.new.output) c.in-Err-perform.refused (c.in-Ok.ensures.read.import store key sheet moment rule asks) c.in-Err-perform.ensures.leaves_refused in
-    inr (tells _ c.in-Err-perform.refused _ _ _
-    (c.in-Err-perform.ensures.not_imported (import_tells _ c.in-Ok.ask c.in-Ok.ensures.read (store, key, sheet, moment, rule, asks)), names)
+    inr (tells _ c.in-Err-perform.refused _ _ _ (
+      c.in-Err-perform.ensures.not_imported (import_tells _ c.in-Ok.ask c.in-Ok.ensures.read (store, key, sheet, moment, rule, asks)),
+      names,
+      import_clock g.M.Disk.Store (g.M.Machine.stands c.args.machine.now) (g.M.Machine.left c.perform.new.machine) c.in-Err-perform.refused store moment rule c.in-Ok.ask key sheet
+          (c.in-Ok.ensures.read.import store key sheet moment rule asks) c.in-Err-perform.ensures.clock,
+      sheet_of_words (g.M.Files.sheet_bytes c.args.machine.now) c.in-Ok.ask c.in-Err-perform.refused store key sheet moment rule (c.in-Ok.ensures.read.import store key sheet moment rule asks)
+          c.in-Err-perform.ensures.bad_sheet,
+    )
     c.tell_refusal.ensures.status c.tell_refusal.ensures.told)
 
 pub returns-in-Err-clause-imported : goal.returns-in-Err-clause-imported
@@ -308,7 +315,7 @@ pub returns-in-Err-clause-import_told : goal.returns-in-Err-clause-import_told
 returns-in-Err-clause-import_told g c = λ some store key sheet moment rule asks.
     let none = c.in-Err.ensures.unread (inr (inr (inr (inr (inl (store, key, sheet, moment, rule, asks)))))) in
     let memory = c.tell_unread.ensures.memory none in
-    inr (tells _ NoMemory _ _ _ (inr (inl (inr (inr (inr (inr refl)))), memory.1), tt) memory.0 (c.tell_unread.ensures.no_memory none))
+    inr (tells _ NoMemory _ _ _ (inr (inl (inr (inr (inr (inr refl)))), memory.1), tt, tt, no_memory_sheet (g.M.Files.sheet_bytes c.args.machine.now sheet)) memory.0 (c.tell_unread.ensures.no_memory none))
 
 -- ---- a desk that is asked once
 
@@ -346,8 +353,10 @@ returns-in-Err-perform-clause-check_told g c = λ some store key acc moment rule
     c.in-Ok.ask store (Some key) (Check acc) moment rule (g.W.Write.contents c.args.output.now) (g.W.Write.contents c.perform.new.output) c.in-Err-perform.refused read c.in-Err-perform.ensures.leaves_refused in
     let due = once_due g.M.Disk.Store (g.M.Machine.clock c.args.machine.now) (g.M.Machine.stands c.args.machine.now) (g.M.Machine.left c.perform.new.machine)
     (g.W.Write.contents c.args.output.now) (g.W.Write.contents c.perform.new.output) (Err c.in-Err-perform.refused)
-    store (Some key) (Check acc) moment rule c.in-Ok.ask read c.in-Err-perform.ensures.answers refl in
-    inr (tells _ c.in-Err-perform.refused _ _ _ (c.in-Err-perform.ensures.not_answered asked, names, due) c.tell_refusal.ensures.status c.tell_refusal.ensures.told)
+    store (Some key) (Check acc) moment rule c.in-Ok.ask read c.in-Err-perform.ensures.answers (inl refl) in
+    let clock = once_clock g.M.Disk.Store (g.M.Machine.stands c.args.machine.now) (g.M.Machine.left c.perform.new.machine) c.in-Err-perform.refused store moment rule c.in-Ok.ask (Some key) (Check acc)
+    read c.in-Err-perform.ensures.clock in
+    inr (tells _ c.in-Err-perform.refused _ _ _ (c.in-Err-perform.ensures.not_answered asked, names, due, clock) c.tell_refusal.ensures.status c.tell_refusal.ensures.told)
 
 pub returns-in-Err-perform-clause-export_told : goal.returns-in-Err-perform-clause-export_told
 returns-in-Err-perform-clause-export_told g c = λ some store key moment rule asks.
@@ -362,7 +371,9 @@ returns-in-Err-perform-clause-export_told g c = λ some store key moment rule as
       names,
       once_due g.M.Disk.Store (g.M.Machine.clock c.args.machine.now) (g.M.Machine.stands c.args.machine.now) (g.M.Machine.left c.perform.new.machine)
           (g.W.Write.contents c.args.output.now) (g.W.Write.contents c.perform.new.output) (Err c.in-Err-perform.refused)
-          store key Catalogue moment rule c.in-Ok.ask read c.in-Err-perform.ensures.answers,
+          store key Catalogue moment rule c.in-Ok.ask read c.in-Err-perform.ensures.answers (inr refl),
+      once_clock g.M.Disk.Store (g.M.Machine.stands c.args.machine.now) (g.M.Machine.left c.perform.new.machine) c.in-Err-perform.refused store moment rule c.in-Ok.ask key Catalogue read
+          c.in-Err-perform.ensures.clock,
     ) c.tell_refusal.ensures.status c.tell_refusal.ensures.told
 
 pub returns-in-Err-clause-sound : goal.returns-in-Err-clause-sound
@@ -374,13 +385,13 @@ pub returns-in-Err-clause-check_told : goal.returns-in-Err-clause-check_told
 returns-in-Err-clause-check_told g c = λ some store key acc moment rule asks.
     let none = c.in-Err.ensures.unread (inr (inr (inr (inr (inr (inr (inl (acc, (store, key, moment, rule, asks))))))))) in
     let memory = c.tell_unread.ensures.memory none in
-    inr (tells _ NoMemory _ _ _ (inl (inr (inl (inr refl)), memory.1), tt, tt) memory.0 (c.tell_unread.ensures.no_memory none))
+    inr (tells _ NoMemory _ _ _ (inl (inr (inl (inr refl)), memory.1), tt, tt, tt) memory.0 (c.tell_unread.ensures.no_memory none))
 
 pub returns-in-Err-clause-export_told : goal.returns-in-Err-clause-export_told
 returns-in-Err-clause-export_told g c = λ some store key moment rule asks.
     let none = c.in-Err.ensures.unread (inr (inr (inr (inr (inr (inl (store, key, moment, rule, asks))))))) in
     let memory = c.tell_unread.ensures.memory none in
-    tells _ NoMemory _ _ _ ((inl (inr (inl (inr refl)), memory.1), memory_no_accession), tt, λ there. tt) memory.0 (c.tell_unread.ensures.no_memory none)
+    tells _ NoMemory _ _ _ ((inl (inr (inl (inr refl)), memory.1), memory_no_accession), tt, tt, tt) memory.0 (c.tell_unread.ensures.no_memory none)
 
 -- ---- the version
 
@@ -519,8 +530,10 @@ returns-in-Err-perform-clause-show_refused g c = λ some store key what moment r
     store (Some key) (Show what) moment rule c.in-Ok.ask asks c.in-Err-perform.ensures.answers (what_of what) refl in
     let due = once_due g.M.Disk.Store (g.M.Machine.clock c.args.machine.now) (g.M.Machine.stands c.args.machine.now) (g.M.Machine.left c.perform.new.machine)
     (g.W.Write.contents c.args.output.now) (g.W.Write.contents c.perform.new.output) (Err c.in-Err-perform.refused)
-    store (Some key) (Show what) moment rule c.in-Ok.ask asks c.in-Err-perform.ensures.answers refl in
-    tells _ c.in-Err-perform.refused _ _ _ (why, names, due) c.tell_refusal.ensures.status c.tell_refusal.ensures.told
+    store (Some key) (Show what) moment rule c.in-Ok.ask asks c.in-Err-perform.ensures.answers (inl refl) in
+    let clock = once_clock g.M.Disk.Store (g.M.Machine.stands c.args.machine.now) (g.M.Machine.left c.perform.new.machine) c.in-Err-perform.refused store moment rule c.in-Ok.ask (Some key) (Show what)
+    asks c.in-Err-perform.ensures.clock in
+    tells _ c.in-Err-perform.refused _ _ _ (why, names, due, clock) c.tell_refusal.ensures.status c.tell_refusal.ensures.told
 
 pub returns-in-Err-clause-shown : goal.returns-in-Err-clause-shown
 returns-in-Err-clause-shown g c = λ zero store key what moment rule asked.
@@ -531,7 +544,7 @@ pub returns-in-Err-clause-show_refused : goal.returns-in-Err-clause-show_refused
 returns-in-Err-clause-show_refused g c = λ some store key what moment rule asked.
     let none = c.in-Err.ensures.unread (inr (inr (inr (inr (inr (inr (inr (store, key, what, moment, rule, asked)))))))) in
     let memory = c.tell_unread.ensures.memory none in
-    tells _ NoMemory _ _ _ ((inl (inr (inl (inr refl)), memory.1), memory_no_accession), tt, tt) memory.0 (c.tell_unread.ensures.no_memory none)
+    tells _ NoMemory _ _ _ ((inl (inr (inl (inr refl)), memory.1), memory_no_accession), tt, tt, tt) memory.0 (c.tell_unread.ensures.no_memory none)
 
 pub returns-in-Ok-perform-clause-show_leaves : goal.returns-in-Ok-perform-clause-show_leaves
 returns-in-Ok-perform-clause-show_leaves g c = λ store key what moment rule asked.
@@ -701,7 +714,14 @@ returns-in-Ok-perform-clause-rows_in_part g c = λ one store key sheet moment ru
 
 pub returns-in-Err-perform-clause-rows_in_part : goal.returns-in-Err-perform-clause-rows_in_part
 returns-in-Err-perform-clause-rows_in_part g c = λ one store key sheet moment rule asked.
-    inr (tells (λ _. ⊤) c.in-Err-perform.refused _ _ _ tt c.tell_refusal.ensures.status c.tell_refusal.ensures.told)
+    let read = c.in-Ok.ensures.read.import store key sheet moment rule asked in
+    let bad = import_at_1 _ _ c.in-Err-perform.refused (c.in-Err-perform.ensures.not_imported (import_tells _ c.in-Ok.ask c.in-Ok.ensures.read (store, key, sheet, moment, rule, asked)))
+    (sym c.tell_refusal.ensures.status ∙ one) in
+    inr (
+      tells (λ refusal. refusal ≡ BadSheet) c.in-Err-perform.refused _ _ _ bad c.tell_refusal.ensures.status c.tell_refusal.ensures.told,
+      subst (λ refusal. IfSome (g.M.Files.sheet_bytes c.args.machine.now sheet) (λ bytes. IsBadSheetDue bytes refusal)) bad
+          (sheet_of_words (g.M.Files.sheet_bytes c.args.machine.now) c.in-Ok.ask c.in-Err-perform.refused store key sheet moment rule read c.in-Err-perform.ensures.bad_sheet),
+    )
 
 pub returns-in-Err-clause-rows_in_part : goal.returns-in-Err-clause-rows_in_part
 returns-in-Err-clause-rows_in_part g c = λ one. absurd (c.tell_unread.ensures.not_refused one)
@@ -726,3 +746,92 @@ pub returns-in-Err-clause-unasked : goal.returns-in-Err-clause-unasked
 returns-in-Err-clause-unasked g c = λ store moment rule asks.
     let none = c.in-Err.ensures.unread (command_at _ store moment rule asks) in
     always _ (moment_of moment (g.M.Machine.clock c.args.machine.now)) (tells IsUnaskedRefusal NoMemory _ _ _ (inr (inr refl)) (c.tell_unread.ensures.memory none).0 (c.tell_unread.ensures.no_memory none))
+
+-- ---- words that are no command
+
+pub returns-in-Ok-perform-clause-untaken_untouched : goal.returns-in-Ok-perform-clause-untaken_untouched
+returns-in-Ok-perform-clause-untaken_untouched g c = λ none. absurd (none c.in-Ok.ensures.taken)
+
+pub returns-in-Err-perform-clause-untaken_untouched : goal.returns-in-Err-perform-clause-untaken_untouched
+returns-in-Err-perform-clause-untaken_untouched g c = λ none. absurd (none c.in-Ok.ensures.taken)
+
+pub returns-in-Ok-perform-clause-mistake : goal.returns-in-Ok-perform-clause-mistake
+returns-in-Ok-perform-clause-mistake g c = λ none. absurd (none c.in-Ok.ensures.taken)
+
+pub returns-in-Err-perform-clause-mistake : goal.returns-in-Err-perform-clause-mistake
+returns-in-Err-perform-clause-mistake g c = λ none. absurd (none c.in-Ok.ensures.taken)
+
+pub returns-in-Err-clause-mistake : goal.returns-in-Err-clause-mistake
+returns-in-Err-clause-mistake g c = λ none. elim c.tell_unread.ensures.one_of [
+  | inl two ↦ inl two
+  | inr other ↦ elim other [
+    | inl help ↦ inr (inl (help_asked _ c.in-Err.unread help c.in-Err.ensures.told))
+    | inr more ↦ elim more [
+      | inl version ↦ inr (inr (inl (version_asked _ c.in-Err.unread version c.in-Err.ensures.told)))
+      | inr memory ↦ inr (inr (inr (tells (λ refusal. refusal ≡ NoMemory) NoMemory _ _ _ refl (c.tell_unread.ensures.memory memory).0 (c.tell_unread.ensures.no_memory memory))))
+    ]
+  ]
+]
+
+-- ---- the store that is named
+
+pub returns-in-Ok-perform-clause-there : goal.returns-in-Ok-perform-clause-there
+returns-in-Ok-perform-clause-there g c = λ well store names.
+    has_both_by (g.M.Machine.shows c.args.machine.now) (g.M.Machine.stands c.args.machine.now) (g.M.Machine.left c.perform.new.machine) _ c.in-Ok.ask store c.in-Ok.ensures.read names
+    c.in-Ok-perform.ensures.there
+
+pub returns-in-Err-perform-clause-there : goal.returns-in-Err-perform-clause-there
+returns-in-Err-perform-clause-there g c = λ well store names.
+    let some = not_done c.in-Err-perform.refused in
+    has_both_by (g.M.Machine.shows c.args.machine.now) (g.M.Machine.stands c.args.machine.now) (g.M.Machine.left c.perform.new.machine) _ c.in-Ok.ask store c.in-Ok.ensures.read names
+    (c.in-Err-perform.ensures.there (one_of_status (status_of c.in-Err-perform.refused) (subst (λ s. s ≤ 1) c.tell_refusal.ensures.status well) some))
+
+pub returns-in-Err-clause-there : goal.returns-in-Err-clause-there
+returns-in-Err-clause-there g c = λ well store names.
+    let memory = c.tell_unread.ensures.memory (c.in-Err.ensures.unread (command_of_store _ store names)) in
+    let three : c.tell_unread.result ≡ 3 = memory.0 in absurd (omega (arith, well))
+
+-- ---- why a file is not given
+
+pub returns-in-Err-perform-clause-file_told : goal.returns-in-Err-perform-clause-file_told
+returns-in-Err-perform-clause-file_told g c = λ some kind path slot other asks.
+    of_known (g.M.Files.file_bytes c.args.machine.now path) (λ image why. tells _ c.in-Err-perform.refused _ _ _ why c.tell_refusal.ensures.status c.tell_refusal.ensures.told)
+    (one_file_refused (g.M.Files.file_bytes c.args.machine.now) (g.W.Write.contents c.args.output.now) (g.W.Write.contents c.perform.new.output) c.in-Err-perform.refused
+    c.in-Ok.ask kind path slot other (c.in-Ok.ensures.read.file kind path slot asks) c.in-Err-perform.ensures.of_file)
+
+pub returns-in-Err-perform-clause-list_file_told : goal.returns-in-Err-perform-clause-list_file_told
+returns-in-Err-perform-clause-list_file_told g c = λ some kind path other asks.
+    of_known (g.M.Files.file_bytes c.args.machine.now path) (λ image why. tells _ c.in-Err-perform.refused _ _ _ why c.tell_refusal.ensures.status c.tell_refusal.ensures.told)
+    (files_refused (g.M.Files.file_bytes c.args.machine.now) (g.W.Write.contents c.args.output.now) (g.W.Write.contents c.perform.new.output) c.in-Err-perform.refused
+    c.in-Ok.ask kind path other (c.in-Ok.ensures.read.files kind path asks) c.in-Err-perform.ensures.of_file)
+
+pub returns-in-Ok-perform-clause-file_told : goal.returns-in-Ok-perform-clause-file_told
+returns-in-Ok-perform-clause-file_told g c = λ some kind path slot other asked.
+    absurd (not_in_rows _ c.in-Ok.ask c.in-Ok.ensures.read (c.in-Ok-perform.ensures.in_part (c.status.ensures.in_part some)) (inl (kind, path, slot, asked)))
+
+pub returns-in-Ok-perform-clause-list_file_told : goal.returns-in-Ok-perform-clause-list_file_told
+returns-in-Ok-perform-clause-list_file_told g c = λ some kind path other asked.
+    absurd (not_in_rows _ c.in-Ok.ask c.in-Ok.ensures.read (c.in-Ok-perform.ensures.in_part (c.status.ensures.in_part some)) (inr (inl (kind, path, asked))))
+
+pub returns-in-Err-clause-file_told : goal.returns-in-Err-clause-file_told
+returns-in-Err-clause-file_told g c = λ some kind path slot other asked.
+    let none = c.in-Err.ensures.unread (inl (kind, path, slot, asked)) in
+    let memory = c.tell_unread.ensures.memory none in
+    of_all (g.M.Files.file_bytes c.args.machine.now path) (λ image. tells _ NoMemory _ _ _ memory.1 memory.0 (c.tell_unread.ensures.no_memory none))
+
+pub returns-in-Err-clause-list_file_told : goal.returns-in-Err-clause-list_file_told
+returns-in-Err-clause-list_file_told g c = λ some kind path other asked.
+    let none = c.in-Err.ensures.unread (inr (inl (kind, path, asked))) in
+    let memory = c.tell_unread.ensures.memory none in
+    of_all (g.M.Files.file_bytes c.args.machine.now path) (λ image. tells _ NoMemory _ _ _ memory.1 memory.0 (c.tell_unread.ensures.no_memory none))
+
+pub returns-in-Ok-perform-clause-asked : goal.returns-in-Ok-perform-clause-asked
+returns-in-Ok-perform-clause-asked g c = λ store names.
+    asks_by (g.M.Machine.paths c.args.machine.now) (g.M.Machine.paths c.perform.new.machine) _ c.in-Ok.ask store c.in-Ok.ensures.read names c.perform.ensures.asked
+
+pub returns-in-Err-perform-clause-asked : goal.returns-in-Err-perform-clause-asked
+returns-in-Err-perform-clause-asked g c = λ store names.
+    asks_by (g.M.Machine.paths c.args.machine.now) (g.M.Machine.paths c.perform.new.machine) _ c.in-Ok.ask store c.in-Ok.ensures.read names c.perform.ensures.asked
+
+pub returns-in-Err-clause-asked : goal.returns-in-Err-clause-asked
+returns-in-Err-clause-asked g c = λ store names. asks_none (g.M.Machine.paths c.args.machine.now) store

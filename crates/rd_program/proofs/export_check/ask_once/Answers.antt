@@ -1,10 +1,10 @@
 use Rattle.std.proofs.Common.{◌∙◌, IsTrue, option_map, subst, sym}
 use Rattle.sha2.specs.Sha256.{sha256}
 use Rattle.rd_program.specs.Leaves.{IsDayAt, LeavesDesk, StepsOf, moment_of}
-use Rattle.rd_program.proofs.Filed.{on_ok_always}
-use Rattle.rd_program.proofs.Showing.{answers_once, not_opened_once}
-use Rattle.rd_program.proofs.Left.{desk_left, gives_back, unopened_left}
-use Rattle.rd_program.proofs.Unasked.{unasked}
+use Rattle.rd_program.proofs.Showing.{answers_once, not_opened_once, passed_on}
+use Rattle.rd_program.proofs.Named.{asked_then}
+use Rattle.rd_program.proofs.Left.{desk_left, gives_back, has_both, on_ended_always, opening_fails, unopened_left}
+use Rattle.rd_program.proofs.Unasked.{clock_ended, opening_no_clock, unasked}
 use Rattle.rd_program.proofs.export_check.ask_once.Goals as goal
 
 pub returns-clause-back : goal.returns-clause-back
@@ -48,9 +48,31 @@ returns-in_err-desk-clause-answers g c =
     (g.W.Write.contents c.args.output.now) c.args.ask c.from_residual.result c.in_err-desk.field-0.0 c.from_residual.ensures.1 c.in_err-desk.ensures.refused
 
 pub returns-clause-there : goal.returns-clause-there
-returns-clause-there g c = on_ok_always c.tell_asked-told.result _ c.in_ok-desk.ensures.there
+returns-clause-there g c =
+    on_ended_always c.tell_asked-told.result _ (has_both (g.M.Machine.shows c.args.machine.now) (g.M.Machine.stands c.args.machine.now c.args.ask.store.now) (g.M.Machine.left c.release.new.self) _
+    c.in_ok-desk.ensures.there (λ shows. c.release.ensures.back (subst (λ b. IsTrue b) (sym (c.tell_asked-told.ensures.shows ∙ c.open_desk.ensures.shows)) shows)))
+
+pub returns-in_err-desk-clause-there : goal.returns-in_err-desk-clause-there
+returns-in_err-desk-clause-there g c = opening_fails c.from_residual.result c.in_err-desk.field-0.0 _ c.from_residual.ensures.1 c.in_err-desk.ensures.refused
+
+pub returns-clause-clock : goal.returns-clause-clock
+returns-clause-clock g c =
+    clock_ended c.tell_asked-told.result g.M.Disk.Store c.args.ask.when.seconds (g.M.Machine.stands c.args.machine.now c.args.ask.store.now) (g.M.Machine.left c.release.new.self)
+    c.in_ok-desk.desk.store c.tell_asked-told.new.desk.store c.into_connection.result c.in_ok-desk.ensures.opened (c.into_connection.ensures.same ∙ c.into_store.ensures)
+    c.release.ensures.left c.tell_asked-told.ensures.clock
+
+pub returns-in_err-desk-clause-clock : goal.returns-in_err-desk-clause-clock
+returns-in_err-desk-clause-clock g c =
+    passed_on c.from_residual.result c.in_err-desk.field-0.0 _ c.from_residual.ensures.1
+    (opening_no_clock g.M.Disk.Store c.args.ask.when.seconds (g.M.Machine.stands c.args.machine.now c.args.ask.store.now) (g.M.Machine.left c.open_desk.new.machine)
+    c.in_err-desk.field-0.0 c.in_err-desk.ensures.refused)
 
 pub returns-clause-unasked : goal.returns-clause-unasked
 returns-clause-unasked g c =
     unasked c.args.ask.when.seconds (g.M.Machine.clock c.args.machine.now) (g.M.Machine.clock c.open_desk.new.machine) c.tell_asked-told.result c.in_ok-desk.ensures.clock
     c.tell_asked-told.ensures.dayless
+
+pub returns-clause-asked : goal.returns-clause-asked
+returns-clause-asked g c =
+    asked_then (g.M.Machine.paths c.args.machine.now) (g.M.Machine.paths c.open_desk.new.machine) (g.M.Machine.paths c.release.new.self) c.args.ask.store.now c.open_desk.ensures.asked
+    (c.release.ensures.asked ∙ c.tell_asked-told.ensures.asked)

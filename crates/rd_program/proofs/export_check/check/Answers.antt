@@ -3,6 +3,7 @@ use Rattle.std.proofs.KnownBytes.{Keeps-refl}
 use Rattle.rd_protocol.specs.declared.request.What.TheVariants.{Check}
 use Rattle.rd_program.specs.Showing.{Finds, OfDesk, request_of}
 use Rattle.rd_program.proofs.Showing.{finds_desk, found_due, passed_on}
+use Rattle.rd_program.proofs.Dated.{of_memory, of_reply, of_write}
 use Rattle.rd_program.proofs.Stepped.{check_made}
 use Rattle.rd_program.proofs.export_check.check.Goals as goal
 
@@ -34,7 +35,7 @@ pub returns-in_err-found-clause-due : goal.returns-in_err-found-clause-due
 returns-in_err-found-clause-due g c = λ there.
     let asked = c.answer_of-told in
     passed_on c.from_residual-in_err-found.result c.in_err-found.field-0.0 _ c.from_residual-in_err-found.ensures.1
-    (found_due g.S.Store c.args.desk.now.store asked.new.desk.store c.args.asker.day c.args.asker.badge (Check c.args.acc) asked.result asked.ensures.responds there
+    (found_due g.S.Store c.args.desk.now.store asked.new.desk.store c.args.asker.day c.args.asker.badge (Check c.args.acc) asked.result asked.ensures.responds (inl there)
     c.in_err-found.field-0.0 (sym c.in_err-found.ensures.is))
 
 pub returns-in_err-found-clause-refused : goal.returns-in_err-found-clause-refused
@@ -55,3 +56,28 @@ pub returns-in_err-write_whole-in-Changed-clause-checks : goal.returns-in_err-wr
 returns-in_err-write_whole-in-Changed-clause-checks g c =
     let asked = c.answer_of-told in
     check_made g.S.Store c.args.desk.now.store asked.new.desk.store c.args.asker.day asked.result c.args.asker.badge c.args.acc asked.ensures.responds
+
+-- ---- the day is known
+
+pub returns-in_err-sound-clause-dated : goal.returns-in_err-sound-clause-dated
+returns-in_err-sound-clause-dated g c =
+    passed_on c.from_residual.result c.in_err-sound.field-0.0 _ c.from_residual.ensures.1 (of_memory c.in_err-sound.field-0.0 c.in_err-sound.ensures.refused)
+
+pub returns-in_err-changed-clause-dated : goal.returns-in_err-changed-clause-dated
+returns-in_err-changed-clause-dated g c =
+    passed_on c.from_residual-in_err-changed.result c.in_err-changed.field-0.0 _ c.from_residual-in_err-changed.ensures.1
+    (of_memory c.in_err-changed.field-0.0 c.in_err-changed.ensures.refused)
+
+pub returns-in_err-found-clause-dated : goal.returns-in_err-found-clause-dated
+returns-in_err-found-clause-dated g c =
+    passed_on c.from_residual-in_err-found.result c.in_err-found.field-0.0 _ c.from_residual-in_err-found.ensures.1 (of_reply c.in_err-found.field-0.0 c.in_err-found.ensures.of)
+
+pub returns-in_err-write_whole-in-Sound-clause-dated : goal.returns-in_err-write_whole-in-Sound-clause-dated
+returns-in_err-write_whole-in-Sound-clause-dated g c =
+    passed_on c.from_residual-in_err-write_whole-in-Sound.result c.in_err-write_whole-in-Sound.field-0.0 _ c.from_residual-in_err-write_whole-in-Sound.ensures.1
+    (of_write c.in_err-write_whole-in-Sound.field-0.0 c.in_err-write_whole-in-Sound.ensures.device)
+
+pub returns-in_err-write_whole-in-Changed-clause-dated : goal.returns-in_err-write_whole-in-Changed-clause-dated
+returns-in_err-write_whole-in-Changed-clause-dated g c =
+    passed_on c.from_residual-in_err-write_whole-in-Changed.result c.in_err-write_whole-in-Changed.field-0.0 _ c.from_residual-in_err-write_whole-in-Changed.ensures.1
+    (of_write c.in_err-write_whole-in-Changed.field-0.0 c.in_err-write_whole-in-Changed.ensures.device)

@@ -3,12 +3,14 @@ use Rattle.std.proofs.lemmas.Int.{to_z-of_z}
 use Rattle.std.specs.Prelude.{IsSome}
 use Rattle.std.proofs.KnownBytes.{Keeps-refl}
 use Rattle.std.proofs.lemmas.Result.{IfErr-weaker}
+use Rattle.rd_policy.specs.Zones.{day_number}
 use Rattle.sha2.specs.Sha256.{sha256}
 use Rattle.rd_commands.specs.Asks.{IsCheckOf}
 use Rattle.rd_protocol.specs.declared.request.What.TheVariants as request
 use Rattle.rd_program.specs.Leaves.{IsDayAt, moment_of}
 use Rattle.rd_program.specs.Showing.{asked_of, request_of, what_of, what_to_show}
-use Rattle.rd_program.proofs.Showing.{badge_there, clock_due, clock_no_accession, due_asked, finds_asked, no_check, passed_on, shows_asked}
+use Rattle.rd_program.proofs.Showing.{badge_there, clock_due, clock_no_accession, due_asked, finds_asked, key_of_check, key_of_show, no_check, passed_on, shows_asked}
+use Rattle.rd_program.proofs.Unasked.{dayless_on, no_clock_on}
 use Rattle.rd_program.proofs.export_check.tell_asked.Goals as goal
 
 pub returns-in_err-day-clause-not_shown : goal.returns-in_err-day-clause-not_shown
@@ -17,7 +19,7 @@ returns-in_err-day-clause-not_shown g c = λ what is.
     (inl (inr (inl c.in_err-day.ensures.refused), Keeps-refl _), clock_no_accession c.in_err-day.field-0.0 c.in_err-day.ensures.refused)
 
 pub returns-in_err-day-clause-due : goal.returns-in_err-day-clause-due
-returns-in_err-day-clause-due g c = λ some.
+returns-in_err-day-clause-due g c = λ judged.
     passed_on c.from_residual.result c.in_err-day.field-0.0 _ c.from_residual.ensures.1
     (clock_due g.S.Store (IsDayAt (moment_of c.args.ask.now.when.seconds (g.M.Machine.clock c.args.machine.now)) c.args.desk.now.zone)
     (request_of (option_map sha256 (option_map (λ key. key.now) c.args.ask.now.key)) (asked_of c.args.ask.now.question)) c.args.desk.now.store c.args.desk.now.store
@@ -44,14 +46,13 @@ pub returns-in-Catalogue-clause-found : goal.returns-in-Catalogue-clause-found
 returns-in-Catalogue-clause-found g c = λ acc is. absurd (subst (IsCheckOf acc) c.in-Catalogue.is is)
 
 pub returns-in-Catalogue-clause-due : goal.returns-in-Catalogue-clause-due
-returns-in-Catalogue-clause-due g c = λ some.
-    let there = subst (λ badge. IsSome badge) (sym c.badge_of-badge.ensures) (badge_there c.args.ask.now.key some) in
+returns-in-Catalogue-clause-due g c = λ judged.
     let fits : FitsSigned w32 c.in_ok-day.day = search rules in
     due_asked c.show.result g.S.Store c.args.desk.now.store c.show.new.desk.store _
     (IsDayAt (moment_of c.args.ask.now.when.seconds (g.M.Machine.clock c.args.machine.now)) c.args.desk.now.zone)
     (subst (IsDayAt (moment_of c.args.ask.now.when.seconds (g.M.Machine.clock c.args.machine.now)) c.args.desk.now.zone) (sym (to_z-of_z w32 c.in_ok-day.day fits)) c.in_ok-day.ensures.day)
     c.badge_of-badge.result (option_map sha256 (option_map (λ key. key.now) c.args.ask.now.key)) c.badge_of-badge.ensures request.Catalogue (asked_of c.args.ask.now.question)
-    (sym (ap asked_of c.in-Catalogue.is)) (c.show.ensures.due there)
+    (sym (ap asked_of c.in-Catalogue.is)) (c.show.ensures.due (inr (λ staff. staff)))
 
 pub returns-in-Check-clause-shown : goal.returns-in-Check-clause-shown
 returns-in-Check-clause-shown g c = λ what is. absurd (no_check c.in-Check.acc what (sym (ap what_to_show c.in-Check.is) ∙ is))
@@ -69,7 +70,8 @@ returns-in-Check-clause-found g c = λ acc is.
     c.badge_of-badge.result (option_map sha256 (option_map (λ key. key.now) c.args.ask.now.key)) c.in-Check.acc acc c.badge_of-badge.ensures same c.check.ensures.found
 
 pub returns-in-Check-clause-due : goal.returns-in-Check-clause-due
-returns-in-Check-clause-due g c = λ some.
+returns-in-Check-clause-due g c = λ judged.
+    let some = key_of_check c.args.ask.now.key c.in-Check.acc c.args.ask.now.question c.in-Check.is judged in
     let there = subst (λ badge. IsSome badge) (sym c.badge_of-badge.ensures) (badge_there c.args.ask.now.key some) in
     let fits : FitsSigned w32 c.in_ok-day.day = search rules in
     due_asked c.check.result g.S.Store c.args.desk.now.store c.check.new.desk.store _
@@ -99,11 +101,31 @@ pub returns-in-Show-clause-found : goal.returns-in-Show-clause-found
 returns-in-Show-clause-found g c = λ acc is. absurd (subst (IsCheckOf acc) c.in-Show.is is)
 
 pub returns-in-Show-clause-due : goal.returns-in-Show-clause-due
-returns-in-Show-clause-due g c = λ some.
+returns-in-Show-clause-due g c = λ judged.
+    let some = key_of_show c.args.ask.now.key c.in-Show.shown c.args.ask.now.question c.in-Show.is judged in
     let there = subst (λ badge. IsSome badge) (sym c.badge_of-badge.ensures) (badge_there c.args.ask.now.key some) in
     let fits : FitsSigned w32 c.in_ok-day.day = search rules in
     due_asked c.show-in-Show.result g.S.Store c.args.desk.now.store c.show-in-Show.new.desk.store _
     (IsDayAt (moment_of c.args.ask.now.when.seconds (g.M.Machine.clock c.args.machine.now)) c.args.desk.now.zone)
     (subst (IsDayAt (moment_of c.args.ask.now.when.seconds (g.M.Machine.clock c.args.machine.now)) c.args.desk.now.zone) (sym (to_z-of_z w32 c.in_ok-day.day fits)) c.in_ok-day.ensures.day)
     c.badge_of-badge.result (option_map sha256 (option_map (λ key. key.now) c.args.ask.now.key)) c.badge_of-badge.ensures c.what_of.result (asked_of c.args.ask.now.question)
-    (c.what_of.ensures.asks ∙ sym (ap asked_of c.in-Show.is)) (c.show-in-Show.ensures.due there)
+    (c.what_of.ensures.asks ∙ sym (ap asked_of c.in-Show.is)) (c.show-in-Show.ensures.due (inl there))
+
+-- ---- the clock
+
+pub returns-in_err-day-clause-clock : goal.returns-in_err-day-clause-clock
+returns-in_err-day-clause-clock g c =
+    passed_on c.from_residual.result c.in_err-day.field-0.0 _ c.from_residual.ensures.1
+    (dayless_on c.args.ask.now.when.seconds (λ seconds. day_number seconds c.args.desk.now.zone) c.args.desk.now.store c.in_err-day.field-0.0 c.in_err-day.ensures.told)
+
+pub returns-in-Catalogue-clause-clock : goal.returns-in-Catalogue-clause-clock
+returns-in-Catalogue-clause-clock g c =
+    IfErr-weaker c.show.result _ _ (no_clock_on c.args.ask.now.when.seconds c.args.desk.now.store c.show.new.desk.store) c.show.ensures.dated
+
+pub returns-in-Check-clause-clock : goal.returns-in-Check-clause-clock
+returns-in-Check-clause-clock g c =
+    IfErr-weaker c.check.result _ _ (no_clock_on c.args.ask.now.when.seconds c.args.desk.now.store c.check.new.desk.store) c.check.ensures.dated
+
+pub returns-in-Show-clause-clock : goal.returns-in-Show-clause-clock
+returns-in-Show-clause-clock g c =
+    IfErr-weaker c.show-in-Show.result _ _ (no_clock_on c.args.ask.now.when.seconds c.args.desk.now.store c.show-in-Show.new.desk.store) c.show-in-Show.ensures.dated

@@ -1,10 +1,11 @@
 use Rattle.std.proofs.Common.{◌∙◌, IsTrue, ap, subst, sym}
 use Rattle.sha2.specs.Sha256.{sha256}
 use Rattle.rd_program.specs.Leaves.{IsDayAt, LeavesDesk, TakesIn, moment_of}
-use Rattle.rd_program.proofs.Filed.{on_ok_always}
-use Rattle.rd_program.proofs.RowLemmas.{sheet_ended}
-use Rattle.rd_program.proofs.Unasked.{unasked}
-use Rattle.rd_program.proofs.Left.{desk_left, gives_back, unopened_left}
+use Rattle.rd_program.proofs.RowLemmas.{opening_no_sheet, sheet_ended, shown_before}
+use Rattle.rd_program.proofs.Showing.{passed_on}
+use Rattle.rd_program.proofs.Unasked.{clock_ended, opening_no_clock, unasked}
+use Rattle.rd_program.proofs.Named.{asked_then}
+use Rattle.rd_program.proofs.Left.{desk_left, gives_back, has_both, on_ended_always, opening_fails, unopened_left}
 use Rattle.rd_program.proofs.import.import.Goals as goal
 
 pub returns-clause-back : goal.returns-clause-back
@@ -45,9 +46,43 @@ returns-clause-rows g c =
     c.in_ok-desk.ensures.opened c.import_sheet-imported.ensures.takes.lasts (c.into_connection.ensures.same ∙ c.into_store.ensures) c.release.ensures.left c.import_sheet-imported.ensures.rows
 
 pub returns-clause-there : goal.returns-clause-there
-returns-clause-there g c = on_ok_always c.import_sheet-imported.result _ c.in_ok-desk.ensures.there
+returns-clause-there g c =
+    on_ended_always c.import_sheet-imported.result _ (has_both (g.M.Machine.shows c.args.machine.now) (g.M.Machine.stands c.args.machine.now c.args.ask.store.now) (g.M.Machine.left c.release.new.self) _
+    c.in_ok-desk.ensures.there (λ shows. c.release.ensures.back (subst (λ b. IsTrue b) (sym (c.import_sheet-imported.ensures.shows ∙ c.open_desk.ensures.shows)) shows)))
+
+pub returns-in_err-desk-clause-there : goal.returns-in_err-desk-clause-there
+returns-in_err-desk-clause-there g c = opening_fails c.from_residual.result c.in_err-desk.field-0.0 _ c.from_residual.ensures.1 c.in_err-desk.ensures.refused
+
+pub returns-clause-clock : goal.returns-clause-clock
+returns-clause-clock g c =
+    clock_ended c.import_sheet-imported.result g.M.Disk.Store c.args.ask.when.seconds (g.M.Machine.stands c.args.machine.now c.args.ask.store.now) (g.M.Machine.left c.release.new.self)
+    c.in_ok-desk.desk.store c.import_sheet-imported.new.desk.store c.into_connection.result c.in_ok-desk.ensures.opened (c.into_connection.ensures.same ∙ c.into_store.ensures)
+    c.release.ensures.left c.import_sheet-imported.ensures.clock
+
+pub returns-in_err-desk-clause-clock : goal.returns-in_err-desk-clause-clock
+returns-in_err-desk-clause-clock g c =
+    passed_on c.from_residual.result c.in_err-desk.field-0.0 _ c.from_residual.ensures.1
+    (opening_no_clock g.M.Disk.Store c.args.ask.when.seconds (g.M.Machine.stands c.args.machine.now c.args.ask.store.now) (g.M.Machine.left c.open_desk.new.machine)
+    c.in_err-desk.field-0.0 c.in_err-desk.ensures.refused)
 
 pub returns-clause-unasked : goal.returns-clause-unasked
 returns-clause-unasked g c =
     unasked c.args.ask.when.seconds (g.M.Machine.clock c.args.machine.now) (g.M.Machine.clock c.open_desk.new.machine) c.import_sheet-imported.result c.in_ok-desk.ensures.clock
     c.import_sheet-imported.ensures.dayless
+
+-- ---- a sheet that is none
+
+pub returns-clause-bad_sheet : goal.returns-clause-bad_sheet
+returns-clause-bad_sheet g c =
+    shown_before c.import_sheet-imported.result (g.M.Files.sheet_bytes c.open_desk.new.machine c.args.ask.sheet.now) (g.M.Files.sheet_bytes c.args.machine.now c.args.ask.sheet.now)
+    (ap (λ sheets. sheets c.args.ask.sheet.now) c.in_ok-desk.ensures.files.1) c.import_sheet-imported.ensures.bad_sheet
+
+pub returns-in_err-desk-clause-bad_sheet : goal.returns-in_err-desk-clause-bad_sheet
+returns-in_err-desk-clause-bad_sheet g c =
+    passed_on c.from_residual.result c.in_err-desk.field-0.0 _ c.from_residual.ensures.1
+    (opening_no_sheet (g.M.Files.sheet_bytes c.args.machine.now c.args.ask.sheet.now) c.in_err-desk.field-0.0 c.in_err-desk.ensures.refused)
+
+pub returns-clause-asked : goal.returns-clause-asked
+returns-clause-asked g c =
+    asked_then (g.M.Machine.paths c.args.machine.now) (g.M.Machine.paths c.open_desk.new.machine) (g.M.Machine.paths c.release.new.self) c.args.ask.store.now c.open_desk.ensures.asked
+    (c.release.ensures.asked ∙ c.import_sheet-imported.ensures.asked)

@@ -1,4 +1,4 @@
-use Rattle.std.proofs.Common.{◌≡◌, Ok, inr, refl, rules, subst, sym}
+use Rattle.std.proofs.Common.{inr, refl, rules, subst, sym}
 use Rattle.std.specs.Io.KnownBytes.{Appends}
 use Rattle.rd_program.specs.Importing.{TellsAnswer, accession_line}
 use Rattle.rd_program.proofs.Imported.{accession_refused, none_of_line}

@@ -1,7 +1,7 @@
 use Rattle.std.proofs.Common.{◌∙◌, IsTrue, ap, rules, subst, sym}
 use Rattle.rd_program.specs.Doors.Place.{Port}
-use Rattle.rd_program.proofs.Filed.{on_ok_always}
-use Rattle.rd_program.proofs.Left.{gives_back}
+use Rattle.rd_program.proofs.Named.{asked_then}
+use Rattle.rd_program.proofs.Left.{gives_back, has_both, on_ended_always, opening_fails}
 use Rattle.rd_program.proofs.Visiting.{serves_door}
 use Rattle.rd_program.proofs.LeftBy.{lasts_left, opened_left, serve_ended, serve_not_begun, unserved_left}
 use Rattle.rd_program.proofs.Serving.{both_lines, ends, not_listening, not_opened}
@@ -76,4 +76,24 @@ returns-clause-visits g c =
     (c.into_connection.ensures.same ∙ c.into_store.ensures) c.release.ensures.left c.in_ok-served.ensures.count c.tell_ended.ensures.count c.in_ok-served.ensures.visits
 
 pub returns-clause-there : goal.returns-clause-there
-returns-clause-there g c = on_ok_always c.tell_ended.result _ c.in_ok-desk.ensures.there
+returns-clause-there g c =
+    on_ended_always c.tell_ended.result _ (has_both (g.M.Machine.shows c.args.machine.now) (g.M.Machine.stands c.args.machine.now c.args.ask.store.now) (g.M.Machine.left c.release.new.self) _
+    c.in_ok-desk.ensures.there (λ shows. c.release.ensures.back (subst (λ b. IsTrue b) (sym (c.serve_visits-served.ensures.shows ∙ c.open_desk.ensures.shows)) shows)))
+
+pub returns-in_err-served-clause-there : goal.returns-in_err-served-clause-there
+returns-in_err-served-clause-there g c =
+    on_ended_always c.from_residual-in_err-served.result _ (has_both (g.M.Machine.shows c.args.machine.now) (g.M.Machine.stands c.args.machine.now c.args.ask.store.now) (g.M.Machine.left c.release.new.self) _
+    c.in_ok-desk.ensures.there (λ shows. c.release.ensures.back (subst (λ b. IsTrue b) (sym (c.serve_visits-served.ensures.shows ∙ c.open_desk.ensures.shows)) shows)))
+
+pub returns-in_err-desk-clause-there : goal.returns-in_err-desk-clause-there
+returns-in_err-desk-clause-there g c = opening_fails c.from_residual.result c.in_err-desk.field-0.0 _ c.from_residual.ensures.1 c.in_err-desk.ensures.refused
+
+pub returns-clause-asked : goal.returns-clause-asked
+returns-clause-asked g c =
+    asked_then (g.M.Machine.paths c.args.machine.now) (g.M.Machine.paths c.open_desk.new.machine) (g.M.Machine.paths c.release.new.self) c.args.ask.store.now c.open_desk.ensures.asked
+    (c.release.ensures.asked ∙ c.serve_visits-served.ensures.asked)
+
+pub returns-in_err-served-clause-asked : goal.returns-in_err-served-clause-asked
+returns-in_err-served-clause-asked g c =
+    asked_then (g.M.Machine.paths c.args.machine.now) (g.M.Machine.paths c.open_desk.new.machine) (g.M.Machine.paths c.release.new.self) c.args.ask.store.now c.open_desk.ensures.asked
+    (c.release.ensures.asked ∙ c.serve_visits-served.ensures.asked)

@@ -1,5 +1,6 @@
 use Rattle.std.proofs.Common.{sym}
 use Rattle.std.proofs.KnownBytes.{Keeps-refl}
+use Rattle.rd_program.proofs.Dated.{of_device, of_show}
 use Rattle.rd_program.proofs.Told.{of_open_desk}
 use Rattle.rd_program.proofs.Showing.{passed_on, show_refused, shown_due, shows_desk, shows_same}
 use Rattle.rd_program.proofs.show.show.Goals as goal
@@ -44,3 +45,14 @@ returns-in_err-answer-clause-refused g c =
 
 pub returns-in_err-answer-clause-opened : goal.returns-in_err-answer-clause-opened
 returns-in_err-answer-clause-opened g c = passed_on c.from_residual.result c.in_err-answer.field-0.0 _ c.from_residual.ensures.1 (of_open_desk _ c.in_err-answer.ensures.of)
+
+-- ---- the day is known
+
+pub returns-in_err-answer-clause-dated : goal.returns-in_err-answer-clause-dated
+returns-in_err-answer-clause-dated g c =
+    passed_on c.from_residual.result c.in_err-answer.field-0.0 _ c.from_residual.ensures.1 (of_show c.in_err-answer.field-0.0 c.in_err-answer.ensures.of)
+
+pub returns-in_err-write_shown-clause-dated : goal.returns-in_err-write_shown-clause-dated
+returns-in_err-write_shown-clause-dated g c =
+    passed_on c.from_residual-in_err-write_shown.result c.in_err-write_shown.field-0.0 _ c.from_residual-in_err-write_shown.ensures.1
+    (of_device c.in_err-write_shown.field-0.0 c.in_err-write_shown.ensures.device)

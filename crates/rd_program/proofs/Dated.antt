@@ -1,0 +1,30 @@
+-- Once the day is known no refusal is of the clock.
+use Rattle.std.proofs.Common.{◌≡◌, ◌≢◌, ◌∙◌, inl, inr, sym}
+use Rattle.rd_commands.specs.Refusals.{IsOfDevice}
+use Rattle.rd_commands.specs.declared.refusal.Refusal.{Refusal}
+use Rattle.rd_commands.specs.declared.refusal.Refusal.TheVariants.{Clock, Device, NoMemory}
+use Rattle.rd_program.specs.Asking.{IsReplyRefusal}
+use Rattle.rd_program.specs.Showing.{IsShowRefusal}
+
+pub of_memory : (refusal : Refusal) → refusal ≡ NoMemory → refusal ≢ Clock
+of_memory refusal is clock = cc (sym is ∙ clock)
+
+pub of_write : (refusal : Refusal) → refusal ≡ Device → refusal ≢ Clock
+of_write refusal is clock = cc (sym is ∙ clock)
+
+pub of_show : (refusal : Refusal) → IsShowRefusal refusal → refusal ≢ Clock
+of_show refusal (inl is) clock = cc (sym is ∙ clock)
+of_show refusal (inr (inl is)) clock = cc (sym is ∙ clock)
+of_show refusal (inr (inr is)) clock = cc (sym is ∙ clock)
+
+pub of_reply : (refusal : Refusal) → IsReplyRefusal refusal → refusal ≢ Clock
+of_reply refusal (inl is) clock = cc (sym is ∙ clock)
+of_reply refusal (inr (inl is)) clock = cc (sym is ∙ clock)
+of_reply refusal (inr (inr (inl is))) clock = cc (sym is ∙ clock)
+of_reply refusal (inr (inr (inr (inl is)))) clock = cc (sym is ∙ clock)
+of_reply refusal (inr (inr (inr (inr (inl is))))) clock = cc (sym is ∙ clock)
+of_reply refusal (inr (inr (inr (inr (inr is))))) clock = cc (sym is ∙ clock)
+
+pub of_device : (refusal : Refusal) → IsOfDevice refusal → refusal ≢ Clock
+of_device Clock device is = device
+of_device refusal device is = cc is

@@ -1,0 +1,99 @@
+-- The store that words name, and the connection to it.
+use Rattle.std.proofs.Common.{◌≡◌, ◌≢◌, ◌≤◌, Bool, ℕ, ℤ, List, Option, None, Some, arith, inl, inr, subst, sym, refl}
+use Rattle.sqlite.specs.Held.{Held}
+use Rattle.rd_commands.specs.Asks.{IsImportAsk, IsInitAsk, IsOnceAsk, IsServeAsk}
+use Rattle.rd_commands.specs.Commands.{IsAskOf, IsCommand}
+use Rattle.rd_commands.specs.declared.words.Ask.{Ask}
+use Rattle.rd_commands.specs.declared.words.Ask.TheVariants.{Import, Init, Once, Serve}
+use Rattle.rd_commands.specs.declared.words.Question.{Question}
+use Rattle.rd_commands.specs.declared.words.Question.TheVariants.{Catalogue, Check, Show}
+use Rattle.rd_program.specs.Asked.{AsksBy, NamesStore}
+use Rattle.rd_program.specs.Doors.{AsksNoOther, AsksPath}
+use Rattle.rd_program.specs.Leaves.{HasBoth, StandsThere}
+use Rattle.rd_program.proofs.Unasked.{command_at}
+
+module _ {S : Type 0} (shows : Bool) (stands : List ℕ → Option (Held S)) (left : Option (Held S)) where
+  init_both : (ask : Ask) (store key : List ℕ) → IsInitAsk store key ask → StandsThere shows stands left ask → HasBoth shows (stands store) left
+  init_both (Init ask) store key asks both = subst (λ s. HasBoth shows (stands s) left) asks.store_is both
+  init_both ask store key asks both = absurd asks
+
+  serve_both : (ask : Ask) (store : List ℕ) (port count : ℕ) (rule : List ℕ) → IsServeAsk store port count rule ask → StandsThere shows stands left ask
+      → HasBoth shows (stands store) left
+  serve_both (Serve ask) store port count rule asks both = subst (λ s. HasBoth shows (stands s) left) asks.store_is both
+  serve_both ask store port count rule asks both = absurd asks
+
+  import_both : (ask : Ask) (store key sheet : List ℕ) (moment : Option ℤ) (rule : List ℕ) → IsImportAsk store key sheet moment rule ask → StandsThere shows stands left ask
+      → HasBoth shows (stands store) left
+  import_both (Import ask) store key sheet moment rule asks both = subst (λ s. HasBoth shows (stands s) left) asks.store_is both
+  import_both ask store key sheet moment rule asks both = absurd asks
+
+  once_both : (ask : Ask) (store : List ℕ) (key : Option (List ℕ)) (asked : Question) (moment : Option ℤ) (rule : List ℕ) → IsOnceAsk store key asked moment rule ask
+      → StandsThere shows stands left ask → HasBoth shows (stands store) left
+  once_both (Once ask) store key asked moment rule asks both = subst (λ s. HasBoth shows (stands s) left) asks.store_is both
+  once_both ask store key asked moment rule asks both = absurd asks
+
+  -- the connection is the one for the store that the words name
+  pub has_both_by : (words : List (List ℕ)) (ask : Ask) (store : List ℕ) → IsAskOf words ask → NamesStore words store → StandsThere shows stands left ask
+      → HasBoth shows (stands store) left
+  has_both_by words ask store is (inl (key, asks)) = init_both ask store key (is.init store key asks)
+  has_both_by words ask store is (inr (inl (port, count, rule, asks))) = serve_both ask store port count rule (is.serve store port count rule asks)
+  has_both_by words ask store is (inr (inr (moment, rule, inl (key, sheet, asks)))) = import_both ask store key sheet moment rule (is.import store key sheet moment rule asks)
+  has_both_by words ask store is (inr (inr (moment, rule, inr (inl (key, asks))))) = once_both ask store key Catalogue moment rule (is.export store key moment rule asks)
+  has_both_by words ask store is (inr (inr (moment, rule, inr (inr (inl (key, acc, asks)))))) = once_both ask store (Some key) (Check acc) moment rule (is.check store key acc moment rule asks)
+  has_both_by words ask store is (inr (inr (moment, rule, inr (inr (inr (key, what, asks)))))) = once_both ask store (Some key) (Show what) moment rule (is.show store key what moment rule asks)
+
+-- ---- the connections that are asked for
+
+module _ (old new : Option (List (List ℕ))) where
+  no_other : (path : List ℕ) → AsksPath old path new → AsksNoOther old path new
+  no_other path = go old
+    where
+      go : (o : Option (List (List ℕ))) → AsksPath o path new → AsksNoOther o path new
+      go None asks = tt
+      go (Some before) asks = inr asks
+
+  init_asks : (ask : Ask) (store key : List ℕ) → IsInitAsk store key ask → AsksBy old ask new → AsksNoOther old store new
+  init_asks (Init ask) store key asks by = subst (λ s. AsksNoOther old s new) asks.store_is (no_other ask.store.now by)
+  init_asks ask store key asks by = absurd asks
+
+  serve_asks : (ask : Ask) (store : List ℕ) (port count : ℕ) (rule : List ℕ) → IsServeAsk store port count rule ask → AsksBy old ask new → AsksNoOther old store new
+  serve_asks (Serve ask) store port count rule asks by = subst (λ s. AsksNoOther old s new) asks.store_is (no_other ask.store.now by)
+  serve_asks ask store port count rule asks by = absurd asks
+
+  import_asks : (ask : Ask) (store key sheet : List ℕ) (moment : Option ℤ) (rule : List ℕ) → IsImportAsk store key sheet moment rule ask → AsksBy old ask new
+      → AsksNoOther old store new
+  import_asks (Import ask) store key sheet moment rule asks by = subst (λ s. AsksNoOther old s new) asks.store_is (no_other ask.store.now by)
+  import_asks ask store key sheet moment rule asks by = absurd asks
+
+  once_asks : (ask : Ask) (store : List ℕ) (key : Option (List ℕ)) (asked : Question) (moment : Option ℤ) (rule : List ℕ) → IsOnceAsk store key asked moment rule ask
+      → AsksBy old ask new → AsksNoOther old store new
+  once_asks (Once ask) store key asked moment rule asks by = subst (λ s. AsksNoOther old s new) asks.store_is (no_other ask.store.now by)
+  once_asks ask store key asked moment rule asks by = absurd asks
+
+  -- a command asks for no other than the one that the words name
+  pub asks_by : (words : List (List ℕ)) (ask : Ask) (store : List ℕ) → IsAskOf words ask → NamesStore words store → AsksBy old ask new → AsksNoOther old store new
+  asks_by words ask store is (inl (key, asks)) = init_asks ask store key (is.init store key asks)
+  asks_by words ask store is (inr (inl (port, count, rule, asks))) = serve_asks ask store port count rule (is.serve store port count rule asks)
+  asks_by words ask store is (inr (inr (moment, rule, inl (key, sheet, asks)))) = import_asks ask store key sheet moment rule (is.import store key sheet moment rule asks)
+  asks_by words ask store is (inr (inr (moment, rule, inr (inl (key, asks))))) = once_asks ask store key Catalogue moment rule (is.export store key moment rule asks)
+  asks_by words ask store is (inr (inr (moment, rule, inr (inr (inl (key, acc, asks)))))) = once_asks ask store (Some key) (Check acc) moment rule (is.check store key acc moment rule asks)
+  asks_by words ask store is (inr (inr (moment, rule, inr (inr (inr (key, what, asks)))))) = once_asks ask store (Some key) (Show what) moment rule (is.show store key what moment rule asks)
+
+-- nothing was asked for
+pub asks_none : (old : Option (List (List ℕ))) (path : List ℕ) → AsksNoOther old path old
+asks_none None path = tt
+asks_none (Some before) path = inl refl
+
+-- after a connection was asked for no more were
+pub asked_then : (old mid new : Option (List (List ℕ))) (path : List ℕ) → AsksPath old path mid → new ≡ mid → AsksPath old path new
+asked_then old mid new path asks same = subst (AsksPath old path) (sym same) asks
+
+-- words that name a store are a command
+pub command_of_store : (words : List (List ℕ)) (store : List ℕ) → NamesStore words store → IsCommand words
+command_of_store words store (inl (key, asks)) = inr (inr (inl (store, key, asks)))
+command_of_store words store (inr (inl (port, count, rule, asks))) = inr (inr (inr (inl (store, port, count, rule, asks))))
+command_of_store words store (inr (inr (moment, rule, asks))) = command_at words store moment rule asks
+
+-- a status of at most 1 that is not 0
+pub one_of_status : (status : ℕ) → status ≤ 1 → status ≢ 0 → status ≡ 1
+one_of_status status most some = omega (arith, most, some)
