@@ -6,14 +6,16 @@ installs as root if they are missing. Without PROGRAM it takes ./desk of this re
 staff may ask, since the desk says who may read the journal.
 
 Each request that can change something has a line when it comes and one with its status: who, why, what, and the body of
-a deed, a rule or a key. No line has a desk key, or a byte of an image. What changes nothing has none. Then nginx's
-processes are killed at any moment while commands come, 150 times or KILLS times: what was told done has a line."""
+a deed, a rule or a key. No line has a desk key, or a byte of an image. What changes nothing has none. No other log of
+nginx has the SHA-256 of a key, in whatever form its path comes, also while the desk is down. Then nginx's processes are
+killed at any moment while commands come, 150 times or KILLS times: what was told done has a line."""
 
 import contextlib
 import http.client
 import json
 import os
 import random
+import re
 import signal
 import socket
 import subprocess
@@ -24,7 +26,7 @@ import time
 import reading_room
 
 from client_cases import HOST, LIMIT, NOBODY, ROOM, STAFF, badge, bytes_of, digest, get
-from front_cases import Door, exchanged, refusal, request
+from front_cases import Door, refusal, request
 
 IMAGE = bytes_of("images", "museum.d64")
 RULE = b'{"audiences":["public"],"select":{"slot":2},"effect":"deny"}'
@@ -83,6 +85,8 @@ COMMANDS = [
     ("DELETE", "/images/15/rules/3", b"", 200, None),
     ("PUT", KEY_PATH, b'{"audience":"room"}', 200, None),
     ("DELETE", KEY_PATH.upper().replace("/BADGES", "/badges"), b"", 200, None),
+    ("PUT", f"http://localhost{KEY_PATH}", b'{"audience":"room"}', 200, None),
+    ("DELETE", f"http://localhost{KEY_PATH}", b"", 200, None),
     ("PUT", f"/accessions/701/d64/70/{digest(IMAGE)}", IMAGE, 200, ""),
     ("POST", "/images/15/check", b"", 200, ""),
     ("PUT", "/deeds/7", b"{}", 400, None),
@@ -98,7 +102,9 @@ def see_commands(seen, room, journal):
         label = f"{method} {path[:40]}"
         seen.same(f"{label}: status", status, asked(room, method, path, body, NAMES))
         lines = journal.wait(2)
-        wanted = two_lines(status, method, path, text(body) if written is None else written)
+        # a path is without the name of the site
+        at = path.removeprefix("http://localhost")
+        wanted = two_lines(status, method, at, text(body) if written is None else written)
         seen.same(label, wanted, [{name: line.get(name) for name in LASTING} for line in lines])
         seen.same(f"{label}: one request", 1, len({line["id"] for line in lines}))
         seen.same(f"{label}: in their order", True, lines[0]["at"] <= lines[1]["at"] <= time.time() + 1)
@@ -148,28 +154,107 @@ def see_none(seen, room, journal):
 
 
 def see_secrets(seen, room):
-    """No file of nginx has a key; the journal has the SHA-256 of a key and no byte of an image; other logs have
-    neither."""
-    number, journal = KEY_PATH.rpartition("/")[2], (room.folder / "journal").read_bytes()
-    seen.same("the SHA-256 of a key", True, number.encode() in journal)
+    """No file of nginx has a key. The journal has the SHA-256 of a key and no byte of an image."""
+    journal = (room.folder / "journal").read_bytes()
+    seen.same("the SHA-256 of a key", True, NUMBER.encode() in journal)
     seen.same("the bytes of an image", False, b"GUIDE" in journal)
     seen.same("a desk key", False, f'"{STAFF}"'.encode() in journal or b"Desk-Key" in journal)
-    for form in FORMS:
-        path = form.replace("NUMBER", number)
-        exchanged(socket.create_connection((HOST, room.staff_port)), request("DELETE", path, [("Desk-Key", STAFF)]))
-    time.sleep(0.3)
     logs = room.logs()
-    for label, words in (("its SHA-256", number), ("in capitals", number.upper()), ("half of it", number[:32])):
-        seen.same(f"the log of visits: {label}", False, words.encode() in logs)
     seen.same("who works and why are in no other log", False, b"anna" in logs or b"objection" in logs)
 
 
-# Forms of a path that name a key, or look as if.
-FORMS = [
-    "/badges/NUMBER", "http://localhost/badges/NUMBER", "//badges/NUMBER", "/%62adges/NUMBER", "/x/../badges/NUMBER",
-    "/badges/NUMBER?x", "/badges?NUMBER", "/BADGES/NUMBER", "/%2562adges/NUMBER", "/badges%2fNUMBER", "/images/NUMBER",
-    "/images?key=NUMBER", "/./badges//NUMBER",
+# The path of a key in other logs
+
+NUMBER = KEY_PATH.rpartition("/")[2]
+CODED = "".join(f"%{byte:02x}" for byte in NUMBER.encode())
+# Targets that nginx reads as the path of a key, in all its forms.
+OF_KEYS = [
+    KEY_PATH, f"/badges/{NUMBER.upper()}", f"/badges/{CODED}", f"{KEY_PATH}?x", f"{KEY_PATH}#x", f"{KEY_PATH}/",
+    f"http://localhost{KEY_PATH}", f"HTTP://LOCALHOST:80{KEY_PATH}", f"http://localhost/%62adges/{CODED}",
+    f"/{KEY_PATH}", f"///badges//{NUMBER}", f"/%62adges/{NUMBER}", f"/b%61d%67es/{NUMBER}",
+    f"/%62%61%64%67%65%73/{CODED.upper()}", f"/badges%2f{NUMBER}", f"/%2fbadges%2F{CODED}", f"/.{KEY_PATH}",
+    f"/x/..{KEY_PATH}", f"/x/%2e%2E{KEY_PATH}", f"/images/..%2fbadges/{CODED}", f"/badges/./{NUMBER}",
+    f"/badges/x/../{NUMBER}", f"/badges?{NUMBER}",
 ]
+# Targets with that number, or with that path, of which nginx makes another path.
+LIKE_KEYS = [
+    f"/BADGES/{NUMBER}", f"/%42adges/{NUMBER}", f"/%2562adges/{NUMBER}", f"/%2562adges/{CODED}",
+    f"/%2562adges/{CODED.replace('%', '%2525')}", f"/badge/{NUMBER}", f"/badge/{NUMBER[:40]}", f"/x/badges/{CODED}",
+    f"/images/{NUMBER}", f"/images/{CODED}", f"/images?key={NUMBER}", f"/images?key={CODED}", f"/x#{KEY_PATH}",
+    f"/staff/keys/{NUMBER}", f"badges/{NUMBER}", f"/a b{KEY_PATH}", f"/%zz{KEY_PATH}", f"/../..{KEY_PATH}",
+]
+# Lines that are no request, or one of a method that nobody has.
+NO_REQUESTS = [
+    f"{KEY_PATH}", f" {KEY_PATH} HTTP/1.1", f"get {KEY_PATH} HTTP/1.1", f"PUT\t{KEY_PATH} HTTP/1.1",
+    f"P-UT {KEY_PATH} HTTP/1.1", f"P_UT {KEY_PATH} HTTP/1.1", f"GET  {KEY_PATH} HTTP/1.1", f"GET {KEY_PATH}",
+    f"GET {KEY_PATH} HTTP/9.9", f"GET {KEY_PATH} HTTP/1.1 x", f"CONNECT {KEY_PATH} HTTP/1.1", f"\x16\x03 {KEY_PATH}",
+    NUMBER, f"GET {KEY_PATH}{'/' * 9000} HTTP/1.1",
+]
+# Each half of the number, in small and capital letters and in codes.
+FRAGMENTS = [
+    form.encode()
+    for half in (NUMBER[:32], NUMBER[32:], CODED[:96], CODED[96:])
+    for form in (half, half.upper(), half.replace("%", "%2525"))
+]
+# A line of the log of visits that is cut short.
+CUT = re.compile(r'\S+ \[\S+\] "([A-Za-z_-]+ (/badges/)?)?\.\.\." [0-9]+ [0-9]+ [0-9.]+\n')
+
+
+def see_numbers(seen, room):
+    """The log of visits has a line for each request, cut short where the path has the SHA-256 of a key. The log of
+    errors has no such path, and none of a key while the desk is down."""
+    for last, method in enumerate(("GET", "DELETE"), 3):
+        for target in (*OF_KEYS, *LIKE_KEYS):
+            see_cut(seen, room, f"127.0.4.{last}", f"{method} {target} HTTP/1.1")
+    for line in NO_REQUESTS:
+        see_cut(seen, room, "127.0.4.5", line)
+    room.stop_desk()
+    for last, method in enumerate(("GET", "DELETE"), 6):
+        for target in OF_KEYS:
+            see_cut(seen, room, f"127.0.4.{last}", f"{method} {target} HTTP/1.1")
+    room.start_desk()
+
+
+def see_cut(seen, room, address, line):
+    """What nginx logs of such a first line at each of its doors."""
+    fields = f"Host: localhost\r\nDesk-Key: {STAFF}\r\nConnection: close\r\n\r\n"
+    doors = {
+        "outside": Door(room, address, "outside").connected(),
+        "the staff's door": socket.create_connection((HOST, room.staff_port), LIMIT),
+        "HTTP": socket.create_connection((HOST, room.http_port), LIMIT),
+    }
+    for name, connection in doors.items():
+        visits, errors = (Tail(room.folder / log) for log in ("desk-visits.log", "error.log"))
+        send(connection, f"{line}\r\n{fields}".encode("latin-1"))
+        label = f"{line[:40]!r} .. {line[-20:]!r}, {name}{'' if room.desk else ', the desk is down'}"
+        seen.same(f"visits: {label}", [True], [bool(CUT.fullmatch(one)) for one in visits.lines()])
+        told = visits.read() + errors.read()
+        seen.same(f"logs: {label}", [], [one for one in FRAGMENTS if one in told])
+
+
+def send(connection, data):
+    """Sends the bytes of a request, and reads what comes until nginx ends the connection."""
+    with connection, contextlib.suppress(OSError):
+        connection.sendall(data)
+        while connection.recv(65536):
+            pass
+
+
+class Tail:
+    """What is written to a file from some point on."""
+
+    def __init__(self, path):
+        self.path, self.at = path, path.stat().st_size
+
+    def read(self):
+        return self.path.read_bytes()[self.at :]
+
+    def lines(self):
+        """Its lines, once there is one."""
+        end = time.monotonic() + SOON
+        while time.monotonic() < end and not self.read().endswith(b"\n"):
+            time.sleep(0.005)
+        return self.read().decode("latin-1").splitlines(keepends=True)
 
 
 def see_readers(seen, room):
@@ -309,7 +394,7 @@ def main():
         journal = Journal(room)
         for see in (see_commands, see_other_ways, see_none, see_unknown):
             see(seen, room, journal)
-        for see in (see_secrets, see_readers, see_cut_off):
+        for see in (see_secrets, see_numbers, see_readers, see_cut_off):
             see(seen, room)
         see_kills(seen, room, journal, int(words[1]) if len(words) > 1 else 150)
     sys.exit(seen.told())
