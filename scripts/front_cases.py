@@ -292,7 +292,8 @@ def see_journal(seen, room):
     staff, key = Door(room, HOST, "the staff's door"), ("Desk-Key", STAFF)
     staff.ask("PUT", "/deeds/9999", [key], b"{}")
     path = room.folder / "journal"
-    wait_until(lambda: path.stat().st_size > 0)
+    # nginx writes the second line after its reply
+    wait_until(lambda: b'"status":"400","method":"PUT","path":"/deeds/9999"' in path.read_bytes())
     lines = path.read_bytes()
     (room.folder / "journal-2026-11").write_bytes(lines * 2)
     (room.folder / "journal-2026-10.gz").write_bytes(gzip.compress(lines * 3))
