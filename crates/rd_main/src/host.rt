@@ -18,19 +18,19 @@ const SHEET_LIMIT: u64 = 67_108_864;
 
 /// The clock of the machine.
 #[derive(Clone, Copy)]
-pub(crate) struct HostClock<'a> {
-    rt: &'a HostRuntime,
+pub(crate) struct HostClock {
+    rt: HostRuntime,
     /// When the clock was made.
     start: Instant,
 }
 
-impl Clock for HostClock<'_> {
+impl Clock for HostClock {
     fn now(&mut self) -> Option<i64> {
-        seconds_now(self.rt)
+        seconds_now(&self.rt)
     }
 
     fn milliseconds(&mut self) -> Option<u64> {
-        u64::try_from(self.start.elapsed(self.rt).ok()?.as_millis()).ok()
+        u64::try_from(self.start.elapsed(&self.rt).ok()?.as_millis()).ok()
     }
 }
 
@@ -48,12 +48,12 @@ pub(crate) struct HostPorts<'a> {
     rt: &'a HostRuntime,
 }
 
-impl<'a> Ports<TcpDoor<HostClock<'a>>> for HostPorts<'a> {
+impl Ports<TcpDoor<HostClock>> for HostPorts<'_> {
     /// It also fails with `Failed` when the clock fails.
-    fn open(&self, port: u16) -> Result<TcpDoor<HostClock<'a>>, MachineFault> {
+    fn open(&self, port: u16) -> Result<TcpDoor<HostClock>, MachineFault> {
         let listener = TcpListener::bind(self.rt, (Ipv4Addr::LOCALHOST, port))?;
         let clock = HostClock {
-            rt: self.rt,
+            rt: *self.rt,
             start: Instant::now(self.rt)?,
         };
         Ok(TcpDoor::new(self.rt.alloc(), listener, clock))
@@ -69,9 +69,9 @@ pub(crate) struct Host<'a, D: Door + Drop, P: Ports<D> + Drop> {
     doors: Vec<D>,
 }
 
-impl<'a> Host<'a, TcpDoor<HostClock<'a>>, HostPorts<'a>> {
+impl<'a> Host<'a, TcpDoor<HostClock>, HostPorts<'a>> {
     /// The machine of the process.
-    pub(crate) fn new(rt: &'a HostRuntime) -> Host<'a, TcpDoor<HostClock<'a>>, HostPorts<'a>> {
+    pub(crate) fn new(rt: &'a HostRuntime) -> Host<'a, TcpDoor<HostClock>, HostPorts<'a>> {
         Host {
             rt,
             ports: HostPorts { rt },
