@@ -376,23 +376,4 @@ pub(crate) const RUNS: &[Run] = &[
         after: "version 2\n1\n1\n2\n",
         ..DEED_PUT
     },
-    Run {
-        name: "a CP/M image is put",
-        sorts: BOTH,
-        action: Action::Ask(&[Command::PutImage(15, Sample::Record)]),
-        question: "SELECT kind, length(bytes), name FROM image JOIN found ON found.acc = image.acc",
-        before: "version 2\n",
-        after: "version 2\n0|256256|HELLO.TXT\n",
-        ..DEED_PUT
-    },
-    Run {
-        name: "forty images are imported",
-        action: Action::Import(40),
-        stops: Stops::Drawn(100),
-        is_closed: true,
-        question: "SELECT count(*), min(acc), max(acc) FROM found",
-        before: "version 2\n0|NULL|NULL\n",
-        after: "version 2\n40|21|60\n",
-        ..IMPORTED
-    },
 ];
