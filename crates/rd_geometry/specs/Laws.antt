@@ -8,7 +8,7 @@ use Rattle.rd_geometry.specs.Places.{skewed, place_of_cpm_unit, CPM_SIZE, CPM_UN
 skewed-below : (s : ℕ) → s < 26 → skewed s < 26
 skewed-below s low = omega arith
 
--- and no two units of a track have the same
+-- no two units of a track have the same sector
 skewed-injective : (s t : ℕ) → s < 26 → t < 26 → skewed s ≡ skewed t → s ≡ t
 skewed-injective s t low_s low_t same = omega arith
 
