@@ -24,7 +24,7 @@ pub record IsRuleFor (desk : Desk) (acc : ℕ) (rule : Rule) : Type 0 where
 abbrev pub RulesAreInOrder : Type 0
 RulesAreInOrder = (desk : Desk) (acc : ℕ) → AreInOrder (rules_for desk acc)
 
--- and so are the takedowns of any accession before the rules of any deed
+-- the takedowns of any accession, and behind them the rules of any deed, are in order
 abbrev pub RulesOfBothAreInOrder : Type 0
 RulesOfBothAreInOrder = (desk : Desk) (acc deed : ℕ) → AreInOrder (rules_at desk Takedown acc ++ rules_at desk Deed deed)
 
