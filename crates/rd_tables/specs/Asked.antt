@@ -34,11 +34,11 @@ rising = record { collation = Binary; descending = false }
 abbrev pub equals : ℕ → ℕ → Term
 equals place parameter = op2 (Compare Eq Binary) (col 1 place) (col 0 parameter)
 
--- and is greater than one
+-- the column at a place is greater than a parameter
 abbrev pub greater : ℕ → ℕ → Term
 greater place parameter = op2 (Compare Gt Binary) (col 1 place) (col 0 parameter)
 
--- and is one or greater, and is one or less
+-- the column at a place is a parameter or greater
 abbrev pub at_least : ℕ → ℕ → Term
 at_least place parameter = op2 (Compare Ge Binary) (col 1 place) (col 0 parameter)
 
