@@ -38,7 +38,7 @@ link_same image other block same =
     ap₂ link_by (same_item image other start (start + CBM_BLOCK_LENGTH) 0 (λ _. same 0 (omega arith)))
     (same_item image other start (start + CBM_BLOCK_LENGTH) 1 (λ _. same 1 (omega arith)))
 
--- and so is a byte of an entry
+-- a byte of an entry is the same where that of the image is
 entry_byte : (image other blocks : List ℕ) (slot byte : ℕ)
     → slice_index image (place_of_cbm_entry blocks slot + byte) ≡ slice_index other (place_of_cbm_entry blocks slot + byte)
     → slice_index (entry_at image blocks slot) byte ≡ slice_index (entry_at other blocks slot) byte
@@ -78,7 +78,7 @@ file_byte : (image other blocks : List ℕ) → HasDescription image other block
 file_byte image other blocks has slot byte file from to =
     entry_byte image other blocks slot byte (has.same (place_of_cbm_entry blocks slot + byte) (byte_of_used_entry slot byte file from to refl))
 
--- and so are the starts of the chains
+-- the chains of a used entry start at the same blocks
 start_same : (image other blocks : List ℕ) → HasDescription image other blocks → (slot : ℕ) (way : Way) → IsFileSlot other blocks slot
     → start_of (entry_at image blocks slot) way ≡ start_of (entry_at other blocks slot) way
 start_same image other blocks has slot Data file =
@@ -196,7 +196,7 @@ sound_in _ cbm image blocks are slot is = record {
   };
 }
 
--- and the other way
+-- a slot that is a sound file's by the blocks of the directory is a sound file's slot
 sound_slot : (kind : Kind) → IsCbm kind → (image blocks : List ℕ) → AreDirectoryBlocks image blocks → (slot : ℕ) → IsSoundIn image blocks slot
     → IsSoundSlot kind image slot
 sound_slot Cpm8 cbm image blocks are slot is = absurd (not_cpm cbm)
@@ -251,7 +251,7 @@ bytes_alike kind cbm image other served agrees alike slot bytes among sound =
           ∙ cbm_joined kind cbm image are.chain are.used last refl;
     })
 
--- and so are the pieces of its record
+-- the pieces of a served file's record are the same
 found_pieces : (kind : Kind) → IsCbm kind → (image other served : List ℕ) → AgreesOnNeeded kind image other served → (blocks : List ℕ) → AreDirectoryBlocks other blocks
     → (found : Found) → Contains served found.slot → IsCbmFile other found blocks → IsSoundFile found
     → pieces_of kind image found.units found.last_len ≡ pieces_of kind other found.units found.last_len

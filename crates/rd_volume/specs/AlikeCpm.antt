@@ -43,7 +43,7 @@ file_byte image other served agrees slot byte low file looked_at =
     entry_byte image other slot byte (λ inside.
     agrees.same (place_of_cpm_entry slot + byte) (describing (byte_of_entry slot byte low file inside looked_at refl)))
 
--- and ranges of these
+-- a range of the bytes of an entry of a file without S1
 file_range : (image other served : List ℕ) → AgreesOnNeeded Cpm8 image other served → (slot a b : ℕ) → slot < 64 → IsOfFile (slot_of other slot)
     → ((i : ℕ) → a + i < b → a + i ≢ 13) → slice_range (slot_of image slot) a b ≡ slice_range (slot_of other slot) a b
 file_range image other served agrees slot a b low file looked_at =
@@ -69,7 +69,7 @@ describes_alike image other has place (first_byte slot low at) = first_byte slot
 describes_alike image other has place (byte_of_entry slot byte low file inside looked_at at) =
     byte_of_entry slot byte low (of_file_alike has slot low file) inside looked_at at
 
--- and this image has the other's sound files with their units
+-- this image has the other's files, and its sound files with their units
 keeps_files : (image other : List ℕ) → HasFilesOf (slot_of image) (slot_of other) → KeepsFiles Cpm8 image other
 keeps_files image other has = record {
   describes = describes_alike image other has;

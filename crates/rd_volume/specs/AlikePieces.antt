@@ -21,7 +21,7 @@ whole_of_unit _ image unit =
     ∙ drop-take 2 254 (drop start image) ∙ ap (take 254) (drop-drop 2 start image)
     ∙ ap (λ n. take n rest) (let count : 254 ≡ start + 2 + 254 - (start + 2) = omega arith in count)
 
--- and so is a front of that
+-- a front of what a unit holds of a file is a part of the image
 front_of_unit : (kind : Kind) (image : List ℕ) (unit count : ℕ) → count ≤ room_of kind
     → take count (body_of kind image unit) ≡ bytes_of_part image (part_of_unit kind unit count)
 front_of_unit kind image unit count fits =

@@ -84,7 +84,7 @@ block_body : (kind : Kind) → IsCbm kind → (image : List ℕ) (block : ℕ)
 block_body kind cbm image block =
     take_all 254 (drop 2 (cbm_block image block)) (simp (length-drop, length-take) (omega arith)) ∙ sym (cbm_body kind cbm image block)
 
--- and those up to the last byte used are the front of that
+-- the bytes of a last block up to the last one used are the front of what it holds of a file
 last_body : (kind : Kind) → IsCbm kind → (image : List ℕ) (block used last : ℕ) → last ≡ used - 1
     → slice_range (cbm_block image block) 2 (used + 1) ≡ take last (body_of kind image block)
 last_body kind cbm image block used last is =
@@ -121,7 +121,7 @@ no_contents_fit _ cbm found none = record {
   last = let last : found.last_len ≡ 0 = none.last in omega arith;
 }
 
--- and so does one with those of its image
+-- a file with the contents of its image lies in it
 contents_fit : (kind : Kind) → IsCbm kind → (image blocks : List ℕ) (found : Found) → HasCbmContents image blocks found → Fits kind found
 contents_fit Cpm8 cbm image blocks found told = absurd (not_cpm cbm)
 contents_fit _ cbm image blocks found told = record {

@@ -8,6 +8,6 @@ use Rattle.rd_volume.specs.Directories.{OfDirectory}
 pub of_blocks : (image blocks : List ℕ) → AreDirectoryBlocks image blocks → (P : List ℕ → Type 0) → OfDirectory image P → P blocks
 of_blocks image blocks are P of = subst P (one_chain _ _ of.blocks blocks of.are_blocks are) of.holds
 
--- and the other way
+-- what holds of blocks that are the directory's holds of the directory's blocks
 pub in_blocks : (image blocks : List ℕ) → AreDirectoryBlocks image blocks → (P : List ℕ → Type 0) → P blocks → OfDirectory image P
 in_blocks image blocks are P holds = record { blocks = blocks; are_blocks = are; holds = holds }

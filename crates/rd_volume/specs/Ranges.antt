@@ -17,7 +17,7 @@ same_or xs ys i past size same = elim (cases_lt i (length xs)) [
 pub item_of_range : (xs : List ℕ) (a b i : ℕ) → a + i < b → slice_index (slice_range xs a b) i ≡ slice_index xs (a + i)
 item_of_range xs a b i inside = get_or-take (b - a) (drop a xs) i 0 (omega arith) ∙ get_or-drop a xs i 0
 
--- and past its end there is none
+-- past the end of a range there is no item
 no_item : (xs : List ℕ) (a b i : ℕ) → b ≤ a + i → slice_index (slice_range xs a b) i ≡ 0
 no_item xs a b i past = get_or-eq_default (slice_range xs a b) 0 (let most : length (slice_range xs a b) ≤ b - a = simp length-take (omega arith) in omega arith)
 
@@ -29,7 +29,7 @@ same_item xs ys a b i same = elim (cases_lt (a + i) b) [
   | inr past ↦ no_item xs a b i past ∙ sym (no_item ys a b i past)
 ]
 
--- and so is one of a range of a range, which begins at place e
+-- an item of a range of a range, which begins at place e, is the same in two lists where the list's is
 pub same_inner_item : (xs ys : List ℕ) (a b c d e i : ℕ) → e ≡ a + c → (c + i < d → slice_index xs (e + i) ≡ slice_index ys (e + i))
     → slice_index (slice_range (slice_range xs a b) c d) i ≡ slice_index (slice_range (slice_range ys a b) c d) i
 same_inner_item xs ys a b c d e i start same =
@@ -46,7 +46,7 @@ pub same_range : (xs ys : List ℕ) (a b : ℕ) → length xs ≡ length ys → 
 same_range xs ys a b size same =
     ext_get_or 0 (slice_range xs a b) (slice_range ys a b) (same_length xs ys a b size) (λ i inside. same_item xs ys a b i (same i))
 
--- and so is its front
+-- the front of a range is the same in two lists of one length where its items are
 pub same_front : (xs ys : List ℕ) (a b n : ℕ) → length xs ≡ length ys → ((i : ℕ) → a + i < b → i < n → slice_index xs (a + i) ≡ slice_index ys (a + i))
     → take n (slice_range xs a b) ≡ take n (slice_range ys a b)
 same_front xs ys a b n size same =

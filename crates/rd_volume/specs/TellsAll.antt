@@ -66,7 +66,7 @@ pub record TellsAllOf (kind : Kind) (image other served : List ℕ) : Type 0 whe
   pub pieces : (found : Found) → Contains served found.slot → IsFound kind other found → IsSoundFile found
       → pieces_of kind image found.units found.last_len ≡ pieces_of kind other found.units found.last_len
 
--- and so it has the same list of files
+-- two images that each have the other's files have the same list of files
 founds_alike : (kind : Kind) (image other served : List ℕ) → TellsAllOf kind image other served → TellsAllOf kind other image served → (founds : List Found)
     → AreFounds kind other founds → AreFounds kind image founds
 founds_alike kind image other served there back founds are = record {
