@@ -53,7 +53,7 @@ accession_of (RehearseRule on rule) = accession_at rule.band rule.scope
 accession_of (RehearseDrop on band scope rank) = accession_at band scope
 accession_of other = None
 
--- and one that names a deed is refused if no such deed stands
+-- a request that names a deed is refused if no such deed stands
 abbrev pub deed_of : What → Option ℕ
 deed_of (PutImage acc kind deed digest bytes) = Some deed
 deed_of (PutRule rule) = deed_at rule.band rule.scope
