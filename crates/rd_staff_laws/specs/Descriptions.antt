@@ -66,7 +66,7 @@ DescriptionsDecide = (desk other : Desk) → IsDescribedLike desk other → (wha
 abbrev pub NeededBytesDescribe : Type 0
 NeededBytesDescribe = (kind : Kind) (bytes others : List ℕ) → AgreesOnNeeded kind bytes others [] → HaveSameFiles kind bytes others
 
--- and if both hold bytes, numbers below 256, and the same records describe their files
+-- two images of bytes, numbers below 256, have the same files if the same records describe them
 abbrev pub DescriptionsSuffice : Type 0
 DescriptionsSuffice = (kind : Kind) (bytes others : List ℕ) → All (λ byte. byte < 256) bytes → All (λ byte. byte < 256) others
     → ((file : Found) → IsFound kind bytes file ↔ IsFound kind others file) → HaveSameFiles kind bytes others

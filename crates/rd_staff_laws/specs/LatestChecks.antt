@@ -19,6 +19,6 @@ pub record IsLast (desk : Desk) (acc : ℕ) (finding : Finding) : Type 0 where
 abbrev pub LatestIsLast : Type 0
 LatestIsLast = (desk : Desk) (acc : ℕ) (finding : Finding) → (latest desk acc ≡ Some finding) ↔ IsLast desk acc finding
 
--- and there is no latest check exactly where no check of the accession stands
+-- an accession has no latest check exactly where no check of it stands
 abbrev pub NoneIsLatest : Type 0
 NoneIsLatest = (desk : Desk) (acc : ℕ) → (latest desk acc ≡ None) ↔ ((day : ℤ) → check_on desk acc day ≡ None)

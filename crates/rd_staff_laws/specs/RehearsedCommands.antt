@@ -21,6 +21,6 @@ Foretells desk visited on question command = (differences : List Difference) →
 abbrev pub RehearsedRulesFollow : Type 0
 RehearsedRulesFollow = (desk : Desk) (visited on : ℤ) (rule : Rule) → Foretells desk visited on (RehearseRule on rule) (PutRule rule)
 
--- and to rehearse that a rule goes foretells the command that drops it
+-- to rehearse that a rule goes foretells the command that drops it
 abbrev pub RehearsedDropsFollow : Type 0
 RehearsedDropsFollow = (desk : Desk) (visited on : ℤ) (band : Band) (scope rank : ℕ) → Foretells desk visited on (RehearseDrop on band scope rank) (DropRule band scope rank)
