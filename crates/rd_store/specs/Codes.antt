@@ -39,7 +39,7 @@ effect_code Deny = 0
 effect_code Listed = 1
 effect_code Read = 2
 
--- and the effect for which it stands
+-- the effect for which a number stands
 abbrev pub effect_in : ℕ → Effect
 effect_in zero = Deny
 effect_in (suc zero) = Listed
@@ -49,7 +49,7 @@ effect_in (suc (suc code)) = Read
 abbrev pub audiences_code : Audiences → ℕ
 audiences_code set = cond set.public 1 0 + (cond set.room 2 0 + cond set.staff 4 0)
 
--- and the set for which it stands
+-- the audiences for which a sum stands
 abbrev pub audiences_in : ℕ → Audiences
 audiences_in code = record { public = code % 2 == 1; room = code / 2 % 2 == 1; staff = code / 4 % 2 == 1 }
 
@@ -70,7 +70,7 @@ abbrev pub outcome_code : Outcome → ℕ
 outcome_code Sound = 0
 outcome_code Changed = 1
 
--- and the outcome for which it stands
+-- the outcome of a check for which a number stands
 abbrev pub outcome_in : ℕ → Outcome
 outcome_in zero = Sound
 outcome_in (suc code) = Changed

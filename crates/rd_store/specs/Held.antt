@@ -29,15 +29,15 @@ pub record IsOfWith (desk : Desk) (Index : FinMap file_cmp Found → Type 0) (db
   pub is : desk_of db.trees ≡ desk
   pub index : Index (index_of db.trees)
 
--- and the index is that of its images
+-- the database has the tables of a desk, their rows spell this one, and the index is that of its images
 abbrev pub IsOf : Desk → Database → Type 0
 IsOf desk = IsOfWith desk (IsIndexOf desk.images)
 
--- and no image stands at an accession
+-- the database is that of a desk, which has no image at an accession
 abbrev pub LacksImage : ℕ → Desk → Database → Type 0
 LacksImage acc desk db = IsOf desk db × (get desk.images acc ≡ None)
 
--- and the desk is a lawful one
+-- The database is that of a desk, which is a lawful one.
 pub record Holds (desk : Desk) (db : Database) : Type 0 where
   pub of : IsOf desk db
   pub lawful : IsLawful desk

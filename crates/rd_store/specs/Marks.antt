@@ -18,7 +18,7 @@ abbrev pub with_marks : Option (List ℕ) → ImageRow → ImageRow
 with_marks None image = image
 with_marks (Some marks) image = record image { kind = D64e; bytes = image.bytes ++ marks }
 
--- and the kind that it then has
+-- the kind of an image, with its error bytes if it has any
 abbrev pub kind_with : Bool → Kind → Kind
 kind_with false kind = kind
 kind_with true kind = D64e

@@ -47,7 +47,7 @@ pub record IsConsistentAs (number : ℕ) (trees : Trees) : Type 0 where
   pub lawful : IsLawful (desk_of trees)
   pub index : IsIndexOf (images_of trees) (index_of trees)
 
--- and this version is 2
+-- the rows spell a lawful desk of version 2, and the index is that of its images
 abbrev pub IsConsistent : Trees → Type 0
 IsConsistent = IsConsistentAs 2
 
@@ -122,12 +122,12 @@ Denied P OtherVersion = ⊥
 Denied P Inconsistent = ¬ P
 Denied P Sql = ⊤
 
--- and after Ok it, or a part of it, holds
+-- after Inconsistent what was tested does not hold, and after Ok a part of it holds
 abbrev pub JudgedPart : {T : Type 0} → Type 0 → Type 0 → Result T OpenFault → Type 0
 JudgedPart Part P (Ok value) = Part
 JudgedPart Part P (Err fault) = Denied P fault
 
--- and after Ok all of it holds
+-- after Inconsistent what was tested does not hold, and after Ok all of it holds
 abbrev pub Judged : {T : Type 0} → Type 0 → Result T OpenFault → Type 0
 Judged P = JudgedPart P P
 
@@ -249,7 +249,7 @@ IsRuleOf accessions deeds e = IsRule (rule_of e) × StandsAmong accessions deeds
 abbrev pub LawfulRules : List ℕ → List ℕ → Trees → Type 0
 LawfulRules accessions deeds trees = SpellLawful rule_sheet (IsRuleOf accessions deeds) (trees 3)
 
--- and one of the keys is of the staff
+-- the rows of keys are lawful, and one of the keys is of the staff
 abbrev pub LawfulKeys : Trees → Type 0
 LawfulKeys trees = SpellLawful key_sheet (λ e. IsKey e.0 e.1) (trees 5) × ((digest : List ℕ) × (get (map_of key_sheet (trees 5)) digest ≡ Some Staff))
 
@@ -300,7 +300,7 @@ HasDiskIf is_marked acc trees = IsTrue is_marked → HasDisk acc trees
 abbrev pub HoldsMarksIf : Bool → State → Type 0
 HoldsMarksIf is_marked s = IsTrue is_marked → HoldsTables s
 
--- and so for each of these accessions: where one is listed, the table is there
+-- where an accession is among these, the table of error bytes is there to be asked for it
 abbrev pub HoldsMarksOf : List ℕ → State → Type 0
 HoldsMarksOf marked s = (acc : ℕ) → HoldsMarksIf (is_among marked acc) s
 
@@ -340,7 +340,7 @@ pub record HasFiles (is_marked : Bool) (acc : ℕ) (trees : Trees) : Type 0 wher
   pub each : (row : Row) → Has (trees 9) row → column row 1 ≡ Int (pos acc) → (file : Found) × Has files file × (seen file_sheet.places row ≡ file_sheet.columns (record { acc = acc; slot = file.slot }, file))
   pub all : (file : Found) → Has files file → (row : Row) × Has (trees 9) row × (seen file_sheet.places row ≡ file_sheet.columns (record { acc = acc; slot = file.slot }, file))
 
--- and so they are of each of these accessions
+-- of each of these accessions the rows of the index are those of the files of its image
 abbrev pub HaveFiles : List ℕ → List ℕ → Trees → Type 0
 HaveFiles marked accessions trees = (acc : ℕ) → Has accessions acc → HasFiles (is_among marked acc) acc trees
 

@@ -138,7 +138,7 @@ pub record SpellDesk (number : ℕ) (trees : Trees) : Type 0 where
   pub files : Spells file_sheet (trees 9)
   pub marks : SpellLawful marks_sheet (AreMarksIn (map_of image_sheet (trees 2))) (trees 11)
 
--- and these are the desk and the index
+-- the desk that the rows of the tables spell
 abbrev pub desk_of : Trees → Desk
 desk_of trees = record {
   deeds = map_of deed_sheet (trees 1);

@@ -43,7 +43,7 @@ AreNextOf (Some acc) trees rows = IsStart later_images_query 8 (Int (pos acc) �
 abbrev pub AreReadNext : Option ℕ → Trees → List Row → Type 0
 AreReadNext after trees rows = AreNext image_read (trees 2) (option_map pos after) rows
 
--- and where there are none, no row stands after the accession, or none at all
+-- these rows come next after an accession, or first; they are none only where no row stands after it, or none at all
 abbrev pub AreBatchOf : Option ℕ → Trees → List Row → Type 0
 AreBatchOf after trees rows = AreReadNext after trees rows × (rows ≡ [] → filter (is_after (option_map pos after)) (trees 2) ≡ [])
 
@@ -70,7 +70,7 @@ HasDiskOnce is_marked acc trees = Spells image_sheet (trees 2) → HasDiskIf is_
 abbrev pub IsLawfulDisk : Bool → ℕ → Trees → Type 0
 IsLawfulDisk is_marked acc trees = Spells image_sheet (trees 2) × HasDiskIf is_marked acc trees
 
--- and once each row of the index has the number of an accession, the index has its files
+-- once the rows of images and of error bytes spell maps, and each row of the index names an accession, it has these files
 abbrev pub HasFilesOnce : Bool → ℕ → Trees → Type 0
 HasFilesOnce is_marked acc trees = Spells image_sheet (trees 2) → SpellMarksIf is_marked trees → HaveAccessions trees → HasFiles is_marked acc trees
 
@@ -88,15 +88,15 @@ IsJudgedImage deeds marked shown trees = IsImageRow deeds shown × HasFilesOnce 
 abbrev pub AreFiledOf : List ℕ → Trees → Type 0
 AreFiledOf marked trees = ((acc : ℕ) → SpellMarksIf (is_among marked acc) trees) × ((acc : ℕ) → IsSome (get (map_of image_sheet (trees 2)) acc) → IsFiledAt (is_among marked acc) acc trees)
 
--- and the images, of these deeds, are those of a desk
+-- the images, of these deeds, are those of a desk, and the index is theirs
 abbrev pub LawfulWalk : List ℕ → List ℕ → Trees → Type 0
 LawfulWalk deeds marked trees = LawfulImages deeds trees × AreFiledOf marked trees
 
--- and the deeds are
+-- the deeds and the images are those of a desk, and the index is that of the images
 abbrev pub LawfulGivenWalk : List ℕ → Trees → Type 0
 LawfulGivenWalk marked trees = LawfulGiven trees × AreFiledOf marked trees
 
--- and the rows of all tables that each version has
+-- the rows of all tables that each version has are those of a desk, and the index is that of the images
 abbrev pub LawfulCommonWalk : List ℕ → Trees → Type 0
 LawfulCommonWalk marked trees = LawfulCommon trees × AreFiledOf marked trees
 
