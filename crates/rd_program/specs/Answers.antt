@@ -14,7 +14,7 @@ refusal_to_show desk_reason.UnknownKey = UnknownKey
 refusal_to_show desk_reason.StaffOnly = StaffOnly
 refusal_to_show other = Store
 
--- and how a check does
+-- how a check names the desk's reason to refuse it
 abbrev pub refusal_to_check : Reason → Refusal
 refusal_to_check desk_reason.NoAccession = NoAccession
 refusal_to_check other = refusal_to_show other
@@ -35,7 +35,7 @@ outcome_in (Refused reason) = Err (refusal_to_check reason)
 outcome_in (Checked outcome) = Ok outcome
 outcome_in answer = Err Store
 
--- and so of an answer that may be missing
+-- what a check has found, if the desk has answered and its answer says that
 abbrev pub outcome_of : {X : Type 0} → Result Response X → Result Outcome Refusal
 outcome_of (Ok answer) = outcome_in answer
 outcome_of (Err fault) = Err Store

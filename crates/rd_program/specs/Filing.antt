@@ -25,7 +25,7 @@ pub record GivesFiles (files : List ℕ → Option (List ℕ)) (out written : Op
   pub done : OnOk result (IfSome (files ask.image.now) (λ image. Lists ask.kind image out written))
   pub refused : IfErr result (λ refusal. IfSome (files ask.image.now) (λ image. RefusesList refusal ask.kind image out written))
 
--- and so of a command that asks for them, at a path that is not standard input's
+-- A command that asks for a file or the files of an image at a path, not of standard input, gives them or the refusal.
 abbrev pub GivesFile : (List ℕ → Option (List ℕ)) → Option (List ℕ) → Option (List ℕ) → Ask → Result Done Refusal → Type 0
 GivesFile files out written (File ask) result = ask.image.now ≢ codes "-" → GivesOneFile files out written ask result
 GivesFile files out written (Files ask) result = ask.image.now ≢ codes "-" → GivesFiles files out written ask result

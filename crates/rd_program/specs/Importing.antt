@@ -69,7 +69,7 @@ abbrev pub word_of : Response → List ℕ
 word_of (Refused refusal) = name_of refusal
 word_of answer = codes "done"
 
--- and whether all was done
+-- whether the desk's answer says that the row is done
 abbrev pub done_by : Response → Done
 done_by (Refused refusal) = InPart
 done_by answer = Whole

@@ -86,8 +86,8 @@ NamesOpening g old new Version = IfBoth old new (λ before after. IsNotMigrated 
 NamesOpening g old new Inconsistent = IfBoth old new (λ before after. IsNotMigrated g before after open_fault.Inconsistent)
 NamesOpening g old new refusal = ⊤
 
--- and if the store failed before a desk was opened, its opening failed, or there was no
--- connection; if memory ran out, there was none
+-- what stands where no desk was opened: the store failed if its opening did, or if there was no
+-- connection; memory ran out only if there was none
 abbrev pub LeavesUnopened : {S : Type 0} → Ghosts S → Option (Held S) → Option (Held S) → Option (Held S) → Refusal → Type 0
 LeavesUnopened g was old new Store = Leaves was old new (λ before after. IsNotMigrated g before after open_fault.Sql)
 LeavesUnopened g was old new NoMemory = LeavesNone was new
@@ -176,7 +176,7 @@ abbrev pub TakesRow : List ℕ → ℤ → SheetRow → Desk → Desk → Type 0
 TakesRow badge day row old new = (new ≡ old)
     ⊎ ((bytes : List ℕ) × IsStep old day (record { badge = Some badge; what = request.PutImage row.acc row.kind row.deed row.digest bytes }) new)
 
--- and so of the row that these fields say
+-- the desk is as it was, or after the step of one request to take in the image of the row that these fields say
 abbrev pub TakesFields : List ℕ → ℤ → List (List ℕ) → Desk → Desk → Type 0
 TakesFields badge day fields old new = (new ≡ old) ⊎ ((row : SheetRow) × Says fields row × TakesRow badge day row old new)
 
@@ -199,7 +199,7 @@ LeavesBy g clock was stands new (Once ask) =
     Leaves was (stands ask.store.now) new (LeavesStore g (StepsOf (option_map sha256 (option_map (λ key. key.now) ask.key)) (IsDayAt (moment_of ask.when.seconds clock) ask.when.zone) ask.question))
 LeavesBy g clock was stands new ask = ⊤
 
--- and what stands after they fail
+-- what `serve`, `import`, `export`, `check` and `show` leave after they fail
 abbrev pub LeavesRefused : {S : Type 0} → Ghosts S → Option (Held S) → (List ℕ → Option (Held S)) → Option (Held S)
     → Option (List ℕ) → Option (List ℕ) → Ask → Refusal → Type 0
 LeavesRefused g was stands new out written (Serve ask) refusal = LeavesServe g was (stands ask.store.now) new ask.port out written refusal

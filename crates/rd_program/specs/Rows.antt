@@ -92,7 +92,7 @@ pub record TakesSheet (files : List ℕ → Option (List ℕ)) (badge : List ℕ
   pub taken : AreRowsTaken files badge day 1 rows lines done old new
   pub gained : Appends out written (concat lines)
 
--- and so on one of these days
+-- The rows of a sheet are taken, on one of these days, and their lines are written, in order.
 abbrev pub TakesSheetOn : (List ℕ → Option (List ℕ)) → List ℕ → (ℤ → Type 0) → Option (List ℕ) → Option (List ℕ) → Option (List ℕ) → Done → Desk → Desk → Type 0
 TakesSheetOn files badge Days sheet out written done old new = (day : ℤ) × Days day × TakesSheet files badge day sheet out written done old new
 

@@ -150,7 +150,7 @@ pub record AnswersOnce {S : Type 0} (g : Ghosts S) (clock : Option ℤ) (stood l
   pub due : IsSome ask.key ⊎ (ask.question ≡ question.Catalogue)
       → IfErr result (IsDueIn g (IsDayAt (moment_of ask.when.seconds clock) ask.when.zone) (request_of (badge_of ask) (asked_of ask.question)) stood left)
 
--- and so of a command that asks a desk once
+-- what a command does that asks a desk once
 abbrev pub AnswersBy : {S : Type 0} → Ghosts S → Option ℤ → (List ℕ → Option (Held S)) → Option (Held S) → Option (List ℕ) → Option (List ℕ) → Ask
     → Result Done Refusal → Type 0
 AnswersBy g clock stands left out written (Once ask) result = AnswersOnce g clock (stands ask.store.now) left out written ask result

@@ -42,14 +42,14 @@ abbrev pub ServesDoor : {S D : Type 0} → Ghosts S → (D → Option Told) → 
 ServesDoor g told coming count zone door later stood left =
     IfSome door (λ before. IsSomeAnd later (λ after. EndsWith stood left (ServesVisits g told coming count zone before after)))
 
--- and this with the clocks of a rule
+-- the same visits, where the clocks are those of a rule
 abbrev pub ServesDoorBy : {S D : Type 0} → Ghosts S → (D → Option Told) → (D → Option (List Coming)) → ℕ → List ℕ → Option D → Option D → Option (Held S) → Option (Held S) → Type 0
 ServesDoorBy g told coming count rule door later stood left =
     (zone : Zone) × IsZoneOf rule zone × ServesDoor g told coming count zone door later stood left
 
 -- ---- inside
 
--- and so of a command that asks for visits
+-- a command that asks for visits has served them at its port
 abbrev pub ServesBy : {S D : Type 0} → Ghosts S → (D → Option Told) → (D → Option (List Coming)) → (Place → Option D) → (Place → Option D) → (List ℕ → Option (Held S))
     → Option (Held S) → Ask → Type 0
 ServesBy g told coming doors laters stands left (Serve ask) =
