@@ -1,4 +1,4 @@
--- Proofs: the needed bytes of an image decide what is told of it, by the laws of both kinds of disk.
+-- Proofs: the needed bytes of an image decide what is said of it, by the laws of both kinds of disk.
 use Rattle.std.specs.Prelude.{ℕ, List, refl}
 use Rattle.rd_geometry.specs.declared.kind.Kind.{Kind}
 use Rattle.rd_geometry.specs.declared.kind.Kind.TheVariants.{Cpm8}

@@ -18,7 +18,6 @@ pub(crate) enum Disk<'a> {
 impl<'a> Disk<'a> {
     ghost use Rattle.rd_volume.specs.Disks.{disk_bytes, disk_kind};
 
-    /// The disk of an image.
     pub(crate) fn of(image: &Image<'a>) -> Disk<'a>
         ensures kind { disk_kind result ≡ kind_of image.now }
         ensures bytes { disk_bytes result ≡ bytes_of image.now }
