@@ -100,7 +100,7 @@ DecidesReplies AreAlike = (desk other : Desk) (audience : Audience) (day : ℤ) 
     → ¬ IsOfStaff desk request → IsCallerOf desk request audience → AreAlike desk audience day other
     → IsReply desk day request reply new → (same : Reply) × ReadsTheSame reply same × IsReply other day request same other
 
--- desks that look alike to a caller reply the same to them: hidden bytes are not told
+-- desks that look alike to a caller reply the same to them: hidden bytes do not show
 abbrev pub HiddenBytesAreNotTold : Type 0
 HiddenBytesAreNotTold = DecidesReplies LooksAlike
 

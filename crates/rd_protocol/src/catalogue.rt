@@ -82,7 +82,6 @@ fn cells(alloc: Global, listing: &Listing, line: &Line) -> Result<[Text; 11], No
     ])
 }
 
-/// Writes one record.
 pub(crate) fn write_record(writer: &mut Writer<Vec<u8>>, fields: &[&[u8]]) -> Result<(), NoMemory>
     ensures { (text : List ℕ) → HasWritten writer.old text
         → OnOk result (HasWritten writer.new (text ++ row_text default_writer (map (λ field. field.now) fields.now))) }

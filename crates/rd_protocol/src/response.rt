@@ -151,11 +151,11 @@ pub struct CheckLine {
 pub struct FileVerdicts {
     /// The file.
     pub file: Found,
-    /// That for the public.
+    /// The verdict for the public.
     pub public: Verdict,
-    /// That for the reading room.
+    /// The verdict for the reading room.
     pub room: Verdict,
-    /// That for the staff.
+    /// The verdict for the staff.
     pub staff: Verdict,
 }
 

@@ -50,7 +50,6 @@ fn date_if(alloc: Global, day: Option<i32>) -> Result<Option<Text>, NoMemory>
     }
 }
 
-/// The words of the audiences of a set.
 fn words(set: Audiences) -> &'static [&'static str]
     ensures { map (λ word. word.now) result.now ≡ audience_words set }
 {
