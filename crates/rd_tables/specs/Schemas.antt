@@ -114,7 +114,7 @@ checked_table tree = keyed (codes "checked") tree (column_of (codes "acc") Integ
 abbrev pub found_key : List ℕ
 found_key = 1 ∷ 2 ∷ []
 
--- a file that is told of an image
+-- a file of an image
 abbrev pub found_table : ℕ → Table
 found_table tree = keyed (codes "found") tree
     (column_of (codes "acc") Integer true ∷ column_of (codes "slot") Integer true ∷ column_of (codes "name") Text true ∷ column_of (codes "ty") Text true
