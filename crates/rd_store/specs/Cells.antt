@@ -128,7 +128,7 @@ pub record IsNameRow (file : Found) (row : Row) : Type 0 where
   pub type : column row 2 ≡ Text file.ty
   pub user : column row 3 ≡ or_null Int (option_map pos file.user)
 
--- The row shows what else is told of a file.
+-- The row shows the other columns of a file.
 pub record IsContentsRow (file : Found) (row : Row) : Type 0 where
   pub class : column row 4 ≡ Int (pos (class_code file.served_class))
   pub size : column row 5 ≡ or_null Int (option_map pos file.size)

@@ -44,7 +44,7 @@ IsRegisterOf g h register = IsOpen g h → listed register ≡ register_of (desk
 abbrev pub IsSameHeading : Heading → Heading → Type 0
 IsSameHeading one other = (one.kind ≡ other.kind) × (one.deed ≡ other.deed) × (one.digest ≡ other.digest)
 
--- ---- what is told of an accession
+-- ---- kind and deed of an accession
 
 -- its number alone
 abbrev pub number_of : ℕ × Heading → ℕ

@@ -86,7 +86,7 @@ check_sheet = record {
   entry = λ row. (record { acc = natural (column row 0); day = id_in (column row 1) }, outcome_in (natural (column row 2)));
 }
 
--- what is told of a file, its slot first
+-- the columns of a file, its slot first
 abbrev pub file_shown : Found → Row
 file_shown file = Int (pos file.slot) ∷ Text file.name ∷ Text file.ty ∷ or_null Int (option_map pos file.user) ∷ Int (pos (class_code file.served_class))
     ∷ or_null Int (option_map pos file.size) ∷ Int (pos file.faults) ∷ Blob (units_code file.units) ∷ Int (pos file.last_len) ∷ []

@@ -70,7 +70,7 @@ HasDiskOnce is_marked acc trees = Spells image_sheet (trees 2) → HasDiskIf is_
 abbrev pub IsLawfulDisk : Bool → ℕ → Trees → Type 0
 IsLawfulDisk is_marked acc trees = Spells image_sheet (trees 2) × HasDiskIf is_marked acc trees
 
--- once the rows of images and of error bytes spell maps, and each row of the index names an accession, it has these files
+-- once the rows of images and error bytes spell maps and each row of the index names an accession, it has these files
 abbrev pub HasFilesOnce : Bool → ℕ → Trees → Type 0
 HasFilesOnce is_marked acc trees = Spells image_sheet (trees 2) → SpellMarksIf is_marked trees → HaveAccessions trees → HasFiles is_marked acc trees
 

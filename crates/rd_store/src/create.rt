@@ -32,7 +32,6 @@ pub(crate) fn create_text(at: usize) -> &'static str
     }
 }
 
-/// Makes one table.
 fn make_table<S: Alter>(tx: &mut Transaction<'_, S>, at: usize) -> Result<usize, Error>
     requires { at < 8 }
     ensures same_reference { tx.new.conn.ghost_name ≡ tx.old.conn.ghost_name }

@@ -5,7 +5,7 @@ use sqlite::{Alter, Connection};
 /// written, opening again finds the desk before or after the call.
 #[derive(Clone, Copy, Debug, PartialEq, Eq, Hash)]
 pub enum StoreFault {
-    /// The database failed, or memory ran out.
+    /// The database failed, or memory ran out: it does not say which.
     Sql,
     /// What the call refers to is not there.
     Missing,

@@ -28,7 +28,6 @@ pub(crate) enum KeptImage {
     Kept(u32, ImageRow),
 }
 
-/// A copy of an image.
 fn copy_of(alloc: Global, image: &ImageRow) -> Result<ImageRow, StoreFault>
     ensures copy { IfOk result (λ copy. copy ≡ image.now) }
     ensures fault { IfErr result (λ fault. fault ≡ StoreFault.Sql) }

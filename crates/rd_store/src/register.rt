@@ -42,7 +42,7 @@ fn place_for(entries: &[(u32, Heading)], acc: u32) -> usize
     }
 }
 
-/// What is kept at a place.
+/// The entry at a place of the register.
 fn heading_in(entries: &[(u32, Heading)], at: usize) -> Heading
     requires { at < length entries.now }
     ensures { (d : ℕ × Entry) → result ≡ (slice_index_or entries.now at d).1 }
@@ -90,14 +90,14 @@ fn givens_in(alloc: Global, entries: &[(u32, Heading)]) -> Result<Vec<(u32, Acce
 }
 
 impl Register {
-    /// That of no accession.
+    /// A register without accessions.
     pub(crate) fn empty() -> Register
         ensures { listed result ≡ [] }
     {
         Register { entries: None }
     }
 
-    /// That of these accessions, which ascend.
+    /// The register of these accessions, which ascend.
     pub(crate) fn of(entries: Vec<(u32, Heading)>) -> Register
         ensures { listed result ≡ entries.items }
     {

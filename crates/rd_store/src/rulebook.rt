@@ -60,7 +60,7 @@ fn side(rule: &Rule, code: u32, scope: u32) -> Ordering
     bands.then(rule.scope.cmp(&scope))
 }
 
-/// Those of all rules that are of one band, by its code, and one number.
+/// The rules of one band, by its code, and of one number.
 fn those_of(rules: &[Rule], code: u32, scope: u32) -> &[Rule]
     requires { AreAllRules rules.now }
     ensures { (desk : Desk) (band : RuleBand) → code ≡ band_code band → rules.now ≡ all_rules desk → result.now ≡ rules_at desk band scope }
@@ -80,7 +80,7 @@ fn those_of(rules: &[Rule], code: u32, scope: u32) -> &[Rule]
 }
 
 impl Rulebook {
-    /// These rules, `None` where they do not ascend by place.
+    /// A book of these rules; `None` if they do not ascend by place.
     pub(crate) fn of(rules: Vec<Rule>) -> Option<Rulebook>
         ensures { IfSome result (λ book. book ≡ rules.items) }
     {

@@ -213,7 +213,7 @@ impl<S: Alter> Store<S> {
         }
     }
 
-    /// These rules, and after them those of a deed.
+    /// Adds the rules of a deed behind these rules.
     fn with_rules_of(
         &mut self,
         alloc: Global,

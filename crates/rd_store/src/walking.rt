@@ -233,7 +233,6 @@ fn add_entry(entries: &mut Vec<(u32, Heading)>, entry: (u32, Heading)) -> Result
     }
 }
 
-/// The accession of the last of these entries.
 fn last_accession(entries: &[(u32, Heading)]) -> Option<u32>
     ensures { result ≡ last_number entries.now }
 {
