@@ -32,7 +32,7 @@ pub(crate) fn missing(band: Band) -> Refusal
     }
 }
 
-/// Puts a deed.
+/// Puts a deed; it replaces the one that has its number.
 fn put_deed<S: Alter>(
     store: &mut Store<S>,
     num: u32,
@@ -47,7 +47,7 @@ fn put_deed<S: Alter>(
     Ok(Response::Done)
 }
 
-/// Puts a rule.
+/// Puts a rule; it replaces the one that has its rank. It is refused if its accession or its deed does not stand.
 fn put_rule<S: Alter>(store: &mut Store<S>, rule: &Rule) -> Result<Response, Unavailable>
     requires rule { IsRule rule.now }
     ensures carries { (day : ℤ) → Carries S.Store store.old store.new day (What.PutRule rule.now) result }

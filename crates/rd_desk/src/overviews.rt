@@ -26,7 +26,7 @@ pub(crate) trait Overview {
     /// What it says of one of them.
     type Line: Drop;
 
-    /// These lines are what it says of these accessions of a desk.
+    /// Whether lines are what the overview says of accessions of a desk.
     ghost says: { Self → Desk → List ℕ → List Self.Line → Type 0 };
 
     /// The lines, and then what is to be said of one more accession.

@@ -29,7 +29,6 @@ pub(crate) struct Caller {
     pub day: i32,
 }
 
-/// The verdict of rules on a file, for a caller.
 fn judge(rules: &[Rule], caller: &Caller, file: &Found) -> Verdict
     requires { AreInOrder rules.now }
     ensures { IsVerdict (Contains rules.now) caller.now.audience caller.now.day file.now result }
@@ -135,7 +134,7 @@ fn bytes<S: Alter>(
     }
 }
 
-/// Those of the files that are listed, each with the verdict of takedowns and rules on it.
+/// The files that are listed, each with the verdict of takedowns and rules on it.
 pub(crate) fn listed(
     alloc: Global,
     takedowns: &[Rule],

@@ -42,7 +42,6 @@ pub(crate) struct Rehearsal<'a> {
     pub rule: Option<&'a Rule>,
 }
 
-/// A copy of a text.
 fn copy_text(alloc: Global, text: &Text) -> Result<Text, NoMemory>
     ensures { IfOk result (λ copy. copy ≡ text.now) }
 {
@@ -62,7 +61,6 @@ fn copy_select(alloc: Global, select: &Select) -> Result<Select, NoMemory>
     }
 }
 
-/// A copy of a rule.
 fn copy_rule(alloc: Global, rule: &Rule) -> Result<Rule, NoMemory>
     ensures { IfOk result (λ copy. copy ≡ rule.now) }
 {
@@ -131,7 +129,7 @@ fn ordered(rules: Vec<Rule>) -> Option<Items<Rule>>
     }
 }
 
-/// These rules, and then a copy of the one that is put, if one is.
+/// Adds a copy of the rule that is put, if one is, behind the others.
 fn with_put(alloc: Global, rules: Vec<Rule>, rule: Option<&Rule>) -> Result<Vec<Rule>, Unavailable>
     ensures { IfOk result (λ all. all.items ≡ rules.items ++ option_to_list (option_map (λ put. put.now) rule.entry)) }
 {
@@ -178,7 +176,7 @@ fn is_same(one: Effect, other: Effect) -> bool
     }
 }
 
-/// These lines, and then that for a file of an accession and an audience, if the effects of the verdicts before and
+/// Adds to the lines the one for a file of an accession and an audience, if the effects of the verdicts before and
 /// after differ.
 fn with_difference(
     alloc: Global,
@@ -210,7 +208,7 @@ fn with_difference(
     Ok(all)
 }
 
-/// These lines, and then those for a file of an accession, from the verdicts on it before and after.
+/// Adds to the lines those for a file of an accession, from the verdicts on it before and after.
 fn with_file(
     alloc: Global,
     lines: Vec<Difference>,
@@ -278,7 +276,7 @@ fn differences_at<S: Alter>(
     )
 }
 
-/// These lines, and then others.
+/// Two lists of lines as one.
 fn joined(lines: Vec<Difference>, more: Vec<Difference>) -> Result<Vec<Difference>, Unavailable>
     ensures { IfOk result (λ all. all.items ≡ lines.items ++ more.items) }
 {
@@ -291,7 +289,7 @@ fn joined(lines: Vec<Difference>, more: Vec<Difference>) -> Result<Vec<Differenc
     Ok(all)
 }
 
-/// These lines, and then those for an accession, whose kind and deed the caller knows, where a rule of a deed would change.
+/// Adds to the lines those for an accession, whose kind and deed the caller knows, where a rule of a deed would change.
 /// It reads an accession only if it came by that deed.
 fn with_accession<S: Alter>(
     store: &mut Store<S>,

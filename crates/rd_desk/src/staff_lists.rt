@@ -18,7 +18,6 @@ use rd_store::{DeedRow, Rulebook, Store};
 use sqlite::Alter;
 use std::alloc::Global;
 
-/// The lines of keys.
 fn lines_of(alloc: Global, keys: &[([u8; 32], Audience)]) -> Result<Vec<KeyLine>, Unavailable>
     ensures { IfOk result (λ lines. lines.items ≡ map key_line keys.now) }
 {
@@ -32,7 +31,6 @@ fn lines_of(alloc: Global, keys: &[([u8; 32], Audience)]) -> Result<Vec<KeyLine>
     Ok(lines)
 }
 
-/// The lines of all keys.
 fn all_keys<S: Alter>(store: &mut Store<S>, alloc: Global) -> Result<Items<KeyLine>, Unavailable>
     ensures { Reads S.Store store.old store.new result (λ lines. lines ≡ key_lines (desk S.Store store.old)) }
 {
@@ -55,7 +53,6 @@ fn accessions_under(register: &[(u32, Accession)], num: u32) -> usize
     register.iter().filter(|entry| entry.1.deed == num).count()
 }
 
-/// The line of a deed.
 fn deed_line<S: Alter>(
     store: &mut Store<S>,
     alloc: Global,
@@ -76,7 +73,6 @@ fn deed_line<S: Alter>(
     })
 }
 
-/// The lines of all deeds.
 fn all_deeds<S: Alter>(store: &mut Store<S>, alloc: Global) -> Result<Items<DeedLine>, Unavailable>
     ensures { Reads S.Store store.old store.new result (λ lines. lines ≡ deed_lines (desk S.Store store.old)) }
 {
@@ -109,7 +105,7 @@ fn has_takedowns(rules: &Rulebook, acc: u32, deed: u32) -> bool
     !takedowns.is_empty()
 }
 
-/// These lines, and then that of an accession, if it has takedowns.
+/// Adds to the lines that of an accession, if it has takedowns.
 fn with_takedowns<S: Alter>(
     store: &mut Store<S>,
     alloc: Global,

@@ -24,11 +24,11 @@ use std::alloc::Global;
 /// The verdicts on a file.
 #[derive(Clone, Copy)]
 pub(crate) struct AudienceVerdicts {
-    /// That for the public.
+    /// The verdict for the public.
     pub public: Verdict,
-    /// That for the reading room.
+    /// The verdict for the reading room.
     pub room: Verdict,
-    /// That for the staff.
+    /// The verdict for the staff.
     pub staff: Verdict,
 }
 
