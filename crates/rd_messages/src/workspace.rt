@@ -12,7 +12,7 @@ pub struct Workspace {
 }
 
 impl Workspace {
-    /// What no visit has used yet. It takes no memory.
+    /// A workspace that no visit has used yet. It takes no memory.
     pub fn new() -> Workspace {
         Workspace {
             head: [0; LONGEST_HEAD],
