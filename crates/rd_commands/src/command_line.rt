@@ -12,7 +12,6 @@ use std::alloc::{AllocError, Global};
 /// The words for what `show` shows.
 static WHAT_WORDS: [&str; 5] = ["deeds", "takedowns", "keys", "checks", "verdicts"];
 
-/// The operand for a kind.
 fn kind_operand<'a>(alloc: Global) -> Arg<'a>
     ensures rule { IsKindRule (rule_of result) }
     ensures local { result.global ≡ false }
@@ -23,7 +22,6 @@ fn kind_operand<'a>(alloc: Global) -> Arg<'a>
         .value_parser(KIND_WORDS.as_slice())
 }
 
-/// The operand for an image.
 fn image_operand<'a>(alloc: Global) -> Arg<'a>
     ensures rule { rule_of result ≡ image_rule }
     ensures local { result.global ≡ false }
@@ -33,7 +31,6 @@ fn image_operand<'a>(alloc: Global) -> Arg<'a>
         .help("The path of the image, or - for standard input")
 }
 
-/// The operand for a slot.
 fn slot_operand<'a>(alloc: Global) -> Arg<'a>
     ensures rule { rule_of result ≡ slot_rule }
     ensures local { result.global ≡ false }
@@ -44,7 +41,6 @@ fn slot_operand<'a>(alloc: Global) -> Arg<'a>
         .value_parser(value_parser!(u16).range(0..=i64::from(LAST_SLOT)))
 }
 
-/// The command `cat`.
 fn cat_command<'a>(alloc: Global) -> Result<Command<'a>, AllocError>
     ensures shape { IfOk result (λ cat. IsCatApp (app_of cat)) }
     ensures local { IfOk result (λ cat. (fields_of cat).has_globals ≡ false) }
@@ -57,7 +53,6 @@ fn cat_command<'a>(alloc: Global) -> Result<Command<'a>, AllocError>
         .arg(slot_operand(alloc))
 }
 
-/// The command `list`.
 fn list_command<'a>(alloc: Global) -> Result<Command<'a>, AllocError>
     ensures shape { IfOk result (λ list. IsListApp (app_of list)) }
     ensures local { IfOk result (λ list. (fields_of list).has_globals ≡ false) }
@@ -93,7 +88,6 @@ fn key_option<'a>(alloc: Global) -> Arg<'a>
         .help("A desk key of the staff, without blanks and tabs at both ends")
 }
 
-/// The option for a port.
 fn port_option<'a>(alloc: Global) -> Arg<'a>
     ensures rule { rule_of result ≡ port_rule }
     ensures local { result.global ≡ false }
@@ -129,7 +123,6 @@ fn zone_option<'a>(alloc: Global) -> Arg<'a>
     )
 }
 
-/// The option for a sheet.
 fn sheet_option<'a>(alloc: Global) -> Arg<'a>
     ensures rule { rule_of result ≡ sheet_rule }
     ensures local { result.global ≡ false }
@@ -141,7 +134,6 @@ fn sheet_option<'a>(alloc: Global) -> Arg<'a>
         .help("The file of the sheet: CSV with the header accession,kind,deed,sha256,file")
 }
 
-/// The option for a moment.
 fn moment_option<'a>(alloc: Global) -> Arg<'a>
     ensures rule { rule_of result ≡ moment_rule }
     ensures local { result.global ≡ false }
@@ -155,7 +147,6 @@ fn moment_option<'a>(alloc: Global) -> Arg<'a>
         .value_parser(value_parser!(i64).range(0..=9_223_372_036_854_775_807))
 }
 
-/// The command `init`.
 fn init_command<'a>(alloc: Global) -> Result<Command<'a>, AllocError>
     ensures shape { IfOk result (λ init. app_of init ≡ init_app) }
     ensures local { IfOk result (λ init. (fields_of init).has_globals ≡ false) }
@@ -167,7 +158,6 @@ fn init_command<'a>(alloc: Global) -> Result<Command<'a>, AllocError>
         .arg(key_option(alloc))
 }
 
-/// The command `serve`.
 fn serve_command<'a>(alloc: Global) -> Result<Command<'a>, AllocError>
     ensures shape { IfOk result (λ serve. app_of serve ≡ serve_app) }
     ensures local { IfOk result (λ serve. (fields_of serve).has_globals ≡ false) }
@@ -183,7 +173,6 @@ fn serve_command<'a>(alloc: Global) -> Result<Command<'a>, AllocError>
         .arg(zone_option(alloc))
 }
 
-/// The command `import`.
 fn import_command<'a>(alloc: Global) -> Result<Command<'a>, AllocError>
     ensures shape { IfOk result (λ import. app_of import ≡ import_app) }
     ensures local { IfOk result (λ import. (fields_of import).has_globals ≡ false) }
@@ -210,7 +199,6 @@ fn optional_key_option<'a>(alloc: Global) -> Arg<'a>
     )
 }
 
-/// The option for an accession.
 fn accession_option<'a>(alloc: Global) -> Arg<'a>
     ensures rule { rule_of result ≡ accession_rule }
     ensures local { result.global ≡ false }
@@ -223,7 +211,6 @@ fn accession_option<'a>(alloc: Global) -> Arg<'a>
         .value_parser(value_parser!(u32).range(1..=i64::from(LAST_SCOPE)))
 }
 
-/// The command `export`.
 fn export_command<'a>(alloc: Global) -> Result<Command<'a>, AllocError>
     ensures shape { IfOk result (λ export. app_of export ≡ export_app) }
     ensures local { IfOk result (λ export. (fields_of export).has_globals ≡ false) }
@@ -237,7 +224,6 @@ fn export_command<'a>(alloc: Global) -> Result<Command<'a>, AllocError>
         .arg(zone_option(alloc))
 }
 
-/// The command `check`.
 fn check_command<'a>(alloc: Global) -> Result<Command<'a>, AllocError>
     ensures shape { IfOk result (λ check. app_of check ≡ check_app) }
     ensures local { IfOk result (λ check. (fields_of check).has_globals ≡ false) }
@@ -273,7 +259,6 @@ fn day_option<'a>(alloc: Global) -> Arg<'a>
     )
 }
 
-/// The command `show`.
 fn show_command<'a>(alloc: Global) -> Result<Command<'a>, AllocError>
     ensures shape { IfOk result (λ show. IsShowApp (app_of show)) }
     ensures local { IfOk result (λ show. (fields_of show).has_globals ≡ false) }
