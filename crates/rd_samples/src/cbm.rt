@@ -260,7 +260,6 @@ pub fn mixed(alloc: Global) -> Result<Vec<u8>, NoMemory>
     Ok(image)
 }
 
-/// The track and the sector of a block.
 fn track_and_sector(block: u16) -> (u8, u8)
     requires { block < 683 }
 {

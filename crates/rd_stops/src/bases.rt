@@ -252,7 +252,6 @@ fn first_version(alloc: Global) -> Result<Pair> {
     logged(after_statements(alloc, &first, THIRD_DEED)?)
 }
 
-/// The files of a base.
 pub(crate) fn files_of(alloc: Global, base: Base) -> Result<Pair> {
     match base {
         Base::Empty => Ok(Pair::empty(alloc)),

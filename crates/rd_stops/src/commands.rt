@@ -29,7 +29,6 @@ pub(crate) enum Sample {
     Record,
 }
 
-/// A sample rule.
 #[derive(Clone, Copy)]
 pub(crate) enum SampleRule {
     /// Of deed 7, rank 10: only the staff may read until 2030.
@@ -42,7 +41,6 @@ pub(crate) enum SampleRule {
     Takedown,
 }
 
-/// A command.
 #[derive(Clone, Copy)]
 pub(crate) enum Command {
     /// A desk key and its audience.

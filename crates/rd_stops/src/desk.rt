@@ -67,12 +67,10 @@ pub(crate) fn words_of_open(fault: OpenFault) -> &'static str {
     }
 }
 
-/// The connection of a store.
 pub(crate) fn into_connection<S: Alter + Drop>(store: Store<S>) -> Connection<S> {
     store.into_connection()
 }
 
-/// The desk over a store.
 pub(crate) fn desk_over<S: Alter + Drop>(store: Store<S>) -> Result<Desk<S>> {
     match Zone::read(CENTRAL) {
         Ok(zone) => Ok(Desk::new(store, zone)),
@@ -80,7 +78,6 @@ pub(crate) fn desk_over<S: Alter + Drop>(store: Store<S>) -> Result<Desk<S>> {
     }
 }
 
-/// The store of a desk.
 pub(crate) fn into_store<S: Alter + Drop>(desk: Desk<S>) -> Store<S> {
     desk.into_store()
 }

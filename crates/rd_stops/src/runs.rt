@@ -76,7 +76,6 @@ pub(crate) enum Wanted {
     Wrong,
 }
 
-/// A run.
 #[derive(Clone, Copy)]
 pub(crate) struct Run {
     pub(crate) name: &'static str,

@@ -15,7 +15,6 @@ pub(crate) struct Message<'a> {
     pub(crate) body: Vec<u8>,
 }
 
-/// A head and a body as one.
 fn whole(head: String, body: &[u8]) -> Result<Vec<u8>, AllocError> {
     let mut bytes = head.into_bytes();
     bytes.extend_from_slice(body)?;

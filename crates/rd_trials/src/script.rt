@@ -47,7 +47,6 @@ fn lines_of(rt: &HostRuntime, file: &str) -> Result<Vec<Line>> {
     Ok(lines)
 }
 
-/// Adds copies of lines.
 fn add_copies(lines: &mut Vec<Line>, more: &[Line]) -> Result<(), AllocError> {
     for line in more {
         lines.push(line.copy()?)?;

@@ -23,7 +23,7 @@ const OFF_DISK: u8 = 32;
 
 const CROSSED: u8 = 64;
 
-/// What desk has to say of a file.
+/// What desk must answer of a file.
 #[derive(Clone, Copy)]
 pub(super) struct Told {
     slot: u8,

@@ -231,7 +231,6 @@ fn push_run(units: &mut Vec<u16>, first: u16, count: u16) -> Result<(), NoMemory
     Ok(())
 }
 
-/// The units of these runs.
 pub(super) fn units_of(alloc: Global, runs: Runs) -> Result<Vec<u16>, NoMemory> {
     let mut units = Vec::new(alloc);
     for (first, count) in runs {

@@ -27,7 +27,7 @@ pub(super) enum Contents {
     Full,
 }
 
-/// What desk has to say of files in slots that follow one another.
+/// What desk must answer of files in slots that follow one another.
 #[derive(Clone, Copy)]
 pub(super) struct Told {
     /// How many files have this description, and the slot of the first.
@@ -319,7 +319,7 @@ fn lent_by<'a, V: Volume<'a>>(
     Ok(Some(bytes))
 }
 
-/// The same, of an image of any kind.
+/// The bytes of a file that the disk of an image of any kind lends, unit by unit.
 fn lent(alloc: Global, image: &Image<'_>, file: &Found) -> Result<Option<Vec<u8>>, NoMemory> {
     if let Some(disk) = CpmDisk::of(image) {
         return lent_by(alloc, image, &disk, file);

@@ -390,7 +390,6 @@ fn rows_of(conn: &mut Connection<MemStore>, sql: &str) -> Result<Vec<Row>, Error
     conn.query_all(sql, &[])
 }
 
-/// Rows in words.
 fn words_of(alloc: Global, rows: &[Row]) -> Result<String, NoMemory> {
     Ok(format!(in alloc; "{rows:?}\n")?)
 }

@@ -11,7 +11,6 @@ use std::alloc::Global;
 use std::process::Abort;
 use std::test::Fail;
 
-/// A desk in memory.
 pub(super) type Memory = Desk<MemStore>;
 
 /// The rule of its clocks, those of central Europe.
@@ -94,7 +93,6 @@ pub(super) fn new_store_again(rt: &impl Abort, alloc: Global) -> Result<Store<Me
     create_again(rt, connection_again(alloc)?)
 }
 
-/// The desk over a store.
 fn desk_over(store: Store<MemStore>) -> Result<Memory, Fail> {
     Ok(Desk::new(store, Zone::read(CENTRAL)?))
 }

@@ -57,7 +57,6 @@ impl<'a> Player<'a> {
         })
     }
 
-    /// Plays a line.
     fn play(&mut self, rt: &HostRuntime, line: &'a Line) -> Result<()> {
         let place = line.place.as_str();
         let (word, text) = parts_of(line.text.as_str());

@@ -60,7 +60,6 @@ fn words_of(alloc: Global, text: &str) -> Result<Vec<String>> {
     Ok(words)
 }
 
-/// The words as slices.
 fn slices_of(alloc: Global, words: &[String]) -> Result<Vec<&str>, AllocError> {
     words.iter().map(|word| word.as_str()).collect(alloc)
 }

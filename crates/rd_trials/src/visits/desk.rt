@@ -12,7 +12,6 @@ use rd_store::{OpenFault, Refused, Store};
 use sqlite::{Connection, MemStore};
 use std::alloc::Global;
 
-/// A desk in memory.
 pub(crate) type Memory = Desk<MemStore>;
 
 /// The rule for the clocks of a desk if a trial names none: those of central Europe.
@@ -125,7 +124,6 @@ pub(crate) enum Stage {
 }
 
 impl Stage {
-    /// The tables.
     pub(crate) fn into_tables(self) -> Option<Connection<MemStore>> {
         match self {
             Stage::Open(desk) => Some(desk.into_store().into_connection()),

@@ -18,7 +18,6 @@ use std::alloc::Global;
 use std::process::Abort;
 use std::test::Fail;
 
-/// A digest.
 #[derive(Clone, Copy)]
 pub(super) enum Digest {
     /// Of the key of the staff.
