@@ -3,7 +3,7 @@
 -- that files claim and their error bytes, and on no others.
 use Rattle.std.proofs.Common.{◌≡◌, ◌∙◌, inl, inr, ◌↔◌, ◌*◌, ◌<◌, ℕ, List, Option, arith, length, subst, sym}
 use Rattle.rd_geometry.specs.Blocks.{mark_of}
-use Rattle.rd_cbm.specs.Entries.{Way, Data, ClaimsBy, IsClosed, IsServed, entry_at, name_of, start_of, type_of}
+use Rattle.rd_cbm.specs.Entries.{ChainRole, Data, ClaimsBy, IsClosed, IsServed, entry_at, name_of, start_of, type_of}
 use Rattle.rd_cbm.specs.Faults.{AreFaults, HasNoFault, HasReadError, IsCrossed, IsError, IsLooped, IsNotClosed, IsOffDisk, IsSound}
 use Rattle.rd_cbm.specs.Files.{Claims, HasOtherClaim, IsClaimed, IsFileSlot}
 use Rattle.rd_cbm.specs.Links.{link_of}
@@ -15,7 +15,7 @@ use Rattle.rd_cbm.proofs.AlikeWalks.{HasLinksAlong, along_turned, chain_alike, l
 pub record HasFilesOf (image other blocks : List ℕ) : Type 0 where
   pub type : (slot : ℕ) → slot < 8 * length blocks → type_of (entry_at image blocks slot) ≡ type_of (entry_at other blocks slot)
   pub name : (slot : ℕ) → IsFileSlot other blocks slot → name_of (entry_at image blocks slot) ≡ name_of (entry_at other blocks slot)
-  pub start : (slot : ℕ) (way : Way) → IsFileSlot other blocks slot → start_of (entry_at image blocks slot) way ≡ start_of (entry_at other blocks slot) way
+  pub start : (slot : ℕ) (role : ChainRole) → IsFileSlot other blocks slot → start_of (entry_at image blocks slot) role ≡ start_of (entry_at other blocks slot) role
   pub link : (block : ℕ) → IsClaimed other blocks block → link_of image block ≡ link_of other block
   pub mark : (block : ℕ) → IsClaimed other blocks block → mark_of image block ≡ mark_of other block
 
@@ -24,35 +24,35 @@ of_type : {image other blocks : List ℕ} → HasFilesOf image other blocks → 
     → P (type_of (entry_at other blocks slot)) → P (type_of (entry_at image blocks slot))
 of_type has {slot = slot} file P = subst P (sym (has.type slot file.inside))
 
-of_start : {image other blocks : List ℕ} → HasFilesOf image other blocks → {slot : ℕ} → IsFileSlot other blocks slot → (way : Way) (P : Option ℕ → Type 0)
-    → P (start_of (entry_at other blocks slot) way) → P (start_of (entry_at image blocks slot) way)
-of_start has {slot = slot} file way P = subst P (sym (has.start slot way file))
+of_start : {image other blocks : List ℕ} → HasFilesOf image other blocks → {slot : ℕ} → IsFileSlot other blocks slot → (role : ChainRole) (P : Option ℕ → Type 0)
+    → P (start_of (entry_at other blocks slot) role) → P (start_of (entry_at image blocks slot) role)
+of_start has {slot = slot} file role P = subst P (sym (has.start slot role file))
 
 -- a file's slot is one in both
 pub slot_alike : {image other blocks : List ℕ} → HasFilesOf image other blocks → {slot : ℕ} → IsFileSlot other blocks slot → IsFileSlot image blocks slot
 slot_alike has {slot = slot} file = record { inside = file.inside; used = λ unused. file.used (sym (has.type slot file.inside) ∙ unused) }
 
 -- the links along a chain by which a file claims are the same
-pub along_alike : {image other blocks : List ℕ} → HasFilesOf image other blocks → {slot : ℕ} → IsFileSlot other blocks slot → (way : Way)
-    → ClaimsBy (type_of (entry_at other blocks slot)) way → HasLinksAlong (link_of image) (link_of other) (start_of (entry_at other blocks slot) way)
-along_alike has {slot = slot} file way claimant = record {
-  same = λ block reached. has.link block (record { slot = slot; way = way; claim = record { file = file; claimant = claimant; on_chain = reached } });
+pub along_alike : {image other blocks : List ℕ} → HasFilesOf image other blocks → {slot : ℕ} → IsFileSlot other blocks slot → (role : ChainRole)
+    → ClaimsBy (type_of (entry_at other blocks slot)) role → HasLinksAlong (link_of image) (link_of other) (start_of (entry_at other blocks slot) role)
+along_alike has {slot = slot} file role claimant = record {
+  same = λ block reached. has.link block (record { slot = slot; role = role; claim = record { file = file; claimant = claimant; on_chain = reached } });
 }
 
-pub claims_alike : {image other blocks : List ℕ} → HasFilesOf image other blocks → (slot : ℕ) (way : Way) (block : ℕ)
-    → Claims other blocks slot way block → Claims image blocks slot way block
-claims_alike {image = image} has slot way block claim = record {
+pub claims_alike : {image other blocks : List ℕ} → HasFilesOf image other blocks → (slot : ℕ) (role : ChainRole) (block : ℕ)
+    → Claims other blocks slot role block → Claims image blocks slot role block
+claims_alike {image = image} has slot role block claim = record {
   file = slot_alike has claim.file;
-  claimant = of_type has claim.file (λ type. ClaimsBy type way) claim.claimant;
-  on_chain = of_start has claim.file way (λ start. Reaches (link_of image) start block)
-      (reaches_alike (along_alike has claim.file way claim.claimant) block claim.on_chain);
+  claimant = of_type has claim.file (λ type. ClaimsBy type role) claim.claimant;
+  on_chain = of_start has claim.file role (λ start. Reaches (link_of image) start block)
+      (reaches_alike (along_alike has claim.file role claim.claimant) block claim.on_chain);
 }
 
 pub claimed_alike : {image other blocks : List ℕ} → HasFilesOf image other blocks → (block : ℕ) → IsClaimed other blocks block → IsClaimed image blocks block
 claimed_alike has block claimed = record {
   slot = claimed.slot;
-  way = claimed.way;
-  claim = claims_alike has claimed.slot claimed.way block claimed.claim;
+  role = claimed.role;
+  claim = claims_alike has claimed.slot claimed.role block claimed.claim;
 }
 
 -- the other image has what tells the files of the first in turn
@@ -60,31 +60,31 @@ pub files_turned : {image other blocks : List ℕ} → HasFilesOf image other bl
 files_turned {image = image} {other = other} {blocks = blocks} has = record {
   type = λ slot inside. sym (has.type slot inside);
   name = λ slot file. sym (has.name slot (slot_back slot file));
-  start = λ slot way file. sym (has.start slot way (slot_back slot file));
+  start = λ slot role file. sym (has.start slot role (slot_back slot file));
   link = λ block claimed. sym (has.link block (record {
     slot = claimed.slot;
-    way = claimed.way;
-    claim = claim_back claimed.slot claimed.way block claimed.claim;
+    role = claimed.role;
+    claim = claim_back claimed.slot claimed.role block claimed.claim;
   }));
   mark = λ block claimed. sym (has.mark block (record {
     slot = claimed.slot;
-    way = claimed.way;
-    claim = claim_back claimed.slot claimed.way block claimed.claim;
+    role = claimed.role;
+    claim = claim_back claimed.slot claimed.role block claimed.claim;
   }));
 }
   where
     slot_back : (slot : ℕ) → IsFileSlot image blocks slot → IsFileSlot other blocks slot
     slot_back slot file = record { inside = file.inside; used = λ unused. file.used (has.type slot file.inside ∙ unused) }
 
-    claim_back : (slot : ℕ) (way : Way) (block : ℕ) → Claims image blocks slot way block → Claims other blocks slot way block
-    claim_back slot way block claim =
+    claim_back : (slot : ℕ) (role : ChainRole) (block : ℕ) → Claims image blocks slot role block → Claims other blocks slot role block
+    claim_back slot role block claim =
         let file : IsFileSlot other blocks slot = slot_back slot claim.file in
-        let claimant : ClaimsBy (type_of (entry_at other blocks slot)) way = subst (λ type. ClaimsBy type way) (has.type slot file.inside) claim.claimant in
+        let claimant : ClaimsBy (type_of (entry_at other blocks slot)) role = subst (λ type. ClaimsBy type role) (has.type slot file.inside) claim.claimant in
         record {
           file = file;
           claimant = claimant;
-          on_chain = reaches_alike (along_turned (along_alike has file way claimant)) block
-              (subst (λ start. Reaches (link_of image) start block) (has.start slot way file) claim.on_chain);
+          on_chain = reaches_alike (along_turned (along_alike has file role claimant)) block
+              (subst (λ start. Reaches (link_of image) start block) (has.start slot role file) claim.on_chain);
         }
 
 -- a fault of a file is one in both
@@ -95,42 +95,42 @@ open_alike has file = of_type has file (λ type. ¬ IsClosed type)
 off_disk_alike : {image other blocks : List ℕ} → HasFilesOf image other blocks → {slot : ℕ} → IsFileSlot other blocks slot
     → IsOffDisk other blocks slot → IsOffDisk image blocks slot
 off_disk_alike {image = image} has file fault = record {
-  way = fault.way;
-  claimant = of_type has file (λ type. ClaimsBy type fault.way) fault.claimant;
-  off = of_start has file fault.way (GoesOff (link_of image)) (off_alike (along_alike has file fault.way fault.claimant) fault.off);
+  role = fault.role;
+  claimant = of_type has file (λ type. ClaimsBy type fault.role) fault.claimant;
+  off = of_start has file fault.role (GoesOff (link_of image)) (off_alike (along_alike has file fault.role fault.claimant) fault.off);
 }
 
 looped_alike : {image other blocks : List ℕ} → HasFilesOf image other blocks → {slot : ℕ} → IsFileSlot other blocks slot
     → IsLooped other blocks slot → IsLooped image blocks slot
 looped_alike {image = image} has file fault = record {
-  way = fault.way;
-  claimant = of_type has file (λ type. ClaimsBy type fault.way) fault.claimant;
-  loop = of_start has file fault.way (Loops (link_of image)) (loop_alike (along_alike has file fault.way fault.claimant) fault.loop);
+  role = fault.role;
+  claimant = of_type has file (λ type. ClaimsBy type fault.role) fault.claimant;
+  loop = of_start has file fault.role (Loops (link_of image)) (loop_alike (along_alike has file fault.role fault.claimant) fault.loop);
 }
 
-other_claim_alike : {image other blocks : List ℕ} → HasFilesOf image other blocks → (slot : ℕ) (way : Way) (block : ℕ)
-    → HasOtherClaim other blocks slot way block → HasOtherClaim image blocks slot way block
-other_claim_alike has slot way block two = record {
+other_claim_alike : {image other blocks : List ℕ} → HasFilesOf image other blocks → (slot : ℕ) (role : ChainRole) (block : ℕ)
+    → HasOtherClaim other blocks slot role block → HasOtherClaim image blocks slot role block
+other_claim_alike has slot role block two = record {
   other_slot = two.other_slot;
-  other_way = two.other_way;
-  claim = claims_alike has two.other_slot two.other_way block two.claim;
+  other_role = two.other_role;
+  claim = claims_alike has two.other_slot two.other_role block two.claim;
   other = two.other;
 }
 
 crossed_alike : {image other blocks : List ℕ} → HasFilesOf image other blocks → {slot : ℕ} → IsCrossed other blocks slot → IsCrossed image blocks slot
 crossed_alike has {slot = slot} fault = record {
-  way = fault.way;
+  role = fault.role;
   block = fault.block;
-  claim = claims_alike has slot fault.way fault.block fault.claim;
-  taken = elim fault.taken [ inl system ↦ inl system | inr two ↦ inr (other_claim_alike has slot fault.way fault.block two) ];
+  claim = claims_alike has slot fault.role fault.block fault.claim;
+  taken = elim fault.taken [ inl system ↦ inl system | inr two ↦ inr (other_claim_alike has slot fault.role fault.block two) ];
 }
 
 read_error_alike : {image other blocks : List ℕ} → HasFilesOf image other blocks → {slot : ℕ} → HasReadError other blocks slot → HasReadError image blocks slot
 read_error_alike has {slot = slot} fault = record {
-  way = fault.way;
+  role = fault.role;
   block = fault.block;
-  claim = claims_alike has slot fault.way fault.block fault.claim;
-  error = subst IsError (sym (has.mark fault.block (record { slot = slot; way = fault.way; claim = fault.claim }))) fault.error;
+  claim = claims_alike has slot fault.role fault.block fault.claim;
+  error = subst IsError (sym (has.mark fault.block (record { slot = slot; role = fault.role; claim = fault.claim }))) fault.error;
 }
 
 -- a file without fault is one in both, one of the served class, and a sound one

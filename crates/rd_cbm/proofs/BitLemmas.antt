@@ -5,7 +5,7 @@ use Rattle.std.specs.Int.Bits.{and_zero_l}
 use Rattle.rd_cbm.specs.declared.chains.Chain.{Chain}
 use Rattle.rd_cbm.specs.declared.chains.End.TheVariants as end
 use Rattle.rd_cbm.specs.Entries.{IsClosed}
-use Rattle.rd_cbm.specs.Marked.{AreTold, SomeError, SomeShared}
+use Rattle.rd_cbm.specs.Marked.{AreFaultBits, SomeError, SomeShared}
 
 -- the digit of a flag
 pub digit : Bool → ℕ
@@ -70,12 +70,12 @@ five a b c d e n is test_a test_b test_c test_d test_e =
     }
 
 -- and so of what the tests of a file tell
-pub told : (image : List ℕ) (shared : List Bool) (type : ℕ) (contents sides : Chain) (a b c d e : Bool) (n : ℕ)
+pub bits_of_tests : (image : List ℕ) (shared : List Bool) (type : ℕ) (contents sides : Chain) (a b c d e : Bool) (n : ℕ)
     → n ≡ digit a + 2 * digit b + 4 * digit c + 8 * digit d + 16 * digit e → IsTrue a ↔ (¬ IsClosed type)
     → IsTrue b ↔ ((contents.end ≡ end.Off) ⊎ (sides.end ≡ end.Off)) → IsTrue c ↔ ((contents.end ≡ end.Loop) ⊎ (sides.end ≡ end.Loop))
     → IsTrue d ↔ (SomeShared shared contents.blocks ⊎ SomeShared shared sides.blocks)
-    → IsTrue e ↔ (SomeError image contents.blocks ⊎ SomeError image sides.blocks) → AreTold image shared type contents sides n
-told image shared type contents sides a b c d e n is test_a test_b test_c test_d test_e =
+    → IsTrue e ↔ (SomeError image contents.blocks ⊎ SomeError image sides.blocks) → AreFaultBits image shared type contents sides n
+bits_of_tests image shared type contents sides a b c d e n is test_a test_b test_c test_d test_e =
     let bits = five a b c d e n is test_a test_b test_c test_d test_e in record {
       not_closed = bits.bit_0;
       off_disk = bits.bit_1;

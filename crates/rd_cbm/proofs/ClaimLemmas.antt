@@ -7,7 +7,7 @@ use Rattle.rd_cbm.specs.declared.chains.Chain.{Chain}
 use Rattle.rd_cbm.specs.declared.chains.End.TheVariants as end
 use Rattle.rd_cbm.specs.Links.{link_of}
 use Rattle.rd_cbm.specs.Walks.{IsChain, EndsBy, Reaches}
-use Rattle.rd_cbm.specs.Entries.{Way, Data, Side, entry_at, type_of, start_of, kind_of, ClaimsBy}
+use Rattle.rd_cbm.specs.Entries.{ChainRole, Data, Side, entry_at, type_of, start_of, kind_of, ClaimsBy}
 use Rattle.rd_cbm.specs.Files.{Claims, IsSystem}
 use Rattle.rd_cbm.specs.Marked.{IsClaimChain, AreAdded}
 use Rattle.rd_cbm.proofs.UseLemmas.{AreFlags, flags_first}
@@ -29,24 +29,24 @@ pub chain_reached : (image : List ℕ) (start : Option ℕ) (blocks : List ℕ) 
 chain_reached image start blocks b chain there = record { place = there.0; there = chain.in_order there.0 there.1 ∙ ap Some (get_or_default blocks there.0 0 b there.1 ∙ there.2) }
 
 -- where a file claims by a chain it is not unused
-pub claimant_used : (type : ℕ) (way : Way) → ClaimsBy type way → type ≢ 0
+pub claimant_used : (type : ℕ) (role : ChainRole) → ClaimsBy type role → type ≢ 0
 claimant_used type Data claims = λ none. let some : 1 ≤ kind_of type = claims.1 in absurd (omega arith)
 claimant_used type Side claims = λ none. let some : kind_of type ≡ 4 = claims.1 in absurd (omega arith)
 
 -- the blocks of the chain that was read are those that the file at the slot claims by it
-pub own_chain : (image blocks : List ℕ) (slot : ℕ) (way : Way) (start : Option ℕ) (type : ℕ) (chain : Chain) → slot < 8 * length blocks
-    → type ≡ type_of (entry_at image blocks slot) → start ≡ start_of (entry_at image blocks slot) way → IsClaimChain image start (ClaimsBy type way) chain
-    → (b : ℕ) → Contains chain.blocks b ↔ Claims image blocks slot way b
-own_chain image blocks slot way start type chain inside read starts is b = (
+pub own_chain : (image blocks : List ℕ) (slot : ℕ) (role : ChainRole) (start : Option ℕ) (type : ℕ) (chain : Chain) → slot < 8 * length blocks
+    → type ≡ type_of (entry_at image blocks slot) → start ≡ start_of (entry_at image blocks slot) role → IsClaimChain image start (ClaimsBy type role) chain
+    → (b : ℕ) → Contains chain.blocks b ↔ Claims image blocks slot role b
+own_chain image blocks slot role start type chain inside read starts is b = (
   λ there. elim is.decided [
     | inl claims ↦ record {
-      file = record { inside = inside; used = subst (λ t. t ≢ 0) read (claimant_used type way claims) };
-      claimant = subst (λ t. ClaimsBy t way) read claims;
+      file = record { inside = inside; used = subst (λ t. t ≢ 0) read (claimant_used type role claims) };
+      claimant = subst (λ t. ClaimsBy t role) read claims;
       on_chain = subst (λ s. Reaches (link_of image) s b) starts (chain_reached image start chain.blocks b (is.blocks claims) there);
     }
     | inr none ↦ absurd (none_in_empty b (subst (λ l. Contains l b) (is.none none) there))
   ],
-  λ claim. (is.blocks (subst (λ t. ClaimsBy t way) (sym read) claim.claimant)).all b (subst (λ s. Reaches (link_of image) s b) (sym starts) claim.on_chain),
+  λ claim. (is.blocks (subst (λ t. ClaimsBy t role) (sym read) claim.claimant)).all b (subst (λ s. Reaches (link_of image) s b) (sym starts) claim.on_chain),
 )
 
 -- a chain is read where it is claimed

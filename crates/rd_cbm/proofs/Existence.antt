@@ -8,17 +8,17 @@ use Rattle.rd_cbm.specs.declared.chains.Link.TheVariants.{Last, Next, Off}
 use Rattle.rd_cbm.specs.declared.chains.End.{End}
 use Rattle.rd_cbm.specs.declared.chains.End.TheVariants as end
 use Rattle.rd_cbm.specs.Walks.{Links, next_of, at, EndsBy, Loops, EndsOnce, IsChain}
-use Rattle.rd_cbm.proofs.Marks.{IsAt, Leads, unmarked}
+use Rattle.rd_cbm.proofs.MarkLemmas.{IsAt, Leads, unmarked}
 use Rattle.rd_cbm.proofs.WalkLaws.{at-zero, over_later, one_way}
-use Rattle.rd_cbm.proofs.Steps.{noted_more, noted_reached, walk_on, loops, first_block, one_fewer, chain_none, chain_stopped, chain_looped}
+use Rattle.rd_cbm.proofs.WalkSteps.{noted_more, noted_reached, walk_on, loops, first_block, one_fewer, chain_none, chain_stopped, chain_looped}
 
 -- The chain of a walk, how the walk ends, and that it is over at place 683 unless it loops.
 pub record HasEnd (link : Links) (s : Option ℕ) : Type 0 where
   pub blocks : List ℕ
   pub chain : IsChain link s blocks
-  pub way : End
-  pub holds : EndsBy link s way
-  pub over : (at link s CBM_BLOCKS ≡ None) ⊎ (way ≡ end.Loop)
+  pub ending : End
+  pub holds : EndsBy link s ending
+  pub over : (at link s CBM_BLOCKS ≡ None) ⊎ (ending ≡ end.Loop)
 
 -- links lead to blocks of the disk
 unfoldable pub StaysInside : Links → Type 0
@@ -37,14 +37,14 @@ unfolding StaysInside
 by_link link s stays block blocks marks w go_on (Last e) is = record {
   blocks = blocks;
   chain = chain_stopped link s block blocks marks (Last e) w is refl;
-  way = end.Last e;
+  ending = end.Last e;
   holds = record { block = block; reached = noted_reached link s blocks marks block w.noted w.reached; last = is };
   over = inl (over_at_end link s block blocks marks (Last e) w is refl);
 }
 by_link link s stays block blocks marks w go_on Off is = record {
   blocks = blocks;
   chain = chain_stopped link s block blocks marks Off w is refl;
-  way = end.Off;
+  ending = end.Off;
   holds = inr (record { block = block; reached = noted_reached link s blocks marks block w.noted w.reached; off = is });
   over = inl (over_at_end link s block blocks marks Off w is refl);
 }
@@ -63,7 +63,7 @@ end_from link s stays (suc fuel) block blocks marks w less =
       | inl mark ↦ record {
         blocks = blocks;
         chain = chain_looped link s block blocks marks w mark;
-        way = end.Loop;
+        ending = end.Loop;
         holds = loops link s block blocks marks w mark;
         over = inr refl;
       }
@@ -80,7 +80,7 @@ pub has_end : (link : Links) (s : Option ℕ) → StaysInside link → IfSome s 
 has_end link None stays low = record {
   blocks = [];
   chain = chain_none link None refl;
-  way = end.Off;
+  ending = end.Off;
   holds = inl refl;
   over = inl (over_later link None 0 CBM_BLOCKS (omega arith) (at-zero link None));
 }
@@ -88,7 +88,7 @@ has_end link (Some n) stays low = end_from link (Some n) stays 684 n [] (replica
 
 pub ends_once : (link : Links) (s : Option ℕ) → StaysInside link → IfSome s (λ n. n < CBM_BLOCKS) → EndsOnce link s
 ends_once link s stays low =
-    let e = has_end link s stays low in record { way = e.way; holds = e.holds; only = λ other holds. one_way link s other e.way holds e.holds }
+    let e = has_end link s stays low in record { ending = e.ending; holds = e.holds; only = λ other holds. one_way link s other e.ending holds e.holds }
 
 pub long_walk_loops : (link : Links) (s : Option ℕ) → StaysInside link → IfSome s (λ n. n < CBM_BLOCKS) → (n : ℕ) → at link s CBM_BLOCKS ≡ Some n → Loops link s
 long_walk_loops link s stays low n there =

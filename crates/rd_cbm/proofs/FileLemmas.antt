@@ -10,10 +10,10 @@ use Rattle.rd_cbm.specs.declared.chains.End.TheVariants as end
 use Rattle.rd_cbm.specs.Links.{link_of}
 use Rattle.rd_cbm.specs.Walks.{IsChain, Ends, GoesOff, Loops, EndsBy}
 use Rattle.rd_cbm.specs.Counts.{IsCount}
-use Rattle.rd_cbm.specs.Entries.{Way, Data, Side, entry_at, type_of, start_of, kind_of, ClaimsBy}
+use Rattle.rd_cbm.specs.Entries.{ChainRole, Data, Side, entry_at, type_of, start_of, kind_of, ClaimsBy}
 use Rattle.rd_cbm.specs.Files.{Claims, IsSystem, HasOtherClaim}
 use Rattle.rd_cbm.specs.Faults.{IsNotClosed, IsOffDisk, IsLooped, IsCrossed, HasReadError, IsError, AreFaults, IsSound}
-use Rattle.rd_cbm.specs.Marked.{IsClaimChain, AreUses, SomeError, SomeShared, AreTold, AreToldBlocks}
+use Rattle.rd_cbm.specs.Marked.{IsClaimChain, AreUses, SomeError, SomeShared, AreFaultBits, AreServedBlocks}
 use Rattle.rd_cbm.proofs.WalkLaws.{one_way}
 use Rattle.rd_cbm.proofs.ClaimLemmas.{own_chain}
 use Rattle.rd_cbm.proofs.CountLemmas.{count_as}
@@ -25,10 +25,10 @@ pub record AreRead (image blocks : List ℕ) (slot : ℕ) (contents sides : Chai
   pub by_data : IsClaimChain image (start_of (entry_at image blocks slot) Data) (ClaimsBy (type_of (entry_at image blocks slot)) Data) contents
   pub by_side : IsClaimChain image (start_of (entry_at image blocks slot) Side) (ClaimsBy (type_of (entry_at image blocks slot)) Side) sides
 
-moved : (image : List ℕ) (start start_too : Option ℕ) (type type_too : ℕ) (way : Way) (chain : Chain) → start ≡ start_too → type ≡ type_too
-    → IsClaimChain image start (ClaimsBy type way) chain → IsClaimChain image start_too (ClaimsBy type_too way) chain
-moved image start start_too type type_too way chain starts types is =
-    subst (λ s. IsClaimChain image s (ClaimsBy type_too way) chain) starts (subst (λ t. IsClaimChain image start (ClaimsBy t way) chain) types is)
+moved : (image : List ℕ) (start start_too : Option ℕ) (type type_too : ℕ) (role : ChainRole) (chain : Chain) → start ≡ start_too → type ≡ type_too
+    → IsClaimChain image start (ClaimsBy type role) chain → IsClaimChain image start_too (ClaimsBy type_too role) chain
+moved image start start_too type type_too role chain starts types is =
+    subst (λ s. IsClaimChain image s (ClaimsBy type_too role) chain) starts (subst (λ t. IsClaimChain image start (ClaimsBy t role) chain) types is)
 
 -- the chains of the fields of an entry are those of the entry at its slot
 pub read_as : (image blocks : List ℕ) (entry : CbmEntry) (slot : ℕ) (contents sides : Chain) → HasFields image blocks entry → entry.slot ≡ slot → slot < 8 * length blocks
@@ -61,13 +61,13 @@ off_disk_as : (image blocks : List ℕ) (slot : ℕ) (contents sides : Chain) �
     → ((contents.end ≡ end.Off) ⊎ (sides.end ≡ end.Off)) ↔ IsOffDisk image blocks slot
 off_disk_as image blocks slot contents sides are = (
   λ either. elim either [
-    | inl off ↦ (let both = off_by image _ _ contents are.by_data off in record { way = Data; claimant = both.0; off = both.1 })
-    | inr off ↦ (let both = off_by image _ _ sides are.by_side off in record { way = Side; claimant = both.0; off = both.1 })
+    | inl off ↦ (let both = off_by image _ _ contents are.by_data off in record { role = Data; claimant = both.0; off = both.1 })
+    | inr off ↦ (let both = off_by image _ _ sides are.by_side off in record { role = Side; claimant = both.0; off = both.1 })
   ],
-  λ is. from is.way is.claimant is.off,
+  λ is. from is.role is.claimant is.off,
 )
   where
-    from : (way : Way) → ClaimsBy (type_of (entry_at image blocks slot)) way → GoesOff (link_of image) (start_of (entry_at image blocks slot) way)
+    from : (role : ChainRole) → ClaimsBy (type_of (entry_at image blocks slot)) role → GoesOff (link_of image) (start_of (entry_at image blocks slot) role)
         → (contents.end ≡ end.Off) ⊎ (sides.end ≡ end.Off)
     from Data claims off = inl (one_way (link_of image) (start_of (entry_at image blocks slot) Data) contents.end end.Off (are.by_data.ends claims) off)
     from Side claims off = inr (one_way (link_of image) (start_of (entry_at image blocks slot) Side) sides.end end.Off (are.by_side.ends claims) off)
@@ -76,13 +76,13 @@ loop_as : (image blocks : List ℕ) (slot : ℕ) (contents sides : Chain) → Ar
     → ((contents.end ≡ end.Loop) ⊎ (sides.end ≡ end.Loop)) ↔ IsLooped image blocks slot
 loop_as image blocks slot contents sides are = (
   λ either. elim either [
-    | inl loop ↦ (let both = loop_by image _ _ contents are.by_data loop in record { way = Data; claimant = both.0; loop = both.1 })
-    | inr loop ↦ (let both = loop_by image _ _ sides are.by_side loop in record { way = Side; claimant = both.0; loop = both.1 })
+    | inl loop ↦ (let both = loop_by image _ _ contents are.by_data loop in record { role = Data; claimant = both.0; loop = both.1 })
+    | inr loop ↦ (let both = loop_by image _ _ sides are.by_side loop in record { role = Side; claimant = both.0; loop = both.1 })
   ],
-  λ is. from is.way is.claimant is.loop,
+  λ is. from is.role is.claimant is.loop,
 )
   where
-    from : (way : Way) → ClaimsBy (type_of (entry_at image blocks slot)) way → Loops (link_of image) (start_of (entry_at image blocks slot) way)
+    from : (role : ChainRole) → ClaimsBy (type_of (entry_at image blocks slot)) role → Loops (link_of image) (start_of (entry_at image blocks slot) role)
         → (contents.end ≡ end.Loop) ⊎ (sides.end ≡ end.Loop)
     from Data claims loop = inl (one_way (link_of image) (start_of (entry_at image blocks slot) Data) contents.end end.Loop (are.by_data.ends claims) loop)
     from Side claims loop = inr (one_way (link_of image) (start_of (entry_at image blocks slot) Side) sides.end end.Loop (are.by_side.ends claims) loop)
@@ -107,13 +107,13 @@ crossed_as image blocks slot contents sides used shared are uses = (
     | inl some ↦ to Data some.0 (of_all (λ b. b < CBM_BLOCKS) contents.blocks some.0 are.by_data.on_disk some.1) ((own_contents image blocks slot contents sides are some.0).0 some.1) some.2
     | inr some ↦ to Side some.0 (of_all (λ b. b < CBM_BLOCKS) sides.blocks some.0 are.by_side.on_disk some.1) ((own_sides image blocks slot contents sides are some.0).0 some.1) some.2
   ],
-  λ is. from is.way is.block is.claim is.taken,
+  λ is. from is.role is.block is.claim is.taken,
 )
   where
-    to : (way : Way) (b : ℕ) → b < CBM_BLOCKS → Claims image blocks slot way b → IsTrue (slice_index_or shared b false) → IsCrossed image blocks slot
-    to way b low claim t = record { way = way; block = b; claim = claim; taken = (uses.twice slot way b low claim).0 t }
+    to : (role : ChainRole) (b : ℕ) → b < CBM_BLOCKS → Claims image blocks slot role b → IsTrue (slice_index_or shared b false) → IsCrossed image blocks slot
+    to role b low claim t = record { role = role; block = b; claim = claim; taken = (uses.twice slot role b low claim).0 t }
 
-    from : (way : Way) (b : ℕ) → Claims image blocks slot way b → IsSystem blocks b ⊎ HasOtherClaim image blocks slot way b
+    from : (role : ChainRole) (b : ℕ) → Claims image blocks slot role b → IsSystem blocks b ⊎ HasOtherClaim image blocks slot role b
         → SomeShared shared contents.blocks ⊎ SomeShared shared sides.blocks
     from Data b claim taken =
         let there = (own_contents image blocks slot contents sides are b).1 claim in
@@ -127,13 +127,13 @@ error_as : (image blocks : List ℕ) (slot : ℕ) (contents sides : Chain) → A
     → (SomeError image contents.blocks ⊎ SomeError image sides.blocks) ↔ HasReadError image blocks slot
 error_as image blocks slot contents sides are = (
   λ either. elim either [
-    | inl some ↦ record { way = Data; block = some.0; claim = (own_contents image blocks slot contents sides are some.0).0 some.1; error = some.2 }
-    | inr some ↦ record { way = Side; block = some.0; claim = (own_sides image blocks slot contents sides are some.0).0 some.1; error = some.2 }
+    | inl some ↦ record { role = Data; block = some.0; claim = (own_contents image blocks slot contents sides are some.0).0 some.1; error = some.2 }
+    | inr some ↦ record { role = Side; block = some.0; claim = (own_sides image blocks slot contents sides are some.0).0 some.1; error = some.2 }
   ],
-  λ is. from is.way is.block is.claim is.error,
+  λ is. from is.role is.block is.claim is.error,
 )
   where
-    from : (way : Way) (b : ℕ) → Claims image blocks slot way b → IsError (mark_of image b) → SomeError image contents.blocks ⊎ SomeError image sides.blocks
+    from : (role : ChainRole) (b : ℕ) → Claims image blocks slot role b → IsError (mark_of image b) → SomeError image contents.blocks ⊎ SomeError image sides.blocks
     from Data b claim error = inl (b, (own_contents image blocks slot contents sides are b).1 claim, error)
     from Side b claim error = inr (b, (own_sides image blocks slot contents sides are b).1 claim, error)
 
@@ -169,14 +169,14 @@ faults_by_bits image blocks slot faults bits = record {
 
 -- the faults that the tests tell are those of the file
 pub faults_as : (image blocks : List ℕ) (slot : ℕ) (contents sides : Chain) (used shared : List Bool) (faults : ℕ) → AreRead image blocks slot contents sides
-    → AreUses image blocks used shared → AreTold image shared (type_of (entry_at image blocks slot)) contents sides faults → AreFaults image blocks slot faults
-faults_as image blocks slot contents sides used shared faults are uses told = faults_by_bits image blocks slot faults (record {
-  bit_0 = told.not_closed;
-  bit_1 = through told.off_disk (off_disk_as image blocks slot contents sides are);
-  bit_2 = through told.loop (loop_as image blocks slot contents sides are);
-  bit_3 = through told.crossed (crossed_as image blocks slot contents sides used shared are uses);
-  bit_4 = through told.read_error (error_as image blocks slot contents sides are);
-  no_other = told.no_other;
+    → AreUses image blocks used shared → AreFaultBits image shared (type_of (entry_at image blocks slot)) contents sides faults → AreFaults image blocks slot faults
+faults_as image blocks slot contents sides used shared faults are uses are_bits = faults_by_bits image blocks slot faults (record {
+  bit_0 = are_bits.not_closed;
+  bit_1 = through are_bits.off_disk (off_disk_as image blocks slot contents sides are);
+  bit_2 = through are_bits.loop (loop_as image blocks slot contents sides are);
+  bit_3 = through are_bits.crossed (crossed_as image blocks slot contents sides used shared are uses);
+  bit_4 = through are_bits.read_error (error_as image blocks slot contents sides are);
+  no_other = are_bits.no_other;
 })
 
 -- The blocks and the last byte that are told of the file.
@@ -200,22 +200,22 @@ record HasLast (image : List ℕ) (start : Option ℕ) (chain : Chain) : Type 0 
   ends : Ends (link_of image) start e
 
 last_of : (image blocks : List ℕ) (slot : ℕ) (chain : Chain) → IsSound image blocks slot → ClaimsBy (type_of (entry_at image blocks slot)) Data
-    → (way : End) → chain.end ≡ way → EndsBy (link_of image) (start_of (entry_at image blocks slot) Data) way → HasLast image (start_of (entry_at image blocks slot) Data) chain
+    → (ending : End) → chain.end ≡ ending → EndsBy (link_of image) (start_of (entry_at image blocks slot) Data) ending → HasLast image (start_of (entry_at image blocks slot) Data) chain
 last_of image blocks slot chain sound claims (end.Last e) is ends = record { e = e; is = is; ends = ends }
-last_of image blocks slot chain sound claims end.Off is ends = absurd (sound.no_fault.on_disk (record { way = Data; claimant = claims; off = ends }))
-last_of image blocks slot chain sound claims end.Loop is ends = absurd (sound.no_fault.ends (record { way = Data; claimant = claims; loop = ends }))
+last_of image blocks slot chain sound claims end.Off is ends = absurd (sound.no_fault.on_disk (record { role = Data; claimant = claims; off = ends }))
+last_of image blocks slot chain sound claims end.Loop is ends = absurd (sound.no_fault.ends (record { role = Data; claimant = claims; loop = ends }))
 
 pub blocks_as : (image blocks : List ℕ) (slot : ℕ) (contents sides : Chain) (faults : ℕ) (list : List ℕ) (last : ℕ) → AreRead image blocks slot contents sides
-    → AreFaults image blocks slot faults → AreToldBlocks (type_of (entry_at image blocks slot)) faults contents list last → AreFileBlocks image blocks slot list last
-blocks_as image blocks slot contents sides faults list last are faulty told = record {
+    → AreFaults image blocks slot faults → AreServedBlocks (type_of (entry_at image blocks slot)) faults contents list last → AreFileBlocks image blocks slot list last
+blocks_as image blocks slot contents sides faults list last are faulty are_bits = record {
   chain = λ sound. let has = sound_last sound in
-      subst (IsChain (link_of image) (start_of (entry_at image blocks slot) Data)) (sym (told.sound (faulty.none.1 sound.no_fault) sound.served has.e has.is).0)
+      subst (IsChain (link_of image) (start_of (entry_at image blocks slot) Data)) (sym (are_bits.sound (faulty.none.1 sound.no_fault) sound.served has.e has.is).0)
       (are.by_data.blocks (served_claims image blocks slot sound));
   last_byte = λ sound. let has = sound_last sound in
-      subst (Ends (link_of image) (start_of (entry_at image blocks slot) Data)) (sym (told.sound (faulty.none.1 sound.no_fault) sound.served has.e has.is).1) has.ends;
+      subst (Ends (link_of image) (start_of (entry_at image blocks slot) Data)) (sym (are_bits.sound (faulty.none.1 sound.no_fault) sound.served has.e has.is).1) has.ends;
   no_blocks = λ unsound. (unsound_none unsound).0;
   no_last = λ unsound. (unsound_none unsound).1;
-  on_disk = told.on_disk are.by_data.on_disk;
+  on_disk = are_bits.on_disk are.by_data.on_disk;
 }
   where
     sound_last : IsSound image blocks slot → HasLast image (start_of (entry_at image blocks slot) Data) contents
@@ -225,15 +225,15 @@ blocks_as image blocks slot contents sides faults list last are faulty told = re
 
     unsound_none : ¬ IsSound image blocks slot → (list ≡ []) × (last ≡ 0)
     unsound_none unsound = elim (cases_eq faults 0) [
-      | inl zero ↦ told.unserved (λ served. unsound (record { served = served; no_fault = faulty.none.0 zero }))
-      | inr some ↦ told.faulty some
+      | inl zero ↦ are_bits.unserved (λ served. unsound (record { served = served; no_fault = faulty.none.0 zero }))
+      | inr some ↦ are_bits.faulty some
     ]
 
 -- the blocks on the two chains are those that the file claims by some way
 pub claimed_as : (image blocks : List ℕ) (slot : ℕ) (contents sides : Chain) (count : ℕ) → AreRead image blocks slot contents sides
-    → IsCount (λ b. Contains contents.blocks b ⊎ Contains sides.blocks b) count → IsCount (λ b. (way : Way) × Claims image blocks slot way b) count
+    → IsCount (λ b. Contains contents.blocks b ⊎ Contains sides.blocks b) count → IsCount (λ b. (role : ChainRole) × Claims image blocks slot role b) count
 claimed_as image blocks slot contents sides count are counted =
-    count_as (λ b. Contains contents.blocks b ⊎ Contains sides.blocks b) (λ b. (way : Way) × Claims image blocks slot way b) count counted (λ b. (
+    count_as (λ b. Contains contents.blocks b ⊎ Contains sides.blocks b) (λ b. (role : ChainRole) × Claims image blocks slot role b) count counted (λ b. (
       λ either. elim either [
         | inl there ↦ (Data, (own_contents image blocks slot contents sides are b).0 there)
         | inr there ↦ (Side, (own_sides image blocks slot contents sides are b).0 there)
@@ -241,6 +241,6 @@ claimed_as image blocks slot contents sides count are counted =
       λ some. from b some.0 some.1,
     ))
   where
-    from : (b : ℕ) (way : Way) → Claims image blocks slot way b → Contains contents.blocks b ⊎ Contains sides.blocks b
+    from : (b : ℕ) (role : ChainRole) → Claims image blocks slot role b → Contains contents.blocks b ⊎ Contains sides.blocks b
     from b Data claim = inl ((own_contents image blocks slot contents sides are b).1 claim)
     from b Side claim = inr ((own_sides image blocks slot contents sides are b).1 claim)

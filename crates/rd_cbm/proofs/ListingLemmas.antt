@@ -35,8 +35,8 @@ all_of_one P x holds k d inside = let first : 0 ≡ k = omega arith in subst (λ
 
 pub files_more : (image blocks : List ℕ) (n : ℕ) (files : List CbmFile) (file : CbmFile) → AreFilesBelow image blocks n files → Describes image blocks file → file.slot ≡ n
     → AreFilesBelow image blocks (n + 1) (files ++ file ∷ [])
-files_more image blocks n files file are told at = record {
-  each = All-append (Describes image blocks) files (file ∷ []) are.each (all_of_one (Describes image blocks) file told);
+files_more image blocks n files file are described at = record {
+  each = All-append (Describes image blocks) files (file ∷ []) are.each (all_of_one (Describes image blocks) file described);
   below = All-append (λ f. f.slot < n + 1) files (file ∷ []) (λ k d inside. let low = are.below k d inside in omega arith) (all_of_one (λ f. f.slot < n + 1) file (omega arith));
   ascending = all_pairs_push (λ f g. f.slot < g.slot) files file are.ascending (λ k d inside. let low = are.below k d inside in omega arith);
   complete = below_more (λ slot. IsFileSlot image blocks slot → Contains (map (λ f. f.slot) (files ++ file ∷ [])) slot) n

@@ -4,7 +4,7 @@ use Rattle.std.proofs.lemmas.Bool.{cases_eq}
 use Rattle.std.proofs.lemmas.List.{get_or_default}
 use Rattle.std.proofs.Math.ListN.{length-set}
 use Rattle.rd_geometry.specs.Blocks.{CBM_BLOCKS}
-use Rattle.rd_cbm.specs.Entries.{Way, Data, Side}
+use Rattle.rd_cbm.specs.Entries.{ChainRole, Data, Side}
 use Rattle.rd_cbm.specs.Files.{Claims, IsSystem}
 use Rattle.rd_cbm.specs.Marked.{AreAdded, AreUses, shared_after}
 
@@ -258,11 +258,11 @@ flags_first Y H used shared used_whole shared_whole own known = record {
 }
 
 -- the way of a number, and the number of a way of a slot
-pub way_of : ℕ → Way
+pub way_of : ℕ → ChainRole
 way_of zero = Data
 way_of (suc n) = Side
 
-pub number_of : Way → ℕ
+pub number_of : ChainRole → ℕ
 number_of Data = 0
 number_of Side = 1
 
@@ -270,29 +270,29 @@ number_of Side = 1
 abbrev pub IsNumbered : List ℕ → List ℕ → ℕ → ℕ → Type 0
 IsNumbered image blocks n b = Claims image blocks (n / 2) (way_of (n % 2)) b
 
-number-bound : (way : Way) → number_of way ≤ 1
+number-bound : (role : ChainRole) → number_of role ≤ 1
 unfolding number_of
 number-bound Data = omega arith
 number-bound Side = omega arith
 
-way-number : (way : Way) → way_of (number_of way) ≡ way
+role-number : (role : ChainRole) → way_of (number_of role) ≡ role
 unfolding way_of number_of
-way-number Data = refl
-way-number Side = refl
+role-number Data = refl
+role-number Side = refl
 
-pub numbered : (image blocks : List ℕ) (slot : ℕ) (way : Way) (b : ℕ) → Claims image blocks slot way b → IsNumbered image blocks (2 * slot + number_of way) b
-numbered image blocks slot way b claim =
-    let bound : number_of way ≤ 1 = number-bound way in
-    let half : (2 * slot + number_of way) / 2 ≡ slot = omega arith in
-    let rest : (2 * slot + number_of way) % 2 ≡ number_of way = omega arith in
-    rw (half, rest, way-number way) claim
+pub numbered : (image blocks : List ℕ) (slot : ℕ) (role : ChainRole) (b : ℕ) → Claims image blocks slot role b → IsNumbered image blocks (2 * slot + number_of role) b
+numbered image blocks slot role b claim =
+    let bound : number_of role ≤ 1 = number-bound role in
+    let half : (2 * slot + number_of role) / 2 ≡ slot = omega arith in
+    let rest : (2 * slot + number_of role) % 2 ≡ number_of role = omega arith in
+    rw (half, rest, role-number role) claim
 
-pub unnumbered : (image blocks : List ℕ) (slot : ℕ) (way : Way) (b : ℕ) → IsNumbered image blocks (2 * slot + number_of way) b → Claims image blocks slot way b
-unnumbered image blocks slot way b claim =
-    let bound : number_of way ≤ 1 = number-bound way in
-    let half : (2 * slot + number_of way) / 2 ≡ slot = omega arith in
-    let rest : (2 * slot + number_of way) % 2 ≡ number_of way = omega arith in
-    rw (half, rest, way-number way) at claim
+pub unnumbered : (image blocks : List ℕ) (slot : ℕ) (role : ChainRole) (b : ℕ) → IsNumbered image blocks (2 * slot + number_of role) b → Claims image blocks slot role b
+unnumbered image blocks slot role b claim =
+    let bound : number_of role ≤ 1 = number-bound role in
+    let half : (2 * slot + number_of role) / 2 ≡ slot = omega arith in
+    let rest : (2 * slot + number_of role) % 2 ≡ number_of role = omega arith in
+    rw (half, rest, role-number role) at claim
 
 number-data : number_of Data ≡ 0
 unfolding number_of
@@ -320,22 +320,22 @@ flags_slot image blocks slot used shared contents used_then shared_then sides us
     (flags_more (IsSystem blocks) (IsNumbered image blocks) (2 * slot + 1) used_then shared_then sides used_now shared_now
     (flags_more (IsSystem blocks) (IsNumbered image blocks) (2 * slot) used shared contents used_then shared_then are added_contents by_contents) added_sides by_side)
 
-number_inside : (image blocks : List ℕ) (slot : ℕ) (way : Way) (b : ℕ) → Claims image blocks slot way b → 2 * slot + number_of way < 2 * (8 * length blocks)
-number_inside image blocks slot way b claim =
+number_inside : (image blocks : List ℕ) (slot : ℕ) (role : ChainRole) (b : ℕ) → Claims image blocks slot role b → 2 * slot + number_of role < 2 * (8 * length blocks)
+number_inside image blocks slot role b claim =
     let inside : slot < 8 * length blocks = claim.file.inside in
-    let bound : number_of way ≤ 1 = number-bound way in
+    let bound : number_of role ≤ 1 = number-bound role in
     omega arith
 
 -- two ways of one slot with one number are the same
-same_way : (n slot : ℕ) → n / 2 ≡ slot → (way : Way) → way_of (n % 2) ≡ way → n ≡ 2 * slot + number_of way
+same_way : (n slot : ℕ) → n / 2 ≡ slot → (role : ChainRole) → way_of (n % 2) ≡ role → n ≡ 2 * slot + number_of role
 unfolding way_of number_of
-same_way n slot half way is = elim (cases_eq (n % 2) 0) [
+same_way n slot half role is = elim (cases_eq (n % 2) 0) [
   | inl even ↦
-      let contents : Data ≡ way = subst (λ k. way_of k ≡ way) even is in
+      let contents : Data ≡ role = subst (λ k. way_of k ≡ role) even is in
       subst (λ w. n ≡ 2 * slot + number_of w) contents (omega (arith, even))
   | inr odd ↦
       let one : n % 2 ≡ 1 = omega (arith, odd) in
-      let side : Side ≡ way = subst (λ k. way_of k ≡ way) one is in
+      let side : Side ≡ role = subst (λ k. way_of k ≡ role) one is in
       subst (λ w. n ≡ 2 * slot + number_of w) side (omega (arith, one))
 ]
 
@@ -346,46 +346,46 @@ flags_all image blocks n used shared whole are = record {
   used_whole = are.used_whole;
   shared_whole = are.shared_whole;
   once = λ b low. (
-    λ t. elim ((are.once b low).0 t) [ inl y ↦ inl y | inr held ↦ inr (record { slot = held.number / 2; way = way_of (held.number % 2); claim = held.holds }) ],
+    λ t. elim ((are.once b low).0 t) [ inl y ↦ inl y | inr held ↦ inr (record { slot = held.number / 2; role = way_of (held.number % 2); claim = held.holds }) ],
     λ either. (are.once b low).1 (elim either [
       | inl y ↦ inl y
       | inr claimed ↦ inr (record {
-        number = 2 * claimed.slot + number_of claimed.way;
-        before = let high = number_inside image blocks claimed.slot claimed.way b claimed.claim in omega arith;
-        holds = numbered image blocks claimed.slot claimed.way b claimed.claim;
+        number = 2 * claimed.slot + number_of claimed.role;
+        before = let high = number_inside image blocks claimed.slot claimed.role b claimed.claim in omega arith;
+        holds = numbered image blocks claimed.slot claimed.role b claimed.claim;
       })
     ]),
   );
-  twice = λ slot way b low claim.
-      let high : 2 * slot + number_of way < 2 * (8 * length blocks) = number_inside image blocks slot way b claim in
-      let test = are.twice (2 * slot + number_of way) b low (omega arith) (numbered image blocks slot way b claim) in (
+  twice = λ slot role b low claim.
+      let high : 2 * slot + number_of role < 2 * (8 * length blocks) = number_inside image blocks slot role b claim in
+      let test = are.twice (2 * slot + number_of role) b low (omega arith) (numbered image blocks slot role b claim) in (
         λ t. elim (test.0 t) [
           | inl y ↦ inl y
           | inr beside ↦ inr (record {
             other_slot = beside.number / 2;
-            other_way = way_of (beside.number % 2);
+            other_role = way_of (beside.number % 2);
             claim = beside.holds;
-            other = λ at_slot at_way. beside.other (same_way beside.number slot at_slot way at_way);
+            other = λ at_slot at_way. beside.other (same_way beside.number slot at_slot role at_way);
           })
         ],
         λ either. test.1 (elim either [
           | inl y ↦ inl y
           | inr other ↦ inr (record {
-            number = 2 * other.other_slot + number_of other.other_way;
-            before = let inside = number_inside image blocks other.other_slot other.other_way b other.claim in omega arith;
-            other = λ same. other.other (slots_of slot way other.other_slot other.other_way same) (ways_of slot way other.other_slot other.other_way same);
-            holds = numbered image blocks other.other_slot other.other_way b other.claim;
+            number = 2 * other.other_slot + number_of other.other_role;
+            before = let inside = number_inside image blocks other.other_slot other.other_role b other.claim in omega arith;
+            other = λ same. other.other (slots_of slot role other.other_slot other.other_role same) (ways_of slot role other.other_slot other.other_role same);
+            holds = numbered image blocks other.other_slot other.other_role b other.claim;
           })
         ]),
       );
 }
   where
-    slots_of : (slot : ℕ) (way : Way) (other_slot : ℕ) (other_way : Way) → 2 * other_slot + number_of other_way ≡ 2 * slot + number_of way → other_slot ≡ slot
-    slots_of slot way other_slot other_way same = let a : number_of way ≤ 1 = number-bound way in let b : number_of other_way ≤ 1 = number-bound other_way in omega arith
+    slots_of : (slot : ℕ) (role : ChainRole) (other_slot : ℕ) (other_role : ChainRole) → 2 * other_slot + number_of other_role ≡ 2 * slot + number_of role → other_slot ≡ slot
+    slots_of slot role other_slot other_role same = let a : number_of role ≤ 1 = number-bound role in let b : number_of other_role ≤ 1 = number-bound other_role in omega arith
 
-    ways_of : (slot : ℕ) (way : Way) (other_slot : ℕ) (other_way : Way) → 2 * other_slot + number_of other_way ≡ 2 * slot + number_of way → other_way ≡ way
-    ways_of slot way other_slot other_way same =
-        let a : number_of way ≤ 1 = number-bound way in
-        let b : number_of other_way ≤ 1 = number-bound other_way in
-        let equal : number_of other_way ≡ number_of way = omega arith in
-        sym (way-number other_way) ∙ ap way_of equal ∙ way-number way
+    ways_of : (slot : ℕ) (role : ChainRole) (other_slot : ℕ) (other_role : ChainRole) → 2 * other_slot + number_of other_role ≡ 2 * slot + number_of role → other_role ≡ role
+    ways_of slot role other_slot other_role same =
+        let a : number_of role ≤ 1 = number-bound role in
+        let b : number_of other_role ≤ 1 = number-bound other_role in
+        let equal : number_of other_role ≡ number_of role = omega arith in
+        sym (role-number other_role) ∙ ap way_of equal ∙ role-number role

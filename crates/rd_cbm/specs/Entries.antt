@@ -27,13 +27,13 @@ abbrev pub size_field_of : List ℕ → ℕ
 size_field_of entry = slice_index entry 30 + 256 * slice_index entry 31
 
 -- the two chains that an entry can name: that of its data, and that of its side sectors
-pub data Way : Type 0 where
-  Data : Way
-  Side : Way
+pub data ChainRole : Type 0 where
+  Data : ChainRole
+  Side : ChainRole
 
 -- where a chain of an entry starts: bytes 3 and 4, track and sector of the first data block, and
 -- bytes 21 and 22, those of the first side sector
-abbrev pub start_of : List ℕ → Way → Option ℕ
+abbrev pub start_of : List ℕ → ChainRole → Option ℕ
 start_of entry Data = index_of (slice_index entry 3) (slice_index entry 4)
 start_of entry Side = index_of (slice_index entry 21) (slice_index entry 22)
 
@@ -65,6 +65,6 @@ IsServed type = (1 ≤ kind_of type) × (kind_of type ≤ 3)
 
 -- an entry with this type byte claims the blocks of this chain: of its data where it is closed and
 -- SEQ, PRG, USR or REL, and of its side sectors where it is closed and REL
-abbrev pub ClaimsBy : ℕ → Way → Type 0
+abbrev pub ClaimsBy : ℕ → ChainRole → Type 0
 ClaimsBy type Data = IsClosed type × (1 ≤ kind_of type) × (kind_of type ≤ 4)
 ClaimsBy type Side = IsClosed type × (kind_of type ≡ 4)

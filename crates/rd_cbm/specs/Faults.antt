@@ -4,7 +4,7 @@ use Rattle.std.specs.Prelude.{◌≡◌, ◌≢◌, ℕ, ◌<◌, ◌⊎◌, ◌
 use Rattle.rd_geometry.specs.Blocks.{mark_of}
 use Rattle.rd_cbm.specs.Links.{link_of}
 use Rattle.rd_cbm.specs.Walks.{GoesOff, Loops}
-use Rattle.rd_cbm.specs.Entries.{Way, entry_at, type_of, start_of, IsClosed, IsServed, ClaimsBy}
+use Rattle.rd_cbm.specs.Entries.{ChainRole, entry_at, type_of, start_of, IsClosed, IsServed, ClaimsBy}
 use Rattle.rd_cbm.specs.Files.{Claims, IsSystem, HasOtherClaim}
 
 -- not-closed: bit 7 of the type byte is clear
@@ -13,23 +13,23 @@ IsNotClosed image blocks slot = ¬ IsClosed (type_of (entry_at image blocks slot
 
 -- off-disk: a chain by which the file claims goes off the disk
 pub record IsOffDisk (image blocks : List ℕ) (slot : ℕ) : Type 0 where
-  pub way : Way
-  pub claimant : ClaimsBy (type_of (entry_at image blocks slot)) way
-  pub off : GoesOff (link_of image) (start_of (entry_at image blocks slot) way)
+  pub role : ChainRole
+  pub claimant : ClaimsBy (type_of (entry_at image blocks slot)) role
+  pub off : GoesOff (link_of image) (start_of (entry_at image blocks slot) role)
 
 -- loop: a chain by which the file claims loops
 pub record IsLooped (image blocks : List ℕ) (slot : ℕ) : Type 0 where
-  pub way : Way
-  pub claimant : ClaimsBy (type_of (entry_at image blocks slot)) way
-  pub loop : Loops (link_of image) (start_of (entry_at image blocks slot) way)
+  pub role : ChainRole
+  pub claimant : ClaimsBy (type_of (entry_at image blocks slot)) role
+  pub loop : Loops (link_of image) (start_of (entry_at image blocks slot) role)
 
 -- crossed: a block that the file claims is the disk's own, or is claimed by another slot or by the
 -- file's other chain too
 pub record IsCrossed (image blocks : List ℕ) (slot : ℕ) : Type 0 where
-  pub way : Way
+  pub role : ChainRole
   pub block : ℕ
-  pub claim : Claims image blocks slot way block
-  pub taken : IsSystem blocks block ⊎ HasOtherClaim image blocks slot way block
+  pub claim : Claims image blocks slot role block
+  pub taken : IsSystem blocks block ⊎ HasOtherClaim image blocks slot role block
 
 -- an error byte tells of an error: any but 0 and 1 does, by this project's profile
 abbrev pub IsError : ℕ → Type 0
@@ -37,9 +37,9 @@ IsError mark = (mark ≢ 0) × (mark ≢ 1)
 
 -- read-error: the error byte of a block that the file claims tells of an error
 pub record HasReadError (image blocks : List ℕ) (slot : ℕ) : Type 0 where
-  pub way : Way
+  pub role : ChainRole
   pub block : ℕ
-  pub claim : Claims image blocks slot way block
+  pub claim : Claims image blocks slot role block
   pub error : IsError (mark_of image block)
 
 -- The file has no fault.

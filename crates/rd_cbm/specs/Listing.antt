@@ -4,7 +4,7 @@ use Rattle.rd_geometry.specs.Blocks.{CBM_BLOCKS, index_of}
 use Rattle.rd_cbm.specs.Links.{link_of}
 use Rattle.rd_cbm.specs.Walks.{IsChain, Ends, EndsBy}
 use Rattle.rd_cbm.specs.Counts.{IsCount}
-use Rattle.rd_cbm.specs.Entries.{Way, Data, entry_at, type_of, name_of, record_length_of, size_field_of, start_of, class_of, IsLocked, IsClosed}
+use Rattle.rd_cbm.specs.Entries.{ChainRole, Data, entry_at, type_of, name_of, record_length_of, size_field_of, start_of, class_of, IsLocked, IsClosed}
 use Rattle.rd_cbm.specs.Files.{AreDirectoryBlocks, IsFileSlot, Claims}
 use Rattle.rd_cbm.specs.Faults.{AreFaults, IsSound}
 use Rattle.rd_cbm.specs.BlockMap.{HasWrongCount, IsClaimedFree, IsUnclaimedUsed}
@@ -57,7 +57,7 @@ pub record Describes (image blocks : List ℕ) (file : CbmFile) : Type 0 where
   pub no_blocks : ¬ IsSound image blocks file.slot → file.blocks ≡ []
   pub no_last : ¬ IsSound image blocks file.slot → file.last ≡ 0
   pub on_disk : All (λ block. block < CBM_BLOCKS) file.blocks
-  pub claimed : IsCount (λ block. (way : Way) × Claims image blocks file.slot way block) file.claimed
+  pub claimed : IsCount (λ block. (role : ChainRole) × Claims image blocks file.slot role block) file.claimed
 
 -- The files of an image, by ascending slot: each is described correctly, and none is missing.
 pub record AreFiles (image : List ℕ) (files : List CbmFile) : Type 0 where
@@ -72,7 +72,7 @@ pub record IsFileAt (image : List ℕ) (slot : ℕ) (answer : Option CbmFile) : 
   pub blocks : List ℕ
   pub directory : AreDirectoryBlocks image blocks
   pub same_slot : IfSome answer (λ file. file.slot ≡ slot)
-  pub told : IfSome answer (Describes image blocks)
+  pub described : IfSome answer (Describes image blocks)
   pub none : IfNone answer (¬ IsFileSlot image blocks slot)
 
 -- The three counts of the block map: of tracks, and of blocks by their indices.

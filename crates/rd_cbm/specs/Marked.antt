@@ -6,7 +6,7 @@ use Rattle.rd_cbm.specs.declared.chains.Chain.{Chain}
 use Rattle.rd_cbm.specs.declared.chains.End.TheVariants as end
 use Rattle.rd_cbm.specs.Links.{link_of}
 use Rattle.rd_cbm.specs.Walks.{IsChain, EndsBy}
-use Rattle.rd_cbm.specs.Entries.{Way, IsClosed, IsServed}
+use Rattle.rd_cbm.specs.Entries.{ChainRole, IsClosed, IsServed}
 use Rattle.rd_cbm.specs.Faults.{IsError}
 use Rattle.rd_cbm.specs.Files.{Claims, IsSystem, IsInUse, HasOtherClaim}
 
@@ -41,8 +41,8 @@ pub record AreUses (image blocks : List ℕ) (used shared : List Bool) : Type 0 
   pub used_whole : length used ≡ CBM_BLOCKS
   pub shared_whole : length shared ≡ CBM_BLOCKS
   pub once : (b : ℕ) → b < CBM_BLOCKS → IsTrue (slice_index_or used b false) ↔ IsInUse image blocks b
-  pub twice : (slot : ℕ) (way : Way) (b : ℕ) → b < CBM_BLOCKS → Claims image blocks slot way b
-      → IsTrue (slice_index_or shared b false) ↔ (IsSystem blocks b ⊎ HasOtherClaim image blocks slot way b)
+  pub twice : (slot : ℕ) (role : ChainRole) (b : ℕ) → b < CBM_BLOCKS → Claims image blocks slot role b
+      → IsTrue (slice_index_or shared b false) ↔ (IsSystem blocks b ⊎ HasOtherClaim image blocks slot role b)
 
 -- a block of the list is flagged
 abbrev pub SomeShared : List Bool → List ℕ → Type 0
@@ -53,7 +53,7 @@ abbrev pub SomeError : List ℕ → List ℕ → Type 0
 SomeError image blocks = (b : ℕ) × Contains blocks b × IsError (mark_of image b)
 
 -- The number has a bit for each test that the file's two chains, or its type byte, pass.
-pub record AreTold (image : List ℕ) (shared : List Bool) (type : ℕ) (contents sides : Chain) (faults : ℕ) : Type 0 where
+pub record AreFaultBits (image : List ℕ) (shared : List Bool) (type : ℕ) (contents sides : Chain) (faults : ℕ) : Type 0 where
   pub not_closed : IsBitSet faults 0 ↔ (¬ IsClosed type)
   pub off_disk : IsBitSet faults 1 ↔ ((contents.end ≡ end.Off) ⊎ (sides.end ≡ end.Off))
   pub loop : IsBitSet faults 2 ↔ ((contents.end ≡ end.Loop) ⊎ (sides.end ≡ end.Loop))
@@ -63,7 +63,7 @@ pub record AreTold (image : List ℕ) (shared : List Bool) (type : ℕ) (content
 
 -- The blocks and the last byte given for a file: those of its chain if it has no fault and desk
 -- serves its class, and otherwise none, and 0.
-pub record AreToldBlocks (type faults : ℕ) (contents : Chain) (blocks : List ℕ) (last : ℕ) : Type 0 where
+pub record AreServedBlocks (type faults : ℕ) (contents : Chain) (blocks : List ℕ) (last : ℕ) : Type 0 where
   pub sound : faults ≡ 0 → IsServed type → (e : ℕ) → contents.end ≡ end.Last e → (blocks ≡ contents.blocks) × (last ≡ e)
   pub faulty : faults ≢ 0 → (blocks ≡ []) × (last ≡ 0)
   pub unserved : ¬ IsServed type → (blocks ≡ []) × (last ≡ 0)

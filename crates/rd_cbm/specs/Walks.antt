@@ -66,9 +66,9 @@ end_word end.Loop = codes "loop"
 
 -- The walk ends in one way, and in no other.
 pub record EndsOnce (link : Links) (s : Option ℕ) : Type 0 where
-  pub way : End
-  pub holds : EndsBy link s way
-  pub only : (other : End) → EndsBy link s other → other ≡ way
+  pub ending : End
+  pub holds : EndsBy link s ending
+  pub only : (other : End) → EndsBy link s other → other ≡ ending
 
 -- The blocks are the chain of s: all that the walk comes to, each once, in the order of their first
 -- places.

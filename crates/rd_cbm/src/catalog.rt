@@ -4,7 +4,7 @@ ghost use Rattle.rd_geometry.specs.CbmDisks.{cbm_bytes};
 ghost use Rattle.rd_cbm.specs.Entries as entries;
 ghost use Rattle.rd_cbm.specs.Entries.{IsLocked, IsServed};
 ghost use Rattle.rd_cbm.specs.Files.{IsFileSlot};
-ghost use Rattle.rd_cbm.specs.Marked.{AreToldBlocks, AreUses};
+ghost use Rattle.rd_cbm.specs.Marked.{AreServedBlocks, AreUses};
 ghost use Rattle.rd_cbm.specs.Listing.{AreFiles, Describes};
 
 use crate::chains::{Chain, End};
@@ -47,8 +47,8 @@ fn is_locked(ty_byte: u8) -> bool
 
 /// The blocks of the chain of a sound file, and the position of the last byte used in its last
 /// block; for any other file no blocks, and 0.
-fn told_blocks(alloc: Global, ty_byte: u8, faults: u8, contents: Chain) -> (Items<u16>, u8)
-    ensures { AreToldBlocks ty_byte faults contents result.0 result.1 }
+fn served_blocks(alloc: Global, ty_byte: u8, faults: u8, contents: Chain) -> (Items<u16>, u8)
+    ensures { AreServedBlocks ty_byte faults contents result.0 result.1 }
 {
     let none = Items::of(Vec::new(alloc));
     if faults != 0 || !is_served(ty_byte) {
@@ -78,7 +78,7 @@ pub(crate) fn file_at(
     let (contents, sides) = chains_of(alloc, disk, &entry)?;
     let faults = faults_of(disk, uses, entry.ty_byte, &contents, &sides);
     let claimed = count_claimed(contents.blocks.as_slice(), sides.blocks.as_slice());
-    let (blocks, last) = told_blocks(alloc, entry.ty_byte, faults, contents);
+    let (blocks, last) = served_blocks(alloc, entry.ty_byte, faults, contents);
     Ok(CbmFile {
         slot,
         class: class_of(entry.ty_byte),

@@ -3,7 +3,7 @@ ghost use Rattle.rd_geometry.specs.Blocks.{CBM_BLOCKS};
 ghost use Rattle.rd_geometry.specs.CbmDisks.{cbm_bytes};
 ghost use Rattle.rd_cbm.specs.Counts.{IsCount};
 ghost use Rattle.rd_cbm.specs.Faults.{IsError};
-ghost use Rattle.rd_cbm.specs.Marked.{AreTold, SomeError, SomeShared};
+ghost use Rattle.rd_cbm.specs.Marked.{AreFaultBits, SomeError, SomeShared};
 
 use crate::chains::{Chain, End};
 use crate::claims::{Uses, is_closed};
@@ -119,7 +119,7 @@ pub(crate) fn faults_of(
 ) -> u8
     requires contents { All (λ block. block < CBM_BLOCKS) contents.now.blocks }
     requires sides { All (λ block. block < CBM_BLOCKS) sides.now.blocks }
-    ensures { AreTold (cbm_bytes disk.now) uses.now.shared ty_byte contents.now sides.now result }
+    ensures { AreFaultBits (cbm_bytes disk.now) uses.now.shared ty_byte contents.now sides.now result }
 {
     weight(!is_closed(ty_byte), 1)
         + weight(either_goes_off(contents, sides), 2)

@@ -76,8 +76,8 @@ fn has_wrong_count(disk: &CbmDisk, track: u8) -> bool
     requires last { track ≤ 35 }
     ensures { IsTrue result ↔ HasWrongCount (cbm_bytes disk.now) track }
 {
-    let told = map_of(disk)[4 * track as usize];
-    told != count_free(disk, track)
+    let recorded = map_of(disk)[4 * track as usize];
+    recorded != count_free(disk, track)
 }
 
 /// How many tracks have a wrong free count.

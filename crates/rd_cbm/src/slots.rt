@@ -21,8 +21,8 @@ pub(crate) fn read_entry(disk: &CbmDisk, blocks: &[u16], slot: u16) -> CbmEntry
     ensures fields { HasFields (cbm_bytes disk.now) blocks.now result }
 {
     let block = disk.unit(blocks[slot as usize / 8]);
-    let place = 32 * (slot as usize % 8);
-    let entry = &block[place..place + 32];
+    let offset = 32 * (slot as usize % 8);
+    let entry = &block[offset..offset + 32];
     let mut name = [0; 16];
     name.copy_from_slice(&entry[5..21]);
     CbmEntry {

@@ -9,7 +9,7 @@ use Rattle.clap.proofs.OnLiterals.{clap_on_literals}
 use Rattle.rd_commands.specs.Asks.{IsForMemory, IsHelp}
 use Rattle.rd_commands.specs.CommandLine.{IsDeskApp, IsTaken, NameList, desk_app}
 use Rattle.rd_commands.specs.Words.{AsksHelp}
-use Rattle.rd_commands.specs.declared.words.Unread.TheVariants.{Told}
+use Rattle.rd_commands.specs.declared.words.Unread.TheVariants.{Clap}
 
 long_shows : (kinds others shown : NameList) (rest : List Text) → fault_of (desk_app kinds others shown) (codes "--help" ∷ rest) ≡ DisplayHelp ∷ []
 unfolding clap_on_literals
@@ -60,6 +60,6 @@ one_kind kinds error is has = elim (subst (λ ks. HasKind ks error) is has) [
 
 -- where it fails, help is what is told, but for want of memory
 pub help_unread : (app : App) (words : List Text) (error : Error) → IsDeskApp app → (is_simple_and_free app ≡ true → HasKind (fault_of app words) error)
-    → AsksHelp words → IsForMemory (Told error) ⊎ IsHelp (Told error)
+    → AsksHelp words → IsForMemory (Clap error) ⊎ IsHelp (Clap error)
 help_unread app words error desk has asks =
     one_kind (fault_of app words) error (shows_help app words desk asks) (has (ap is_simple_and_free desk.is ∙ free desk.cat_kinds desk.list_kinds desk.shown))

@@ -10,7 +10,7 @@ use Rattle.rd_commands.specs.Asks.{IsFaultOf, IsForMemory, IsHelp, IsVersion}
 use Rattle.rd_commands.specs.CommandLine.{AsksForVersion, HasFault, IsDeskApp, IsTaken, NameList, desk_app}
 use Rattle.rd_commands.specs.Words.{AsksVersion}
 use Rattle.rd_commands.specs.declared.words.Unread.{Unread}
-use Rattle.rd_commands.specs.declared.words.Unread.TheVariants.{Day, NoMemory, Told, Usage}
+use Rattle.rd_commands.specs.declared.words.Unread.TheVariants.{Day, NoMemory, Clap, Usage}
 
 long_shows : (kinds others shown : NameList) (rest : List Text) → fault_of (desk_app kinds others shown) (codes "--version" ∷ rest) ≡ DisplayVersion ∷ []
 unfolding clap_on_literals
@@ -62,13 +62,13 @@ one_kind kinds error is has = elim (subst (λ ks. HasKind ks error) is has) [
 
 -- where it fails, the version is what is told, but for want of memory
 pub version_unread : (app : App) (words : List Text) (error : Error) → IsDeskApp app → (is_simple_and_free app ≡ true → HasKind (fault_of app words) error)
-    → AsksVersion words → IsForMemory (Told error) ⊎ IsVersion (Told error)
+    → AsksVersion words → IsForMemory (Clap error) ⊎ IsVersion (Clap error)
 version_unread app words error desk has asks =
     one_kind (fault_of app words) error (shows_version app words desk asks) (has (ap is_simple_and_free desk.is ∙ free desk.cat_kinds desk.list_kinds desk.shown))
 
 -- what is told of the words is the version only where they ask for it
 pub version_asked : (words : List Text) (unread : Unread) → IsVersion unread → IsFaultOf words unread → AsksForVersion words
-version_asked words (Told error) shown fault = elim fault [
+version_asked words (Clap error) shown fault = elim fault [
   | inl out ↦ let same : DisplayVersion ≡ OutOfMemory = sym shown ∙ out in cc
   | inr found ↦ subst (HasFault words) shown found
 ]
@@ -78,7 +78,7 @@ version_asked words NoMemory shown fault = absurd shown
 
 -- the version is no help
 pub version_no_help : (unread : Unread) → IsVersion unread → IsHelp unread → ⊥
-version_no_help (Told error) shown help = let same : DisplayVersion ≡ DisplayHelp = sym shown ∙ help in absurd (cc same)
+version_no_help (Clap error) shown help = let same : DisplayVersion ≡ DisplayHelp = sym shown ∙ help in absurd (cc same)
 version_no_help Usage shown help = absurd shown
 version_no_help Day shown help = absurd shown
 version_no_help NoMemory shown help = absurd shown

@@ -12,23 +12,23 @@ use Rattle.rd_geometry.specs.Kinds.{size_of, word_of}
 use Rattle.rd_policy.specs.Zones.{IsZoneOf}
 use Rattle.rd_policy.specs.Rules.{IsScope}
 use Rattle.rd_commands.specs.declared.words.Ask.{Ask}
-use Rattle.rd_commands.specs.declared.words.Ask.TheVariants.{File, Files, Import, Init, Once, Serve}
+use Rattle.rd_commands.specs.declared.words.Ask.TheVariants.{File, Files, Import, Init, OneQuestion, Serve}
 use Rattle.rd_commands.specs.declared.words.FileAsk.{FileAsk}
 use Rattle.rd_commands.specs.declared.words.ImageAsk.{ImageAsk}
 use Rattle.rd_commands.specs.declared.words.ImportAsk.{ImportAsk}
 use Rattle.rd_commands.specs.declared.words.InitAsk.{InitAsk}
-use Rattle.rd_commands.specs.declared.words.OnceAsk.{OnceAsk}
+use Rattle.rd_commands.specs.declared.words.OneQuestionAsk.{OneQuestionAsk}
 use Rattle.rd_commands.specs.declared.words.Question.{Question}
 use Rattle.rd_commands.specs.declared.words.Question.TheVariants as question
 use Rattle.rd_commands.specs.declared.words.ServeAsk.{ServeAsk}
 use Rattle.rd_commands.specs.declared.words.Shown.{Shown}
 use Rattle.rd_commands.specs.declared.words.Unread.{Unread}
 use Rattle.rd_commands.specs.declared.words.WhenAsk.{WhenAsk}
-use Rattle.rd_commands.specs.declared.words.Unread.TheVariants.{Day, Told, Usage, NoMemory}
+use Rattle.rd_commands.specs.declared.words.Unread.TheVariants.{Day, Clap, Usage, NoMemory}
 use Rattle.rd_commands.specs.CommandLine.{HasFault}
 use Rattle.rd_commands.specs.Shown.{IsShowable, NamesAny, NamesShown}
 use Rattle.rd_commands.specs.Words.{IsSlotText}
-use Rattle.rd_commands.specs.Zones.{HasClocks, HasZoneRule, IsRuleTold}
+use Rattle.rd_commands.specs.Zones.{HasClocks, HasZoneRule, IsRuleNamed}
 
 -- it asks for the file at the slot of the image of the kind
 pub record AsksFile (ask : FileAsk) (kind : Kind) (image : List ℕ) (slot : ℕ) : Type 0 where
@@ -68,9 +68,9 @@ pub record AsksImages (ask : ImportAsk) (store key sheet : List ℕ) (moment : O
   pub sheet_is : ask.sheet.now ≡ sheet
   pub when_is : AsksWhen ask.when moment rule
 
--- It asks the desk in the file of the store this question, for a caller with this key without the
--- blanks and tabs at both ends, or without one, at that moment by these clocks.
-pub record AsksOnce (ask : OnceAsk) (store : List ℕ) (key : Option (List ℕ)) (question : Question) (moment : Option ℤ) (rule : List ℕ) : Type 0 where
+-- It asks the desk in the file of the store this question, for a caller with this key, or without one, at this
+-- moment, by the clocks of this rule. Blanks and tabs at both ends of a key do not count.
+pub record AsksOneQuestion (ask : OneQuestionAsk) (store : List ℕ) (key : Option (List ℕ)) (question : Question) (moment : Option ℤ) (rule : List ℕ) : Type 0 where
   pub store_is : ask.store.now ≡ store
   pub key_is : option_map (λ key. key.now) ask.key ≡ option_map trim_ows key
   pub question_is : ask.question ≡ question
@@ -104,13 +104,13 @@ IsImportAsk store key sheet moment rule (Import ask) = AsksImages ask store key 
 IsImportAsk store key sheet moment rule _ = ⊥
 
 -- the command asks for an answer of the desk in the file of the store
-abbrev pub IsOnceAsk : List ℕ → Option (List ℕ) → Question → Option ℤ → List ℕ → Ask → Type 0
-IsOnceAsk store key question moment rule (Once ask) = AsksOnce ask store key question moment rule
-IsOnceAsk store key question moment rule _ = ⊥
+abbrev pub IsOneQuestionAsk : List ℕ → Option (List ℕ) → Question → Option ℤ → List ℕ → Ask → Type 0
+IsOneQuestionAsk store key question moment rule (OneQuestion ask) = AsksOneQuestion ask store key question moment rule
+IsOneQuestionAsk store key question moment rule _ = ⊥
 
 -- one question to a desk
 abbrev pub AsksADesk : Ask → Type 0
-AsksADesk (Once ask) = ⊤
+AsksADesk (OneQuestion ask) = ⊤
 AsksADesk _ = ⊥
 
 -- the question what a check of this accession finds
@@ -120,7 +120,7 @@ IsCheckOf acc other = ⊥
 
 -- the question to a desk what a check of this accession finds
 abbrev pub AsksCheckOf : ℕ → Ask → Type 0
-AsksCheckOf acc (Once ask) = IsCheckOf acc ask.question
+AsksCheckOf acc (OneQuestion ask) = IsCheckOf acc ask.question
 AsksCheckOf acc _ = ⊥
 
 -- the question asks for a check
@@ -137,7 +137,7 @@ IsAskable other = ⊤
 -- if not all is well, the output says so: what became of a row, or that an image is changed
 abbrev pub TellsOnOutput : Ask → Type 0
 TellsOnOutput (Import ask) = ⊤
-TellsOnOutput (Once ask) = IsCheck ask.question
+TellsOnOutput (OneQuestion ask) = IsCheck ask.question
 TellsOnOutput _ = ⊥
 
 -- the command goes row by row, and a line for each row says what became of it
@@ -148,7 +148,7 @@ TellsInRows _ = ⊥
 -- if the command names an accession, its number is from 1 to 999,999, and if it names a day, that is of the years 1 to
 -- 9999
 abbrev pub IsWithinLimits : Ask → Type 0
-IsWithinLimits (Once ask) = IsAskable ask.question
+IsWithinLimits (OneQuestion ask) = IsAskable ask.question
 IsWithinLimits _ = ⊤
 
 -- how many bytes of the input the command reads at most: one more than an image of the kind has,
@@ -159,18 +159,18 @@ most_read (Files ask) = size_of ask.kind + 1
 most_read (Init ask) = 0
 most_read (Serve ask) = 0
 most_read (Import ask) = 0
-most_read (Once ask) = 0
+most_read (OneQuestion ask) = 0
 
 -- the text to write is help
 abbrev pub IsHelp : Unread → Type 0
-IsHelp (Told error) = kind_of error ≡ DisplayHelp
+IsHelp (Clap error) = kind_of error ≡ DisplayHelp
 IsHelp Usage = ⊥
 IsHelp Day = ⊥
 IsHelp NoMemory = ⊥
 
 -- the text to write is the version
 abbrev pub IsVersion : Unread → Type 0
-IsVersion (Told error) = kind_of error ≡ DisplayVersion
+IsVersion (Clap error) = kind_of error ≡ DisplayVersion
 IsVersion Usage = ⊥
 IsVersion Day = ⊥
 IsVersion NoMemory = ⊥
@@ -182,18 +182,18 @@ IsMistake unread = (unread ≡ Usage) ⊎ (unread ≡ Day)
 
 -- memory ran out, in `clap` or elsewhere
 abbrev pub IsForMemory : Unread → Type 0
-IsForMemory (Told error) = kind_of error ≡ OutOfMemory
+IsForMemory (Clap error) = kind_of error ≡ OutOfMemory
 IsForMemory NoMemory = ⊤
 IsForMemory other = ⊥
 
 -- `clap` says why
 abbrev pub IsTold : Unread → Type 0
-IsTold (Told error) = ⊤
+IsTold (Clap error) = ⊤
 IsTold other = ⊥
 
 -- what `clap` says is a fault that it finds in the words, or that memory ran out
 abbrev pub IsFaultOf : List Text → Unread → Type 0
-IsFaultOf words (Told error) = (kind_of error ≡ OutOfMemory) ⊎ HasFault words (kind_of error)
+IsFaultOf words (Clap error) = (kind_of error ≡ OutOfMemory) ⊎ HasFault words (kind_of error)
 IsFaultOf words Usage = Unit {0}
 IsFaultOf words Day = Unit {0}
 IsFaultOf words NoMemory = Unit {0}
@@ -245,7 +245,7 @@ pub record AreServeRows (rows : List Row) (store : List ℕ) (port count : ℕ) 
   pub count_text : List ℕ
   pub count_found : one_of (codes "count") rows ≡ Some count_text
   pub count_number : ParsesUnsigned {E = ParseIntError} 32 10 count_text (Ok count)
-  pub rule_told : IsRuleTold (first_of (codes "zone") rows) rule
+  pub rule_named : IsRuleNamed (first_of (codes "zone") rows) rule
 
 -- the parse went into `serve`, and found its options
 pub record EntersServe (entered : Option (Text × List Row)) (store : List ℕ) (port count : ℕ) (rule : List ℕ) : Type 0 where
@@ -255,17 +255,17 @@ pub record EntersServe (entered : Option (Text × List Row)) (store : List ℕ) 
 
 -- what the option for a moment gives: nothing if it is absent, and otherwise the number that its
 -- text writes
-abbrev pub IsMomentTold : Option (List ℕ) → Option ℤ → Type 0
-IsMomentTold (Some text) moment = (seconds : ℤ) × ParsesSigned {E = ParseIntError} w64 10 text (Ok seconds) × (moment ≡ Some seconds)
-IsMomentTold None moment = moment ≡ None
+abbrev pub IsMomentNamed : Option (List ℕ) → Option ℤ → Type 0
+IsMomentNamed (Some text) moment = (seconds : ℤ) × ParsesSigned {E = ParseIntError} w64 10 text (Ok seconds) × (moment ≡ Some seconds)
+IsMomentNamed None moment = moment ≡ None
 
 -- the options that `clap` found for `import`: of the moment and the zone those that are there
 pub record AreImportRows (rows : List Row) (store key sheet : List ℕ) (moment : Option ℤ) (rule : List ℕ) : Type 0 where
   pub store_found : first_of (codes "store") rows ≡ Some store
   pub key_found : first_of (codes "key") rows ≡ Some key
   pub sheet_found : first_of (codes "sheet") rows ≡ Some sheet
-  pub moment_told : IsMomentTold (one_of (codes "at") rows) moment
-  pub rule_told : IsRuleTold (first_of (codes "zone") rows) rule
+  pub moment_named : IsMomentNamed (one_of (codes "at") rows) moment
+  pub rule_named : IsRuleNamed (first_of (codes "zone") rows) rule
 
 -- the parse went into `import`, and found its options
 pub record EntersImport (entered : Option (Text × List Row)) (store key sheet : List ℕ) (moment : Option ℤ) (rule : List ℕ)
@@ -285,9 +285,9 @@ EntersByRule entered = (name : List ℕ) (rows : List Row) → entered ≡ Some 
 -- the options that `clap` found for `export`: of the key, the moment and the zone those that are there
 pub record AreExportRows (rows : List Row) (store : List ℕ) (key : Option (List ℕ)) (moment : Option ℤ) (rule : List ℕ) : Type 0 where
   pub store_found : first_of (codes "store") rows ≡ Some store
-  pub key_told : first_of (codes "key") rows ≡ key
-  pub moment_told : IsMomentTold (one_of (codes "at") rows) moment
-  pub rule_told : IsRuleTold (first_of (codes "zone") rows) rule
+  pub key_named : first_of (codes "key") rows ≡ key
+  pub moment_named : IsMomentNamed (one_of (codes "at") rows) moment
+  pub rule_named : IsRuleNamed (first_of (codes "zone") rows) rule
 
 -- the parse went into `export`, and found its options
 pub record EntersExport (entered : Option (Text × List Row)) (store : List ℕ) (key : Option (List ℕ)) (moment : Option ℤ) (rule : List ℕ)
@@ -304,8 +304,8 @@ pub record AreCheckRows (rows : List Row) (store key : List ℕ) (acc : ℕ) (mo
   pub acc_found : one_of (codes "acc") rows ≡ Some acc_text
   pub acc_number : ParsesUnsigned {E = ParseIntError} 32 10 acc_text (Ok acc)
   pub acc_within : IsScope acc
-  pub moment_told : IsMomentTold (one_of (codes "at") rows) moment
-  pub rule_told : IsRuleTold (first_of (codes "zone") rows) rule
+  pub moment_named : IsMomentNamed (one_of (codes "at") rows) moment
+  pub rule_named : IsRuleNamed (first_of (codes "zone") rows) rule
 
 -- the parse went into `check`, and found its options
 pub record EntersCheck (entered : Option (Text × List Row)) (store key : List ℕ) (acc : ℕ) (moment : Option ℤ) (rule : List ℕ)
@@ -319,8 +319,8 @@ pub record EntersCheck (entered : Option (Text × List Row)) (store key : List �
 pub record AreShowRows (rows : List Row) (store key : List ℕ) (moment : Option ℤ) (rule : List ℕ) : Type 0 where
   pub store_found : first_of (codes "store") rows ≡ Some store
   pub key_found : first_of (codes "key") rows ≡ Some key
-  pub moment_given : IsMomentTold (one_of (codes "at") rows) moment
-  pub rule_given : IsRuleTold (first_of (codes "zone") rows) rule
+  pub moment_given : IsMomentNamed (one_of (codes "at") rows) moment
+  pub rule_given : IsRuleNamed (first_of (codes "zone") rows) rule
 
 -- the parse went into `show`, and found its options
 pub record EntersShow (entered : Option (Text × List Row)) (store key : List ℕ) (moment : Option ℤ) (rule : List ℕ) : Type 0 where

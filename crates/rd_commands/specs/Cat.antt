@@ -5,7 +5,7 @@ use Rattle.rd_geometry.specs.Kinds.{size_of}
 use Rattle.rd_geometry.specs.declared.kind.Kind.{Kind}
 use Rattle.rd_geometry.specs.declared.kind.Kind.TheVariants.{Cpm8, D64, D64e}
 use Rattle.rd_cbm.specs.Faults as cbm_fault
-use Rattle.rd_cpm.specs.Entries.{slot_of}
+use Rattle.rd_cpm.specs.Entries.{entry_of_slot}
 use Rattle.rd_cpm.specs.Faults as cpm_fault
 use Rattle.rd_volume.specs.Directories.{OfDirectory}
 use Rattle.rd_volume.specs.Volumes.{AreBytesOf, HasNoFault, IsOfServedClass, IsSlotOfFile}
@@ -67,7 +67,7 @@ AreCbmFaultsOf image slot faults = OfDirectory image (λ blocks. cbm_fault.AreFa
 
 -- the faults of the file at the slot, by bit
 abbrev pub AreFaultsOf : Kind → List ℕ → ℕ → ℕ → Type 0
-AreFaultsOf Cpm8 image slot faults = cpm_fault.AreFaults (slot_of image) slot faults
+AreFaultsOf Cpm8 image slot faults = cpm_fault.AreFaults (entry_of_slot image) slot faults
 AreFaultsOf D64 image slot faults = AreCbmFaultsOf image slot faults
 AreFaultsOf D64e image slot faults = AreCbmFaultsOf image slot faults
 

@@ -5,7 +5,7 @@ use Rattle.rd_geometry.specs.declared.kind.Kind.{Kind}
 use Rattle.rd_commands.specs.declared.words.Ask.{Ask}
 use Rattle.rd_commands.specs.declared.words.Question.TheVariants.{Catalogue, Check, Show}
 use Rattle.rd_commands.specs.declared.words.Shown.{Shown}
-use Rattle.rd_commands.specs.Asks.{AreCheckRows, AreExportRows, AreImportRows, AreInitRows, AreServeRows, AreShowRows, IsFileAsk, IsFilesAsk, IsImportAsk, IsInitAsk, IsOnceAsk, IsServeAsk}
+use Rattle.rd_commands.specs.Asks.{AreCheckRows, AreExportRows, AreImportRows, AreInitRows, AreServeRows, AreShowRows, IsFileAsk, IsFilesAsk, IsImportAsk, IsInitAsk, IsOneQuestionAsk, IsServeAsk}
 use Rattle.rd_commands.specs.CommandLine.{Enters}
 use Rattle.rd_commands.specs.Shown.{NamesAny, NamesShown}
 use Rattle.rd_commands.specs.Words.{AsksCat, AsksList}
@@ -103,8 +103,8 @@ pub record IsAskOf (words : List Text) (ask : Ask) : Type 0 where
   pub import : (store key sheet : List ℕ) (moment : Option ℤ) (rule : List ℕ)
       → AsksImport words store key sheet moment rule → IsImportAsk store key sheet moment rule ask
   pub export : (store : List ℕ) (key : Option (List ℕ)) (moment : Option ℤ) (rule : List ℕ)
-      → AsksExport words store key moment rule → IsOnceAsk store key Catalogue moment rule ask
+      → AsksExport words store key moment rule → IsOneQuestionAsk store key Catalogue moment rule ask
   pub check : (store key : List ℕ) (acc : ℕ) (moment : Option ℤ) (rule : List ℕ)
-      → AsksCheck words store key acc moment rule → IsOnceAsk store (Some key) (Check acc) moment rule ask
+      → AsksCheck words store key acc moment rule → IsOneQuestionAsk store (Some key) (Check acc) moment rule ask
   pub show : (store key : List ℕ) (shown : Shown) (moment : Option ℤ) (rule : List ℕ)
-      → AsksShow words store key shown moment rule → IsOnceAsk store (Some key) (Show shown) moment rule ask
+      → AsksShow words store key shown moment rule → IsOneQuestionAsk store (Some key) (Show shown) moment rule ask

@@ -49,10 +49,10 @@ status_of StaffOnly = 1
 status_of NoAccession = 1
 
 -- the device failed, or memory ran out
-abbrev pub IsOfDevice : Refusal → Type 0
-IsOfDevice Device = ⊤
-IsOfDevice NoMemory = ⊤
-IsOfDevice refusal = ⊥
+abbrev pub IsDeviceOrMemory : Refusal → Type 0
+IsDeviceOrMemory Device = ⊤
+IsDeviceOrMemory NoMemory = ⊤
+IsDeviceOrMemory refusal = ⊥
 
 -- what the program ends with when the machine fails: memory ran out, or otherwise this
 abbrev pub refusal_for : Refusal → MachineFault → Refusal

@@ -9,8 +9,8 @@ rule_text (Some text) = text
 rule_text None = codes "UTC0"
 
 -- the text, or its absence, gives this rule
-abbrev pub IsRuleTold : Option (List ℕ) → List ℕ → Type 0
-IsRuleTold told rule = (rule ≡ rule_text told) × IsZoneRule rule
+abbrev pub IsRuleNamed : Option (List ℕ) → List ℕ → Type 0
+IsRuleNamed told rule = (rule ≡ rule_text told) × IsZoneRule rule
 
 -- what `clap` found for a command has a rule for its clocks
 abbrev pub HasZoneRule : List Row → Type 0

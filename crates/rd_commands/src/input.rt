@@ -2,7 +2,7 @@ ghost use Rattle.std.specs.Prelude.{◌≡◌, ◌<◌, IfErr, IfOk, IfSome, len
 ghost use Rattle.std.specs.Io.{ReadsAtMost};
 ghost use Rattle.std.specs.Io.KnownBytes.{Consumes, IsAtEnd, ReadConsumes};
 ghost use Rattle.rd_commands.specs.Input.{ReadsUpTo};
-ghost use Rattle.rd_commands.specs.Refusals.{IsOfDevice};
+ghost use Rattle.rd_commands.specs.Refusals.{IsDeviceOrMemory};
 
 use crate::refusal::Refusal;
 use std::alloc::Global;
@@ -43,7 +43,7 @@ fn read_part<R: Read>(input: &mut R, part: &mut [u8], bytes: &mut Vec<u8>) -> Re
         Consumes (R.remaining input.old) (R.remaining input.new) (take count part.new)) }
     ensures end { IfOk result (λ count. count ≡ 0 → 0 < length part.new
         → IsAtEnd (R.remaining input.new)) }
-    ensures refused { IfErr result IsOfDevice }
+    ensures refused { IfErr result IsDeviceOrMemory }
     ensures limit { ReadsUpTo (length part.new) (R.remaining input.old) (R.remaining input.new) }
 {
     let count = read_some(input, part)?;
@@ -60,7 +60,7 @@ pub fn read_front<R: Read>(alloc: Global, limit: usize, input: &mut R) -> Result
         bytes.items ≡ take limit all)) }
     ensures taken { IfOk result (λ bytes.
         Consumes (R.remaining input.old) (R.remaining input.new) bytes.items) }
-    ensures refused { IfErr result IsOfDevice }
+    ensures refused { IfErr result IsDeviceOrMemory }
     ensures limit { ReadsUpTo limit (R.remaining input.old) (R.remaining input.new) }
 {
     let mut bytes = Vec::with_capacity(alloc, limit)?;

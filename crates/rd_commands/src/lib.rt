@@ -26,6 +26,6 @@ pub use refusal::Refusal;
 pub use sheet::{SheetRow, is_header, next_row, row_of};
 pub use tell::{exit_code, tell_refusal, tell_unread};
 pub use words::{
-    Ask, FileAsk, ImageAsk, ImportAsk, InitAsk, OnceAsk, Question, ServeAsk, Shown, Unread,
+    Ask, FileAsk, ImageAsk, ImportAsk, InitAsk, OneQuestionAsk, Question, ServeAsk, Shown, Unread,
     WhenAsk, read_words,
 };

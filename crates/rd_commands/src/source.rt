@@ -1,7 +1,7 @@
 ghost use Rattle.std.specs.Prelude.{◌≡◌, ◌≢◌, ◌+◌, IfErr, IfOk, IfSome, codes, take};
 ghost use Rattle.rd_geometry.specs.Kinds.{size_of};
 ghost use Rattle.rd_commands.specs.Input.{ReadsUpTo};
-ghost use Rattle.rd_commands.specs.Refusals.{IsOfDevice};
+ghost use Rattle.rd_commands.specs.Refusals.{IsDeviceOrMemory};
 
 use crate::files::Files;
 use crate::input::read_front;
@@ -26,7 +26,7 @@ pub(crate) fn read_image<R: Read, M: Files>(
         IfSome (R.remaining input.old) (λ all. bytes.items ≡ take (size_of kind + 1) all)) }
     ensures of_file { path.now ≢ codes "-" → IfOk result (λ bytes.
         IfSome (M.file_bytes machine.old path.now) (λ file. bytes.items ≡ file)) }
-    ensures refused { IfErr result IsOfDevice }
+    ensures refused { IfErr result IsDeviceOrMemory }
     ensures same { machine.new ≡ machine.old }
     ensures limit { ReadsUpTo (size_of kind + 1) (R.remaining input.old) (R.remaining input.new) }
 {

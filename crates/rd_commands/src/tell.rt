@@ -96,7 +96,7 @@ fn write_line<E: Write>(errors: &mut E, refused: Refusal) -> Result<(), Refusal>
 /// nothing reports it.
 pub fn tell_refusal<E: Write>(refused: Refusal, errors: &mut E) -> u8
     ensures status { result ≡ status_of refused }
-    ensures told { AppendsPart (E.contents errors.old) (E.contents errors.new) (refusal_line refused) }
+    ensures written { AppendsPart (E.contents errors.old) (E.contents errors.new) (refusal_line refused) }
 {
     let _ = write_line(errors, refused);
     refused.status()
@@ -108,7 +108,7 @@ pub fn exit_code<E: Write>(ran: Result<u8, Refusal>, errors: &mut E) -> ExitCode
     ensures ran { IfOk ran (λ status. exit_status result ≡ status) }
     ensures silent { OnOk ran (Keeps (E.contents errors.old) (E.contents errors.new)) }
     ensures refused { IfErr ran (λ refused. exit_status result ≡ status_of refused) }
-    ensures told { IfErr ran (λ refused.
+    ensures written { IfErr ran (λ refused.
         AppendsPart (E.contents errors.old) (E.contents errors.new) (refusal_line refused)) }
 {
     let status = match ran {
@@ -139,17 +139,17 @@ pub fn tell_unread<W: Write, E: Write>(unread: Unread, output: &mut W, errors: &
         ⊎ (IsVersion unread × Appends (W.contents output.old) (W.contents output.new) version_line) }
     ensures silent { result ≡ 0 → Keeps (E.contents errors.old) (E.contents errors.new) }
     ensures usage { result ≡ 2 → Keeps (W.contents output.old) (W.contents output.new) }
-    ensures mistake { (error : Error) → unread ≡ Unread.Told error → kind_of error ≢ DisplayHelp
+    ensures mistake { (error : Error) → unread ≡ Unread.Clap error → kind_of error ≢ DisplayHelp
         → kind_of error ≢ DisplayVersion → kind_of error ≢ OutOfMemory → result ≡ 2 }
     ensures mistaken { IsMistake unread → result ≡ 2 }
     ensures one_of { (result ≡ 2) ⊎ (IsHelp unread ⊎ (IsVersion unread ⊎ IsForMemory unread)) }
-    ensures mistake_told { unread ≡ Unread.Usage → AppendsPart (E.contents errors.old) (E.contents errors.new) ZONE_MISTAKE.now }
+    ensures mistake_written { unread ≡ Unread.Usage → AppendsPart (E.contents errors.old) (E.contents errors.new) ZONE_MISTAKE.now }
     ensures day_mistake { unread ≡ Unread.Day → AppendsPart (E.contents errors.old) (E.contents errors.new) DAY_MISTAKE.now }
     ensures memory { IsForMemory unread
         → (result ≡ 3) × Keeps (W.contents output.old) (W.contents output.new) }
     ensures no_memory { IsForMemory unread
         → AppendsPart (E.contents errors.old) (E.contents errors.new) (refusal_line NoMemory) }
-    ensures told { result ≡ 3
+    ensures written { result ≡ 3
         → Tells (λ _. ⊤) 3 (E.contents errors.old) (E.contents errors.new) }
     ensures help { IsHelp unread → result ≢ 0
         → (result ≡ 3) × Tells (λ refusal. refusal ≡ Refusal.Device) 3 (E.contents errors.old) (E.contents errors.new) }
@@ -167,8 +167,8 @@ pub fn tell_unread<W: Write, E: Write>(unread: Unread, output: &mut W, errors: &
             let _ = write_bytes(errors, DAY_MISTAKE);
             2
         }
-        Unread::Told(error) => {
-            let told = match error.kind() {
+        Unread::Clap(error) => {
+            let written = match error.kind() {
                 ErrorKind::DisplayHelp => tell_help(&error, output),
                 ErrorKind::DisplayVersion => tell_version(output),
                 ErrorKind::OutOfMemory => return tell_refusal(Refusal::NoMemory, errors),
@@ -177,7 +177,7 @@ pub fn tell_unread<W: Write, E: Write>(unread: Unread, output: &mut W, errors: &
                     return 2;
                 }
             };
-            match told {
+            match written {
                 Ok(()) => 0,
                 Err(refused) => tell_refusal(refused, errors),
             }

@@ -8,15 +8,15 @@ ghost use Rattle.httparse.specs.Grammar.{trim_ows};
 ghost use Rattle.rd_geometry.specs.Kinds.{word_of};
 ghost use Rattle.rd_policy.specs.Rules.{IsScope};
 ghost use Rattle.rd_policy.specs.Zones.{IsZoneOf};
-ghost use Rattle.rd_commands.specs.Asks.{AreCatRows, AreCheckRows, AreExportRows, AreImportRows, AreInitRows, AreListRows, AreServeRows, AreShowRows, IsMomentTold};
-ghost use Rattle.rd_commands.specs.Asks.{AsksFile, AsksFiles, AsksImages, AsksNew, AsksOnce, AsksVisits, AsksWhen, IsAskable};
+ghost use Rattle.rd_commands.specs.Asks.{AreCatRows, AreCheckRows, AreExportRows, AreImportRows, AreInitRows, AreListRows, AreServeRows, AreShowRows, IsMomentNamed};
+ghost use Rattle.rd_commands.specs.Asks.{AsksFile, AsksFiles, AsksImages, AsksNew, AsksOneQuestion, AsksVisits, AsksWhen, IsAskable};
 ghost use Rattle.rd_commands.specs.Asks.{EntersByRule, EntersCat, EntersCheck, EntersExport, EntersImport, EntersInit, EntersList, EntersNaming, EntersNamingNone, EntersServe, EntersShow, EntersTelling};
-ghost use Rattle.rd_commands.specs.Asks.{IsWithinLimits, IsFaultOf, IsFileAsk, IsFilesAsk, IsForMemory, IsHelp, IsImportAsk, IsInitAsk, IsMistake, IsOnceAsk, IsServeAsk, IsTold, IsVersion, TellsOnOutput};
+ghost use Rattle.rd_commands.specs.Asks.{IsWithinLimits, IsFaultOf, IsFileAsk, IsFilesAsk, IsForMemory, IsHelp, IsImportAsk, IsInitAsk, IsMistake, IsOneQuestionAsk, IsServeAsk, IsTold, IsVersion, TellsOnOutput};
 ghost use Rattle.rd_commands.specs.CommandLine.{IsDeskApp, IsTaken, IsTakenAs, IsTakenTelling};
 ghost use Rattle.rd_commands.specs.Commands.{IsAskOf, IsCommand, NamesWhatItShows, TellsARule};
 ghost use Rattle.rd_commands.specs.Shown.{IsDayGiven, IsShowable, IsShownAs, NamesAny, NamesShown};
 ghost use Rattle.rd_commands.specs.Words.{AsksHelp, AsksVersion, IsSlotText};
-ghost use Rattle.rd_commands.specs.Zones.{HasZoneRule, IsRuleTold};
+ghost use Rattle.rd_commands.specs.Zones.{HasZoneRule, IsRuleNamed};
 ghost use Rattle.rd_commands.specs.declared.words.Unread.TheVariants as Unread;
 
 use crate::blanks::trimmed;
@@ -119,7 +119,7 @@ pub enum Shown {
 
 /// One question to the desk in the file of a store, and who asks it.
 #[derive(Clone, Copy, Debug)]
-pub struct OnceAsk<'a> {
+pub struct OneQuestionAsk<'a> {
     /// The path of the store.
     pub store: &'a str,
     /// The desk key of the caller, without blanks and tabs at both ends, if the words give one.
@@ -144,7 +144,7 @@ pub enum Ask<'a> {
     /// Images to take in.
     Import(ImportAsk<'a>),
     /// One question to a desk, by `export`, `check` or `show`.
-    Once(OnceAsk<'a>),
+    OneQuestion(OneQuestionAsk<'a>),
 }
 
 /// Why the words do not run a command.
@@ -152,7 +152,7 @@ pub enum Ask<'a> {
 pub enum Unread {
     /// What `clap` says in place of a command: help or the version, if the words ask for it, what is
     /// wrong with the words, or that memory ran out while it read them.
-    Told(Error),
+    Clap(Error),
     /// The words are no command, although `clap` accepts them: the text of `--zone` is no rule.
     Usage,
     /// The words are no command, although `clap` accepts them: the text of `--on` is no date, `show verdicts` has no
@@ -257,7 +257,7 @@ fn count_asked(found: &ArgMatches) -> Option<u32>
 /// rule.
 fn zone_asked(found: &ArgMatches) -> Option<Zone>
     ensures asked { (rule : List ℕ)
-        → IsRuleTold (first_of (codes "zone") (rows_of (found_of found.now))) rule
+        → IsRuleNamed (first_of (codes "zone") (rows_of (found_of found.now))) rule
         → IsSomeAnd result (IsZoneOf rule) }
     ensures zone { OnSome result (HasZoneRule (rows_of (found_of found.now))) }
 {
@@ -283,7 +283,7 @@ fn serve_asked<'a>(found: &ArgMatches<'a>) -> Option<ServeAsk<'a>>
 /// The moment that its option gives; `None` if it is absent.
 fn moment_asked(found: &ArgMatches) -> Option<i64>
     ensures { (moment : Option ℤ)
-        → IsMomentTold (one_of (codes "at") (rows_of (found_of found.now))) moment → result ≡ moment }
+        → IsMomentNamed (one_of (codes "at") (rows_of (found_of found.now))) moment → result ≡ moment }
 {
     found.get_one::<i64>("at")
 }
@@ -291,8 +291,8 @@ fn moment_asked(found: &ArgMatches) -> Option<i64>
 /// When to do a command, and by which clocks; `None` if the text of `--zone` is no rule.
 fn when_asked(found: &ArgMatches) -> Option<WhenAsk>
     ensures asked { (moment : Option ℤ) (rule : List ℕ)
-        → IsMomentTold (one_of (codes "at") (rows_of (found_of found.now))) moment
-        → IsRuleTold (first_of (codes "zone") (rows_of (found_of found.now))) rule
+        → IsMomentNamed (one_of (codes "at") (rows_of (found_of found.now))) moment
+        → IsRuleNamed (first_of (codes "zone") (rows_of (found_of found.now))) rule
         → IsSomeAnd result (λ ask. AsksWhen ask moment rule) }
     ensures zone { OnSome result (HasZoneRule (rows_of (found_of found.now))) }
 {
@@ -319,7 +319,7 @@ fn import_asked<'a>(found: &ArgMatches<'a>) -> Option<ImportAsk<'a>>
 
 /// The desk key that its option gives, without blanks and tabs at both ends, `None` if it is
 /// absent.
-fn key_given<'a>(found: &ArgMatches<'a>) -> Option<&'a [u8]>
+fn key_operand<'a>(found: &ArgMatches<'a>) -> Option<&'a [u8]>
     ensures { option_map (λ trimmed. trimmed.now) result
         ≡ option_map trim_ows (first_of (codes "key") (rows_of (found_of found.now))) }
 {
@@ -341,30 +341,30 @@ fn accession_asked(found: &ArgMatches) -> Option<u32>
 }
 
 /// What the options of `export` ask for; `None` if one is missing or badly written.
-fn export_asked<'a>(found: &ArgMatches<'a>) -> Option<OnceAsk<'a>>
+fn export_asked<'a>(found: &ArgMatches<'a>) -> Option<OneQuestionAsk<'a>>
     ensures asked { (store : List ℕ) (key : Option (List ℕ)) (moment : Option ℤ) (rule : List ℕ)
         → AreExportRows (rows_of (found_of found.now)) store key moment rule
-        → IsSomeAnd result (λ ask. AsksOnce ask store key Question.Catalogue moment rule) }
+        → IsSomeAnd result (λ ask. AsksOneQuestion ask store key Question.Catalogue moment rule) }
     ensures zone { OnSome result (HasZoneRule (rows_of (found_of found.now))) }
     ensures question { IfSome result (λ ask. ask.question ≡ Question.Catalogue) }
 {
-    Some(OnceAsk {
+    Some(OneQuestionAsk {
         store: found.get_str("store")?,
-        key: key_given(found),
+        key: key_operand(found),
         question: Question::Catalogue,
         when: when_asked(found)?,
     })
 }
 
 /// What the options of `check` ask for; `None` if one is missing or badly written.
-fn check_asked<'a>(found: &ArgMatches<'a>) -> Option<OnceAsk<'a>>
+fn check_asked<'a>(found: &ArgMatches<'a>) -> Option<OneQuestionAsk<'a>>
     ensures asked { (store key : List ℕ) (acc : ℕ) (moment : Option ℤ) (rule : List ℕ)
         → AreCheckRows (rows_of (found_of found.now)) store key acc moment rule
-        → IsSomeAnd result (λ ask. AsksOnce ask store (Some key) (Question.Check acc) moment rule) }
+        → IsSomeAnd result (λ ask. AsksOneQuestion ask store (Some key) (Question.Check acc) moment rule) }
     ensures zone { OnSome result (HasZoneRule (rows_of (found_of found.now))) }
     ensures question { IfSome result (λ ask. IsAskable ask.question) }
 {
-    Some(OnceAsk {
+    Some(OneQuestionAsk {
         store: found.get_str("store")?,
         key: Some(key_asked(found)?),
         question: Question::Check(accession_asked(found)?),
@@ -437,14 +437,14 @@ fn shown_asked(alloc: Global, matches: &ArgMatches) -> Result<Option<Shown>, Unr
 }
 
 /// What the options of `show` ask for, with what it shows; `None` if one is missing or badly written.
-fn show_asked<'a>(found: &ArgMatches<'a>, shown: Shown) -> Option<OnceAsk<'a>>
+fn show_asked<'a>(found: &ArgMatches<'a>, shown: Shown) -> Option<OneQuestionAsk<'a>>
     ensures asked { (store key : List ℕ) (moment : Option ℤ) (rule : List ℕ)
         → AreShowRows (rows_of (found_of found.now)) store key moment rule
-        → IsSomeAnd result (λ ask. AsksOnce ask store (Some key) (Question.Show shown) moment rule) }
+        → IsSomeAnd result (λ ask. AsksOneQuestion ask store (Some key) (Question.Show shown) moment rule) }
     ensures zone { OnSome result (HasZoneRule (rows_of (found_of found.now))) }
     ensures question { IfSome result (λ ask. ask.question ≡ Question.Show shown) }
 {
-    Some(OnceAsk {
+    Some(OneQuestionAsk {
         store: found.get_str("store")?,
         key: Some(key_asked(found)?),
         question: Question::Show(shown),
@@ -472,14 +472,14 @@ fn ask_found<'a>(matches: &ArgMatches<'a>, shown: Option<Shown>) -> Option<Ask<'
         → IsSomeAnd result (IsImportAsk store key sheet moment rule) }
     ensures export { (store : List ℕ) (key : Option (List ℕ)) (moment : Option ℤ) (rule : List ℕ)
         → EntersExport (subcommand_rows_of matches.now) store key moment rule
-        → IsSomeAnd result (IsOnceAsk store key Question.Catalogue moment rule) }
+        → IsSomeAnd result (IsOneQuestionAsk store key Question.Catalogue moment rule) }
     ensures check { (store key : List ℕ) (acc : ℕ) (moment : Option ℤ) (rule : List ℕ)
         → EntersCheck (subcommand_rows_of matches.now) store key acc moment rule
-        → IsSomeAnd result (IsOnceAsk store (Some key) (Question.Check acc) moment rule) }
+        → IsSomeAnd result (IsOneQuestionAsk store (Some key) (Question.Check acc) moment rule) }
     ensures show { (store key : List ℕ) (what : Shown) (moment : Option ℤ) (rule : List ℕ) → shown ≡ Some what
         → EntersShow (subcommand_rows_of matches.now) store key moment rule
-        → IsSomeAnd result (IsOnceAsk store (Some key) (Question.Show what) moment rule) }
-    ensures told_on_output { IfSome result (λ ask. TellsOnOutput ask → EntersTelling (subcommand_rows_of matches.now)) }
+        → IsSomeAnd result (IsOneQuestionAsk store (Some key) (Question.Show what) moment rule) }
+    ensures written_on_output { IfSome result (λ ask. TellsOnOutput ask → EntersTelling (subcommand_rows_of matches.now)) }
     ensures accession { IfSome result IsWithinLimits }
     ensures zone { OnSome result (EntersByRule (subcommand_rows_of matches.now)) }
 {
@@ -490,9 +490,9 @@ fn ask_found<'a>(matches: &ArgMatches<'a>, shown: Option<Shown>) -> Option<Ask<'
         "init" => Some(Ask::Init(init_asked(found)?)),
         "serve" => Some(Ask::Serve(serve_asked(found)?)),
         "import" => Some(Ask::Import(import_asked(found)?)),
-        "export" => Some(Ask::Once(export_asked(found)?)),
-        "check" => Some(Ask::Once(check_asked(found)?)),
-        "show" => Some(Ask::Once(show_asked(found, shown?)?)),
+        "export" => Some(Ask::OneQuestion(export_asked(found)?)),
+        "check" => Some(Ask::OneQuestion(check_asked(found)?)),
+        "show" => Some(Ask::OneQuestion(show_asked(found, shown?)?)),
         _ => None,
     }
 }
@@ -504,7 +504,7 @@ fn ask_found<'a>(matches: &ArgMatches<'a>, shown: Option<Shown>) -> Option<Ask<'
 fn read_by<'a>(alloc: Global, desk: Command<'a>, words: &'a [&'a str]) -> Result<Ask<'a>, Unread>
     requires { IsDeskApp (app_of desk) }
     ensures read { IfOk result (IsAskOf (map (λ word. word.now) words.entry.now)) }
-    ensures told_on_output { IfOk result (λ ask. TellsOnOutput ask → IsTakenTelling (map (λ word. word.now) words.entry.now)) }
+    ensures written_on_output { IfOk result (λ ask. TellsOnOutput ask → IsTakenTelling (map (λ word. word.now) words.entry.now)) }
     ensures accession { IfOk result IsWithinLimits }
     ensures zone { OnOk result (TellsARule (map (λ word. word.now) words.entry.now)) }
     ensures shown { OnOk result (NamesWhatItShows (map (λ word. word.now) words.entry.now)) }
@@ -514,7 +514,7 @@ fn read_by<'a>(alloc: Global, desk: Command<'a>, words: &'a [&'a str]) -> Result
         → (fault ≡ Unread.Day) ⊎ (IsForMemory fault)) }
     ensures day { IfErr result (λ fault. fault ≡ Unread.Day → IsTakenAs (codes "show") (map (λ word. word.now) words.entry.now)) }
     ensures taken { OnOk result (IsTaken (map (λ word. word.now) words.entry.now)) }
-    ensures told { IfErr result (IsFaultOf (map (λ word. word.now) words.entry.now)) }
+    ensures mistake_in { IfErr result (IsFaultOf (map (λ word. word.now) words.entry.now)) }
     ensures unread { IfErr result (λ fault. IsCommand (map (λ word. word.now) words.entry.now)
         → IsForMemory fault) }
     ensures version { IfErr result (λ fault. AsksVersion (map (λ word. word.now) words.entry.now)
@@ -528,18 +528,18 @@ fn read_by<'a>(alloc: Global, desk: Command<'a>, words: &'a [&'a str]) -> Result
             let shown = shown_asked(alloc, &matches)?;
             ask_found(&matches, shown).ok_or(Unread::Usage)
         }
-        Err(error) => Err(Unread::Told(error)),
+        Err(error) => Err(Unread::Clap(error)),
     }
 }
 
 /// Reads the words of a command, without the program's name.
 ///
-/// It fails with `Told` when they ask for help or the version or are no command, and when memory runs out while `clap`
+/// It fails with `Clap` when they ask for help or the version or are no command, and when memory runs out while `clap`
 /// reads them; with `Day` when the operand of `show` and the text of `--on` name nothing that it shows; with `Usage`
 /// when the parse gives no command or not all its operands, or the text of `--zone` is no rule; and with `NoMemory`.
 pub fn read_words<'a>(alloc: Global, words: &'a [&'a str]) -> Result<Ask<'a>, Unread>
     ensures read { IfOk result (IsAskOf (map (λ word. word.now) words.entry.now)) }
-    ensures told_on_output { IfOk result (λ ask. TellsOnOutput ask → IsTakenTelling (map (λ word. word.now) words.entry.now)) }
+    ensures written_on_output { IfOk result (λ ask. TellsOnOutput ask → IsTakenTelling (map (λ word. word.now) words.entry.now)) }
     ensures accession { IfOk result IsWithinLimits }
     ensures zone { OnOk result (TellsARule (map (λ word. word.now) words.entry.now)) }
     ensures shown { OnOk result (NamesWhatItShows (map (λ word. word.now) words.entry.now)) }
@@ -549,7 +549,7 @@ pub fn read_words<'a>(alloc: Global, words: &'a [&'a str]) -> Result<Ask<'a>, Un
         → (fault ≡ Unread.Day) ⊎ (IsForMemory fault)) }
     ensures day { IfErr result (λ fault. fault ≡ Unread.Day → IsTakenAs (codes "show") (map (λ word. word.now) words.entry.now)) }
     ensures taken { OnOk result (IsTaken (map (λ word. word.now) words.entry.now)) }
-    ensures told { IfErr result (IsFaultOf (map (λ word. word.now) words.entry.now)) }
+    ensures mistake_in { IfErr result (IsFaultOf (map (λ word. word.now) words.entry.now)) }
     ensures unread { IfErr result (λ fault. IsCommand (map (λ word. word.now) words.entry.now)
         → IsForMemory fault) }
     ensures version { IfErr result (λ fault. AsksVersion (map (λ word. word.now) words.entry.now)

@@ -4,14 +4,14 @@ use Rattle.std.proofs.Common.{◌≡◌, ◌∙◌, inl, inr, ◌↔◌, ◌/◌
 use Rattle.std.proofs.lemmas.List.Elements.{All-head, All-tail, Contains-get_or}
 use Rattle.std.proofs.lemmas.List.Sums.{sum_by-cons}
 use Rattle.rd_cpm.specs.Contents.{AreSectors, IsRecord}
-use Rattle.rd_cpm.specs.Entries.{IsOfFile, extent_number_of, first_of, name_of, plain, pointer_of, pointers_of, rc_of}
+use Rattle.rd_cpm.specs.Entries.{IsOfFile, extent_number_of, user_byte_of, name_of, without_high_bits, pointer_of, pointers_of, rc_of}
 use Rattle.rd_cpm.specs.Faults.{AreFaults, HasBadCount, HasDuplicate, HasGap, HasHole, HasOtherClaim, IsCrossed, IsOffDisk, IsShort, IsSound}
 use Rattle.rd_cpm.specs.Files.{Claims, Directory, IsEntryOf, IsFileSlot}
 
 -- A directory has what tells the files of another: the first byte of each entry, and the name, the extent
 -- number, the record count and the pointers of each entry of a file.
 pub record HasFilesOf (d other : Directory) : Type 0 where
-  pub first : (j : ℕ) → j < 64 → first_of (d j) ≡ first_of (other j)
+  pub first : (j : ℕ) → j < 64 → user_byte_of (d j) ≡ user_byte_of (other j)
   pub name : (j : ℕ) → j < 64 → IsOfFile (other j) → name_of (d j) ≡ name_of (other j)
   pub extent : (j : ℕ) → j < 64 → IsOfFile (other j) → extent_number_of (d j) ≡ extent_number_of (other j)
   pub count : (j : ℕ) → j < 64 → IsOfFile (other j) → rc_of (d j) ≡ rc_of (other j)
@@ -44,7 +44,7 @@ entry_alike {d = d} {other = other} has {k = k} low j entry = record {
   slot = entry.slot;
   file = of_file_alike has k low entry.file;
   user = has.first j entry.slot ∙ entry.user ∙ sym (has.first k low);
-  name = ap plain (has.name j entry.slot (entry_of_file other k j entry)) ∙ entry.name ∙ sym (ap plain (has.name k low entry.file));
+  name = ap without_high_bits (has.name j entry.slot (entry_of_file other k j entry)) ∙ entry.name ∙ sym (ap without_high_bits (has.name k low entry.file));
 }
 
 entry_back : {d other : Directory} → HasFilesOf d other → {k : ℕ} → k < 64 → (j : ℕ) → IsEntryOf d k j → IsEntryOf other k j

@@ -5,7 +5,7 @@ use Rattle.std.proofs.lemmas.Bool.{agree_below_at, cases_eq}
 use Rattle.std.specs.Int.Bits.{and_zero_l}
 use Rattle.rd_cpm.specs.Entries.{rc_of}
 use Rattle.rd_cpm.specs.Gathered.{LacksPredecessor, EndsEarly, AreTwice, IsHole, SomePlace, IsOffDiskIn, IsCrossedIn}
-use Rattle.rd_cpm.specs.EntryTests.{AreTold}
+use Rattle.rd_cpm.specs.EntryTests.{AreFaultBits}
 
 -- the digit of a flag
 pub digit : Bool → ℕ
@@ -75,12 +75,12 @@ seven a b c d e f g n is test_a test_b test_c test_d test_e test_f test_g =
     }
 
 -- and so of what the tests of the entries tell
-pub told : (shared : List Bool) (entries : List (List ℕ)) (a b c d e f g : Bool) (n : ℕ)
+pub bits_of_tests : (shared : List Bool) (entries : List (List ℕ)) (a b c d e f g : Bool) (n : ℕ)
     → n ≡ digit a + 2 * digit b + 4 * digit c + 8 * digit d + 16 * digit e + 32 * digit f + 64 * digit g
     → IsTrue a ↔ Any (λ entry. 128 < rc_of entry) entries → IsTrue b ↔ AreTwice entries → IsTrue c ↔ Any (LacksPredecessor entries) entries
     → IsTrue d ↔ Any (EndsEarly entries) entries → IsTrue e ↔ Any (λ entry. SomePlace (IsHole entry)) entries
-    → IsTrue f ↔ Any IsOffDiskIn entries → IsTrue g ↔ Any (IsCrossedIn shared) entries → AreTold shared entries n
-told shared entries a b c d e f g n is test_a test_b test_c test_d test_e test_f test_g =
+    → IsTrue f ↔ Any IsOffDiskIn entries → IsTrue g ↔ Any (IsCrossedIn shared) entries → AreFaultBits shared entries n
+bits_of_tests shared entries a b c d e f g n is test_a test_b test_c test_d test_e test_f test_g =
     let bits = seven a b c d e f g n is test_a test_b test_c test_d test_e test_f test_g in record {
       bad_count = bits.bit_0;
       duplicate = bits.bit_1;

@@ -4,9 +4,9 @@ use Rattle.std.specs.List.{range_with_len}
 use Rattle.std.proofs.Math.Seq.{take-append_seam}
 use Rattle.std.proofs.lemmas.List.{get_or-append-add, length-append}
 use Rattle.std.proofs.lemmas.List.FromFn.{get_or-map-range_with_len, length-map-range_with_len}
-use Rattle.rd_geometry.proofs.Deciding.{Decided, apart, decided_as, decided_at_most, decided_both, decided_either, decided_if, decided_less, decided_not, decided_same, decided_text, each_below, fails, flag, flag_is, holds, some_below, those}
+use Rattle.rd_geometry.proofs.Decidability.{Decided, apart, decided_as, decided_at_most, decided_both, decided_either, decided_if, decided_less, decided_not, decided_same, decided_text, each_below, fails, flag, flag_is, holds, some_below, those}
 use Rattle.rd_cpm.specs.Contents.{AreEntries, AreSectors}
-use Rattle.rd_cpm.specs.Entries.{IsOfFile, extent_number_of, first_of, name_of, plain, pointer_of, rc_of}
+use Rattle.rd_cpm.specs.Entries.{IsOfFile, extent_number_of, user_byte_of, name_of, without_high_bits, pointer_of, rc_of}
 use Rattle.rd_cpm.specs.Faults.{AreFaults, HasBadCount, HasDuplicate, HasGap, HasHole, HasOtherClaim, IsCrossed, IsOffDisk, IsShort, IsSound}
 use Rattle.rd_cpm.specs.Files.{Claims, Directory, IsEntryOf, IsFileSlot}
 use Rattle.rd_cpm.specs.Gathered.{AreGathered, HasExtent}
@@ -20,8 +20,8 @@ use Rattle.rd_cpm.proofs.SectorLemmas.{AreRecordsBelow, none_at_last, records_al
 
 decided_entry : (d : Directory) (k j : ℕ) → Decided (IsEntryOf d k j)
 decided_entry d k j =
-    decided_as (decided_both (decided_less j 64) (decided_both (decided_less (first_of (d k)) 16)
-    (decided_both (decided_same (first_of (d j)) (first_of (d k))) (decided_text (plain (name_of (d j))) (plain (name_of (d k)))))))
+    decided_as (decided_both (decided_less j 64) (decided_both (decided_less (user_byte_of (d k)) 16)
+    (decided_both (decided_same (user_byte_of (d j)) (user_byte_of (d k))) (decided_text (without_high_bits (name_of (d j))) (without_high_bits (name_of (d k)))))))
     (λ is. record { slot = is.0; file = is.1.0; user = is.1.1.0; name = is.1.1.1 })
     (λ entry. (entry.slot, (entry.file, (entry.user, entry.name))))
 
@@ -41,7 +41,7 @@ module _ (d : Directory) (k : ℕ) where
   -- the slot is that of a file, or not
   pub decided_file : Decided (IsFileSlot d k)
   decided_file =
-      decided_as (decided_both (decided_less k 64) (decided_both (decided_less (first_of (d k)) 16) (each_entry (λ j. k ≤ j) (λ j. decided_at_most k j))))
+      decided_as (decided_both (decided_less k 64) (decided_both (decided_less (user_byte_of (d k)) 16) (each_entry (λ j. k ≤ j) (λ j. decided_at_most k j))))
       (λ is. record { slot = is.0; file = is.1.0; least = is.1.1 })
       (λ file. (file.slot, (file.file, file.least)))
 
@@ -52,7 +52,7 @@ decided_other d j i b =
     decided_as (some_below
     (λ s. (p : ℕ) × (p < 16) × (IsOfFile (d s) × ((pointer_of (d s) p ≡ b) × ((0 < b) × (s ≡ j → p ≡ i → ⊥)))))
     (λ s. some_below (λ p. IsOfFile (d s) × ((pointer_of (d s) p ≡ b) × ((0 < b) × (s ≡ j → p ≡ i → ⊥))))
-    (λ p. decided_both (decided_less (first_of (d s)) 16) (decided_both (decided_same (pointer_of (d s) p) b)
+    (λ p. decided_both (decided_less (user_byte_of (d s)) 16) (decided_both (decided_same (pointer_of (d s) p) b)
     (decided_both (decided_less 0 b) (decided_if (decided_same s j) (decided_not (decided_same p i)))))) 16) 64)
     (λ found. record {
       slot = found.0;
@@ -114,7 +114,7 @@ module _ (d : Directory) (k : ℕ) where
 
   decided_taken : (e p : ℕ) → Decided (Taken e p)
   decided_taken e p =
-      decided_both (decided_less (first_of (d e)) 16) (decided_both (decided_less 0 (pointer_of (d e) p))
+      decided_both (decided_less (user_byte_of (d e)) 16) (decided_both (decided_less 0 (pointer_of (d e) p))
       (decided_either (decided_same (pointer_of (d e) p) 1) (decided_other d e p (pointer_of (d e) p))))
 
   taken_at : (e p b : ℕ) → Claims d e p b → (b ≡ 1) ⊎ HasOtherClaim d e p b → Taken e p

@@ -12,7 +12,7 @@ use Rattle.rd_cpm.specs.Faults.{HasBadCount, HasDuplicate, HasGap, IsShort, HasH
 use Rattle.rd_cpm.specs.Contents.{AreSectors}
 use Rattle.rd_cpm.specs.Claimed.{IsClaimedBefore, IsSharedBefore, AreClaims}
 use Rattle.rd_cpm.specs.Gathered.{AreGathered, LacksPredecessor, EndsEarly, AreTwice, IsHole, SomePlace, IsOffDiskIn, IsSharedBlock, IsCrossedIn}
-use Rattle.rd_cpm.specs.EntryTests.{AreInOrder, AreTold, AreRecords, AreJudged}
+use Rattle.rd_cpm.specs.EntryTests.{AreInOrder, AreFaultBits, AreRecords, AreJudged}
 use Rattle.rd_cpm.proofs.BitLemmas.{TellSeven, no_bit, no_bits}
 use Rattle.rd_cpm.proofs.ClaimLemmas.{numbered}
 use Rattle.rd_cpm.proofs.OwnerLemmas.{of_file}
@@ -254,16 +254,16 @@ faults_by_bits d k faults bits = record {
 
 -- the faults that the tests tell are those of the file
 pub faults_as : (d : Directory) (k : ℕ) (entries : List (List ℕ)) (claimed shared : List Bool) (faults : ℕ) → AreGathered d k entries → AreClaims d 1024 claimed shared
-    → AreTold shared entries faults → AreFaults d k faults
-faults_as d k entries claimed shared faults g claims told = faults_by_bits d k faults (record {
-  bit_0 = through told.bad_count (bad_count_as d k entries g);
-  bit_1 = through told.duplicate (duplicate_as d k entries g);
-  bit_2 = through told.gap (gap_as d k entries g);
-  bit_3 = through told.short (short_as d k entries g);
-  bit_4 = through told.hole (hole_as d k entries g);
-  bit_5 = through told.off_disk (off_disk_as d k entries g);
-  bit_6 = through told.crossed (crossed_as d k entries claimed shared g claims);
-  no_other = told.no_other;
+    → AreFaultBits shared entries faults → AreFaults d k faults
+faults_as d k entries claimed shared faults g claims are_bits = faults_by_bits d k faults (record {
+  bit_0 = through are_bits.bad_count (bad_count_as d k entries g);
+  bit_1 = through are_bits.duplicate (duplicate_as d k entries g);
+  bit_2 = through are_bits.gap (gap_as d k entries g);
+  bit_3 = through are_bits.short (short_as d k entries g);
+  bit_4 = through are_bits.hole (hole_as d k entries g);
+  bit_5 = through are_bits.off_disk (off_disk_as d k entries g);
+  bit_6 = through are_bits.crossed (crossed_as d k entries claimed shared g claims);
+  no_other = are_bits.no_other;
 })
 
 -- the entries of a sound file are in order

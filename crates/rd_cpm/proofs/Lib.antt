@@ -1,4 +1,4 @@
-pub mod Tests
+pub mod TestLemmas
 pub mod OwnerLemmas
 pub mod ClaimLemmas
 pub mod GatherLemmas

@@ -9,7 +9,7 @@ use Rattle.rd_geometry.specs.Places.{CPM_UNITS}
 use Rattle.rd_cpm.specs.Entries.{rc_of, extent_number_of, pointers_of, pointer_of}
 use Rattle.rd_cpm.specs.Gathered.{HasExtent, IsOffDiskIn}
 use Rattle.rd_cpm.specs.EntryTests.{AreInOrder, IsRecordIn, AreRecords}
-use Rattle.rd_cpm.proofs.Tests.{not_above}
+use Rattle.rd_cpm.proofs.TestLemmas.{not_above}
 
 -- the record count of an entry whose extent number is below n, or is n
 pub part : ℕ → List ℕ → ℕ

@@ -4,12 +4,12 @@ use Rattle.std.specs.Prelude.{ℕ, ◌+◌, ◌*◌, ◌/◌, ◌%◌, ◌<◌, 
 use Rattle.rd_geometry.specs.Places.{cpm_unit}
 
 -- the 32 bytes of slot k, 0 to 63, of the directory of an image: four to a logical sector
-unfoldable pub slot_of : List ℕ → ℕ → List ℕ
-slot_of image k = slice_range (cpm_unit image (k / 4)) (32 * (k % 4)) (32 * (k % 4) + 32)
+unfoldable pub entry_of_slot : List ℕ → ℕ → List ℕ
+entry_of_slot image k = slice_range (cpm_unit image (k / 4)) (32 * (k % 4)) (32 * (k % 4) + 32)
 
 -- byte 0: the user number, 0 to 15, or E5 hex where the slot is free; any other value: no file
-abbrev pub first_of : List ℕ → ℕ
-first_of entry = slice_index entry 0
+abbrev pub user_byte_of : List ℕ → ℕ
+user_byte_of entry = slice_index entry 0
 
 -- bytes 1 to 11: eight of the name, three of the type
 abbrev pub name_of : List ℕ → List ℕ
@@ -47,8 +47,8 @@ extent_number_of entry = 32 * (s2_of entry % 64) + ex_of entry % 32
 -- the entry belongs to a file: byte 0 is a user, 0 to 15 (with any other value it belongs to none:
 -- this project's profile)
 abbrev pub IsOfFile : List ℕ → Type 0
-IsOfFile entry = first_of entry < 16
+IsOfFile entry = user_byte_of entry < 16
 
 -- a name without its high bits
-abbrev pub plain : List ℕ → List ℕ
-plain name = map (λ byte. byte % 128) name
+abbrev pub without_high_bits : List ℕ → List ℕ
+without_high_bits name = map (λ byte. byte % 128) name

@@ -5,7 +5,7 @@ use Rattle.rd_cpm.specs.Entries.{rc_of, pointer_of, extent_number_of}
 use Rattle.rd_cpm.specs.Gathered.{LacksPredecessor, EndsEarly, AreTwice, IsHole, SomePlace, IsOffDiskIn, IsCrossedIn}
 
 -- The number has a bit for each test that some entry passes.
-pub record AreTold (shared : List Bool) (entries : List (List ℕ)) (faults : ℕ) : Type 0 where
+pub record AreFaultBits (shared : List Bool) (entries : List (List ℕ)) (faults : ℕ) : Type 0 where
   pub bad_count : IsBitSet faults 0 ↔ Any (λ entry. 128 < rc_of entry) entries
   pub duplicate : IsBitSet faults 1 ↔ AreTwice entries
   pub gap : IsBitSet faults 2 ↔ Any (LacksPredecessor entries) entries
@@ -38,6 +38,6 @@ pub record AreRecords (entries : List (List ℕ)) (sectors : List ℕ) : Type 0 
 
 -- The faults are those of the entries; without a fault, the sectors are those of their records.
 pub record AreJudged (shared : List Bool) (entries : List (List ℕ)) (faults : ℕ) (sectors : List ℕ) : Type 0 where
-  pub told : AreTold shared entries faults
+  pub bits : AreFaultBits shared entries faults
   pub sound : faults ≡ 0 → AreRecords entries sectors
   pub faulty : faults ≢ 0 → sectors ≡ []

@@ -1,6 +1,6 @@
 -- The files and the claims of a CP/M 2.2 directory (CP/M 2.2 Interface Guide).
 use Rattle.std.specs.Prelude.{◌≡◌, ℕ, ◌<◌, ◌≤◌, List}
-use Rattle.rd_cpm.specs.Entries.{first_of, name_of, pointer_of, IsOfFile, plain}
+use Rattle.rd_cpm.specs.Entries.{user_byte_of, name_of, pointer_of, IsOfFile, without_high_bits}
 
 -- A directory gives the entry at each slot, 0 to 63. What it gives beyond slot 63 does not count.
 abbrev pub Directory : Type 0
@@ -11,8 +11,8 @@ Directory = ℕ → List ℕ
 pub record IsEntryOf (d : Directory) (k j : ℕ) : Type 0 where
   pub slot : j < 64
   pub file : IsOfFile (d k)
-  pub user : first_of (d j) ≡ first_of (d k)
-  pub name : plain (name_of (d j)) ≡ plain (name_of (d k))
+  pub user : user_byte_of (d j) ≡ user_byte_of (d k)
+  pub name : without_high_bits (name_of (d j)) ≡ without_high_bits (name_of (d k))
 
 -- Slot k is the slot of a file: it has an entry of a file, and no slot before it has one of that file.
 pub record IsFileSlot (d : Directory) (k : ℕ) : Type 0 where

@@ -1,6 +1,6 @@
 ghost use Rattle.std.specs.Prelude.{◌≡◌, ◌<◌, ◌+◌, ◌*◌, true, slice_set};
 ghost use Rattle.rd_geometry.specs.CpmDisks.{cpm_bytes};
-ghost use Rattle.rd_cpm.specs.Entries.{slot_of, IsOfFile};
+ghost use Rattle.rd_cpm.specs.Entries.{entry_of_slot, IsOfFile};
 ghost use Rattle.rd_cpm.specs.Claimed.{AreClaims, shared_after};
 
 use crate::directory::{POINTERS, SLOTS, entry};
@@ -30,9 +30,9 @@ impl Claims {
     /// Records the claims of the entry at a slot, which belongs to a file.
     pub(crate) fn add_entry(&mut self, disk: &CpmDisk, slot: u8)
         requires slot { slot < 64 }
-        requires file { IsOfFile (slot_of (cpm_bytes disk.now) slot) }
-        requires before { AreClaims (slot_of (cpm_bytes disk.now)) (16 * slot) self.old.claimed self.old.shared }
-        ensures { AreClaims (slot_of (cpm_bytes disk.now)) (16 * slot + 16) self.new.claimed self.new.shared }
+        requires file { IsOfFile (entry_of_slot (cpm_bytes disk.now) slot) }
+        requires before { AreClaims (entry_of_slot (cpm_bytes disk.now)) (16 * slot) self.old.claimed self.old.shared }
+        ensures { AreClaims (entry_of_slot (cpm_bytes disk.now)) (16 * slot + 16) self.new.claimed self.new.shared }
     {
         let pointers = entry(disk, slot).pointers();
         for place in 0..POINTERS {
@@ -47,7 +47,7 @@ impl Claims {
 
 /// The claims of all entries of files.
 pub(crate) fn claims_of(disk: &CpmDisk) -> Claims
-    ensures { AreClaims (slot_of (cpm_bytes disk.now)) 1024 result.claimed result.shared }
+    ensures { AreClaims (entry_of_slot (cpm_bytes disk.now)) 1024 result.claimed result.shared }
 {
     let mut claims = Claims {
         claimed: [false; 256],

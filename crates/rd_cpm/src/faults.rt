@@ -1,7 +1,7 @@
 ghost use Rattle.std.specs.Prelude.{◌≡◌, ◌↔◌, ◌<◌, ◌+◌, ◌*◌, IsTrue, Any, if◌then◌else◌};
 ghost use Rattle.rd_cpm.specs.Entries.{rc_of};
 ghost use Rattle.rd_cpm.specs.Gathered.{HasExtent, HasLater, LacksPredecessor, EndsEarly, AreTwice, IsHole, SomePlace, IsOffDiskIn, IsSharedBlock, IsCrossedIn};
-ghost use Rattle.rd_cpm.specs.EntryTests.{AreTold};
+ghost use Rattle.rd_cpm.specs.EntryTests.{AreFaultBits};
 
 use crate::claims::Claims;
 use crate::fields::Entry;
@@ -155,7 +155,7 @@ fn weight(set: bool, weight: u8) -> u8
 
 /// The faults of a file by bit, from all its entries and the claims of all files.
 pub(crate) fn faults_of(claims: &Claims, entries: &[Entry<'_>]) -> u8
-    ensures { AreTold claims.now.shared entries.now result }
+    ensures { AreFaultBits claims.now.shared entries.now result }
 {
     weight(has_bad_count(entries), 1)
         + weight(has_duplicate(entries), 2)

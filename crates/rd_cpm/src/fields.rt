@@ -1,5 +1,5 @@
 ghost use Rattle.std.specs.Prelude.{◌≡◌, ◌↔◌, ◌<◌, IsTrue, List, ℕ, length};
-ghost use Rattle.rd_cpm.specs.Entries.{first_of, name_of, ex_of, s1_of, s2_of, rc_of, pointers_of, extent_number_of, IsOfFile, plain};
+ghost use Rattle.rd_cpm.specs.Entries.{user_byte_of, name_of, ex_of, s1_of, s2_of, rc_of, pointers_of, extent_number_of, IsOfFile, without_high_bits};
 
 use std::marker::Model;
 
@@ -29,7 +29,7 @@ impl<'a> Entry<'a> {
 
     /// Byte 0: the user number, 0 to 15, or another value, such as E5 hex in a free entry.
     pub fn first(&self) -> u8
-        ensures { result ≡ first_of self.now }
+        ensures { result ≡ user_byte_of self.now }
     {
         self.bytes[0]
     }
@@ -96,14 +96,14 @@ impl<'a> Entry<'a> {
 
     /// The name and the type without their high bits.
     pub(crate) fn plain_name(&self) -> [u8; 11]
-        ensures { result ≡ plain (name_of self.now) }
+        ensures { result ≡ without_high_bits (name_of self.now) }
     {
         self.name().map(|byte| byte % 128)
     }
 
     /// Whether two entries have the same user, and the same name except for the high bits.
     pub(crate) fn is_same_file(&self, other: &Entry<'_>) -> bool
-        ensures { IsTrue result ↔ ((first_of other.now ≡ first_of self.now) × (plain (name_of other.now) ≡ plain (name_of self.now))) }
+        ensures { IsTrue result ↔ ((user_byte_of other.now ≡ user_byte_of self.now) × (without_high_bits (name_of other.now) ≡ without_high_bits (name_of self.now))) }
     {
         self.first() == other.first() && self.plain_name() == other.plain_name()
     }

@@ -1,6 +1,6 @@
 ghost use Rattle.std.specs.Prelude.{◌≡◌, IfNone, IfOk, IfSome};
 ghost use Rattle.rd_geometry.specs.CpmDisks.{cpm_bytes};
-ghost use Rattle.rd_cpm.specs.Entries.{slot_of};
+ghost use Rattle.rd_cpm.specs.Entries.{entry_of_slot};
 ghost use Rattle.rd_cpm.specs.Files.{IsFileSlot};
 ghost use Rattle.rd_cpm.specs.Listing.{Describes};
 
@@ -17,7 +17,7 @@ use std::alloc::Global;
 pub fn file(alloc: Global, disk: &CpmDisk, slot: u16) -> Result<Option<CpmFile>, NoMemory>
     ensures slot { IfOk result (λ answer. IfSome answer (λ file. file.slot ≡ slot)) }
     ensures file { IfOk result (λ answer. IfSome answer (Describes (cpm_bytes disk.now))) }
-    ensures none { IfOk result (λ answer. IfNone answer (¬ IsFileSlot (slot_of (cpm_bytes disk.now)) slot)) }
+    ensures none { IfOk result (λ answer. IfNone answer (¬ IsFileSlot (entry_of_slot (cpm_bytes disk.now)) slot)) }
 {
     if slot >= u16::from(SLOTS) {
         return Ok(None);

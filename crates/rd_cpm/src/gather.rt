@@ -1,6 +1,6 @@
 ghost use Rattle.std.specs.Prelude.{◌<◌, IfOk};
 ghost use Rattle.rd_geometry.specs.CpmDisks.{cpm_bytes};
-ghost use Rattle.rd_cpm.specs.Entries.{slot_of};
+ghost use Rattle.rd_cpm.specs.Entries.{entry_of_slot};
 ghost use Rattle.rd_cpm.specs.Files.{IsFileSlot};
 ghost use Rattle.rd_cpm.specs.Owners.{AreOwners};
 ghost use Rattle.rd_cpm.specs.Gathered.{AreGathered};
@@ -17,9 +17,9 @@ pub(crate) fn gather<'a>(
     owners: &[u8; 64],
     file: u8,
 ) -> Result<Vec<Entry<'a>>, NoMemory>
-    requires owners { AreOwners (slot_of (cpm_bytes disk.now)) 64 owners.now }
-    requires file { IsFileSlot (slot_of (cpm_bytes disk.now)) file }
-    ensures { IfOk result (λ entries. AreGathered (slot_of (cpm_bytes disk.now)) file entries.items) }
+    requires owners { AreOwners (entry_of_slot (cpm_bytes disk.now)) 64 owners.now }
+    requires file { IsFileSlot (entry_of_slot (cpm_bytes disk.now)) file }
+    ensures { IfOk result (λ entries. AreGathered (entry_of_slot (cpm_bytes disk.now)) file entries.items) }
 {
     let mut entries = Vec::new(alloc);
     for slot in file..SLOTS {

@@ -1,6 +1,6 @@
 ghost use Rattle.std.specs.Prelude.{◌<◌};
 ghost use Rattle.rd_geometry.specs.CpmDisks.{cpm_bytes};
-ghost use Rattle.rd_cpm.specs.Entries.{slot_of};
+ghost use Rattle.rd_cpm.specs.Entries.{entry_of_slot};
 ghost use Rattle.rd_cpm.specs.Owners.{IsOwner, AreOwners};
 
 use crate::directory::{SLOTS, entry};
@@ -13,8 +13,8 @@ const NO_FILE: u8 = SLOTS;
 /// none. It searches the file slots before it.
 pub(crate) fn owner_of(disk: &CpmDisk, owners: &[u8; 64], slot: u8) -> u8
     requires slot { slot < 64 }
-    requires before { AreOwners (slot_of (cpm_bytes disk.now)) slot owners.now }
-    ensures { IsOwner (slot_of (cpm_bytes disk.now)) slot result }
+    requires before { AreOwners (entry_of_slot (cpm_bytes disk.now)) slot owners.now }
+    ensures { IsOwner (entry_of_slot (cpm_bytes disk.now)) slot result }
 {
     let own = entry(disk, slot);
     if !own.is_file() {
@@ -30,7 +30,7 @@ pub(crate) fn owner_of(disk: &CpmDisk, owners: &[u8; 64], slot: u8) -> u8
 
 /// The owner of each slot: the slot of its file, or 64 if its entry belongs to no file.
 pub(crate) fn owners_of(disk: &CpmDisk) -> [u8; 64]
-    ensures { AreOwners (slot_of (cpm_bytes disk.now)) 64 result }
+    ensures { AreOwners (entry_of_slot (cpm_bytes disk.now)) 64 result }
 {
     let mut owners = [NO_FILE; 64];
     for slot in 0..SLOTS {

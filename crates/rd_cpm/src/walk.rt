@@ -1,6 +1,6 @@
 ghost use Rattle.std.specs.Prelude.{◌≡◌, ◌<◌, IfOk};
 ghost use Rattle.rd_geometry.specs.CpmDisks.{cpm_bytes};
-ghost use Rattle.rd_cpm.specs.Entries.{slot_of};
+ghost use Rattle.rd_cpm.specs.Entries.{entry_of_slot};
 ghost use Rattle.rd_cpm.specs.Files.{IsFileSlot};
 ghost use Rattle.rd_cpm.specs.Owners.{AreOwners};
 ghost use Rattle.rd_cpm.specs.Claimed.{AreClaims};
@@ -37,9 +37,9 @@ pub(crate) fn file_at(
     claims: &Claims,
     slot: u8,
 ) -> Result<CpmFile, NoMemory>
-    requires owners { AreOwners (slot_of (cpm_bytes disk.now)) 64 owners.now }
-    requires claims { AreClaims (slot_of (cpm_bytes disk.now)) 1024 claims.now.claimed claims.now.shared }
-    requires file { IsFileSlot (slot_of (cpm_bytes disk.now)) slot }
+    requires owners { AreOwners (entry_of_slot (cpm_bytes disk.now)) 64 owners.now }
+    requires claims { AreClaims (entry_of_slot (cpm_bytes disk.now)) 1024 claims.now.claimed claims.now.shared }
+    requires file { IsFileSlot (entry_of_slot (cpm_bytes disk.now)) slot }
     ensures slot { IfOk result (λ file. file.slot ≡ slot) }
     ensures file { IfOk result (Describes (cpm_bytes disk.now)) }
 {

@@ -1,6 +1,6 @@
-pub mod Responding
+pub mod ResponseLemmas
 pub mod OneChange
-pub mod Serving
-pub mod Batching
+pub mod ReplyLemmas
+pub mod BatchLemmas
 pub mod ListLemmas
 pub mod RehearsalLemmas

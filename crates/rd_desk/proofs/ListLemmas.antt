@@ -23,7 +23,7 @@ use Rattle.rd_protocol.specs.declared.request.What.TheVariants.{Deeds, Keys}
 use Rattle.rd_protocol.specs.declared.response.Response.{Response}
 use Rattle.rd_holdings.specs.declared.rows.Accession.{Accession}
 use Rattle.rd_holdings.specs.declared.rows.ImageRow.{ImageRow}
-use Rattle.rd_protocol.proofs.Accepting.{command_accepted}
+use Rattle.rd_protocol.proofs.StaffRefusals.{command_accepted}
 use Rattle.rd_desk.specs.Calls.{Carries, ForEachCaller, IsCarriedOut}
 use Rattle.rd_desk.specs.StaffLists.{accessions_in, check_line, deed_line_of, takedown_lines_at}
 

@@ -20,7 +20,7 @@ use Rattle.rd_protocol.specs.declared.request.What.{What}
 use Rattle.rd_protocol.specs.declared.response.Reply.{Reply}
 use Rattle.rd_protocol.specs.declared.response.Response.{Response}
 use Rattle.rd_protocol.specs.declared.response.Response.TheVariants as response
-use Rattle.rd_desk.proofs.Responding.{keeps_still, keeps_then}
+use Rattle.rd_desk.proofs.ResponseLemmas.{keeps_still, keeps_then}
 
 module _ {S : Type 0} (g : Ghosts S) (day : ℤ) (what : What) (Returned : Result ⊤ StoreFault → Type 0) where
   -- calls that read, and no other

@@ -33,7 +33,7 @@ use Rattle.rd_policy.specs.declared.audience.Audience.TheVariants.{Staff}
 use Rattle.rd_protocol.specs.Judged.{IsAccepted}
 use Rattle.rd_protocol.specs.declared.request.What.TheVariants.{RehearseDrop, RehearseRule}
 use Rattle.rd_holdings.specs.declared.rows.Accession.{Accession}
-use Rattle.rd_protocol.proofs.Accepting.{command_accepted, has_accession, has_deed}
+use Rattle.rd_protocol.proofs.StaffRefusals.{command_accepted, has_accession, has_deed}
 use Rattle.rd_desk.proofs.ListLemmas.{mapped_at}
 use Rattle.rd_desk.specs.Calls.{ForEachCaller, IsRegistered}
 use Rattle.rd_desk.specs.Rehearsing.{AddsDifferencesAt, AreDifferencesAt, AreDifferencesOf, AreFileDifferences, desk_changed, is_there, rules_changed}

@@ -126,7 +126,7 @@ IsResponseAfter (Ok done) (Ok Done) = Unit {0}
 IsResponseAfter (Ok done) (Ok (Checked outcome)) = Unit {0}
 IsResponseAfter (Err fault) (Ok (Refused refusal)) = Unit {0}
 IsResponseAfter (Err fault) (Err none) = Unit {0}
-IsResponseAfter told answer = ⊥
+IsResponseAfter stored answer = ⊥
 
 -- One call that carries out a request on a day, or changes nothing, and what it returned.
 pub record IsOneChange {S : Type 0} (g : Ghosts S) (old new : Held S) (day : ℤ) (what : What) (Returned : Result ⊤ StoreFault → Type 0) : Type 0 where

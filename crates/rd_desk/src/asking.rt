@@ -63,7 +63,7 @@ pub(crate) fn audience<S: Alter>(
         Some(digest) => Ok(store.audience_of(digest)?),
         None => {
             // The public has no key to look up. Without a call, a crash leaves the desk as it is.
-            store.at_rest();
+            store.between_calls();
             Ok(Some(Audience::Public))
         }
     }

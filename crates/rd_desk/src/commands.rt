@@ -41,17 +41,18 @@ fn put_deed<S: Alter>(
 ) -> Result<Response, Unavailable>
     requires deed { IsDeed num (record { donor = donor.now; signed = signed }) }
     ensures carries { (day : ℤ) → Carries S.Store store.old store.new day (What.PutDeed num donor.now signed) result }
-    ensures change { (day : ℤ) → IsOneChange S.Store store.old store.new day (What.PutDeed num donor.now signed) (λ told. IsResponseAfter told result) }
+    ensures change { (day : ℤ) → IsOneChange S.Store store.old store.new day (What.PutDeed num donor.now signed) (λ stored. IsResponseAfter stored result) }
 {
     store.put_deed(num, donor.as_str(), signed)?;
     Ok(Response::Done)
 }
 
-/// Puts a rule; it replaces the one that has its rank. It is refused if its accession or its deed does not stand.
+/// Puts a rule; it replaces the one of the same accession or deed at its rank. A takedown is refused if there is no such
+/// accession, a rule of a deed if there is no such deed.
 fn put_rule<S: Alter>(store: &mut Store<S>, rule: &Rule) -> Result<Response, Unavailable>
     requires rule { IsRule rule.now }
     ensures carries { (day : ℤ) → Carries S.Store store.old store.new day (What.PutRule rule.now) result }
-    ensures change { (day : ℤ) → IsOneChange S.Store store.old store.new day (What.PutRule rule.now) (λ told. IsResponseAfter told result) }
+    ensures change { (day : ℤ) → IsOneChange S.Store store.old store.new day (What.PutRule rule.now) (λ stored. IsResponseAfter stored result) }
 {
     match store.put_rule(rule) {
         Ok(()) => Ok(Response::Done),
@@ -68,7 +69,7 @@ fn drop_rule<S: Alter>(
     rank: u16,
 ) -> Result<Response, Unavailable>
     ensures carries { (day : ℤ) → Carries S.Store store.old store.new day (What.DropRule band scope rank) result }
-    ensures change { (day : ℤ) → IsOneChange S.Store store.old store.new day (What.DropRule band scope rank) (λ told. IsResponseAfter told result) }
+    ensures change { (day : ℤ) → IsOneChange S.Store store.old store.new day (What.DropRule band scope rank) (λ stored. IsResponseAfter stored result) }
 {
     match store.drop_rule(band, scope, rank) {
         Ok(()) => Ok(Response::Done),
@@ -85,7 +86,7 @@ fn put_key<S: Alter>(
 ) -> Result<Response, Unavailable>
     requires key { audience ≢ Audience.Public }
     ensures carries { (day : ℤ) → Carries S.Store store.old store.new day (What.PutKey digest.now audience) result }
-    ensures change { (day : ℤ) → IsOneChange S.Store store.old store.new day (What.PutKey digest.now audience) (λ told. IsResponseAfter told result) }
+    ensures change { (day : ℤ) → IsOneChange S.Store store.old store.new day (What.PutKey digest.now audience) (λ stored. IsResponseAfter stored result) }
 {
     match store.put_key(digest, audience) {
         Ok(()) => Ok(Response::Done),
@@ -97,7 +98,7 @@ fn put_key<S: Alter>(
 /// Takes a desk key away.
 fn drop_key<S: Alter>(store: &mut Store<S>, digest: &[u8; 32]) -> Result<Response, Unavailable>
     ensures carries { (day : ℤ) → Carries S.Store store.old store.new day (What.DropKey digest.now) result }
-    ensures change { (day : ℤ) → IsOneChange S.Store store.old store.new day (What.DropKey digest.now) (λ told. IsResponseAfter told result) }
+    ensures change { (day : ℤ) → IsOneChange S.Store store.old store.new day (What.DropKey digest.now) (λ stored. IsResponseAfter stored result) }
 {
     match store.drop_key(digest) {
         Ok(()) => Ok(Response::Done),
@@ -120,7 +121,7 @@ fn commit_image<S: Alter>(
     requires sized { length bytes.now ≡ size_of kind }
     requires same { sha256 bytes.now ≡ digest.now }
     ensures carries { (day : ℤ) → Carries S.Store store.old store.new day (What.PutImage acc kind deed digest.now bytes.now) result }
-    ensures change { (day : ℤ) → IsOneChange S.Store store.old store.new day (What.PutImage acc kind deed digest.now bytes.now) (λ told. IsResponseAfter told result) }
+    ensures change { (day : ℤ) → IsOneChange S.Store store.old store.new day (What.PutImage acc kind deed digest.now bytes.now) (λ stored. IsResponseAfter stored result) }
 {
     match store.put_image(alloc, acc, kind, deed, digest, bytes.as_slice()) {
         Ok(()) => Ok(Response::Done),
@@ -143,10 +144,10 @@ fn put_image<S: Alter>(
 ) -> Result<Response, Unavailable>
     requires scope { IsScope acc }
     ensures carries { (day : ℤ) → Carries S.Store store.old store.new day (What.PutImage acc kind deed digest.now bytes.now) result }
-    ensures one_change { (day : ℤ) → MakesOneChange S.Store store.old store.new day (What.PutImage acc kind deed digest.now bytes.now) (λ told. IsResponseAfter told result) }
+    ensures one_change { (day : ℤ) → MakesOneChange S.Store store.old store.new day (What.PutImage acc kind deed digest.now bytes.now) (λ stored. IsResponseAfter stored result) }
 {
     // If the put is refused below, a crash leaves the desk as it is here.
-    store.at_rest();
+    store.between_calls();
     if bytes.as_slice().len() != kind.size() {
         if has_deed(store, deed)? {
             return Ok(Response::Refused(Refusal::WrongSize));
@@ -171,7 +172,7 @@ fn check<S: Alter>(
 ) -> Result<Response, Unavailable>
     requires day { IsDay day }
     ensures carries { Carries S.Store store.old store.new day (What.Check acc) result }
-    ensures one_change { MakesOneChange S.Store store.old store.new day (What.Check acc) (λ told. IsResponseAfter told result) }
+    ensures one_change { MakesOneChange S.Store store.old store.new day (What.Check acc) (λ stored. IsResponseAfter stored result) }
 {
     let Some(image) = store.image(alloc, acc)? else {
         return Ok(Response::Refused(Refusal::NoAccession));
@@ -194,10 +195,10 @@ pub(crate) fn command<S: Alter>(
     requires fits { IsRequest what.now }
     requires staff { IsForStaff what.now }
     ensures carries { Carries S.Store store.old store.new day what.now result }
-    ensures one_change { MakesOneChange S.Store store.old store.new day what.now (λ told. IsResponseAfter told result) }
+    ensures one_change { MakesOneChange S.Store store.old store.new day what.now (λ stored. IsResponseAfter stored result) }
 {
     // Here the desk is a lawful one, and a crash before the first call leaves it.
-    store.at_rest();
+    store.between_calls();
     match what {
         What::Survey(acc) => survey(store, alloc, *acc),
         What::Deeds => deeds(store, alloc),

@@ -28,7 +28,7 @@ fn response_to<S: Alter>(
     requires fits { IsRequest request.now.what }
     requires day { IsDay day }
     ensures makes { MakesResponse S.Store store.old store.new day request.now result }
-    ensures one_change { MakesOneChange S.Store store.old store.new day request.now.what (λ told. IsResponseAfter told result) }
+    ensures one_change { MakesOneChange S.Store store.old store.new day request.now.what (λ stored. IsResponseAfter stored result) }
     ensures ends_open { (request.now.badge ≡ None → ¬ IsForStaff request.now.what) → LeavesOpen S.Store store.new result }
     ensures turned_away { request.now.badge ≡ None → IsForStaff request.now.what → (result ≡ Ok (Response.Refused Refusal.StaffOnly)) × (store.new ≡ store.old) }
 {
@@ -40,7 +40,7 @@ fn response_to<S: Alter>(
         return query(store, alloc, &caller, &request.what);
     }
     // If the caller is refused below, a crash leaves the desk as it is here.
-    store.at_rest();
+    store.between_calls();
     if caller.audience != Audience::Staff {
         return Ok(Response::Refused(Refusal::StaffOnly));
     }
@@ -120,7 +120,7 @@ impl<S: Alter> Desk<S> {
     {
         let answer = response_to(&mut self.store, alloc, day, request);
         // While the connection is open, a crash from here on leaves the desk as the answer left it.
-        self.store.at_rest();
+        self.store.between_calls();
         answer
     }
 

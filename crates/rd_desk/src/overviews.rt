@@ -80,14 +80,14 @@ fn over_batches<S: Alter, O: Overview>(
     rules: &Rulebook,
     accessions: usize,
 ) -> Result<Vec<O::Line>, Unavailable>
-    requires awake { IsClean S.Store store.old → IsOpen S.Store store.old }
+    requires open_if_clean { IsClean S.Store store.old → IsOpen S.Store store.old }
     requires rules { IsOpen S.Store store.old → rules.now ≡ all_rules (desk S.Store store.old) }
     requires count { IsOpen S.Store store.old → accessions ≡ length (keys (desk S.Store store.old).images) }
     ensures { Reads S.Store store.old store.new result (λ lines. O.says overview.now (desk S.Store store.old) (keys (desk S.Store store.old).images) lines.items) }
 {
     let mut lines = Vec::new(alloc);
     // The loop begins with a store at rest: a crash leaves the desk as it is.
-    store.at_rest();
+    store.between_calls();
     for at in 0..accessions / BATCH + 1 {
         let batch = store.batch(alloc, BATCH * at, BATCH)?;
         lines = with_batch(overview, alloc, rules, lines, batch)?;

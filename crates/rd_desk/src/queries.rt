@@ -82,13 +82,13 @@ fn answer_about<S: Alter>(
     file: Found,
 ) -> Result<Response, Unavailable>
     requires order { AreInOrder loaded.now.rules }
-    requires awake { IsClean S.Store store.old → IsOpen S.Store store.old }
+    requires open_if_clean { IsClean S.Store store.old → IsOpen S.Store store.old }
     ensures { Reads S.Store store.old store.new result (λ answer. (image : ImageRow) → get (desk S.Store store.old).images acc ≡ Some image
         → loaded.now.kind ≡ image.kind → IsFound image.kind image.bytes file
         → IsRead (record { image = image; rules = loaded.now.rules }) caller.now.audience caller.now.day file.slot answer) }
 {
     // A file that is withheld takes no call. Then a crash leaves the desk as it is.
-    store.at_rest();
+    store.between_calls();
     if let Some(refusal) = withheld(loaded, caller, &file) {
         return Ok(Response::Refused(refusal));
     }

@@ -299,7 +299,7 @@ fn with_accession<S: Alter>(
     acc: u32,
     accession: Accession,
 ) -> Result<Vec<Difference>, Unavailable>
-    requires awake { IsClean S.Store store.old → IsOpen S.Store store.old }
+    requires open_if_clean { IsClean S.Store store.old → IsOpen S.Store store.old }
     requires known { IsOpen S.Store store.old → IsRegistered (desk S.Store store.old) acc accession }
     requires band { rehearsal.now.band ≡ Band.Deed }
     requires place { IfSome rehearsal.now.rule (λ rule. place_of rule.now ≡ place_at rehearsal.now.band rehearsal.now.scope rehearsal.now.rank) }
@@ -308,7 +308,7 @@ fn with_accession<S: Alter>(
         rehearsal.now.day acc lines.items all.items) }
 {
     // An accession of another deed takes no call. Then a crash leaves the desk as it is.
-    store.at_rest();
+    store.between_calls();
     if accession.deed != rehearsal.scope {
         return Ok(lines);
     }
@@ -323,7 +323,7 @@ fn of_register<S: Alter>(
     rehearsal: &Rehearsal<'_>,
     register: &[(u32, Accession)],
 ) -> Result<Vec<Difference>, Unavailable>
-    requires awake { IsClean S.Store store.old → IsOpen S.Store store.old }
+    requires open_if_clean { IsClean S.Store store.old → IsOpen S.Store store.old }
     requires known { IsOpen S.Store store.old → All (λ entry. IsRegistered (desk S.Store store.old) entry.0 entry.1) register.now }
     requires band { rehearsal.now.band ≡ Band.Deed }
     requires place { IfSome rehearsal.now.rule (λ rule. place_of rule.now ≡ place_at rehearsal.now.band rehearsal.now.scope rehearsal.now.rank) }
@@ -333,7 +333,7 @@ fn of_register<S: Alter>(
 {
     let mut lines = Vec::new(alloc);
     // Where there is no accession there is no call. Then a crash leaves the desk as it is.
-    store.at_rest();
+    store.between_calls();
     for entry in register {
         let (acc, accession) = *entry;
         lines = with_accession(store, alloc, lines, rehearsal, acc, accession)?;
@@ -375,7 +375,7 @@ fn of_accession<S: Alter>(
     };
     let lines = differences_at(store, alloc, rehearsal, rehearsal.scope, accession)?;
     // The desk that was read is a lawful one.
-    store.at_rest();
+    store.between_calls();
     Ok(Some(lines))
 }
 

@@ -114,12 +114,12 @@ fn with_takedowns<S: Alter>(
     acc: u32,
     deed: u32,
 ) -> Result<Vec<TakedownLine>, Unavailable>
-    requires awake { IsClean S.Store store.old → IsOpen S.Store store.old }
+    requires open_if_clean { IsClean S.Store store.old → IsOpen S.Store store.old }
     requires rules { IsOpen S.Store store.old → rules.now ≡ all_rules (desk S.Store store.old) }
     ensures { Reads S.Store store.old store.new result (λ all. all.items ≡ lines.items ++ takedown_lines_at (desk S.Store store.old) acc) }
 {
     // An accession without takedowns takes no call. Then a crash leaves the desk as it is.
-    store.at_rest();
+    store.between_calls();
     if !has_takedowns(rules, acc, deed) {
         return Ok(lines);
     }
@@ -142,13 +142,13 @@ fn takedowns_of<S: Alter>(
     rules: &Rulebook,
     register: &[(u32, Accession)],
 ) -> Result<Vec<TakedownLine>, Unavailable>
-    requires awake { IsClean S.Store store.old → IsOpen S.Store store.old }
+    requires open_if_clean { IsClean S.Store store.old → IsOpen S.Store store.old }
     requires rules { IsOpen S.Store store.old → rules.now ≡ all_rules (desk S.Store store.old) }
     ensures { Reads S.Store store.old store.new result (λ lines. lines.items ≡ flat_map (λ entry. takedown_lines_at (desk S.Store store.old) entry.0) register.now) }
 {
     let mut lines = Vec::new(alloc);
     // Where there is no accession there is no call. Then a crash leaves the desk as it is.
-    store.at_rest();
+    store.between_calls();
     for entry in register {
         let (acc, accession) = *entry;
         lines = with_takedowns(store, alloc, lines, rules, acc, accession.deed)?;
@@ -185,12 +185,12 @@ fn checks_of<S: Alter>(
     alloc: Global,
     register: &[(u32, Accession)],
 ) -> Result<Vec<CheckLine>, Unavailable>
-    requires awake { IsClean S.Store store.old → IsOpen S.Store store.old }
+    requires open_if_clean { IsClean S.Store store.old → IsOpen S.Store store.old }
     ensures { Reads S.Store store.old store.new result (λ lines. lines.items ≡ map (λ entry. check_line (desk S.Store store.old) entry.0) register.now) }
 {
     let mut lines = Vec::new(alloc);
     // Where there is no accession there is no call. Then a crash leaves the desk as it is.
-    store.at_rest();
+    store.between_calls();
     for entry in register {
         let (accession, _) = *entry;
         let last = store.latest_check(accession)?;
@@ -201,8 +201,8 @@ fn checks_of<S: Alter>(
     Ok(lines)
 }
 
-/// The lines of all accessions.
-fn all_checks<S: Alter>(
+/// Each accession with its latest check.
+fn latest_checks<S: Alter>(
     store: &mut Store<S>,
     alloc: Global,
 ) -> Result<Items<CheckLine>, Unavailable>
@@ -217,5 +217,5 @@ pub(crate) fn checks<S: Alter>(store: &mut Store<S>, alloc: Global) -> Result<Re
     ensures carries { (day : ℤ) → Carries S.Store store.old store.new day What.Checks result }
     ensures keeps { Keeps S.Store store.old store.new }
 {
-    Ok(Response::Checks(all_checks(store, alloc)?))
+    Ok(Response::Checks(latest_checks(store, alloc)?))
 }

@@ -88,16 +88,16 @@ fn verdicts_of(
     alloc: Global,
     rules: &Rulebook,
     day: i32,
-    one: Indexed,
+    indexed: Indexed,
 ) -> Result<Verdicts, Unavailable>
-    ensures { IfOk result (λ verdicts. (desk : Desk) → rules.now ≡ all_rules desk → StandsAs desk one → IsVerdictsOf desk day one.acc verdicts) }
+    ensures { IfOk result (λ verdicts. (desk : Desk) → rules.now ≡ all_rules desk → StandsAs desk indexed → IsVerdictsOf desk day indexed.acc verdicts) }
 {
-    let (takedowns, others) = rules.under(one.acc, one.deed);
-    let files = decided(alloc, takedowns, others, day, one.files)?;
+    let (takedowns, others) = rules.under(indexed.acc, indexed.deed);
+    let files = decided(alloc, takedowns, others, day, indexed.files)?;
     Ok(Verdicts {
-        accession: one.acc,
-        deed: one.deed,
-        kind: one.kind,
+        accession: indexed.acc,
+        deed: indexed.deed,
+        kind: indexed.kind,
         files,
     })
 }
@@ -118,11 +118,11 @@ impl Overview for VerdictsOn {
         alloc: Global,
         rules: &Rulebook,
         lines: Vec<Verdicts>,
-        one: Indexed,
+        indexed: Indexed,
     ) -> Result<Vec<Verdicts>, Unavailable>
-        ensures { IfOk result (λ all. SaysMore (λ desk accs lines. AllZip (IsVerdictsOf desk self.now.day) accs lines) rules.now one lines.items all.items) }
+        ensures { IfOk result (λ all. SaysMore (λ desk accs lines. AllZip (IsVerdictsOf desk self.now.day) accs lines) rules.now indexed lines.items all.items) }
     {
-        let verdicts = verdicts_of(alloc, rules, self.day, one)?;
+        let verdicts = verdicts_of(alloc, rules, self.day, indexed)?;
         with_line(lines, verdicts)
     }
 

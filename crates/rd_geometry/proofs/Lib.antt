@@ -1,2 +1,2 @@
 pub mod Zones
-pub mod Deciding
+pub mod Decidability

@@ -1,3 +1,3 @@
 pub mod RunLemmas
-pub mod Hiding
+pub mod VisitHiding
 pub mod VisitLemmas

@@ -12,7 +12,7 @@ use Rattle.rd_store.specs.Held.{IsOpen, desk}
 use Rattle.rd_protocol.specs.declared.request.Request.{Request}
 use Rattle.rd_messages.specs.Asked.{HasFramedHead, IsRequestOf, request, fault}
 use Rattle.rd_http.specs.Runs.{Ends, AreNext, HasRun, IsLast, IsVisit, Runs, counted}
-use Rattle.rd_messages.specs.DoorVisits.{Admits, Coming, Leaves, TakesNext, TellsToo, Told, Visit, coming_of}
+use Rattle.rd_messages.specs.DoorVisits.{Admits, Coming, Leaves, TakesNext, TellsToo, VisitsSoFar, Visit, coming_of}
 use Rattle.rd_http.specs.Visits.{IsAnswer, IsReplied, Visits}
 use Rattle.rd_http.specs.declared.serve.Ended.TheVariants as ended
 use Rattle.rd_http.specs.declared.serve.Served.{Served}
@@ -59,7 +59,7 @@ unset false result end iff other = refl
 
 module _ {State : Type 0} (Answers : List ℕ → State → State → ℤ → List ℕ → Type 0) (zone : Zone) where
   module _ (coming : Option (List Coming)) where
-    abbrev Run : Told → Option Told → Option (List Coming) → Served → State → State → Type 0
+    abbrev Run : VisitsSoFar → Option VisitsSoFar → Option (List Coming) → Served → State → State → Type 0
     Run told later left served old new = HasRun Answers zone told later coming left served old new
 
   runs_more : (visits : List Visit) (visit : Visit) (s m t : State) → Runs Answers zone visits s m → IsVisit Answers zone visit m t
@@ -70,36 +70,36 @@ module _ {State : Type 0} (Answers : List ℕ → State → State → ℤ → Li
   -- ---- one visit
 
   -- what a visit leaves, from what its call says
-  module _ (moment : ℤ) (came out : List ℕ) (take_failed put_failed : Bool) where
+  module _ (moment : ℤ) (came out : List ℕ) (read_failed write_failed : Bool) where
     abbrev visit_of : Visit
-    visit_of = record { moment = moment; came = came; out = out; take_failed = take_failed; put_failed = put_failed }
+    visit_of = record { moment = moment; came = came; out = out; read_failed = read_failed; write_failed = write_failed }
 
     abbrev Visited : State → State → Result (Unit {0}) WireFault → Type 0
     Visited m t result = Visits (Answers came m t (day_number moment zone)) m t (Some []) (Some out) result
 
   -- what is told with one visit more
-  glued : (told : Told) (visits : List Visit) (visit : Visit) → told.under_way ≡ None
-      → ◌≡◌ {A = Option Told} (Some (record { visits = (told.visits ++ (visits ++ [])) ++ visit ∷ []; under_way = None }))
+  glued : (told : VisitsSoFar) (visits : List Visit) (visit : Visit) → told.under_way ≡ None
+      → ◌≡◌ {A = Option VisitsSoFar} (Some (record { visits = (told.visits ++ (visits ++ [])) ++ visit ∷ []; under_way = None }))
       (Some (record { visits = told.visits ++ (visits ++ visit ∷ []); under_way = told.under_way }))
   glued told visits visit rests =
       let same : (told.visits ++ (visits ++ [])) ++ visit ∷ [] ≡ told.visits ++ (visits ++ visit ∷ []) =
       append_assoc told.visits (visits ++ []) (visit ∷ []) ∙ ap (λ (vs : List Visit). told.visits ++ (vs ++ visit ∷ [])) (append-nil visits) in
       ap Some (λ i. record { visits = same i; under_way = sym rests i })
 
-  counting : (told : Told) (visits : List Visit) (visit : Visit) → told.under_way ≡ None
-      → ◌≡◌ {A = Option Told} (Some (record { visits = (told.visits ++ (visits ++ [])) ++ visit ∷ []; under_way = None }))
+  counting : (told : VisitsSoFar) (visits : List Visit) (visit : Visit) → told.under_way ≡ None
+      → ◌≡◌ {A = Option VisitsSoFar} (Some (record { visits = (told.visits ++ (visits ++ [])) ++ visit ∷ []; under_way = None }))
       (Some (record { visits = told.visits ++ ((visits ++ visit ∷ []) ++ []); under_way = told.under_way }))
   counting told visits visit rests =
       glued told visits visit rests
       ∙ ap (λ (vs : List Visit). Some (record { visits = told.visits ++ vs; under_way = told.under_way })) (sym (append-nil (visits ++ visit ∷ [])))
 
   -- how a call ends, by whether a read failed, whether a write failed, and whether the moment has a day
-  pub record Flags (moment : ℤ) (take_failed put_failed : Bool) (result : Result (Unit {0}) WireFault) : Type 0 where
-    pub read : result ≡ Err Read ↔ take_failed ≡ true
-    pub write : result ≡ Err Write ↔ put_failed ≡ true
+  pub record Flags (moment : ℤ) (read_failed write_failed : Bool) (result : Result (Unit {0}) WireFault) : Type 0 where
+    pub read : result ≡ Err Read ↔ read_failed ≡ true
+    pub write : result ≡ Err Write ↔ write_failed ≡ true
     pub clock : (¬ (result ≡ Err Clock)) ↔ HasDay moment
 
-  module _ (coming left : Option (List Coming)) (told : Told) (later : Option Told) (served : Served) (s m t : State) (moment : ℤ) (came out : List ℕ) (tf pf : Bool)
+  module _ (coming left : Option (List Coming)) (told : VisitsSoFar) (later : Option VisitsSoFar) (served : Served) (s m t : State) (moment : ℤ) (came out : List ℕ) (tf pf : Bool)
       (is_count : served.ended ≡ ended.Count) where
     abbrev this : Visit
     this = visit_of moment came out tf pf
@@ -108,7 +108,7 @@ module _ {State : Type 0} (Answers : List ℕ → State → State → ℤ → Li
     no_last = subst (λ e. IsLast e []) (sym is_count) refl
 
     over : (visits : List Visit) (result : Result (Unit {0}) WireFault) → AreNext coming left (visits ++ this ∷ []) → Runs Answers zone visits s m → length visits ≡ served.visits
-        → length (filter (λ one. one.take_failed) visits) ≡ served.read_faults → length (filter (λ one. one.put_failed) visits) ≡ served.write_faults → told.under_way ≡ None
+        → length (filter (λ one. one.read_failed) visits) ≡ served.read_faults → length (filter (λ one. one.write_failed) visits) ≡ served.write_faults → told.under_way ≡ None
         → later ≡ Some (record { visits = (told.visits ++ (visits ++ [])) ++ this ∷ []; under_way = None })
         → Visited moment came out tf pf m t result → Flags moment tf pf result → Run coming told later left (counted result served) s t
     over visits (Ok done) next runs len reads writes rests tells (text, answer, whole) flags =
@@ -123,8 +123,8 @@ module _ {State : Type 0} (Answers : List ℕ → State → State → ℤ → Li
           are = tells ∙ counting told visits this rests;
           runs = runs_more visits this s m t runs (record { day = flags.clock.0 (λ e. cc e); ends = ends });
           counted = one_more visits this served.visits len;
-          read_faults = among_none (λ one. one.take_failed) visits this served.read_faults reads take;
-          write_faults = among_none (λ one. one.put_failed) visits this served.write_faults writes put;
+          read_faults = among_none (λ one. one.read_failed) visits this served.read_faults reads take;
+          write_faults = among_none (λ one. one.write_failed) visits this served.write_faults writes put;
           ended = no_last;
         }
     over visits (Err Read) next runs len reads writes rests tells (same, kept) flags =
@@ -139,8 +139,8 @@ module _ {State : Type 0} (Answers : List ℕ → State → State → ℤ → Li
           are = tells ∙ counting told visits this rests;
           runs = runs_more visits this s m t runs (record { day = flags.clock.0 (λ e. cc e); ends = ends });
           counted = one_more visits this served.visits len;
-          read_faults = among_one (λ one. one.take_failed) visits this served.read_faults reads take;
-          write_faults = among_none (λ one. one.put_failed) visits this served.write_faults writes put;
+          read_faults = among_one (λ one. one.read_failed) visits this served.read_faults reads take;
+          write_faults = among_none (λ one. one.write_failed) visits this served.write_faults writes put;
           ended = no_last;
         }
     over visits (Err Write) next runs len reads writes rests tells (text, answer, (part, rest, whole, some, sent)) flags =
@@ -155,8 +155,8 @@ module _ {State : Type 0} (Answers : List ℕ → State → State → ℤ → Li
           are = tells ∙ counting told visits this rests;
           runs = runs_more visits this s m t runs (record { day = flags.clock.0 (λ e. cc e); ends = ends });
           counted = one_more visits this served.visits len;
-          read_faults = among_none (λ one. one.take_failed) visits this served.read_faults reads take;
-          write_faults = among_one (λ one. one.put_failed) visits this served.write_faults writes put;
+          read_faults = among_none (λ one. one.read_failed) visits this served.read_faults reads take;
+          write_faults = among_one (λ one. one.write_failed) visits this served.write_faults writes put;
           ended = no_last;
         }
     over visits (Err Clock) next runs len reads writes rests tells (same, kept) flags = record {
@@ -174,8 +174,8 @@ module _ {State : Type 0} (Answers : List ℕ → State → State → ℤ → Li
         record {
           day = λ day. flags.clock.1 day refl;
           out = cc kept;
-          take_failed = unset tf (Err Clock) (Err Read) flags.read (λ e. cc e);
-          put_failed = unset pf (Err Clock) (Err Write) flags.write (λ e. cc e);
+          read_failed = unset tf (Err Clock) (Err Read) flags.read (λ e. cc e);
+          write_failed = unset pf (Err Clock) (Err Write) flags.write (λ e. cc e);
         },
       );
     }
@@ -189,7 +189,7 @@ module _ {State : Type 0} (Answers : List ℕ → State → State → ℤ → Li
   untold came m t moment out (Err Clock) (same, kept) = cc kept
 
   -- a visit that a door admitted, from what its connection tells
-  told_over : (coming c1 c2 : Option (List Coming)) (told now : Told) (later : Option Told) (served : Served) (s m t : State) (moment : ℤ) (came0 came1 out0 out1 : Option (List ℕ)) (tf pf : Bool)
+  told_over : (coming c1 c2 : Option (List Coming)) (told now : VisitsSoFar) (later : Option VisitsSoFar) (served : Served) (s m t : State) (moment : ℤ) (came0 came1 out0 out1 : Option (List ℕ)) (tf pf : Bool)
       (result : Result (Unit {0}) WireFault)
       → Run coming told (Some now) c1 served s m → TakesNext c1 c2 moment came0 → served.ended ≡ ended.Count → now.under_way ≡ None → TellsToo (Some now) came0 out0
       → IfSome came0 (λ stream. Visits (Answers stream m t (day_number moment zone)) m t out0 out1 result) → came1 ≡ came0
@@ -203,8 +203,8 @@ module _ {State : Type 0} (Answers : List ℕ → State → State → ℤ → Li
   told_over coming c1 c2 told now later served s m t moment (Some came) (Some came1) (Some out0) (Some out) tf pf result run next is_count rests tells visited same leaves flags =
       let last : run.last ≡ [] = subst (λ e. IsLast e run.last) is_count run.ended in
       let is : now ≡ record { visits = told.visits ++ (run.visits ++ run.last); under_way = told.under_way } = cc run.are in
-      let quiet : told.under_way ≡ None = sym (ap (λ (x : Told). x.under_way) is) ∙ rests in
-      let all : now.visits ≡ told.visits ++ (run.visits ++ []) = ap (λ (x : Told). x.visits) is ∙ ap (λ (l : List Visit). told.visits ++ (run.visits ++ l)) last in
+      let quiet : told.under_way ≡ None = sym (ap (λ (x : VisitsSoFar). x.under_way) is) ∙ rests in
+      let all : now.visits ≡ told.visits ++ (run.visits ++ []) = ap (λ (x : VisitsSoFar). x.visits) is ∙ ap (λ (l : List Visit). told.visits ++ (run.visits ++ l)) last in
       let bytes : came1 ≡ came = cc same in
       let order : AreNext coming c1 run.visits = subst (AreNext coming c1) (ap (λ (l : List Visit). run.visits ++ l) last ∙ append-nil run.visits) run.order in
       over coming c2 told later served s m t moment came out tf pf is_count run.visits result
@@ -213,7 +213,7 @@ module _ {State : Type 0} (Answers : List ℕ → State → State → ℤ → Li
       (subst (λ o. Visits (Answers came m t (day_number moment zone)) m t (Some o) (Some out) result) tells visited) flags
 
   -- one more visit of a run
-  pub run_step : (coming c1 c2 c3 : Option (List Coming)) (told : Told) (t1 t2 later : Option Told) (served : Served) (s m t : State) (moment : ℤ) (came0 incoming came1 out0 out1 : Option (List ℕ)) (tf pf : Bool)
+  pub run_step : (coming c1 c2 c3 : Option (List Coming)) (told : VisitsSoFar) (t1 t2 later : Option VisitsSoFar) (served : Served) (s m t : State) (moment : ℤ) (came0 incoming came1 out0 out1 : Option (List ℕ)) (tf pf : Bool)
       (result : Result (Unit {0}) WireFault)
       → Run coming told t1 c1 served s m → TakesNext c1 c2 moment came0 → c3 ≡ c2 → served.ended ≡ ended.Count → Admits t1 t2 (Some moment) → incoming ≡ came0 → TellsToo t1 came0 out0
       → IfSome incoming (λ stream. Visits (Answers stream m t (day_number moment zone)) m t out0 out1 result) → came1 ≡ came0
@@ -250,10 +250,10 @@ module _ {S : Type 0} (g : Ghosts S) (zone : Zone) where
       → IsReplied stream (desk g old) (desk g new) day text
   replied stream old new day text (inl (request asked, is, (reply, serves, told))) is_open = elim (serves.answers is_open) [
     | inl answered ↦ inl (request asked, is, (reply, answered, told))
-    | inr none ↦ inr (record { framed = framed stream asked is; same = none.after; told = told ∙ ap answer_bytes none.written })
+    | inr none ↦ inr (record { framed = framed stream asked is; same = none.after; text_is = told ∙ ap answer_bytes none.written })
   ]
   replied stream old new day text (inl (fault reason, is, (same, told))) is_open = inl (fault reason, is, (ap (desk g) same, told))
-  replied stream old new day text (inr wanting) is_open = inr (record { framed = wanting.framed; same = ap (desk g) wanting.same; told = wanting.told })
+  replied stream old new day text (inr wanting) is_open = inr (record { framed = wanting.framed; same = ap (desk g) wanting.same; text_is = wanting.text_is })
 
   ended_open : (came : List ℕ) (old new : Held S) (day : ℤ) (out : List ℕ) (tf pf : Bool) → Ends (IsAnswer g) zone came old new day out tf pf → IsOpen g new → IsOpen g old
   ended_open came old new day out false false answer is_open = was_open came old new day out answer is_open
@@ -269,7 +269,7 @@ module _ {S : Type 0} (g : Ghosts S) (zone : Zone) where
   runs_open : (visits : List Visit) (old new : Held S) → Runs (IsAnswer g) zone visits old new → IsOpen g new → IsOpen g old
   runs_open [] old new same is_open = subst (IsOpen g) same is_open
   runs_open (visit ∷ visits) old new (mid, is, runs) is_open =
-      ended_open visit.came old mid (day_number visit.moment zone) visit.out visit.take_failed visit.put_failed is.ends (runs_open visits mid new runs is_open)
+      ended_open visit.came old mid (day_number visit.moment zone) visit.out visit.read_failed visit.write_failed is.ends (runs_open visits mid new runs is_open)
 
   runs_replied : (visits : List Visit) (old new : Held S) → Runs (IsAnswer g) zone visits old new → IsOpen g new
       → Runs IsReplied zone visits (desk g old) (desk g new)
@@ -278,13 +278,13 @@ module _ {S : Type 0} (g : Ghosts S) (zone : Zone) where
     desk g mid,
     record {
       day = is.day;
-      ends = ended_replied visit.came old mid (day_number visit.moment zone) visit.out visit.take_failed visit.put_failed is.ends (runs_open visits mid new runs is_open);
+      ends = ended_replied visit.came old mid (day_number visit.moment zone) visit.out visit.read_failed visit.write_failed is.ends (runs_open visits mid new runs is_open);
     },
     runs_replied visits mid new runs is_open,
   )
 
   -- a run over a store that is open at its end is one over the desk that it holds
-  pub run_replied : (coming left : Option (List Coming)) (told : Told) (later : Option Told) (served : Served) (old new : Held S)
+  pub run_replied : (coming left : Option (List Coming)) (told : VisitsSoFar) (later : Option VisitsSoFar) (served : Served) (old new : Held S)
       → HasRun (IsAnswer g) zone told later coming left served old new → IsOpen g new → HasRun IsReplied zone told later coming left served (desk g old) (desk g new)
   run_replied coming left told later served old new run is_open = record {
     visits = run.visits;

@@ -7,7 +7,7 @@ use Rattle.rd_policy.specs.declared.zone.Zone.{Zone}
 use Rattle.sqlite.specs.Store.{Ghosts}
 use Rattle.sqlite.specs.Held.{Held}
 use Rattle.rd_store.specs.Held.{Lasts}
-use Rattle.rd_messages.specs.DoorVisits.{Coming, NoneToCome, Told, Visit, coming_of}
+use Rattle.rd_messages.specs.DoorVisits.{Coming, NoneToCome, VisitsSoFar, Visit, coming_of}
 use Rattle.rd_messages.specs.declared.wire.Door.{Ghosts as DoorGhosts}
 use Rattle.rd_http.specs.Visits.{IsAnswer}
 use Rattle.rd_http.specs.declared.serve.Ended.{Ended}
@@ -46,8 +46,8 @@ NoneLeft (Some left) = left ≡ []
 pub record IsTimeless (visit : Visit) : Type 0 where
   pub day : ¬ HasDay visit.moment
   pub out : visit.out ≡ []
-  pub take_failed : visit.take_failed ≡ false
-  pub put_failed : visit.put_failed ≡ false
+  pub read_failed : visit.read_failed ≡ false
+  pub write_failed : visit.write_failed ≡ false
 
 -- the visit that ended the run, beyond those that count
 abbrev pub IsLast : Ended → List Visit → Type 0
@@ -62,12 +62,12 @@ module _ {State : Type 0} (Answers : List ℕ → State → State → ℤ → Li
   abbrev pub Ends : List ℕ → State → State → ℤ → List ℕ → Bool → Bool → Type 0
   Ends came old new day out false false = Answers came old new day out
   Ends came old new day out false true = (text : List ℕ) × Answers came old new day text × IsCut out text
-  Ends came old new day out true put_failed = (put_failed ≡ false) × (out ≡ []) × (new ≡ old)
+  Ends came old new day out true write_failed = (write_failed ≡ false) × (out ≡ []) × (new ≡ old)
 
   -- A visit at a moment that has a day.
   pub record IsVisit (visit : Visit) (old new : State) : Type 0 where
     pub day : HasDay visit.moment
-    pub ends : Ends visit.came old new (day_number visit.moment zone) visit.out visit.take_failed visit.put_failed
+    pub ends : Ends visit.came old new (day_number visit.moment zone) visit.out visit.read_failed visit.write_failed
 
   -- visits in turn, each from the state that the one before it left
   abbrev pub Runs : List Visit → State → State → Type 0
@@ -77,15 +77,15 @@ module _ {State : Type 0} (Answers : List ℕ → State → State → ℤ → Li
   -- What a door shows after a run: the visits that count, in turn, and the one that ended it, if
   -- one did. They were the next that were to come. So many count, and at so many a read, or a
   -- write, failed.
-  pub record HasRun (told : Told) (later : Option Told) (coming left : Option (List Coming)) (served : Served) (old new : State) : Type 0 where
+  pub record HasRun (told : VisitsSoFar) (later : Option VisitsSoFar) (coming left : Option (List Coming)) (served : Served) (old new : State) : Type 0 where
     pub visits : List Visit
     pub last : List Visit
     pub are : later ≡ Some (record { visits = told.visits ++ (visits ++ last); under_way = told.under_way })
     pub order : AreNext coming left (visits ++ last)
     pub runs : Runs visits old new
     pub counted : length visits ≡ served.visits
-    pub read_faults : length (filter (λ visit. visit.take_failed) visits) ≡ served.read_faults
-    pub write_faults : length (filter (λ visit. visit.put_failed) visits) ≡ served.write_faults
+    pub read_faults : length (filter (λ visit. visit.read_failed) visits) ≡ served.read_faults
+    pub write_faults : length (filter (λ visit. visit.write_failed) visits) ≡ served.write_faults
     pub ended : IsLast served.ended last
 
 -- A run of at most so many visits of a door, over a desk with the clocks of a zone: what the door shows, why the run ended,
@@ -104,7 +104,7 @@ pub record IsRunOf {S D C : Type 0} (g : Ghosts S) (d : DoorGhosts D C) (most : 
 
 -- One visit more of a run that goes on, or its end.
 pub record IsNext {S D C : Type 0} (g : Ghosts S) (d : DoorGhosts D C) (zone : Zone) (before after : D) (old new : Held S) (served next : Served) : Type 0 where
-  pub run : (told : Told) (coming : Option (List Coming)) (start : Held S) → HasRun (IsAnswer g) zone told (d.told before) coming (d.coming before) served start old
+  pub run : (told : VisitsSoFar) (coming : Option (List Coming)) (start : Held S) → HasRun (IsAnswer g) zone told (d.told before) coming (d.coming before) served start old
       → HasRun (IsAnswer g) zone told (d.told after) coming (d.coming after) next start new
   pub more : next.ended ≡ Count → next.visits ≡ served.visits + 1
   pub over : next.ended ≢ Count → next.visits ≡ served.visits

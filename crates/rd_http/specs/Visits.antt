@@ -29,7 +29,7 @@ use Rattle.rd_messages.specs.Answers.{answer_bytes, fault_bytes}
 pub record IsWanting {State : Type 0} (stream : List ℕ) (old new : State) (text : List ℕ) : Type 0 where
   pub framed : HasFramedHead stream
   pub same : new ≡ old
-  pub told : text ≡ answer_bytes UNAVAILABLE
+  pub text_is : text ≡ answer_bytes UNAVAILABLE
 
 module _ {S : Type 0} (g : Ghosts S) (stream : List ℕ) (old new : Held S) (day : ℤ) (text : List ℕ) where
   -- what the desk does about what the bytes ask: it serves the request; or there is none, and it
@@ -70,8 +70,8 @@ Visits Answers old new before after (Err Clock) = (new ≡ old) × (after ≡ be
 pub record IsServed {S W : Type 0} (g : Ghosts S) (w : WireGhosts W) (seconds : ℤ) (zone : Zone) (before after : W) (old new : Held S) (result : Result (Unit {0}) WireFault) : Type 0 where
   pub answered : IfSome (w.incoming before) (λ stream. Visits (IsAnswer g stream old new (day_number seconds zone)) old new (w.outgoing before) (w.outgoing after) result)
   pub clock : (result ≢ Err Clock) ↔ HasDay seconds
-  pub read : (result ≡ Err Read) ↔ (w.take_failed after ≡ true)
-  pub write : (result ≡ Err Write) ↔ (w.put_failed after ≡ true)
+  pub read : (result ≡ Err Read) ↔ (w.read_failed after ≡ true)
+  pub write : (result ≡ Err Write) ↔ (w.write_failed after ≡ true)
   pub flushed : IfOk result (λ done. w.unsent after ≡ 0)
   pub untouched : result ≡ Err Clock → (after ≡ before) × (new ≡ old)
   pub unread : result ≡ Err Read → (w.outgoing after ≡ w.outgoing before) × (new ≡ old)

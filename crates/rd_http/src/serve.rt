@@ -91,7 +91,7 @@ fn serve_next<S: Alter, D: Door>(
     requires room { served.visits < 4_294_967_295 }
     requires faults { served.read_faults + served.write_faults ≤ served.visits }
     ensures next { IsNext S.Store D.Door desk.old.zone door.old door.new desk.old.store desk.new.store served result }
-    ensures heard { ((conn : _) → D.Conn.take_failed conn ≡ false) → served.read_faults ≡ 0 → result.read_faults ≡ 0 }
+    ensures heard { ((conn : _) → D.Conn.read_failed conn ≡ false) → served.read_faults ≡ 0 → result.read_faults ≡ 0 }
     ensures zone { desk.new.zone ≡ desk.old.zone }
 {
     let Ok((seconds, mut conn)) = door.admit() else {
@@ -117,11 +117,11 @@ pub fn serve_many<S: Alter, D: Door>(
     count: u32,
 ) -> Served
     ensures run { IsRunOf S.Store D.Door count desk.old.zone door.old door.new desk.old.store desk.new.store result }
-    ensures replied { IsOpen S.Store desk.new.store → IfSome (D.told door.old) (λ told.
-        HasRun IsReplied desk.old.zone told (D.told door.new) (D.coming door.old) (D.coming door.new) result (tables S.Store desk.old.store) (tables S.Store desk.new.store)) }
-    ensures hidden { IsOpen S.Store desk.new.store → IfSome (D.told door.old) (λ told.
-        HasRun RepliesAndHides desk.old.zone told (D.told door.new) (D.coming door.old) (D.coming door.new) result (tables S.Store desk.old.store) (tables S.Store desk.new.store)) }
-    ensures heard { ((conn : _) → D.Conn.take_failed conn ≡ false) → result.read_faults ≡ 0 }
+    ensures replied { IsOpen S.Store desk.new.store → IfSome (D.told door.old) (λ begun.
+        HasRun IsReplied desk.old.zone begun (D.told door.new) (D.coming door.old) (D.coming door.new) result (tables S.Store desk.old.store) (tables S.Store desk.new.store)) }
+    ensures hidden { IsOpen S.Store desk.new.store → IfSome (D.told door.old) (λ begun.
+        HasRun RepliesAndHides desk.old.zone begun (D.told door.new) (D.coming door.old) (D.coming door.new) result (tables S.Store desk.old.store) (tables S.Store desk.new.store)) }
+    ensures heard { ((conn : _) → D.Conn.read_failed conn ≡ false) → result.read_faults ≡ 0 }
     ensures zone { desk.new.zone ≡ desk.old.zone }
 {
     let mut workspace = Workspace::new();
@@ -140,11 +140,11 @@ pub fn serve_in_memory<D: Door>(
     count: u32,
 ) -> Served
     ensures run { IsRunOf over_memory D.Door count desk.old.zone door.old door.new desk.old.store desk.new.store result }
-    ensures replied { IfSome (D.told door.old) (λ told.
-        HasRun IsReplied desk.old.zone told (D.told door.new) (D.coming door.old) (D.coming door.new) result (tables over_memory desk.old.store) (tables over_memory desk.new.store)) }
-    ensures hidden { IfSome (D.told door.old) (λ told.
-        HasRun RepliesAndHides desk.old.zone told (D.told door.new) (D.coming door.old) (D.coming door.new) result (tables over_memory desk.old.store) (tables over_memory desk.new.store)) }
-    ensures heard { ((conn : _) → D.Conn.take_failed conn ≡ false) → result.read_faults ≡ 0 }
+    ensures replied { IfSome (D.told door.old) (λ begun.
+        HasRun IsReplied desk.old.zone begun (D.told door.new) (D.coming door.old) (D.coming door.new) result (tables over_memory desk.old.store) (tables over_memory desk.new.store)) }
+    ensures hidden { IfSome (D.told door.old) (λ begun.
+        HasRun RepliesAndHides desk.old.zone begun (D.told door.new) (D.coming door.old) (D.coming door.new) result (tables over_memory desk.old.store) (tables over_memory desk.new.store)) }
+    ensures heard { ((conn : _) → D.Conn.read_failed conn ≡ false) → result.read_faults ≡ 0 }
     ensures zone { desk.new.zone ≡ desk.old.zone }
 {
     memory_stays_open();

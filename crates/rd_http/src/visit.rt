@@ -58,8 +58,8 @@ pub(crate) fn serve_visit<S: Alter, W: Wire>(
     seconds: i64,
     desk: &mut Desk<S>,
 ) -> Result<(), WireFault>
-    requires ready { W.take_failed wire.old ≡ false }
-    requires put_ready { W.put_failed wire.old ≡ false }
+    requires ready { W.read_failed wire.old ≡ false }
+    requires write_ready { W.write_failed wire.old ≡ false }
     ensures served { IsServed S.Store W.Wire seconds desk.old.zone wire.old wire.new desk.old.store desk.new.store result }
     ensures zone { desk.new.zone ≡ desk.old.zone }
 {
@@ -91,8 +91,8 @@ pub fn serve_one<S: Alter, W: Wire>(
     seconds: i64,
     desk: &mut Desk<S>,
 ) -> Result<(), WireFault>
-    requires ready { W.take_failed wire.old ≡ false }
-    requires put_ready { W.put_failed wire.old ≡ false }
+    requires ready { W.read_failed wire.old ≡ false }
+    requires write_ready { W.write_failed wire.old ≡ false }
     ensures served { IsServed S.Store W.Wire seconds desk.old.zone wire.old wire.new desk.old.store desk.new.store result }
     ensures hidden { IfSome (W.incoming wire.old) (λ stream.
         Visits (λ text. IsOpen S.Store desk.new.store

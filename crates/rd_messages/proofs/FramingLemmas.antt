@@ -6,7 +6,7 @@ use Rattle.std.proofs.lemmas.Str.Ascii.{IsAscii-cons, IsAscii-nil}
 use Rattle.std.proofs.lemmas.Str.Parse.{IsNumeralModel, digit_from_value, numerals_by_value, tells_all_ascii_digits}
 use Rattle.std.specs.Str.{IsAscii, IsUtf8, all_ascii_digits}
 use Rattle.std.specs.Str.Parse.{AllDigits, IsNumeral, digits_value}
-use Rattle.rd_messages.specs.Framing.{number_told}
+use Rattle.rd_messages.specs.Framing.{length_in_value}
 
 -- ---- a number
 
@@ -27,10 +27,10 @@ tests_fail text other = false_from_ne_true _ (λ passes.
     other ((ltb-true 0 (length text) first.0, digits.to text first.1), leb-true _ _ both.1))
 
 -- what is found of a number is what the text tells
-pub number_told-is : (text : List ℕ) (found : Option ℕ) → SomeIff found (IsNumeral 10 text × (digits_value 10 text ≤ 262144)) (digits_value 10 text)
-    → found ≡ number_told text
-number_told-is text None other = rw (tests_fail text other) refl
-number_told-is text (Some size) (is, same) = ap Some same ∙ rw (tests_pass text is.0 is.1) refl
+pub length_in_value-is : (text : List ℕ) (found : Option ℕ) → SomeIff found (IsNumeral 10 text × (digits_value 10 text ≤ 262144)) (digits_value 10 text)
+    → found ≡ length_in_value text
+length_in_value-is text None other = rw (tests_fail text other) refl
+length_in_value-is text (Some size) (is, same) = ap Some same ∙ rw (tests_pass text is.0 is.1) refl
 
 -- digits are ASCII
 pub digits_ascii : (text : List ℕ) → AllDigits 10 text → IsAscii text
@@ -39,5 +39,5 @@ digits_ascii (c ∷ text) (first, others) =
     let range = digit_from_value c first in IsAscii-cons c text (omega (arith, range)) (digits_ascii text others)
 
 -- bytes that are no text tell no number
-pub not_text-is : (text : List ℕ) → (IsUtf8 text → ⊥) → None ≡ number_told text
-not_text-is text other = number_told-is text None (λ is. other (IsUtf8-from_ascii text (digits_ascii text is.0.1)))
+pub not_text-is : (text : List ℕ) → (IsUtf8 text → ⊥) → None ≡ length_in_value text
+not_text-is text other = length_in_value-is text None (λ is. other (IsUtf8-from_ascii text (digits_ascii text is.0.1)))

@@ -1,5 +1,5 @@
-pub mod OneAsked
-pub mod EachAsked
+pub mod RequestUniqueness
+pub mod RequestExistence
 pub mod ReadLemmas
 pub mod FramingLemmas
 pub mod HeadLemmas
@@ -7,9 +7,9 @@ pub mod TakenLemmas
 pub mod WholeLemmas
 pub mod PatternLemmas
 pub mod RouteLemmas
-pub mod Values
-pub mod Naming
-pub mod OneBody
-pub mod Keys
-pub mod Sending
+pub mod JsonValues
+pub mod AudienceWords
+pub mod BodyUniqueness
+pub mod ObjectKeys
+pub mod SentBytes
 pub mod ShownRuleLemmas

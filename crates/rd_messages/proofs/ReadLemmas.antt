@@ -11,7 +11,7 @@ use Rattle.httparse.specs.declared.spans.RequestSpans.{RequestSpans}
 use Rattle.rd_messages.specs.Asked.{Fails, HasFramedHead, Holds, IsFaultOf}
 use Rattle.rd_messages.specs.Faults.{number_of}
 use Rattle.rd_messages.specs.Fields.{fields_of, values_named}
-use Rattle.rd_messages.specs.Framing.{IsFramed, IsMisframed, IsWhole, length_told}
+use Rattle.rd_messages.specs.Framing.{IsFramed, IsMisframed, IsWhole, length_in_values}
 use Rattle.rd_messages.specs.Heads.{BeginsWith, HasHead, HasNoHead}
 use Rattle.rd_messages.specs.Readings.{IsReading, Reads}
 use Rattle.rd_messages.specs.Routes.{method_named, methods_of, route_of}
@@ -22,7 +22,7 @@ use Rattle.rd_messages.specs.declared.read_request.Reading.{Reading}
 use Rattle.rd_messages.specs.declared.read_request.Reading.TheVariants.{Request, Fault, NoMemory}
 use Rattle.rd_messages.specs.declared.route.Methods.{Methods}
 use Rattle.rd_messages.specs.declared.route.Route.{Route}
-use Rattle.rd_messages.proofs.OneAsked.{fails_of}
+use Rattle.rd_messages.proofs.RequestUniqueness.{fails_of}
 use Rattle.rd_messages.proofs.WholeLemmas.{behind_head, cut_is_never_whole, misframed_is_never_whole, whole_taken}
 
 -- ---- why there is no request
@@ -138,7 +138,7 @@ module _ (stream buf : List ℕ) (spans : List HeaderSpan) (found : RequestSpans
 -- ---- how much is taken
 
 -- a length that is told is at most that of the longest body
-told_fits : (values : List (List ℕ)) (size : ℕ) → length_told values ≡ Some size → size ≤ 262144
+told_fits : (values : List (List ℕ)) (size : ℕ) → length_in_values values ≡ Some size → size ≤ 262144
 told_fits [] size is = omega (arith, zero_is size is)
   where
     zero_is : (size : ℕ) → Some 0 ≡ Some size → size ≡ 0

@@ -39,8 +39,8 @@ use Rattle.rd_messages.specs.ShownRules.{ShownRulesArePut, ShownRulesAreRehearse
 use Rattle.rd_messages.specs.declared.route.Method.TheVariants.{Put}
 use Rattle.rd_messages.specs.declared.route.Route.{Route}
 use Rattle.rd_messages.specs.declared.route.Route.TheVariants.{Rule, Rehearsal}
-use Rattle.rd_messages.proofs.Naming.{NOBODY, Names, names_all, names_more, names_none, word}
-use Rattle.rd_messages.proofs.OneAsked.{one_what}
+use Rattle.rd_messages.proofs.AudienceWords.{NOBODY, Names, names_all, names_more, names_none, word}
+use Rattle.rd_messages.proofs.RequestUniqueness.{one_what}
 use Rattle.rd_messages.proofs.RouteLemmas.{ascii_from_test, text_from_test}
 
 -- ---- the text of a value is UTF-8

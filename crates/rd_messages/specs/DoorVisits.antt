@@ -7,17 +7,17 @@ pub record Visit : Type 0 where
   pub moment : ℤ
   pub came : List ℕ
   pub out : List ℕ
-  pub take_failed : Bool
-  pub put_failed : Bool
+  pub read_failed : Bool
+  pub write_failed : Bool
 
 -- The visits that are over, in order, and the moment of the one under way.
-pub record Told : Type 0 where
+pub record VisitsSoFar : Type 0 where
   pub visits : List Visit
   pub under_way : Option ℤ
 
 -- a visit of this moment is admitted, while none is under way; or none is admitted, and what the
 -- door shows stays
-abbrev pub Admits : Option Told → Option Told → Option ℤ → Type 0
+abbrev pub Admits : Option VisitsSoFar → Option VisitsSoFar → Option ℤ → Type 0
 Admits None new moment = ⊤
 Admits (Some old) new None = new ≡ Some old
 Admits (Some old) new (Some moment) =
@@ -25,27 +25,27 @@ Admits (Some old) new (Some moment) =
 
 -- a connection that a door has admitted shows its bytes if the door shows its visits, and nothing
 -- went out
-abbrev pub TellsToo : Option Told → Option (List ℕ) → Option (List ℕ) → Type 0
+abbrev pub TellsToo : Option VisitsSoFar → Option (List ℕ) → Option (List ℕ) → Type 0
 TellsToo None came out = ⊤
 TellsToo (Some told) None out = ⊥
 TellsToo (Some told) (Some came) None = ⊥
 TellsToo (Some told) (Some came) (Some out) = out ≡ []
 
 -- what the door shows once the visit under way is over; if none is, it stays
-abbrev pub told_after : Told → Option ℤ → List ℕ → List ℕ → Bool → Bool → Told
-told_after told None came out take_failed put_failed = told
-told_after told (Some moment) came out take_failed put_failed = record {
-  visits = told.visits ++ record { moment = moment; came = came; out = out; take_failed = take_failed; put_failed = put_failed } ∷ [];
+abbrev pub visits_after : VisitsSoFar → Option ℤ → List ℕ → List ℕ → Bool → Bool → VisitsSoFar
+visits_after told None came out read_failed write_failed = told
+visits_after told (Some moment) came out read_failed write_failed = record {
+  visits = told.visits ++ record { moment = moment; came = came; out = out; read_failed = read_failed; write_failed = write_failed } ∷ [];
   under_way = None;
 }
 
 -- a door that shows its visits also shows the one that has ended over this connection
-abbrev pub Leaves : Option Told → Option Told → Option (List ℕ) → Option (List ℕ) → Bool → Bool → Type 0
-Leaves None new came out take_failed put_failed = ⊤
-Leaves (Some old) new None out take_failed put_failed = ⊤
-Leaves (Some old) new (Some came) None take_failed put_failed = ⊤
-Leaves (Some old) new (Some came) (Some out) take_failed put_failed =
-    new ≡ Some (told_after old old.under_way came out take_failed put_failed)
+abbrev pub Leaves : Option VisitsSoFar → Option VisitsSoFar → Option (List ℕ) → Option (List ℕ) → Bool → Bool → Type 0
+Leaves None new came out read_failed write_failed = ⊤
+Leaves (Some old) new None out read_failed write_failed = ⊤
+Leaves (Some old) new (Some came) None read_failed write_failed = ⊤
+Leaves (Some old) new (Some came) (Some out) read_failed write_failed =
+    new ≡ Some (visits_after old old.under_way came out read_failed write_failed)
 
 -- ---- visits to come
 
@@ -65,7 +65,7 @@ abbrev pub coming_of : Visit → Coming
 coming_of visit = (visit.moment, visit.came)
 
 -- none is to come, as far as a door shows it, unless one is under way
-abbrev pub NoneToCome : Option Told → Option (List Coming) → Type 0
+abbrev pub NoneToCome : Option VisitsSoFar → Option (List Coming) → Type 0
 NoneToCome told None = ⊤
 NoneToCome None (Some coming) = coming ≡ []
 NoneToCome (Some told) (Some coming) = told.under_way ≡ None → coming ≡ []

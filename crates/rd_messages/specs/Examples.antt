@@ -6,7 +6,7 @@ use Rattle.matchit.proofs.OnLiterals.{matchit_on_literals}
 use Rattle.rd_geometry.specs.declared.kind.Kind.TheVariants.{D64}
 use Rattle.rd_policy.specs.declared.rule.Band.TheVariants as band
 use Rattle.rd_messages.specs.PathDays.{day_of_date}
-use Rattle.rd_messages.specs.Patterns.{all_go_in, matched, pattern_rows, patterns}
+use Rattle.rd_messages.specs.Patterns.{all_insert, matched, pattern_rows, patterns}
 use Rattle.rd_messages.specs.Routes.{◌>>=◌, method_named, route_of, route_with}
 use Rattle.rd_messages.specs.declared.pattern.Pattern.TheVariants as pattern
 use Rattle.rd_messages.specs.declared.route.Method.TheVariants as method
@@ -14,9 +14,9 @@ use Rattle.rd_messages.specs.declared.route.Methods.TheVariants as methods
 use Rattle.rd_messages.specs.declared.route.Route.TheVariants as route
 
 -- each pattern reads well, and conflicts with none before it
-pub each_goes_in : all_go_in patterns [] ≡ true
+pub each_pattern_inserts : all_insert patterns [] ≡ true
 unfolding matchit_on_literals
-each_goes_in = refl
+each_pattern_inserts = refl
 
 -- the path of a file has the pattern of files, and its parts are the accession and the slot
 pub file_matched : matched (codes "/images/12/files/0") ≡ Some (pattern.Bytes, codes "12" ∷ codes "0" ∷ [])
@@ -29,46 +29,46 @@ unfolding matched pattern_rows matchit_on_literals
 nothing_matched = refl
 
 -- a query is not read
-pub file_named : route_of (codes "/images/12/files/0?slot=1") ≡ Some (route.Bytes 12 0)
+pub file_routed : route_of (codes "/images/12/files/0?slot=1") ≡ Some (route.Bytes 12 0)
 unfolding matched pattern_rows matchit_on_literals
-file_named = refl
+file_routed = refl
 
 -- the survey of accession 12
-pub survey_named : route_of (codes "/images/12/survey") ≡ Some (route.Survey 12)
+pub survey_routed : route_of (codes "/images/12/survey") ≡ Some (route.Survey 12)
 unfolding matched pattern_rows matchit_on_literals
-survey_named = refl
+survey_routed = refl
 
 -- the check of accession 12
-pub check_named : route_of (codes "/images/12/check") ≡ Some (route.Check 12)
+pub check_routed : route_of (codes "/images/12/check") ≡ Some (route.Check 12)
 unfolding matched pattern_rows matchit_on_literals
-check_named = refl
+check_routed = refl
 
--- the catalogue
-pub catalogue_named : route_of (codes "/catalogue") ≡ Some route.Catalogue
+-- the catalogue of all files that the caller may see listed
+pub catalogue_routed : route_of (codes "/catalogue") ≡ Some route.Catalogue
 unfolding matched pattern_rows matchit_on_literals
-catalogue_named = refl
+catalogue_routed = refl
 
 -- the deeds, the takedowns, the desk keys and the checks
-pub deeds_named : route_of (codes "/staff/deeds") ≡ Some route.Deeds
+pub deeds_routed : route_of (codes "/staff/deeds") ≡ Some route.Deeds
 unfolding matched pattern_rows matchit_on_literals
-deeds_named = refl
+deeds_routed = refl
 
-pub takedowns_named : route_of (codes "/staff/takedowns") ≡ Some route.Takedowns
+pub takedowns_routed : route_of (codes "/staff/takedowns") ≡ Some route.Takedowns
 unfolding matched pattern_rows matchit_on_literals
-takedowns_named = refl
+takedowns_routed = refl
 
-pub keys_named : route_of (codes "/staff/keys") ≡ Some route.Keys
+pub keys_routed : route_of (codes "/staff/keys") ≡ Some route.Keys
 unfolding matched pattern_rows matchit_on_literals
-keys_named = refl
+keys_routed = refl
 
-pub checks_named : route_of (codes "/staff/checks") ≡ Some route.Checks
+pub checks_routed : route_of (codes "/staff/checks") ≡ Some route.Checks
 unfolding matched pattern_rows matchit_on_literals
-checks_named = refl
+checks_routed = refl
 
 -- the verdicts of a day
-pub verdicts_named : (day : ℤ) → day_of_date (codes "2030-01-01") ≡ Some day → route_of (codes "/staff/verdicts/2030-01-01") ≡ Some (route.Verdicts day)
+pub verdicts_routed : (day : ℤ) → day_of_date (codes "2030-01-01") ≡ Some day → route_of (codes "/staff/verdicts/2030-01-01") ≡ Some (route.Verdicts day)
 unfolding matched pattern_rows matchit_on_literals
-verdicts_named day is = ap (λ found. found >>= (λ day. Some (route.Verdicts day))) is
+verdicts_routed day is = ap (λ found. found >>= (λ day. Some (route.Verdicts day))) is
 
 -- the day of a path is written as a date
 pub other_day_refused : (text : List ℕ) → day_of_date text ≡ None → route_with pattern.Verdicts text [] [] [] ≡ None
@@ -84,29 +84,29 @@ unfolding matched pattern_rows matchit_on_literals
 takedown_rehearsal_matched = refl
 
 -- the rule of rank 10 of deed 7 on a day, and the takedown of rank 1 of accession 12
-pub deed_rehearsal_named : (day : ℤ) → day_of_date (codes "2030-01-01") ≡ Some day
+pub deed_rehearsal_routed : (day : ℤ) → day_of_date (codes "2030-01-01") ≡ Some day
     → route_with pattern.DeedRehearsal (codes "2030-01-01") (codes "7") (codes "10") [] ≡ Some (route.Rehearsal day band.Deed 7 10)
-deed_rehearsal_named day is = ap (λ found. found >>= (λ day. Some (route.Rehearsal day band.Deed 7 10))) is
+deed_rehearsal_routed day is = ap (λ found. found >>= (λ day. Some (route.Rehearsal day band.Deed 7 10))) is
 
-pub takedown_rehearsal_named : (day : ℤ) → day_of_date (codes "2030-01-01") ≡ Some day
+pub takedown_rehearsal_routed : (day : ℤ) → day_of_date (codes "2030-01-01") ≡ Some day
     → route_with pattern.TakedownRehearsal (codes "2030-01-01") (codes "12") (codes "1") [] ≡ Some (route.Rehearsal day band.Takedown 12 1)
-takedown_rehearsal_named day is = ap (λ found. found >>= (λ day. Some (route.Rehearsal day band.Takedown 12 1))) is
+takedown_rehearsal_routed day is = ap (λ found. found >>= (λ day. Some (route.Rehearsal day band.Takedown 12 1))) is
 
 -- the takedown of rank 10 of accession 12
-pub takedown_named : route_of (codes "/images/12/rules/10") ≡ Some (route.Rule band.Takedown 12 10)
+pub takedown_routed : route_of (codes "/images/12/rules/10") ≡ Some (route.Rule band.Takedown 12 10)
 unfolding matched pattern_rows matchit_on_literals
-takedown_named = refl
+takedown_routed = refl
 
 -- the rule of rank 10 of deed 7
-pub deed_rule_named : route_of (codes "/deeds/7/rules/10") ≡ Some (route.Rule band.Deed 7 10)
+pub deed_rule_routed : route_of (codes "/deeds/7/rules/10") ≡ Some (route.Rule band.Deed 7 10)
 unfolding matched pattern_rows matchit_on_literals
-deed_rule_named = refl
+deed_rule_routed = refl
 
 -- the image of accession 12, a D64 that came by deed 7; its digest has small and capital letters
-pub image_named : route_of (codes "/accessions/12/d64/7/0a0A0a0A0a0A0a0A0a0A0a0A0a0A0a0A0a0A0a0A0a0A0a0A0a0A0a0A0a0A0a0A")
+pub image_routed : route_of (codes "/accessions/12/d64/7/0a0A0a0A0a0A0a0A0a0A0a0A0a0A0a0A0a0A0a0A0a0A0a0A0a0A0a0A0a0A0a0A")
     ≡ Some (route.Accession 12 D64 7 (replicate 32 10))
 unfolding matched pattern_rows matchit_on_literals hex_on_literals
-image_named = refl
+image_routed = refl
 
 -- the number of a deed has no zero in front
 pub leading_zero_refused : route_of (codes "/deeds/07") ≡ None

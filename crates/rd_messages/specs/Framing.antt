@@ -10,23 +10,23 @@ use Rattle.rd_messages.specs.declared.limits.TheConstants.{LONGEST_BODY}
 
 -- the number that one or more decimal digits write; none if it is above 262,144, or for another
 -- text
-abbrev pub number_told : List ℕ → Option ℕ
-number_told text =
+abbrev pub length_in_value : List ℕ → Option ℕ
+length_in_value text =
     if nat_lt 0 (length text) && all_ascii_digits text && nat_le (digits_value 10 text) LONGEST_BODY
     then Some (digits_value 10 text) else None
 
 -- the length that the values of Content-Length give: 0 if there is none, and no length if there
 -- are two or more
-abbrev pub length_told : List (List ℕ) → Option ℕ
-length_told [] = Some 0
-length_told (value ∷ []) = number_told value
-length_told (value ∷ other ∷ values) = None
+abbrev pub length_in_values : List (List ℕ) → Option ℕ
+length_in_values [] = Some 0
+length_in_values (value ∷ []) = length_in_value value
+length_in_values (value ∷ other ∷ values) = None
 
 -- The fields say that the body has this many bytes, in no transfer coding, and that the key is
 -- this one, if there is any: the value of Desk-Key, even if that is empty.
 pub record IsFramed (fields : List (List ℕ × List ℕ)) (size : ℕ) (key : Option (List ℕ)) : Type 0 where
   pub uncoded : values_named (codes "Transfer-Encoding") fields ≡ []
-  pub sized : length_told (values_named (codes "Content-Length") fields) ≡ Some size
+  pub sized : length_in_values (values_named (codes "Content-Length") fields) ≡ Some size
   pub keyed : values_named (codes "Desk-Key") fields ≡ option_to_list key
 
 -- the fields give no length and key

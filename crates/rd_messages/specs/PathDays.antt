@@ -2,7 +2,7 @@
 use Rattle.std.specs.Prelude.{◌≡◌, ℕ, ◌+◌, ◌-◌, ◌<◌, ℤ, pos, neg_ℤ, ◌+ℤ◌, List, MatchOption, None, Option, Some}
 use Rattle.std.proofs.Common.{arith, subst, sym}
 use Rattle.std.proofs.lemmas.Int.{ints}
-use Rattle.rd_geometry.proofs.Deciding.{Decided, decided_text, fails, holds, some_below}
+use Rattle.rd_geometry.proofs.Decidability.{Decided, decided_text, fails, holds, some_below}
 use Rattle.rd_policy.proofs.DateLemmas.{one_text}
 use Rattle.rd_policy.specs.Dates.{IsDateOf, IsNoDate}
 use Rattle.rd_policy.specs.Days.{IsDay}

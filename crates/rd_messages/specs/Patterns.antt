@@ -47,15 +47,15 @@ with_patterns [] rows = rows
 with_patterns ((text, pattern) ∷ rest) rows = with_patterns rest (with_pattern (parse_route text) pattern rows)
 
 -- a pattern reads well, and no row conflicts with it
-abbrev pub goes_in : Result Scan InsertError → RowsOf (RouteOf Pattern) → Bool
-goes_in (Ok scan) rows = not (is_some (nearest scan.pattern rows))
-goes_in (Err fault) rows = false
+abbrev pub inserts : Result Scan InsertError → RowsOf (RouteOf Pattern) → Bool
+inserts (Ok scan) rows = not (is_some (nearest scan.pattern rows))
+inserts (Err fault) rows = false
 
 -- each pattern goes in beside those before it
-abbrev pub all_go_in : List (List ℕ × Pattern) → RowsOf (RouteOf Pattern) → Bool
-all_go_in [] rows = true
-all_go_in ((text, pattern) ∷ rest) rows =
-    goes_in (parse_route text) rows && all_go_in rest (with_pattern (parse_route text) pattern rows)
+abbrev pub all_insert : List (List ℕ × Pattern) → RowsOf (RouteOf Pattern) → Bool
+all_insert [] rows = true
+all_insert ((text, pattern) ∷ rest) rows =
+    inserts (parse_route text) rows && all_insert rest (with_pattern (parse_route text) pattern rows)
 
 -- ---- paths
 

@@ -12,8 +12,8 @@ use Rattle.rd_messages.specs.declared.route.Method.{Method}
 use Rattle.rd_messages.specs.declared.route.Route.{Route}
 
 -- what a path asks with a method and a body, or that it asks nothing within its limits
-abbrev pub IsTold : Route → Method → List ℕ → Option What → Type 0
-IsTold route method body told = MatchOption told ((asked : What) → Asks route method body asked → ¬ IsRequest asked) (Asks route method body)
+abbrev pub IsParsed : Route → Method → List ℕ → Option What → Type 0
+IsParsed route method body told = MatchOption told ((asked : What) → Asks route method body asked → ¬ IsRequest asked) (Asks route method body)
 
 -- what was read of a request that came whole
 abbrev pub Reads : List ℕ → List ℕ → Option (List ℕ) → List ℕ → Reading → Type 0

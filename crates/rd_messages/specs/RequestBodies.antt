@@ -127,7 +127,7 @@ pub record TellsRule (value : Data) (rule : Rule) : Type 0 where
   pub effect : text_at (codes "effect") value ≡ Some (effect_word rule.effect)
 
 -- The rule has this place: where it comes from, the number of its accession or deed, and its rank.
-pub record IsAt (band : Band) (scope rank : ℕ) (rule : Rule) : Type 0 where
+pub record HasPlace (band : Band) (scope rank : ℕ) (rule : Rule) : Type 0 where
   pub of_band : rule.band ≡ band
   pub of_scope : rule.scope ≡ scope
   pub of_rank : rule.rank ≡ rank
@@ -137,7 +137,7 @@ pub record IsRuleBody (band : Band) (scope rank : ℕ) (body : List ℕ) (rule :
   pub value : Data
   pub json : IsJson body value
   pub tells : TellsRule value rule
-  pub at : IsAt band scope rank rule
+  pub at : HasPlace band scope rank rule
 
 -- ---- inside
 

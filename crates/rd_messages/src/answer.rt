@@ -22,29 +22,29 @@ pub fn of_desk(reply: Reply) -> (&'static str, Reply)
 /// Puts a reply. `line` is a line of at most 40 bytes that only this reply has in its head, or
 /// empty. The wire may hold a part of it back.
 fn put_answer<W: Wire>(wire: &mut W, line: &str, reply: Reply) -> Result<(), Broken>
-    requires ready { W.put_failed wire.old ≡ false }
+    requires ready { W.write_failed wire.old ≡ false }
     requires room { length line.now ≤ 40 }
     ensures sends { Sends (W.outgoing wire.old) (W.outgoing wire.new) result (reply_bytes line.now reply) }
-    ensures failed { IsErr result ↔ (W.put_failed wire.new ≡ true) }
+    ensures failed { IsErr result ↔ (W.write_failed wire.new ≡ true) }
     ensures kept { W.incoming wire.new ≡ W.incoming wire.old }
     ensures came { W.came wire.new ≡ W.came wire.old }
-    ensures take_kept { W.take_failed wire.new ≡ W.take_failed wire.old }
+    ensures reads_unchanged { W.read_failed wire.new ≡ W.read_failed wire.old }
 {
     put_reply(wire, line, &reply)
 }
 
 /// Sends a reply, so that the wire holds nothing of it back. `line` is a line of at most 40 bytes
 /// that only this reply has in its head, or empty.
-#[tactic(auto, using(crate::proofs::Sending::nothing_sent, crate::proofs::Sending::part_sent, crate::proofs::Sending::some_reply))]
+#[tactic(auto, using(crate::proofs::SentBytes::nothing_sent, crate::proofs::SentBytes::part_sent, crate::proofs::SentBytes::some_reply))]
 pub fn send<W: Wire>(wire: &mut W, line: &str, reply: Reply) -> Result<(), Broken>
-    requires ready { W.put_failed wire.old ≡ false }
+    requires ready { W.write_failed wire.old ≡ false }
     requires room { length line.now ≤ 40 }
     ensures sends { Sends (W.outgoing wire.old) (W.outgoing wire.new) result (reply_bytes line.now reply) }
     ensures flushed { IfOk result (λ _. W.unsent wire.new ≡ 0) }
-    ensures failed { IsErr result ↔ (W.put_failed wire.new ≡ true) }
+    ensures failed { IsErr result ↔ (W.write_failed wire.new ≡ true) }
     ensures kept { W.incoming wire.new ≡ W.incoming wire.old }
     ensures came { W.came wire.new ≡ W.came wire.old }
-    ensures take_kept { W.take_failed wire.new ≡ W.take_failed wire.old }
+    ensures reads_unchanged { W.read_failed wire.new ≡ W.read_failed wire.old }
 {
     match put_answer(wire, line, reply) {
         Ok(()) => wire.flush(),

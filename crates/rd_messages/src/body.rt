@@ -39,7 +39,7 @@ fn begun(alloc: Global, front: &[u8], size: usize) -> Result<Vec<u8>, AllocError
 ///
 /// It fails with `Broken` when a read fails.
 fn fill<W: Wire>(wire: &mut W, buf: &mut [u8], start: usize) -> Result<usize, Broken>
-    requires ready { W.take_failed wire.old ≡ false }
+    requires ready { W.read_failed wire.old ≡ false }
     requires within { start ≤ length buf.old }
     ensures count { IfOk result (λ filled. filled ≤ length buf.new) }
     ensures read { IfOk result (λ filled. GrowsByTaken (W.incoming wire.old) (W.incoming wire.new)
@@ -47,10 +47,10 @@ fn fill<W: Wire>(wire: &mut W, buf: &mut [u8], start: usize) -> Result<usize, Br
     ensures end { IfOk result (λ filled. filled < length buf.new → IsAtEnd (W.incoming wire.new)) }
     ensures limit { TakesUpTo (length buf.old - start) (W.incoming wire.old) (W.incoming wire.new) }
     ensures full { start ≡ length buf.old → wire.new ≡ wire.old }
-    ensures failed { IsErr result ↔ (W.take_failed wire.new ≡ true) }
+    ensures failed { IsErr result ↔ (W.read_failed wire.new ≡ true) }
     ensures came { W.came wire.new ≡ W.came wire.old }
     ensures kept { W.outgoing wire.new ≡ W.outgoing wire.old }
-    ensures put_kept { W.put_failed wire.new ≡ W.put_failed wire.old }
+    ensures writes_unchanged { W.write_failed wire.new ≡ W.write_failed wire.old }
 {
     let mut filled = start;
     while filled < buf.len() {
@@ -73,16 +73,16 @@ pub(crate) fn read_body<W: Wire>(
     front: &[u8],
     size: usize,
 ) -> Result<ReadBody, Broken>
-    requires ready { W.take_failed wire.old ≡ false }
+    requires ready { W.read_failed wire.old ≡ false }
     ensures body { IfOk result (GivesBody (W.incoming wire.old) (W.incoming wire.new) front.now size) }
     ensures limit { TakesUpTo (size - length front.now) (W.incoming wire.old) (W.incoming wire.new) }
     ensures nothing_wanting { size ≤ length front.now → wire.new ≡ wire.old }
     ensures no_memory { result ≡ Ok ReadBody.NoMemory → wire.new ≡ wire.old }
     ensures empty { size ≡ 0 → result ≢ Ok ReadBody.NoMemory }
-    ensures failed { IsErr result ↔ (W.take_failed wire.new ≡ true) }
+    ensures failed { IsErr result ↔ (W.read_failed wire.new ≡ true) }
     ensures came { W.came wire.new ≡ W.came wire.old }
     ensures kept { W.outgoing wire.new ≡ W.outgoing wire.old }
-    ensures put_kept { W.put_failed wire.new ≡ W.put_failed wire.old }
+    ensures writes_unchanged { W.write_failed wire.new ≡ W.write_failed wire.old }
 {
     let Ok(mut body) = begun(alloc, front, size) else {
         return Ok(ReadBody::NoMemory);

@@ -4,7 +4,7 @@ ghost use Rattle.std.specs.Prelude.{◌≡◌, ◌≤◌, All, SomeIff, codes, l
 ghost use Rattle.std.specs.Str.Parse.{IsNumeral, digits_value};
 ghost use Rattle.httparse.specs.Spans.{IsHeaderWithin, header_bytes};
 ghost use Rattle.rd_messages.specs.Fields.{values_named};
-ghost use Rattle.rd_messages.specs.Framing.{GivesFraming, length_told, number_told};
+ghost use Rattle.rd_messages.specs.Framing.{GivesFraming, length_in_values, length_in_value};
 
 use crate::fields::{Values, values_of};
 use crate::limits::LONGEST_BODY;
@@ -36,7 +36,7 @@ fn number(text: &str) -> Option<usize>
 
 /// The length that a value of Content-Length gives; `None` if it gives none.
 fn length_in(value: &[u8]) -> Option<usize>
-    ensures { result ≡ number_told value.now }
+    ensures { result ≡ length_in_value value.now }
 {
     match from_utf8(value) {
         Ok(text) => number(text),
@@ -47,7 +47,7 @@ fn length_in(value: &[u8]) -> Option<usize>
 /// The length of the body; `None` if the fields give none.
 fn body_length(buf: &[u8], spans: &[HeaderSpan]) -> Option<usize>
     requires { All (IsHeaderWithin (length buf.now)) spans.now }
-    ensures { result ≡ length_told (values_named (codes "Content-Length") (map (header_bytes buf.now) spans.now)) }
+    ensures { result ≡ length_in_values (values_named (codes "Content-Length") (map (header_bytes buf.now) spans.now)) }
 {
     match values_of(buf, spans, b"Content-Length") {
         Values::Nothing => Some(0),

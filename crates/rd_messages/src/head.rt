@@ -23,7 +23,7 @@ pub(crate) fn read_head<W: Wire>(
     buf: &mut [u8],
     spans: &mut [HeaderSpan],
 ) -> Result<(Option<RequestSpans>, usize), Broken>
-    requires ready { W.take_failed wire.old ≡ false }
+    requires ready { W.read_failed wire.old ≡ false }
     requires buffer { length buf.old ≡ LONGEST_HEAD }
     requires room { length spans.old ≡ MOST_FIELDS }
     ensures filled { IfOk result (λ read. read.1 ≤ LONGEST_HEAD) }
@@ -32,10 +32,10 @@ pub(crate) fn read_head<W: Wire>(
         GivesHead stream (take read.1 buf.new) spans.new read.0)) }
     ensures within { IfOk result (λ read. IfSome read.0 (IsRequestWithin (take read.1 buf.new) spans.new)) }
     ensures limit { TakesUpTo LONGEST_HEAD (W.incoming wire.old) (W.incoming wire.new) }
-    ensures failed { IsErr result ↔ (W.take_failed wire.new ≡ true) }
+    ensures failed { IsErr result ↔ (W.read_failed wire.new ≡ true) }
     ensures came { W.came wire.new ≡ W.came wire.old }
     ensures kept { W.outgoing wire.new ≡ W.outgoing wire.old }
-    ensures put_kept { W.put_failed wire.new ≡ W.put_failed wire.old }
+    ensures writes_unchanged { W.write_failed wire.new ≡ W.write_failed wire.old }
 {
     let mut filled = 0;
     while filled < buf.len() {

@@ -27,7 +27,7 @@ pub struct MemoryWire {
     came: Items<u8>,
     taken: usize,
     out: Vec<u8>,
-    put_failed: bool,
+    write_failed: bool,
     ghost within: { taken ≤ length came },
 }
 
@@ -38,9 +38,9 @@ impl Wire for MemoryWire {
 
     ghost outgoing = { λ wire. Some wire.out.items };
 
-    ghost take_failed = { λ _. false };
+    ghost read_failed = { λ _. false };
 
-    ghost put_failed = { λ wire. wire.put_failed };
+    ghost write_failed = { λ wire. wire.write_failed };
 
     ghost unsent = { λ _. 0 };
 
@@ -52,7 +52,7 @@ impl Wire for MemoryWire {
 
     fn put(&mut self, bytes: &[u8]) -> Result<usize, Broken> {
         if self.out.extend_from_slice(bytes).is_err() {
-            self.put_failed = true;
+            self.write_failed = true;
             return Err(Broken);
         }
         Ok(bytes.len())
@@ -65,7 +65,7 @@ impl Wire for MemoryWire {
 
 /// Law: no read of a connection in memory fails.
 pub fn memory_reads()
-    ensures { (wire : _) → ⟦<MemoryWire as Wire>⟧.take_failed wire ≡ false }
+    ensures { (wire : _) → ⟦<MemoryWire as Wire>⟧.read_failed wire ≡ false }
 {}
 
 /// A visit in memory that is over.
@@ -85,8 +85,8 @@ impl Model for MemoryVisit {
       moment = visit.moment;
       came = visit.conn.came;
       out = visit.conn.out.items;
-      take_failed = false;
-      put_failed = visit.conn.put_failed;
+      read_failed = false;
+      write_failed = visit.conn.write_failed;
     } };
 }
 
@@ -113,8 +113,8 @@ impl MemoryVisit {
     }
 
     /// Whether a read failed: in memory none does.
-    pub fn take_failed(&self) -> bool
-        ensures told { result ≡ self.now.take_failed }
+    pub fn read_failed(&self) -> bool
+        ensures shown { result ≡ self.now.read_failed }
         ensures never { result ≡ false }
     {
         let _conn = &self.conn;
@@ -122,10 +122,10 @@ impl MemoryVisit {
     }
 
     /// Whether a write failed, because there was no memory for it.
-    pub fn put_failed(&self) -> bool
-        ensures { result ≡ self.now.put_failed }
+    pub fn write_failed(&self) -> bool
+        ensures { result ≡ self.now.write_failed }
     {
-        self.conn.put_failed
+        self.conn.write_failed
     }
 }
 
@@ -144,9 +144,9 @@ impl Model for MemoryDoor {
     ghost use Rattle.std.specs.Prelude.{◌≡◌, ◌+◌, ◌≤◌, length, vec_len, vec_capacity};
     ghost use Rattle.std.specs.Option.{option_to_list};
     ghost use Rattle.std.specs.Vec.Iter.{into_iter_items, into_iter_len};
-    ghost use Rattle.rd_messages.specs.MemoryDoors.{Roster};
+    ghost use Rattle.rd_messages.specs.MemoryDoors.{DoorView};
 
-    ghost Value = { Roster };
+    ghost Value = { DoorView };
 
     ghost view = { λ door. record {
       told = record { visits = door.over.items; under_way = door.under_way };
@@ -160,7 +160,7 @@ impl Model for MemoryDoor {
 }
 
 impl MemoryDoor {
-    ghost use Rattle.rd_messages.specs.MemoryDoors.{roster_of};
+    ghost use Rattle.rd_messages.specs.MemoryDoors.{fresh_door_view};
 
     /// The door of these visits, in order: the moment of each, in seconds since
     /// 1970-01-01T00:00:00 UTC, and the bytes that come. Later calls take memory only for the
@@ -168,7 +168,7 @@ impl MemoryDoor {
     ///
     /// It fails with `NoMemory` when memory runs out.
     pub fn new(alloc: Global, visits: Vec<(i64, Items<u8>)>) -> Result<MemoryDoor, NoMemory>
-        ensures { IfOk result (λ door. door ≡ roster_of visits.items) }
+        ensures { IfOk result (λ door. door ≡ fresh_door_view visits.items) }
     {
         let over = Vec::with_capacity(alloc, visits.len())?;
         Ok(MemoryDoor {
@@ -211,7 +211,7 @@ impl Door for MemoryDoor {
             came,
             taken: 0,
             out: Vec::new(self.alloc),
-            put_failed: false,
+            write_failed: false,
         };
         Ok((moment, conn))
     }

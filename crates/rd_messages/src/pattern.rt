@@ -3,7 +3,7 @@
 ghost use Rattle.std.specs.Prelude.{◌≡◌, true, [], map, drop, IsAscii, IfOk, OnOk};
 ghost use Rattle.matchit.specs.Params.{walk};
 ghost use Rattle.matchit.specs.Route.{parse_route};
-ghost use Rattle.rd_messages.specs.Patterns.{AreParts, AreTexts, all_go_in, goes_in, part_at, pattern_rows, with_pattern, with_patterns};
+ghost use Rattle.rd_messages.specs.Patterns.{AreParts, AreTexts, all_insert, inserts, part_at, pattern_rows, with_pattern, with_patterns};
 
 use matchit::{InsertError, Params, ParamsIter, Router};
 use rd_geometry::NoMemory;
@@ -94,7 +94,7 @@ pub(crate) struct Parts<'p> {
 /// Adds a pattern that is well written and conflicts with none that the router has. It fails only
 /// when memory runs out.
 fn take_in(router: &mut Router<Pattern>, text: &str, pattern: Pattern) -> Result<(), NoMemory>
-    requires { goes_in (parse_route text.now) router.old ≡ true }
+    requires { inserts (parse_route text.now) router.old ≡ true }
     ensures { OnOk result (router.new ≡ with_pattern (parse_route text.now) pattern router.old) }
 {
     match router.insert(text, pattern) {
@@ -107,7 +107,7 @@ fn take_in(router: &mut Router<Pattern>, text: &str, pattern: Pattern) -> Result
 /// A router of patterns, each of which fits beside those before it. It fails only when memory runs
 /// out.
 fn router_of(alloc: Global, table: &[(&str, Pattern)]) -> Result<Router<Pattern>, NoMemory>
-    requires { all_go_in (map (λ row. (row.0.now, row.1)) table.now) [] ≡ true }
+    requires { all_insert (map (λ row. (row.0.now, row.1)) table.now) [] ≡ true }
     ensures { IfOk result (λ router. router ≡ with_patterns (map (λ row. (row.0.now, row.1)) table.now) []) }
 {
     let mut router = Router::new(alloc);

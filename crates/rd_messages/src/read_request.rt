@@ -6,7 +6,7 @@ ghost use Rattle.std.specs.Io.KnownBytes.{Consumes};
 ghost use Rattle.httparse.specs.Spans.{IsRequestWithin};
 ghost use Rattle.rd_protocol.specs.Requests.{IsRequest};
 ghost use Rattle.rd_messages.specs.Heads.{HasHead};
-ghost use Rattle.rd_messages.specs.Readings.{Fits, IsReading, IsTold, Reads};
+ghost use Rattle.rd_messages.specs.Readings.{Fits, IsReading, IsParsed, Reads};
 ghost use Rattle.rd_messages.specs.Taken.{TakesUpTo};
 
 use crate::bodies::{deed_body, key_body, rule_body};
@@ -38,8 +38,8 @@ pub enum Reading {
 }
 
 /// The command to put the deed that a body describes; `None` if it describes none.
-fn deed_told(alloc: Global, num: u32, body: &[u8]) -> Result<Option<What>, NoMemory>
-    ensures { IfOk result (IsTold (Route.Deed num) Method.Put body.now) }
+fn parse_deed(alloc: Global, num: u32, body: &[u8]) -> Result<Option<What>, NoMemory>
+    ensures { IfOk result (IsParsed (Route.Deed num) Method.Put body.now) }
 {
     match deed_body(alloc, body)? {
         Some((donor, signed)) => Ok(Some(What::PutDeed { num, donor, signed })),
@@ -49,7 +49,7 @@ fn deed_told(alloc: Global, num: u32, body: &[u8]) -> Result<Option<What>, NoMem
 
 /// The command on a rule that a method and a body ask; `None` for `GET` and `POST`, or if the body
 /// describes no rule within the limits of its values.
-fn rule_told(
+fn parse_rule(
     alloc: Global,
     band: Band,
     scope: u32,
@@ -57,7 +57,7 @@ fn rule_told(
     method: Method,
     body: &[u8],
 ) -> Result<Option<What>, NoMemory>
-    ensures { IfOk result (IsTold (Route.Rule band scope rank) method body.now) }
+    ensures { IfOk result (IsParsed (Route.Rule band scope rank) method body.now) }
 {
     match method {
         Method::Put => match rule_body(alloc, band, scope, rank, body)? {
@@ -71,7 +71,7 @@ fn rule_told(
 
 /// The rehearsal, on a day, of the command on a rule that a method and a body ask; `None` for `GET` and
 /// `POST`, or if the body describes no rule within the limits of its values.
-fn rehearsal_asked(
+fn parse_rehearsal(
     alloc: Global,
     day: i32,
     band: Band,
@@ -80,7 +80,7 @@ fn rehearsal_asked(
     method: Method,
     body: &[u8],
 ) -> Result<Option<What>, NoMemory>
-    ensures { IfOk result (IsTold (Route.Rehearsal day band scope rank) method body.now) }
+    ensures { IfOk result (IsParsed (Route.Rehearsal day band scope rank) method body.now) }
 {
     match method {
         Method::Put => match rule_body(alloc, band, scope, rank, body)? {
@@ -99,13 +99,13 @@ fn rehearsal_asked(
 
 /// The command on a desk key that a method and a body ask; `None` if the body names no audience
 /// that has keys.
-fn key_told(
+fn parse_key(
     alloc: Global,
     digest: [u8; 32],
     method: Method,
     body: &[u8],
 ) -> Result<Option<What>, NoMemory>
-    ensures { IfOk result (IsTold (Route.Badge digest) method body.now) }
+    ensures { IfOk result (IsParsed (Route.Badge digest) method body.now) }
 {
     match method {
         Method::Put => match key_body(alloc, body)? {
@@ -119,13 +119,13 @@ fn key_told(
 
 /// What a path asks with a method and a body; `None` if the body says nothing that is within its
 /// limits.
-fn told(
+fn parse_what(
     alloc: Global,
     route: Route,
     method: Method,
     body: Vec<u8>,
 ) -> Result<Option<What>, NoMemory>
-    ensures { IfOk result (IsTold route method body.items) }
+    ensures { IfOk result (IsParsed route method body.items) }
 {
     match route {
         Route::Images => Ok(Some(What::Images)),
@@ -148,9 +148,9 @@ fn told(
                 bytes,
             }))
         }
-        Route::Deed(num) => deed_told(alloc, num, &body),
-        Route::Rule { band, scope, rank } => rule_told(alloc, band, scope, rank, method, &body),
-        Route::Badge(digest) => key_told(alloc, digest, method, &body),
+        Route::Deed(num) => parse_deed(alloc, num, &body),
+        Route::Rule { band, scope, rank } => parse_rule(alloc, band, scope, rank, method, &body),
+        Route::Badge(digest) => parse_key(alloc, digest, method, &body),
         Route::Catalogue => Ok(Some(What::Catalogue)),
         Route::Deeds => Ok(Some(What::Deeds)),
         Route::Takedowns => Ok(Some(What::Takedowns)),
@@ -162,21 +162,21 @@ fn told(
             band,
             scope,
             rank,
-        } => rehearsal_asked(alloc, day, band, scope, rank, method, &body),
+        } => parse_rehearsal(alloc, day, band, scope, rank, method, &body),
     }
 }
 
 /// The request of a caller; if the body said nothing, or nothing within its limits, a command that
 /// cannot be read.
-fn request(badge: Option<[u8; 32]>, told: Option<What>) -> Request
+fn request(badge: Option<[u8; 32]>, parsed: Option<What>) -> Request
     ensures badge { result.badge ≡ badge }
     ensures fits { IsRequest result.what }
-    ensures what { MatchOption told (result.what ≡ What.Unread) (λ what.
+    ensures what { MatchOption parsed (result.what ≡ What.Unread) (λ what.
         (IsRequest what × (result.what ≡ what)) ⊎ ((¬ IsRequest what) × (result.what ≡ What.Unread))) }
 {
     let request = Request {
         badge,
-        what: told.unwrap_or(What::Unread),
+        what: parsed.unwrap_or(What::Unread),
     };
     if request.fits() {
         return request;
@@ -216,8 +216,8 @@ fn read_whole(
     let Some(method) = methods.named(name) else {
         return Ok(Reading::Fault(RequestFault::Method(methods)));
     };
-    let told = told(alloc, route, method, body)?;
-    Ok(Reading::Request(request(badge(key), told)))
+    let parsed = parse_what(alloc, route, method, body)?;
+    Ok(Reading::Request(request(badge(key), parsed)))
 }
 
 /// Reads what comes over a connection after a head. The spans say where the parts of the head are
@@ -230,16 +230,16 @@ fn read_rest<W: Wire>(
     spans: &[HeaderSpan],
     head: RequestSpans,
 ) -> Result<Reading, Broken>
-    requires ready { W.take_failed wire.old ≡ false }
+    requires ready { W.read_failed wire.old ≡ false }
     requires within { IsRequestWithin bytes.now spans.now head }
     ensures reading { IfOk result (λ reading. (stream : List ℕ) → HasHead stream bytes.now spans.now head
         → Consumes (Some stream) (W.incoming wire.old) bytes.now → IsReading stream reading) }
     ensures fits { IfOk result Fits }
     ensures bounded { TakesUpTo LONGEST_BODY (W.incoming wire.old) (W.incoming wire.new) }
-    ensures failed { IsErr result ↔ (W.take_failed wire.new ≡ true) }
+    ensures failed { IsErr result ↔ (W.read_failed wire.new ≡ true) }
     ensures kept { W.outgoing wire.new ≡ W.outgoing wire.old }
     ensures came { W.came wire.new ≡ W.came wire.old }
-    ensures put_kept { W.put_failed wire.new ≡ W.put_failed wire.old }
+    ensures writes_unchanged { W.write_failed wire.new ≡ W.write_failed wire.old }
 {
     let Some(framing) = framing_of(bytes, &spans[..head.headers]) else {
         return Ok(Reading::Fault(RequestFault::Framing));
@@ -268,14 +268,14 @@ pub fn read_request<W: Wire>(
     workspace: &mut Workspace,
     wire: &mut W,
 ) -> Result<Reading, Broken>
-    requires ready { W.take_failed wire.old ≡ false }
+    requires ready { W.read_failed wire.old ≡ false }
     ensures reading { IfOk result (λ reading. IfSome (W.incoming wire.old) (λ stream. IsReading stream reading)) }
     ensures fits { IfOk result Fits }
     ensures bounded { TakesUpTo LONGEST_REQUEST (W.incoming wire.old) (W.incoming wire.new) }
-    ensures failed { IsErr result ↔ (W.take_failed wire.new ≡ true) }
+    ensures failed { IsErr result ↔ (W.read_failed wire.new ≡ true) }
     ensures kept { W.outgoing wire.new ≡ W.outgoing wire.old }
     ensures came { W.came wire.new ≡ W.came wire.old }
-    ensures put_kept { W.put_failed wire.new ≡ W.put_failed wire.old }
+    ensures writes_unchanged { W.write_failed wire.new ≡ W.write_failed wire.old }
 {
     let (found, filled) = read_head(wire, &mut workspace.head, &mut workspace.spans)?;
     match found {

@@ -19,7 +19,7 @@ pub trait Stream: Read + Write + Drop {
     fn limit_writes(&self, time: Duration) -> Result<()>;
 
     /// Shows the visitor that no more bytes follow. It fails when the stream does.
-    fn end(&self) -> Result<()>;
+    fn end_writes(&self) -> Result<()>;
 }
 
 /// Where the streams of visitors come from.
@@ -40,7 +40,7 @@ impl Stream for TcpStream {
         self.set_write_timeout(Some(time))
     }
 
-    fn end(&self) -> Result<()> {
+    fn end_writes(&self) -> Result<()> {
         self.shutdown(Shutdown::Write)
     }
 }
@@ -54,7 +54,7 @@ impl Stream for UnixStream {
         self.set_write_timeout(Some(time))
     }
 
-    fn end(&self) -> Result<()> {
+    fn end_writes(&self) -> Result<()> {
         self.shutdown(Shutdown::Write)
     }
 }

@@ -15,17 +15,17 @@ pub(crate) fn take_more<W: Wire>(
     buf: &mut [u8],
     filled: usize,
 ) -> Result<usize, Broken>
-    requires ready { W.take_failed wire.old ≡ false }
+    requires ready { W.read_failed wire.old ≡ false }
     requires room { filled < length buf.old }
     ensures count { IfOk result (λ count. filled + count ≤ length buf.new) }
     ensures read { IfOk result (λ count. GrowsByTaken (W.incoming wire.old) (W.incoming wire.new)
         (take filled buf.old) (take (filled + count) buf.new)) }
     ensures end { IfOk result (λ count. count ≡ 0 → IsAtEnd (W.incoming wire.new)) }
     ensures err { OnErr result (Keeps (W.incoming wire.old) (W.incoming wire.new)) }
-    ensures failed { IsErr result ↔ (W.take_failed wire.new ≡ true) }
+    ensures failed { IsErr result ↔ (W.read_failed wire.new ≡ true) }
     ensures came { W.came wire.new ≡ W.came wire.old }
     ensures kept { W.outgoing wire.new ≡ W.outgoing wire.old }
-    ensures put_kept { W.put_failed wire.new ≡ W.put_failed wire.old }
+    ensures writes_unchanged { W.write_failed wire.new ≡ W.write_failed wire.old }
 {
     let count = wire.take(&mut buf[filled..])?;
     Ok(count)

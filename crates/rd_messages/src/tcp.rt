@@ -34,8 +34,8 @@ pub struct StreamWire<S, C> {
     stream: S,
     pace: Pace<C>,
     held: Vec<u8>,
-    take_failed: bool,
-    put_failed: bool,
+    read_failed: bool,
+    write_failed: bool,
     ghost within: { vec_len held ≤ 16384 },
 }
 
@@ -90,8 +90,8 @@ impl<S: Stream, C: Clock + Drop> StreamWire<S, C> {
     /// A connection over a stream on which nothing has failed yet. It holds bytes back in the list
     /// `held`, which it empties first.
     fn new(stream: S, pace: Pace<C>, mut held: Vec<u8>) -> StreamWire<S, C>
-        ensures take { result.take_failed ≡ false }
-        ensures put { result.put_failed ≡ false }
+        ensures take { result.read_failed ≡ false }
+        ensures put { result.write_failed ≡ false }
         ensures unsent { vec_len result.held ≡ 0 }
     {
         held.clear();
@@ -99,21 +99,21 @@ impl<S: Stream, C: Clock + Drop> StreamWire<S, C> {
             stream,
             pace,
             held,
-            take_failed: false,
-            put_failed: false,
+            read_failed: false,
+            write_failed: false,
         }
     }
 
     /// Keeps whether a write has failed, and hands that on.
     fn tell(&mut self, sent: Result<(), Broken>) -> Result<(), Broken>
-        requires { self.old.put_failed ≡ false }
+        requires { self.old.write_failed ≡ false }
         ensures sent { result ≡ sent }
-        ensures failed { IsErr sent ↔ (self.new.put_failed ≡ true) }
-        ensures take_kept { self.new.take_failed ≡ self.old.take_failed }
+        ensures failed { IsErr sent ↔ (self.new.write_failed ≡ true) }
+        ensures reads_unchanged { self.new.read_failed ≡ self.old.read_failed }
         ensures held { vec_len self.new.held ≡ vec_len self.old.held }
     {
         if sent.is_err() {
-            self.put_failed = true;
+            self.write_failed = true;
         }
         sent
     }
@@ -122,10 +122,10 @@ impl<S: Stream, C: Clock + Drop> StreamWire<S, C> {
     ///
     /// It fails with `Broken` when the time of the reply is over, and when a write fails or takes no byte.
     fn put_at_once(&mut self, bytes: &[u8]) -> Result<usize, Broken>
-        requires { self.old.put_failed ≡ false }
+        requires { self.old.write_failed ≡ false }
         ensures count { IfOk result (λ count. count ≡ length bytes.now) }
-        ensures failed { IsErr result ↔ (self.new.put_failed ≡ true) }
-        ensures take_kept { self.new.take_failed ≡ self.old.take_failed }
+        ensures failed { IsErr result ↔ (self.new.write_failed ≡ true) }
+        ensures reads_unchanged { self.new.read_failed ≡ self.old.read_failed }
     {
         self.flush()?;
         let sent = send(&mut self.stream, &mut self.pace, bytes);
@@ -141,9 +141,9 @@ impl<S: Stream, C: Clock + Drop> Wire for StreamWire<S, C> {
 
     ghost outgoing = { λ _. None };
 
-    ghost take_failed = { λ wire. wire.take_failed };
+    ghost read_failed = { λ wire. wire.read_failed };
 
-    ghost put_failed = { λ wire. wire.put_failed };
+    ghost write_failed = { λ wire. wire.write_failed };
 
     ghost unsent = { λ wire. vec_len wire.held };
 
@@ -151,7 +151,7 @@ impl<S: Stream, C: Clock + Drop> Wire for StreamWire<S, C> {
         match read_in_time(&mut self.stream, &mut self.pace, into) {
             Ok(count) => Ok(count),
             Err(_) => {
-                self.take_failed = true;
+                self.read_failed = true;
                 Err(Broken)
             }
         }
@@ -310,7 +310,7 @@ impl<L: Listener, C: Clock + Copy + Drop> Door for StreamDoor<L, C> {
             ..
         } = conn;
         self.spare = held;
-        if stream.end().is_ok() {
+        if stream.end_writes().is_ok() {
             linger(&mut stream, &mut self.leftover, &mut self.clock);
         }
     }

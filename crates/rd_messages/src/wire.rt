@@ -4,7 +4,7 @@ ghost use Rattle.std.specs.Prelude.{◌≡◌, ◌↔◌, ℕ, List, Option, Non
 ghost use Rattle.std.specs.Result.{result_ok};
 ghost use Rattle.std.specs.Io.{ReadsAtMost, WritesAtMost};
 ghost use Rattle.std.specs.Io.KnownBytes.{ReadConsumes, WriteAppends};
-ghost use Rattle.rd_messages.specs.DoorVisits.{Admits, Coming, Leaves, NoneToCome, TakesNext, TellsToo, Told};
+ghost use Rattle.rd_messages.specs.DoorVisits.{Admits, Coming, Leaves, NoneToCome, TakesNext, TellsToo, VisitsSoFar};
 
 /// A read or a write of a connection failed, or a write took no byte.
 #[derive(Clone, Copy, Debug, PartialEq, Eq)]
@@ -23,10 +23,10 @@ pub trait Wire {
     ghost outgoing: { Self → Option (List ℕ) };
 
     /// Whether a read has failed.
-    ghost take_failed: { Self → Bool };
+    ghost read_failed: { Self → Bool };
 
     /// Whether a write has failed.
-    ghost put_failed: { Self → Bool };
+    ghost write_failed: { Self → Bool };
 
     /// How many bytes were put but not sent yet.
     ghost unsent: { Self → ℕ };
@@ -36,13 +36,13 @@ pub trait Wire {
     ///
     /// It fails with `Broken` when the connection fails; the caller makes no read after that.
     fn take(&mut self, into: &mut [u8]) -> Result<usize, Broken>
-        requires { take_failed self.old ≡ false }
+        requires { read_failed self.old ≡ false }
         ensures bound { ReadsAtMost result into.new }
         ensures bytes { ReadConsumes (incoming self.old) (incoming self.new) result into.new }
-        ensures failed { IsErr result ↔ (take_failed self.new ≡ true) }
+        ensures failed { IsErr result ↔ (read_failed self.new ≡ true) }
         ensures came { came self.new ≡ came self.old }
         ensures kept { outgoing self.new ≡ outgoing self.old }
-        ensures put_kept { put_failed self.new ≡ put_failed self.old };
+        ensures writes_unchanged { write_failed self.new ≡ write_failed self.old };
 
     /// Writes bytes from the front of a slice, and gives how many: at most its length, and at
     /// least one if it is not empty.
@@ -50,14 +50,14 @@ pub trait Wire {
     /// It fails with `Broken` when the connection fails or takes no byte; the caller makes no
     /// write after that.
     fn put(&mut self, bytes: &[u8]) -> Result<usize, Broken>
-        requires { put_failed self.old ≡ false }
+        requires { write_failed self.old ≡ false }
         ensures bound { WritesAtMost result bytes.now }
         ensures some { IfOk result (λ n. n ≡ 0 → length bytes.now ≡ 0) }
         ensures bytes { WriteAppends (outgoing self.old) (outgoing self.new) result bytes.now }
-        ensures failed { IsErr result ↔ (put_failed self.new ≡ true) }
+        ensures failed { IsErr result ↔ (write_failed self.new ≡ true) }
         ensures came { came self.new ≡ came self.old }
         ensures kept { incoming self.new ≡ incoming self.old }
-        ensures take_kept { take_failed self.new ≡ take_failed self.old };
+        ensures reads_unchanged { read_failed self.new ≡ read_failed self.old };
 
     /// Sends what was put and is held back. A wire that shows its bytes sends them as they are
     /// put, so that this does not fail there.
@@ -65,14 +65,14 @@ pub trait Wire {
     /// It fails with `Broken` when the connection fails or takes no byte; the caller makes no
     /// write after that.
     fn flush(&mut self) -> Result<(), Broken>
-        requires { put_failed self.old ≡ false }
+        requires { write_failed self.old ≡ false }
         ensures sent { IfOk result (λ _. unsent self.new ≡ 0) }
         ensures tells { IfSome (outgoing self.old) (λ _. IsOk result) }
         ensures bytes { outgoing self.new ≡ outgoing self.old }
-        ensures failed { IsErr result ↔ (put_failed self.new ≡ true) }
+        ensures failed { IsErr result ↔ (write_failed self.new ≡ true) }
         ensures came { came self.new ≡ came self.old }
         ensures kept { incoming self.new ≡ incoming self.old }
-        ensures take_kept { take_failed self.new ≡ take_failed self.old };
+        ensures reads_unchanged { read_failed self.new ≡ read_failed self.old };
 }
 
 /// No more visits come.
@@ -86,7 +86,7 @@ pub trait Door {
     type Conn: Wire;
 
     /// The visits that are over and the one under way, if the door shows them.
-    ghost told: { Self → Option Told };
+    ghost told: { Self → Option VisitsSoFar };
 
     /// The visits to come, in order, if the door shows them.
     ghost coming: { Self → Option (List Coming) } = { λ _. None };
@@ -103,8 +103,8 @@ pub trait Door {
         ensures told { Admits (told self.old) (told self.new) (option_map (λ visit. visit.0) (result_ok result)) }
         ensures whole { IfOk result (λ visit. Self.Conn.incoming visit.1 ≡ Self.Conn.came visit.1) }
         ensures tells { IfOk result (λ visit. TellsToo (told self.old) (Self.Conn.came visit.1) (Self.Conn.outgoing visit.1)) }
-        ensures ready { IfOk result (λ visit. Self.Conn.take_failed visit.1 ≡ false) }
-        ensures put_ready { IfOk result (λ visit. Self.Conn.put_failed visit.1 ≡ false) }
+        ensures ready { IfOk result (λ visit. Self.Conn.read_failed visit.1 ≡ false) }
+        ensures write_ready { IfOk result (λ visit. Self.Conn.write_failed visit.1 ≡ false) }
         ensures unsent { IfOk result (λ visit. Self.Conn.unsent visit.1 ≡ 0) }
         ensures next { IfOk result (λ visit. TakesNext (coming self.old) (coming self.new) visit.0 (Self.Conn.came visit.1)) }
         ensures kept { IsErr result → coming self.new ≡ coming self.old }
@@ -115,9 +115,9 @@ pub trait Door {
     /// Ends the visit under way, which used this connection. Everything that was put has been
     /// sent, unless a read or a write failed.
     fn leave(&mut self, conn: Self::Conn)
-        requires { Self.Conn.take_failed conn ≡ false → Self.Conn.put_failed conn ≡ false → Self.Conn.unsent conn ≡ 0 }
+        requires { Self.Conn.read_failed conn ≡ false → Self.Conn.write_failed conn ≡ false → Self.Conn.unsent conn ≡ 0 }
         ensures told { Leaves (told self.old) (told self.new) (Self.Conn.came conn) (Self.Conn.outgoing conn)
-            (Self.Conn.take_failed conn) (Self.Conn.put_failed conn) }
+            (Self.Conn.read_failed conn) (Self.Conn.write_failed conn) }
         ensures kept { coming self.new ≡ coming self.old }
         ensures shut { has_shut self.new ≡ has_shut self.old };
 }

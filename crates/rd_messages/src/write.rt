@@ -12,12 +12,12 @@ use rd_protocol::{Body, Reply};
 ///
 /// It fails with `Broken` when a write fails: then a front part went out, and not all of them.
 pub(crate) fn put_all<W: Wire>(wire: &mut W, bytes: &[u8]) -> Result<(), Broken>
-    requires { W.put_failed wire.old ≡ false }
+    requires { W.write_failed wire.old ≡ false }
     ensures sends { Sends (W.outgoing wire.old) (W.outgoing wire.new) result bytes.now }
-    ensures failed { IsErr result ↔ (W.put_failed wire.new ≡ true) }
+    ensures failed { IsErr result ↔ (W.write_failed wire.new ≡ true) }
     ensures kept { W.incoming wire.new ≡ W.incoming wire.old }
     ensures came { W.came wire.new ≡ W.came wire.old }
-    ensures take_kept { W.take_failed wire.new ≡ W.take_failed wire.old }
+    ensures reads_unchanged { W.read_failed wire.new ≡ W.read_failed wire.old }
 {
     let mut sent = 0;
     while sent < bytes.len() {
@@ -31,12 +31,12 @@ pub(crate) fn put_all<W: Wire>(wire: &mut W, bytes: &[u8]) -> Result<(), Broken>
 ///
 /// It fails with `Broken` when a write fails: then a front part went out, and not all of it.
 pub(crate) fn put_pieces<W: Wire>(wire: &mut W, body: &Body) -> Result<(), Broken>
-    requires { W.put_failed wire.old ≡ false }
+    requires { W.write_failed wire.old ≡ false }
     ensures sends { Sends (W.outgoing wire.old) (W.outgoing wire.new) result body.now.bytes }
-    ensures failed { IsErr result ↔ (W.put_failed wire.new ≡ true) }
+    ensures failed { IsErr result ↔ (W.write_failed wire.new ≡ true) }
     ensures kept { W.incoming wire.new ≡ W.incoming wire.old }
     ensures came { W.came wire.new ≡ W.came wire.old }
-    ensures take_kept { W.take_failed wire.new ≡ W.take_failed wire.old }
+    ensures reads_unchanged { W.read_failed wire.new ≡ W.read_failed wire.old }
 {
     for piece in body.pieces() {
         put_all(wire, piece)?;
@@ -49,13 +49,13 @@ pub(crate) fn put_pieces<W: Wire>(wire: &mut W, body: &Body) -> Result<(), Broke
 ///
 /// It fails with `Broken` when a write fails: then a front part went out, and not all of it.
 pub(crate) fn put_reply<W: Wire>(wire: &mut W, extra: &str, reply: &Reply) -> Result<(), Broken>
-    requires ready { W.put_failed wire.old ≡ false }
+    requires ready { W.write_failed wire.old ≡ false }
     requires room { length extra.now ≤ 40 }
     ensures sends { Sends (W.outgoing wire.old) (W.outgoing wire.new) result (reply_bytes extra.now reply.now) }
-    ensures failed { IsErr result ↔ (W.put_failed wire.new ≡ true) }
+    ensures failed { IsErr result ↔ (W.write_failed wire.new ≡ true) }
     ensures kept { W.incoming wire.new ≡ W.incoming wire.old }
     ensures came { W.came wire.new ≡ W.came wire.old }
-    ensures take_kept { W.take_failed wire.new ≡ W.take_failed wire.old }
+    ensures reads_unchanged { W.read_failed wire.new ≡ W.read_failed wire.old }
 {
     let head = head_of(reply.status, reply.form, reply.body.len(), extra);
     match put_all(wire, head.as_slice()) {

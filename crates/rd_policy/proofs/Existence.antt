@@ -7,7 +7,7 @@ use Rattle.jiff.specs.Words.{date_text, days_in_month, epoch_day}
 use Rattle.jiff_core.proofs.CalendarLemmas.{days_in_month_bounds}
 use Rattle.jiff_core.proofs.DateLemmas.{days_from_civil-day, days_from_civil-max, days_from_civil-min, days_from_civil-next_month, days_from_civil-next_year}
 use Rattle.jiff_core.proofs.SignedLemmas.{signed_arith}
-use Rattle.rd_geometry.proofs.Deciding.{Decided, decided_as, decided_both, decided_same, decided_text, decided_true, fails, holds}
+use Rattle.rd_geometry.proofs.Decidability.{Decided, decided_as, decided_both, decided_same, decided_text, decided_true, fails, holds}
 use Rattle.rd_volume.specs.declared.found.Found.{Found}
 use Rattle.rd_policy.specs.Audiences.{IsAmong}
 use Rattle.rd_policy.specs.Dates.{IsDateOf}

@@ -1,6 +1,6 @@
 -- Once the day is known no refusal is of the clock.
 use Rattle.std.proofs.Common.{◌≡◌, ◌≢◌, ◌∙◌, inl, inr, sym}
-use Rattle.rd_commands.specs.Refusals.{IsOfDevice}
+use Rattle.rd_commands.specs.Refusals.{IsDeviceOrMemory}
 use Rattle.rd_commands.specs.declared.refusal.Refusal.{Refusal}
 use Rattle.rd_commands.specs.declared.refusal.Refusal.TheVariants.{Clock, Device, NoMemory}
 use Rattle.rd_program.specs.Asking.{IsReplyRefusal}
@@ -25,6 +25,6 @@ of_reply refusal (inr (inr (inr (inl is)))) clock = cc (sym is ∙ clock)
 of_reply refusal (inr (inr (inr (inr (inl is))))) clock = cc (sym is ∙ clock)
 of_reply refusal (inr (inr (inr (inr (inr is))))) clock = cc (sym is ∙ clock)
 
-pub of_device : (refusal : Refusal) → IsOfDevice refusal → refusal ≢ Clock
+pub of_device : (refusal : Refusal) → IsDeviceOrMemory refusal → refusal ≢ Clock
 of_device Clock device is = device
 of_device refusal device is = cc is

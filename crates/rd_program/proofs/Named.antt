@@ -1,16 +1,16 @@
 -- The store that words name, and the connection to it.
 use Rattle.std.proofs.Common.{◌≡◌, ◌≢◌, ◌≤◌, Bool, ℕ, ℤ, List, Option, None, Some, arith, inl, inr, subst, sym, refl}
 use Rattle.sqlite.specs.Held.{Held}
-use Rattle.rd_commands.specs.Asks.{IsImportAsk, IsInitAsk, IsOnceAsk, IsServeAsk}
+use Rattle.rd_commands.specs.Asks.{IsImportAsk, IsInitAsk, IsOneQuestionAsk, IsServeAsk}
 use Rattle.rd_commands.specs.Commands.{IsAskOf, IsCommand}
 use Rattle.rd_commands.specs.declared.words.Ask.{Ask}
-use Rattle.rd_commands.specs.declared.words.Ask.TheVariants.{Import, Init, Once, Serve}
+use Rattle.rd_commands.specs.declared.words.Ask.TheVariants.{Import, Init, OneQuestion, Serve}
 use Rattle.rd_commands.specs.declared.words.Question.{Question}
 use Rattle.rd_commands.specs.declared.words.Question.TheVariants.{Catalogue, Check, Show}
 use Rattle.rd_program.specs.Asked.{AsksBy, NamesStore}
 use Rattle.rd_program.specs.Doors.{AsksNoOther, AsksPath}
 use Rattle.rd_program.specs.Leaves.{HasBoth, StandsThere}
-use Rattle.rd_program.proofs.Unasked.{command_at}
+use Rattle.rd_program.proofs.DaylessMoments.{command_at}
 
 module _ {S : Type 0} (shows : Bool) (stands : List ℕ → Option (Held S)) (left : Option (Held S)) where
   init_both : (ask : Ask) (store key : List ℕ) → IsInitAsk store key ask → StandsThere shows stands left ask → HasBoth shows (stands store) left
@@ -27,9 +27,9 @@ module _ {S : Type 0} (shows : Bool) (stands : List ℕ → Option (Held S)) (le
   import_both (Import ask) store key sheet moment rule asks both = subst (λ s. HasBoth shows (stands s) left) asks.store_is both
   import_both ask store key sheet moment rule asks both = absurd asks
 
-  once_both : (ask : Ask) (store : List ℕ) (key : Option (List ℕ)) (asked : Question) (moment : Option ℤ) (rule : List ℕ) → IsOnceAsk store key asked moment rule ask
+  once_both : (ask : Ask) (store : List ℕ) (key : Option (List ℕ)) (asked : Question) (moment : Option ℤ) (rule : List ℕ) → IsOneQuestionAsk store key asked moment rule ask
       → StandsThere shows stands left ask → HasBoth shows (stands store) left
-  once_both (Once ask) store key asked moment rule asks both = subst (λ s. HasBoth shows (stands s) left) asks.store_is both
+  once_both (OneQuestion ask) store key asked moment rule asks both = subst (λ s. HasBoth shows (stands s) left) asks.store_is both
   once_both ask store key asked moment rule asks both = absurd asks
 
   -- the connection is the one for the store that the words name
@@ -65,9 +65,9 @@ module _ (old new : Option (List (List ℕ))) where
   import_asks (Import ask) store key sheet moment rule asks by = subst (λ s. AsksNoOther old s new) asks.store_is (no_other ask.store.now by)
   import_asks ask store key sheet moment rule asks by = absurd asks
 
-  once_asks : (ask : Ask) (store : List ℕ) (key : Option (List ℕ)) (asked : Question) (moment : Option ℤ) (rule : List ℕ) → IsOnceAsk store key asked moment rule ask
+  once_asks : (ask : Ask) (store : List ℕ) (key : Option (List ℕ)) (asked : Question) (moment : Option ℤ) (rule : List ℕ) → IsOneQuestionAsk store key asked moment rule ask
       → AsksBy old ask new → AsksNoOther old store new
-  once_asks (Once ask) store key asked moment rule asks by = subst (λ s. AsksNoOther old s new) asks.store_is (no_other ask.store.now by)
+  once_asks (OneQuestion ask) store key asked moment rule asks by = subst (λ s. AsksNoOther old s new) asks.store_is (no_other ask.store.now by)
   once_asks ask store key asked moment rule asks by = absurd asks
 
   -- a command asks for no other than the one that the words name

@@ -25,7 +25,7 @@ use Rattle.rd_commands.specs.declared.done.Done.TheVariants.{InPart, Whole}
 use Rattle.sqlite.specs.Held.{Held}
 use Rattle.sqlite.specs.Store.{Ghosts}
 use Rattle.rd_store.specs.Held.{IsOpen, desk}
-use Rattle.rd_commands.proofs.Written.{piece_more}
+use Rattle.rd_commands.proofs.WriterLemmas.{piece_more}
 use Rattle.std.proofs.KnownBytes.{Appends-nil}
 use Rattle.httparse.specs.Grammar.{trim_ows}
 use Rattle.sha2.specs.Sha256.{sha256}
@@ -37,7 +37,7 @@ use Rattle.rd_commands.specs.declared.words.Ask.{Ask}
 use Rattle.rd_commands.specs.declared.words.Ask.TheVariants.{Import}
 use Rattle.rd_program.specs.Leaves.{IsDayAt, IsDayBy, moment_of}
 use Rattle.rd_program.specs.Showing.{EndsWith}
-use Rattle.rd_program.proofs.Showing.{ends_weaker, ends_with}
+use Rattle.rd_program.proofs.ShowLemmas.{ends_weaker, ends_with}
 use Rattle.rd_program.specs.Rows.{AreRowsTaken, GivesLine, HasRows, ImportsBy, IsBadSheetDue, IsRowTaken, IsSheetOf, RefusesSheetBy, TakesRecords, TakesSheet, TakesSheetIn, TakesSheetOn}
 
 -- ---- records

@@ -9,7 +9,7 @@ use Rattle.rd_commands.specs.declared.done.Done.{Done}
 use Rattle.rd_commands.specs.declared.refusal.Refusal.{Refusal}
 use Rattle.rd_commands.specs.declared.refusal.Refusal.TheVariants.{Clock}
 use Rattle.rd_commands.specs.declared.words.Ask.{Ask}
-use Rattle.rd_commands.specs.declared.words.Ask.TheVariants.{Import, Init, Once, Serve}
+use Rattle.rd_commands.specs.declared.words.Ask.TheVariants.{Import, Init, OneQuestion, Serve}
 use Rattle.rd_commands.specs.declared.words.Shown.{Shown}
 use Rattle.rd_program.specs.Doors.{AsksPath}
 use Rattle.rd_program.specs.Leaves.{moment_of}
@@ -40,7 +40,8 @@ IsClockDue g moment stood left refusal = ⊤
 
 -- ---- inside
 
--- and so over an open desk
+-- the same for the connection of an open desk: `clock` comes only where nothing was done to it since, and never for
+-- a named moment that has a day
 abbrev pub IsClockOn : {S : Type 0} → Option ℤ → Held S → Held S → Refusal → Type 0
 IsClockOn moment opened last Clock = IfSome moment (λ seconds. ¬ HasDay seconds) × (last ≡ opened)
 IsClockOn moment opened last refusal = ⊤
@@ -50,17 +51,17 @@ abbrev pub AsksBy : Option (List (List ℕ)) → Ask → Option (List (List ℕ)
 AsksBy old (Init ask) new = AsksPath old ask.store.now new
 AsksBy old (Serve ask) new = AsksPath old ask.store.now new
 AsksBy old (Import ask) new = AsksPath old ask.store.now new
-AsksBy old (Once ask) new = AsksPath old ask.store.now new
+AsksBy old (OneQuestion ask) new = AsksPath old ask.store.now new
 AsksBy old other new = new ≡ old
 
--- and of a command that asks at a moment
+-- when a command that asks at a moment may fail with `clock`
 abbrev pub IsClockDueBy : {S : Type 0} → Ghosts S → (List ℕ → Option (Held S)) → Option (Held S) → Ask → Refusal → Type 0
 IsClockDueBy g stands left (Import ask) refusal = IsClockDue g ask.when.seconds (stands ask.store.now) left refusal
-IsClockDueBy g stands left (Once ask) refusal = IsClockDue g ask.when.seconds (stands ask.store.now) left refusal
+IsClockDueBy g stands left (OneQuestion ask) refusal = IsClockDue g ask.when.seconds (stands ask.store.now) left refusal
 IsClockDueBy g stands left ask refusal = ⊤
 
--- such a command fails before it asks the desk, if its moment is known and has no day
+-- a command that asks at a moment fails before it asks the desk, if its moment is known and has no day
 abbrev pub IsUnaskedBy : Option ℤ → Ask → Result Done Refusal → Type 0
 IsUnaskedBy clock (Import ask) result = IsUnasked (moment_of ask.when.seconds clock) result
-IsUnaskedBy clock (Once ask) result = IsUnasked (moment_of ask.when.seconds clock) result
+IsUnaskedBy clock (OneQuestion ask) result = IsUnasked (moment_of ask.when.seconds clock) result
 IsUnaskedBy clock ask result = ⊤

@@ -19,8 +19,8 @@ IsAskRefusal refusal = IsOpenRefusal refusal ⊎ (IsClockRefusal refusal ⊎ IsR
 
 -- Why there is no answer, and what was written then: nothing, unless the device failed while the
 -- answer was written.
-abbrev pub RefusesOnce : Option (List ℕ) → Option (List ℕ) → Refusal → Type 0
-RefusesOnce old new refusal = (IsAskRefusal refusal × Keeps old new) ⊎ (refusal ≡ Device)
+abbrev pub RefusesOneQuestion : Option (List ℕ) → Option (List ℕ) → Refusal → Type 0
+RefusesOneQuestion old new refusal = (IsAskRefusal refusal × Keeps old new) ⊎ (refusal ≡ Device)
 
 -- the line of a check of an accession: its image is sound, or changed
 abbrev pub TellsCheck : ℕ → Option (List ℕ) → Option (List ℕ) → Done → Type 0

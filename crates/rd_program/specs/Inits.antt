@@ -21,7 +21,7 @@ done_line = codes "done" ++ line_feed
 -- and then nothing was done, and otherwise `store`.
 pub record NotMade {S : Type 0} (g : Ghosts S) (old new : Held S) (staff : List ℕ) (refusal : Refusal) : Type 0 where
   pub fault : CreateFault
-  pub told : refusal ≡ refusal_to_create fault
+  pub refusal_is : refusal ≡ refusal_to_create fault
   pub not_created : IsNotCreated g old new staff fault
 
 -- the desk was made, with this one staff key, if the machine shows both connections

@@ -26,7 +26,7 @@ use Rattle.rd_commands.specs.declared.refusal.Refusal.{Refusal}
 use Rattle.rd_commands.specs.declared.refusal.Refusal.TheVariants.{Clock, Device, Inconsistent, NoMemory, NotADesk, Store, Version}
 use Rattle.rd_commands.specs.declared.sheet.SheetRow.{SheetRow}
 use Rattle.rd_commands.specs.declared.words.Ask.{Ask}
-use Rattle.rd_commands.specs.declared.words.Ask.TheVariants.{Import, Init, Once, Serve}
+use Rattle.rd_commands.specs.declared.words.Ask.TheVariants.{Import, Init, OneQuestion, Serve}
 use Rattle.rd_commands.specs.declared.words.Question.{Question}
 use Rattle.rd_commands.specs.declared.words.Question.TheVariants as question
 
@@ -86,8 +86,8 @@ NamesOpening g old new Version = IfBoth old new (λ before after. IsNotMigrated 
 NamesOpening g old new Inconsistent = IfBoth old new (λ before after. IsNotMigrated g before after open_fault.Inconsistent)
 NamesOpening g old new refusal = ⊤
 
--- what stands where no desk was opened: the store failed if its opening did, or if there was no
--- connection; memory ran out only if there was none
+-- what stands where no desk was opened: the store failed only if its opening failed or there was no connection;
+-- memory ran out only if there was no connection
 abbrev pub LeavesUnopened : {S : Type 0} → Ghosts S → Option (Held S) → Option (Held S) → Option (Held S) → Refusal → Type 0
 LeavesUnopened g was old new Store = Leaves was old new (λ before after. IsNotMigrated g before after open_fault.Sql)
 LeavesUnopened g was old new NoMemory = LeavesNone was new
@@ -126,7 +126,7 @@ moment_of None clock = clock
 -- The day of a moment by the clocks of a zone: of this one if it is known, and otherwise of some moment.
 pub record IsDayAt (moment : Option ℤ) (zone : Zone) (day : ℤ) : Type 0 where
   pub seconds : ℤ
-  pub told : IfSome moment (λ asked. seconds ≡ asked)
+  pub named : IfSome moment (λ asked. seconds ≡ asked)
   pub in_range : HasDay seconds
   pub is : day ≡ day_number seconds zone
 
@@ -187,7 +187,7 @@ abbrev pub StandsThere : {S : Type 0} → Bool → (List ℕ → Option (Held S)
 StandsThere shows stands left (Init ask) = HasBoth shows (stands ask.store.now) left
 StandsThere shows stands left (Serve ask) = HasBoth shows (stands ask.store.now) left
 StandsThere shows stands left (Import ask) = HasBoth shows (stands ask.store.now) left
-StandsThere shows stands left (Once ask) = HasBoth shows (stands ask.store.now) left
+StandsThere shows stands left (OneQuestion ask) = HasBoth shows (stands ask.store.now) left
 StandsThere shows stands left other = ⊤
 
 -- what `serve`, `import`, `export`, `check` and `show` leave, however they end
@@ -195,14 +195,15 @@ abbrev pub LeavesBy : {S : Type 0} → Ghosts S → Option ℤ → Option (Held 
 LeavesBy g clock was stands new (Serve ask) = Leaves was (stands ask.store.now) new (Lasts g)
 LeavesBy g clock was stands new (Import ask) =
     Leaves was (stands ask.store.now) new (LeavesStore g (TakesIn (sha256 ask.key.now) (IsDayAt (moment_of ask.when.seconds clock) ask.when.zone)))
-LeavesBy g clock was stands new (Once ask) =
+LeavesBy g clock was stands new (OneQuestion ask) =
     Leaves was (stands ask.store.now) new (LeavesStore g (StepsOf (option_map sha256 (option_map (λ key. key.now) ask.key)) (IsDayAt (moment_of ask.when.seconds clock) ask.when.zone) ask.question))
 LeavesBy g clock was stands new ask = ⊤
 
--- what `serve`, `import`, `export`, `check` and `show` leave after they fail
+-- after a failure: what `serve` leaves; and that `import`, `export`, `check` and `show` name a failed opening only if
+-- the opening gave it
 abbrev pub LeavesRefused : {S : Type 0} → Ghosts S → Option (Held S) → (List ℕ → Option (Held S)) → Option (Held S)
     → Option (List ℕ) → Option (List ℕ) → Ask → Refusal → Type 0
 LeavesRefused g was stands new out written (Serve ask) refusal = LeavesServe g was (stands ask.store.now) new ask.port out written refusal
 LeavesRefused g was stands new out written (Import ask) refusal = NamesOpening g (stands ask.store.now) new refusal
-LeavesRefused g was stands new out written (Once ask) refusal = NamesOpening g (stands ask.store.now) new refusal
+LeavesRefused g was stands new out written (OneQuestion ask) refusal = NamesOpening g (stands ask.store.now) new refusal
 LeavesRefused g was stands new out written ask refusal = ⊤

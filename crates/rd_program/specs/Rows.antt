@@ -63,7 +63,7 @@ pub record TakesImage (files : List ℕ → Option (List ℕ)) (badge : List ℕ
   pub read : IfSome (files row.file.now) (λ shown. bytes ≡ shown)
   pub answer : Response
   pub answered : IsAnswered old day (record { badge = Some badge; what = PutImage row.acc row.kind row.deed row.digest bytes }) answer new
-  pub told : line ≡ accession_line row.acc (word_of answer)
+  pub line_is : line ≡ accession_line row.acc (word_of answer)
   pub whole : done ≡ done_by answer
 
 -- A row with this number, from 1, is bad, and the line says so; or the image that it names is taken in or refused.
@@ -112,7 +112,7 @@ ImportsBy g files sheets clock stands left out written (Import ask) result =
     IfOk result (λ done. EndsWith (stands ask.store.now) left (TakesSheetIn g files (sha256 ask.key.now) (IsDayAt (moment_of ask.when.seconds clock) ask.when.zone) (sheets ask.sheet.now) out written done))
 ImportsBy g files sheets clock stands left out written ask result = ⊤
 
--- and why it fails
+-- why `import` fails: if the machine shows the sheet, `bad-sheet` is named only where it is due
 abbrev pub RefusesSheetBy : (List ℕ → Option (List ℕ)) → Ask → Refusal → Type 0
 RefusesSheetBy sheets (Import ask) refusal = IfSome (sheets ask.sheet.now) (λ bytes. IsBadSheetDue bytes refusal)
 RefusesSheetBy sheets ask refusal = ⊤

@@ -7,7 +7,7 @@ use Rattle.rd_http.specs.declared.serve.Ended.{Ended}
 use Rattle.rd_http.specs.declared.serve.Ended.TheVariants as ended
 use Rattle.rd_commands.specs.Output.{AppendsPart}
 use Rattle.rd_commands.specs.Printed.{line_feed}
-use Rattle.rd_commands.specs.Refusals.{IsOfDevice}
+use Rattle.rd_commands.specs.Refusals.{IsDeviceOrMemory}
 use Rattle.rd_commands.specs.declared.refusal.Refusal.{Refusal}
 use Rattle.rd_commands.specs.declared.refusal.Refusal.TheVariants.{Clock, Device, Inconsistent, NoMemory, NotADesk, Store, Version}
 
@@ -59,6 +59,6 @@ RefusesServe refusal port count old new = Keeps old new × IsOpenRefusal refusal
 -- Why a run of visits that ended so is no success, and what was written then: after all visits the
 -- device failed or memory ran out, a moment had no day, or the door shut.
 abbrev pub RefusesToEnd : Ended → ℕ → Option (List ℕ) → Option (List ℕ) → Refusal → Type 0
-RefusesToEnd ended.Count visits old new refusal = IsOfDevice refusal × AppendsPart old new (served_line visits)
+RefusesToEnd ended.Count visits old new refusal = IsDeviceOrMemory refusal × AppendsPart old new (served_line visits)
 RefusesToEnd ended.Clock visits old new refusal = (refusal ≡ Clock) × Keeps old new
 RefusesToEnd ended.Shut visits old new refusal = (refusal ≡ Device) × Keeps old new

@@ -20,7 +20,7 @@ use Rattle.rd_protocol.specs.declared.response.Reply.{Reply}
 use Rattle.rd_protocol.specs.declared.response.Response.TheVariants.{Checked}
 use Rattle.rd_store.specs.Held.{IsClean, IsOpen, desk}
 use Rattle.rd_store.specs.Migrated.{SpellsDesk}
-use Rattle.rd_program.specs.Asking.{RefusesOnce}
+use Rattle.rd_program.specs.Asking.{RefusesOneQuestion}
 use Rattle.rd_program.specs.Leaves.{IsDayAt, IsSame, LeavesStore, moment_of}
 use Rattle.rd_commands.specs.Asks.{IsCheckOf}
 use Rattle.rd_commands.specs.Printed.{line_feed}
@@ -29,8 +29,8 @@ use Rattle.rd_commands.specs.declared.refusal.Refusal.TheVariants.{NoAccession, 
 use Rattle.rd_commands.specs.declared.done.Done.{Done}
 use Rattle.rd_commands.specs.declared.done.Done.TheVariants.{InPart, Whole}
 use Rattle.rd_commands.specs.declared.words.Ask.{Ask}
-use Rattle.rd_commands.specs.declared.words.Ask.TheVariants.{Once}
-use Rattle.rd_commands.specs.declared.words.OnceAsk.{OnceAsk}
+use Rattle.rd_commands.specs.declared.words.Ask.TheVariants.{OneQuestion}
+use Rattle.rd_commands.specs.declared.words.OneQuestionAsk.{OneQuestionAsk}
 use Rattle.rd_commands.specs.declared.words.Question.{Question}
 use Rattle.rd_commands.specs.declared.words.Question.TheVariants as question
 use Rattle.rd_commands.specs.declared.words.Shown.{Shown}
@@ -92,7 +92,7 @@ pub record Finds (Days : ℤ → Type 0) (asked : Request) (outcome : Outcome) (
 
 -- why nothing is shown, and what was written then: as for a check, but never `no-accession`
 abbrev pub RefusesShow : Option (List ℕ) → Option (List ℕ) → Refusal → Type 0
-RefusesShow old new refusal = RefusesOnce old new refusal × (refusal ≢ NoAccession)
+RefusesShow old new refusal = RefusesOneQuestion old new refusal × (refusal ≢ NoAccession)
 
 -- the desk that stood refuses the request for this reason, on one of these days
 abbrev pub IsRefusedFor : (ℤ → Type 0) → Request → Reason → Desk → Type 0
@@ -102,8 +102,8 @@ IsRefusedFor Days asked reason stood = (day : ℤ) × Days day × IsRefusedOn st
 
 -- If the disk has returned what was written, this holds of the desk that the tables spelled and of the one that they
 -- spell now.
-abbrev pub OfStood : {S : Type 0} → Ghosts S → (Desk → Desk → Type 0) → Held S → Held S → Type 0
-OfStood g P before last = IsClean g last → (stood : Desk) × SpellsDesk (state g before).now stood × P stood (desk g last)
+abbrev pub HoldsOfDesks : {S : Type 0} → Ghosts S → (Desk → Desk → Type 0) → Held S → Held S → Type 0
+HoldsOfDesks g P before last = IsClean g last → (stood : Desk) × SpellsDesk (state g before).now stood × P stood (desk g last)
 
 -- A connection stood, and the command ended with this one, of which this holds; it is the one that the machine took
 -- back, if the machine shows both.
@@ -111,19 +111,19 @@ abbrev pub EndsWith : {S : Type 0} → Option (Held S) → Option (Held S) → (
 EndsWith {S} old new P = IfSome old (λ before. (last : Held S) × P before last × IfSome new (λ after. last ≡ after))
 
 -- The desk that stood is as it was, and what it shows was written.
-pub record ShowsStore {S : Type 0} (g : Ghosts S) (Days : ℤ → Type 0) (asked : Request) (out written : Option (List ℕ)) (before last : Held S) : Type 0 where
+pub record ShowsStore {S : Type 0} (g : Ghosts S) (Days : ℤ → Type 0) (asked : Request) (out_before out_after : Option (List ℕ)) (before last : Held S) : Type 0 where
   pub leaves : LeavesStore g IsSame before last
-  pub shows : OfStood g (λ stood after. Shows Days asked stood out written) before last
+  pub shows : HoldsOfDesks g (λ stood after. Shows Days asked stood out_before out_after) before last
 
 -- the desk that stood finds this of the image of the accession, for a caller with this badge, and records it
 abbrev pub FindsStore : {S : Type 0} → Ghosts S → (ℤ → Type 0) → Option (List ℕ) → ℕ → Outcome → Held S → Held S → Type 0
-FindsStore g Days badge acc outcome = OfStood g (Finds Days (request_of badge (request.Check acc)) outcome)
+FindsStore g Days badge acc outcome = HoldsOfDesks g (Finds Days (request_of badge (request.Check acc)) outcome)
 
 -- a request is refused by these names only where the desk that stood refuses it so
 abbrev pub IsDueIn : {S : Type 0} → Ghosts S → (ℤ → Type 0) → Request → Option (Held S) → Option (Held S) → Refusal → Type 0
-IsDueIn g Days asked old new UnknownKey = EndsWith old new (OfStood g (λ stood after. IsRefusedFor Days asked desk_refusal.UnknownKey stood))
-IsDueIn g Days asked old new StaffOnly = EndsWith old new (OfStood g (λ stood after. IsRefusedFor Days asked desk_refusal.StaffOnly stood))
-IsDueIn g Days asked old new NoAccession = EndsWith old new (OfStood g (λ stood after. IsRefusedFor Days asked desk_refusal.NoAccession stood))
+IsDueIn g Days asked old new UnknownKey = EndsWith old new (HoldsOfDesks g (λ stood after. IsRefusedFor Days asked desk_refusal.UnknownKey stood))
+IsDueIn g Days asked old new StaffOnly = EndsWith old new (HoldsOfDesks g (λ stood after. IsRefusedFor Days asked desk_refusal.StaffOnly stood))
+IsDueIn g Days asked old new NoAccession = EndsWith old new (HoldsOfDesks g (λ stood after. IsRefusedFor Days asked desk_refusal.NoAccession stood))
 IsDueIn g Days asked old new refusal = ⊤
 
 -- what a check has found, by how much was done
@@ -132,7 +132,7 @@ found_by Whole = Sound
 found_by InPart = Changed
 
 -- the SHA-256 of the key of the caller, if there is one
-abbrev pub badge_of : OnceAsk → Option (List ℕ)
+abbrev pub badge_of : OneQuestionAsk → Option (List ℕ)
 badge_of ask = option_map sha256 (option_map (λ key. key.now) ask.key)
 
 -- ---- by what is asked for
@@ -140,7 +140,7 @@ badge_of ask = option_map sha256 (option_map (λ key. key.now) ask.key)
 -- What `export`, `check` and `show` do, by the moment that the clock shows, the connection that stood, the one that is
 -- left, and what was written: what was asked to be shown was written; a check has found what its line says, and recorded
 -- it; and a refusal of a caller who shows a key, or who asks for the catalogue, is due.
-pub record AnswersOnce {S : Type 0} (g : Ghosts S) (clock : Option ℤ) (stood left : Option (Held S)) (out written : Option (List ℕ)) (ask : OnceAsk)
+pub record AnswersOneQuestion {S : Type 0} (g : Ghosts S) (clock : Option ℤ) (stood left : Option (Held S)) (out written : Option (List ℕ)) (ask : OneQuestionAsk)
     (result : Result Done Refusal) : Type 0 where
   pub shown : (what : What) → what_to_show ask.question ≡ Some what
       → OnOk result (EndsWith stood left (ShowsStore g (IsDayAt (moment_of ask.when.seconds clock) ask.when.zone) (request_of (badge_of ask) what) out written))
@@ -153,7 +153,7 @@ pub record AnswersOnce {S : Type 0} (g : Ghosts S) (clock : Option ℤ) (stood l
 -- what a command does that asks a desk once
 abbrev pub AnswersBy : {S : Type 0} → Ghosts S → Option ℤ → (List ℕ → Option (Held S)) → Option (Held S) → Option (List ℕ) → Option (List ℕ) → Ask
     → Result Done Refusal → Type 0
-AnswersBy g clock stands left out written (Once ask) result = AnswersOnce g clock (stands ask.store.now) left out written ask result
+AnswersBy g clock stands left out written (OneQuestion ask) result = AnswersOneQuestion g clock (stands ask.store.now) left out written ask result
 AnswersBy g clock stands left out written ask result = ⊤
 
 -- ---- inside

@@ -7,7 +7,7 @@ use Rattle.rd_policy.specs.declared.zone.Zone.{Zone}
 use Rattle.rd_store.specs.Held.{IsOpen, desk}
 use Rattle.rd_store.specs.Migrated.{SpellsDesk}
 use Rattle.rd_holdings.specs.State.{Desk}
-use Rattle.rd_messages.specs.DoorVisits.{Coming, Told}
+use Rattle.rd_messages.specs.DoorVisits.{Coming, VisitsSoFar}
 use Rattle.rd_http.specs.Runs.{HasRun}
 use Rattle.rd_http.specs.Visits.{IsReplied}
 use Rattle.rd_http.specs.declared.serve.Ended.TheVariants.{Count}
@@ -20,17 +20,17 @@ use Rattle.rd_program.specs.Showing.{EndsWith}
 
 -- The visits of a door, by what it tells of them before and after, are those of a run over a desk with the clocks of a
 -- zone, which replies to each and goes from the old desk to the new one.
-abbrev pub HasVisits : {D : Type 0} → (D → Option Told) → (D → Option (List Coming)) → Zone → D → D → Served → Desk → Desk → Type 0
+abbrev pub HasVisits : {D : Type 0} → (D → Option VisitsSoFar) → (D → Option (List Coming)) → Zone → D → D → Served → Desk → Desk → Type 0
 HasVisits told coming zone before after served old new =
     IfSome (told before) (λ begun. HasRun IsReplied zone begun (told after) (coming before) (coming after) served old new)
 
 -- While the connection is open, this is the run of the visits over its desk.
-abbrev pub RunsVisits : {S D : Type 0} → Ghosts S → (D → Option Told) → (D → Option (List Coming)) → Zone → D → D → Served → Held S → Held S → Type 0
+abbrev pub RunsVisits : {S D : Type 0} → Ghosts S → (D → Option VisitsSoFar) → (D → Option (List Coming)) → Zone → D → D → Served → Held S → Held S → Type 0
 RunsVisits g told coming zone before after served opened last =
     IsOpen g last → HasVisits told coming zone before after served (desk g opened) (desk g last)
 
 -- So many visits of a door were served, by the clocks of a zone, over the desk that stood, and they left it as it is.
-pub record ServesVisits {S D : Type 0} (g : Ghosts S) (told : D → Option Told) (coming : D → Option (List Coming)) (count : ℕ) (zone : Zone) (before after : D)
+pub record ServesVisits {S D : Type 0} (g : Ghosts S) (told : D → Option VisitsSoFar) (coming : D → Option (List Coming)) (count : ℕ) (zone : Zone) (before after : D)
     (stood last : Held S) : Type 0 where
   pub served : Served
   pub counted : served.visits ≡ count
@@ -38,19 +38,19 @@ pub record ServesVisits {S D : Type 0} (g : Ghosts S) (told : D → Option Told)
   pub runs : IsOpen g last → (found : Desk) × SpellsDesk (state g stood).now found × HasVisits told coming zone before after served found (desk g last)
 
 -- the machine showed the door at a place, and so many visits of it were served over the desk in the store
-abbrev pub ServesDoor : {S D : Type 0} → Ghosts S → (D → Option Told) → (D → Option (List Coming)) → ℕ → Zone → Option D → Option D → Option (Held S) → Option (Held S) → Type 0
+abbrev pub ServesDoor : {S D : Type 0} → Ghosts S → (D → Option VisitsSoFar) → (D → Option (List Coming)) → ℕ → Zone → Option D → Option D → Option (Held S) → Option (Held S) → Type 0
 ServesDoor g told coming count zone door later stood left =
     IfSome door (λ before. IsSomeAnd later (λ after. EndsWith stood left (ServesVisits g told coming count zone before after)))
 
 -- the same visits, where the clocks are those of a rule
-abbrev pub ServesDoorBy : {S D : Type 0} → Ghosts S → (D → Option Told) → (D → Option (List Coming)) → ℕ → List ℕ → Option D → Option D → Option (Held S) → Option (Held S) → Type 0
+abbrev pub ServesDoorBy : {S D : Type 0} → Ghosts S → (D → Option VisitsSoFar) → (D → Option (List Coming)) → ℕ → List ℕ → Option D → Option D → Option (Held S) → Option (Held S) → Type 0
 ServesDoorBy g told coming count rule door later stood left =
     (zone : Zone) × IsZoneOf rule zone × ServesDoor g told coming count zone door later stood left
 
 -- ---- inside
 
 -- a command that asks for visits has served them at its port
-abbrev pub ServesBy : {S D : Type 0} → Ghosts S → (D → Option Told) → (D → Option (List Coming)) → (Place → Option D) → (Place → Option D) → (List ℕ → Option (Held S))
+abbrev pub ServesBy : {S D : Type 0} → Ghosts S → (D → Option VisitsSoFar) → (D → Option (List Coming)) → (Place → Option D) → (Place → Option D) → (List ℕ → Option (Held S))
     → Option (Held S) → Ask → Type 0
 ServesBy g told coming doors laters stands left (Serve ask) =
     ServesDoor g told coming ask.count ask.zone (doors (Port ask.port)) (laters (Port ask.port)) (stands ask.store.now) left

@@ -6,7 +6,7 @@ ghost use Rattle.rd_geometry.specs.Kinds.{size_of};
 ghost use Rattle.rd_store.specs.Held.{Lasts};
 ghost use Rattle.rd_geometry.specs.declared.kind.Kind.{Kind};
 ghost use Rattle.rd_geometry.specs.declared.kind.Kind.TheVariants as kinds;
-ghost use Rattle.rd_program.specs.Asking.{RefusesOnce, TellsCheck};
+ghost use Rattle.rd_program.specs.Asking.{RefusesOneQuestion, TellsCheck};
 ghost use Rattle.rd_commands.specs.Asks.{AsksADesk, AsksCheckOf, IsWithinLimits, IsFileAsk, IsFilesAsk, IsInitAsk, IsServeAsk, TellsInRows, TellsOnOutput, most_read};
 ghost use Rattle.rd_commands.specs.Cat.{HasNoSoundFile, IsCut, Refuses, Serves};
 ghost use Rattle.rd_commands.specs.CommandLine.{AsksForHelp, AsksForVersion, IsTaken, IsTakenTelling};
@@ -16,7 +16,7 @@ ghost use Rattle.rd_program.specs.Inits.{LeavesInit, MakesDesk, RefusesInit, don
 ghost use Rattle.rd_commands.specs.Input.{ReadsUpTo};
 ghost use Rattle.rd_program.specs.Leaves.{Checks, GivesBack, HasBoth, IsDayBy, IsSame, Leaves, LeavesBy, LeavesRefused, LeavesServe, LeavesStore, NamesOpening, OnEnded, StandsThere, TakesIn, moment_of};
 ghost use Rattle.rd_commands.specs.Listed.{Lists, RefusesList};
-ghost use Rattle.rd_commands.specs.Refusals.{IsOfDevice, status_of};
+ghost use Rattle.rd_commands.specs.Refusals.{IsDeviceOrMemory, status_of};
 ghost use Rattle.rd_program.specs.Rows.{ImportsBy, IsBadSheetDue, RefusesSheetBy, TakesSheetIn};
 ghost use Rattle.rd_policy.specs.Days.{HasDay};
 ghost use Rattle.rd_program.specs.Asked.{AsksAt, AsksBy, IsClockDue, IsClockDueBy, IsUnaskedBy, NamesStore};
@@ -26,7 +26,7 @@ ghost use Rattle.rd_protocol.specs.declared.request.What.TheVariants as What;
 ghost use Rattle.rd_program.specs.Doors.{AsksNoOther};
 ghost use Rattle.rd_program.specs.Doors.Place.{Port};
 ghost use Rattle.rd_program.specs.Visiting.{ServesBy, ServesDoorBy};
-ghost use Rattle.rd_program.specs.Filing.{GivesFile, IsOfImage};
+ghost use Rattle.rd_program.specs.DiskFiles.{GivesFile, IsOfImage};
 ghost use Rattle.rd_program.specs.Showing.{AnswersBy, EndsWith, FindsStore, IsDueIn, RefusesShow, ShowsStore, request_of, what_of};
 ghost use Rattle.rd_commands.specs.RefusalLines.{Tells};
 ghost use Rattle.rd_commands.specs.declared.words.Shown.{Shown};
@@ -88,7 +88,7 @@ fn perform<R: Read, W: Write, M: Machine>(
     ensures checked { (acc : ℕ) → AsksCheckOf acc ask.entry
         → IfOk result (TellsCheck acc (W.contents output.old) (W.contents output.new)) }
     ensures not_answered { AsksADesk ask.entry
-        → IfErr result (RefusesOnce (W.contents output.old) (W.contents output.new)) }
+        → IfErr result (RefusesOneQuestion (W.contents output.old) (W.contents output.new)) }
     ensures answers { AnswersBy M.Disk.Store (M.clock machine.old) (M.stands machine.old) (M.left machine.new)
         (W.contents output.old) (W.contents output.new) ask.entry result }
     ensures serves { OnOk result (ServesBy M.Disk.Store M.Door.told M.Door.coming (M.door machine.old) (M.door machine.new)
@@ -114,7 +114,7 @@ fn perform<R: Read, W: Write, M: Machine>(
         Ask::Init(ask) => whole(init(ask, output, machine)),
         Ask::Serve(ask) => whole(serve(alloc, ask, output, machine)),
         Ask::Import(ask) => import(alloc, ask, output, machine),
-        Ask::Once(ask) => ask_once(alloc, ask, output, machine),
+        Ask::OneQuestion(ask) => ask_once(alloc, ask, output, machine),
     }
 }
 
@@ -156,9 +156,9 @@ pub fn run<R: Read, W: Write, E: Write, M: Machine>(
     // status, and nothing at 1 if the output says which rows an `import` refused, or that a
     // `check` found an image changed.
     ensures silent { result ≡ 0 → Keeps (E.contents errors.old) (E.contents errors.new) }
-    ensures told { result ≡ 3
+    ensures names_failure { result ≡ 3
         → Tells (λ _. ⊤) result (E.contents errors.old) (E.contents errors.new) }
-    ensures refused_told { result ≡ 1
+    ensures names_refusal { result ≡ 1
         → Tells (λ _. ⊤) result (E.contents errors.old) (E.contents errors.new)
         ⊎ (Keeps (E.contents errors.old) (E.contents errors.new)
         × IsTakenTelling (map (λ word. word.now) words.entry.now)) }
@@ -184,7 +184,7 @@ pub fn run<R: Read, W: Write, E: Write, M: Machine>(
         → IfSome (R.remaining input.old) (HasNoSoundFile kind slot) }
 
     // Not at 0, a `cat` of standard input names its refusal: the first one that holds.
-    ensures told_why { result ≢ 0 → (kind : Kind) (slot : ℕ)
+    ensures cat_due { result ≢ 0 → (kind : Kind) (slot : ℕ)
         → AsksCat (map (λ word. word.now) words.entry.now) kind (codes "-") slot
         → IfSome (R.remaining input.old) (λ image. Tells (λ refusal.
         Refuses refusal kind slot image (W.contents output.old) (W.contents output.new))
@@ -196,7 +196,7 @@ pub fn run<R: Read, W: Write, E: Write, M: Machine>(
         → AsksList (map (λ word. word.now) words.entry.now) kind (codes "-")
         → IfSome (R.remaining input.old) (λ image.
         Lists kind image (W.contents output.old) (W.contents output.new)) }
-    ensures list_told { result ≢ 0 → (kind : Kind)
+    ensures list_due { result ≢ 0 → (kind : Kind)
         → AsksList (map (λ word. word.now) words.entry.now) kind (codes "-")
         → IfSome (R.remaining input.old) (λ image. Tells (λ refusal.
         RefusesList refusal kind image (W.contents output.old) (W.contents output.new))
@@ -207,7 +207,7 @@ pub fn run<R: Read, W: Write, E: Write, M: Machine>(
     ensures made { result ≡ 0 → (store key : List ℕ) → AsksInit (map (λ word. word.now) words.entry.now) store key
         → MakesDesk M.Disk.Store (M.stands machine.old store) (M.left machine.new) (sha256 (trim_ows key))
         × Appends (W.contents output.old) (W.contents output.new) done_line }
-    ensures init_told { result ≢ 0 → (store key : List ℕ) → AsksInit (map (λ word. word.now) words.entry.now) store key
+    ensures init_due { result ≢ 0 → (store key : List ℕ) → AsksInit (map (λ word. word.now) words.entry.now) store key
         → Tells (λ refusal. RefusesInit refusal (W.contents output.old) (W.contents output.new)
         × LeavesInit M.Disk.Store (M.left machine.old) (M.stands machine.old store) (M.left machine.new) (sha256 (trim_ows key)) refusal)
         result (E.contents errors.old) (E.contents errors.new) }
@@ -218,7 +218,7 @@ pub fn run<R: Read, W: Write, E: Write, M: Machine>(
     ensures served { result ≡ 0 → (store : List ℕ) (port count : ℕ) (rule : List ℕ)
         → AsksServe (map (λ word. word.now) words.entry.now) store port count rule
         → Appends (W.contents output.old) (W.contents output.new) (serve_text port count) }
-    ensures serve_told { result ≢ 0 → (store : List ℕ) (port count : ℕ) (rule : List ℕ)
+    ensures serve_due { result ≢ 0 → (store : List ℕ) (port count : ℕ) (rule : List ℕ)
         → AsksServe (map (λ word. word.now) words.entry.now) store port count rule
         → Tells (λ refusal. RefusesServe refusal port count (W.contents output.old) (W.contents output.new)
         × LeavesServe M.Disk.Store (M.left machine.old) (M.stands machine.old store) (M.left machine.new) port
@@ -238,7 +238,7 @@ pub fn run<R: Read, W: Write, E: Write, M: Machine>(
     // However it ends, the desk that stood may have taken in images, and nothing else has changed.
     ensures imported { result ≡ 0 → IsImport (map (λ word. word.now) words.entry.now)
         → GainsLines IsDoneLine (W.contents output.old) (W.contents output.new) }
-    ensures import_told { result ≢ 0 → (store key sheet : List ℕ) (moment : Option ℤ) (rule : List ℕ)
+    ensures import_due { result ≢ 0 → (store key sheet : List ℕ) (moment : Option ℤ) (rule : List ℕ)
         → AsksImport (map (λ word. word.now) words.entry.now) store key sheet moment rule
         → ((result ≡ 1) × Keeps (E.contents errors.old) (E.contents errors.new)
         × GainsLines IsRowLine (W.contents output.old) (W.contents output.new))
@@ -273,13 +273,13 @@ pub fn run<R: Read, W: Write, E: Write, M: Machine>(
         → AsksCheck (map (λ word. word.now) words.entry.now) store key acc moment rule
         → EndsWith (M.stands machine.old store) (M.left machine.new)
         (FindsStore M.Disk.Store (IsDayBy (moment_of moment (M.clock machine.old)) rule) (Some (sha256 (trim_ows key))) acc Outcome.Sound) }
-    ensures check_told { result ≢ 0 → (store key : List ℕ) (acc : ℕ) (moment : Option ℤ) (rule : List ℕ)
+    ensures check_due { result ≢ 0 → (store key : List ℕ) (acc : ℕ) (moment : Option ℤ) (rule : List ℕ)
         → AsksCheck (map (λ word. word.now) words.entry.now) store key acc moment rule
         → ((result ≡ 1) × Keeps (E.contents errors.old) (E.contents errors.new)
         × TellsCheck acc (W.contents output.old) (W.contents output.new) Done.InPart
         × EndsWith (M.stands machine.old store) (M.left machine.new)
         (FindsStore M.Disk.Store (IsDayBy (moment_of moment (M.clock machine.old)) rule) (Some (sha256 (trim_ows key))) acc Outcome.Changed))
-        ⊎ Tells (λ refusal. RefusesOnce (W.contents output.old) (W.contents output.new) refusal
+        ⊎ Tells (λ refusal. RefusesOneQuestion (W.contents output.old) (W.contents output.new) refusal
         × NamesOpening M.Disk.Store (M.stands machine.old store) (M.left machine.new) refusal
         × IsDueIn M.Disk.Store (IsDayBy (moment_of moment (M.clock machine.old)) rule)
         (request_of (Some (sha256 (trim_ows key))) (What.Check acc)) (M.stands machine.old store) (M.left machine.new) refusal
@@ -294,7 +294,7 @@ pub fn run<R: Read, W: Write, E: Write, M: Machine>(
         → EndsWith (M.stands machine.old store) (M.left machine.new)
         (ShowsStore M.Disk.Store (IsDayBy (moment_of moment (M.clock machine.old)) rule)
         (request_of (option_map sha256 (option_map trim_ows key)) What.Catalogue) (W.contents output.old) (W.contents output.new)) }
-    ensures export_told { result ≢ 0 → (store : List ℕ) (key : Option (List ℕ)) (moment : Option ℤ) (rule : List ℕ)
+    ensures export_due { result ≢ 0 → (store : List ℕ) (key : Option (List ℕ)) (moment : Option ℤ) (rule : List ℕ)
         → AsksExport (map (λ word. word.now) words.entry.now) store key moment rule
         → Tells (λ refusal. RefusesShow (W.contents output.old) (W.contents output.new) refusal
         × NamesOpening M.Disk.Store (M.stands machine.old store) (M.left machine.new) refusal
@@ -314,7 +314,7 @@ pub fn run<R: Read, W: Write, E: Write, M: Machine>(
         → EndsWith (M.stands machine.old store) (M.left machine.new)
         (ShowsStore M.Disk.Store (IsDayBy (moment_of moment (M.clock machine.old)) rule)
         (request_of (Some (sha256 (trim_ows key))) (what_of what)) (W.contents output.old) (W.contents output.new)) }
-    ensures show_refused { result ≢ 0 → (store key : List ℕ) (what : Shown) (moment : Option ℤ) (rule : List ℕ)
+    ensures show_due { result ≢ 0 → (store key : List ℕ) (what : Shown) (moment : Option ℤ) (rule : List ℕ)
         → AsksShow (map (λ word. word.now) words.entry.now) store key what moment rule
         → Tells (λ refusal. RefusesShow (W.contents output.old) (W.contents output.new) refusal
         × NamesOpening M.Disk.Store (M.stands machine.old store) (M.left machine.new) refusal
@@ -366,13 +366,13 @@ pub fn run<R: Read, W: Write, E: Write, M: Machine>(
 
     // Help, if the first word asks for it: at 0, unless the output fails or memory runs out.
     ensures help { AsksHelp (map (λ word. word.now) words.entry.now) → (result ≡ 0)
-        ⊎ Tells IsOfDevice result (E.contents errors.old) (E.contents errors.new) }
+        ⊎ Tells IsDeviceOrMemory result (E.contents errors.old) (E.contents errors.new) }
 
     // The version, if the first word asks for it: at 0 exactly its line is written, and otherwise
     // `errors` says why not.
     ensures version { result ≡ 0 → AsksVersion (map (λ word. word.now) words.entry.now)
         → Appends (W.contents output.old) (W.contents output.new) version_line }
-    ensures version_told { result ≢ 0 → AsksVersion (map (λ word. word.now) words.entry.now)
+    ensures version_due { result ≢ 0 → AsksVersion (map (λ word. word.now) words.entry.now)
         → Tells (RefusesVersion (W.contents output.old) (W.contents output.new))
         result (E.contents errors.old) (E.contents errors.new) }
 

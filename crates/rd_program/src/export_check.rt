@@ -8,27 +8,27 @@ ghost use Rattle.rd_policy.specs.Rules.{IsScope};
 ghost use Rattle.rd_holdings.specs.Findings.{outcome_word};
 ghost use Rattle.rd_program.specs.Doors.{AsksPath};
 ghost use Rattle.rd_program.specs.Asked.{IsClockDue, IsClockOn};
-ghost use Rattle.rd_program.specs.Asking.{RefusesOnce, TellsCheck};
+ghost use Rattle.rd_program.specs.Asking.{RefusesOneQuestion, TellsCheck};
 ghost use Rattle.rd_commands.specs.Asks.{IsAskable, IsCheck, IsCheckOf};
 ghost use Rattle.rd_program.specs.Importing.{accession_line};
 ghost use Rattle.rd_protocol.specs.declared.request.What.{What};
 ghost use Rattle.rd_program.specs.Leaves.{Checks, GivesBack, HasBoth, IsDayAt, IsOfOpenDesk, Leaves, LeavesDesk, LeavesStore, NamesOpening, OnEnded, StepsOf, moment_of};
 ghost use Rattle.rd_program.specs.Serving.{IsDayless, IsUnasked};
-ghost use Rattle.rd_program.specs.Showing.{AnswersOnce, Finds, IsDueOn, OfDesk, RefusesShow, Shows, asked_of, found_by, request_of, what_to_show};
+ghost use Rattle.rd_program.specs.Showing.{AnswersOneQuestion, Finds, IsDueOn, OfDesk, RefusesShow, Shows, asked_of, found_by, request_of, what_to_show};
 
 use crate::answers::outcome_of;
 use crate::asker::{Asker, answer_of, badge_of};
 use crate::machine::Machine;
 use crate::open_desk::{open_desk, visit_day};
 use crate::show::{show, what_of};
-use rd_commands::{Done, OnceAsk, Question, Refusal, write_whole};
+use rd_commands::{Done, OneQuestionAsk, Question, Refusal, write_whole};
 use rd_desk::{Desk, Outcome, What};
 use sqlite::Alter;
 use std::alloc::Global;
 use std::io::Write;
 
 /// The line that says what a check of the image of an accession found.
-fn found_text(alloc: Global, acc: u32, found: Outcome) -> Result<String, Refusal>
+fn outcome_line(alloc: Global, acc: u32, found: Outcome) -> Result<String, Refusal>
     ensures line { IfOk result (λ line. string_bytes line ≡ accession_line acc (outcome_word found)) }
     ensures refused { IfErr result (λ refusal. refusal ≡ Refusal.NoMemory) }
 {
@@ -38,8 +38,8 @@ fn found_text(alloc: Global, acc: u32, found: Outcome) -> Result<String, Refusal
     Ok(line)
 }
 
-/// Writes a line that says what a check of the image of an accession finds. It makes the lines
-/// first, so that it needs no memory once the check is recorded.
+/// Writes a line that says what a check of the image of an accession finds. It makes the line of
+/// each outcome first, so that it needs no memory once the check is recorded.
 ///
 /// It fails with the refusal of the reply, with `Store` when the desk is unavailable, with
 /// `NoMemory`, and with `Device` when a write or the flush fails.
@@ -52,8 +52,8 @@ fn check<S: Alter + Drop, W: Write>(
 ) -> Result<Done, Refusal>
     requires day { IsDay asker.day }
     requires within { IsScope acc }
-    ensures told { IfOk result (TellsCheck acc (W.contents output.old) (W.contents output.new)) }
-    ensures refused { IfErr result (RefusesOnce (W.contents output.old) (W.contents output.new)) }
+    ensures written { IfOk result (TellsCheck acc (W.contents output.old) (W.contents output.new)) }
+    ensures refused { IfErr result (RefusesOneQuestion (W.contents output.old) (W.contents output.new)) }
     ensures opened { IfErr result IsOfOpenDesk }
     ensures dated { IfErr result (λ refusal. refusal ≢ Refusal.Clock) }
     ensures checks { LeavesDesk S.Store (Checks asker.badge acc (λ day. day ≡ asker.day))
@@ -63,10 +63,10 @@ fn check<S: Alter + Drop, W: Write>(
     ensures due { IsSome asker.badge → IfErr result (IsDueOn S.Store (λ day. day ≡ asker.day)
         (request_of asker.badge (asked_of (Question.Check acc))) desk.old.store desk.new.store) }
 {
-    let sound = found_text(alloc, acc, Outcome::Sound)?;
-    let changed = found_text(alloc, acc, Outcome::Changed)?;
-    let told = answer_of(alloc, What::Check(acc), asker, desk);
-    let found = outcome_of(&told)?;
+    let sound = outcome_line(alloc, acc, Outcome::Sound)?;
+    let changed = outcome_line(alloc, acc, Outcome::Changed)?;
+    let answered = answer_of(alloc, What::Check(acc), asker, desk);
+    let found = outcome_of(&answered)?;
     match found {
         Outcome::Sound => {
             write_whole(output, sound.as_bytes())?;
@@ -85,16 +85,16 @@ fn check<S: Alter + Drop, W: Write>(
 /// `show` do.
 fn tell_asked<S: Alter + Drop, W: Write, M: Machine>(
     alloc: Global,
-    ask: &OnceAsk,
+    ask: &OneQuestionAsk,
     desk: &mut Desk<S>,
     output: &mut W,
     machine: &mut M,
 ) -> Result<Done, Refusal>
     requires within { IsAskable ask.now.question }
     ensures in_part { IfOk result (λ done. done ≡ Done.InPart → IsCheck ask.now.question) }
-    ensures told { (acc : ℕ) → IsCheckOf acc ask.now.question
+    ensures written { (acc : ℕ) → IsCheckOf acc ask.now.question
         → IfOk result (TellsCheck acc (W.contents output.old) (W.contents output.new)) }
-    ensures refused { IfErr result (RefusesOnce (W.contents output.old) (W.contents output.new)) }
+    ensures refused { IfErr result (RefusesOneQuestion (W.contents output.old) (W.contents output.new)) }
     ensures dayless { IsDayless (moment_of ask.now.when.seconds (M.clock machine.old)) result }
     ensures clock { IfErr result (IsClockOn ask.now.when.seconds desk.old.store desk.new.store) }
     ensures opened { IfErr result IsOfOpenDesk }
@@ -132,15 +132,15 @@ fn tell_asked<S: Alter + Drop, W: Write, M: Machine>(
 /// then as `tell_asked` does. A recorded check stands.
 pub(crate) fn ask_once<W: Write, M: Machine>(
     alloc: Global,
-    ask: OnceAsk,
+    ask: OneQuestionAsk,
     output: &mut W,
     machine: &mut M,
 ) -> Result<Done, Refusal>
     requires within { IsAskable ask.question }
     ensures in_part { IfOk result (λ done. done ≡ Done.InPart → IsCheck ask.entry.question) }
-    ensures told { (acc : ℕ) → IsCheckOf acc ask.entry.question
+    ensures written { (acc : ℕ) → IsCheckOf acc ask.entry.question
         → IfOk result (TellsCheck acc (W.contents output.old) (W.contents output.new)) }
-    ensures refused { IfErr result (RefusesOnce (W.contents output.old) (W.contents output.new)) }
+    ensures refused { IfErr result (RefusesOneQuestion (W.contents output.old) (W.contents output.new)) }
     ensures steps { Leaves (M.left machine.old) (M.stands machine.old ask.entry.store.now) (M.left machine.new)
         (LeavesStore M.Disk.Store (StepsOf (option_map sha256 (option_map (λ key. key.now) ask.entry.key))
         (IsDayAt (moment_of ask.entry.when.seconds (M.clock machine.old)) ask.entry.when.zone) ask.entry.question)) }
@@ -150,11 +150,11 @@ pub(crate) fn ask_once<W: Write, M: Machine>(
     ensures asked { AsksPath (M.paths machine.old) ask.entry.store.now (M.paths machine.new) }
     ensures clock { IfErr result (IsClockDue M.Disk.Store ask.entry.when.seconds (M.stands machine.old ask.entry.store.now) (M.left machine.new)) }
     ensures opens { IfErr result (NamesOpening M.Disk.Store (M.stands machine.old ask.entry.store.now) (M.left machine.new)) }
-    ensures answers { AnswersOnce M.Disk.Store (M.clock machine.old) (M.stands machine.old ask.entry.store.now) (M.left machine.new)
+    ensures answers { AnswersOneQuestion M.Disk.Store (M.clock machine.old) (M.stands machine.old ask.entry.store.now) (M.left machine.new)
         (W.contents output.old) (W.contents output.new) ask.entry result }
 {
     let mut desk = open_desk(alloc, ask.store, ask.when.zone, machine)?;
-    let told = tell_asked(alloc, &ask, &mut desk, output, machine);
+    let ended = tell_asked(alloc, &ask, &mut desk, output, machine);
     machine.release(&mut Some(desk.into_store().into_connection()));
-    told
+    ended
 }

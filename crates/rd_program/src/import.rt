@@ -16,7 +16,7 @@ ghost use Rattle.rd_program.specs.Showing.{EndsWith};
 ghost use Rattle.rd_program.specs.Importing.{RefusesImport, RefusesRow, RefusesRows, TellsAnswer, TellsRow, TellsRows, bad_row_line, accession_line};
 ghost use Rattle.rd_program.specs.Leaves.{GivesBack, HasBoth, IsDayAt, IsOfOpenDesk, Leaves, LeavesDesk, LeavesStore, NamesOpening, OnEnded, TakesFields, TakesIn, TakesRow, moment_of};
 ghost use Rattle.rd_commands.specs.Output.{AppendsPart};
-ghost use Rattle.rd_commands.specs.Refusals.{IsOfDevice};
+ghost use Rattle.rd_commands.specs.Refusals.{IsDeviceOrMemory};
 ghost use Rattle.rd_commands.specs.Sheets.{IsWithin};
 
 use crate::machine::Machine;
@@ -76,7 +76,7 @@ fn tell_accession<W: Write>(
 ) -> Result<(), Refusal>
     ensures done { OnOk result (Appends (W.contents output.old) (W.contents output.new) (accession_line acc word.now)) }
     ensures cut { OnErr result (AppendsPart (W.contents output.old) (W.contents output.new) (accession_line acc word.now)) }
-    ensures refused { IfErr result IsOfDevice }
+    ensures refused { IfErr result IsDeviceOrMemory }
 {
     let mut line = String::new(alloc);
     write!(line, "{acc} {word}\n")?;
@@ -89,7 +89,7 @@ fn tell_accession<W: Write>(
 fn tell_bad_row<W: Write>(alloc: Global, number: u64, output: &mut W) -> Result<(), Refusal>
     ensures done { OnOk result (Appends (W.contents output.old) (W.contents output.new) (bad_row_line number)) }
     ensures cut { OnErr result (AppendsPart (W.contents output.old) (W.contents output.new) (bad_row_line number)) }
-    ensures refused { IfErr result IsOfDevice }
+    ensures refused { IfErr result IsDeviceOrMemory }
 {
     let mut line = String::new(alloc);
     write!(line, "row {number} bad-row\n")?;
@@ -125,7 +125,7 @@ fn tell_answer<W: Write>(
     answer: Result<Response, Unavailable>,
     output: &mut W,
 ) -> Result<Done, Refusal>
-    ensures told { IfOk result (TellsAnswer acc answer (W.contents output.old) (W.contents output.new)) }
+    ensures written { IfOk result (TellsAnswer acc answer (W.contents output.old) (W.contents output.new)) }
     ensures refused { IfErr result (RefusesRow (W.contents output.old) (W.contents output.new)) }
 {
     let Ok(answer) = answer else {
@@ -156,7 +156,7 @@ fn import_row<W: Write, M: Machine>(
     ensures row { IfOk result (λ done. GivesLine M.Disk.Store
         (λ line. TakesImage (M.file_bytes machine.old) giver.badge giver.day row.entry line done)
         (W.contents output.old) (W.contents output.new) desk.old.store desk.new.store) }
-    ensures told { IfOk result (TellsRow (W.contents output.old) (W.contents output.new)) }
+    ensures written { IfOk result (TellsRow (W.contents output.old) (W.contents output.new)) }
     ensures refused { IfErr result (RefusesRow (W.contents output.old) (W.contents output.new)) }
 {
     let bytes = match machine.read_file(alloc, row.file) {
@@ -188,7 +188,7 @@ fn import_fields<W: Write, M: Machine>(
     ensures row { IfOk result (λ done. GivesLine M.Disk.Store
         (λ line. IsRowTaken (M.file_bytes machine.old) giver.badge giver.day number (fields_of fields.now) line done)
         (W.contents output.old) (W.contents output.new) desk.old.store desk.new.store) }
-    ensures told { IfOk result (TellsRow (W.contents output.old) (W.contents output.new)) }
+    ensures written { IfOk result (TellsRow (W.contents output.old) (W.contents output.new)) }
     ensures refused { IfErr result (RefusesRow (W.contents output.old) (W.contents output.new)) }
 {
     match row_of(fields) {
@@ -214,7 +214,7 @@ fn import_rows<W: Write, M: Machine>(
     machine: &mut M,
 ) -> Result<Done, Refusal>
     requires day { IsDay giver.day }
-    ensures told { IfOk result (TellsRows (W.contents output.old) (W.contents output.new)) }
+    ensures written { IfOk result (TellsRows (W.contents output.old) (W.contents output.new)) }
     ensures refused { IfErr result (RefusesRows (W.contents output.old) (W.contents output.new)) }
     ensures bad_sheet { IfErr result (IsBadSheetDue sheet.now) }
     ensures takes { LeavesDesk M.Disk.Store (TakesIn giver.badge (λ day. day ≡ giver.day))
@@ -254,7 +254,7 @@ fn import_sheet<W: Write, M: Machine>(
     output: &mut W,
     machine: &mut M,
 ) -> Result<Done, Refusal>
-    ensures told { IfOk result (TellsRows (W.contents output.old) (W.contents output.new)) }
+    ensures written { IfOk result (TellsRows (W.contents output.old) (W.contents output.new)) }
     ensures refused { IfErr result (RefusesImport (W.contents output.old) (W.contents output.new)) }
     ensures dayless { IsDayless (moment_of ask.entry.when.seconds (M.clock machine.old)) result }
     ensures clock { IfErr result (IsClockOn ask.entry.when.seconds desk.old.store desk.new.store) }
@@ -290,7 +290,7 @@ pub(crate) fn import<W: Write, M: Machine>(
     output: &mut W,
     machine: &mut M,
 ) -> Result<Done, Refusal>
-    ensures told { IfOk result (TellsRows (W.contents output.old) (W.contents output.new)) }
+    ensures written { IfOk result (TellsRows (W.contents output.old) (W.contents output.new)) }
     ensures refused { IfErr result (RefusesImport (W.contents output.old) (W.contents output.new)) }
     ensures takes { Leaves (M.left machine.old) (M.stands machine.old ask.entry.store.now) (M.left machine.new)
         (LeavesStore M.Disk.Store (TakesIn (sha256 ask.entry.key.now)

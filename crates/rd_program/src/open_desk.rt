@@ -72,15 +72,15 @@ fn clock_seconds<M: Machine>(machine: &mut M) -> Result<i64, Refusal>
 /// The seconds of the moment that the words name, or of the one that the machine's clock shows.
 ///
 /// It fails with `Clock`, and with `NoMemory`.
-fn seconds_of<M: Machine>(told: Option<i64>, machine: &mut M) -> Result<i64, Refusal>
-    ensures asked { IfOk result (λ seconds. IfSome (moment_of told (M.clock machine.old)) (λ moment. seconds ≡ moment)) }
-    ensures told { IfSome told (λ seconds. result ≡ Ok seconds) }
+fn seconds_of<M: Machine>(named: Option<i64>, machine: &mut M) -> Result<i64, Refusal>
+    ensures asked { IfOk result (λ seconds. IfSome (moment_of named (M.clock machine.old)) (λ moment. seconds ≡ moment)) }
+    ensures named { IfSome named (λ seconds. result ≡ Ok seconds) }
     ensures files { KeepsFiles M.file_bytes M.sheet_bytes machine.old machine.new }
     ensures shows { M.shows machine.new ≡ M.shows machine.old }
     ensures paths { M.paths machine.new ≡ M.paths machine.old }
     ensures refused { IfErr result IsClockRefusal }
 {
-    match told {
+    match named {
         Some(seconds) => Ok(seconds),
         None => clock_seconds(machine),
     }
@@ -91,21 +91,21 @@ fn seconds_of<M: Machine>(told: Option<i64>, machine: &mut M) -> Result<i64, Ref
 ///
 /// It fails with `Clock` when the clock fails or the moment has no day, and with `NoMemory`.
 pub(crate) fn visit_day<S: Alter, M: Machine>(
-    told: Option<i64>,
+    named: Option<i64>,
     desk: &Desk<S>,
     machine: &mut M,
 ) -> Result<i32, Refusal>
-    ensures day { IfOk result (IsDayAt (moment_of told (M.clock machine.old)) desk.now.zone) }
+    ensures day { IfOk result (IsDayAt (moment_of named (M.clock machine.old)) desk.now.zone) }
     ensures files { KeepsFiles M.file_bytes M.sheet_bytes machine.old machine.new }
     ensures shows { M.shows machine.new ≡ M.shows machine.old }
     ensures asked { M.paths machine.new ≡ M.paths machine.old }
     ensures in_range { IfOk result IsDay }
-    ensures told { IfSome told (λ seconds.
+    ensures named { IfSome named (λ seconds.
         (HasDay seconds → result ≡ Ok (day_number seconds desk.now.zone)) × (¬ HasDay seconds → result ≡ Err Refusal.Clock)) }
-    ensures dayless { IsDayless (moment_of told (M.clock machine.old)) result }
+    ensures dayless { IsDayless (moment_of named (M.clock machine.old)) result }
     ensures refused { IfErr result IsClockRefusal }
 {
-    let seconds = seconds_of(told, machine)?;
+    let seconds = seconds_of(named, machine)?;
     match desk.day(seconds) {
         Ok(day) => Ok(day),
         Err(DayFault::OutOfRange) => Err(Refusal::Clock),

@@ -6,7 +6,7 @@ ghost use Rattle.rd_program.specs.Doors.Place.{Port};
 ghost use Rattle.rd_program.specs.Leaves.{GivesBack, HasBoth, Leaves, LeavesServe, OnEnded};
 ghost use Rattle.rd_program.specs.Visiting.{RunsVisits, ServesDoor};
 ghost use Rattle.rd_commands.specs.Output.{AppendsPart};
-ghost use Rattle.rd_commands.specs.Refusals.{IsOfDevice};
+ghost use Rattle.rd_commands.specs.Refusals.{IsDeviceOrMemory};
 ghost use Rattle.rd_program.specs.Serving.{RefusesServe, RefusesToEnd, listening_line, serve_text, served_line};
 
 use crate::machine::Machine;
@@ -23,7 +23,7 @@ use std::io::Write;
 fn tell_listening<W: Write>(alloc: Global, port: u16, output: &mut W) -> Result<(), Refusal>
     ensures done { OnOk result (Appends (W.contents output.old) (W.contents output.new) (listening_line port)) }
     ensures cut { OnErr result (AppendsPart (W.contents output.old) (W.contents output.new) (listening_line port)) }
-    ensures refused { IfErr result IsOfDevice }
+    ensures refused { IfErr result IsDeviceOrMemory }
 {
     let mut line = String::new(alloc);
     write!(line, "listening 127.0.0.1:{port}\n")?;
@@ -36,7 +36,7 @@ fn tell_listening<W: Write>(alloc: Global, port: u16, output: &mut W) -> Result<
 fn tell_served<W: Write>(alloc: Global, count: u32, output: &mut W) -> Result<(), Refusal>
     ensures done { OnOk result (Appends (W.contents output.old) (W.contents output.new) (served_line count)) }
     ensures cut { OnErr result (AppendsPart (W.contents output.old) (W.contents output.new) (served_line count)) }
-    ensures refused { IfErr result IsOfDevice }
+    ensures refused { IfErr result IsDeviceOrMemory }
 {
     let mut line = String::new(alloc);
     write!(line, "served {count}\n")?;
@@ -55,7 +55,7 @@ fn serve_visits<W: Write, M: Machine>(
 ) -> Result<Served, Refusal>
     ensures listening { OnOk result (Appends (W.contents output.old) (W.contents output.new) (listening_line ask.entry.port)) }
     ensures cut { OnErr result (AppendsPart (W.contents output.old) (W.contents output.new) (listening_line ask.entry.port)) }
-    ensures refused { IfErr result IsOfDevice }
+    ensures refused { IfErr result IsDeviceOrMemory }
     ensures count { IfOk result (λ served. served.ended ≡ Ended.Count → served.visits ≡ ask.entry.count) }
     ensures lasts { IfOk result (λ _. Lasts M.Disk.Store desk.old.store desk.new.store) }
     ensures unserved { IfErr result (λ _. desk.new.store ≡ desk.old.store) }

@@ -4,9 +4,9 @@ ghost use Rattle.std.specs.Prelude.{◌≡◌, ◌≢◌, ◌⊎◌, IfErr, IfOk
 ghost use Rattle.std.specs.Io.KnownBytes.{Appends};
 ghost use Rattle.rd_policy.specs.Days.{IsDay};
 ghost use Rattle.rd_protocol.specs.Requests.{IsForStaff, IsRequest};
-ghost use Rattle.rd_commands.specs.Refusals.{IsOfDevice};
+ghost use Rattle.rd_commands.specs.Refusals.{IsDeviceOrMemory};
 ghost use Rattle.rd_commands.specs.Shown.{IsShowable};
-ghost use Rattle.rd_program.specs.Asking.{RefusesOnce};
+ghost use Rattle.rd_program.specs.Asking.{RefusesOneQuestion};
 ghost use Rattle.rd_program.specs.Leaves.{IsOfOpenDesk, IsSame, LeavesDesk};
 ghost use Rattle.rd_program.specs.Showing as spec;
 ghost use Rattle.rd_program.specs.Showing.{IsDueOn, IsToShow, OfDesk, RefusesShow, Shows, shown_text};
@@ -50,8 +50,8 @@ fn bytes_of(alloc: Global, body: &Body) -> Result<Vec<u8>, AllocError>
 /// It fails with `NoMemory`, and with `Device` when a write or the flush fails.
 fn write_shown<W: Write>(alloc: Global, reply: &Reply, output: &mut W) -> Result<(), Refusal>
     ensures done { OnOk result (Appends (W.contents output.old) (W.contents output.new) (shown_text reply.now)) }
-    ensures refused { IfErr result (RefusesOnce (W.contents output.old) (W.contents output.new)) }
-    ensures device { IfErr result IsOfDevice }
+    ensures refused { IfErr result (RefusesOneQuestion (W.contents output.old) (W.contents output.new)) }
+    ensures device { IfErr result IsDeviceOrMemory }
 {
     let mut bytes = bytes_of(alloc, &reply.body)?;
     if reply.form == Form::Json {
@@ -85,8 +85,8 @@ pub(crate) fn show<S: Alter + Drop, W: Write>(
     ensures dated { IfErr result (λ refusal. refusal ≢ Refusal.Clock) }
     ensures same { LeavesDesk S.Store IsSame desk.old.store desk.new.store }
 {
-    let told = answer_of(alloc, what, asker, desk);
-    let answer = answer_to_show(told)?;
+    let answered = answer_of(alloc, what, asker, desk);
+    let answer = answer_to_show(answered)?;
     let reply = reply_to(alloc, answer)?;
     write_shown(alloc, &reply, output)?;
     Ok(Done::Whole)

@@ -16,7 +16,7 @@ use Rattle.rd_protocol.specs.declared.refusal.Refusal.TheVariants.{DigestDiffers
 use Rattle.rd_protocol.specs.declared.request.Request.{Request}
 use Rattle.rd_protocol.specs.declared.request.What.{What}
 use Rattle.rd_protocol.specs.declared.request.What.TheVariants.{Survey, Check, Deeds, Takedowns, Keys, Checks, Verdicts, RehearseRule, RehearseDrop, PutImage, PutDeed, PutRule, DropRule, PutKey, DropKey, Unread}
-use Rattle.rd_protocol.proofs.Accepting.{command_accepted, has_accession, has_deed, not_none}
+use Rattle.rd_protocol.proofs.StaffRefusals.{command_accepted, has_accession, has_deed, not_none}
 use Rattle.rd_holdings.proofs.Maps.{get_inserted, get_removed, remove_kept}
 
 -- where a lawful desk is left, a staff key is left

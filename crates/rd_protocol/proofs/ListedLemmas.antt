@@ -46,12 +46,12 @@ abbrev listing_of : ListedImage → Listing
 listing_of listed = record { accession = listed.accession; deed = listed.deed; kind = listed.kind; files = map line_of listed.files }
 
 -- what is made of each line, made of what is shown of it
-lines_told : {B : Type 0} (told : Line → B) → ((line : Line) → told line ≡ told (line_of (listed_of line))) → (lines : List Line)
-    → map told lines ≡ map told (map line_of (map listed_of lines))
-lines_told told same lines =
+lines_told : {B : Type 0} (described : Line → B) → ((line : Line) → described line ≡ described (line_of (listed_of line))) → (lines : List Line)
+    → map described lines ≡ map described (map line_of (map listed_of lines))
+lines_told described same lines =
     (λ i. map (λ line. same line i) lines)
-    ∙ sym (map-map (λ listed. told (line_of listed)) listed_of lines)
-    ∙ sym (map-map told line_of (map listed_of lines))
+    ∙ sym (map-map (λ listed. described (line_of listed)) listed_of lines)
+    ∙ sym (map-map described line_of (map listed_of lines))
 
 -- a listing with these values for its files
 abbrev with_files : Listing → List Data → Data

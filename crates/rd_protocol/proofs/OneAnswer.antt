@@ -36,10 +36,10 @@ use Rattle.rd_protocol.specs.declared.response.Line.{Line}
 use Rattle.rd_protocol.specs.declared.response.Listing.{Listing as Lines}
 use Rattle.rd_protocol.specs.declared.response.Response.{Response}
 use Rattle.rd_protocol.specs.declared.response.Response.TheVariants as response
-use Rattle.rd_protocol.proofs.Ascending.{one_list}
+use Rattle.rd_protocol.proofs.AscendingLists.{one_list}
 use Rattle.rd_protocol.proofs.OneReport.{one_survey}
 use Rattle.rd_protocol.proofs.VerdictLemmas.{one_rehearsal, one_verdicts}
-use Rattle.rd_protocol.proofs.Telling.{told_bytes, told_catalogue, told_check, told_checks, told_deeds, told_done, told_images, told_keys, told_takedowns, told_verdicts, rehearsed_rule, rehearsed_drop, told_listing, told_survey}
+use Rattle.rd_protocol.proofs.ReplyBodies.{told_bytes, told_catalogue, told_check, told_checks, told_deeds, told_done, told_images, told_keys, told_takedowns, told_verdicts, rehearsed_rule, rehearsed_drop, told_listing, told_survey}
 
 -- ---- the file that is asked for
 
@@ -70,8 +70,8 @@ module _ (desk : Desk) (day : ℤ) (request : Request) where
       let image : first.image ≡ second.image = cc (standing, first.standing, second.standing) in
       let audience : first.audience ≡ second.audience = cc (first.caller, second.caller) in
       let kind : one.kind ≡ other.kind = first.of_kind ∙ ap (λ (row : ImageRow). row.kind) image ∙ sym second.of_kind in
-      let file = one_found first.image.kind first.image.bytes one.file other.file first.told
-      (subst (λ (row : ImageRow). IsFound row.kind row.bytes other.file) (sym image) second.told) slot in
+      let file = one_found first.image.kind first.image.bytes one.file other.file first.described
+      (subst (λ (row : ImageRow). IsFound row.kind row.bytes other.file) (sym image) second.described) slot in
       let verdict = same_verdict desk day first.accession second.accession first.audience second.audience one other accession audience file first.decided second.decided in
       λ i. record { kind = kind i; file = file i; verdict = verdict i }
 
@@ -169,7 +169,7 @@ module _ (desk : Desk) (day : ℤ) (badge : Option (List ℕ)) where
         let accession : acc ≡ is.accession = ap (λ (p : ℕ × ℕ). p.0) at in
         let there = ap (get desk.images) accession in
         let same : is.image ≡ image = cc (there, standing, is.standing) in
-        let sound = (told_sound is.image.kind is.image.bytes judged.file is.told).0 (sound_file judged accepted) in
+        let sound = (told_sound is.image.kind is.image.bytes judged.file is.described).0 (sound_file judged accepted) in
         subst (λ (row : ImageRow). IsSoundSlot row.kind row.bytes slot) same
         (subst (IsSoundSlot is.image.kind is.image.bytes) (sym (ap (λ (p : ℕ × ℕ). p.1) at)) sound)
 
@@ -178,8 +178,8 @@ module _ (desk : Desk) (day : ℤ) (badge : Option (List ℕ)) where
         let image : first.image ≡ second.image = cc (first.standing, second.standing) in
         let kind : one.kind ≡ other.kind = first.kind ∙ ap (λ (row : ImageRow). row.kind) image ∙ sym second.kind in
         let bytes : one.image ≡ other.image = first.from_image ∙ ap (λ (row : ImageRow). row.bytes) image ∙ sym second.from_image in
-        let file : one.file ≡ other.file = one_found first.image.kind first.image.bytes one.file other.file first.told
-        (subst (λ (row : ImageRow). IsFound row.kind row.bytes other.file) (sym image) second.told) (first.at_slot ∙ sym second.at_slot) in
+        let file : one.file ≡ other.file = one_found first.image.kind first.image.bytes one.file other.file first.described
+        (subst (λ (row : ImageRow). IsFound row.kind row.bytes other.file) (sym image) second.described) (first.at_slot ∙ sym second.at_slot) in
         λ i. record { kind = kind i; image = bytes i; file = file i }
 
   -- ---- what is told
@@ -249,9 +249,9 @@ module _ (desk : Desk) (day : ℤ) (request : Request) where
   both_done one other after later first second =
       let file = one_asked desk day request first.file second.file first.asked second.asked in
       let audience : first.audience ≡ second.audience = cc (first.caller, second.caller) in
-      let told = subst (λ who. Tells desk who day first.file other request.what) (sym audience)
+      let described = subst (λ who. Tells desk who day first.file other request.what) (sym audience)
       (subst (λ f. Tells desk second.audience day f other request.what) (sym file) second.tells) in
-      (one_told desk day request.badge first.audience first.file one other request.what first.asked first.accepted first.tells told, first.after ∙ sym second.after)
+      (one_told desk day request.badge first.audience first.file one other request.what first.asked first.accepted first.tells described, first.after ∙ sym second.after)
 
   one_answer : (one other : Response) (after later : Desk) → IsAnswered desk day request one after → IsAnswered desk day request other later
       → (one ≡ other) × (after ≡ later)

@@ -10,7 +10,7 @@ use Rattle.rd_cbm.specs.Links.{link_of}
 use Rattle.rd_cbm.specs.declared.chains.End.{End}
 use Rattle.rd_cbm.specs.declared.report.MapReport.{MapReport}
 use Rattle.rd_cbm.proofs.Existence.{ends_once}
-use Rattle.rd_cbm.proofs.Inside.{links_inside, start_inside}
+use Rattle.rd_cbm.proofs.BlockBounds.{links_inside, start_inside}
 use Rattle.rd_cbm.proofs.MapLemmas.{count_once}
 use Rattle.rd_cbm.proofs.OneChain.{one_chain}
 use Rattle.rd_policy.proofs.DateLemmas.{one_text}
@@ -67,5 +67,5 @@ one_survey desk acc one other first second =
     let image : first.image ≡ second.image = cc (first.standing, second.standing) in
     let given : get desk.deeds first.image.deed ≡ Some second.deed = subst (λ (row : ImageRow). get desk.deeds row.deed ≡ Some second.deed) (sym image) second.given in
     let deed : first.deed ≡ second.deed = cc (first.given, given) in
-    one_survey_of acc first.image first.deed one other first.told
-    (subst (λ d. IsSurveyOf acc first.image d other) (sym deed) (subst (λ (row : ImageRow). IsSurveyOf acc row second.deed other) (sym image) second.told))
+    one_survey_of acc first.image first.deed one other first.described
+    (subst (λ d. IsSurveyOf acc first.image d other) (sym deed) (subst (λ (row : ImageRow). IsSurveyOf acc row second.deed other) (sym image) second.described))

@@ -114,9 +114,9 @@ pub read_back : (most : ℕ) (value : Data) → most ≤ 127 → IsReadable most
 read_back most value few is =
     let numbers = has_numbers most value is in
     let low = shallow most value is in
-    let told : tokens (compact_text value) ≡ tree.json_tokens (outline value) =
+    let described : tokens (compact_text value) ≡ tree.json_tokens (outline value) =
     ap tokens (sym (print-outline value)) ∙ tokens-print (tree.json_tokens (outline value)) (ArePrintable-json_tokens (outline value) numbers) in
-    ap (λ ts. option_and_then of_json (option_and_then (λ p. json.if_last p.0 p.1) (json.value max_depth ts))) (told ∙ sym (append-nil (tree.json_tokens (outline value))))
+    ap (λ ts. option_and_then of_json (option_and_then (λ p. json.if_last p.0 p.1) (json.value max_depth ts))) (described ∙ sym (append-nil (tree.json_tokens (outline value))))
     ∙ ap (λ o. option_and_then of_json (option_and_then (λ p. json.if_last p.0 p.1) o)) (value-json_tokens (outline value) max_depth [] (omega (arith, few, low)))
     ∙ value_back most value is
 

@@ -25,7 +25,7 @@ use Rattle.rd_protocol.specs.declared.response.Verdicts.{Verdicts}
 use Rattle.rd_holdings.specs.declared.rows.ImageRow.{ImageRow}
 use Rattle.rd_protocol.proofs.Numbers.{among_keys}
 use Rattle.rd_holdings.proofs.RulesFor.{for_in_order}
-use Rattle.rd_protocol.proofs.Selecting.{among_founds}
+use Rattle.rd_protocol.proofs.ListedFiles.{among_founds}
 
 -- ---- one file and one audience
 
@@ -93,7 +93,7 @@ module _ (acc : ℕ) (now later : FileVerdicts) where
 -- A line of a file, with what both lists of rules say of it.
 record IsOfFile (acc : ℕ) (IsItsFile : Found → Type 0) (rules others : List Rule) (day : ℤ) (difference : Difference) : Type 0 where
   file : Found
-  told : IsItsFile file
+  described : IsItsFile file
   accession : difference.accession ≡ acc
   slot : difference.slot ≡ file.slot
   name : difference.name ≡ file.name
@@ -104,13 +104,13 @@ record IsOfFile (acc : ℕ) (IsItsFile : Found → Type 0) (rules others : List 
 module _ (acc : ℕ) (IsItsFile : Found → Type 0) (rules others : List Rule) (day : ℤ) where
   of_files : (files laters : List FileVerdicts) (difference : Difference) → map (λ file. file.file) files ≡ map (λ file. file.file) laters → All IsItsFile (map (λ file. file.file) files)
       → All (IsDecided rules day) files → All (IsDecided others day) laters → Contains (differences_at acc files laters) difference → IsOfFile acc IsItsFile rules others day difference
-  of_files [] [] difference same told first second (k, within, is) = absurd (let low : k < 0 = within in omega (arith, low))
-  of_files [] (later ∷ laters) difference same told first second there = absurd cc
-  of_files (now ∷ files) [] difference same told first second there = absurd cc
-  of_files (now ∷ files) (later ∷ laters) difference same told first second there =
+  of_files [] [] difference same described first second (k, within, is) = absurd (let low : k < 0 = within in omega (arith, low))
+  of_files [] (later ∷ laters) difference same described first second there = absurd cc
+  of_files (now ∷ files) [] difference same described first second there = absurd cc
+  of_files (now ∷ files) (later ∷ laters) difference same described first second there =
       elim (Contains-append_cases (differences_of acc now later) (differences_at acc files laters) difference there) [
         | inl one ↦ here_at (of_file acc now later difference one)
-        | inr more ↦ of_files files laters difference rest (All-tail IsItsFile now.file (map (λ file. file.file) files) told) (All-tail (IsDecided rules day) now files first) (All-tail (IsDecided others day) later laters second) more
+        | inr more ↦ of_files files laters difference rest (All-tail IsItsFile now.file (map (λ file. file.file) files) described) (All-tail (IsDecided rules day) now files first) (All-tail (IsDecided others day) later laters second) more
       ]
     where
       rest : map (λ (file : FileVerdicts). file.file) files ≡ map (λ (file : FileVerdicts). file.file) laters
@@ -122,7 +122,7 @@ module _ (acc : ℕ) (IsItsFile : Found → Type 0) (rules others : List Rule) (
       here_at : Among acc now later difference → IsOfFile acc IsItsFile rules others day difference
       here_at (audience, is, other) = subst (IsOfFile acc IsItsFile rules others day) (sym is) (record {
         file = now.file;
-        told = All-head IsItsFile now.file (map (λ file. file.file) files) told;
+        described = All-head IsItsFile now.file (map (λ file. file.file) files) described;
         accession = refl;
         slot = refl;
         name = refl;
@@ -177,7 +177,7 @@ module _ (desk after : Desk) (day : ℤ) (same : after.images ≡ desk.images) w
           image = here.image;
           file = it.file;
           standing = subst (λ n. get desk.images n ≡ Some here.image) number here.standing;
-          found = it.told;
+          found = it.described;
           slot = it.slot;
           name = it.name;
           here = subst (λ n. IsVerdict (Contains (rules_for desk n)) difference.audience day it.file difference.before) number it.here;
@@ -188,7 +188,7 @@ module _ (desk after : Desk) (day : ℤ) (same : after.images ≡ desk.images) w
     in_accession : (difference : Difference) → difference.accession ≡ acc → IsDifference desk after day difference → Contains (differences_at now.accession now.files later.files) difference
     in_accession difference number is =
         let image : is.image ≡ here.image = let mine = subst (λ n. get desk.images n ≡ Some is.image) number is.standing in let theirs = here.standing in cc in
-        let told : IsFound here.image.kind here.image.bytes is.file = subst (λ (row : ImageRow). IsFound row.kind row.bytes is.file) image is.found in
+        let described : IsFound here.image.kind here.image.bytes is.file = subst (λ (row : ImageRow). IsFound row.kind row.bytes is.file) image is.found in
         let before : (one : FileVerdicts) → one.file ≡ is.file → IsDecided (rules_for desk acc) day one → verdict_for difference.audience one ≡ difference.before =
         λ one file decided. one_verdict (rules_for desk acc) difference.audience day is.file (verdict_for difference.audience one) difference.before (for_in_order desk acc)
         (subst (λ f. IsVerdict (Contains (rules_for desk acc)) difference.audience day f (verdict_for difference.audience one)) file (decided difference.audience))
@@ -198,7 +198,7 @@ module _ (desk after : Desk) (day : ℤ) (same : after.images ≡ desk.images) w
         (subst (λ f. IsVerdict (Contains (rules_for after acc)) difference.audience day f (verdict_for difference.audience one)) file (decided difference.audience))
         (subst (λ n. IsVerdict (Contains (rules_for after n)) difference.audience day is.file difference.after) number is.there) in
         let it = in_files now.accession (IsFound here.image.kind here.image.bytes) (rules_for desk acc) (rules_for after acc) day now.files later.files is.file difference.audience same_files
-        here.files.decided there.files.decided (among_founds here.image.kind here.image.bytes (map (λ file. file.file) now.files) is.file here.files.all told)
+        here.files.decided there.files.decided (among_founds here.image.kind here.image.bytes (map (λ file. file.file) now.files) is.file here.files.all described)
         (λ one two first second mine theirs equal. is.other (ap (λ (v : Verdict). v.effect) (sym (before one first mine)) ∙ equal ∙ ap (λ (v : Verdict). v.effect) (later_on two second theirs))) in
         let number_is : now.accession ≡ difference.accession = here.accession ∙ sym number in
         let slot_is : it.0.file.slot ≡ difference.slot = ap (λ (f : Found). f.slot) it.2 ∙ sym is.slot in

@@ -260,21 +260,21 @@ few_pass num es =
     let some = length-filter passes es in
     omega (arith, all, some)
 
-module _ (desk : Desk) (told : IsListable desk) where
+module _ (desk : Desk) (described : IsListable desk) where
   rule_at : (band : Band) (scope : ℕ) (rule : Rule) → Has (rules_at desk band scope) rule → IsRuleAt band scope rule
   rule_at band scope rule there =
       let is = stands_here desk band scope rule there in
-      record { lawful = (told.lawful.rules (place_of rule) (terms_of rule) is.0).0; of_band = is.1; of_scope = is.2 }
+      record { lawful = (described.lawful.rules (place_of rule) (terms_of rule) is.0).0; of_band = is.1; of_scope = is.2 }
 
   deed_at : (line : DeedLine) → Has (deed_lines desk) line → IsDeedLine line × IsReadable 4 (deed_data line)
   deed_at line there =
       let it = from_map (deed_line desk) (entries desk.deeds) line there in
-      let is = told.lawful.deeds it.0.0 it.0.1 (entry_got nat_cmp number_order desk.deeds it.0.0 it.0.1 it.1) in
+      let is = described.lawful.deeds it.0.0 it.0.1 (entry_got nat_cmp number_order desk.deeds it.0.0 it.0.1 it.1) in
       subst (λ (l : DeedLine). IsDeedLine l × IsReadable 4 (deed_data l)) (sym it.2) (
         record { signed = is.signed; rules = rule_at Deed it.0.0 },
         (
           refl,
-          (omega (arith, told.few, few_pass it.0.0 (entries desk.images))),
+          (omega (arith, described.few, few_pass it.0.0 (entries desk.images))),
           (
             refl,
             (omega (arith, is.scope)),
@@ -290,7 +290,7 @@ module _ (desk : Desk) (told : IsListable desk) where
   takedown_at : (line : TakedownLine) → Has (takedown_lines desk) line → IsTakedownLine line × IsReadable 4 (takedown_data line)
   takedown_at line there =
       let it = from_map (takedown_line desk) (entries desk.images) line (from_filter (λ (l : TakedownLine). has_rules l.rules) (map (takedown_line desk) (entries desk.images)) line there) in
-      let is = (told.lawful.images it.0.0 it.0.1 (entry_got nat_cmp number_order desk.images it.0.0 it.0.1 it.1)).0 in
+      let is = (described.lawful.images it.0.0 it.0.1 (entry_got nat_cmp number_order desk.images it.0.0 it.0.1 it.1)).0 in
       subst (λ (l : TakedownLine). IsTakedownLine l × IsReadable 4 (takedown_data l)) (sym it.2) (
         rule_at Takedown it.0.0,
         (refl, (omega (arith, is.scope)), (refl, each_readable 2 rule_data (rules_at desk Takedown it.0.0) (λ rule here. rule_readable rule (rule_at Takedown it.0.0 rule here).lawful), tt)),
@@ -299,7 +299,7 @@ module _ (desk : Desk) (told : IsListable desk) where
   key_at : (line : KeyLine) → Has (key_lines desk) line → IsKeyLine line × IsReadable 4 (key_data line)
   key_at line there =
       let it = from_map (λ e. record { digest = e.0; audience = e.1 }) (entries desk.keys) line there in
-      let is = told.digests it.0.0 it.0.1 (entry_got digest_cmp digest_order desk.keys it.0.0 it.0.1 it.1) in
+      let is = described.digests it.0.0 it.0.1 (entry_got digest_cmp digest_order desk.keys it.0.0 it.0.1 it.1) in
       subst (λ (l : KeyLine). IsKeyLine l × IsReadable 4 (key_data l)) (sym it.2) (is, (refl, tt, (refl, tt, tt)))
 
 -- replies with one list as their text have the same list

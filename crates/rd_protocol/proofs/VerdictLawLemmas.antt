@@ -31,13 +31,13 @@ use Rattle.rd_protocol.specs.declared.response.Line.{Line}
 use Rattle.rd_protocol.specs.declared.response.Listing.{Listing}
 use Rattle.rd_protocol.specs.declared.response.Response.TheVariants.{File}
 use Rattle.rd_protocol.specs.declared.response.Verdicts.{Verdicts}
-use Rattle.rd_protocol.proofs.Accepting.{not_none}
-use Rattle.rd_protocol.proofs.Cataloguing.{listings_are}
+use Rattle.rd_protocol.proofs.StaffRefusals.{not_none}
+use Rattle.rd_protocol.proofs.CatalogueLemmas.{listings_are}
 use Rattle.rd_protocol.proofs.Numbers.{among_keys}
 use Rattle.rd_protocol.proofs.OneAnswer.{named, one_listings, sound_file}
-use Rattle.rd_protocol.proofs.Reading.{read_answered}
+use Rattle.rd_protocol.proofs.FileReplies.{read_answered}
 use Rattle.rd_holdings.proofs.RulesFor.{for_in_order}
-use Rattle.rd_protocol.proofs.Selecting.{among_founds, lines_are}
+use Rattle.rd_protocol.proofs.ListedFiles.{among_founds, lines_are}
 
 -- ---- the catalogue
 
@@ -121,10 +121,10 @@ file_among rules day (first ∷ files) file all (suc k, within, is) =
 decided_at : (rules : List Rule) (day : ℤ) (files : List FileVerdicts) (one : FileVerdicts) → All (IsDecided rules day) files → Contains files one → IsDecided rules day one
 decided_at rules day files one all there = subst (IsDecided rules day) there.2 (all there.0 one there.1)
 
-told_at : (P : Found → Type 0) (files : List FileVerdicts) (one : FileVerdicts) → All P (map (λ file. file.file) files) → Contains files one → P one.file
-told_at P [] one all (k, within, is) = absurd (let low : k < 0 = within in omega (arith, low))
-told_at P (first ∷ files) one all (zero, within, is) = subst (λ (it : FileVerdicts). P it.file) is (All-head P first.file (map (λ file. file.file) files) all)
-told_at P (first ∷ files) one all (suc k, within, is) = told_at P files one (All-tail P first.file (map (λ file. file.file) files) all) (k, omega (arith, within), is)
+described_at : (P : Found → Type 0) (files : List FileVerdicts) (one : FileVerdicts) → All P (map (λ file. file.file) files) → Contains files one → P one.file
+described_at P [] one all (k, within, is) = absurd (let low : k < 0 = within in omega (arith, low))
+described_at P (first ∷ files) one all (zero, within, is) = subst (λ (it : FileVerdicts). P it.file) is (All-head P first.file (map (λ file. file.file) files) all)
+described_at P (first ∷ files) one all (suc k, within, is) = described_at P files one (All-tail P first.file (map (λ file. file.file) files) all) (k, omega (arith, within), is)
 
 module _ (desk : Desk) (badge : Option (List ℕ)) (audience : Audience) (day : ℤ) (all : List Verdicts) (bytes : HoldsBytes desk)
     (caller : audience_of desk badge ≡ Some audience) (are : AreVerdicts desk day all) (acc slot : ℕ) where
@@ -138,9 +138,9 @@ module _ (desk : Desk) (badge : Option (List ℕ)) (audience : Audience) (day : 
       let accession : is.accession ≡ acc = sym (ap (λ (p : ℕ × ℕ). p.0) at) in
       let there = found_in desk day (keys desk.images) all is.accession are (among_keys desk.images is.accession is.image is.standing) in
       let image : there.2.image ≡ is.image = let one = there.2.standing in let other = is.standing in cc in
-      let told : IsFound there.2.image.kind there.2.image.bytes judged.file = subst (λ (row : ImageRow). IsFound row.kind row.bytes judged.file) (sym image) is.told in
+      let described : IsFound there.2.image.kind there.2.image.bytes judged.file = subst (λ (row : ImageRow). IsFound row.kind row.bytes judged.file) (sym image) is.described in
       let file = file_among (rules_for desk is.accession) day there.0.files judged.file there.2.files.decided
-      (among_founds there.2.image.kind there.2.image.bytes (map (λ file. file.file) there.0.files) judged.file there.2.files.all told) in
+      (among_founds there.2.image.kind there.2.image.bytes (map (λ file. file.file) there.0.files) judged.file there.2.files.all described) in
       let who : is.audience ≡ audience = let one = is.caller in cc in
       let mine : IsVerdict (Contains (rules_for desk is.accession)) audience day judged.file judged.verdict =
       subst (λ who. IsVerdict (Contains (rules_for desk is.accession)) who day judged.file judged.verdict) who is.decided in
@@ -181,7 +181,7 @@ module _ (desk : Desk) (badge : Option (List ℕ)) (audience : Audience) (day : 
             caller = caller;
             standing = stands;
             of_kind = refl;
-            told = found.1;
+            described = found.1;
             decided = verdict.1;
           }))))
 
@@ -194,12 +194,12 @@ module _ (desk : Desk) (badge : Option (List ℕ)) (audience : Audience) (day : 
   served lets =
       let of_it : IsVerdictsOf desk day acc lets.one = subst (λ n. IsVerdictsOf desk day n lets.one) lets.accession (each_of desk day (keys desk.images) all lets.one are lets.among) in
       let holding : Standing = record { image = of_it.image; rules = rules_for desk acc } in
-      let told : IsFound of_it.image.kind of_it.image.bytes lets.file.file =
-      told_at (IsFound of_it.image.kind of_it.image.bytes) lets.one.files lets.file of_it.files.all.each lets.inside in
+      let described : IsFound of_it.image.kind of_it.image.bytes lets.file.file =
+      described_at (IsFound of_it.image.kind of_it.image.bytes) lets.one.files lets.file of_it.files.all.each lets.inside in
       let decided = decided_at (rules_for desk acc) day lets.one.files lets.file of_it.files.decided lets.inside audience in
       let done = read_answered desk day badge audience acc slot holding caller of_it.standing refl
       (File (record { kind = of_it.image.kind; image = of_it.image.bytes; file = lets.file.file }))
-      (lets.file.file, verdict_for audience lets.file, record { told = told; at_slot = lets.at_slot; decided = decided }, (lets.read, lets.sound, refl)) in
+      (lets.file.file, verdict_for audience lets.file, record { described = described; at_slot = lets.at_slot; decided = decided }, (lets.read, lets.sound, refl)) in
       record { file = done.file; asked = done.asked; accepted = done.accepted }
 
 -- a file is served exactly where the verdicts let the caller read it

@@ -26,7 +26,7 @@ use Rattle.rd_protocol.specs.declared.response.Reply.{Reply}
 -- The rules let an audience read this file of an image on a day.
 pub record IsReadFile (image : ImageRow) (rules : List Rule) (audience : Audience) (day : ℤ) (file : Found) : Type 0 where
   pub verdict : Verdict
-  pub told : IsFound image.kind image.bytes file
+  pub described : IsFound image.kind image.bytes file
   pub decided : IsVerdict (Contains rules) audience day file verdict
   pub read : verdict.effect ≡ Read
 
@@ -101,8 +101,8 @@ DecidesReplies AreAlike = (desk other : Desk) (audience : Audience) (day : ℤ) 
     → IsReply desk day request reply new → (same : Reply) × ReadsTheSame reply same × IsReply other day request same other
 
 -- desks that look alike to a caller reply the same to them: hidden bytes do not show
-abbrev pub HiddenBytesAreNotTold : Type 0
-HiddenBytesAreNotTold = DecidesReplies LooksAlike
+abbrev pub HiddenBytesDoNotShow : Type 0
+HiddenBytesDoNotShow = DecidesReplies LooksAlike
 
 -- desks that show the same to a caller reply the same to them: what is shown decides
 abbrev pub WhatIsShownDecides : Type 0

@@ -90,7 +90,7 @@ pub record IsJudgedFile (desk : Desk) (day : ℤ) (request : Request) (judged : 
   pub caller : audience_of desk request.badge ≡ Some audience
   pub standing : get desk.images accession ≡ Some image
   pub of_kind : judged.kind ≡ image.kind
-  pub told : IsFound image.kind image.bytes judged.file
+  pub described : IsFound image.kind image.bytes judged.file
   pub decided : IsVerdict (Contains (rules_for desk accession)) audience day judged.file judged.verdict
 
 -- what the request asks for: that file, or none if there is no such file or the caller is unknown

@@ -10,7 +10,7 @@ abbrev pub lent_kept : Inside → Lent
 lent_kept kept = record { kind = kept.kind; image = kept.image; file = kept.file }
 
 -- Contents are kept of an image of the kind and a sound file that lies in it, and their bytes are counted.
-pub record IsKept (kept : Inside) : Type 0 where
+pub record AreOfSoundFile (kept : Inside) : Type 0 where
   pub sized : length kept.image ≡ size_of kept.kind
   pub sound : IsSoundFile kept.file
   pub fits : Fits kept.kind kept.file

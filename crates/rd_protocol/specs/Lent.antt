@@ -25,7 +25,7 @@ pub record CanBeLent (kind : Kind) (image : List ℕ) (file : Found) : Type 0 wh
   pub countable : length (contents_of kind image file) < 2 ^ 64
 
 -- What contracts see of a body: its bytes, and the image and the file of it that it lends them from; or
--- nothing in place of these, where the bytes are its own. `Bodies.body_of` gives it of each body.
+-- nothing in place of these, where the bytes are its own. `Bodies.body_of` is the view of a body.
 pub record BodyView : Type 0 where
   pub bytes : List ℕ
   pub lent : Option Lent

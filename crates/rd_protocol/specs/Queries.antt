@@ -44,7 +44,7 @@ IsWithheld kind rules audience day file refusal =
 
 -- This file has the slot, and this is the verdict on it.
 pub record IsAtSlot (holding : Standing) (audience : Audience) (day : ℤ) (slot : ℕ) (file : Found) (verdict : Verdict) : Type 0 where
-  pub told : IsFound holding.image.kind holding.image.bytes file
+  pub described : IsFound holding.image.kind holding.image.bytes file
   pub at_slot : file.slot ≡ slot
   pub decided : IsVerdict (Contains holding.rules) audience day file verdict
 

@@ -36,7 +36,7 @@ use Rattle.rd_protocol.specs.declared.response.Survey.{Survey as Surveyed}
 -- A listed file of an image: described correctly, with the verdict of the rules on it, which is
 -- not to deny.
 pub record IsLine (image : ImageRow) (rules : List Rule) (audience : Audience) (day : ℤ) (line : Line) : Type 0 where
-  pub told : IsFound image.kind image.bytes line.file
+  pub described : IsFound image.kind image.bytes line.file
   pub decided : IsVerdict (Contains rules) audience day line.file line.verdict
   pub shown : line.verdict.effect ≢ Deny
 
@@ -83,7 +83,7 @@ pub record LendsFile (desk : Desk) (acc slot : ℕ) (lent : Lent) : Type 0 where
   pub kind : lent.kind ≡ image.kind
   pub from_image : lent.image ≡ image.bytes
   pub at_slot : lent.file.slot ≡ slot
-  pub told : IsFound image.kind image.bytes lent.file
+  pub described : IsFound image.kind image.bytes lent.file
   pub are : AreBytesOf image.kind image.bytes slot (bytes_lent lent)
 
 -- All accessions, ascending, each as it is listed: each of these is one, and none is left out.
@@ -107,7 +107,7 @@ pub record IsSurvey (desk : Desk) (acc : ℕ) (survey : Surveyed) : Type 0 where
   pub deed : DeedRow
   pub standing : get desk.images acc ≡ Some image
   pub given : get desk.deeds image.deed ≡ Some deed
-  pub told : IsSurveyOf acc image deed survey
+  pub described : IsSurveyOf acc image deed survey
 
 -- ---- what becomes of the desk
 

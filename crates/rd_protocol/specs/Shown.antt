@@ -19,7 +19,7 @@ use Rattle.rd_protocol.specs.declared.response.Line.{Line}
 pub record IsDeniedAt (image : ImageRow) (rules : List Rule) (audience : Audience) (day : ℤ) (slot : ℕ) (label : Label) : Type 0 where
   pub file : Found
   pub at_slot : file.slot ≡ slot
-  pub told : IsFound image.kind image.bytes file
+  pub described : IsFound image.kind image.bytes file
   pub decided : IsVerdict (Contains rules) audience day file (record { effect = Deny; label = label })
 
 -- What is shown of a listed file: what a listing says of it, and whether its class is served. Where its bytes lie is
@@ -50,13 +50,13 @@ listed_of line = record {
 -- A file of the image is listed, and this is shown of it.
 pub record IsListedAs (image : ImageRow) (rules : List Rule) (audience : Audience) (day : ℤ) (listed : ListedFile) : Type 0 where
   pub line : Line
-  pub told : IsLine image rules audience day line
+  pub described : IsLine image rules audience day line
   pub shown : listed_of line ≡ listed
 
 -- The rules let the audience read this file of the image, which is sound, and these are its bytes.
 pub record AreReadOf (image : ImageRow) (rules : List Rule) (audience : Audience) (day : ℤ) (file : Found) (bytes : List ℕ) : Type 0 where
   pub label : Label
-  pub told : IsFound image.kind image.bytes file
+  pub described : IsFound image.kind image.bytes file
   pub decided : IsVerdict (Contains rules) audience day file (record { effect = Read; label = label })
   pub sound : IsSoundSlot image.kind image.bytes file.slot
   pub are : AreBytesOf image.kind image.bytes file.slot bytes

@@ -63,7 +63,7 @@ pub(crate) fn faults(alloc: Global, kind: Kind, faults: u8) -> Result<Text, NoMe
 }
 
 /// The cells of a file of an accession, in the order of the columns.
-fn cells(alloc: Global, listing: &Listing, line: &Line) -> Result<[Text; 11], NoMemory>
+fn catalogue_cells(alloc: Global, listing: &Listing, line: &Line) -> Result<[Text; 11], NoMemory>
     ensures { IfOk result (λ cells. cells ≡ record_of listing.now line.now) }
 {
     let accession = number(alloc, Some(listing.accession))?;
@@ -118,7 +118,7 @@ fn write_line(
     ensures { (text : List ℕ) → HasWritten writer.old text
         → OnOk result (HasWritten writer.new (text ++ row_text default_writer (record_of listing.now line.now))) }
 {
-    let cells = cells(alloc, listing, line)?;
+    let cells = catalogue_cells(alloc, listing, line)?;
     write_cells(alloc, writer, &cells)
 }
 

@@ -23,11 +23,11 @@ impl Model for Contents {
 
     ghost Value = { Lent };
 
-    ghost use Rattle.rd_protocol.specs.Kept.{IsKept, lent_kept};
+    ghost use Rattle.rd_protocol.specs.Kept.{AreOfSoundFile, lent_kept};
 
     ghost view = { lent_kept };
 
-    ghost invariant = { IsKept };
+    ghost invariant = { AreOfSoundFile };
 }
 
 /// How many bytes the pieces of a file have together; `None` if they cannot be lent.

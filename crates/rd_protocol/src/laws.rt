@@ -1,6 +1,6 @@
 //! Laws of requests and replies. No code calls them.
 
-ghost use Rattle.rd_protocol.specs.Hidden.{HiddenBytesAreNotTold, LooksAlikeShowsTheSame, ShowsItself, WhatIsShownDecides};
+ghost use Rattle.rd_protocol.specs.Hidden.{HiddenBytesDoNotShow, LooksAlikeShowsTheSame, ShowsItself, WhatIsShownDecides};
 ghost use Rattle.rd_protocol.specs.RehearsalLaws.{RehearsalsAreExact};
 ghost use Rattle.rd_protocol.specs.StaffListLaws.{StaffListsTellAll};
 ghost use Rattle.rd_protocol.specs.RuleTexts.{RulesAreReadBack};
@@ -37,7 +37,7 @@ pub fn same_again()
 /// caller may read. So no other byte of an image reaches the caller in a reply. The law leaves out what the staff asks
 /// and only the staff may ask.
 pub fn hidden_bytes_are_not_told()
-    ensures { HiddenBytesAreNotTold }
+    ensures { HiddenBytesDoNotShow }
 {}
 
 /// Law: two desks that show the same to a caller on a day give the same reply to each request of the caller on that day.

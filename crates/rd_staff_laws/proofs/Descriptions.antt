@@ -13,7 +13,7 @@ use Rattle.rd_volume.specs.NeededLaw.{tell_the_same}
 use Rattle.rd_volume.specs.Volumes.{AreFounds, IsSlotOfFile}
 use Rattle.rd_volume.specs.declared.found.Found.{Found}
 use Rattle.rd_volume.proofs.Existence.{file_at}
-use Rattle.rd_volume.proofs.FoundFile.{told_slot}
+use Rattle.rd_volume.proofs.FoundFile.{described_slot}
 use Rattle.rd_protocol.specs.Rehearsals.{IsRehearsal}
 use Rattle.rd_protocol.specs.Replies.{Tells}
 use Rattle.rd_protocol.specs.StaffLists.{accessions_under, check_lines, deed_line, deed_lines, has_rules, key_lines, takedown_lines}
@@ -265,8 +265,8 @@ needed_bytes_describe kind bytes others agrees =
 pub descriptions_suffice : DescriptionsSuffice
 descriptions_suffice kind bytes others first second same = record {
   slots = λ slot. (
-    λ is. let it = file_at kind bytes first slot is in subst (IsSlotOfFile kind others) it.2 (told_slot kind others it.0 ((same it.0).0 it.1)),
-    λ is. let it = file_at kind others second slot is in subst (IsSlotOfFile kind bytes) it.2 (told_slot kind bytes it.0 ((same it.0).1 it.1)),
+    λ is. let it = file_at kind bytes first slot is in subst (IsSlotOfFile kind others) it.2 (described_slot kind others it.0 ((same it.0).0 it.1)),
+    λ is. let it = file_at kind others second slot is in subst (IsSlotOfFile kind bytes) it.2 (described_slot kind bytes it.0 ((same it.0).1 it.1)),
   );
   files = same;
 }

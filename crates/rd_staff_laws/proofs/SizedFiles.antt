@@ -45,13 +45,13 @@ cbm_sized image blocks found is sized = elim (cases_Bool found.served_class) [
 
 -- a file whose size is given is sound
 sound_if_sized : (kind : Kind) (image : List ℕ) (found : Found) → IsFound kind image found → IsSome found.size → IsSoundFile found
-sound_if_sized Cpm8 image found told sized = cpm_sized image found told sized
-sound_if_sized _ image found told sized = cbm_sized image told.blocks found told.holds sized
+sound_if_sized Cpm8 image found described sized = cpm_sized image found described sized
+sound_if_sized _ image found described sized = cbm_sized image described.blocks found described.holds sized
 
 -- and the size of a sound file is given
 sized_if_sound : (kind : Kind) (image : List ℕ) (found : Found) → IsFound kind image found → IsSoundFile found → IsSome found.size
-sized_if_sound Cpm8 image found told sound = given found.size (length (contents_of Cpm8 image found)) (cpm_total image found told sound)
-sized_if_sound kind image found told sound = given found.size (length (contents_of kind image found)) (cbm_total kind refl image found told sound)
+sized_if_sound Cpm8 image found described sound = given found.size (length (contents_of Cpm8 image found)) (cpm_total image found described sound)
+sized_if_sound kind image found described sound = given found.size (length (contents_of kind image found)) (cbm_total kind refl image found described sound)
 
 -- ---- the files of the verdicts
 
@@ -64,17 +64,17 @@ each_of desk day (acc ∷ accs) (first ∷ all) one zip (zero, within, is) =
 each_of desk day (acc ∷ accs) (first ∷ all) one zip (suc k, within, is) = each_of desk day accs all one zip.1 (k, omega (arith, within), is)
 
 -- and each of its files is one of the image
-told_at : (P : Found → Type 0) (files : List FileVerdicts) (one : FileVerdicts) → All P (map (λ file. file.file) files) → Contains files one → P one.file
-told_at P [] one all (k, within, is) = absurd (let low : k < 0 = within in omega (arith, low))
-told_at P (first ∷ files) one all (zero, within, is) = subst (λ (it : FileVerdicts). P it.file) is (All-head P first.file (map (λ file. file.file) files) all)
-told_at P (first ∷ files) one all (suc k, within, is) = told_at P files one (All-tail P first.file (map (λ file. file.file) files) all) (k, omega (arith, within), is)
+described_at : (P : Found → Type 0) (files : List FileVerdicts) (one : FileVerdicts) → All P (map (λ file. file.file) files) → Contains files one → P one.file
+described_at P [] one all (k, within, is) = absurd (let low : k < 0 = within in omega (arith, low))
+described_at P (first ∷ files) one all (zero, within, is) = subst (λ (it : FileVerdicts). P it.file) is (All-head P first.file (map (λ file. file.file) files) all)
+described_at P (first ∷ files) one all (suc k, within, is) = described_at P files one (All-tail P first.file (map (λ file. file.file) files) all) (k, omega (arith, within), is)
 
 module _ (desk : Desk) (day : ℤ) (all : List Verdicts) (are : AreVerdicts desk day all) where
   sound_where_sized : (one : Verdicts) (file : FileVerdicts) → Contains all one → Contains one.files file → IsSoundFile file.file ↔ IsSome file.file.size
   sound_where_sized one file among inside =
       let of_it = each_of desk day (keys desk.images) all one are among in
-      let told = told_at (IsFound of_it.image.kind of_it.image.bytes) one.files file of_it.files.all.each inside in
-      (sized_if_sound of_it.image.kind of_it.image.bytes file.file told, sound_if_sized of_it.image.kind of_it.image.bytes file.file told)
+      let described = described_at (IsFound of_it.image.kind of_it.image.bytes) one.files file of_it.files.all.each inside in
+      (sized_if_sound of_it.image.kind of_it.image.bytes file.file described, sound_if_sized of_it.image.kind of_it.image.bytes file.file described)
 
 pub served_where_sized : ServedWhereSized
 served_where_sized desk badge audience day all bytes caller are acc slot =

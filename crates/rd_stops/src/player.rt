@@ -2,8 +2,8 @@
 
 use crate::drive::Sort;
 use crate::files::{File, Pair, Stop, syncs_of};
-use crate::judging::{Counts, Outcome, Stopped, outcome_of};
 use crate::leavings::{Kept, Left, leavings};
+use crate::outcomes::{Counts, Outcome, Stopped, outcome_of};
 use crate::running::{Ending, Ran, Report, carry_out};
 use crate::runs::{Run, Stops, Wanted};
 use crate::seen::Seen;

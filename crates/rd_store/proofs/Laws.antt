@@ -10,7 +10,7 @@ use Rattle.rd_tables.specs.Schemas.{marks_table}
 use Rattle.rd_holdings.specs.State.{Desk}
 use Rattle.std.specs.FinMap.{get}
 use Rattle.rd_store.specs.Spelled.{desk_of, index_of}
-use Rattle.rd_store.proofs.FilesFound.{files_in, files_of}
+use Rattle.rd_store.proofs.IndexQueries.{files_in, files_of}
 use Rattle.rd_store.specs.Opened.{HoldsMarksIf}
 use Rattle.rd_store.specs.Held.{Holds, IsAtRest, IsLeft, HoldsDesk, HoldsTables, HoldsCommonTables, Lasts, LeavesOld, LeavesOnly, Stays, IsOpen, IsClean, desk}
 
@@ -32,8 +32,8 @@ module _ {S : Type 0} (g : Ghosts S) (laws : Laws g) where
       let at = holds is_open in
       left_is (desk g h) (state g h).now left at.holds (laws.settles h.store left is_open may ∙ ap (λ (db : Database). db.trees) at.tables.settled)
 
-  pub is_at_rest : (h : Held S) → HoldsDesk (state g h) → IsAtRest g h
-  is_at_rest h holds = record {
+  pub holds_between_calls : (h : Held S) → HoldsDesk (state g h) → IsAtRest g h
+  holds_between_calls h holds = record {
     tables = λ is_open. (holds is_open).tables.schema;
     lawful = λ is_open. (holds is_open).holds.lawful;
     files = λ is_open acc.

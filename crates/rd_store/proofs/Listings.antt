@@ -5,13 +5,13 @@ use Rattle.sqlite.specs.State.{State, Shown}
 use Rattle.rd_tables.specs.Asked.{IsPicked}
 use Rattle.rd_tables.specs.Schemas.{desk_schema}
 use Rattle.rd_tables.proofs.QueryTexts.{all_deeds_asks, all_rules_asks, all_keys_asks, all_checks_asks, all_files_asks, all_marks_asks}
-use Rattle.rd_tables.proofs.Reading.{shown_picks}
-use Rattle.rd_store.specs.declared.opening.Listing.{Listing}
-use Rattle.rd_store.specs.declared.opening.Listing.TheVariants.{Deeds, Rules, Keys, Checks, Files, Marks}
+use Rattle.rd_tables.proofs.QueryEffects.{shown_picks}
+use Rattle.rd_store.specs.declared.opening.TableListing.{TableListing}
+use Rattle.rd_store.specs.declared.opening.TableListing.TheVariants.{Deeds, Rules, Keys, Checks, Files, Marks}
 use Rattle.rd_store.specs.Held.{IsReadable}
 use Rattle.rd_store.specs.Opened.{HoldsListed, listing_text, listing_query, listing_tree}
 
-pub listing_reads : (table : Listing) (s : State) → HoldsListed table s → IsTrue s.is_open → IsReadable (listing_text table) s
+pub listing_reads : (table : TableListing) (s : State) → HoldsListed table s → IsTrue s.is_open → IsReadable (listing_text table) s
 listing_reads Deeds s held is_open = let at = held is_open in record { over = _; rests = at.rests; plain = (all_deeds_asks at.more).plain }
 listing_reads Rules s held is_open = let at = held is_open in record { over = _; rests = at.rests; plain = (all_rules_asks at.more).plain }
 listing_reads Keys s held is_open = let at = held is_open in record { over = _; rests = at.rests; plain = (all_keys_asks at.more).plain }
@@ -19,7 +19,7 @@ listing_reads Checks s held is_open = let at = held is_open in record { over = _
 listing_reads Files s held is_open = let at = held is_open in record { over = _; rests = at.rests; plain = (all_files_asks at.more).plain }
 listing_reads Marks s held is_open = record { over = desk_schema; rests = held is_open; plain = all_marks_asks.plain }
 
-pub listing_picks : (table : Listing) (old new : State) → HoldsListed table old → IsTrue old.is_open → (rows : List Row) → Shown (listing_text table) [] old new rows → IsPicked (listing_query table) [] (old.now.trees (listing_tree table)) rows
+pub listing_picks : (table : TableListing) (old new : State) → HoldsListed table old → IsTrue old.is_open → (rows : List Row) → Shown (listing_text table) [] old new rows → IsPicked (listing_query table) [] (old.now.trees (listing_tree table)) rows
 listing_picks Deeds old new held is_open rows shown = let at = held is_open in shown_picks (all_deeds_asks at.more) [] old new at.rests.schema rows shown
 listing_picks Rules old new held is_open rows shown = let at = held is_open in shown_picks (all_rules_asks at.more) [] old new at.rests.schema rows shown
 listing_picks Keys old new held is_open rows shown = let at = held is_open in shown_picks (all_keys_asks at.more) [] old new at.rests.schema rows shown

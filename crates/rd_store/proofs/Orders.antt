@@ -21,7 +21,7 @@ use Rattle.rd_store.specs.Codes.{kind_code, kind_in, band_in, effect_code, effec
 use Rattle.rd_store.specs.Index.{FileAt, file_cmp}
 use Rattle.rd_holdings.specs.State.{Place, Terms, place_cmp, digest_cmp, checkup_cmp, band_code}
 use Rattle.rd_volume.specs.declared.found.Found.{Found}
-use Rattle.rd_store.specs.Spelled.{key_sheet, rule_sheet, file_sheet, file_shown, file_in}
+use Rattle.rd_store.specs.Spelled.{key_spelling, rule_spelling, file_spelling, file_shown, file_in}
 use Rattle.rd_holdings.proofs.KeyOrders.{number_order as numbers, digest_order as digests, place_order as places, checkup_order as checkups}
 
 -- the orders of the keys, as lemmas of tables take them
@@ -96,10 +96,10 @@ flags_back false false false = refl
 audiences_back : (set : Audiences) → audiences_in (audiences_code set) ≡ set
 audiences_back set = flags_back set.public set.room set.staff
 
-pub key_back : (e : List ℕ × Audience) → key_sheet.entry (key_sheet.columns e) ≡ e
+pub key_back : (e : List ℕ × Audience) → key_spelling.entry (key_spelling.columns e) ≡ e
 key_back e = λ i. (e.0, audience_back e.1 i)
 
-pub rule_back : (e : Place × Terms) → rule_sheet.entry (rule_sheet.columns e) ≡ e
+pub rule_back : (e : Place × Terms) → rule_spelling.entry (rule_spelling.columns e) ≡ e
 rule_back e = λ i. (
   record { band = band_back e.0.band i; scope = e.0.scope; rank = e.0.rank },
   record { audiences = audiences_back e.1.audiences i; from = day_back e.1.from i; until = day_back e.1.until i; select = select_back e.1.select i; effect = effect_back e.1.effect i },
@@ -135,5 +135,5 @@ files_back [] = refl
 files_back (file ∷ files) = ap₂ (λ f fs. f ∷ fs) (file_back file) (files_back files)
 
 -- a file at its own slot
-pub entry_back : (acc : ℕ) (file : Found) → file_sheet.entry (file_sheet.columns (record { acc = acc; slot = file.slot }, file)) ≡ (record { acc = acc; slot = file.slot }, file)
+pub entry_back : (acc : ℕ) (file : Found) → file_spelling.entry (file_spelling.columns (record { acc = acc; slot = file.slot }, file)) ≡ (record { acc = acc; slot = file.slot }, file)
 entry_back acc file = λ i. (record { acc = acc; slot = file.slot }, file_back file i)

@@ -14,27 +14,27 @@ use Rattle.sqlite.specs.Effect.{Database}
 use Rattle.sqlite.specs.Held.{Held, state}
 use Rattle.sqlite.specs.Order.{Row}
 use Rattle.sqlite_rules.specs.Lists.{Has}
-use Rattle.rd_tables.specs.Sheets.{map_of}
+use Rattle.rd_tables.specs.Spellings.{map_of}
 use Rattle.rd_tables.proofs.Entries.{entry_got}
-use Rattle.rd_tables.proofs.Lists.{empty_by_length, map_map, same_truth}
+use Rattle.rd_tables.proofs.ListLemmas.{empty_by_length, map_map, same_truth}
 use Rattle.rd_store.specs.declared.faults.OpenFault.{OpenFault}
 use Rattle.rd_store.specs.declared.images.Heading.{Heading}
 use Rattle.rd_store.specs.declared.register.Register.{Register}
 use Rattle.rd_holdings.specs.declared.rows.ImageRow.{ImageRow}
-use Rattle.rd_store.specs.Cells.{is_one_of}
+use Rattle.rd_store.specs.RowColumns.{is_one_of}
 use Rattle.rd_store.specs.Created.{Turns}
 use Rattle.rd_store.specs.Held.{Changes, IsOf, IsOpen, Stays, desk}
 use Rattle.rd_store.specs.Marks.{joined, kind_with, with_marks}
 use Rattle.rd_store.specs.Migrated.{first_desk}
 use Rattle.rd_store.specs.Opened.{AreKeys}
-use Rattle.rd_store.specs.Register.{IsPlaceIn, IsRegisterOf, IsSameHeading, entry_for, entry_in, given_in, listed, number_of, register_of}
+use Rattle.rd_store.specs.Register.{IsPlaceIn, IsRegisterOf, IsSameHeading, entry_for, entry_in, numbered_accession, listed, number_of, register_of}
 use Rattle.rd_store.specs.Shown.{as_row, heading_of}
-use Rattle.rd_store.specs.Spelled.{desk_of, image_sheet, marks_sheet}
+use Rattle.rd_store.specs.Spelled.{desk_of, image_spelling, marks_spelling}
 use Rattle.rd_holdings.specs.State.{Desk, HasOtherImage, put_or_kept, with_image, registered}
-use Rattle.rd_store.specs.Walked.{image_told}
-use Rattle.rd_store.proofs.Columns.{one_of_shown, one_of_spelled}
-use Rattle.rd_store.proofs.Found.{row_back}
-use Rattle.rd_store.proofs.Joined.{deed_marked, digest_marked, entries_joined, kind_marked}
+use Rattle.rd_store.specs.Walked.{image_columns}
+use Rattle.rd_store.proofs.ColumnValues.{one_of_shown, one_of_spelled}
+use Rattle.rd_store.proofs.QueryResults.{row_back}
+use Rattle.rd_store.proofs.MarkedImages.{deed_marked, digest_marked, entries_joined, kind_marked}
 use Rattle.rd_store.proofs.Orders.{number_order}
 
 abbrev Images : Type 0
@@ -150,8 +150,8 @@ register_empty = sym (ap (map entry_for) (empty_by_length (entries no_images) (s
 pub numbers_told : (images : Images) → map number_of (register_of images) ≡ keys images
 numbers_told images = map_map number_of entry_for (entries images)
 
-pub givens_told : (images : Images) → map given_in (register_of images) ≡ map registered (entries images)
-givens_told images = map_map given_in entry_for (entries images)
+pub givens_told : (images : Images) → map numbered_accession (register_of images) ≡ map registered (entries images)
+givens_told images = map_map numbered_accession entry_for (entries images)
 
 -- the deed of an accession
 pub deed_found : (images : Images) (acc : ℕ) (heading : Heading) → Some heading ≡ option_map heading_of (get images acc) → (image : ImageRow) × (get images acc ≡ Some image) × (heading ≡ heading_of image)
@@ -197,9 +197,9 @@ brought_listed g a b register (Err fault) turns same told = tt
 
 module _ (table : List Row) (marks : FinMap nat_cmp (List ℕ)) (marked : List ℕ) (one : (n : ℕ) → is_one_of marked (Int (pos n)) ≡ is_some (get marks n)) where
   abbrev images : Images
-  images = map_of image_sheet table
+  images = map_of image_spelling table
 
-  one_entry : (e : ℕ × ImageRow) → as_row e.1 ≡ e.1 → entry_in marked (image_told e) ≡ entry_for (e.0, with_marks (get marks e.0) e.1)
+  one_entry : (e : ℕ × ImageRow) → as_row e.1 ≡ e.1 → entry_in marked (image_columns e) ≡ entry_for (e.0, with_marks (get marks e.0) e.1)
   one_entry e back = λ i. (
     e.0,
     record {
@@ -209,11 +209,11 @@ module _ (table : List Row) (marks : FinMap nat_cmp (List ℕ)) (marked : List �
     },
   )
 
-  all_entries : (es : Entries) → ((e : ℕ × ImageRow) → Has es e → as_row e.1 ≡ e.1) → map (entry_in marked) (map image_told es) ≡ map entry_for (map (λ e. (e.0, with_marks (get marks e.0) e.1)) es)
+  all_entries : (es : Entries) → ((e : ℕ × ImageRow) → Has es e → as_row e.1 ≡ e.1) → map (entry_in marked) (map image_columns es) ≡ map entry_for (map (λ e. (e.0, with_marks (get marks e.0) e.1)) es)
   all_entries [] back = refl
   all_entries (e ∷ es) back = ap₂ (λ r rs. r ∷ rs) (one_entry e (back e (inl refl))) (all_entries es (λ other there. back other (inr there)))
 
-  pub entries_told : map (entry_in marked) (map image_told (entries images)) ≡ register_of (joined images marks)
+  pub entries_told : map (entry_in marked) (map image_columns (entries images)) ≡ register_of (joined images marks)
   entries_told = all_entries (entries images) (λ e here. row_back table e.0 e.1 (entry_got nat_cmp number_order images e.0 e.1 here)) ∙ ap (map entry_for) (sym (entries_joined images marks))
 
 -- the accessions with error bytes, where these are the keys of their table
@@ -221,5 +221,5 @@ pub one_marked : (marks : FinMap nat_cmp (List ℕ)) (marked : List ℕ) → Are
 one_marked marks marked are n = same_truth _ _ (λ is. (are n).0 (one_of_spelled marked (Int (pos n)) is).1) (λ some. one_of_shown marked n ((are n).1 some))
 
 -- and where there is none
-pub none_marked : (n : ℕ) → is_one_of [] (Int (pos n)) ≡ is_some (get (map_of marks_sheet []) n)
+pub none_marked : (n : ℕ) → is_one_of [] (Int (pos n)) ≡ is_some (get (map_of marks_spelling []) n)
 none_marked n = sym (ap (λ (o : Option (List ℕ)). is_some o) (get-from_entries number_order.total [] n))

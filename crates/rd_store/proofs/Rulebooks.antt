@@ -12,8 +12,8 @@ use Rattle.sqlite_trees.proofs.ListLemmas.{filter-map}
 use Rattle.rd_policy.specs.declared.rule.Band.{Band}
 use Rattle.rd_policy.specs.declared.rule.Rule.{Rule}
 use Rattle.rd_tables.proofs.Entries.{entries_retained, is_rising}
-use Rattle.rd_tables.proofs.Lists.{filter_same, map_map}
-use Rattle.rd_tables.proofs.Parted.{Turns, between, parted, parted_map, sorted_after}
+use Rattle.rd_tables.proofs.ListLemmas.{filter_same, map_map}
+use Rattle.rd_tables.proofs.TestPlaces.{Turns, between, parted, parted_map, sorted_after}
 use Rattle.rd_store.specs.Ruled.{AreAllRules, is_below, is_up_to, side_of}
 use Rattle.rd_holdings.specs.State.{Desk, Place, Terms, all_rules, place_cmp, place_of, rule_of, rules_at, terms_of, band_code, is_at}
 use Rattle.rd_store.proofs.Orders.{place_order}

@@ -58,13 +58,13 @@ pub record IsNotCreated {S : Type 0} (g : Ghosts S) (old new : Held S) (staff : 
 -- ---- inside
 
 -- So many of the tables are made, all empty.
-pub record IsMade (count : ℕ) (db : Database) : Type 0 where
+pub record HasFirstTables (count : ℕ) (db : Database) : Type 0 where
   pub schema : db.schema ≡ schema_after count
   pub empty : AllByRecursion (λ table. db.trees table.tree ≡ []) (schema_after count).tables
   pub sound : IsDatabase db
 
 -- Outside a transaction, with nothing to commit.
-pub record IsAt (P : Database → Type 0) (s : State) : Type 0 where
+pub record RestsIn (P : Database → Type 0) (s : State) : Type 0 where
   pub settled : s.committed ≡ s.now
   pub autocommit : s.in_transaction ≡ false
   pub holds : P s.now
@@ -73,7 +73,7 @@ pub record IsAt (P : Database → Type 0) (s : State) : Type 0 where
 -- old one.
 pub record Turns {S T X : Type 0} (g : Ghosts S) (old new : Held S) (After : Database → Type 0) (result : Result T X) : Type 0 where
   pub lasts : Lasts g old new
-  pub ok : IsOpen g new → OnOk result (IsAt After (state g new))
-  pub err : IsOpen g new → OnErr result (IsAt (λ db. db ≡ (state g old).now) (state g new))
+  pub ok : IsOpen g new → OnOk result (RestsIn After (state g new))
+  pub err : IsOpen g new → OnErr result (RestsIn (λ db. db ≡ (state g old).now) (state g new))
   pub ends_open : LeavesOpen g new result
   pub crash : IsOpen g old → IsClean g new → (left : Trees) → g.recovers new.store left → g.recovers old.store left ⊎ ((db : Database) × After db × (left ≡ db.trees))

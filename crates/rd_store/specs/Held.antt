@@ -21,7 +21,7 @@ use Rattle.rd_store.specs.Index.{AreFilesIn, IsIndexOf, file_cmp}
 use Rattle.rd_store.specs.Spelled.{SpellDesk, HaveOwnRowids, desk_of, index_of}
 
 -- The database has the tables of a desk, and their rows spell this one, and an index of which this is true.
-pub record IsOfWith (desk : Desk) (Index : FinMap file_cmp Found → Type 0) (db : Database) : Type 0 where
+pub record IsDeskWith (desk : Desk) (Index : FinMap file_cmp Found → Type 0) (db : Database) : Type 0 where
   pub schema : db.schema ≡ desk_schema
   pub rows : SpellDesk 2 db.trees
   pub rowids : HaveOwnRowids db.trees
@@ -31,7 +31,7 @@ pub record IsOfWith (desk : Desk) (Index : FinMap file_cmp Found → Type 0) (db
 
 -- the database has the tables of a desk, their rows spell this one, and the index is that of its images
 abbrev pub IsOf : Desk → Database → Type 0
-IsOf desk = IsOfWith desk (IsIndexOf desk.images)
+IsOf desk = IsDeskWith desk (IsIndexOf desk.images)
 
 -- the database is that of a desk, which has no image at an accession
 abbrev pub LacksImage : ℕ → Desk → Database → Type 0
@@ -170,7 +170,7 @@ IsAnswered (Err Sql) P = ⊤
 -- Why a call is refused, where the connection is open at the end; and after such an answer it is open, where
 -- the disk has returned what was written. Sql is answered at any time, and does not say why.
 pub record Judges {S T : Type 0} (g : Ghosts S) (new : Held S) (result : Result T StoreFault) (IsThere Conflicts : Type 0) : Type 0 where
-  pub told : IsOpen g new → IsJudged IsThere Conflicts result
+  pub why : IsOpen g new → IsJudged IsThere Conflicts result
   pub ends_open : IsClean g new → IsAnswered result (IsOpen g new)
 
 -- ---- inside

@@ -1,4 +1,4 @@
--- The index of the files: what it says of each file of the images that stand, so that no query walks an image.
+-- The index of the files: a row for each file of the images that stand, so that no query walks an image.
 use Rattle.std.specs.Prelude.{◌≡◌, ◌≢◌, ◌<◌, ℕ, List, [], length, get_or, Option, Some, None}
 use Rattle.std.specs.declared.cmp.Ordering.{Ordering}
 use Rattle.std.specs.Ordering.{nat_cmp, on, then_cmp}

@@ -3,7 +3,7 @@ use Rattle.std.specs.Prelude.{◌==◌, ℕ, pos, Bool, [], ◌∷◌}
 use Rattle.sqlite.specs.declared.types.Value.TheVariants.{Int}
 use Rattle.sqlite.specs.Order.{Row, column}
 use Rattle.sqlite_rules.specs.Edit.{id_in}
-use Rattle.rd_tables.specs.Sheets.{natural}
+use Rattle.rd_tables.specs.Spellings.{natural}
 use Rattle.rd_holdings.specs.State.{Checkup}
 use Rattle.rd_holdings.specs.declared.rows.Finding.{Finding}
 use Rattle.rd_holdings.specs.declared.rows.Outcome.{Outcome}

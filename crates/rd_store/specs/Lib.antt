@@ -19,7 +19,7 @@ pub use Rattle.rd_holdings.specs.Findings
 pub mod Shown
 pub mod Ruled
 pub mod Register
-pub mod Last
-pub mod Cells
+pub mod ImageCache
+pub mod RowColumns
 pub mod Walked
 pub mod Latest

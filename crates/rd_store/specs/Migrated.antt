@@ -84,12 +84,12 @@ pub record IsNotMigrated {S : Type 0} (g : Ghosts S) (old new : Held S) (fault :
 -- ---- inside
 
 -- Over these tables the rows spell this desk, and say version 1.
-pub record IsOfFirst (over : Schema) (told : Trees → Trees) (desk : Desk) (db : Database) : Type 0 where
+pub record IsOfFirst (over : Schema) (read_as : Trees → Trees) (desk : Desk) (db : Database) : Type 0 where
   pub schema : db.schema ≡ over
-  pub rows : SpellDesk 1 (told db.trees)
+  pub rows : SpellDesk 1 (read_as db.trees)
   pub rowids : HaveOwnRowids db.trees
   pub sound : IsDatabase db
-  pub is : desk_of (told db.trees) ≡ desk
+  pub is : desk_of (read_as db.trees) ≡ desk
   pub index : IsIndexOf desk.images (index_of db.trees)
 
 -- in the tables of version 1

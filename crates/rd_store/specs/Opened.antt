@@ -23,21 +23,21 @@ use Rattle.rd_tables.specs.Asked.{IsListed}
 use Rattle.rd_tables.specs.Queries as ask
 use Rattle.rd_tables.specs.Schemas.{desk_schema, has_desk_columns, has_foreign_desk, may_be_desk, TellsVersion}
 use Rattle.rd_volume.specs.declared.found.Found.{Found}
-use Rattle.rd_tables.specs.Sheets.{HaveRowids, Spells, SpellLawful, map_of, seen}
+use Rattle.rd_tables.specs.Spellings.{HaveRowids, Spells, SpellLawful, map_of, seen}
 use Rattle.rd_store.specs.declared.faults.OpenFault.{OpenFault}
 use Rattle.rd_store.specs.declared.faults.OpenFault.TheVariants.{NotADesk, Version as OtherVersion, Inconsistent, Sql}
-use Rattle.rd_store.specs.declared.opening.Listing.{Listing}
-use Rattle.rd_store.specs.declared.opening.Listing.TheVariants as all
+use Rattle.rd_store.specs.declared.opening.TableListing.{TableListing}
+use Rattle.rd_store.specs.declared.opening.TableListing.TheVariants as all
 use Rattle.rd_store.specs.declared.version.Version.{Version}
 use Rattle.rd_store.specs.declared.version.Version.TheVariants.{First, Second}
 use Rattle.rd_holdings.specs.declared.rows.ImageRow.{ImageRow}
 use Rattle.rd_holdings.specs.declared.rows.Outcome.{Outcome}
 use Rattle.rd_holdings.specs.State.{Place, Terms, Checkup, rule_of}
 use Rattle.rd_holdings.specs.Lawful.{IsDeed, IsImage, IsKey, IsLawful}
-use Rattle.rd_store.specs.Cells.{is_one_of}
+use Rattle.rd_store.specs.RowColumns.{is_one_of}
 use Rattle.rd_store.specs.Index.{AreFilesIn, IsFileIn, IsIndexOf}
 use Rattle.rd_store.specs.Marks.{with_marks}
-use Rattle.rd_store.specs.Spelled.{SpellDesk, HasVersion, desk_of, images_of, index_of, deed_sheet, image_sheet, marks_sheet, rule_sheet, key_sheet, check_sheet, file_sheet}
+use Rattle.rd_store.specs.Spelled.{SpellDesk, HasVersion, desk_of, images_of, index_of, deed_spelling, image_spelling, marks_spelling, rule_spelling, key_spelling, check_spelling, file_spelling}
 use Rattle.rd_store.specs.Created.{IsUntouched}
 use Rattle.rd_store.specs.Held.{RestsOver, HoldsTables, HoldsCommonTables, Holds, IsOpen, IsClean, Lasts, LeavesOld, LeavesOnly, LeavesOpen, Stays, desk as desk_at}
 
@@ -122,12 +122,12 @@ Denied P OtherVersion = ⊥
 Denied P Inconsistent = ¬ P
 Denied P Sql = ⊤
 
--- after Inconsistent what was tested does not hold, and after Ok a part of it holds
+-- after Inconsistent what was tested does not hold, and after Ok a part of it holds; no other refusal but Sql is given
 abbrev pub JudgedPart : {T : Type 0} → Type 0 → Type 0 → Result T OpenFault → Type 0
 JudgedPart Part P (Ok value) = Part
 JudgedPart Part P (Err fault) = Denied P fault
 
--- after Inconsistent what was tested does not hold, and after Ok all of it holds
+-- after Inconsistent what was tested does not hold, and after Ok all of it holds; no other refusal but Sql is given
 abbrev pub Judged : {T : Type 0} → Type 0 → Result T OpenFault → Type 0
 Judged P = JudgedPart P P
 
@@ -187,7 +187,7 @@ IsSaid None rows = ¬ HasVersion 1 rows × ¬ HasVersion 2 rows
 -- ---- the listing of a table
 
 -- the text that asks for all rows of the table
-abbrev pub listing_text : Listing → List ℕ
+abbrev pub listing_text : TableListing → List ℕ
 listing_text all.Deeds = ask.all_deeds_text
 listing_text all.Rules = ask.all_rules_text
 listing_text all.Keys = ask.all_keys_text
@@ -196,7 +196,7 @@ listing_text all.Files = ask.all_files_text
 listing_text all.Marks = ask.all_marks_text
 
 -- the query that the text means
-abbrev pub listing_query : Listing → Query
+abbrev pub listing_query : TableListing → Query
 listing_query all.Deeds = ask.all_deeds_query
 listing_query all.Rules = ask.all_rules_query
 listing_query all.Keys = ask.all_keys_query
@@ -205,7 +205,7 @@ listing_query all.Files = ask.all_files_query
 listing_query all.Marks = ask.all_marks_query
 
 -- the number of the tree that has the rows of the table
-abbrev pub listing_tree : Listing → ℕ
+abbrev pub listing_tree : TableListing → ℕ
 listing_tree all.Deeds = 1
 listing_tree all.Rules = 3
 listing_tree all.Keys = 5
@@ -214,7 +214,7 @@ listing_tree all.Files = 9
 listing_tree all.Marks = 11
 
 -- the tables that must be there for a listing
-abbrev pub HoldsListed : Listing → State → Type 0
+abbrev pub HoldsListed : TableListing → State → Type 0
 HoldsListed all.Deeds = HoldsCommonTables
 HoldsListed all.Rules = HoldsCommonTables
 HoldsListed all.Keys = HoldsCommonTables
@@ -226,7 +226,7 @@ HoldsListed all.Marks = HoldsTables
 
 -- the rows spell deeds within their limits, by number
 abbrev pub LawfulDeeds : Trees → Type 0
-LawfulDeeds trees = SpellLawful deed_sheet (λ e. IsDeed e.0 e.1) (trees 1)
+LawfulDeeds trees = SpellLawful deed_spelling (λ e. IsDeed e.0 e.1) (trees 1)
 
 -- an image within its limits, which came by one of these deeds
 abbrev pub IsImageOf : List ℕ → ℕ × ImageRow → Type 0
@@ -234,7 +234,7 @@ IsImageOf deeds e = IsImage e.0 e.1 × Has deeds e.1.deed
 
 -- such images by accession
 abbrev pub LawfulImages : List ℕ → Trees → Type 0
-LawfulImages deeds trees = SpellLawful image_sheet (IsImageOf deeds) (trees 2)
+LawfulImages deeds trees = SpellLawful image_spelling (IsImageOf deeds) (trees 2)
 
 -- the accession or the deed of a rule is one of these
 abbrev pub StandsAmong : List ℕ → List ℕ → Band → ℕ → Type 0
@@ -247,11 +247,11 @@ IsRuleOf accessions deeds e = IsRule (rule_of e) × StandsAmong accessions deeds
 
 -- such rules by place
 abbrev pub LawfulRules : List ℕ → List ℕ → Trees → Type 0
-LawfulRules accessions deeds trees = SpellLawful rule_sheet (IsRuleOf accessions deeds) (trees 3)
+LawfulRules accessions deeds trees = SpellLawful rule_spelling (IsRuleOf accessions deeds) (trees 3)
 
 -- the rows of keys are lawful, and one of the keys is of the staff
 abbrev pub LawfulKeys : Trees → Type 0
-LawfulKeys trees = SpellLawful key_sheet (λ e. IsKey e.0 e.1) (trees 5) × ((digest : List ℕ) × (get (map_of key_sheet (trees 5)) digest ≡ Some Staff))
+LawfulKeys trees = SpellLawful key_spelling (λ e. IsKey e.0 e.1) (trees 5) × ((digest : List ℕ) × (get (map_of key_spelling (trees 5)) digest ≡ Some Staff))
 
 -- a check on a day, of one of these accessions
 abbrev pub IsCheckOf : List ℕ → Checkup × Outcome → Type 0
@@ -259,7 +259,7 @@ IsCheckOf accessions e = IsDay e.0.day × Has accessions e.0.acc
 
 -- such checks by accession and day
 abbrev pub LawfulChecks : List ℕ → Trees → Type 0
-LawfulChecks accessions trees = SpellLawful check_sheet (IsCheckOf accessions) (trees 7)
+LawfulChecks accessions trees = SpellLawful check_spelling (IsCheckOf accessions) (trees 7)
 
 -- error bytes, one for each block, of one of these accessions
 abbrev pub AreMarksOf : List ℕ → ℕ × List ℕ → Type 0
@@ -267,7 +267,7 @@ AreMarksOf accessions e = (length e.1 ≡ CBM_BLOCKS) × Has accessions e.0
 
 -- such error bytes by accession
 abbrev pub LawfulMarks : List ℕ → Trees → Type 0
-LawfulMarks accessions trees = SpellLawful marks_sheet (AreMarksOf accessions) (trees 11)
+LawfulMarks accessions trees = SpellLawful marks_spelling (AreMarksOf accessions) (trees 11)
 
 -- Error bytes are asked for where an accession is one of those that have any.
 abbrev pub marks_if : Bool → Option (List ℕ) → Option (List ℕ)
@@ -276,7 +276,7 @@ marks_if true marks = marks
 
 -- the image of an accession, with its error bytes where it is said to have any
 abbrev pub image_if : Bool → Trees → ℕ → Option ImageRow
-image_if is_marked trees acc = option_map (with_marks (marks_if is_marked (get (map_of marks_sheet (trees 11)) acc))) (get (map_of image_sheet (trees 2)) acc)
+image_if is_marked trees acc = option_map (with_marks (marks_if is_marked (get (map_of marks_spelling (trees 11)) acc))) (get (map_of image_spelling (trees 2)) acc)
 
 -- a number is one of these
 abbrev pub is_among : List ℕ → ℕ → Bool
@@ -289,7 +289,7 @@ image_among marked trees acc = image_if (is_among marked acc) trees acc
 -- A D64 stands at the accession.
 pub record HasDisk (acc : ℕ) (trees : Trees) : Type 0 where
   pub image : ImageRow
-  pub stands : get (map_of image_sheet (trees 2)) acc ≡ Some image
+  pub stands : get (map_of image_spelling (trees 2)) acc ≡ Some image
   pub kind : image.kind ≡ D64
 
 -- an accession with error bytes has a D64
@@ -310,13 +310,13 @@ IsIndexAt image acc trees = (slot : ℕ) → IsFileIn image slot (get (index_of 
 
 -- The rows of the index spell it, and at one accession it is that of its image.
 pub record IsFiledAt (is_marked : Bool) (acc : ℕ) (trees : Trees) : Type 0 where
-  pub spells : Spells file_sheet (trees 9)
+  pub spells : Spells file_spelling (trees 9)
   pub disk : HasDiskIf is_marked acc trees
   pub index : IsIndexAt (image_if is_marked trees acc) acc trees
 
 -- The index is that of the images, of which these have error bytes, and a D64 stands at each of those.
 pub record LawfulFiles (marked accessions : List ℕ) (trees : Trees) : Type 0 where
-  pub spells : Spells file_sheet (trees 9)
+  pub spells : Spells file_spelling (trees 9)
   pub disks : (acc : ℕ) → Has accessions acc → HasDiskIf (is_among marked acc) acc trees
   pub index : (acc : ℕ) → IsIndexAt (image_among marked trees acc) acc trees
 
@@ -337,8 +337,8 @@ pub record HasFiles (is_marked : Bool) (acc : ℕ) (trees : Trees) : Type 0 wher
   pub files : List Found
   pub disk : HasDiskIf is_marked acc trees
   pub are : AreFilesIn (image_if is_marked trees acc) files
-  pub each : (row : Row) → Has (trees 9) row → column row 1 ≡ Int (pos acc) → (file : Found) × Has files file × (seen file_sheet.places row ≡ file_sheet.columns (record { acc = acc; slot = file.slot }, file))
-  pub all : (file : Found) → Has files file → (row : Row) × Has (trees 9) row × (seen file_sheet.places row ≡ file_sheet.columns (record { acc = acc; slot = file.slot }, file))
+  pub each : (row : Row) → Has (trees 9) row → column row 1 ≡ Int (pos acc) → (file : Found) × Has files file × (seen file_spelling.places row ≡ file_spelling.columns (record { acc = acc; slot = file.slot }, file))
+  pub all : (file : Found) → Has files file → (row : Row) × Has (trees 9) row × (seen file_spelling.places row ≡ file_spelling.columns (record { acc = acc; slot = file.slot }, file))
 
 -- of each of these accessions the rows of the index are those of the files of its image
 abbrev pub HaveFiles : List ℕ → List ℕ → Trees → Type 0
@@ -348,16 +348,16 @@ HaveFiles marked accessions trees = (acc : ℕ) → Has accessions acc → HasFi
 
 -- the deeds, and images each of a deed that stands
 abbrev pub LawfulGiven : Trees → Type 0
-LawfulGiven trees = LawfulDeeds trees × SpellLawful image_sheet (λ e. IsImage e.0 e.1 × IsSome (get (map_of deed_sheet (trees 1)) e.1.deed)) (trees 2)
+LawfulGiven trees = LawfulDeeds trees × SpellLawful image_spelling (λ e. IsImage e.0 e.1 × IsSome (get (map_of deed_spelling (trees 1)) e.1.deed)) (trees 2)
 
 -- the accession or the deed of a rule stands
 abbrev pub StandsIn : Trees → Band → ℕ → Type 0
-StandsIn trees Takedown scope = IsSome (get (map_of image_sheet (trees 2)) scope)
-StandsIn trees Deed scope = IsSome (get (map_of deed_sheet (trees 1)) scope)
+StandsIn trees Takedown scope = IsSome (get (map_of image_spelling (trees 2)) scope)
+StandsIn trees Deed scope = IsSome (get (map_of deed_spelling (trees 1)) scope)
 
 -- the numbers of the deeds and the accessions
 abbrev pub AreNumbers : Trees → List ℕ → List ℕ → Type 0
-AreNumbers trees deeds accessions = AreKeys (map_of deed_sheet (trees 1)) deeds × AreKeys (map_of image_sheet (trees 2)) accessions
+AreNumbers trees deeds accessions = AreKeys (map_of deed_spelling (trees 1)) deeds × AreKeys (map_of image_spelling (trees 2)) accessions
 
 -- in their tables no two rows share a rowid
 abbrev pub HaveOtherRowids : Trees → Type 0
@@ -370,6 +370,6 @@ LawfulOthers accessions deeds trees = LawfulRules accessions deeds trees × Lawf
 -- The rows of the tables that each version has, but for the index, are those of a desk.
 pub record LawfulCommon (trees : Trees) : Type 0 where
   pub given : LawfulGiven trees
-  pub rules : SpellLawful rule_sheet (λ e. IsRule (rule_of e) × StandsIn trees e.0.band e.0.scope) (trees 3)
+  pub rules : SpellLawful rule_spelling (λ e. IsRule (rule_of e) × StandsIn trees e.0.band e.0.scope) (trees 3)
   pub keys : LawfulKeys trees
-  pub checks : SpellLawful check_sheet (λ e. IsDay e.0.day × IsSome (get (map_of image_sheet (trees 2)) e.0.acc)) (trees 7)
+  pub checks : SpellLawful check_spelling (λ e. IsDay e.0.day × IsSome (get (map_of image_spelling (trees 2)) e.0.acc)) (trees 7)

@@ -8,12 +8,12 @@ use Rattle.sqlite.specs.Store.{Ghosts}
 use Rattle.sqlite.specs.Held.{Held}
 use Rattle.sqlite.specs.Order.{Row, column}
 use Rattle.sqlite_value.specs.Order.{bytes}
-use Rattle.rd_tables.specs.Sheets.{natural}
+use Rattle.rd_tables.specs.Spellings.{natural}
 use Rattle.rd_store.specs.declared.images.Heading.{Heading}
 use Rattle.rd_store.specs.declared.register.Register.{Register}
 use Rattle.rd_holdings.specs.declared.rows.Accession.{Accession}
 use Rattle.rd_holdings.specs.declared.rows.ImageRow.{ImageRow}
-use Rattle.rd_store.specs.Cells.{is_one_of}
+use Rattle.rd_store.specs.RowColumns.{is_one_of}
 use Rattle.rd_store.specs.Codes.{kind_in}
 use Rattle.rd_store.specs.Marks.{kind_with}
 use Rattle.rd_store.specs.Shown.{heading_of}
@@ -51,12 +51,12 @@ abbrev pub number_of : ℕ × Heading → ℕ
 number_of entry = entry.0
 
 -- its kind and its deed
-abbrev pub given_of : Heading → Accession
-given_of heading = record { kind = heading.kind; deed = heading.deed }
+abbrev pub accession_of_heading : Heading → Accession
+accession_of_heading heading = record { kind = heading.kind; deed = heading.deed }
 
 -- its number, its kind and its deed
-abbrev pub given_in : ℕ × Heading → ℕ × Accession
-given_in entry = (entry.0, given_of entry.1)
+abbrev pub numbered_accession : ℕ × Heading → ℕ × Accession
+numbered_accession entry = (entry.0, accession_of_heading entry.1)
 
 -- ---- how it is made and searched
 

@@ -8,7 +8,7 @@ use Rattle.rd_store.specs.declared.images.Heading.{Heading}
 use Rattle.rd_holdings.specs.declared.rows.DeedRow.{DeedRow}
 use Rattle.rd_holdings.specs.declared.rows.ImageRow.{ImageRow}
 use Rattle.rd_store.specs.Codes.{kind_code, kind_in, audience_code}
-use Rattle.rd_store.specs.Spelled.{key_sheet}
+use Rattle.rd_store.specs.Spelled.{key_spelling}
 
 -- the columns for a deed: its donor, and the day on which they signed it
 abbrev pub deed_shown : DeedRow → Row
@@ -44,4 +44,4 @@ IsOtherKey digest key = (key.0 ≢ digest) × (key.1 ≡ Staff)
 
 -- a row shows such a key
 abbrev pub ShowsOther : List ℕ → Row → Type 0
-ShowsOther digest row = IsOtherKey digest (key_sheet.entry row)
+ShowsOther digest row = IsOtherKey digest (key_spelling.entry row)

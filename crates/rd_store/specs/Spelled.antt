@@ -10,7 +10,7 @@ use Rattle.sqlite_value.specs.Order.{bytes}
 use Rattle.sqlite_rules.specs.Edit.{id_in}
 use Rattle.rd_policy.specs.declared.audience.Audience.{Audience}
 use Rattle.rd_volume.specs.declared.found.Found.{Found}
-use Rattle.rd_tables.specs.Sheets.{Sheet, Spells, SpellLawful, HaveRowids, map_of, natural}
+use Rattle.rd_tables.specs.Spellings.{Spelling, Spells, SpellLawful, HaveRowids, map_of, natural}
 use Rattle.rd_holdings.specs.declared.rows.DeedRow.{DeedRow}
 use Rattle.rd_holdings.specs.declared.rows.ImageRow.{ImageRow}
 use Rattle.rd_holdings.specs.declared.rows.Outcome.{Outcome}
@@ -20,8 +20,8 @@ use Rattle.rd_store.specs.Marks.{AreMarksIn, joined}
 use Rattle.rd_holdings.specs.State.{Desk, Place, Terms, Checkup, place_cmp, digest_cmp, checkup_cmp, band_code}
 
 -- deeds by number: the donor, and the day on which they were signed
-abbrev pub deed_sheet : Sheet ℕ DeedRow
-deed_sheet = record {
+abbrev pub deed_spelling : Spelling ℕ DeedRow
+deed_spelling = record {
   places = 0 ∷ 2 ∷ 3 ∷ [];
   cmp = nat_cmp;
   columns = λ e. Int (pos e.0) ∷ Text e.1.donor ∷ Int e.1.signed ∷ [];
@@ -29,8 +29,8 @@ deed_sheet = record {
 }
 
 -- images by accession: kind, deed, digest and bytes, without error bytes
-abbrev pub image_sheet : Sheet ℕ ImageRow
-image_sheet = record {
+abbrev pub image_spelling : Spelling ℕ ImageRow
+image_spelling = record {
   places = 0 ∷ 2 ∷ 3 ∷ 4 ∷ 5 ∷ [];
   cmp = nat_cmp;
   columns = λ e. Int (pos e.0) ∷ Int (pos (kind_code e.1.kind)) ∷ Int (pos e.1.deed) ∷ Blob e.1.digest ∷ Blob e.1.bytes ∷ [];
@@ -41,8 +41,8 @@ image_sheet = record {
 }
 
 -- error bytes by accession
-abbrev pub marks_sheet : Sheet ℕ (List ℕ)
-marks_sheet = record {
+abbrev pub marks_spelling : Spelling ℕ (List ℕ)
+marks_spelling = record {
   places = 0 ∷ 2 ∷ [];
   cmp = nat_cmp;
   columns = λ e. Int (pos e.0) ∷ Blob e.1 ∷ [];
@@ -50,8 +50,8 @@ marks_sheet = record {
 }
 
 -- rules by place: audiences, days, selector and effect
-abbrev pub rule_sheet : Sheet Place Terms
-rule_sheet = record {
+abbrev pub rule_spelling : Spelling Place Terms
+rule_spelling = record {
   places = 1 ∷ 2 ∷ 3 ∷ 4 ∷ 5 ∷ 6 ∷ 7 ∷ 8 ∷ 9 ∷ 10 ∷ [];
   cmp = place_cmp;
   columns = λ e. Int (pos (band_code e.0.band)) ∷ Int (pos e.0.scope) ∷ Int (pos e.0.rank) ∷ Int (pos (audiences_code e.1.audiences)) ∷ or_null Int e.1.from ∷ or_null Int e.1.until
@@ -69,8 +69,8 @@ rule_sheet = record {
 }
 
 -- desk keys by digest: the audience
-abbrev pub key_sheet : Sheet (List ℕ) Audience
-key_sheet = record {
+abbrev pub key_spelling : Spelling (List ℕ) Audience
+key_spelling = record {
   places = 1 ∷ 2 ∷ [];
   cmp = digest_cmp;
   columns = λ e. Blob e.0 ∷ Int (pos (audience_code e.1)) ∷ [];
@@ -78,8 +78,8 @@ key_sheet = record {
 }
 
 -- checks by accession and day: the outcome
-abbrev pub check_sheet : Sheet Checkup Outcome
-check_sheet = record {
+abbrev pub check_spelling : Spelling Checkup Outcome
+check_spelling = record {
   places = 1 ∷ 2 ∷ 3 ∷ [];
   cmp = checkup_cmp;
   columns = λ e. Int (pos e.0.acc) ∷ Int e.0.day ∷ Int (pos (outcome_code e.1)) ∷ [];
@@ -111,8 +111,8 @@ later [] = []
 later (first ∷ row) = row
 
 -- the index: files by accession and slot
-abbrev pub file_sheet : Sheet FileAt Found
-file_sheet = record {
+abbrev pub file_spelling : Spelling FileAt Found
+file_spelling = record {
   places = 1 ∷ 2 ∷ 3 ∷ 4 ∷ 5 ∷ 6 ∷ 7 ∷ 8 ∷ 9 ∷ 10 ∷ [];
   cmp = file_cmp;
   columns = λ e. Int (pos e.0.acc) ∷ file_shown e.1;
@@ -125,27 +125,27 @@ HasVersion version rows = map (λ row. column row 0 ∷ column row 2 ∷ []) row
 
 -- the images, each with its error bytes
 abbrev pub images_of : Trees → FinMap nat_cmp ImageRow
-images_of trees = joined (map_of image_sheet (trees 2)) (map_of marks_sheet (trees 11))
+images_of trees = joined (map_of image_spelling (trees 2)) (map_of marks_spelling (trees 11))
 
 -- The rows spell a desk of this version, and an index.
 pub record SpellDesk (number : ℕ) (trees : Trees) : Type 0 where
   pub version : HasVersion number (trees 0)
-  pub deeds : Spells deed_sheet (trees 1)
-  pub images : Spells image_sheet (trees 2)
-  pub rules : Spells rule_sheet (trees 3)
-  pub keys : Spells key_sheet (trees 5)
-  pub checks : Spells check_sheet (trees 7)
-  pub files : Spells file_sheet (trees 9)
-  pub marks : SpellLawful marks_sheet (AreMarksIn (map_of image_sheet (trees 2))) (trees 11)
+  pub deeds : Spells deed_spelling (trees 1)
+  pub images : Spells image_spelling (trees 2)
+  pub rules : Spells rule_spelling (trees 3)
+  pub keys : Spells key_spelling (trees 5)
+  pub checks : Spells check_spelling (trees 7)
+  pub files : Spells file_spelling (trees 9)
+  pub marks : SpellLawful marks_spelling (AreMarksIn (map_of image_spelling (trees 2))) (trees 11)
 
 -- the desk that the rows of the tables spell
 abbrev pub desk_of : Trees → Desk
 desk_of trees = record {
-  deeds = map_of deed_sheet (trees 1);
+  deeds = map_of deed_spelling (trees 1);
   images = images_of trees;
-  rules = map_of rule_sheet (trees 3);
-  keys = map_of key_sheet (trees 5);
-  checks = map_of check_sheet (trees 7);
+  rules = map_of rule_spelling (trees 3);
+  keys = map_of key_spelling (trees 5);
+  checks = map_of check_spelling (trees 7);
 }
 
 -- The tables of version 1 tell no error bytes: they spell the desk that the same rows spell in the tables of
@@ -155,7 +155,7 @@ unmarked trees = λ tree. cond (tree == 11) [] (trees tree)
 
 -- the index that the rows spell
 abbrev pub index_of : Trees → FinMap file_cmp Found
-index_of trees = map_of file_sheet (trees 9)
+index_of trees = map_of file_spelling (trees 9)
 
 -- In the tables whose key is not the rowid, no two rows share a rowid.
 pub record HaveOwnRowids (trees : Trees) : Type 0 where

@@ -9,15 +9,15 @@ use Rattle.sqlite_sql.specs.Ops.{unary}
 use Rattle.sqlite_sql.specs.declared.ops.UnaryOp.TheVariants.{Length, TypeOf}
 use Rattle.rd_tables.specs.Asked.{IsStart}
 use Rattle.rd_tables.specs.Queries.{all_images_query, later_images_query}
-use Rattle.rd_tables.specs.Sheets.{Spells, map_of, natural}
+use Rattle.rd_tables.specs.Spellings.{Spells, map_of, natural}
 use Rattle.rd_tables.specs.Walks.{AreNext, IsWalked, is_after}
 use Rattle.rd_store.specs.declared.images.Heading.{Heading}
 use Rattle.rd_holdings.specs.declared.rows.ImageRow.{ImageRow}
-use Rattle.rd_store.specs.Cells.{IsImageRow}
+use Rattle.rd_store.specs.RowColumns.{IsImageRow}
 use Rattle.rd_store.specs.Codes.{kind_code}
 use Rattle.rd_store.specs.Opened.{AreKeys, HasDiskIf, HasFiles, HaveAccessions, IsFiledAt, LawfulCommon, LawfulGiven, LawfulImages, image_if, is_among}
 use Rattle.rd_store.specs.Register.{entry_in, number_of}
-use Rattle.rd_store.specs.Spelled.{image_sheet, marks_sheet}
+use Rattle.rd_store.specs.Spelled.{image_spelling, marks_spelling}
 
 -- ---- what is read
 
@@ -26,8 +26,8 @@ abbrev pub image_read : Row → Row
 image_read row = column row 0 ∷ column row 2 ∷ column row 3 ∷ column row 4 ∷ unary Length (column row 5) ∷ unary TypeOf (column row 5) ∷ column row 5 ∷ []
 
 -- the same of the image that the row spells
-abbrev pub image_told : ℕ × ImageRow → Row
-image_told e = Int (pos e.0) ∷ Int (pos (kind_code e.1.kind)) ∷ Int (pos e.1.deed) ∷ Blob e.1.digest ∷ unary Length (Blob e.1.bytes) ∷ unary TypeOf (Blob e.1.bytes) ∷ Blob e.1.bytes ∷ []
+abbrev pub image_columns : ℕ × ImageRow → Row
+image_columns e = Int (pos e.0) ∷ Int (pos (kind_code e.1.kind)) ∷ Int (pos e.1.deed) ∷ Blob e.1.digest ∷ unary Length (Blob e.1.bytes) ∷ unary TypeOf (Blob e.1.bytes) ∷ Blob e.1.bytes ∷ []
 
 -- this was read of the row of an image
 abbrev pub IsReadOf : Trees → Row → Type 0
@@ -52,31 +52,32 @@ AreBatchOf after trees rows = AreReadNext after trees rows × (rows ≡ [] → f
 -- A walk knows the rows so far alone. What it finds of an image holds once the rows of all images spell a map, and
 -- those of all error bytes, where it has any.
 abbrev pub SpellMarksIf : Bool → Trees → Type 0
-SpellMarksIf is_marked trees = IsTrue is_marked → Spells marks_sheet (trees 11)
+SpellMarksIf is_marked trees = IsTrue is_marked → Spells marks_spelling (trees 11)
 
 -- its row stands at the accession
 abbrev pub StandsOnce : ℕ → ImageRow → Trees → Type 0
-StandsOnce acc row trees = Spells image_sheet (trees 2) → get (map_of image_sheet (trees 2)) acc ≡ Some row
+StandsOnce acc row trees = Spells image_spelling (trees 2) → get (map_of image_spelling (trees 2)) acc ≡ Some row
 
 -- it is this
 abbrev pub IsImageOnce : Bool → ℕ → ImageRow → Trees → Type 0
-IsImageOnce is_marked acc image trees = Spells image_sheet (trees 2) → SpellMarksIf is_marked trees → image_if is_marked trees acc ≡ Some image
+IsImageOnce is_marked acc image trees = Spells image_spelling (trees 2) → SpellMarksIf is_marked trees → image_if is_marked trees acc ≡ Some image
 
 -- it is a D64, where it has error bytes
 abbrev pub HasDiskOnce : Bool → ℕ → Trees → Type 0
-HasDiskOnce is_marked acc trees = Spells image_sheet (trees 2) → HasDiskIf is_marked acc trees
+HasDiskOnce is_marked acc trees = Spells image_spelling (trees 2) → HasDiskIf is_marked acc trees
 
 -- the rows of the images spell a map, and the image at the accession is a D64 if it has error bytes
 abbrev pub IsLawfulDisk : Bool → ℕ → Trees → Type 0
-IsLawfulDisk is_marked acc trees = Spells image_sheet (trees 2) × HasDiskIf is_marked acc trees
+IsLawfulDisk is_marked acc trees = Spells image_spelling (trees 2) × HasDiskIf is_marked acc trees
 
--- once the rows of images and error bytes spell maps and each row of the index names an accession, it has these files
+-- once the rows of images spell a map, those of error bytes too if the image has any, and each row of the index has
+-- the number of an accession, the index has the files of the image at this accession
 abbrev pub HasFilesOnce : Bool → ℕ → Trees → Type 0
-HasFilesOnce is_marked acc trees = Spells image_sheet (trees 2) → SpellMarksIf is_marked trees → HaveAccessions trees → HasFiles is_marked acc trees
+HasFilesOnce is_marked acc trees = Spells image_spelling (trees 2) → SpellMarksIf is_marked trees → HaveAccessions trees → HasFiles is_marked acc trees
 
 -- all that is so in the tables of a desk
 abbrev pub IsLawfulAt : Bool → ℕ → Trees → Type 0
-IsLawfulAt is_marked acc trees = Spells image_sheet (trees 2) × SpellMarksIf is_marked trees × IsFiledAt is_marked acc trees
+IsLawfulAt is_marked acc trees = Spells image_spelling (trees 2) × SpellMarksIf is_marked trees × IsFiledAt is_marked acc trees
 
 -- the row is within its limits, and the index has the files
 abbrev pub IsJudgedImage : List ℕ → List ℕ → Row → Trees → Type 0
@@ -86,7 +87,7 @@ IsJudgedImage deeds marked shown trees = IsImageRow deeds shown × HasFilesOnce 
 
 -- the rows of error bytes spell a map, and the index is that of the images, of which these have error bytes
 abbrev pub AreFiledOf : List ℕ → Trees → Type 0
-AreFiledOf marked trees = ((acc : ℕ) → SpellMarksIf (is_among marked acc) trees) × ((acc : ℕ) → IsSome (get (map_of image_sheet (trees 2)) acc) → IsFiledAt (is_among marked acc) acc trees)
+AreFiledOf marked trees = ((acc : ℕ) → SpellMarksIf (is_among marked acc) trees) × ((acc : ℕ) → IsSome (get (map_of image_spelling (trees 2)) acc) → IsFiledAt (is_among marked acc) acc trees)
 
 -- the images, of these deeds, are those of a desk, and the index is theirs
 abbrev pub LawfulWalk : List ℕ → List ℕ → Trees → Type 0
@@ -109,10 +110,10 @@ pub record IsWalkTo (deeds marked : List ℕ) (trees : Trees) (listed : List (�
   pub done : List Row
   pub walked : IsWalked (trees 2) done (option_map pos (last_number listed))
   pub judged : (row : Row) → Has done row → IsJudgedImage deeds marked (image_read row) trees
-  pub told : listed ≡ map (λ row. entry_in marked (image_read row)) done
+  pub are_entries : listed ≡ map (λ row. entry_in marked (image_read row)) done
 
 -- These are the entries of all images, and the index has the files of each.
 pub record IsWalk (marked : List ℕ) (trees : Trees) (listed : List (ℕ × Heading)) : Type 0 where
-  pub numbers : AreKeys (map_of image_sheet (trees 2)) (map number_of listed)
+  pub numbers : AreKeys (map_of image_spelling (trees 2)) (map number_of listed)
   pub files : (acc : ℕ) → Has (map number_of listed) acc → HasFilesOnce (is_among marked acc) acc trees
-  pub told : listed ≡ map (entry_in marked) (map image_told (entries (map_of image_sheet (trees 2))))
+  pub are_entries : listed ≡ map (entry_in marked) (map image_columns (entries (map_of image_spelling (trees 2))))

@@ -119,7 +119,7 @@ fn index_each(
 }
 
 /// The accession at a place.
-fn number_in(entries: &[(u32, Heading)], at: usize) -> u32
+fn accession_at(entries: &[(u32, Heading)], at: usize) -> u32
     requires { at < length entries.now }
     ensures { (d : ℕ × Entry) → result ≡ (slice_index_or entries.now at d).0 }
 {
@@ -134,7 +134,10 @@ fn bounds(entries: &[(u32, Heading)]) -> (u32, u32)
     if entries.is_empty() {
         return (0, 0);
     }
-    (number_in(entries, 0), number_in(entries, entries.len() - 1))
+    (
+        accession_at(entries, 0),
+        accession_at(entries, entries.len() - 1),
+    )
 }
 
 impl<S: Alter> Store<S> {

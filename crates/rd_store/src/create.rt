@@ -1,7 +1,7 @@
 ghost use Rattle.std.specs.Prelude.{◌≡◌, ◌<◌, ◌≤◌, ◌+◌, [], false, get_or};
 ghost use Rattle.sqlite.specs.Held.{state};
 ghost use Rattle.rd_tables.specs.Statements.{create_texts};
-ghost use Rattle.rd_store.specs.Created.{IsAt, IsMade, Turns, empty_desk, new_desk};
+ghost use Rattle.rd_store.specs.Created.{RestsIn, HasFirstTables, Turns, empty_desk, new_desk};
 ghost use Rattle.rd_store.specs.Held.{IsOf, IsOpen, Moves};
 
 use crate::keys::insert_key;
@@ -32,10 +32,11 @@ pub(crate) fn create_text(at: usize) -> &'static str
     }
 }
 
+/// Makes one of the eight tables: that at place `at`, 0 to 7, in the order in which they are made.
 fn make_table<S: Alter>(tx: &mut Transaction<'_, S>, at: usize) -> Result<usize, Error>
     requires { at < 8 }
     ensures same_reference { tx.new.conn.ghost_name ≡ tx.old.conn.ghost_name }
-    ensures moves { Moves S.Store tx.old.conn.now tx.new.conn.now (IsMade at) (IsMade (at + 1)) result }
+    ensures moves { Moves S.Store tx.old.conn.now tx.new.conn.now (HasFirstTables at) (HasFirstTables (at + 1)) result }
 {
     tx.execute(create_text(at), &[])
 }
@@ -44,7 +45,7 @@ fn make_table<S: Alter>(tx: &mut Transaction<'_, S>, at: usize) -> Result<usize,
 fn make_tables<S: Alter>(tx: &mut Transaction<'_, S>, count: usize) -> Result<(), Error>
     requires { count ≤ 8 }
     ensures same_reference { tx.new.conn.ghost_name ≡ tx.old.conn.ghost_name }
-    ensures moves { Moves S.Store tx.old.conn.now tx.new.conn.now (IsMade 0) (IsMade count) result }
+    ensures moves { Moves S.Store tx.old.conn.now tx.new.conn.now (HasFirstTables 0) (HasFirstTables count) result }
 {
     for at in 0..count {
         make_table(tx, at)?;
@@ -55,7 +56,7 @@ fn make_tables<S: Alter>(tx: &mut Transaction<'_, S>, count: usize) -> Result<()
 /// Writes the version of the tables.
 fn insert_version<S: Alter>(tx: &mut Transaction<'_, S>) -> Result<usize, Error>
     ensures same_reference { tx.new.conn.ghost_name ≡ tx.old.conn.ghost_name }
-    ensures moves { Moves S.Store tx.old.conn.now tx.new.conn.now (IsMade 8) (IsOf empty_desk) result }
+    ensures moves { Moves S.Store tx.old.conn.now tx.new.conn.now (HasFirstTables 8) (IsOf empty_desk) result }
 {
     tx.execute("INSERT INTO desk (id, version) VALUES (1, 2)", &[])
 }
@@ -63,7 +64,7 @@ fn insert_version<S: Alter>(tx: &mut Transaction<'_, S>) -> Result<usize, Error>
 /// Makes a new desk in a blank database.
 fn fill<S: Alter>(tx: &mut Transaction<'_, S>, staff: &[u8; 32]) -> Result<(), Error>
     ensures same_reference { tx.new.conn.ghost_name ≡ tx.old.conn.ghost_name }
-    ensures moves { Moves S.Store tx.old.conn.now tx.new.conn.now (IsMade 0) (IsOf (new_desk staff.now)) result }
+    ensures moves { Moves S.Store tx.old.conn.now tx.new.conn.now (HasFirstTables 0) (IsOf (new_desk staff.now)) result }
 {
     make_tables(tx, 8)?;
     insert_version(tx)?;
@@ -74,7 +75,7 @@ fn fill<S: Alter>(tx: &mut Transaction<'_, S>, staff: &[u8; 32]) -> Result<(), E
 /// Makes a new desk in a blank database, in one transaction.
 pub(crate) fn write_desk<S: Alter>(conn: &mut Connection<S>, staff: &[u8; 32]) -> Result<(), Error>
     requires mode { conn.old.in_transaction ≡ false }
-    requires start { IsOpen S.Store conn.old → IsAt (IsMade 0) (state S.Store conn.old) }
+    requires start { IsOpen S.Store conn.old → RestsIn (HasFirstTables 0) (state S.Store conn.old) }
     ensures turns { Turns S.Store conn.old conn.new (IsOf (new_desk staff.now)) result }
 {
     let mut tx = conn.transaction();
@@ -85,8 +86,8 @@ pub(crate) fn write_desk<S: Alter>(conn: &mut Connection<S>, staff: &[u8; 32]) -
 /// Makes the tables of version 1 in a blank database, in one transaction.
 pub(crate) fn make_first_tables<S: Alter>(conn: &mut Connection<S>) -> Result<(), Error>
     requires mode { conn.old.in_transaction ≡ false }
-    requires start { IsOpen S.Store conn.old → IsAt (IsMade 0) (state S.Store conn.old) }
-    ensures turns { Turns S.Store conn.old conn.new (IsMade 7) result }
+    requires start { IsOpen S.Store conn.old → RestsIn (HasFirstTables 0) (state S.Store conn.old) }
+    ensures turns { Turns S.Store conn.old conn.new (HasFirstTables 7) result }
 {
     let mut tx = conn.transaction();
     make_tables(&mut tx, 7)?;

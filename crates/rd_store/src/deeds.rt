@@ -4,7 +4,7 @@ ghost use Rattle.sqlite.specs.Held.{state};
 ghost use Rattle.rd_store.specs.Held.{Changes, HoldsDesk, IsOpen, desk, Reads};
 ghost use Rattle.rd_holdings.specs.Lawful.{IsDeed};
 ghost use Rattle.rd_store.specs.Shown.{deed_shown};
-ghost use Rattle.rd_store.specs.Spelled.{deed_sheet};
+ghost use Rattle.rd_store.specs.Spelled.{deed_spelling};
 ghost use Rattle.rd_holdings.specs.State.{with_deed};
 ghost use Rattle.std.specs.Option.{option_to_list};
 
@@ -29,7 +29,7 @@ fn read_deed(row: &Row) -> Result<DeedRow, StoreFault>
 
 /// The deed that a row shows, with its number.
 fn read_numbered(row: &Row) -> Result<(u32, DeedRow), StoreFault>
-    ensures entry { IfOk result (λ entry. entry ≡ deed_sheet.entry row.now) }
+    ensures entry { IfOk result (λ entry. entry ≡ deed_spelling.entry row.now) }
     ensures fault { IfErr result (λ fault. fault ≡ StoreFault.Sql) }
 {
     let num = number_at(row, 0)?;
@@ -40,7 +40,7 @@ fn read_numbered(row: &Row) -> Result<(u32, DeedRow), StoreFault>
 
 /// The deeds that rows show, with their numbers.
 fn read_deeds(alloc: Global, rows: &[Row]) -> Result<Vec<(u32, DeedRow)>, StoreFault>
-    ensures entries { IfOk result (λ deeds. deeds.items ≡ map deed_sheet.entry rows.now) }
+    ensures entries { IfOk result (λ deeds. deeds.items ≡ map deed_spelling.entry rows.now) }
     ensures fault { IfErr result (λ fault. fault ≡ StoreFault.Sql) }
 {
     let mut deeds = Vec::new(alloc);
@@ -95,8 +95,8 @@ fn insert_deed<S: Alter>(
     )
 }
 
-/// Puts a deed, in place of the one with its number if it `stands`. It does not look at the images that refer to
-/// it: an UPDATE keeps its number, while REPLACE would take it out first and look for them.
+/// Puts a deed, in place of the one with its number if it `stands`. An UPDATE keeps the number, so that no foreign
+/// key of an image is looked at; REPLACE deletes the row first, which checks these keys.
 fn write_deed<S: Alter>(
     conn: &mut Connection<S>,
     stands: bool,
@@ -148,7 +148,7 @@ impl<S: Alter> Store<S> {
     /// The rows for all deeds, by number.
     fn numbered_rows(&mut self) -> Result<Vec<Row>, StoreFault>
         ensures reads { Reads S.Store self.old self.new result (λ rows.
-            rows.items ≡ map deed_sheet.columns (entries (desk S.Store self.old).deeds)) }
+            rows.items ≡ map deed_spelling.columns (entries (desk S.Store self.old).deeds)) }
         ensures fault { IfErr result (λ fault. fault ≡ StoreFault.Sql) }
     {
         self.query("SELECT num, donor, signed FROM deed ORDER BY num", &[])

@@ -5,7 +5,7 @@ use sqlite::{Alter, Connection};
 /// written, opening again finds the desk before or after the call.
 #[derive(Clone, Copy, Debug, PartialEq, Eq, Hash)]
 pub enum StoreFault {
-    /// The database failed, or memory ran out: it does not say which.
+    /// The database failed, or memory ran out; the fault does not say which of the two.
     Sql,
     /// What the call refers to is not there.
     Missing,

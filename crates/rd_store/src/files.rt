@@ -10,9 +10,9 @@ ghost use Rattle.sqlite_value.specs.Order.{bytes};
 ghost use Rattle.rd_volume.specs.declared.found.Found.{Found as FoundFile};
 ghost use Rattle.rd_tables.specs.Asked.{IsPicked};
 ghost use Rattle.rd_tables.specs.Queries.{files_query};
-ghost use Rattle.rd_tables.specs.Sheets.{natural};
+ghost use Rattle.rd_tables.specs.Spellings.{natural};
 ghost use Rattle.rd_store.specs.Codes.{number_in, units_code, units_in};
-ghost use Rattle.rd_store.specs.Held.{Asks, HoldsCommonTables, HoldsDesk, IsOfWith, Moves, desk, Reads};
+ghost use Rattle.rd_store.specs.Held.{Asks, HoldsCommonTables, HoldsDesk, IsDeskWith, Moves, desk, Reads};
 ghost use Rattle.rd_store.specs.Index.{AreFilesIn, IsFileIn, IsFiledTo};
 ghost use Rattle.rd_store.specs.Spelled.{file_in, file_shown, index_of};
 
@@ -45,7 +45,7 @@ pub(crate) fn file_rows<S: Alter>(
 }
 
 /// The number below 65,536 in a column.
-fn small_at(row: &Row, at: usize) -> Result<u16, StoreFault>
+fn u16_at(row: &Row, at: usize) -> Result<u16, StoreFault>
     ensures value { IfOk result (λ number. number ≡ natural (column row.now at)) }
     ensures fault { IfErr result (λ fault. fault ≡ StoreFault.Sql) }
 {
@@ -87,7 +87,7 @@ fn read_file(alloc: Global, row: &Row) -> Result<Found, StoreFault>
     ensures file { IfOk result (λ file. file ≡ file_in row.now) }
     ensures fault { IfErr result (λ fault. fault ≡ StoreFault.Sql) }
 {
-    let slot = small_at(row, 0)?;
+    let slot = u16_at(row, 0)?;
     let name = Text::of(text_at(row, 1)?);
     let ty = Text::of(text_at(row, 2)?);
     let user = user_at(row, 3)?;
@@ -95,7 +95,7 @@ fn read_file(alloc: Global, row: &Row) -> Result<Found, StoreFault>
     let size = some_number_at(row, 5)?;
     let faults = byte_at(row, 6)?;
     let units = units_at(alloc, row, 7)?;
-    let last_len = small_at(row, 8)?;
+    let last_len = u16_at(row, 8)?;
     Ok(Found {
         slot,
         name,
@@ -135,9 +135,9 @@ fn first_file(alloc: Global, rows: &[Row]) -> Result<Option<Found>, StoreFault>
     }
 }
 
-/// Puts a file into the index, inside a transaction: the next of its accession's files, whose units are
-/// spelled by these bytes.
-fn put_file<S: Alter>(
+/// Inserts the row of a file into the index, inside a transaction: the next of its accession's files. The bytes
+/// are the code of its units.
+fn insert_row<S: Alter>(
     tx: &mut Transaction<'_, S>,
     acc: u32,
     file: &Found,
@@ -147,19 +147,19 @@ fn put_file<S: Alter>(
     ensures same_reference { tx.new.conn.ghost_name ≡ tx.old.conn.ghost_name }
     ensures moves { (desk : _) (images : _) (files : _) (count : _) → count < length files → get_or files count file.now ≡ file.now
         → AllPairs (λ f g. f.slot < g.slot) files → Moves S.Store tx.old.conn.now tx.new.conn.now
-        (IsOfWith desk (IsFiledTo images acc files count)) (IsOfWith desk (IsFiledTo images acc files (count + 1))) result }
+        (IsDeskWith desk (IsFiledTo images acc files count)) (IsDeskWith desk (IsFiledTo images acc files (count + 1))) result }
 {
     let slot = u32::from(file.slot);
     let name = file.name.as_str();
     let ty = file.ty.as_str();
     let user = codes::of_user(file.user);
-    let class = codes::of_class(file.served_class);
+    let is_served = codes::of_class(file.served_class);
     let faults = u32::from(file.faults);
     let last = u32::from(file.last_len);
     tx.execute(
         "INSERT INTO found (acc, slot, name, ty, user_no, served, size, faults, units, last_len) VALUES (?1, ?2, ?3, ?4, ?5, ?6, ?7, ?8, ?9, ?10)",
         params![
-            acc, slot, name, ty, user, class, file.size, faults, units, last
+            acc, slot, name, ty, user, is_served, file.size, faults, units, last
         ],
     )
 }
@@ -176,11 +176,11 @@ fn insert_file<S: Alter>(
     requires ascending { AllPairs (λ f g. f.slot < g.slot) files.now }
     ensures same_reference { tx.new.conn.ghost_name ≡ tx.old.conn.ghost_name }
     ensures moves { (desk : _) (images : _) → Moves S.Store tx.old.conn.now tx.new.conn.now
-        (IsOfWith desk (IsFiledTo images acc files.now at)) (IsOfWith desk (IsFiledTo images acc files.now (at + 1))) result }
+        (IsDeskWith desk (IsFiledTo images acc files.now at)) (IsDeskWith desk (IsFiledTo images acc files.now (at + 1))) result }
 {
     let file = &files[at];
     match codes::of_units(alloc, file.units.as_slice()) {
-        Ok(units) => put_file(tx, acc, file, &units),
+        Ok(units) => insert_row(tx, acc, file, &units),
         Err(_) => Err(Error::SqliteFailure(ErrorCode::OutOfMemory)),
     }
 }
@@ -195,7 +195,7 @@ pub(crate) fn insert_files<S: Alter>(
     requires ascending { AllPairs (λ f g. f.slot < g.slot) files.now }
     ensures same_reference { tx.new.conn.ghost_name ≡ tx.old.conn.ghost_name }
     ensures moves { (desk : _) (images : _) → Moves S.Store tx.old.conn.now tx.new.conn.now
-        (IsOfWith desk (IsFiledTo images acc files.now 0)) (IsOfWith desk (IsFiledTo images acc files.now (length files.now))) result }
+        (IsDeskWith desk (IsFiledTo images acc files.now 0)) (IsDeskWith desk (IsFiledTo images acc files.now (length files.now))) result }
 {
     for at in 0..files.len() {
         insert_file(alloc, tx, acc, files, at)?;

@@ -9,13 +9,13 @@ ghost use Rattle.rd_volume.specs.Volumes.{AreFounds};
 ghost use Rattle.rd_holdings.specs.declared.rows.ImageRow.{ImageRow};
 ghost use Rattle.rd_tables.specs.Asked.{IsPicked};
 ghost use Rattle.rd_tables.specs.Queries.{image_query};
-ghost use Rattle.rd_tables.specs.Sheets.{Spells, map_of, natural};
-ghost use Rattle.rd_store.specs.Held.{Asks, Changes, HoldsCommonTables, HoldsDesk, IsOfWith, IsOpen, Judges, LacksImage, Moves, desk, Reads};
+ghost use Rattle.rd_tables.specs.Spellings.{Spells, map_of, natural};
+ghost use Rattle.rd_store.specs.Held.{Asks, Changes, HoldsCommonTables, HoldsDesk, IsDeskWith, IsOpen, Judges, LacksImage, Moves, desk, Reads};
 ghost use Rattle.rd_store.specs.Index.{IsFiledTo, with_new_image};
 ghost use Rattle.rd_holdings.specs.Lawful.{IsImage};
 ghost use Rattle.rd_store.specs.Register.{IsSameHeading};
 ghost use Rattle.rd_store.specs.Shown.{as_row, image_shown, image_with};
-ghost use Rattle.rd_store.specs.Spelled.{image_sheet};
+ghost use Rattle.rd_store.specs.Spelled.{image_spelling};
 ghost use Rattle.rd_holdings.specs.State.{HasOtherImage, with_image, accession_of, registered};
 
 use crate::codes;
@@ -24,7 +24,7 @@ use crate::faults::StoreFault;
 use crate::files::insert_files;
 use crate::marks::{insert_marks, marked_image};
 use crate::read::read_over;
-use crate::register::given;
+use crate::register::accession_from;
 use crate::store::Store;
 use rd_geometry::{Image, Items, Kind};
 use rd_holdings::{Accession, ImageRow};
@@ -92,8 +92,8 @@ fn image_at<S: Alter>(
 ) -> Result<Option<ImageRow>, StoreFault>
     requires tables { HoldsCommonTables (state S.Store conn.old) }
     ensures asks { Asks S.Store conn.old conn.new result StoreFault.Sql (λ found.
-        Spells image_sheet ((state S.Store conn.old).now.trees 2)
-        → found ≡ get (map_of image_sheet ((state S.Store conn.old).now.trees 2)) acc) }
+        Spells image_spelling ((state S.Store conn.old).now.trees 2)
+        → found ≡ get (map_of image_spelling ((state S.Store conn.old).now.trees 2)) acc) }
 {
     let rows = image_rows(conn, acc)?;
     first_image(alloc, &rows)
@@ -136,7 +136,7 @@ fn insert_row<S: Alter>(
 ) -> Result<usize, Error>
     ensures same_reference { tx.new.conn.ghost_name ≡ tx.old.conn.ghost_name }
     ensures moves { (before : _) (files : _) → Moves S.Store tx.old.conn.now tx.new.conn.now
-        (LacksImage acc before) (IsOfWith (with_new_image acc (as_row (image_with heading.now bytes.now)) before) (IsFiledTo before.images acc files 0)) result }
+        (LacksImage acc before) (IsDeskWith (with_new_image acc (as_row (image_with heading.now bytes.now)) before) (IsFiledTo before.images acc files 0)) result }
 {
     let code = codes::of_kind(heading.kind);
     let sum = heading.digest.as_slice();
@@ -157,7 +157,7 @@ fn insert_both<S: Alter>(
     requires size { length bytes.now ≡ size_of Kind.D64e }
     ensures same_reference { tx.new.conn.ghost_name ≡ tx.old.conn.ghost_name }
     ensures moves { (before : _) (files : _) → Moves S.Store tx.old.conn.now tx.new.conn.now
-        (LacksImage acc before) (IsOfWith (with_new_image acc (image_with heading.now bytes.now) before) (IsFiledTo before.images acc files 0)) result }
+        (LacksImage acc before) (IsDeskWith (with_new_image acc (image_with heading.now bytes.now) before) (IsFiledTo before.images acc files 0)) result }
 {
     let (blocks, marks) = bytes.split_at(Kind::D64.size());
     insert_row(tx, acc, heading, blocks)?;
@@ -174,7 +174,7 @@ fn insert_image<S: Alter>(
     requires size { length bytes.now ≡ size_of heading.now.kind }
     ensures same_reference { tx.new.conn.ghost_name ≡ tx.old.conn.ghost_name }
     ensures moves { (before : _) (files : _) → Moves S.Store tx.old.conn.now tx.new.conn.now
-        (LacksImage acc before) (IsOfWith (with_new_image acc (image_with heading.now bytes.now) before) (IsFiledTo before.images acc files 0)) result }
+        (LacksImage acc before) (IsDeskWith (with_new_image acc (image_with heading.now bytes.now) before) (IsFiledTo before.images acc files 0)) result }
 {
     if heading.kind == Kind::D64e {
         return insert_both(tx, acc, heading, bytes);
@@ -240,7 +240,7 @@ impl<S: Alter> Store<S> {
     {
         self.stays_open()?;
         match self.register.find(acc) {
-            Some(heading) => Ok(Some(given(heading))),
+            Some(heading) => Ok(Some(accession_from(heading))),
             None => Ok(None),
         }
     }
@@ -278,7 +278,7 @@ impl<S: Alter> Store<S> {
         ensures fault { IfErr result (λ fault. fault ≡ StoreFault.Sql) }
     {
         self.stays_open()?;
-        self.register.givens(alloc)
+        self.register.numbered(alloc)
     }
 
     /// Puts an image where none stands, and then into the register, in room that is there before: after the commit

@@ -5,7 +5,7 @@ ghost use Rattle.sqlite.specs.Held.{state};
 ghost use Rattle.rd_store.specs.Held.{Changes, HoldsDesk, IsOf, IsOpen, Moves, desk, Judges, Reads};
 ghost use Rattle.rd_holdings.specs.Lawful.{IsKey};
 ghost use Rattle.rd_store.specs.Shown.{ShowsOther, audience_shown};
-ghost use Rattle.rd_store.specs.Spelled.{key_sheet};
+ghost use Rattle.rd_store.specs.Spelled.{key_spelling};
 ghost use Rattle.rd_holdings.specs.State.{HasOtherStaff, with_key, without_key, IsLastStaff};
 ghost use Rattle.std.specs.Option.{option_to_list};
 
@@ -28,7 +28,7 @@ fn read_audience(row: &Row) -> Result<Audience, StoreFault>
 
 /// The key that a row shows: its digest, and its audience.
 fn read_key(row: &Row) -> Result<([u8; 32], Audience), StoreFault>
-    ensures entry { IfOk result (λ entry. entry ≡ key_sheet.entry row.now) }
+    ensures entry { IfOk result (λ entry. entry ≡ key_spelling.entry row.now) }
     ensures fault { IfErr result (λ fault. fault ≡ StoreFault.Sql) }
 {
     let digest = digest_at(row, 0)?;
@@ -38,7 +38,7 @@ fn read_key(row: &Row) -> Result<([u8; 32], Audience), StoreFault>
 
 /// The keys that rows show.
 fn read_keys(alloc: Global, rows: &[Row]) -> Result<Vec<([u8; 32], Audience)>, StoreFault>
-    ensures entries { IfOk result (λ keys. keys.items ≡ map key_sheet.entry rows.now) }
+    ensures entries { IfOk result (λ keys. keys.items ≡ map key_spelling.entry rows.now) }
     ensures fault { IfErr result (λ fault. fault ≡ StoreFault.Sql) }
 {
     let mut keys = Vec::new(alloc);
@@ -166,7 +166,7 @@ impl<S: Alter> Store<S> {
     /// The rows for all desk keys.
     fn key_rows(&mut self) -> Result<Vec<Row>, StoreFault>
         ensures reads { Reads S.Store self.old self.new result (λ rows.
-            rows.items ≡ map key_sheet.columns (entries (desk S.Store self.old).keys)) }
+            rows.items ≡ map key_spelling.columns (entries (desk S.Store self.old).keys)) }
         ensures fault { IfErr result (λ fault. fault ≡ StoreFault.Sql) }
     {
         self.query("SELECT digest, audience FROM badge ORDER BY digest", &[])

@@ -3,32 +3,32 @@
 #![tactic(auto)]
 
 mod batches;
-mod cells;
 mod checks;
 mod codes;
+mod columns;
+mod connection_state;
 mod crash_laws;
 mod create;
 mod decode;
 mod deeds;
 mod faults;
 mod files;
-mod filing;
+mod image_cache;
+mod image_walk;
 mod images;
-mod judging;
+mod index_checks;
 mod keys;
-mod last;
 mod marks;
 mod migrating;
 mod opening;
-mod outside;
 mod read;
 mod register;
+mod row_checks;
 mod rulebook;
 mod rules;
 mod store;
-mod tested;
+mod validation;
 mod version;
-mod walking;
 
 pub use crash_laws::left_desks_open;
 pub use faults::{CreateFault, OpenFault, Refused, StoreFault};

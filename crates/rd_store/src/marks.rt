@@ -8,13 +8,13 @@ ghost use Rattle.sqlite.specs.declared.types.Value.TheVariants.{Int};
 ghost use Rattle.rd_geometry.specs.Blocks.{CBM_BLOCKS};
 ghost use Rattle.rd_tables.specs.Asked.{IsPicked};
 ghost use Rattle.rd_tables.specs.Queries.{marks_query};
-ghost use Rattle.rd_tables.specs.Sheets.{Spells, map_of};
+ghost use Rattle.rd_tables.specs.Spellings.{Spells, map_of};
 ghost use Rattle.rd_holdings.specs.declared.rows.ImageRow.{ImageRow};
-ghost use Rattle.rd_store.specs.Held.{Asks, HoldsDesk, HoldsTables, IsClean, IsOfWith, IsOpen, Moves, desk};
+ghost use Rattle.rd_store.specs.Held.{Asks, HoldsDesk, HoldsTables, IsClean, IsDeskWith, IsOpen, Moves, desk};
 ghost use Rattle.rd_store.specs.Index.{IsFiledTo, with_new_image};
 ghost use Rattle.rd_store.specs.Marks.{kind_with as kind_marked, with_marks as image_marked};
 ghost use Rattle.rd_store.specs.Shown.{marks_shown};
-ghost use Rattle.rd_store.specs.Spelled.{image_sheet, marks_sheet};
+ghost use Rattle.rd_store.specs.Spelled.{image_spelling, marks_spelling};
 
 use crate::decode::bytes_at;
 use crate::faults::StoreFault;
@@ -54,8 +54,8 @@ pub(crate) fn marks_at<S: Alter>(
 ) -> Result<Option<Items<u8>>, StoreFault>
     requires tables { HoldsTables (state S.Store conn.old) }
     ensures asks { Asks S.Store conn.old conn.new result StoreFault.Sql (λ found.
-        Spells marks_sheet ((state S.Store conn.old).now.trees 11)
-        → found ≡ get (map_of marks_sheet ((state S.Store conn.old).now.trees 11)) acc) }
+        Spells marks_spelling ((state S.Store conn.old).now.trees 11)
+        → found ≡ get (map_of marks_spelling ((state S.Store conn.old).now.trees 11)) acc) }
 {
     let rows = marks_rows(conn, acc)?;
     first_marks(alloc, &rows)
@@ -95,9 +95,9 @@ pub(crate) fn marked_image<S: Alter>(
     row: ImageRow,
 ) -> Result<ImageRow, StoreFault>
     requires holds { HoldsDesk (state S.Store conn.old) }
-    requires awake { IsClean S.Store conn.old → IsOpen S.Store conn.old }
+    requires open_if_clean { IsClean S.Store conn.old → IsOpen S.Store conn.old }
     ensures asks { Asks S.Store conn.old conn.new result StoreFault.Sql (λ image.
-        get (map_of image_sheet ((state S.Store conn.old).now.trees 2)) acc ≡ Some row
+        get (map_of image_spelling ((state S.Store conn.old).now.trees 2)) acc ≡ Some row
         → get (desk S.Store conn.old).images acc ≡ Some image) }
     ensures kept { HoldsDesk (state S.Store conn.new) }
 {
@@ -124,8 +124,8 @@ pub(crate) fn insert_marks<S: Alter>(
     requires count { length marks.now ≡ CBM_BLOCKS }
     ensures same_reference { tx.new.conn.ghost_name ≡ tx.old.conn.ghost_name }
     ensures moves { (before : _) (images : _) (files : _) (count : _) (image : ImageRow) → get before.images acc ≡ Some image → image.kind ≡ Kind.D64
-        → Moves S.Store tx.old.conn.now tx.new.conn.now (IsOfWith before (IsFiledTo images acc files count))
-        (IsOfWith (with_new_image acc (image_marked (Some marks.now) image) before) (IsFiledTo images acc files count)) result }
+        → Moves S.Store tx.old.conn.now tx.new.conn.now (IsDeskWith before (IsFiledTo images acc files count))
+        (IsDeskWith (with_new_image acc (image_marked (Some marks.now) image) before) (IsFiledTo images acc files count)) result }
 {
     tx.execute(
         "INSERT INTO marks (acc, bytes) VALUES (?1, ?2)",

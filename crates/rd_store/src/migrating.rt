@@ -2,7 +2,7 @@
 
 ghost use Rattle.std.specs.Prelude.{◌≡◌, IfOk, IfErr, false};
 ghost use Rattle.sqlite.specs.Held.{state};
-ghost use Rattle.rd_store.specs.Created.{IsAt, Turns};
+ghost use Rattle.rd_store.specs.Created.{RestsIn, Turns};
 ghost use Rattle.rd_store.specs.Held.{HoldsDesk, IsOf, IsOpen, Moves};
 ghost use Rattle.rd_store.specs.Migrated.{IsFirst, IsHalfway, IsMigrated, IsNotMigrated, first_desk};
 ghost use Rattle.rd_store.specs.Opened.{IsSettledAt, IsSoundAt};
@@ -10,8 +10,8 @@ ghost use Rattle.rd_store.specs.Register.{IsRegisterOf};
 
 use crate::create::create_text;
 use crate::faults::OpenFault;
-use crate::judging::judge_each;
 use crate::register::Register;
+use crate::validation::judge_each;
 use crate::version::Version;
 use sqlite::{Alter, Connection, Error, Transaction};
 use std::alloc::Global;
@@ -44,7 +44,7 @@ fn write_second_tables<S: Alter>(tx: &mut Transaction<'_, S>) -> Result<usize, E
 /// Makes tables of version 1 those of version 2, in one transaction.
 fn write_version<S: Alter>(conn: &mut Connection<S>) -> Result<(), Error>
     requires mode { conn.old.in_transaction ≡ false }
-    requires start { IsOpen S.Store conn.old → IsAt (IsFirst (first_desk (state S.Store conn.old).now.trees)) (state S.Store conn.old) }
+    requires start { IsOpen S.Store conn.old → RestsIn (IsFirst (first_desk (state S.Store conn.old).now.trees)) (state S.Store conn.old) }
     ensures turns { Turns S.Store conn.old conn.new (IsOf (first_desk (state S.Store conn.old).now.trees)) result }
 {
     let mut tx = conn.transaction();
@@ -54,7 +54,7 @@ fn write_version<S: Alter>(conn: &mut Connection<S>) -> Result<(), Error>
 
 /// Makes tables of version 1 those of version 2, where no transaction has begun. The register stays.
 fn bring_up<S: Alter>(conn: &mut Connection<S>, register: Register) -> Result<Register, OpenFault>
-    requires start { IsOpen S.Store conn.old → IsAt (IsFirst (first_desk (state S.Store conn.old).now.trees)) (state S.Store conn.old) }
+    requires start { IsOpen S.Store conn.old → RestsIn (IsFirst (first_desk (state S.Store conn.old).now.trees)) (state S.Store conn.old) }
     ensures turns { Turns S.Store conn.old conn.new (IsOf (first_desk (state S.Store conn.old).now.trees)) result }
     ensures same { IfOk result (λ brought. brought ≡ register) }
     ensures fault { IfErr result (λ fault. fault ≡ OpenFault.Sql) }

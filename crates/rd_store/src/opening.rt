@@ -5,27 +5,27 @@ ghost use Rattle.sqlite.specs.Order.{column};
 ghost use Rattle.sqlite_rules.specs.Edit.{id_in};
 ghost use Rattle.sqlite_trees.specs.View.{is_int};
 ghost use Rattle.rd_tables.specs.Asked.{AreRising, IsListed};
-ghost use Rattle.rd_tables.specs.Sheets.{HaveRowids, map_of, natural};
+ghost use Rattle.rd_tables.specs.Spellings.{HaveRowids, map_of, natural};
 ghost use Rattle.rd_store.specs.Register.{listed, number_of, register_of};
-ghost use Rattle.rd_store.specs.Spelled.{HasVersion, HaveOwnRowids, deed_sheet, desk_of, unmarked};
+ghost use Rattle.rd_store.specs.Spelled.{HasVersion, HaveOwnRowids, deed_spelling, desk_of, unmarked};
 ghost use Rattle.rd_store.specs.Held.{Asks, HoldsCommonTables, HoldsTables, IsOpen};
 ghost use Rattle.rd_store.specs.Opened.{AreKeys, AreNumbers, HoldsListed, HoldsMarksOf, IsConsistent, IsConsistentAs, IsSoundAt, LawfulChecks, LawfulCommon, LawfulDeeds, LawfulGiven, LawfulKeys, LawfulOthers, LawfulRules, HaveOtherRowids, Tests, TestsPart, listing_query, listing_text, listing_tree};
 ghost use Rattle.rd_store.specs.Walked.{IsWalk, LawfulCommonWalk, LawfulGivenWalk};
 
 use crate::faults::OpenFault;
-use crate::filing::check_filed;
+use crate::image_walk::walk_images;
 use crate::images::{Heading, read_numbers};
+use crate::index_checks::check_filed;
 use crate::read::read_over;
 use crate::register::Register;
-use crate::tested::{are_checks, are_deeds, are_keys, are_marks, are_rules, have_error_bytes};
-use crate::walking::walk_images;
+use crate::row_checks::{are_checks, are_deeds, are_keys, are_marks, are_rules, have_error_bytes};
 use sqlite::types::ValueRef;
 use sqlite::{Alter, Connection, Row};
 use std::alloc::Global;
 
 /// A table all of whose rows are read at once when a desk is opened.
 #[derive(Clone, Copy)]
-pub(crate) enum Listing {
+pub(crate) enum TableListing {
     Deeds,
     Rules,
     Keys,
@@ -36,17 +36,17 @@ pub(crate) enum Listing {
 
 /// The text that asks for all rows of a table, each with its rowid first. The number of a deed and the accession
 /// of error bytes are rowids, since each is an INTEGER PRIMARY KEY.
-fn listing_text(table: Listing) -> &'static str
+fn listing_text(table: TableListing) -> &'static str
     ensures { result.now ≡ listing_text table }
 {
     match table {
-        Listing::Deeds => "SELECT num, donor, signed FROM deed ORDER BY num",
-        Listing::Rules =>
+        TableListing::Deeds => "SELECT num, donor, signed FROM deed ORDER BY num",
+        TableListing::Rules =>
             "SELECT rowid, band, scope, rank, audiences, day_from, day_until, how, number, word, effect FROM rule ORDER BY rowid",
-        Listing::Keys => "SELECT rowid, digest, audience FROM badge ORDER BY rowid",
-        Listing::Checks => "SELECT rowid, acc, day, outcome FROM checked ORDER BY rowid",
-        Listing::Files => "SELECT rowid, acc FROM found ORDER BY rowid",
-        Listing::Marks => "SELECT acc, length(bytes), typeof(bytes) FROM marks ORDER BY acc",
+        TableListing::Keys => "SELECT rowid, digest, audience FROM badge ORDER BY rowid",
+        TableListing::Checks => "SELECT rowid, acc, day, outcome FROM checked ORDER BY rowid",
+        TableListing::Files => "SELECT rowid, acc FROM found ORDER BY rowid",
+        TableListing::Marks => "SELECT acc, length(bytes), typeof(bytes) FROM marks ORDER BY acc",
     }
 }
 
@@ -84,7 +84,7 @@ pub(crate) fn are_rising(rows: &[Row]) -> bool
 /// All rows of a table.
 pub(crate) fn read_listing<S: Alter>(
     conn: &mut Connection<S>,
-    table: Listing,
+    table: TableListing,
 ) -> Result<Vec<Row>, OpenFault>
     requires tables { HoldsListed table (state S.Store conn.old) }
     ensures asks { Asks S.Store conn.old conn.new result OpenFault.Sql (λ rows.
@@ -102,10 +102,10 @@ fn check_deeds<S: Alter>(alloc: Global, conn: &mut Connection<S>) -> Result<Vec<
     requires tables { HoldsCommonTables (state S.Store conn.old) }
     ensures tests { Tests S.Store conn.old conn.new result LawfulDeeds }
     ensures numbers { IsOpen S.Store conn.new → IfOk result (λ numbers.
-        AreKeys (map_of deed_sheet ((state S.Store conn.old).now.trees 1)) numbers.items) }
+        AreKeys (map_of deed_spelling ((state S.Store conn.old).now.trees 1)) numbers.items) }
     ensures ascending { IfOk result (λ numbers. IsNonDecreasing numbers.items) }
 {
-    let rows = read_listing(conn, Listing::Deeds)?;
+    let rows = read_listing(conn, TableListing::Deeds)?;
     if !are_deeds(&rows) {
         return Err(OpenFault::Inconsistent);
     }
@@ -128,7 +128,7 @@ fn check_rules<S: Alter>(
     ensures tests { Tests S.Store conn.old conn.new result (LawfulRules accessions.now deeds.now) }
     ensures rowids { IsOpen S.Store conn.new → IfOk result (λ done. HaveRowids ((state S.Store conn.old).now.trees 3)) }
 {
-    let rows = read_listing(conn, Listing::Rules)?;
+    let rows = read_listing(conn, TableListing::Rules)?;
     if !are_rules(&rows, accessions, deeds) {
         return Err(OpenFault::Inconsistent);
     }
@@ -142,7 +142,7 @@ fn check_keys<S: Alter>(conn: &mut Connection<S>) -> Result<(), OpenFault>
     ensures tests { Tests S.Store conn.old conn.new result LawfulKeys }
     ensures rowids { IsOpen S.Store conn.new → IfOk result (λ done. HaveRowids ((state S.Store conn.old).now.trees 5)) }
 {
-    let rows = read_listing(conn, Listing::Keys)?;
+    let rows = read_listing(conn, TableListing::Keys)?;
     if !are_keys(&rows) {
         return Err(OpenFault::Inconsistent);
     }
@@ -157,7 +157,7 @@ fn check_checks<S: Alter>(conn: &mut Connection<S>, accessions: &[u32]) -> Resul
     ensures tests { Tests S.Store conn.old conn.new result (LawfulChecks accessions.now) }
     ensures rowids { IsOpen S.Store conn.new → IfOk result (λ done. HaveRowids ((state S.Store conn.old).now.trees 7)) }
 {
-    let rows = read_listing(conn, Listing::Checks)?;
+    let rows = read_listing(conn, TableListing::Checks)?;
     if !are_checks(&rows, accessions) {
         return Err(OpenFault::Inconsistent);
     }
@@ -166,7 +166,7 @@ fn check_checks<S: Alter>(conn: &mut Connection<S>, accessions: &[u32]) -> Resul
 
 /// The numbers of the deeds and the entries of the images in the register, if these are those of a desk, and the rows of
 /// the index for each image are those of its files. The marked accessions have error bytes.
-fn check_given<S: Alter>(
+fn check_deeds_and_images<S: Alter>(
     alloc: Global,
     conn: &mut Connection<S>,
     marked: &[u32],
@@ -241,7 +241,7 @@ fn check_common<S: Alter>(
     ensures numbers { IfOk result (λ common. common.0.items ≡ map number_of (listed common.1)) }
     ensures ascending { IfOk result (λ common. IsNonDecreasing common.0.items) }
 {
-    let (deeds, entries) = check_given(alloc, conn, marked)?;
+    let (deeds, entries) = check_deeds_and_images(alloc, conn, marked)?;
     let register = Register::of(entries);
     let accessions = accessions_in(alloc, &register)?;
     check_others(conn, &accessions, &deeds)?;
@@ -254,10 +254,10 @@ fn marks_listed<S: Alter>(conn: &mut Connection<S>) -> Result<Vec<Row>, OpenFaul
     requires tables { HoldsTables (state S.Store conn.old) }
     ensures tests { TestsPart S.Store conn.old conn.new result (λ trees. ⊤) IsConsistent }
     ensures listed { IsOpen S.Store conn.new → IfOk result (λ rows.
-        IsListed (listing_query Listing.Marks) ((state S.Store conn.old).now.trees 11) rows.items) }
+        IsListed (listing_query TableListing.Marks) ((state S.Store conn.old).now.trees 11) rows.items) }
     ensures rising { IfOk result (λ rows. AreRising rows.items) }
 {
-    let rows = read_listing(conn, Listing::Marks)?;
+    let rows = read_listing(conn, TableListing::Marks)?;
     if !have_error_bytes(&rows) {
         return Err(OpenFault::Inconsistent);
     }
@@ -272,7 +272,7 @@ fn read_marks<S: Alter>(
     requires tables { HoldsTables (state S.Store conn.old) }
     ensures tests { TestsPart S.Store conn.old conn.new result (λ trees. ⊤) IsConsistent }
     ensures listed { IsOpen S.Store conn.new → IfOk result (λ marks.
-        IsListed (listing_query Listing.Marks) ((state S.Store conn.old).now.trees 11) marks.0.items) }
+        IsListed (listing_query TableListing.Marks) ((state S.Store conn.old).now.trees 11) marks.0.items) }
     ensures numbers { IfOk result (λ marks. marks.1.items ≡ map (λ row. natural (column row 0)) marks.0.items) }
     ensures ascending { IfOk result (λ marks. IsNonDecreasing marks.1.items) }
 {

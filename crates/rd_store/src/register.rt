@@ -7,7 +7,7 @@ ghost use Rattle.std.specs.Ordering.{nat_cmp};
 ghost use Rattle.std.specs.FinMap.{FinMap, get, insert};
 ghost use Rattle.rd_store.specs.declared.images.Heading.{Heading as Entry};
 ghost use Rattle.rd_holdings.specs.declared.rows.ImageRow.{ImageRow};
-ghost use Rattle.rd_store.specs.Register.{HasRoom, IsPlaceIn, entry_for, given_in, given_of, listed, number_of, register_of};
+ghost use Rattle.rd_store.specs.Register.{HasRoom, IsPlaceIn, entry_for, numbered_accession, accession_of_heading, listed, number_of, register_of};
 ghost use Rattle.rd_store.specs.Shown.{heading_of};
 
 use crate::faults::StoreFault;
@@ -42,7 +42,7 @@ fn place_for(entries: &[(u32, Heading)], acc: u32) -> usize
     }
 }
 
-/// The entry at a place of the register.
+/// The heading of the image at a place of the register, counted from 0: its entry without the accession.
 fn heading_in(entries: &[(u32, Heading)], at: usize) -> Heading
     requires { at < length entries.now }
     ensures { (d : ℕ × Entry) → result ≡ (slice_index_or entries.now at d).1 }
@@ -65,8 +65,8 @@ fn numbers_in(alloc: Global, entries: &[(u32, Heading)]) -> Result<Vec<u32>, Sto
 }
 
 /// The kind and the deed of an accession.
-pub(crate) fn given(heading: Heading) -> Accession
-    ensures { result ≡ given_of heading }
+pub(crate) fn accession_from(heading: Heading) -> Accession
+    ensures { result ≡ accession_of_heading heading }
 {
     Accession {
         kind: heading.kind,
@@ -75,18 +75,21 @@ pub(crate) fn given(heading: Heading) -> Accession
 }
 
 /// The accessions, each with its kind and its deed.
-fn givens_in(alloc: Global, entries: &[(u32, Heading)]) -> Result<Vec<(u32, Accession)>, StoreFault>
-    ensures givens { IfOk result (λ givens. givens.items ≡ map given_in entries.now) }
+fn numbered_in(
+    alloc: Global,
+    entries: &[(u32, Heading)],
+) -> Result<Vec<(u32, Accession)>, StoreFault>
+    ensures numbered { IfOk result (λ numbered. numbered.items ≡ map numbered_accession entries.now) }
     ensures fault { IfErr result (λ fault. fault ≡ StoreFault.Sql) }
 {
-    let mut givens = Vec::new(alloc);
+    let mut numbered = Vec::new(alloc);
     for entry in entries {
         let (acc, heading) = *entry;
-        if givens.push((acc, given(heading))).is_err() {
+        if numbered.push((acc, accession_from(heading))).is_err() {
             return Err(StoreFault::Sql);
         }
     }
-    Ok(givens)
+    Ok(numbered)
 }
 
 impl Register {
@@ -145,11 +148,11 @@ impl Register {
     }
 
     /// All accessions, ascending, each with its kind and its deed.
-    pub(crate) fn givens(&self, alloc: Global) -> Result<Vec<(u32, Accession)>, StoreFault>
-        ensures givens { IfOk result (λ givens. givens.items ≡ map given_in (listed self.now)) }
+    pub(crate) fn numbered(&self, alloc: Global) -> Result<Vec<(u32, Accession)>, StoreFault>
+        ensures numbered { IfOk result (λ numbered. numbered.items ≡ map numbered_accession (listed self.now)) }
         ensures fault { IfErr result (λ fault. fault ≡ StoreFault.Sql) }
     {
-        givens_in(alloc, self.as_slice())
+        numbered_in(alloc, self.as_slice())
     }
 
     /// Takes the accessions out.

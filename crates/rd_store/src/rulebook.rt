@@ -41,7 +41,7 @@ fn is_before(one: &Rule, other: &Rule) -> bool
 }
 
 /// Whether each rule comes before the next.
-fn ascend(rules: &[Rule]) -> bool
+fn are_ascending(rules: &[Rule]) -> bool
     ensures { IsTrue result → AreAllRules rules.now }
 {
     for i in 1..rules.len() {
@@ -84,7 +84,7 @@ impl Rulebook {
     pub(crate) fn of(rules: Vec<Rule>) -> Option<Rulebook>
         ensures { IfSome result (λ book. book ≡ rules.items) }
     {
-        if !ascend(&rules) {
+        if !are_ascending(&rules) {
             return None;
         }
         Some(Rulebook { rules })

@@ -3,10 +3,10 @@ ghost use Rattle.std.specs.FinMap.{entries, get, retain_keys};
 ghost use Rattle.sqlite.specs.Held.{state};
 ghost use Rattle.sqlite.specs.Order.{column};
 ghost use Rattle.sqlite_value.specs.Order.{bytes};
-ghost use Rattle.rd_tables.specs.Sheets.{natural};
+ghost use Rattle.rd_tables.specs.Spellings.{natural};
 ghost use Rattle.rd_store.specs.Codes.{select_in};
 ghost use Rattle.rd_store.specs.Held.{Changes, HoldsDesk, IsOf, IsOpen, Judges, Moves, desk, Reads};
-ghost use Rattle.rd_store.specs.Spelled.{rule_sheet};
+ghost use Rattle.rd_store.specs.Spelled.{rule_spelling};
 ghost use Rattle.rd_policy.specs.Rules.{IsRule};
 ghost use Rattle.rd_holdings.specs.State.{Stands, place_of, rule_of, rules_at, terms_of, with_rule, without_rule, is_at, all_rules, rules_for};
 ghost use Rattle.rd_policy.specs.Verdicts.{AreInOrder};
@@ -42,7 +42,7 @@ fn select_at(row: &Row) -> Result<Select, StoreFault>
 
 /// The rule that a row shows.
 fn read_rule(row: &Row) -> Result<Rule, StoreFault>
-    ensures rule { IfOk result (λ rule. rule ≡ rule_of (rule_sheet.entry row.now)) }
+    ensures rule { IfOk result (λ rule. rule ≡ rule_of (rule_spelling.entry row.now)) }
     ensures fault { IfErr result (λ fault. fault ≡ StoreFault.Sql) }
 {
     let band = band(number_at(row, 0)?);
@@ -68,7 +68,7 @@ fn read_rule(row: &Row) -> Result<Rule, StoreFault>
 /// The rules that rows show.
 fn read_rules(alloc: Global, rows: &[Row]) -> Result<Vec<Rule>, StoreFault>
     ensures rules { IfOk result (λ rules.
-        rules.items ≡ map (λ row. rule_of (rule_sheet.entry row)) rows.now) }
+        rules.items ≡ map (λ row. rule_of (rule_spelling.entry row)) rows.now) }
     ensures fault { IfErr result (λ fault. fault ≡ StoreFault.Sql) }
 {
     let mut rules = Vec::new(alloc);
@@ -157,7 +157,7 @@ impl<S: Alter> Store<S> {
     /// The rows for the rules of a band and a number.
     fn rule_rows(&mut self, band: Band, scope: u32) -> Result<Vec<Row>, StoreFault>
         ensures reads { Reads S.Store self.old self.new result (λ rows.
-            rows.items ≡ map rule_sheet.columns (entries (retain_keys (desk S.Store self.old).rules (λ place. is_at band scope place.band place.scope)))) }
+            rows.items ≡ map rule_spelling.columns (entries (retain_keys (desk S.Store self.old).rules (λ place. is_at band scope place.band place.scope)))) }
         ensures fault { IfErr result (λ fault. fault ≡ StoreFault.Sql) }
     {
         let first = codes::of_band(band).to_sql();
@@ -188,7 +188,7 @@ impl<S: Alter> Store<S> {
     /// The rows for all rules, by place.
     fn place_rows(&mut self) -> Result<Vec<Row>, StoreFault>
         ensures reads { Reads S.Store self.old self.new result (λ rows.
-            rows.items ≡ map rule_sheet.columns (entries (desk S.Store self.old).rules)) }
+            rows.items ≡ map rule_spelling.columns (entries (desk S.Store self.old).rules)) }
         ensures fault { IfErr result (λ fault. fault ≡ StoreFault.Sql) }
     {
         self.query(

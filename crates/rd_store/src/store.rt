@@ -8,9 +8,9 @@ ghost use Rattle.rd_store.specs.Migrated.{IsMigrated, IsNotMigrated};
 ghost use Rattle.rd_store.specs.Opened.{IsNotOpened, IsOpened};
 
 use crate::faults::{CreateFault, OpenFault, Refused};
-use crate::last::KeptImage;
+use crate::image_cache::KeptImage;
 use crate::register::Register;
-use crate::{create, judging, migrating};
+use crate::{create, migrating, validation};
 use rd_tables::{has_desk as has_desk_table, is_blank};
 use sqlite::{Alter, Connection};
 use std::alloc::Global;
@@ -30,7 +30,7 @@ impl<S: Alter> Model for Store<S> {
     ghost use Rattle.sqlite.specs.Held.{Held, held_code, state};
     ghost use Rattle.rd_store.specs.Held.{HoldsDesk};
     ghost use Rattle.rd_store.specs.Register.{IsRegisterOf};
-    ghost use Rattle.rd_store.specs.Last.{IsLastOf};
+    ghost use Rattle.rd_store.specs.ImageCache.{IsLastOf};
 
     ghost Value = { Held S };
 
@@ -96,7 +96,7 @@ impl<S: Alter> Store<S> {
         ensures refused { IfErr result (λ refused. IsNotOpened S.Store conn refused.conn refused.fault) }
     {
         let _outside = conn.is_autocommit();
-        match judging::judge(alloc, &mut conn) {
+        match validation::judge(alloc, &mut conn) {
             Ok(register) => Ok(Store {
                 conn,
                 register,
@@ -150,7 +150,7 @@ impl<S: Alter> Store<S> {
     /// Does nothing. Its contract says what holds between two calls: while the connection is open,
     /// its tables are those of a desk, the desk is a lawful one, the files of each of its images can
     /// be listed, and a crash leaves that desk and nothing else.
-    pub fn at_rest(&self)
+    pub fn between_calls(&self)
         ensures { IsAtRest S.Store self.now }
     {
         let _ = &self.conn;

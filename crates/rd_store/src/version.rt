@@ -8,7 +8,7 @@ ghost use Rattle.rd_tables.specs.Schemas.{TellsVersion};
 ghost use Rattle.rd_store.specs.Held.{Asks};
 ghost use Rattle.rd_store.specs.Opened.{IsSaid, IsSettledAt, Says};
 
-use crate::cells::has_just;
+use crate::columns::has_just;
 use crate::faults::OpenFault;
 use rd_tables::desk_tree;
 use sqlite::{Alter, Connection, Row};

@@ -9,7 +9,7 @@ use Rattle.sqlite.specs.Does.{lacks_sequence}
 use Rattle.sqlite.specs.Listing.{understood}
 use Rattle.sqlite.proofs.Callers.{IsPlain, command_of, statement_of}
 use Rattle.sqlite_tied.specs.Compute.{everything}
-use Rattle.rd_tables.proofs.Running.{IsWrite}
+use Rattle.rd_tables.proofs.StatementRuns.{IsWrite}
 use Rattle.rd_tables.specs.Schemas.{desk_table, deed_table, image_table, rule_table, badge_table, checked_table, found_table, marks_table}
 use Rattle.rd_tables.specs.Statements.{desk_text, deed_text, image_text, rule_text, badge_text, checked_text, found_text, marks_text, create_texts, schema_after}
 

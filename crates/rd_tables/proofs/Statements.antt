@@ -17,17 +17,17 @@ use Rattle.sqlite.specs.Values.{or_null}
 use Rattle.sqlite.specs.Command.{Command}
 use Rattle.sqlite_schema.specs.declared.schema.Keys.TheVariants.{Enforced}
 use Rattle.sqlite_value.proofs.OrderLemmas.{value_cmp_total}
-use Rattle.rd_tables.specs.Sheets.{HaveRowids}
+use Rattle.rd_tables.specs.Spellings.{HaveRowids}
 use Rattle.rd_tables.specs.Schemas.{desk_schema, desk_table, deed_table, image_table, rule_table, badge_table, checked_table, found_table, marks_table}
 use Rattle.rd_tables.specs.Statements.{put_version, version_then, set_version, put_deed, by_number, deed_then, set_deed, put_image, put_rule, drop_rule, by_place, put_key, drop_key, by_digest, put_check, drop_check, by_checkup, put_file, put_marks}
-use Rattle.rd_tables.proofs.Lists.{filter_true}
+use Rattle.rd_tables.proofs.ListLemmas.{filter_true}
 use Rattle.rd_tables.proofs.Values.{cast_int, cast_null, cast_or_null}
-use Rattle.rd_tables.proofs.Removed.{removed_rows}
-use Rattle.rd_tables.proofs.Steps.{SetsRows, went, inserts}
-use Rattle.rd_tables.proofs.Updating.{updates}
-use Rattle.rd_tables.proofs.Deleting.{deletes}
-use Rattle.rd_tables.proofs.Running.{plain_mode}
-use Rattle.rd_tables.proofs.Setting.{Sets, sets_rows, concluded}
+use Rattle.rd_tables.proofs.RemovedRows.{removed_rows}
+use Rattle.rd_tables.proofs.TableSteps.{SetsRows, went, inserts}
+use Rattle.rd_tables.proofs.UpdateLemmas.{updates}
+use Rattle.rd_tables.proofs.DeleteLemmas.{deletes}
+use Rattle.rd_tables.proofs.StatementRuns.{plain_mode}
+use Rattle.rd_tables.proofs.DatabaseSteps.{Sets, sets_rows, concluded}
 
 -- the command, run with these parameters on a database of the desk, gave this one
 abbrev pub Runs : List ℕ → Option ℕ → Row → Command → Database → Database → Tally → Type 0

@@ -42,6 +42,7 @@ greater place parameter = op2 (Compare Gt Binary) (col 1 place) (col 0 parameter
 abbrev pub at_least : ℕ → ℕ → Term
 at_least place parameter = op2 (Compare Ge Binary) (col 1 place) (col 0 parameter)
 
+-- the column at a place is a parameter or less
 abbrev pub no_more : ℕ → ℕ → Term
 no_more place parameter = op2 (Compare Le Binary) (col 1 place) (col 0 parameter)
 

@@ -1,5 +1,5 @@
 -- ---- what a reader of a public clause believes
-pub mod Sheets
+pub mod Spellings
 pub mod Schemas
 -- ---- inside: what only private functions and proofs cite
 pub mod Asked

@@ -40,7 +40,7 @@ audience_text = codes "SELECT audience FROM badge WHERE digest = ?1"
 abbrev pub audience_query : Query
 audience_query = asks_of 5 by_digest (col 1 2 ∷ []) []
 
--- the columns of a file
+-- the columns of a file, its slot first, without its accession
 abbrev pub file_columns : List Term
 file_columns = col 1 2 ∷ col 1 3 ∷ col 1 4 ∷ col 1 5 ∷ col 1 6 ∷ col 1 7 ∷ col 1 8 ∷ col 1 9 ∷ col 1 10 ∷ []
 

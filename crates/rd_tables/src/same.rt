@@ -64,7 +64,7 @@ impl Same for Order {
     }
 }
 
-/// Of literals, NULL and integers.
+/// Compares NULL and integers; other literals are never the same.
 impl Same for Value {
     fn same(&self, other: &Value) -> bool {
         match (self, other) {
@@ -75,7 +75,7 @@ impl Same for Value {
     }
 }
 
-/// Of literals, columns and binary operations.
+/// Compares literals, columns and binary operations; other expressions are never the same.
 impl Same for Op {
     fn same(&self, other: &Op) -> bool {
         match (self, other) {

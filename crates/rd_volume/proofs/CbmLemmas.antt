@@ -18,12 +18,12 @@ use Rattle.rd_cbm.specs.declared.listing.CbmFile.{CbmFile}
 use Rattle.rd_cbm.proofs.OneChain.{one_chain}
 use Rattle.rd_volume.specs.CbmFounds.{IsCbmFile, bytes_of_chain}
 use Rattle.rd_volume.specs.CbmKinds.{not_cpm}
-use Rattle.rd_volume.specs.OneDirectory.{in_blocks, of_blocks}
+use Rattle.rd_volume.specs.OneDirectory.{holds_of_directory, holds_of_blocks}
 use Rattle.rd_volume.specs.Printed.{cbm_type_of, printed}
 use Rattle.rd_volume.specs.Tells.{TellsCbm, TellsCbmFiles, is_served, length_of_blocks}
 use Rattle.rd_volume.specs.Volumes.{AreFounds, IsFound, IsFoundAt}
 use Rattle.rd_volume.specs.declared.found.Found.{Found}
-use Rattle.rd_volume.proofs.ToldLemmas.{each_told, few_below, items_ascend, numbers_ascend, same_numbers}
+use Rattle.rd_volume.proofs.ListLemmas.{each_told, few_below, items_ascend, numbers_ascend, same_numbers}
 
 -- the class by the low four bits of a type byte, and whether it is served
 abbrev pub class_by : ℕ → Class
@@ -46,24 +46,24 @@ served_class type =
 
 -- the file is of the class that is served where its entry says so
 pub told_class : (image blocks : List ℕ) (file : CbmFile) → Describes image blocks file → IsTrue (is_served file.class) ↔ IsServed (type_of (entry_at image blocks file.slot))
-told_class image blocks file told = rw told.class (served_class (type_of (entry_at image blocks file.slot)))
+told_class image blocks file described = rw described.class (served_class (type_of (entry_at image blocks file.slot)))
 
 sound_file : (image blocks : List ℕ) (file : CbmFile) → Describes image blocks file → is_served file.class ≡ true → file.faults ≡ 0 → IsSound image blocks file.slot
-sound_file image blocks file told served zero = record { served = (told_class image blocks file told).0 served; no_fault = told.faults.none.0 zero }
+sound_file image blocks file described served zero = record { served = (told_class image blocks file described).0 served; no_fault = described.faults.none.0 zero }
 
 not_served : (image blocks : List ℕ) (file : CbmFile) → Describes image blocks file → is_served file.class ≡ false → IsSound image blocks file.slot → ⊥
-not_served image blocks file told other sound =
-    let served : is_served file.class ≡ true = (told_class image blocks file told).1 sound.served in
+not_served image blocks file described other sound =
+    let served : is_served file.class ≡ true = (told_class image blocks file described).1 sound.served in
     let wrong : true ≡ false = sym served ∙ other in cc
 
 -- a chain has at most as many blocks as the disk
 pub few_blocks : (image blocks : List ℕ) (file : CbmFile) → Describes image blocks file → length file.blocks ≤ 683
-few_blocks image blocks file told = elim (cases_Bool (is_served file.class)) [
+few_blocks image blocks file described = elim (cases_Bool (is_served file.class)) [
   | inl served ↦ elim (cases_eq file.faults 0) [
-    | inl zero ↦ few_below file.blocks CBM_BLOCKS told.on_disk (told.chain (sound_file image blocks file told served zero)).once
-    | inr some ↦ let none : file.blocks ≡ [] = told.no_blocks (λ sound. some (told.faults.none.1 sound.no_fault)) in rw none (omega arith)
+    | inl zero ↦ few_below file.blocks CBM_BLOCKS described.on_disk (described.chain (sound_file image blocks file described served zero)).once
+    | inr some ↦ let none : file.blocks ≡ [] = described.no_blocks (λ sound. some (described.faults.none.1 sound.no_fault)) in rw none (omega arith)
   ]
-  | inr other ↦ let none : file.blocks ≡ [] = told.no_blocks (λ sound. not_served image blocks file told other sound) in rw none (omega arith)
+  | inr other ↦ let none : file.blocks ≡ [] = described.no_blocks (λ sound. not_served image blocks file described other sound) in rw none (omega arith)
 ]
 
 pub all_few : (image : List ℕ) (files : List CbmFile) → AreFiles image files → All (λ file. length file.blocks ≤ 683) files
@@ -92,32 +92,32 @@ length_chain image (n ∷ m ∷ chain) used size byte on_disk =
 -- a file that is told as rd_cbm tells it is told as it is in the image
 pub is_file : (image blocks : List ℕ) (file : CbmFile) (found : Found) → CBM_SIZE ≤ length image → TellsCbm file found → Describes image blocks file
     → IsCbmFile image found blocks
-is_file image blocks file found size tells told = record {
-  slot = rw tells.slot told.slot;
-  name = rw tells.slot (tells.name ∙ ap (printed D64) told.name);
-  type = rw tells.slot (tells.type ∙ ap cbm_type_of told.class);
+is_file image blocks file found size tells described = record {
+  slot = rw tells.slot described.slot;
+  name = rw tells.slot (tells.name ∙ ap (printed D64) described.name);
+  type = rw tells.slot (tells.type ∙ ap cbm_type_of described.class);
   user = tells.user;
-  class = rw (tells.slot, tells.class) (told_class image blocks file told);
-  faults = rw (tells.slot, tells.faults) told.faults;
+  class = rw (tells.slot, tells.class) (told_class image blocks file described);
+  faults = rw (tells.slot, tells.faults) described.faults;
   sound = λ sound.
       let here : IsSound image blocks file.slot = rw tells.slot at sound in
       let length_is : length (bytes_of_chain image file.blocks file.last) ≡ length_of_blocks file.blocks (file.last - 1) =
-      length_chain image file.blocks file.last size tells.byte told.on_disk in
+      length_chain image file.blocks file.last size tells.byte described.on_disk in
       record {
-        chain = rw (tells.slot, tells.units) (told.chain here);
-        on_disk = rw tells.units told.on_disk;
+        chain = rw (tells.slot, tells.units) (described.chain here);
+        on_disk = rw tells.units described.on_disk;
         used = file.last;
-        ends = rw tells.slot (told.last here);
+        ends = rw tells.slot (described.last here);
         byte = tells.byte;
-        size = rw tells.units (tells.size ((told_class image blocks file told).1 here.served) (told.faults.none.1 here.no_fault) ∙ ap Some (sym length_is));
+        size = rw tells.units (tells.size ((told_class image blocks file described).1 here.served) (described.faults.none.1 here.no_fault) ∙ ap Some (sym length_is));
         last = tells.last;
       };
   faulty = λ faulty.
       let here : ¬ IsSound image blocks file.slot = rw tells.slot at faulty in
       record {
-        size = tells.none (λ served zero. here (sound_file image blocks file told served zero));
-        units = tells.units ∙ told.no_blocks here;
-        last = tells.last ∙ ap (λ n. n - 1) (told.no_last here);
+        size = tells.none (λ served zero. here (sound_file image blocks file described served zero));
+        units = tells.units ∙ described.no_blocks here;
+        last = tells.last ∙ ap (λ n. n - 1) (described.no_last here);
       };
 }
 
@@ -129,7 +129,7 @@ founds_are kind cbm image files founds size are tells =
     let slots = same_numbers TellsCbm (λ f. f.slot) (λ g. g.slot) (λ f g one. one.slot) files founds tells in
     record {
       each = each_told TellsCbm (Describes image are.blocks) (IsFound kind image)
-          (λ f g one told. record { blocks = are.blocks; are_blocks = are.directory; holds = is_file image are.blocks f g size one told })
+          (λ f g one described. record { blocks = are.blocks; are_blocks = are.directory; holds = is_file image are.blocks f g size one described })
           files founds tells are.each;
       ascending = items_ascend (λ g. g.slot) founds
           (subst (AllPairs (λ m n. m < n)) (sym slots) (numbers_ascend (λ f. f.slot) files are.ascending));
@@ -140,7 +140,7 @@ founds_are kind cbm image files founds size are tells =
 -- the file that an answer holds is that of the slot
 pub answered : (image blocks : List ℕ) (answer : Option CbmFile) (file : CbmFile) → answer ≡ Some file → IfSome answer (Describes image blocks)
     → Describes image blocks file
-answered image blocks answer file is told = subst (λ o. IfSome o (Describes image blocks)) is told
+answered image blocks answer file is described = subst (λ o. IfSome o (Describes image blocks)) is described
 
 -- the file at a slot, told, is that of the image
 pub found_at : (kind : Kind) → IsCbm kind → (image : List ℕ) (slot : ℕ) (answer : Option CbmFile) (file : CbmFile) (found : Found) → CBM_SIZE ≤ length image → answer ≡ Some file
@@ -150,7 +150,7 @@ found_at kind cbm image slot answer file found size is at tells =
     let here : file.slot ≡ slot = subst (λ o. IfSome o (λ (f : CbmFile). f.slot ≡ slot)) is at.same_slot in
     record {
       same_slot = tells.slot ∙ here;
-      told = in_blocks image at.blocks at.directory _ (is_file image at.blocks file found size tells (answered image at.blocks answer file is at.told));
+      described = holds_of_directory image at.blocks at.directory _ (is_file image at.blocks file found size tells (answered image at.blocks answer file is at.described));
       none = tt;
     }
 
@@ -159,4 +159,4 @@ pub found_none : (kind : Kind) → IsCbm kind → (image : List ℕ) (slot : ℕ
 found_none Cpm8 cbm image slot answer is at = absurd (not_cpm cbm)
 found_none _ cbm image slot answer is at =
     let free : ¬ IsFileSlot image at.blocks slot = subst (λ o. IfNone o (¬ IsFileSlot image at.blocks slot)) is at.none in
-    record { same_slot = tt; told = tt; none = λ there. free (of_blocks image at.blocks at.directory _ there) }
+    record { same_slot = tt; described = tt; none = λ there. free (holds_of_blocks image at.blocks at.directory _ there) }

@@ -7,7 +7,7 @@ use Rattle.rd_geometry.specs.declared.kind.Kind.{Kind}
 use Rattle.rd_geometry.specs.declared.kind.Kind.TheVariants.{Cpm8}
 use Rattle.rd_cbm.specs.BlockMap.{bytes_at, map_of}
 use Rattle.rd_cbm.specs.Counts.{IsCount}
-use Rattle.rd_cbm.specs.Entries.{Way, class_of, entry_at, size_field_of, type_of}
+use Rattle.rd_cbm.specs.Entries.{ChainRole, class_of, entry_at, size_field_of, type_of}
 use Rattle.rd_cbm.specs.Files.{AreDirectoryBlocks, Claims}
 use Rattle.rd_cbm.specs.Listing.{AreCounts, AreFiles, Describes}
 use Rattle.rd_cbm.specs.Links.{link_of}
@@ -17,13 +17,13 @@ use Rattle.rd_cbm.specs.declared.listing.CbmFile.{CbmFile}
 use Rattle.rd_cbm.specs.declared.report.MapReport.{MapReport}
 use Rattle.rd_cbm.proofs.OneChain.{one_chain}
 use Rattle.rd_volume.specs.CbmKinds.{not_cpm}
-use Rattle.rd_volume.specs.OneDirectory.{in_blocks, of_blocks}
+use Rattle.rd_volume.specs.OneDirectory.{holds_of_directory, holds_of_blocks}
 use Rattle.rd_volume.specs.Reports.{DiffersInSize, HasOtherSize, IsDirectoryEnd, IsFaultySlot, IsMapReport, IsSoundSlot}
 use Rattle.rd_volume.specs.Tallies.{differs_in_size, is_claimant, is_sound}
 use Rattle.rd_volume.specs.Volumes.{IsSlotOfFile}
 use Rattle.rd_volume.proofs.CbmLemmas.{class_by, class_is, told_class}
 use Rattle.rd_volume.proofs.CountLemmas.{counted, counted_all, one_count}
-use Rattle.rd_volume.proofs.ToldLemmas.{few_below, few_items}
+use Rattle.rd_volume.proofs.ListLemmas.{few_below, few_items}
 
 few_slots : (n slot : ℕ) → n ≤ 683 → slot < 8 * n → slot < 5464
 few_slots n slot few below = omega arith
@@ -41,8 +41,8 @@ pub all_files : (kind : Kind) → IsCbm kind → (image : List ℕ) (files : Lis
 all_files Cpm8 cbm image files are = absurd (not_cpm cbm)
 all_files kind cbm image files are =
     counted_all (λ file. file.slot) (IsSlotOfFile kind image) files are.ascending
-    (λ i d inside. in_blocks image are.blocks are.directory _ (are.each i d inside).slot)
-    (λ n is. are.complete n (of_blocks image are.blocks are.directory _ is))
+    (λ i d inside. holds_of_directory image are.blocks are.directory _ (are.each i d inside).slot)
+    (λ n is. are.complete n (holds_of_blocks image are.blocks are.directory _ is))
 
 pub sound_files : (kind : Kind) → IsCbm kind → (image : List ℕ) (files : List CbmFile) → AreFiles image files → IsCount (IsSoundSlot kind image) (count_by is_sound files)
 sound_files Cpm8 cbm image files are = absurd (not_cpm cbm)
@@ -50,19 +50,19 @@ sound_files kind cbm image files are =
     counted (λ file. file.slot) is_sound (IsSoundSlot kind image) files are.ascending
     (λ i d inside passed.
     let file = slice_index_or files i d in
-    let told = are.each i d inside in
+    let described = are.each i d inside in
     let parts = and_parts _ (file.faults == 0) passed in
     record {
-      file = in_blocks image are.blocks are.directory _ told.slot;
-      class = in_blocks image are.blocks are.directory _ ((told_class image are.blocks file told).0 parts.0);
-      sound = in_blocks image are.blocks are.directory _ (told.faults.none.0 (eqb-true file.faults 0 parts.1));
+      file = holds_of_directory image are.blocks are.directory _ described.slot;
+      class = holds_of_directory image are.blocks are.directory _ ((told_class image are.blocks file described).0 parts.0);
+      sound = holds_of_directory image are.blocks are.directory _ (described.faults.none.0 (eqb-true file.faults 0 parts.1));
     })
     (λ i d inside is.
     let file = slice_index_or files i d in
-    let told = are.each i d inside in
-    and_from _ (file.faults == 0) ((told_class image are.blocks file told).1 (of_blocks image are.blocks are.directory _ is.class))
-    (eq-eqb file.faults 0 (told.faults.none.1 (of_blocks image are.blocks are.directory _ is.sound))))
-    (λ n is. are.complete n (of_blocks image are.blocks are.directory _ is.file))
+    let described = are.each i d inside in
+    and_from _ (file.faults == 0) ((told_class image are.blocks file described).1 (holds_of_blocks image are.blocks are.directory _ is.class))
+    (eq-eqb file.faults 0 (described.faults.none.1 (holds_of_blocks image are.blocks are.directory _ is.sound))))
+    (λ n is. are.complete n (holds_of_blocks image are.blocks are.directory _ is.file))
 
 pub faulty_files : (kind : Kind) → IsCbm kind → (image : List ℕ) (files : List CbmFile) → AreFiles image files → IsCount (IsFaultySlot kind image) (count_by (λ file. not (file.faults == 0)) files)
 faulty_files Cpm8 cbm image files are = absurd (not_cpm cbm)
@@ -70,16 +70,16 @@ faulty_files kind cbm image files are =
     counted (λ file. file.slot) (λ file. not (file.faults == 0)) (IsFaultySlot kind image) files are.ascending
     (λ i d inside passed.
     let file = slice_index_or files i d in
-    let told = are.each i d inside in
+    let described = are.each i d inside in
     record {
-      file = in_blocks image are.blocks are.directory _ told.slot;
-      faulty = λ none. eqb-false file.faults 0 (not-true (file.faults == 0) passed) (told.faults.none.1 (of_blocks image are.blocks are.directory _ none));
+      file = holds_of_directory image are.blocks are.directory _ described.slot;
+      faulty = λ none. eqb-false file.faults 0 (not-true (file.faults == 0) passed) (described.faults.none.1 (holds_of_blocks image are.blocks are.directory _ none));
     })
     (λ i d inside is.
     let file = slice_index_or files i d in
-    let told = are.each i d inside in
-    not_from_false (file.faults == 0) (ne_eqb file.faults 0 (λ zero. is.faulty (in_blocks image are.blocks are.directory _ (told.faults.none.0 zero)))))
-    (λ n is. are.complete n (of_blocks image are.blocks are.directory _ is.file))
+    let described = are.each i d inside in
+    not_from_false (file.faults == 0) (ne_eqb file.faults 0 (λ zero. is.faulty (holds_of_directory image are.blocks are.directory _ (described.faults.none.0 zero)))))
+    (λ n is. are.complete n (holds_of_blocks image are.blocks are.directory _ is.file))
 
 -- a class claims blocks, where its files are closed
 claimant_by : (k : ℕ) → k < 16 → is_claimant (class_by k) ≡ (nat_le 1 k && nat_le k 4)
@@ -98,32 +98,32 @@ claimant_to type low high =
     claimant_is type ∙ and_from (nat_le 1 (type % 16)) (nat_le (type % 16) 4) (le-leb 1 (type % 16) low) (le-leb (type % 16) 4 high)
 
 other_size : (image blocks : List ℕ) (file : CbmFile) → Describes image blocks file → differs_in_size file ≡ true → HasOtherSize image file.slot blocks
-other_size image blocks file told passed =
+other_size image blocks file described passed =
     let both = and_parts (file.closed && is_claimant file.class) (not (file.claimed == file.size_field)) passed in
     let parts = and_parts file.closed (is_claimant file.class) both.0 in
-    let kinds = claimant_of (type_of (entry_at image blocks file.slot)) (ap is_claimant (sym told.class) ∙ parts.1) in
+    let kinds = claimant_of (type_of (entry_at image blocks file.slot)) (ap is_claimant (sym described.class) ∙ parts.1) in
     record {
-      file = told.slot;
-      claimant = (told.closed.0 parts.0, kinds.0, kinds.1);
+      file = described.slot;
+      claimant = (described.closed.0 parts.0, kinds.0, kinds.1);
       differs = λ count. eqb-false file.claimed file.size_field (not-true (file.claimed == file.size_field) both.1)
-          (one_count _ file.claimed (size_field_of (entry_at image blocks file.slot)) told.claimed count ∙ sym told.size_field);
+          (one_count _ file.claimed (size_field_of (entry_at image blocks file.slot)) described.claimed count ∙ sym described.size_field);
     }
 
 told_size : (image blocks : List ℕ) (file : CbmFile) → Describes image blocks file → HasOtherSize image file.slot blocks → differs_in_size file ≡ true
-told_size image blocks file told is =
+told_size image blocks file described is =
     and_from (file.closed && is_claimant file.class) (not (file.claimed == file.size_field))
-    (and_from file.closed (is_claimant file.class) (told.closed.1 is.claimant.0)
-    (ap is_claimant told.class ∙ claimant_to (type_of (entry_at image blocks file.slot)) is.claimant.1 is.claimant.2))
+    (and_from file.closed (is_claimant file.class) (described.closed.1 is.claimant.0)
+    (ap is_claimant described.class ∙ claimant_to (type_of (entry_at image blocks file.slot)) is.claimant.1 is.claimant.2))
     (not_from_false (file.claimed == file.size_field) (ne_eqb file.claimed file.size_field (λ same.
-    is.differs (subst (IsCount (λ block. (way : Way) × Claims image blocks file.slot way block)) (same ∙ told.size_field) told.claimed))))
+    is.differs (subst (IsCount (λ block. (way : ChainRole) × Claims image blocks file.slot way block)) (same ∙ described.size_field) described.claimed))))
 
 pub other_sizes : (kind : Kind) → IsCbm kind → (image : List ℕ) (files : List CbmFile) → AreFiles image files → IsCount (DiffersInSize kind image) (count_by differs_in_size files)
 other_sizes Cpm8 cbm image files are = absurd (not_cpm cbm)
 other_sizes kind cbm image files are =
     counted (λ file. file.slot) differs_in_size (DiffersInSize kind image) files are.ascending
-    (λ i d inside passed. in_blocks image are.blocks are.directory _ (other_size image are.blocks (slice_index_or files i d) (are.each i d inside) passed))
-    (λ i d inside is. told_size image are.blocks (slice_index_or files i d) (are.each i d inside) (of_blocks image are.blocks are.directory _ is))
-    (λ n is. are.complete n (of_blocks image are.blocks are.directory _ is).file)
+    (λ i d inside passed. holds_of_directory image are.blocks are.directory _ (other_size image are.blocks (slice_index_or files i d) (are.each i d inside) passed))
+    (λ i d inside is. told_size image are.blocks (slice_index_or files i d) (are.each i d inside) (holds_of_blocks image are.blocks are.directory _ is))
+    (λ n is. are.complete n (holds_of_blocks image are.blocks are.directory _ is).file)
 
 -- the counts of its block map and the end of its directory are told
 pub map_counts : (kind : Kind) → IsCbm kind → (image : List ℕ) (map : MapReport) → AreCounts image map → IsMapReport kind image map

@@ -9,7 +9,7 @@ use Rattle.std.proofs.lemmas.List.Folds.{list_any_at}
 use Rattle.std.proofs.lemmas.List.Sums.{count_by-le-length, length-filter}
 use Rattle.std.proofs.lemmas.Map.Made.{IsDistinct-from_AllPairs, length-le_from_is_member}
 use Rattle.rd_cbm.specs.Counts.{IsCount}
-use Rattle.rd_volume.proofs.ToldLemmas.{found_number, numbers_ascend}
+use Rattle.rd_volume.proofs.ListLemmas.{found_number, numbers_ascend}
 
 -- ascending items after the first, and before them
 pairs_tail : {X : Type 0} (R : X → X → Type 0) (x : X) (xs : List X) → AllPairs R (x ∷ xs) → AllPairs R xs

@@ -2,25 +2,25 @@
 use Rattle.std.proofs.Common.{◌≡◌, ◌-◌, ◌*◌, ◌<◌, ℕ, List, [], All, None, Some, length, refl, subst, true}
 use Rattle.rd_geometry.specs.declared.kind.Kind.{Kind}
 use Rattle.rd_geometry.specs.declared.kind.Kind.TheVariants.{Cpm8, D64}
-use Rattle.rd_geometry.proofs.Deciding.{Decided, decided_as, decided_both, decided_not, decided_same, fails, flag, flag_is, holds, items_below}
+use Rattle.rd_geometry.proofs.Decidability.{Decided, decided_as, decided_both, decided_not, decided_same, fails, flag, flag_is, holds, items_below}
 use Rattle.rd_cbm.specs.Counts.{IsCount}
-use Rattle.rd_cbm.specs.Entries.{Data, IsServed, Way, class_of, entry_at, name_of as cbm_name, size_field_of, start_of, type_of}
+use Rattle.rd_cbm.specs.Entries.{Data, IsServed, ChainRole, class_of, entry_at, name_of as cbm_name, size_field_of, start_of, type_of}
 use Rattle.rd_cbm.specs.Faults.{HasNoFault, IsSound as IsSoundCbm}
 use Rattle.rd_cbm.specs.Files.{AreDirectoryBlocks, Claims, IsFileSlot as IsCbmSlot}
 use Rattle.rd_cbm.specs.declared.chains.End.{End}
 use Rattle.rd_cbm.specs.declared.chains.End.TheVariants as end
 use Rattle.rd_cbm.specs.declared.report.MapReport.{MapReport}
-use Rattle.rd_cbm.proofs.Deciding as cbm
+use Rattle.rd_cbm.proofs.Decidability as cbm
 use Rattle.rd_cbm.proofs.MapLemmas.{count_once}
 use Rattle.rd_cpm.specs.Contents.{bytes_of_sectors}
-use Rattle.rd_cpm.specs.Entries.{first_of, name_of as cpm_name, plain, slot_of}
+use Rattle.rd_cpm.specs.Entries.{user_byte_of, name_of as cpm_name, without_high_bits, entry_of_slot}
 use Rattle.rd_cpm.specs.Faults.{IsSound as IsSoundCpm}
 use Rattle.rd_cpm.specs.Files.{IsFileSlot as IsCpmSlot}
 use Rattle.rd_cpm.proofs.Existence as cpm
 use Rattle.rd_volume.specs.CbmFounds.{IsCbmFile, bytes_of_chain}
 use Rattle.rd_volume.specs.CpmFounds.{IsCpmFile, last_sector_length}
 use Rattle.rd_volume.specs.Directories.{OfDirectory}
-use Rattle.rd_volume.specs.OneDirectory.{in_blocks, of_blocks}
+use Rattle.rd_volume.specs.OneDirectory.{holds_of_directory, holds_of_blocks}
 use Rattle.rd_volume.specs.Printed.{cbm_type_of, cpm_name_of, cpm_type_of, printed}
 use Rattle.rd_volume.specs.Reports.{DiffersInSize, HasOtherSize, IsDirectoryEnd, IsFaultySlot, IsMapReport, IsReport, IsSoundSlot, label_of}
 use Rattle.rd_volume.specs.Volumes.{AreFounds, HasNoFault as IsWithoutFault, IsFound, IsOfServedClass, IsSlotOfFile}
@@ -33,16 +33,16 @@ HoldsBytes image = All (λ byte. byte < 256) image
 
 -- ---- the files of a CP/M disk
 
-module _ (image : List ℕ) (k : ℕ) (file : IsCpmSlot (slot_of image) k) where
-  sound_cpm : IsSoundCpm (slot_of image) k → (found : Found) × IsCpmFile image found × (found.slot ≡ k)
+module _ (image : List ℕ) (k : ℕ) (file : IsCpmSlot (entry_of_slot image) k) where
+  sound_cpm : IsSoundCpm (entry_of_slot image) k → (found : Found) × IsCpmFile image found × (found.slot ≡ k)
   sound_cpm sound =
-      let sectors = cpm.sectors_of (slot_of image) k sound in
-      let faults = cpm.faults_of (slot_of image) k in
+      let sectors = cpm.sectors_of (entry_of_slot image) k sound in
+      let faults = cpm.faults_of (entry_of_slot image) k in
       let found : Found = record {
         slot = k;
-        name = cpm_name_of (plain (cpm_name (slot_of image k)));
-        ty = cpm_type_of (plain (cpm_name (slot_of image k)));
-        user = Some (first_of (slot_of image k));
+        name = cpm_name_of (without_high_bits (cpm_name (entry_of_slot image k)));
+        ty = cpm_type_of (without_high_bits (cpm_name (entry_of_slot image k)));
+        user = Some (user_byte_of (entry_of_slot image k));
         served_class = true;
         size = Some (length (bytes_of_sectors image sectors.0));
         faults = faults.0;
@@ -63,14 +63,14 @@ module _ (image : List ℕ) (k : ℕ) (file : IsCpmSlot (slot_of image) k) where
         refl,
       )
 
-  faulty_cpm : (IsSoundCpm (slot_of image) k → ⊥) → (found : Found) × IsCpmFile image found × (found.slot ≡ k)
+  faulty_cpm : (IsSoundCpm (entry_of_slot image) k → ⊥) → (found : Found) × IsCpmFile image found × (found.slot ≡ k)
   faulty_cpm unsound =
-      let faults = cpm.faults_of (slot_of image) k in
+      let faults = cpm.faults_of (entry_of_slot image) k in
       let found : Found = record {
         slot = k;
-        name = cpm_name_of (plain (cpm_name (slot_of image k)));
-        ty = cpm_type_of (plain (cpm_name (slot_of image k)));
-        user = Some (first_of (slot_of image k));
+        name = cpm_name_of (without_high_bits (cpm_name (entry_of_slot image k)));
+        ty = cpm_type_of (without_high_bits (cpm_name (entry_of_slot image k)));
+        user = Some (user_byte_of (entry_of_slot image k));
         served_class = true;
         size = None;
         faults = faults.0;
@@ -91,12 +91,12 @@ module _ (image : List ℕ) (k : ℕ) (file : IsCpmSlot (slot_of image) k) where
         refl,
       )
 
-  cpm_by : Decided (IsSoundCpm (slot_of image) k) → (found : Found) × IsCpmFile image found × (found.slot ≡ k)
+  cpm_by : Decided (IsSoundCpm (entry_of_slot image) k) → (found : Found) × IsCpmFile image found × (found.slot ≡ k)
   cpm_by (holds sound) = sound_cpm sound
   cpm_by (fails unsound) = faulty_cpm unsound
 
   cpm_file : (found : Found) × IsCpmFile image found × (found.slot ≡ k)
-  cpm_file = cpm_by (cpm.decided_sound (slot_of image) k)
+  cpm_file = cpm_by (cpm.decided_sound (entry_of_slot image) k)
 
 -- ---- the files of a 1541 disk
 
@@ -187,11 +187,11 @@ unfolding blocks_of
 are_blocks image = (cbm.directory_of image).chain
 
 decided_of : (image : List ℕ) (P : List ℕ → Type 0) → Decided (P (blocks_of image)) → Decided (OfDirectory image P)
-decided_of image P test = decided_as test (in_blocks image (blocks_of image) (are_blocks image) P) (of_blocks image (blocks_of image) (are_blocks image) P)
+decided_of image P test = decided_as test (holds_of_directory image (blocks_of image) (are_blocks image) P) (holds_of_blocks image (blocks_of image) (are_blocks image) P)
 
 -- slot k is the slot of a file, or not
 pub decided_slot : (kind : Kind) (image : List ℕ) (k : ℕ) → Decided (IsSlotOfFile kind image k)
-decided_slot Cpm8 image k = cpm.decided_file (slot_of image) k
+decided_slot Cpm8 image k = cpm.decided_file (entry_of_slot image) k
 decided_slot _ image k = decided_of image (λ blocks. IsCbmSlot image blocks k) (cbm.decided_file image (blocks_of image) k)
 
 -- slots of files are below this
@@ -202,7 +202,7 @@ most_of _ image = 8 * length (blocks_of image)
 slot_below : (kind : Kind) (image : List ℕ) (k : ℕ) → IsSlotOfFile kind image k → k < most_of kind image
 unfolding most_of
 slot_below Cpm8 image k file = file.slot
-slot_below _ image k file = (of_blocks image (blocks_of image) (are_blocks image) (λ blocks. IsCbmSlot image blocks k) file).inside
+slot_below _ image k file = (holds_of_blocks image (blocks_of image) (are_blocks image) (λ blocks. IsCbmSlot image blocks k) file).inside
 
 -- ---- the survey
 
@@ -210,8 +210,8 @@ slot_below _ image k file = (of_blocks image (blocks_of image) (are_blocks image
 pub file_at : (kind : Kind) (image : List ℕ) → HoldsBytes image → (k : ℕ) → IsSlotOfFile kind image k → (found : Found) × IsFound kind image found × (found.slot ≡ k)
 file_at Cpm8 image bytes k file = cpm_file image k file
 file_at _ image bytes k file =
-    let found = cbm_file image (blocks_of image) bytes k (of_blocks image (blocks_of image) (are_blocks image) (λ blocks. IsCbmSlot image blocks k) file) in
-    (found.0, in_blocks image (blocks_of image) (are_blocks image) (IsCbmFile image found.0) found.1, found.2)
+    let found = cbm_file image (blocks_of image) bytes k (holds_of_blocks image (blocks_of image) (are_blocks image) (λ blocks. IsCbmSlot image blocks k) file) in
+    (found.0, holds_of_directory image (blocks_of image) (are_blocks image) (IsCbmFile image found.0) found.1, found.2)
 
 -- each image has a survey
 pub survey_of : (kind : Kind) (image : List ℕ) → HoldsBytes image → (founds : List Found) × AreFounds kind image founds
@@ -226,7 +226,7 @@ decided_class Cpm8 image k = holds tt
 decided_class _ image k = decided_of image (λ blocks. IsServed (type_of (entry_at image blocks k))) (cbm.decided_served image (blocks_of image) k)
 
 decided_clean : (kind : Kind) (image : List ℕ) (k : ℕ) → Decided (IsWithoutFault kind image k)
-decided_clean Cpm8 image k = cpm.decided_sound (slot_of image) k
+decided_clean Cpm8 image k = cpm.decided_sound (entry_of_slot image) k
 decided_clean _ image k = decided_of image (λ blocks. HasNoFault image blocks k) (cbm.decided_no_fault image (blocks_of image) k)
 
 decided_sound_slot : (kind : Kind) (image : List ℕ) (k : ℕ) → Decided (IsSoundSlot kind image k)
@@ -245,10 +245,10 @@ decided_other_size : (image blocks : List ℕ) (k : ℕ) → Decided (HasOtherSi
 decided_other_size image blocks k =
     let entry : List ℕ = entry_at image blocks k in
     let claimed = cbm.claimed_count image blocks k in
-    let has : Decided (IsCount (λ block. (way : Way) × Claims image blocks k way block) (size_field_of entry)) =
+    let has : Decided (IsCount (λ block. (way : ChainRole) × Claims image blocks k way block) (size_field_of entry)) =
     decided_as (decided_same claimed.0 (size_field_of entry))
-    (λ same. subst (IsCount (λ block. (way : Way) × Claims image blocks k way block)) same claimed.1)
-    (λ is. count_once (λ block. (way : Way) × Claims image blocks k way block) claimed.0 (size_field_of entry) claimed.1 is) in
+    (λ same. subst (IsCount (λ block. (way : ChainRole) × Claims image blocks k way block)) same claimed.1)
+    (λ is. count_once (λ block. (way : ChainRole) × Claims image blocks k way block) claimed.0 (size_field_of entry) claimed.1 is) in
     decided_as (decided_both (cbm.decided_file image blocks k) (decided_both (cbm.decided_claimant (type_of entry) Data) (decided_not has)))
     (λ is. record { file = is.0; claimant = is.1.0; differs = is.1.1 })
     (λ is. (is.file, (is.claimant, is.differs)))
@@ -260,7 +260,7 @@ decided_size _ image k = decided_of image (HasOtherSize image k) (decided_other_
 size_below : (kind : Kind) (image : List ℕ) (k : ℕ) → DiffersInSize kind image k → k < most_of kind image
 unfolding most_of
 size_below Cpm8 image k differs = absurd differs
-size_below _ image k differs = (of_blocks image (blocks_of image) (are_blocks image) (HasOtherSize image k) differs).file.inside
+size_below _ image k differs = (holds_of_blocks image (blocks_of image) (are_blocks image) (HasOtherSize image k) differs).file.inside
 
 map_report : (kind : Kind) (image : List ℕ) → (map : MapReport) × IsMapReport kind image map
 map_report Cpm8 image = (record { wrong_counts = 0; claimed_free = 0; unclaimed_used = 0 }, refl)
@@ -268,7 +268,7 @@ map_report _ image = cbm.counts_of image
 
 directory_end : (kind : Kind) (image : List ℕ) → (ends : End) × IsDirectoryEnd kind image ends
 directory_end Cpm8 image = (end.Last 0, refl)
-directory_end _ image = let is = cbm.directory_of image in (is.way, is.holds)
+directory_end _ image = let is = cbm.directory_of image in (is.ending, is.holds)
 
 -- each image has a report
 pub report_of : (kind : Kind) (image : List ℕ) → (report : Report) × IsReport kind image report

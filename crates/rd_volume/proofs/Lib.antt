@@ -1,6 +1,6 @@
 mod PrintedLemmas
 mod WordLemmas
-mod ToldLemmas
+mod ListLemmas
 pub mod FoundFile
 mod CpmLemmas
 mod CbmLemmas

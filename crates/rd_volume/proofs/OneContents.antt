@@ -6,10 +6,10 @@ use Rattle.rd_cbm.specs.Entries.{Data, entry_at, start_of}
 use Rattle.rd_cbm.specs.Links.{link_of}
 use Rattle.rd_cbm.proofs.OneChain.{one_chain, one_last}
 use Rattle.rd_cpm.specs.Contents.{bytes_of_sectors}
-use Rattle.rd_cpm.specs.Entries.{slot_of}
+use Rattle.rd_cpm.specs.Entries.{entry_of_slot}
 use Rattle.rd_cpm.proofs.OneSectors.{one_sectors}
 use Rattle.rd_volume.specs.CbmFounds.{bytes_of_chain}
-use Rattle.rd_volume.specs.OneDirectory.{of_blocks}
+use Rattle.rd_volume.specs.OneDirectory.{holds_of_blocks}
 use Rattle.rd_volume.specs.Reports.{IsSoundSlot}
 use Rattle.rd_volume.specs.Volumes.{AreBytesOf, AreCbmBytes}
 
@@ -23,6 +23,6 @@ cbm_contents image blocks k xs ys one other =
 -- the bytes of a sound file are one list
 pub one_contents : (kind : Kind) (image : List ℕ) (k : ℕ) (xs ys : List ℕ) → IsSoundSlot kind image k → AreBytesOf kind image k xs → AreBytesOf kind image k ys → xs ≡ ys
 one_contents Cpm8 image k xs ys sound one other =
-    one.joined ∙ ap (bytes_of_sectors image) (one_sectors (slot_of image) k one.sectors other.sectors sound.sound one.are_sectors other.are_sectors) ∙ sym other.joined
+    one.joined ∙ ap (bytes_of_sectors image) (one_sectors (entry_of_slot image) k one.sectors other.sectors sound.sound one.are_sectors other.are_sectors) ∙ sym other.joined
 one_contents _ image k xs ys sound one other =
-    cbm_contents image one.blocks k xs ys one.holds (of_blocks image one.blocks one.are_blocks (AreCbmBytes image k ys) other)
+    cbm_contents image one.blocks k xs ys one.holds (holds_of_blocks image one.blocks one.are_blocks (AreCbmBytes image k ys) other)

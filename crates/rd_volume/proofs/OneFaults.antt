@@ -20,14 +20,14 @@ clear_too a b k too clear = elim (cases_eq (bit_at a k) 0) [
 ]
 
 bit_same : (a b k : ℕ) → IsBitSet a k ↔ IsBitSet b k → bit_at a k ≡ bit_at b k
-bit_same a b k told = elim (cases_eq (bit_at b k) 0) [
-  | inl clear ↦ clear_too a b k told.0 clear ∙ sym clear
-  | inr some ↦ (let other : bit_at a k ≢ 0 = λ clear. some (clear_too b a k told.1 clear) in omega arith)
+bit_same a b k described = elim (cases_eq (bit_at b k) 0) [
+  | inl clear ↦ clear_too a b k described.0 clear ∙ sym clear
+  | inr some ↦ (let other : bit_at a k ≢ 0 = λ clear. some (clear_too b a k described.1 clear) in omega arith)
 ]
 
 -- numbers below a power of two of which the same bits are set are one
 same_number : (w a b : ℕ) → a < 2 ^ w → b < 2 ^ w → ((k : ℕ) → k < w → IsBitSet a k ↔ IsBitSet b k) → a ≡ b
-same_number w a b low_a low_b told = same_from_bits_below w a b low_a low_b (λ k inside. bit_same a b k (told k inside))
+same_number w a b low_a low_b described = same_from_bits_below w a b low_a low_b (λ k inside. bit_same a b k (described k inside))
 
 both : {P Q R : Type 0} → P ↔ Q → R ↔ Q → P ↔ R
 both one other = (λ p. other.1 (one.0 p), λ r. one.1 (other.0 r))

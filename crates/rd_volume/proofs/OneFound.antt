@@ -11,14 +11,14 @@ use Rattle.rd_cbm.specs.Walks.{Ends, IsChain}
 use Rattle.rd_cbm.proofs.OneChain.{one_chain, one_last}
 use Rattle.rd_cpm.specs.Contents.{AreSectors, bytes_of_sectors}
 use Rattle.rd_cpm.specs.Entries as cpm_entry
-use Rattle.rd_cpm.specs.Entries.{plain, slot_of}
+use Rattle.rd_cpm.specs.Entries.{without_high_bits, entry_of_slot}
 use Rattle.rd_cpm.specs.Faults as cpm
 use Rattle.rd_cpm.specs.Files.{Directory}
 use Rattle.rd_cpm.proofs.OneSectors.{one_sectors}
 use Rattle.rd_volume.specs.CbmFounds.{HasCbmContents, IsCbmFile, bytes_of_chain}
 use Rattle.rd_volume.specs.CpmFounds.{HasCpmContents, IsCpmFile, last_sector_length}
 use Rattle.rd_volume.specs.Founds.{HasNoContents}
-use Rattle.rd_volume.specs.OneDirectory.{of_blocks}
+use Rattle.rd_volume.specs.OneDirectory.{holds_of_blocks}
 use Rattle.rd_volume.specs.Printed.{cbm_type_of, cpm_name_of, cpm_type_of, printed}
 use Rattle.rd_volume.specs.Volumes.{IsFound}
 use Rattle.rd_volume.specs.declared.found.Found.{Found}
@@ -37,10 +37,10 @@ same_found f g slot name ty user class faults contents = rw (slot, name, ty, use
 no_contents : (f g : Found) → HasNoContents f → HasNoContents g → HaveSameContents f g
 no_contents f g one other = record { size = one.size ∙ sym other.size; units = one.units ∙ sym other.units; last = one.last ∙ sym other.last }
 
-cpm_sound : (image : List ℕ) (f g : Found) → f.slot ≡ g.slot → cpm.IsSound (slot_of image) f.slot → HasCpmContents image f → HasCpmContents image g → HaveSameContents f g
+cpm_sound : (image : List ℕ) (f g : Found) → f.slot ≡ g.slot → cpm.IsSound (entry_of_slot image) f.slot → HasCpmContents image f → HasCpmContents image g → HaveSameContents f g
 cpm_sound image f g slot sound one other =
-    let units : f.units ≡ g.units = one_sectors (slot_of image) f.slot f.units g.units sound one.units
-    (subst (λ k. AreSectors (slot_of image) k g.units) (sym slot) other.units) in
+    let units : f.units ≡ g.units = one_sectors (entry_of_slot image) f.slot f.units g.units sound one.units
+    (subst (λ k. AreSectors (entry_of_slot image) k g.units) (sym slot) other.units) in
     record {
       size = one.size ∙ ap (λ us. Some (length (bytes_of_sectors image us))) units ∙ sym other.size;
       units = units;
@@ -50,19 +50,19 @@ cpm_sound image f g slot sound one other =
 cpm_contents : (image : List ℕ) (f g : Found) → f.slot ≡ g.slot → IsCpmFile image f → IsCpmFile image g → HaveSameContents f g
 cpm_contents image f g slot one other = elim (cases_eq f.faults 0) [
   | inl none ↦ (
-      let sound : cpm.IsSound (slot_of image) f.slot = one.faults.sound.0 none in
-      cpm_sound image f g slot sound (one.sound sound) (other.sound (subst (cpm.IsSound (slot_of image)) slot sound)))
+      let sound : cpm.IsSound (entry_of_slot image) f.slot = one.faults.sound.0 none in
+      cpm_sound image f g slot sound (one.sound sound) (other.sound (subst (cpm.IsSound (entry_of_slot image)) slot sound)))
   | inr some ↦ no_contents f g (one.faulty (λ sound. some (one.faults.sound.1 sound)))
-      (other.faulty (λ sound. some (one.faults.sound.1 (subst (cpm.IsSound (slot_of image)) (sym slot) sound))))
+      (other.faulty (λ sound. some (one.faults.sound.1 (subst (cpm.IsSound (entry_of_slot image)) (sym slot) sound))))
 ]
 
 cpm_found : (image : List ℕ) (f g : Found) → f.slot ≡ g.slot → IsCpmFile image f → IsCpmFile image g → f ≡ g
 cpm_found image f g slot one other =
-    let d : Directory = slot_of image in
+    let d : Directory = entry_of_slot image in
     same_found f g slot
-    (one.name ∙ ap (λ k. cpm_name_of (plain (cpm_entry.name_of (d k)))) slot ∙ sym other.name)
-    (one.type ∙ ap (λ k. cpm_type_of (plain (cpm_entry.name_of (d k)))) slot ∙ sym other.type)
-    (one.user ∙ ap (λ k. Some (cpm_entry.first_of (d k))) slot ∙ sym other.user)
+    (one.name ∙ ap (λ k. cpm_name_of (without_high_bits (cpm_entry.name_of (d k)))) slot ∙ sym other.name)
+    (one.type ∙ ap (λ k. cpm_type_of (without_high_bits (cpm_entry.name_of (d k)))) slot ∙ sym other.type)
+    (one.user ∙ ap (λ k. Some (cpm_entry.user_byte_of (d k))) slot ∙ sym other.user)
     (one.class ∙ sym other.class)
     (one_cpm_faults d f.slot f.faults g.faults one.faults (subst (λ k. cpm.AreFaults d k g.faults) (sym slot) other.faults))
     (cpm_contents image f g slot one other)
@@ -111,4 +111,4 @@ cbm_found image blocks f g slot one other =
 pub one_found : (kind : Kind) (image : List ℕ) (f g : Found) → IsFound kind image f → IsFound kind image g → f.slot ≡ g.slot → f ≡ g
 one_found Cpm8 image f g one other slot = cpm_found image f g slot one other
 one_found _ image f g one other slot =
-    cbm_found image one.blocks f g slot one.holds (of_blocks image one.blocks one.are_blocks (IsCbmFile image g) other)
+    cbm_found image one.blocks f g slot one.holds (holds_of_blocks image one.blocks one.are_blocks (IsCbmFile image g) other)

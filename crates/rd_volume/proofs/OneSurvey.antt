@@ -6,8 +6,8 @@ use Rattle.rd_geometry.specs.declared.kind.Kind.{Kind}
 use Rattle.rd_volume.specs.Volumes.{AreFounds, IsFound, IsSlotOfFile}
 use Rattle.rd_volume.specs.declared.found.Found.{Found}
 use Rattle.rd_volume.proofs.OneFound.{one_found}
-use Rattle.rd_volume.proofs.FoundFile.{told_slot}
-use Rattle.rd_volume.proofs.ToldLemmas.{numbers_ascend}
+use Rattle.rd_volume.proofs.FoundFile.{described_slot}
+use Rattle.rd_volume.proofs.ListLemmas.{numbers_ascend}
 
 -- a member of ascending numbers is the first, or above it
 first_or_later : (x n : ℕ) (xs : List ℕ) → AllPairs (λ a b. a < b) (x ∷ xs) → Contains (x ∷ xs) n → (x ≡ n) ⊎ (x < n)
@@ -59,7 +59,7 @@ slots_told kind image [] are k there = absurd (let low : there.0 < 0 = there.1 i
 slots_told kind image (f ∷ fs) are k there =
     let inside : there.0 < length (f ∷ fs) = simp length-map at there.1 in
     let is : (slice_index_or (f ∷ fs) there.0 f).slot ≡ k = sym (get_or-map (λ (f : Found). f.slot) (f ∷ fs) there.0 f k inside) ∙ there.2 in
-    subst (IsSlotOfFile kind image) is (told_slot kind image (slice_index_or (f ∷ fs) there.0 f) (are.each there.0 f inside))
+    subst (IsSlotOfFile kind image) is (described_slot kind image (slice_index_or (f ∷ fs) there.0 f) (are.each there.0 f inside))
 
 -- the files of an image are one list
 pub one_survey : (kind : Kind) (image : List ℕ) (fs gs : List Found) → AreFounds kind image fs → AreFounds kind image gs → fs ≡ gs

@@ -8,7 +8,7 @@ use Rattle.rd_geometry.specs.declared.kind.Kind.{Kind}
 use Rattle.rd_geometry.specs.declared.kind.Kind.TheVariants.{Cpm8}
 use Rattle.rd_volume.specs.Founds.{IsSoundFile}
 use Rattle.rd_volume.specs.Kinds.{room_of, unit_count_of}
-use Rattle.rd_volume.specs.Parts.{part_of_unit, parts_of, place_of_body}
+use Rattle.rd_volume.specs.Parts.{range_of_unit, ranges_of, place_of_body}
 use Rattle.rd_volume.specs.Volumes.{AreBytesOf, IsFound, body_of, pieces_of}
 use Rattle.rd_volume.specs.declared.found.Found.{Found}
 use Rattle.rd_volume.proofs.FoundFile.{told_bytes}
@@ -46,7 +46,7 @@ piece_at_end kind image units shown body last i same is inside end =
 -- the pieces of a sound file of an image, joined, are its bytes
 pub pieces_join : (kind : Kind) (image : List ℕ) (found : Found) (pieces : List (List ℕ)) → pieces ≡ pieces_of kind image found.units found.last_len
     → IsSoundFile found → IsFound kind image found → AreBytesOf kind image found.slot (concat pieces)
-pieces_join kind image found pieces are sound told = subst (λ l. AreBytesOf kind image found.slot (concat l)) (sym are) (told_bytes kind image found told sound)
+pieces_join kind image found pieces are sound described = subst (λ l. AreBytesOf kind image found.slot (concat l)) (sym are) (told_bytes kind image found described sound)
 
 -- a file has as many pieces as units
 pub pieces_count : (kind : Kind) (image units : List ℕ) (last : ℕ) → length (pieces_of kind image units last) ≡ length units
@@ -61,12 +61,12 @@ unit_inside _ unit size low whole = let inside = block_inside unit size low (ome
 
 -- and so do the parts of a file
 pub parts_inside : (kind : Kind) (units : List ℕ) (last size : ℕ) → All (λ unit. unit < unit_count_of kind) units → last ≤ room_of kind → size ≡ size_of kind
-    → All (λ part. part.start + part.count ≤ size) (parts_of kind units last)
+    → All (λ part. part.start + part.count ≤ size) (ranges_of kind units last)
 parts_inside kind [] last size low fits whole = All-nil (λ part. part.start + part.count ≤ size)
 parts_inside kind (unit ∷ []) last size low fits whole =
     let inside = unit_inside kind unit size (All-head (λ unit. unit < unit_count_of kind) unit [] low) whole in
-    All-cons (λ part. part.start + part.count ≤ size) (part_of_unit kind unit last) [] (omega arith) (All-nil (λ part. part.start + part.count ≤ size))
+    All-cons (λ part. part.start + part.count ≤ size) (range_of_unit kind unit last) [] (omega arith) (All-nil (λ part. part.start + part.count ≤ size))
 parts_inside kind (unit ∷ next ∷ units) last size low fits whole =
-    All-cons (λ part. part.start + part.count ≤ size) (part_of_unit kind unit (room_of kind)) (parts_of kind (next ∷ units) last)
+    All-cons (λ part. part.start + part.count ≤ size) (range_of_unit kind unit (room_of kind)) (ranges_of kind (next ∷ units) last)
     (unit_inside kind unit size (All-head (λ unit. unit < unit_count_of kind) unit (next ∷ units) low) whole)
     (parts_inside kind (next ∷ units) last size (All-tail (λ unit. unit < unit_count_of kind) unit (next ∷ units) low) fits whole)

@@ -5,14 +5,14 @@ use Rattle.rd_geometry.specs.Blocks.{CBM_BLOCK_LENGTH, cbm_block, index_of, plac
 use Rattle.rd_geometry.specs.Kinds.{IsCbm}
 use Rattle.rd_geometry.specs.declared.kind.Kind.{Kind}
 use Rattle.rd_geometry.specs.declared.kind.Kind.TheVariants.{Cpm8, D64}
-use Rattle.rd_cbm.specs.Entries.{Data, IsServed, Side, Way, class_of, entry_at, start_of, type_of}
+use Rattle.rd_cbm.specs.Entries.{Data, IsServed, Side, ChainRole, class_of, entry_at, start_of, type_of}
 use Rattle.rd_cbm.specs.Faults.{HasNoFault, IsSound}
 use Rattle.rd_cbm.specs.Files.{AreDirectoryBlocks, IsFileSlot}
 use Rattle.rd_cbm.specs.Links.{link_by, link_of}
 use Rattle.rd_cbm.proofs.AlikeFiles.{HasFilesOf, claimed_alike, data_alike, data_end_alike, faults_alike, files_turned, served_alike, slot_alike, sound_alike}
 use Rattle.rd_cbm.proofs.AlikeWalks.{HasLinksAlong, chain_alike}
 use Rattle.rd_cbm.proofs.Existence.{has_end}
-use Rattle.rd_cbm.proofs.Inside.{links_inside, start_inside}
+use Rattle.rd_cbm.proofs.BlockBounds.{links_inside, start_inside}
 use Rattle.rd_volume.specs.AlikePieces.{pieces_length}
 use Rattle.rd_volume.specs.CbmFounds.{IsCbmFile, bytes_of_chain}
 use Rattle.rd_volume.specs.CbmKinds.{not_cpm}
@@ -20,7 +20,7 @@ use Rattle.rd_volume.specs.Directories.{OfDirectory}
 use Rattle.rd_volume.specs.Founds.{IsSoundFile}
 use Rattle.rd_volume.specs.Laws.{cbm_joined, cbm_sound}
 use Rattle.rd_volume.specs.Needed.{AgreesOnNeeded, AreCbmUnits, AreUnitsOf, DescribesCbmFiles, byte_of_used_entry, describing, link_of_claimed, link_of_directory, mark_of_claimed, place_of_cbm_entry, type_byte}
-use Rattle.rd_volume.specs.OneDirectory.{in_blocks, of_blocks}
+use Rattle.rd_volume.specs.OneDirectory.{holds_of_directory, holds_of_blocks}
 use Rattle.rd_volume.specs.Printed.{cbm_type_of, printed}
 use Rattle.rd_volume.specs.Ranges.{same_inner_item, same_item, same_length, same_or, same_range}
 use Rattle.rd_volume.specs.Reports.{IsSoundSlot}
@@ -79,7 +79,7 @@ file_byte image other blocks has slot byte file from to =
     entry_byte image other blocks slot byte (has.same (place_of_cbm_entry blocks slot + byte) (byte_of_used_entry slot byte file from to refl))
 
 -- the chains of a used entry start at the same blocks
-start_same : (image other blocks : List ℕ) → HasDescription image other blocks → (slot : ℕ) (way : Way) → IsFileSlot other blocks slot
+start_same : (image other blocks : List ℕ) → HasDescription image other blocks → (slot : ℕ) (way : ChainRole) → IsFileSlot other blocks slot
     → start_of (entry_at image blocks slot) way ≡ start_of (entry_at other blocks slot) way
 start_same image other blocks has slot Data file =
     ap₂ index_of (file_byte image other blocks has slot 3 file (omega arith) (omega arith)) (file_byte image other blocks has slot 4 file (omega arith) (omega arith))
@@ -118,7 +118,7 @@ are_alike _ cbm image other served agrees =
     let has : HasDescription image other walk.blocks = record {
       size = agrees.size;
       are = walk.chain;
-      same = λ place describes. agrees.same place (describing (in_blocks other walk.blocks walk.chain (DescribesCbmFiles other place) describes));
+      same = λ place describes. agrees.same place (describing (holds_of_directory other walk.blocks walk.chain (DescribesCbmFiles other place) describes));
     } in
     record {
       blocks = walk.blocks;
@@ -129,7 +129,7 @@ are_alike _ cbm image other served agrees =
 
 -- what follows of the blocks of the one directory follows of the other directory
 of_alike : (image other : List ℕ) → (alike : AreAlike image other) → (P Q : List ℕ → Type 0) → (P alike.blocks → Q alike.blocks) → OfDirectory other P → OfDirectory image Q
-of_alike image other alike P Q step of = in_blocks image alike.blocks alike.of_image Q (step (of_blocks other alike.blocks alike.of_other P of))
+of_alike image other alike P Q step of = holds_of_directory image alike.blocks alike.of_image Q (step (holds_of_blocks other alike.blocks alike.of_other P of))
 
 -- what describes the other's files describes those of this image
 describes_alike : (image other blocks : List ℕ) → HasFilesOf image other blocks → (place : ℕ) → DescribesCbmFiles other place blocks
@@ -150,67 +150,67 @@ chain_length image other chain used last byte is size =
 -- a record that describes a file of the other describes one of this image
 found_alike : (image other blocks : List ℕ) → length image ≡ length other → HasFilesOf image other blocks → (found : Found)
     → IsCbmFile other found blocks → IsCbmFile image found blocks
-found_alike image other blocks size has found told =
+found_alike image other blocks size has found described =
     let back : HasFilesOf other image blocks = files_turned has in
-    let here : IsFileSlot image blocks found.slot = slot_alike has told.slot in
-    let type : type_of (entry_at other blocks found.slot) ≡ type_of (entry_at image blocks found.slot) = sym (has.type found.slot told.slot.inside) in
+    let here : IsFileSlot image blocks found.slot = slot_alike has described.slot in
+    let type : type_of (entry_at other blocks found.slot) ≡ type_of (entry_at image blocks found.slot) = sym (has.type found.slot described.slot.inside) in
     record {
       slot = here;
-      name = told.name ∙ ap (printed D64) (sym (has.name found.slot told.slot));
-      type = told.type ∙ ap (λ byte. cbm_type_of (class_of byte)) type;
-      user = told.user;
+      name = described.name ∙ ap (printed D64) (sym (has.name found.slot described.slot));
+      type = described.type ∙ ap (λ byte. cbm_type_of (class_of byte)) type;
+      user = described.user;
       class = (
-        λ served. served_alike has told.slot (told.class.0 served),
-        λ served. told.class.1 (served_alike back here served),
+        λ served. served_alike has described.slot (described.class.0 served),
+        λ served. described.class.1 (served_alike back here served),
       );
-      faults = faults_alike has told.slot found.faults told.faults;
+      faults = faults_alike has described.slot found.faults described.faults;
       sound = λ sound.
           let no_fault : IsSound other blocks found.slot = sound_alike back here sound in
-          let contents = told.sound no_fault in
+          let contents = described.sound no_fault in
           record {
-            chain = data_alike has told.slot no_fault found.units contents.chain;
+            chain = data_alike has described.slot no_fault found.units contents.chain;
             on_disk = contents.on_disk;
             used = contents.used;
-            ends = data_end_alike has told.slot no_fault contents.used contents.ends;
+            ends = data_end_alike has described.slot no_fault contents.used contents.ends;
             byte = contents.byte;
             size = contents.size ∙ ap Some (chain_length image other found.units contents.used found.last_len contents.byte contents.last size);
             last = contents.last;
           };
-      faulty = λ faulty. told.faulty (λ sound. faulty (sound_alike has told.slot sound));
+      faulty = λ faulty. described.faulty (λ sound. faulty (sound_alike has described.slot sound));
     }
 
--- The slot is that of a sound file, by the blocks of the directory.
-record IsSoundIn (image blocks : List ℕ) (slot : ℕ) : Type 0 where
+-- The slot has a sound file, where the directory has these blocks.
+record IsSoundSlotIn (image blocks : List ℕ) (slot : ℕ) : Type 0 where
   file : IsFileSlot image blocks slot
   sound : IsSound image blocks slot
 
 -- a sound file's slot is one by the blocks of the directory
 sound_in : (kind : Kind) → IsCbm kind → (image blocks : List ℕ) → AreDirectoryBlocks image blocks → (slot : ℕ) → IsSoundSlot kind image slot
-    → IsSoundIn image blocks slot
+    → IsSoundSlotIn image blocks slot
 sound_in Cpm8 cbm image blocks are slot is = absurd (not_cpm cbm)
 sound_in _ cbm image blocks are slot is = record {
-  file = of_blocks image blocks are (λ bs. IsFileSlot image bs slot) is.file;
+  file = holds_of_blocks image blocks are (λ bs. IsFileSlot image bs slot) is.file;
   sound = record {
-    served = of_blocks image blocks are (λ bs. IsServed (type_of (entry_at image bs slot))) is.class;
-    no_fault = of_blocks image blocks are (λ bs. HasNoFault image bs slot) is.sound;
+    served = holds_of_blocks image blocks are (λ bs. IsServed (type_of (entry_at image bs slot))) is.class;
+    no_fault = holds_of_blocks image blocks are (λ bs. HasNoFault image bs slot) is.sound;
   };
 }
 
--- a slot that is a sound file's by the blocks of the directory is a sound file's slot
-sound_slot : (kind : Kind) → IsCbm kind → (image blocks : List ℕ) → AreDirectoryBlocks image blocks → (slot : ℕ) → IsSoundIn image blocks slot
+-- a slot that has a sound file, where the directory has these blocks, is the slot of a sound file of the image
+sound_slot : (kind : Kind) → IsCbm kind → (image blocks : List ℕ) → AreDirectoryBlocks image blocks → (slot : ℕ) → IsSoundSlotIn image blocks slot
     → IsSoundSlot kind image slot
 sound_slot Cpm8 cbm image blocks are slot is = absurd (not_cpm cbm)
 sound_slot _ cbm image blocks are slot is = record {
-  file = in_blocks image blocks are (λ bs. IsFileSlot image bs slot) is.file;
-  class = in_blocks image blocks are (λ bs. IsServed (type_of (entry_at image bs slot))) is.sound.served;
-  sound = in_blocks image blocks are (λ bs. HasNoFault image bs slot) is.sound.no_fault;
+  file = holds_of_directory image blocks are (λ bs. IsFileSlot image bs slot) is.file;
+  class = holds_of_directory image blocks are (λ bs. IsServed (type_of (entry_at image bs slot))) is.sound.served;
+  sound = holds_of_directory image blocks are (λ bs. HasNoFault image bs slot) is.sound.no_fault;
 }
 
 -- a file has the units that it has by the blocks of the directory
 units_of : (kind : Kind) → IsCbm kind → (image blocks : List ℕ) → AreDirectoryBlocks image blocks → (slot last : ℕ) (units : List ℕ)
     → AreCbmUnits image slot units last blocks → AreUnitsOf kind image slot units last
 units_of Cpm8 cbm image blocks are slot last units is = absurd (not_cpm cbm)
-units_of _ cbm image blocks are slot last units is = in_blocks image blocks are (AreCbmUnits image slot units last) is
+units_of _ cbm image blocks are slot last units is = holds_of_directory image blocks are (AreCbmUnits image slot units last) is
 
 -- the files of the other are files of this image
 keeps_files : (kind : Kind) → IsCbm kind → (image other : List ℕ) → AreAlike image other → KeepsFiles kind image other
@@ -219,11 +219,11 @@ keeps_files kind cbm image other alike = record {
   describes = λ place. of_alike image other alike (DescribesCbmFiles other place) (DescribesCbmFiles image place)
       (describes_alike image other alike.blocks alike.files place);
   sound = λ slot is.
-      let there : IsSoundIn other alike.blocks slot = sound_in kind cbm other alike.blocks alike.of_other slot is in
+      let there : IsSoundSlotIn other alike.blocks slot = sound_in kind cbm other alike.blocks alike.of_other slot is in
       sound_slot kind cbm image alike.blocks alike.of_image slot
       (record { file = slot_alike alike.files there.file; sound = sound_alike alike.files there.file there.sound });
   units = λ slot last units is.
-      let there : IsSoundIn other alike.blocks slot = sound_in kind cbm other alike.blocks alike.of_other slot is in
+      let there : IsSoundSlotIn other alike.blocks slot = sound_in kind cbm other alike.blocks alike.of_other slot is in
       of_alike image other alike (AreCbmUnits other slot units last) (AreCbmUnits image slot units last) (λ are. record {
         chain = data_alike alike.files there.file there.sound units are.chain;
         used = are.used;
@@ -236,7 +236,7 @@ keeps_files kind cbm image other alike = record {
 bytes_alike : (kind : Kind) → IsCbm kind → (image other served : List ℕ) → AgreesOnNeeded kind image other served → AreAlike image other → (slot : ℕ) (bytes : List ℕ)
     → Contains served slot → IsSoundSlot kind other slot → OfDirectory other (AreCbmBytes other slot bytes) → OfDirectory image (AreCbmBytes image slot bytes)
 bytes_alike kind cbm image other served agrees alike slot bytes among sound =
-    let there : IsSoundIn other alike.blocks slot = sound_in kind cbm other alike.blocks alike.of_other slot sound in
+    let there : IsSoundSlotIn other alike.blocks slot = sound_in kind cbm other alike.blocks alike.of_other slot sound in
     of_alike image other alike (AreCbmBytes other slot bytes) (AreCbmBytes image slot bytes) (λ are.
     let last : ℕ = are.used - 1 in
     let units : AreUnitsOf kind other slot are.chain last = units_of kind cbm other alike.blocks alike.of_other slot last are.chain
@@ -255,11 +255,11 @@ bytes_alike kind cbm image other served agrees alike slot bytes among sound =
 found_pieces : (kind : Kind) → IsCbm kind → (image other served : List ℕ) → AgreesOnNeeded kind image other served → (blocks : List ℕ) → AreDirectoryBlocks other blocks
     → (found : Found) → Contains served found.slot → IsCbmFile other found blocks → IsSoundFile found
     → pieces_of kind image found.units found.last_len ≡ pieces_of kind other found.units found.last_len
-found_pieces kind cbm image other served agrees blocks are found among told sound =
-    let contents = cbm_sound other blocks found told sound in
+found_pieces kind cbm image other served agrees blocks are found among described sound =
+    let contents = cbm_sound other blocks found described sound in
     served_pieces kind image other served agrees found.slot found.last_len found.units among
     (sound_slot kind cbm other blocks are found.slot
-    (record { file = told.slot; sound = record { served = told.class.0 sound.class; no_fault = told.faults.none.0 sound.sound } }))
+    (record { file = described.slot; sound = record { served = described.class.0 sound.class; no_fault = described.faults.none.0 sound.sound } }))
     (units_of kind cbm other blocks are found.slot found.last_len found.units
     (record { chain = contents.chain; used = contents.used; ends = contents.ends; is_last = contents.last }))
 
@@ -276,7 +276,7 @@ cbm_law kind cbm = record {
         file = λ slot. of_alike image other alike (λ blocks. IsFileSlot other blocks slot) (λ blocks. IsFileSlot image blocks slot) (slot_alike alike.files);
         found = λ found. of_alike image other alike (IsCbmFile other found) (IsCbmFile image found) (found_alike image other alike.blocks agrees.size alike.files found);
         bytes = bytes_alike kind cbm image other served agrees alike;
-        pieces = λ found among told. found_pieces kind cbm image other served agrees alike.blocks alike.of_other found among
-            (of_blocks other alike.blocks alike.of_other (IsCbmFile other found) told);
+        pieces = λ found among described. found_pieces kind cbm image other served agrees alike.blocks alike.of_other found among
+            (holds_of_blocks other alike.blocks alike.of_other (IsCbmFile other found) described);
       };
 }

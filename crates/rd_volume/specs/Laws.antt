@@ -10,7 +10,7 @@ use Rattle.rd_geometry.specs.Places.{CPM_UNITS, CPM_UNIT_LENGTH, cpm_unit}
 use Rattle.rd_geometry.specs.declared.kind.Kind.{Kind}
 use Rattle.rd_geometry.specs.declared.kind.Kind.TheVariants.{Cpm8}
 use Rattle.rd_cpm.specs.Contents.{IsRecord, bytes_of_sectors}
-use Rattle.rd_cpm.specs.Entries.{pointer_of, slot_of}
+use Rattle.rd_cpm.specs.Entries.{pointer_of, entry_of_slot}
 use Rattle.rd_cpm.specs.Faults.{IsSound}
 use Rattle.rd_volume.specs.CbmFounds.{HasCbmContents, IsCbmFile, bytes_of_chain}
 use Rattle.rd_volume.specs.CbmKinds.{cbm_body, not_cpm}
@@ -40,17 +40,17 @@ cpm_joined image (n ∷ m ∷ sectors) last is =
 pub cpm_total : (image : List ℕ) (found : Found) → IsCpmFile image found → IsSoundFile found
     → found.size ≡ Some (length (contents_of Cpm8 image found))
 cpm_total image found is sound =
-    let told = is.sound (is.faults.sound.0 sound.sound) in
-    told.size ∙ ap (λ bytes. Some (length bytes)) (sym (cpm_joined image found.units found.last_len told.last))
+    let described = is.sound (is.faults.sound.0 sound.sound) in
+    described.size ∙ ap (λ bytes. Some (length bytes)) (sym (cpm_joined image found.units found.last_len described.last))
 
 -- a unit of a sound file of a CP/M image is one of the disk
-record_on_disk : (image : List ℕ) (k r u : ℕ) → IsSound (slot_of image) k → IsRecord (slot_of image) k r u → u < CPM_UNITS
+record_on_disk : (image : List ℕ) (k r u : ℕ) → IsSound (entry_of_slot image) k → IsRecord (entry_of_slot image) k r u → u < CPM_UNITS
 record_on_disk image k r u sound is =
     let place : r % 128 / 8 < 16 = omega arith in
-    let low : pointer_of (slot_of image is.entry) (r % 128 / 8) ≤ 242 =
-    not_above (pointer_of (slot_of image is.entry) (r % 128 / 8)) 242
+    let low : pointer_of (entry_of_slot image is.entry) (r % 128 / 8) ≤ 242 =
+    not_above (pointer_of (entry_of_slot image is.entry) (r % 128 / 8)) 242
     (λ beyond. sound.not_off_disk (record { entry = is.entry; place = r % 128 / 8; of_file = is.of_file; in_entry = place; beyond = beyond })) in
-    let sector : u ≡ 8 * pointer_of (slot_of image is.entry) (r % 128 / 8) + r % 8 = is.sector in
+    let sector : u ≡ 8 * pointer_of (entry_of_slot image is.entry) (r % 128 / 8) + r % 8 = is.sector in
     omega arith
 
 -- the last sector of a file is no longer than a sector
@@ -62,12 +62,12 @@ last_at_most (sector ∷ sectors) = omega arith
 pub cpm_fits : (image : List ℕ) (found : Found) → IsCpmFile image found → Fits Cpm8 found
 cpm_fits image found is = elim (cases_eq found.faults 0) [
   | inl zero ↦
-      let sound : IsSound (slot_of image) found.slot = is.faults.sound.0 zero in
-      let told = is.sound sound in
+      let sound : IsSound (entry_of_slot image) found.slot = is.faults.sound.0 zero in
+      let described = is.sound sound in
       record {
         units = All-from_get_or (λ unit. unit < CPM_UNITS) found.units 0
-            (λ r inside. record_on_disk image found.slot r (slice_index found.units r) sound (told.units.each r inside));
-        last = let last : found.last_len ≡ last_sector_length found.units = told.last in
+            (λ r inside. record_on_disk image found.slot r (slice_index found.units r) sound (described.units.each r inside));
+        last = let last : found.last_len ≡ last_sector_length found.units = described.last in
             let most : last_sector_length found.units ≤ CPM_UNIT_LENGTH = last_at_most found.units in omega arith;
       }
   | inr some ↦
@@ -84,7 +84,7 @@ block_body : (kind : Kind) → IsCbm kind → (image : List ℕ) (block : ℕ)
 block_body kind cbm image block =
     take_all 254 (drop 2 (cbm_block image block)) (simp (length-drop, length-take) (omega arith)) ∙ sym (cbm_body kind cbm image block)
 
--- the bytes of a last block up to the last one used are the front of what it holds of a file
+-- bytes 2 up to the last used one of a last block are the front of what the block holds of a file
 last_body : (kind : Kind) → IsCbm kind → (image : List ℕ) (block used last : ℕ) → last ≡ used - 1
     → slice_range (cbm_block image block) 2 (used + 1) ≡ take last (body_of kind image block)
 last_body kind cbm image block used last is =
@@ -110,8 +110,8 @@ pub cbm_total : (kind : Kind) → IsCbm kind → (image : List ℕ) (found : Fou
     → found.size ≡ Some (length (contents_of kind image found))
 cbm_total Cpm8 cbm image found is sound = absurd (not_cpm cbm)
 cbm_total kind cbm image found is sound =
-    let told = cbm_sound image is.blocks found is.holds sound in
-    told.size ∙ ap (λ bytes. Some (length bytes)) (sym (cbm_joined kind cbm image found.units told.used found.last_len told.last))
+    let described = cbm_sound image is.blocks found is.holds sound in
+    described.size ∙ ap (λ bytes. Some (length bytes)) (sym (cbm_joined kind cbm image found.units described.used found.last_len described.last))
 
 -- a file without contents lies in each image
 no_contents_fit : (kind : Kind) → IsCbm kind → (found : Found) → HasNoContents found → Fits kind found
@@ -121,12 +121,12 @@ no_contents_fit _ cbm found none = record {
   last = let last : found.last_len ≡ 0 = none.last in omega arith;
 }
 
--- a file with the contents of its image lies in it
+-- a file whose contents are those that its image gives lies in the image
 contents_fit : (kind : Kind) → IsCbm kind → (image blocks : List ℕ) (found : Found) → HasCbmContents image blocks found → Fits kind found
-contents_fit Cpm8 cbm image blocks found told = absurd (not_cpm cbm)
-contents_fit _ cbm image blocks found told = record {
-  units = told.on_disk;
-  last = let byte : told.used < 256 = told.byte in let last : found.last_len ≡ told.used - 1 = told.last in omega arith;
+contents_fit Cpm8 cbm image blocks found described = absurd (not_cpm cbm)
+contents_fit _ cbm image blocks found described = record {
+  units = described.on_disk;
+  last = let byte : described.used < 256 = described.byte in let last : found.last_len ≡ described.used - 1 = described.last in omega arith;
 }
 
 -- a file of a 1541 image lies in the image

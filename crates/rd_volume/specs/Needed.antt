@@ -11,12 +11,12 @@ use Rattle.rd_cbm.specs.Files as cbm_file
 use Rattle.rd_cbm.specs.Links.{link_of}
 use Rattle.rd_cbm.specs.Walks.{Ends, IsChain}
 use Rattle.rd_cpm.specs.Contents.{AreSectors}
-use Rattle.rd_cpm.specs.Entries.{IsOfFile, slot_of}
+use Rattle.rd_cpm.specs.Entries.{IsOfFile, entry_of_slot}
 use Rattle.rd_volume.specs.CpmFounds.{last_sector_length}
 use Rattle.rd_volume.specs.Directories.{OfDirectory}
 use Rattle.rd_volume.specs.Founds.{IsSoundFile}
 use Rattle.rd_volume.specs.Kinds.{room_of}
-use Rattle.rd_volume.specs.Parts.{Part, parts_of}
+use Rattle.rd_volume.specs.Parts.{ByteRange, ranges_of}
 use Rattle.rd_volume.specs.Reports.{IsSoundSlot}
 use Rattle.rd_volume.specs.Volumes.{AreBytesOf, AreFounds, IsFound, IsSlotOfFile, pieces_of}
 use Rattle.rd_volume.specs.declared.found.Found.{Found}
@@ -29,7 +29,7 @@ place_of_cpm_entry slot = place_of_cpm_unit (slot / 4) + 32 * (slot % 4)
 -- of an entry of a file, but not byte 13, which is S1.
 pub data DescribesCpmFiles (image : List ℕ) (place : ℕ) : Type 0 where
   first_byte : (slot : ℕ) → slot < 64 → place ≡ place_of_cpm_entry slot → DescribesCpmFiles image place
-  byte_of_entry : (slot byte : ℕ) → slot < 64 → IsOfFile (slot_of image slot) → byte < 32 → byte ≢ 13
+  byte_of_entry : (slot byte : ℕ) → slot < 64 → IsOfFile (entry_of_slot image slot) → byte < 32 → byte ≢ 13
       → place ≡ place_of_cpm_entry slot + byte → DescribesCpmFiles image place
 
 -- the place at which the entry of a slot of a 1541 directory with these blocks begins: eight of 32 bytes
@@ -63,7 +63,7 @@ DescribesFiles D64e image place = OfDirectory image (DescribesCbmFiles image pla
 -- The units of the sound file at a slot of a CP/M image are these sectors, and the last of them holds `last`
 -- bytes of it.
 pub record AreCpmUnits (image : List ℕ) (slot : ℕ) (units : List ℕ) (last : ℕ) : Type 0 where
-  pub sectors : AreSectors (slot_of image) slot units
+  pub sectors : AreSectors (entry_of_slot image) slot units
   pub is_last : last ≡ last_sector_length units
 
 -- The units of the sound file at a slot of a 1541 image, whose directory has these blocks, are the chain of
@@ -80,7 +80,7 @@ AreUnitsOf Cpm8 image slot units last = AreCpmUnits image slot units last
 AreUnitsOf D64 image slot units last = OfDirectory image (AreCbmUnits image slot units last)
 AreUnitsOf D64e image slot units last = OfDirectory image (AreCbmUnits image slot units last)
 
--- The byte at a place of an image is served: it is a byte of a part of the image that holds bytes of a
+-- The byte at a place of an image is served: it is a byte of a range of the image that holds bytes of a
 -- sound file at one of these slots. The byte also lies within the room of the unit, even if `last` were
 -- larger.
 pub record IsServedByte (kind : Kind) (image served : List ℕ) (place : ℕ) : Type 0 where
@@ -90,12 +90,12 @@ pub record IsServedByte (kind : Kind) (image served : List ℕ) (place : ℕ) : 
   pub units : List ℕ
   pub last : ℕ
   pub are_units : AreUnitsOf kind image slot units last
-  pub part : Part
-  pub of_file : Contains (parts_of kind units last) part
+  pub range : ByteRange
+  pub of_file : Contains (ranges_of kind units last) range
   pub byte : ℕ
-  pub in_part : byte < part.count
+  pub in_range : byte < range.count
   pub in_unit : byte < room_of kind
-  pub there : place ≡ part.start + byte
+  pub there : place ≡ range.start + byte
 
 -- The byte at a place of an image is needed, where the files at these slots are served: it describes the
 -- image's files, or is served.

@@ -1,4 +1,4 @@
--- The parts of an image that hold the bytes of a file.
+-- The ranges of an image that hold the bytes of a file.
 use Rattle.std.specs.Prelude.{◌+◌, ℕ, List, slice_range}
 use Rattle.rd_geometry.specs.Blocks.{place_of_block}
 use Rattle.rd_geometry.specs.Places.{place_of_cpm_unit}
@@ -7,14 +7,14 @@ use Rattle.rd_geometry.specs.declared.kind.Kind.TheVariants.{Cpm8, D64, D64e}
 use Rattle.rd_volume.specs.Kinds.{room_of}
 use Rattle.rd_volume.specs.Lists.{map_last_apart}
 
--- A part of an image: so many bytes, from a place on.
-pub record Part : Type 0 where
+-- A range of an image: so many bytes, from a place on.
+pub record ByteRange : Type 0 where
   pub start : ℕ
   pub count : ℕ
 
--- the bytes of a part of an image
-abbrev pub bytes_of_part : List ℕ → Part → List ℕ
-bytes_of_part image part = slice_range image part.start (part.start + part.count)
+-- the bytes of a range of an image
+abbrev pub bytes_of_range : List ℕ → ByteRange → List ℕ
+bytes_of_range image range = slice_range image range.start (range.start + range.count)
 
 -- the place from which a unit holds bytes of a file: its own on a CP/M disk, and on a 1541 disk that
 -- behind the two bytes of its link
@@ -23,12 +23,12 @@ place_of_body Cpm8 unit = place_of_cpm_unit unit
 place_of_body D64 unit = place_of_block unit + 2
 place_of_body D64e unit = place_of_block unit + 2
 
--- the part from which a unit gives so many bytes of a file
-abbrev pub part_of_unit : Kind → ℕ → ℕ → Part
-part_of_unit kind unit count = record { start = place_of_body kind unit; count = count }
+-- the range from which a unit gives so many bytes of a file
+abbrev pub range_of_unit : Kind → ℕ → ℕ → ByteRange
+range_of_unit kind unit count = record { start = place_of_body kind unit; count = count }
 
--- the parts that hold the bytes of a file, one for each of its units: of each unit but the last all that
+-- the ranges that hold the bytes of a file, one for each of its units: of each unit but the last all that
 -- it holds of a file, and of the last one the first `last` bytes of that
-abbrev pub parts_of : Kind → List ℕ → ℕ → List Part
-parts_of kind units last =
-    map_last_apart (λ unit. part_of_unit kind unit (room_of kind)) (λ unit. part_of_unit kind unit last) units
+abbrev pub ranges_of : Kind → List ℕ → ℕ → List ByteRange
+ranges_of kind units last =
+    map_last_apart (λ unit. range_of_unit kind unit (room_of kind)) (λ unit. range_of_unit kind unit last) units

@@ -5,7 +5,7 @@ use Rattle.rd_geometry.specs.declared.kind.Kind.{Kind}
 use Rattle.rd_geometry.specs.declared.kind.Kind.TheVariants.{Cpm8, D64, D64e}
 use Rattle.rd_cbm.specs.BlockMap.{map_of}
 use Rattle.rd_cbm.specs.Counts.{IsCount}
-use Rattle.rd_cbm.specs.Entries.{Way, Data, ClaimsBy, entry_at, size_field_of, type_of}
+use Rattle.rd_cbm.specs.Entries.{ChainRole, Data, ClaimsBy, entry_at, size_field_of, type_of}
 use Rattle.rd_cbm.specs.Files.{Claims, IsFileSlot}
 use Rattle.rd_cbm.specs.Links.{link_of}
 use Rattle.rd_cbm.specs.Listing.{AreCounts}
@@ -33,7 +33,7 @@ pub record IsFaultySlot (kind : Kind) (image : List ℕ) (k : ℕ) : Type 0 wher
 pub record HasOtherSize (image : List ℕ) (k : ℕ) (blocks : List ℕ) : Type 0 where
   pub file : IsFileSlot image blocks k
   pub claimant : ClaimsBy (type_of (entry_at image blocks k)) Data
-  pub differs : ¬ IsCount (λ block. (way : Way) × Claims image blocks k way block) (size_field_of (entry_at image blocks k))
+  pub differs : ¬ IsCount (λ block. (way : ChainRole) × Claims image blocks k way block) (size_field_of (entry_at image blocks k))
 
 -- the file of slot k has another size than its entry states; no file of a CP/M disk does
 abbrev pub DiffersInSize : Kind → List ℕ → ℕ → Type 0

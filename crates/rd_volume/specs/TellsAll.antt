@@ -27,10 +27,10 @@ needed_alike kind image other served has place (of_served is) = of_served (recor
   units = is.units;
   last = is.last;
   are_units = has.units is.slot is.last is.units is.sound is.are_units;
-  part = is.part;
+  range = is.range;
   of_file = is.of_file;
   byte = is.byte;
-  in_part = is.in_part;
+  in_range = is.in_range;
   in_unit = is.in_unit;
   there = is.there;
 })
@@ -40,18 +40,18 @@ pub served_pieces : (kind : Kind) (image other served : List ℕ) → AgreesOnNe
     → Contains served slot → IsSoundSlot kind other slot → AreUnitsOf kind other slot units last
     → pieces_of kind image units last ≡ pieces_of kind other units last
 served_pieces kind image other served agrees slot last units among sound are =
-    pieces_alike kind image other units last agrees.size (λ part byte of_file in_part in_unit.
-    agrees.same (part.start + byte) (of_served (record {
+    pieces_alike kind image other units last agrees.size (λ range byte of_file in_range in_unit.
+    agrees.same (range.start + byte) (of_served (record {
       slot = slot;
       among_served = among;
       sound = sound;
       units = units;
       last = last;
       are_units = are;
-      part = part;
+      range = range;
       of_file = of_file;
       byte = byte;
-      in_part = in_part;
+      in_range = in_range;
       in_unit = in_unit;
       there = refl;
     })))

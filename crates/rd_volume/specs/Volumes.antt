@@ -13,7 +13,7 @@ use Rattle.rd_cbm.specs.Files as cbm_file
 use Rattle.rd_cbm.specs.Links.{link_of}
 use Rattle.rd_cbm.specs.Walks.{Ends, IsChain}
 use Rattle.rd_cpm.specs.Contents.{AreSectors, bytes_of_sectors}
-use Rattle.rd_cpm.specs.Entries.{slot_of}
+use Rattle.rd_cpm.specs.Entries.{entry_of_slot}
 use Rattle.rd_cpm.specs.Faults.{IsSound}
 use Rattle.rd_cpm.specs.Files.{IsFileSlot}
 use Rattle.rd_volume.specs.CbmFounds.{IsCbmFile, bytes_of_chain}
@@ -28,7 +28,7 @@ IsCbmSlotOfFile image k = OfDirectory image (λ blocks. cbm_file.IsFileSlot imag
 
 -- slot k is the slot of a file
 abbrev pub IsSlotOfFile : Kind → List ℕ → ℕ → Type 0
-IsSlotOfFile Cpm8 image k = IsFileSlot (slot_of image) k
+IsSlotOfFile Cpm8 image k = IsFileSlot (entry_of_slot image) k
 IsSlotOfFile D64 image k = IsCbmSlotOfFile image k
 IsSlotOfFile D64e image k = IsCbmSlotOfFile image k
 
@@ -49,14 +49,14 @@ HasNoCbmFault image k = OfDirectory image (λ blocks. cbm_fault.HasNoFault image
 
 -- the file of slot k has no fault
 abbrev pub HasNoFault : Kind → List ℕ → ℕ → Type 0
-HasNoFault Cpm8 image k = IsSound (slot_of image) k
+HasNoFault Cpm8 image k = IsSound (entry_of_slot image) k
 HasNoFault D64 image k = HasNoCbmFault image k
 HasNoFault D64e image k = HasNoCbmFault image k
 
 -- The bytes are those of the sound file of slot k of a CP/M image.
 pub record AreCpmBytes (image : List ℕ) (k : ℕ) (bytes : List ℕ) : Type 0 where
   pub sectors : List ℕ
-  pub are_sectors : AreSectors (slot_of image) k sectors
+  pub are_sectors : AreSectors (entry_of_slot image) k sectors
   pub joined : bytes ≡ bytes_of_sectors image sectors
 
 -- The bytes are those of the sound file of slot k of a 1541 image whose directory has these
@@ -89,7 +89,7 @@ pub record AreFounds (kind : Kind) (image : List ℕ) (founds : List Found) : Ty
 -- The answer is the file at a slot of an image, none where no file has the slot.
 pub record IsFoundAt (kind : Kind) (image : List ℕ) (slot : ℕ) (answer : Option Found) : Type 0 where
   pub same_slot : IfSome answer (λ found. found.slot ≡ slot)
-  pub told : IfSome answer (IsFound kind image)
+  pub described : IfSome answer (IsFound kind image)
   pub none : IfNone answer (¬ IsSlotOfFile kind image slot)
 
 -- the bytes of unit n in which a file's bytes stand: all of a CP/M sector, and all of a 1541 block but

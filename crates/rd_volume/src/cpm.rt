@@ -108,7 +108,7 @@ fn count_faulty(files: &[CpmFile]) -> usize
     files.iter().filter(|file| file.faults != 0).count()
 }
 
-/// The counts of what a CP/M disk has on it.
+/// Counts what a CP/M disk has on it.
 pub(crate) fn report(alloc: Global, disk: &CpmDisk) -> Result<Report, NoMemory>
     ensures { IfOk result (IsReport Kind.Cpm8 (cpm_bytes disk.now)) }
 {

@@ -6,7 +6,7 @@ ghost use Rattle.rd_geometry.specs.Kinds.{size_of};
 ghost use Rattle.rd_geometry.specs.declared.kind.Kind.{Kind};
 ghost use Rattle.rd_volume.specs.Founds.{Fits, IsSoundFile};
 ghost use Rattle.rd_volume.specs.Needed.{AgreesOnNeeded, TellTheSame};
-ghost use Rattle.rd_volume.specs.Parts.{bytes_of_part, parts_of};
+ghost use Rattle.rd_volume.specs.Parts.{bytes_of_range, ranges_of};
 ghost use Rattle.rd_volume.specs.Reports.{IsReport, IsSoundSlot};
 ghost use Rattle.rd_volume.specs.Volumes.{AreBytesOf, AreFounds, IsFound, IsSlotOfFile, pieces_of};
 ghost use Rattle.rd_volume.specs.declared.found.Found.{Found};
@@ -31,10 +31,10 @@ pub fn each_image_has_one_survey()
 
 /// A law: each list of bytes has a survey, and each list of numbers a report, so that `survey` and
 /// `report` have something to say of every image, whatever it holds.
-pub fn each_image_can_be_told()
+pub fn each_image_has_a_survey_and_a_report()
     ensures survey { (kind : Kind) (image : List ℕ) → All (λ byte. byte < 256) image
         → (founds : List Found) × AreFounds kind image founds }
-    ensures report { (kind : Kind) (image : List ℕ) → (told : Report) × IsReport kind image told }
+    ensures report { (kind : Kind) (image : List ℕ) → (counted : Report) × IsReport kind image counted }
 {}
 
 /// A law: no sound file has two lists of bytes.
@@ -50,9 +50,9 @@ pub fn each_sound_file_has_one_content()
 pub fn each_piece_is_a_slice_of_its_image()
     ensures slices { (kind : Kind) (image : List ℕ) (found : Found) → Fits kind found
         → pieces_of kind image found.units found.last_len
-        ≡ map (bytes_of_part image) (parts_of kind found.units found.last_len) }
+        ≡ map (bytes_of_range image) (ranges_of kind found.units found.last_len) }
     ensures inside { (kind : Kind) (image : List ℕ) (found : Found) → length image ≡ size_of kind → Fits kind found
-        → All (λ part. part.start + part.count ≤ length image) (parts_of kind found.units found.last_len) }
+        → All (λ part. part.start + part.count ≤ length image) (ranges_of kind found.units found.last_len) }
 {}
 
 /// A law: the needed bytes of an image decide what desk says about its files, whichever of them it

@@ -22,7 +22,7 @@ pub trait Volume<'a>: Geometry<'a> {
     fn survey(&self, alloc: Global) -> Result<Items<Found>, NoMemory>
         ensures { IfOk result (AreFounds (volume_kind self.now) (Self.image_bytes self.now)) };
 
-    /// The counts of what the disk has on it. It fails only when memory runs out.
+    /// Counts what the disk has on it. It fails only when memory runs out.
     fn report(&self, alloc: Global) -> Result<Report, NoMemory>
         ensures { IfOk result (IsReport (volume_kind self.now) (Self.image_bytes self.now)) };
 
@@ -51,7 +51,7 @@ pub trait Volume<'a>: Geometry<'a> {
 
     /// An image that agrees with the disk's image on the needed bytes has the same files, and the
     /// same bytes in the served ones, whichever files are served and whatever its other bytes are.
-    ghost hidden: { (disk : Self) (image served : List ℕ)
+    ghost needed_suffice: { (disk : Self) (image served : List ℕ)
         → AgreesOnNeeded (volume_kind disk) image (Self.image_bytes disk) served
         → TellTheSame (volume_kind disk) image (Self.image_bytes disk) served };
 }
@@ -90,7 +90,7 @@ impl<'a> Volume<'a> for CpmDisk<'a> {
 
     ghost use Rattle.rd_volume.specs.NeededLaw.{tell_the_same};
 
-    ghost hidden = { λ disk image served. tell_the_same Cpm8 image (cpm_bytes disk) served };
+    ghost needed_suffice = { λ disk image served. tell_the_same Cpm8 image (cpm_bytes disk) served };
 }
 
 impl<'a> Volume<'a> for CbmDisk<'a> {
@@ -127,5 +127,5 @@ impl<'a> Volume<'a> for CbmDisk<'a> {
 
     ghost use Rattle.rd_volume.specs.NeededLaw.{tell_the_same};
 
-    ghost hidden = { λ disk image served. tell_the_same (cbm_kind disk) image (cbm_bytes disk) served };
+    ghost needed_suffice = { λ disk image served. tell_the_same (cbm_kind disk) image (cbm_bytes disk) served };
 }

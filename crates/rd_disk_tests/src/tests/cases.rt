@@ -1,4 +1,4 @@
-//! Cases: an image, and what desk must answer.
+//! Cases: an image, and what must be found in it.
 
 use super::built::{has_bytes, has_mark, has_unit};
 use super::cbm_directory::{has_entry, is_directory};
@@ -13,7 +13,7 @@ use rd_volume::{End, Image, NoMemory};
 use std::alloc::Global;
 use std::process::Abort;
 
-/// What desk must answer.
+/// What must be found in an image.
 #[derive(Clone, Copy)]
 pub(super) enum Wanted {
     /// How many bytes there are, and bytes from a place on.
@@ -46,7 +46,7 @@ pub(super) enum Wanted {
     Report((u16, u16, u16, u16), (u16, u16, u16), End, &'static [u8]),
 }
 
-/// A label, an image, and what desk must answer.
+/// A label, an image, and what must be found in it.
 pub(super) type Case = (&'static str, Sample, Wanted);
 
 /// Whether desk says it of an image.

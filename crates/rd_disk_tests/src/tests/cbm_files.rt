@@ -11,7 +11,7 @@ use rd_samples::bytes::padded;
 use rd_samples::cbm::{NewCbmEntry, PROGRAM};
 use std::alloc::Global;
 
-/// What desk must answer of files in slots that follow one another.
+/// What must be found about files in slots that follow one another.
 #[derive(Clone, Copy)]
 pub(super) struct Told {
     /// How many files have this description, and the slot of the first.

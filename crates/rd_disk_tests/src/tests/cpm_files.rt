@@ -23,7 +23,7 @@ const OFF_DISK: u8 = 32;
 
 const CROSSED: u8 = 64;
 
-/// What desk must answer of a file.
+/// What must be found about a file.
 #[derive(Clone, Copy)]
 pub(super) struct Told {
     slot: u8,

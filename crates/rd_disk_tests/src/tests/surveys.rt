@@ -27,7 +27,7 @@ pub(super) enum Contents {
     Full,
 }
 
-/// What desk must answer of files in slots that follow one another.
+/// What must be found about files in slots that follow one another.
 #[derive(Clone, Copy)]
 pub(super) struct Told {
     /// How many files have this description, and the slot of the first.
@@ -319,7 +319,8 @@ fn lent_by<'a, V: Volume<'a>>(
     Ok(Some(bytes))
 }
 
-/// The bytes of a file that the disk of an image of any kind lends, unit by unit.
+/// The bytes of a file that the disk of an image of any kind lends, unit by unit; none if the file has a fault or
+/// does not fit the image.
 fn lent(alloc: Global, image: &Image<'_>, file: &Found) -> Result<Option<Vec<u8>>, NoMemory> {
     if let Some(disk) = CpmDisk::of(image) {
         return lent_by(alloc, image, &disk, file);

@@ -508,7 +508,7 @@ fn is_whole(left: &Left, museum: &Museum) -> bool {
 /// write failed.
 fn is_answered(museum: &Museum) -> bool {
     match museum.door.visits() {
-        [visit] if visit.put_failed() => PUT.starts_with(visit.out()) && visit.out() != PUT,
+        [visit] if visit.write_failed() => PUT.starts_with(visit.out()) && visit.out() != PUT,
         [visit] => visit.out() == PUT || visit.out() == UNAVAILABLE,
         _ => false,
     }

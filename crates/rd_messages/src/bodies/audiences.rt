@@ -20,7 +20,7 @@ const NOBODY: Audiences = Audiences {
 
 /// The audience whose word a value is; `None` if it is no such word.
 pub(crate) fn audience_of(value: &Value) -> Option<Audience>
-    ensures told { IfSome result (λ audience. view value.now ≡ string (audience_word audience)) }
+    ensures parsed { IfSome result (λ audience. view value.now ≡ string (audience_word audience)) }
     ensures none { IfNone result
         ((audience : Audience) → view value.now ≢ string (audience_word audience)) }
 {
@@ -44,7 +44,7 @@ fn with(set: Audiences, audience: Audience) -> Audiences
 /// The set of the audiences whose words the values are; `None` if there is no value, one is no
 /// such word, or one comes twice.
 fn audiences_in(values: &[Value]) -> Option<Audiences>
-    ensures told { IfSome result (NameAudiences (map view values.now)) }
+    ensures parsed { IfSome result (NameAudiences (map view values.now)) }
     ensures none { IfNone result ((set : Audiences) → ¬ NameAudiences (map view values.now) set) }
 {
     let mut set = NOBODY;
@@ -60,7 +60,7 @@ fn audiences_in(values: &[Value]) -> Option<Audiences>
 
 /// The set of audiences that an array at a key of an object names; `None` if it names none.
 pub(crate) fn audiences_at(value: &Value, key: &str) -> Option<Audiences>
-    ensures told { IfSome result (HasAudiencesAt key.now (view value.now)) }
+    ensures parsed { IfSome result (HasAudiencesAt key.now (view value.now)) }
     ensures none { IfNone result ((set : Audiences) → ¬ HasAudiencesAt key.now (view value.now) set) }
 {
     let values = value.get(key)?.as_array()?;

@@ -30,7 +30,7 @@ pub(crate) fn day_at(
     value: &Value,
     key: &str,
 ) -> Result<Option<Option<i32>>, NoMemory>
-    ensures told { IfOk result (λ read. IfSome read (λ day. HasDayAt key.now (view value.now) day)) }
+    ensures parsed { IfOk result (λ read. IfSome read (λ day. HasDayAt key.now (view value.now) day)) }
     ensures none { IfOk result
         (λ read. IfNone read ((day : Option ℤ) → ¬ HasDayAt key.now (view value.now) day)) }
 {

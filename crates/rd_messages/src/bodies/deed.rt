@@ -11,7 +11,7 @@ use std::alloc::Global;
 /// Who gave the disks, and the day on which they signed the deed; `None` if the value describes no
 /// deed. It fails only when memory runs out.
 fn deed_of(alloc: Global, value: &Value) -> Result<Option<(Text, i32)>, NoMemory>
-    ensures told { IfOk result (λ read. IfSome read (λ deed. TellsDeed (view value.now) deed.0 deed.1)) }
+    ensures parsed { IfOk result (λ read. IfSome read (λ deed. TellsDeed (view value.now) deed.0 deed.1)) }
     ensures none { IfOk result (λ read. IfNone read (TellsNoDeed (view value.now))) }
 {
     if !has_only(value, &["donor", "signed"]) {
@@ -33,7 +33,7 @@ fn deed_of(alloc: Global, value: &Value) -> Result<Option<(Text, i32)>, NoMemory
 /// on which they signed the deed, of the years 1 to 9999, counted from 1970-01-01. `None` if it
 /// describes no deed. It fails only when memory runs out.
 pub(crate) fn deed_body(alloc: Global, body: &[u8]) -> Result<Option<(Text, i32)>, NoMemory>
-    ensures told { IfOk result (λ read. IfSome read (λ deed. IsDeedBody body.now deed.0 deed.1)) }
+    ensures parsed { IfOk result (λ read. IfSome read (λ deed. IsDeedBody body.now deed.0 deed.1)) }
     ensures none { IfOk result (λ read. IfNone read (IsNoDeedBody body.now)) }
 {
     match value_of(alloc, body)? {

@@ -11,7 +11,7 @@ use std::alloc::Global;
 
 /// The audience that a value gives a desk key; `None` if it gives none.
 fn key_of(value: &Value) -> Option<Audience>
-    ensures told { IfSome result (TellsKey (view value.now)) }
+    ensures parsed { IfSome result (TellsKey (view value.now)) }
     ensures none { IfNone result (TellsNoKey (view value.now)) }
 {
     let (key, member) = only_member(value)?;
@@ -28,7 +28,7 @@ fn key_of(value: &Value) -> Option<Audience>
 /// What the body of a command to put a desk key says: whether the key is for the reading room or
 /// for the staff. `None` if it says neither. It fails only when memory runs out.
 pub(crate) fn key_body(alloc: Global, body: &[u8]) -> Result<Option<Audience>, NoMemory>
-    ensures told { IfOk result (λ read. IfSome read (IsKeyBody body.now)) }
+    ensures parsed { IfOk result (λ read. IfSome read (IsKeyBody body.now)) }
     ensures none { IfOk result (λ read. IfNone read (IsNoKeyBody body.now)) }
 {
     match value_of(alloc, body)? {

@@ -61,7 +61,7 @@ pub(crate) fn text_at<'v>(value: &'v Value, key: &str) -> Option<&'v str>
 /// The key and the value of an object's only member; `None` if the value is no object of one
 /// member.
 pub(crate) fn only_member(value: &Value) -> Option<(&str, &Value)>
-    ensures told { IfSome result (λ found. view value.now ≡ one_member found.0.now (view found.1.now)) }
+    ensures single { IfSome result (λ found. view value.now ≡ one_member found.0.now (view found.1.now)) }
     ensures none { IfNone result ((key : List ℕ) (member : Data) → view value.now ≢ one_member key member) }
 {
     let members = value.as_object()?;

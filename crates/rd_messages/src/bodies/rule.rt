@@ -3,7 +3,7 @@ ghost use Rattle.serde_json.specs.View.{view};
 ghost use Rattle.rd_policy.specs.Rules.{effect_word};
 ghost use Rattle.rd_policy.specs.declared.rule.Effect.{Effect};
 ghost use Rattle.rd_messages.specs.Objects.{text_at};
-ghost use Rattle.rd_messages.specs.RequestBodies.{IsAt, IsNoRuleBody, IsRuleBody, TellsNoRule, TellsRule};
+ghost use Rattle.rd_messages.specs.RequestBodies.{HasPlace, IsNoRuleBody, IsRuleBody, TellsNoRule, TellsRule};
 
 use crate::bodies::audiences::audiences_at;
 use crate::bodies::dates::day_at;
@@ -16,7 +16,7 @@ use std::alloc::Global;
 
 /// The effect whose word is at a key of an object; `None` if there is no such word.
 fn effect_at(value: &Value, key: &str) -> Option<Effect>
-    ensures told { IfSome result (λ effect. text_at key.now (view value.now) ≡ Some (effect_word effect)) }
+    ensures parsed { IfSome result (λ effect. text_at key.now (view value.now) ≡ Some (effect_word effect)) }
     ensures none { IfNone result
         ((effect : Effect) → text_at key.now (view value.now) ≢ Some (effect_word effect)) }
 {
@@ -32,8 +32,8 @@ fn rule_of(
     rank: u16,
     value: &Value,
 ) -> Result<Option<Rule>, NoMemory>
-    ensures told { IfOk result (λ read. IfSome read (TellsRule (view value.now))) }
-    ensures place { IfOk result (λ read. IfSome read (IsAt band scope rank)) }
+    ensures parsed { IfOk result (λ read. IfSome read (TellsRule (view value.now))) }
+    ensures place { IfOk result (λ read. IfSome read (HasPlace band scope rank)) }
     ensures none { IfOk result (λ read. IfNone read (TellsNoRule (view value.now))) }
 {
     if !has_only(value, &["audiences", "effect", "from", "select", "until"]) {
@@ -77,7 +77,7 @@ pub(crate) fn rule_body(
     rank: u16,
     body: &[u8],
 ) -> Result<Option<Rule>, NoMemory>
-    ensures told { IfOk result (λ read. IfSome read (IsRuleBody band scope rank body.now)) }
+    ensures parsed { IfOk result (λ read. IfSome read (IsRuleBody band scope rank body.now)) }
     ensures none { IfOk result (λ read. IfNone read (IsNoRuleBody band scope rank body.now)) }
 {
     match value_of(alloc, body)? {

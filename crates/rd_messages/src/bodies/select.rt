@@ -17,7 +17,7 @@ use std::alloc::Global;
 
 /// The number of a slot that a value is; `None` if it is no whole number of 16 bits.
 fn slot_of(value: &Value) -> Option<u16>
-    ensures told { IfSome result (λ slot. view value.now ≡ number (unsigned slot)) }
+    ensures parsed { IfSome result (λ slot. view value.now ≡ number (unsigned slot)) }
     ensures none { IfNone result
         ((slot : ℕ) → view value.now ≡ number (unsigned slot) → 2 ^ 16 ≤ slot) }
 {
@@ -29,7 +29,7 @@ fn slot_of(value: &Value) -> Option<u16>
 
 /// The number of a user that a value is; `None` if it is no whole number of 8 bits.
 fn user_of(value: &Value) -> Option<u8>
-    ensures told { IfSome result (λ user. view value.now ≡ number (unsigned user)) }
+    ensures parsed { IfSome result (λ user. view value.now ≡ number (unsigned user)) }
     ensures none { IfNone result
         ((user : ℕ) → view value.now ≡ number (unsigned user) → 2 ^ 8 ≤ user) }
 {
@@ -52,7 +52,7 @@ fn text_of(alloc: Global, value: &Value) -> Result<Option<Text>, NoMemory>
 /// The selector that this key and value write; `None` if they write none, or none within its
 /// limits. It fails only when memory runs out.
 fn select_of(alloc: Global, key: &str, value: &Value) -> Result<Option<Select>, NoMemory>
-    ensures told { IfOk result
+    ensures parsed { IfOk result
         (λ read. IfSome read (λ select. one_member key.now (view value.now) ≡ select_data select)) }
     ensures none { IfOk result (λ read. IfNone read
         ((select : Select) → one_member key.now (view value.now) ≡ select_data select → ¬ IsSelect select)) }
@@ -73,7 +73,7 @@ fn select_of(alloc: Global, key: &str, value: &Value) -> Result<Option<Select>, 
 /// The selector at a key of an object; `None` if there is none, or none within its limits. It
 /// fails only when memory runs out.
 pub(crate) fn select_at(alloc: Global, value: &Value, key: &str) -> Result<Option<Select>, NoMemory>
-    ensures told { IfOk result
+    ensures parsed { IfOk result
         (λ read. IfSome read (λ select. get key.now (view value.now) ≡ Some (select_data select))) }
     ensures none { IfOk result (λ read. IfNone read
         ((select : Select) → get key.now (view value.now) ≡ Some (select_data select) → ¬ IsSelect select)) }

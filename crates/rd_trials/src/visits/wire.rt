@@ -31,21 +31,21 @@ pub(crate) struct Tape<'a> {
     to_come: &'a [u8],
     pub(crate) out: Vec<u8>,
     plan: Plan,
-    take_failed: bool,
-    put_failed: bool,
+    read_failed: bool,
+    write_failed: bool,
 }
 
 impl<'a> Tape<'a> {
     pub(crate) fn new(alloc: Global, came: &'a [u8], plan: Plan) -> Tape<'a>
-        ensures ready { result.take_failed ≡ false }
-        ensures put_ready { result.put_failed ≡ false }
+        ensures ready { result.read_failed ≡ false }
+        ensures write_ready { result.write_failed ≡ false }
     {
         Tape {
             to_come: came,
             out: Vec::new(alloc),
             plan,
-            take_failed: false,
-            put_failed: false,
+            read_failed: false,
+            write_failed: false,
         }
     }
 }
@@ -57,15 +57,15 @@ impl Wire for Tape<'_> {
 
     ghost outgoing = { λ _. None };
 
-    ghost take_failed = { λ wire. wire.take_failed };
+    ghost read_failed = { λ wire. wire.read_failed };
 
-    ghost put_failed = { λ wire. wire.put_failed };
+    ghost write_failed = { λ wire. wire.write_failed };
 
     ghost unsent = { λ _. 0 };
 
     fn take(&mut self, into: &mut [u8]) -> Result<usize, Broken> {
         if self.plan.reads == 0 {
-            self.take_failed = true;
+            self.read_failed = true;
             return Err(Broken);
         }
         self.plan.reads -= 1;
@@ -81,7 +81,7 @@ impl Wire for Tape<'_> {
             || count == 0
             || self.out.extend_from_slice(&bytes[..count]).is_err()
         {
-            self.put_failed = true;
+            self.write_failed = true;
             return Err(Broken);
         }
         self.plan.writes -= 1;

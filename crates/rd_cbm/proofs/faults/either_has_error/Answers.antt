@@ -1,7 +1,7 @@
 use Rattle.std.proofs.Common.{◌↔◌, IsTrue, false, subst}
 use Rattle.rd_geometry.specs.CbmDisks.{cbm_bytes}
 use Rattle.rd_cbm.specs.Marked.{SomeError}
-use Rattle.rd_cbm.proofs.Tests.{second_tells}
+use Rattle.rd_cbm.proofs.TestLemmas.{second_tells}
 use Rattle.rd_cbm.proofs.faults.either_has_error.Goals as goal
 
 pub returns : goal.returns

@@ -1,6 +1,6 @@
 use Rattle.std.proofs.Common.{◌↔◌, IsTrue, false, subst}
 use Rattle.rd_cbm.specs.Marked.{SomeShared}
-use Rattle.rd_cbm.proofs.Tests.{second_tells}
+use Rattle.rd_cbm.proofs.TestLemmas.{second_tells}
 use Rattle.rd_cbm.proofs.faults.either_has_shared.Goals as goal
 
 pub returns : goal.returns

@@ -1,4 +1,4 @@
-use Rattle.rd_cbm.proofs.Tests.{first_holds, second_tells}
+use Rattle.rd_cbm.proofs.TestLemmas.{first_holds, second_tells}
 use Rattle.rd_cbm.proofs.faults.either_loops.Goals as goal
 
 pub returns-then-loops : goal.returns-then-loops

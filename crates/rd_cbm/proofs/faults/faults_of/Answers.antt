@@ -1,6 +1,6 @@
 use Rattle.std.proofs.Common.{◌≡◌, ◌*◌, not, arith}
-use Rattle.rd_cbm.proofs.BitLemmas.{told, weighed, digit}
-use Rattle.rd_cbm.proofs.Tests.{not_by}
+use Rattle.rd_cbm.proofs.BitLemmas.{bits_of_tests, weighed, digit}
+use Rattle.rd_cbm.proofs.TestLemmas.{not_by}
 use Rattle.rd_cbm.proofs.faults.faults_of.Goals as goal
 
 pub returns : goal.returns
@@ -10,4 +10,4 @@ returns c =
     let d : c.weight-3.result ≡ 4 * digit c.either_loops.result = weighed _ 4 _ c.weight-3.ensures in
     let e : c.weight-4.result ≡ 8 * digit c.either_has_shared.result = weighed _ 8 _ c.weight-4.ensures in
     let f : c.weight-5.result ≡ 16 * digit c.either_has_error.result = weighed _ 16 _ c.weight-5.ensures in
-    told _ _ _ _ _ _ _ _ _ _ _ (omega arith) (not_by c.is_closed.result c.is_closed.ensures) c.either_goes_off.ensures c.either_loops.ensures c.either_has_shared.ensures c.either_has_error.ensures
+    bits_of_tests _ _ _ _ _ _ _ _ _ _ _ (omega arith) (not_by c.is_closed.result c.is_closed.ensures) c.either_goes_off.ensures c.either_loops.ensures c.either_has_shared.ensures c.either_has_error.ensures

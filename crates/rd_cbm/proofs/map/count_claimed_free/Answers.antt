@@ -5,7 +5,7 @@ use Rattle.rd_geometry.specs.CbmDisks.{cbm_bytes}
 use Rattle.rd_cbm.specs.BlockMap.{IsFreeBlock}
 use Rattle.rd_cbm.specs.Counts.{IsCount}
 use Rattle.rd_cbm.proofs.CountLemmas.{count_skip, count_more}
-use Rattle.rd_cbm.proofs.Tests.{refuted}
+use Rattle.rd_cbm.proofs.TestLemmas.{refuted}
 use Rattle.rd_cbm.proofs.map.count_claimed_free.Goals as goal
 
 pub loop-block-preserved-then-not-uses-block : goal.loop-block-preserved-then-not-uses-block

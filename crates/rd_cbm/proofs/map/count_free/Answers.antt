@@ -1,7 +1,7 @@
 use Rattle.std.proofs.Common.{arith, refl}
 use Rattle.rd_cbm.proofs.CountLemmas.{count_skip, count_more}
 use Rattle.rd_cbm.proofs.MapLemmas.{sectors_counted}
-use Rattle.rd_cbm.proofs.Tests.{refuted}
+use Rattle.rd_cbm.proofs.TestLemmas.{refuted}
 use Rattle.rd_cbm.proofs.map.count_free.Goals as goal
 
 pub loop-sector-preserved-then-not-is_marked_free : goal.loop-sector-preserved-then-not-is_marked_free

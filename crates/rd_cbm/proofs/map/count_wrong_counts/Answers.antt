@@ -1,7 +1,7 @@
 use Rattle.std.proofs.Common.{arith, refl}
 use Rattle.rd_cbm.proofs.CountLemmas.{count_skip, count_more}
 use Rattle.rd_cbm.proofs.MapLemmas.{tracks_counted}
-use Rattle.rd_cbm.proofs.Tests.{refuted}
+use Rattle.rd_cbm.proofs.TestLemmas.{refuted}
 use Rattle.rd_cbm.proofs.map.count_wrong_counts.Goals as goal
 
 pub loop-track-preserved-then-not-has_wrong_count : goal.loop-track-preserved-then-not-has_wrong_count

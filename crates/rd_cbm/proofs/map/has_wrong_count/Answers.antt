@@ -1,7 +1,7 @@
 use Rattle.std.proofs.Common.{◌*◌, slice_index, nat_eq, ap}
 use Rattle.std.proofs.lemmas.Bool.Decides.{Decides-eqb}
 use Rattle.rd_cbm.proofs.MapLemmas.{wrong_as}
-use Rattle.rd_cbm.proofs.Tests.{not_by}
+use Rattle.rd_cbm.proofs.TestLemmas.{not_by}
 use Rattle.rd_cbm.proofs.map.has_wrong_count.Goals as goal
 
 pub returns : goal.returns

@@ -1,7 +1,7 @@
 use Rattle.rd_geometry.specs.Blocks.{index_of}
 use Rattle.rd_cbm.specs.Links.{link_of}
 use Rattle.rd_cbm.proofs.Existence.{ends_once, long_walk_loops}
-use Rattle.rd_cbm.proofs.Inside.{links_inside, start_inside}
+use Rattle.rd_cbm.proofs.BlockBounds.{links_inside, start_inside}
 use Rattle.rd_cbm.proofs.walk.each_walk_ends_once.Goals as goal
 
 pub returns-clause-once : goal.returns-clause-once

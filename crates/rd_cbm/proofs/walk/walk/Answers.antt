@@ -1,5 +1,5 @@
 use Rattle.std.proofs.Common.{rules, sym, refl}
-use Rattle.rd_cbm.proofs.Steps.{noted_more, walk_on, chain_none, chain_stopped, chain_looped, loops, first_block}
+use Rattle.rd_cbm.proofs.WalkSteps.{noted_more, walk_on, chain_none, chain_stopped, chain_looped, loops, first_block}
 use Rattle.rd_cbm.proofs.walk.walk.Goals as goal
 
 pub returns-in_default-clause-blocks : goal.returns-in_default-clause-blocks

@@ -1,6 +1,6 @@
 use Rattle.rd_geometry.specs.CbmDisks.{cbm_bytes}
 use Rattle.rd_cbm.specs.Links.{link_of}
-use Rattle.rd_cbm.proofs.Marks.{IsAt, unmarked}
+use Rattle.rd_cbm.proofs.MarkLemmas.{IsAt, unmarked}
 use Rattle.rd_cbm.proofs.walk.walk.Given as goal
 
 abbrev pub invariant-loop-marks : goal.invariant-loop-marks

@@ -1,6 +1,6 @@
 use Rattle.std.proofs.Common.{refl, rules, true}
 use Rattle.std.proofs.KnownBytes.{Keeps-refl}
-use Rattle.rd_commands.proofs.Served.{absent, cut, faulty_by, found_file, image_bytes, is_cat, listed_only, served}
+use Rattle.rd_commands.proofs.CatLemmas.{absent, cut, faulty_by, found_file, image_bytes, is_cat, listed_only, served}
 use Rattle.rd_commands.proofs.cat.cat_image.Goals as goal
 
 pub returns-in_default-clause-refused : goal.returns-in_default-clause-refused
@@ -28,7 +28,7 @@ pub returns-clause-done : goal.returns-clause-done
 returns-clause-done g c =
     let has = found_file c.args.kind _ c.args.bytes.now _ c.args.slot _ c.in-Some.file (c.in_ok-image.ensures.taken.0 (refl {a = true}))
     c.in_ok-image.ensures.kind c.in_ok-image.ensures.bytes c.in-Some.is c.in_ok-file.ensures.file in
-    let bytes = image_bytes c.args.kind _ c.args.bytes.now _ _ c.in-Some.file c.in_ok-image.ensures.kind c.in_ok-image.ensures.bytes has.told c.pieces.ensures.bytes in
+    let bytes = image_bytes c.args.kind _ c.args.bytes.now _ _ c.in-Some.file c.in_ok-image.ensures.kind c.in_ok-image.ensures.bytes has.described c.pieces.ensures.bytes in
     served c.write_pieces.result c.args.kind c.args.slot c.args.bytes.now _ _ _
     (is_cat c.args.kind c.args.slot c.args.bytes.now _ c.in-Some.file has (search rules) (search rules) bytes) c.write_pieces.ensures.done
 
@@ -36,6 +36,6 @@ pub returns-clause-refused : goal.returns-clause-refused
 returns-clause-refused g c =
     let has = found_file c.args.kind _ c.args.bytes.now _ c.args.slot _ c.in-Some.file (c.in_ok-image.ensures.taken.0 (refl {a = true}))
     c.in_ok-image.ensures.kind c.in_ok-image.ensures.bytes c.in-Some.is c.in_ok-file.ensures.file in
-    let bytes = image_bytes c.args.kind _ c.args.bytes.now _ _ c.in-Some.file c.in_ok-image.ensures.kind c.in_ok-image.ensures.bytes has.told c.pieces.ensures.bytes in
+    let bytes = image_bytes c.args.kind _ c.args.bytes.now _ _ c.in-Some.file c.in_ok-image.ensures.kind c.in_ok-image.ensures.bytes has.described c.pieces.ensures.bytes in
     cut c.write_pieces.result c.args.kind c.args.slot c.args.bytes.now _ _ _
     (is_cat c.args.kind c.args.slot c.args.bytes.now _ c.in-Some.file has (search rules) (search rules) bytes) c.write_pieces.ensures.cut c.write_pieces.ensures.device

@@ -1,6 +1,6 @@
 use Rattle.std.proofs.Common.{arith, rules}
 use Rattle.std.proofs.lemmas.Grind.{common_steps}
-use Rattle.rd_commands.proofs.ReadUpTo.{reads_after}
+use Rattle.rd_commands.proofs.ReadLimits.{reads_after}
 use Rattle.rd_commands.proofs.input.read_front.Goals as goal
 
 pub returns-in_err-read_part-clause-limit : goal.returns-in_err-read_part-clause-limit

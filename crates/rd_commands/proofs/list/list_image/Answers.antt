@@ -2,7 +2,7 @@ use Rattle.std.proofs.Common.{◌≡◌, refl, subst, sym, true}
 use Rattle.rd_geometry.specs.Images.{bytes_of, kind_of}
 use Rattle.rd_volume.specs.Volumes.{AreFounds}
 use Rattle.rd_commands.specs.Listed.{list_text}
-use Rattle.rd_commands.proofs.ListWritten.{is_list, list_cut, listed}
+use Rattle.rd_commands.proofs.ListLemmas.{is_list, list_cut, listed}
 use Rattle.rd_commands.proofs.list.list_image.Goals as goal
 
 pub returns-clause-done : goal.returns-clause-done

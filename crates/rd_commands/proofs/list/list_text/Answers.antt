@@ -4,7 +4,7 @@ use Rattle.std.specs.Fmt.{decimal}
 use Rattle.std.specs.List.{flat_map}
 use Rattle.rd_commands.specs.Listed.{line_text, tab}
 use Rattle.rd_commands.specs.Printed.{line_feed}
-use Rattle.rd_commands.proofs.ListWritten.{lines_more}
+use Rattle.rd_commands.proofs.ListLemmas.{lines_more}
 use Rattle.rd_commands.proofs.list.list_text.Goals as goal
 
 pub loop-file-preserved : goal.loop-file-preserved

@@ -1,5 +1,5 @@
 use Rattle.std.proofs.Common.{arith, length-drop, length-take-le, ℕ}
-use Rattle.rd_commands.proofs.Written.{more_written, on_err, part_written}
+use Rattle.rd_commands.proofs.WriterLemmas.{more_written, on_err, part_written}
 use Rattle.rd_commands.proofs.output.write_bytes.Goals as goal
 
 pub loop-at-preserved : goal.loop-at-preserved

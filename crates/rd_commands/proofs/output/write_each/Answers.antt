@@ -3,7 +3,7 @@ use Rattle.std.proofs.lemmas.List.{map-append}
 use Rattle.std.specs.Io.KnownBytes.{Appends}
 use Rattle.std.specs.List.{concat}
 use Rattle.rd_volume.specs.PiecesLeft.{pieces_left}
-use Rattle.rd_commands.proofs.Written.{on_err, piece_more, pieces_part}
+use Rattle.rd_commands.proofs.WriterLemmas.{on_err, piece_more, pieces_part}
 use Rattle.rd_commands.proofs.output.write_each.Goals as goal
 
 pub loop-piece-preserved : goal.loop-piece-preserved

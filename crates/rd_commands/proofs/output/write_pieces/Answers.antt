@@ -1,4 +1,4 @@
-use Rattle.rd_commands.proofs.Written.{on_err, whole_part}
+use Rattle.rd_commands.proofs.WriterLemmas.{on_err, whole_part}
 use Rattle.rd_commands.proofs.output.write_pieces.Goals as goal
 
 pub returns-clause-cut : goal.returns-clause-cut

@@ -1,6 +1,6 @@
 use Rattle.std.proofs.Common.{ap, subst, take}
 use Rattle.std.specs.Io.KnownBytes.{Appends}
-use Rattle.rd_commands.proofs.Written.{keeps_by_nothing}
+use Rattle.rd_commands.proofs.WriterLemmas.{keeps_by_nothing}
 use Rattle.rd_commands.proofs.output.write_some.Goals as goal
 
 pub returns-in-Ok-eq0-clause-bytes : goal.returns-in-Ok-eq0-clause-bytes

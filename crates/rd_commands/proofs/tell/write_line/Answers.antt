@@ -2,8 +2,8 @@ use Rattle.std.proofs.Common.{◌∙◌, ◌++◌, ℕ, List, append_assoc, code
 use Rattle.std.proofs.KnownBytes.{Appends-trans}
 use Rattle.rd_commands.specs.Printed.{blanked, line_feed, words_after}
 use Rattle.rd_commands.specs.Refusals.{name_of}
-use Rattle.rd_commands.proofs.ToldLine.{line_ends, line_is}
-use Rattle.rd_commands.proofs.Written.{on_err, on_err_after, on_ok_after, part_after, part_of}
+use Rattle.rd_commands.proofs.RefusalLine.{line_ends, line_is}
+use Rattle.rd_commands.proofs.WriterLemmas.{on_err, on_err_after, on_ok_after, part_after, part_of}
 use Rattle.rd_commands.proofs.tell.write_line.Goals as goal
 
 pub returns-in_err-write_bytes-clause-cut : goal.returns-in_err-write_bytes-clause-cut

@@ -1,5 +1,5 @@
 use Rattle.std.proofs.Common.{◌≡◌, ◌++◌, codes, refl}
-use Rattle.rd_commands.proofs.Written.{on_err, on_err_after, part_of}
+use Rattle.rd_commands.proofs.WriterLemmas.{on_err, on_err_after, part_of}
 use Rattle.rd_commands.proofs.tell.write_word.Goals as goal
 
 pub returns-in_err-write_bytes-clause-cut : goal.returns-in_err-write_bytes-clause-cut

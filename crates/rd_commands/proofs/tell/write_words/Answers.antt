@@ -1,7 +1,7 @@
 use Rattle.std.proofs.Common.{rules}
 use Rattle.rd_volume.specs.Words.{words_left}
-use Rattle.rd_commands.proofs.ToldLine.{told_all, told_next, told_none, told_part}
-use Rattle.rd_commands.proofs.Written.{on_err}
+use Rattle.rd_commands.proofs.RefusalLine.{told_all, told_next, told_none, told_part}
+use Rattle.rd_commands.proofs.WriterLemmas.{on_err}
 use Rattle.rd_commands.proofs.tell.write_words.Goals as goal
 
 pub loop-word-init : goal.loop-word-init

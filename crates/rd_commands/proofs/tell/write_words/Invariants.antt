@@ -1,5 +1,5 @@
 use Rattle.rd_volume.specs.Words.{words_left}
-use Rattle.rd_commands.proofs.ToldLine.{HasToldWords}
+use Rattle.rd_commands.proofs.RefusalLine.{HasToldWords}
 use Rattle.rd_commands.proofs.tell.write_words.Given as goal
 
 abbrev pub invariant-loop-word : goal.invariant-loop-word

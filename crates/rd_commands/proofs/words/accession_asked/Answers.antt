@@ -2,7 +2,7 @@ use Rattle.clap.specs.Words.{found_of}
 use Rattle.std.proofs.Common.{◌≡◌, ◌∙◌, codes, false, subst, sym, true}
 use Rattle.clap.proofs.WalkLemmas.{one_text-rows}
 use Rattle.rd_policy.specs.Rules.{IsScope}
-use Rattle.rd_commands.proofs.Asked.{number_is}
+use Rattle.rd_commands.proofs.GetterLemmas.{number_is}
 use Rattle.rd_commands.proofs.words.accession_asked.Goals as goal
 
 pub returns-in_err-acc-clause-number : goal.returns-in_err-acc-clause-number

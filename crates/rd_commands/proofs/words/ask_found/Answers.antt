@@ -1,9 +1,9 @@
 use Rattle.std.proofs.Common.{◌≡◌, ◌∙◌, Some, inl, inr, subst, sym}
 use Rattle.clap.specs.Words.{subcommand_rows_of}
-use Rattle.rd_commands.specs.Asks.{AreCatRows, AreCheckRows, AreExportRows, AreImportRows, AreInitRows, AreServeRows, AreShowRows, AsksOnce, EntersAs}
+use Rattle.rd_commands.specs.Asks.{AreCatRows, AreCheckRows, AreExportRows, AreImportRows, AreInitRows, AreServeRows, AreShowRows, AsksOneQuestion, EntersAs}
 use Rattle.rd_commands.specs.declared.words.Question.TheVariants.{Show}
 use Rattle.rd_commands.specs.Zones.{HasZoneRule}
-use Rattle.rd_commands.proofs.Asked.{clockless, entered_as, name_met, rows_met}
+use Rattle.rd_commands.proofs.GetterLemmas.{clockless, entered_as, name_met, rows_met}
 use Rattle.rd_commands.proofs.words.ask_found.Goals as goal
 
 pub returns-in_err-file_asked-in-cat-clause-file : goal.returns-in_err-file_asked-in-cat-clause-file
@@ -61,13 +61,13 @@ returns-in_ok-check_asked-in-check-clause-check c = λ store key acc moment rule
     let rows = rows_met c.args.matches.now _ enters.rows _ enters.into (sym c.in_ok-name.ensures.rows) in
     c.in_ok-check_asked-in-check.ensures.asked store key acc moment rule (subst (λ r. AreCheckRows r store key acc moment rule) rows enters.found)
 
-pub returns-in_ok-import_asked-in-import-clause-told_on_output : goal.returns-in_ok-import_asked-in-import-clause-told_on_output
-returns-in_ok-import_asked-in-import-clause-told_on_output c = λ tells.
+pub returns-in_ok-import_asked-in-import-clause-written_on_output : goal.returns-in_ok-import_asked-in-import-clause-written_on_output
+returns-in_ok-import_asked-in-import-clause-written_on_output c = λ tells.
     inl (subst (λ name. EntersAs name (subcommand_rows_of c.args.matches.now)) c.in-import.is
     (entered_as c.args.matches.now _ _ c.in_ok-name.ensures.name c.in_ok-name.ensures.rows))
 
-pub returns-in_ok-check_asked-in-check-clause-told_on_output : goal.returns-in_ok-check_asked-in-check-clause-told_on_output
-returns-in_ok-check_asked-in-check-clause-told_on_output c = λ tells.
+pub returns-in_ok-check_asked-in-check-clause-written_on_output : goal.returns-in_ok-check_asked-in-check-clause-written_on_output
+returns-in_ok-check_asked-in-check-clause-written_on_output c = λ tells.
     inr (subst (λ name. EntersAs name (subcommand_rows_of c.args.matches.now)) c.in-check.is
     (entered_as c.args.matches.now _ _ c.in_ok-name.ensures.name c.in_ok-name.ensures.rows))
 
@@ -112,5 +112,5 @@ returns-in_ok-show_asked-in-show-clause-show c = λ store key what moment rule i
     let rows = rows_met c.args.matches.now _ enters.rows _ enters.into (sym c.in_ok-name.ensures.rows) in
     let both : Some c.in_ok-shown-in-show.field-0 ≡ Some what = sym c.in_ok-shown-in-show.was ∙ is in
     let same : c.in_ok-shown-in-show.field-0 ≡ what = cc in
-    subst (λ w. AsksOnce c.in_ok-show_asked-in-show.field-0 store (Some key) (Show w) moment rule) same
+    subst (λ w. AsksOneQuestion c.in_ok-show_asked-in-show.field-0 store (Some key) (Show w) moment rule) same
     (c.in_ok-show_asked-in-show.ensures.asked store key moment rule (subst (λ r. AreShowRows r store key moment rule) rows enters.found))

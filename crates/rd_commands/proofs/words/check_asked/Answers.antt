@@ -1,7 +1,7 @@
 use Rattle.clap.specs.Words.{found_of}
 use Rattle.std.proofs.Common.{◌≡◌, Some, ap, codes}
 use Rattle.rd_commands.specs.declared.words.Question.TheVariants.{Check}
-use Rattle.rd_commands.proofs.Asked.{text_is, text_there}
+use Rattle.rd_commands.proofs.GetterLemmas.{text_is, text_there}
 use Rattle.rd_commands.proofs.words.check_asked.Goals as goal
 
 pub returns-in_err-get_str-clause-asked : goal.returns-in_err-get_str-clause-asked
@@ -16,5 +16,5 @@ returns-clause-asked c = λ store key acc moment rule rows.
       store_is = text_is (found_of c.args.found.now) (codes "store") _ store c.in_ok-get_str.ensures rows.store_found;
       key_is = ap Some (c.in_ok-key_asked.ensures key rows.key_found);
       question_is = ap Check number;
-      when_is = c.in_ok-when_asked.ensures.asked moment rule rows.moment_told rows.rule_told;
+      when_is = c.in_ok-when_asked.ensures.asked moment rule rows.moment_named rows.rule_named;
     }

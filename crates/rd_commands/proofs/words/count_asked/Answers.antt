@@ -1,7 +1,7 @@
 use Rattle.clap.specs.Words.{found_of}
 use Rattle.std.proofs.Common.{◌∙◌, codes}
 use Rattle.clap.proofs.WalkLemmas.{one_text-rows}
-use Rattle.rd_commands.proofs.Asked.{number_is}
+use Rattle.rd_commands.proofs.GetterLemmas.{number_is}
 use Rattle.rd_commands.proofs.words.count_asked.Goals as goal
 
 pub returns : goal.returns

@@ -2,7 +2,7 @@ use Rattle.std.proofs.Common.{FitsSigned, Some, codes, refl, rules, subst, sym, 
 use Rattle.std.proofs.lemmas.Int.{to_z-of_z}
 use Rattle.clap.specs.Words.{first_of, found_of, rows_of}
 use Rattle.rd_commands.specs.Shown.{IsDayGiven}
-use Rattle.rd_commands.proofs.Naming.{day_given, day_none, not_given}
+use Rattle.rd_commands.proofs.ShowWords.{day_given, day_none, not_given}
 use Rattle.rd_commands.proofs.words.day_asked.Goals as goal
 
 pub returns-in_default-clause-given : goal.returns-in_default-clause-given

@@ -1,7 +1,7 @@
 use Rattle.clap.specs.Words.{found_of}
 use Rattle.std.proofs.Common.{◌∙◌, ap, codes, option_map, refl}
 use Rattle.httparse.specs.Grammar.{trim_ows}
-use Rattle.rd_commands.proofs.Asked.{text_is, text_there}
+use Rattle.rd_commands.proofs.GetterLemmas.{text_is, text_there}
 use Rattle.rd_commands.proofs.words.export_asked.Goals as goal
 
 pub returns-in_err-get_str-clause-asked : goal.returns-in_err-get_str-clause-asked
@@ -11,7 +11,7 @@ returns-in_err-get_str-clause-asked c = λ store key moment rule rows.
 pub returns-clause-asked : goal.returns-clause-asked
 returns-clause-asked c = λ store key moment rule rows. record {
   store_is = text_is (found_of c.args.found.now) (codes "store") _ store c.in_ok-get_str.ensures rows.store_found;
-  key_is = c.key_given.ensures ∙ ap (option_map trim_ows) rows.key_told;
+  key_is = c.key_operand.ensures ∙ ap (option_map trim_ows) rows.key_named;
   question_is = refl;
-  when_is = c.in_ok-when_asked.ensures.asked moment rule rows.moment_told rows.rule_told;
+  when_is = c.in_ok-when_asked.ensures.asked moment rule rows.moment_named rows.rule_named;
 }

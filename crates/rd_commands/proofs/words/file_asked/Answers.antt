@@ -1,6 +1,6 @@
 use Rattle.clap.specs.Words.{found_of}
 use Rattle.std.proofs.Common.{codes}
-use Rattle.rd_commands.proofs.Asked.{text_is, text_there}
+use Rattle.rd_commands.proofs.GetterLemmas.{text_is, text_there}
 use Rattle.rd_commands.proofs.words.file_asked.Goals as goal
 
 pub returns-in_err-get_str : goal.returns-in_err-get_str

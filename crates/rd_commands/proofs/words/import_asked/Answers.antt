@@ -1,6 +1,6 @@
 use Rattle.clap.specs.Words.{found_of}
 use Rattle.std.proofs.Common.{codes}
-use Rattle.rd_commands.proofs.Asked.{text_is, text_there}
+use Rattle.rd_commands.proofs.GetterLemmas.{text_is, text_there}
 use Rattle.rd_commands.proofs.words.import_asked.Goals as goal
 
 pub returns-in_err-get_str-clause-asked : goal.returns-in_err-get_str-clause-asked
@@ -16,5 +16,5 @@ returns-clause-asked c = λ store key sheet moment rule rows. record {
   store_is = text_is (found_of c.args.found.now) (codes "store") _ store c.in_ok-get_str.ensures rows.store_found;
   key_is = c.in_ok-key_asked.ensures key rows.key_found;
   sheet_is = text_is (found_of c.args.found.now) (codes "sheet") _ sheet c.in_ok-get_str-2.ensures rows.sheet_found;
-  when_is = c.in_ok-when_asked.ensures.asked moment rule rows.moment_told rows.rule_told;
+  when_is = c.in_ok-when_asked.ensures.asked moment rule rows.moment_named rows.rule_named;
 }

@@ -1,7 +1,7 @@
 use Rattle.clap.specs.Words.{found_of}
 use Rattle.std.proofs.Common.{◌∙◌, ap, codes}
 use Rattle.httparse.specs.Grammar.{trim_ows}
-use Rattle.rd_commands.proofs.Asked.{text_is, text_there}
+use Rattle.rd_commands.proofs.GetterLemmas.{text_is, text_there}
 use Rattle.rd_commands.proofs.words.key_asked.Goals as goal
 
 pub returns-in_err-get_str : goal.returns-in_err-get_str

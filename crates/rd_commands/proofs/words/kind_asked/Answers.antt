@@ -1,7 +1,7 @@
 use Rattle.clap.specs.Words.{found_of}
 use Rattle.rd_geometry.specs.Kinds.{word_of}
 use Rattle.std.proofs.Common.{codes}
-use Rattle.rd_commands.proofs.Asked.{kind_is, text_is, text_there}
+use Rattle.rd_commands.proofs.GetterLemmas.{kind_is, text_is, text_there}
 use Rattle.rd_commands.proofs.words.kind_asked.Goals as goal
 
 pub returns-in_err-get_str : goal.returns-in_err-get_str

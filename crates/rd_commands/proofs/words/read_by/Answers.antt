@@ -4,7 +4,7 @@ use Rattle.rd_commands.specs.Asks.{IsForMemory, IsTold}
 use Rattle.rd_commands.specs.CommandLine.{IsTaken, IsTakenAs}
 use Rattle.rd_commands.specs.Commands.{NamesWhatItShows, TellsARule}
 use Rattle.rd_commands.specs.declared.words.Unread.TheVariants.{Day, Usage}
-use Rattle.rd_commands.proofs.Asked.{GivesRows, ask_given, ask_accession, ask_read, ask_unread, day_mistake, day_no_fault, day_or_memory, entered_is, fails_for_memory, names_what_it_shows, never_faulty, no_day, no_fault_in, on_ok_always, passed_on, rule_read, taken_by, taken_on_output, taken_showing, unnamed, unread_usage, words_at_fault, words_taken}
+use Rattle.rd_commands.proofs.GetterLemmas.{GivesRows, ask_given, ask_accession, ask_read, ask_unread, day_mistake, day_no_fault, day_or_memory, entered_is, fails_for_memory, names_what_it_shows, never_faulty, no_day, no_fault_in, on_ok_always, passed_on, rule_read, taken_by, taken_on_output, taken_showing, unnamed, unread_usage, words_at_fault, words_taken}
 use Rattle.rd_commands.proofs.HelpLine.{help_not_parsed, help_unread, not_help}
 use Rattle.rd_commands.proofs.VersionLine.{not_version, version_not_parsed, version_unread}
 use Rattle.rd_commands.proofs.words.read_by.Goals as goal
@@ -33,14 +33,14 @@ returns-in-Err-clause-unread c = λ command.
 pub returns-in_ok-shown-in-Ok-clause-taken : goal.returns-in_ok-shown-in-Ok-clause-taken
 returns-in_ok-shown-in-Ok-clause-taken c = words_taken c.ok_or.result (app_of c.args.desk) _ c.requires c.in-Ok.ensures.kinds
 
-pub returns-in-Err-clause-told : goal.returns-in-Err-clause-told
-returns-in-Err-clause-told c =
+pub returns-in-Err-clause-mistake_in : goal.returns-in-Err-clause-mistake_in
+returns-in-Err-clause-mistake_in c =
     words_at_fault (app_of c.args.desk) _ c.in-Err.error c.requires c.in-Err.ensures.kinds
 
-pub returns-in_ok-shown-in-Ok-clause-told_on_output : goal.returns-in_ok-shown-in-Ok-clause-told_on_output
-returns-in_ok-shown-in-Ok-clause-told_on_output c =
+pub returns-in_ok-shown-in-Ok-clause-written_on_output : goal.returns-in_ok-shown-in-Ok-clause-written_on_output
+returns-in_ok-shown-in-Ok-clause-written_on_output c =
     taken_on_output (app_of c.args.desk) _ c.in-Ok.matches c.requires c.in-Ok.ensures.matches c.in-Ok.ensures.kinds c.ask_found.result Usage c.ok_or.result
-    c.ok_or.ensures.value c.ask_found.ensures.told_on_output
+    c.ok_or.ensures.value c.ask_found.ensures.written_on_output
 
 pub returns-in_ok-shown-in-Ok-clause-version : goal.returns-in_ok-shown-in-Ok-clause-version
 returns-in_ok-shown-in-Ok-clause-version c = version_not_parsed c.ok_or.result _ (app_of c.args.desk) _ c.requires c.in-Ok.ensures.kinds
@@ -101,8 +101,8 @@ returns-in_err-shown-in-Ok-clause-unread c =
     (unnamed (app_of c.args.desk) _ c.in-Ok.matches c.in_err-shown-in-Ok.field-0.0 c.requires c.in-Ok.ensures.matches c.in_err-shown-in-Ok.ensures.failed
     c.in_err-shown-in-Ok.ensures.none)
 
-pub returns-in_err-shown-in-Ok-clause-told : goal.returns-in_err-shown-in-Ok-clause-told
-returns-in_err-shown-in-Ok-clause-told c =
+pub returns-in_err-shown-in-Ok-clause-mistake_in : goal.returns-in_err-shown-in-Ok-clause-mistake_in
+returns-in_err-shown-in-Ok-clause-mistake_in c =
     passed_on c.from_residual.result c.in_err-shown-in-Ok.field-0.0 _ c.from_residual.ensures.1
     (day_no_fault _ c.in_err-shown-in-Ok.field-0.0 c.in_err-shown-in-Ok.ensures.failed)
 

@@ -1,6 +1,6 @@
 use Rattle.clap.specs.Words.{found_of}
 use Rattle.std.proofs.Common.{codes}
-use Rattle.rd_commands.proofs.Asked.{text_is, text_there}
+use Rattle.rd_commands.proofs.GetterLemmas.{text_is, text_there}
 use Rattle.rd_commands.proofs.words.serve_asked.Goals as goal
 
 pub returns-in_err-get_str-clause-asked : goal.returns-in_err-get_str-clause-asked
@@ -15,12 +15,12 @@ returns-in_err-count_asked-clause-asked c = λ store port count rule rows.
     let none = c.in_err-count_asked.ensures rows.count_text count rows.count_found rows.count_number in absurd (cc none)
 
 pub returns-in_err-zone_asked-clause-asked : goal.returns-in_err-zone_asked-clause-asked
-returns-in_err-zone_asked-clause-asked c = λ store port count rule rows. absurd (c.in_err-zone_asked.ensures.asked rule rows.rule_told)
+returns-in_err-zone_asked-clause-asked c = λ store port count rule rows. absurd (c.in_err-zone_asked.ensures.asked rule rows.rule_named)
 
 pub returns-clause-asked : goal.returns-clause-asked
 returns-clause-asked c = λ store port count rule rows. record {
   store_is = text_is (found_of c.args.found.now) (codes "store") _ store c.in_ok-get_str.ensures rows.store_found;
   port_is = let same = c.in_ok-port_asked.ensures rows.port_text port rows.port_found rows.port_number in cc;
   count_is = let same = c.in_ok-count_asked.ensures rows.count_text count rows.count_found rows.count_number in cc;
-  zone_is = c.in_ok-zone_asked.ensures.asked rule rows.rule_told;
+  zone_is = c.in_ok-zone_asked.ensures.asked rule rows.rule_named;
 }

@@ -1,6 +1,6 @@
 use Rattle.clap.specs.Words.{found_of}
 use Rattle.rd_commands.specs.declared.words.Unread.TheVariants.{Day}
-use Rattle.rd_commands.proofs.Naming.{named_by, no_what, none_named}
+use Rattle.rd_commands.proofs.ShowWords.{named_by, no_what, none_named}
 use Rattle.rd_commands.proofs.words.shown_found.Goals as goal
 
 pub returns-in_default-clause-none : goal.returns-in_default-clause-none

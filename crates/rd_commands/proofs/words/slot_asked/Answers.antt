@@ -1,7 +1,7 @@
 use Rattle.clap.specs.Words.{found_of}
 use Rattle.std.proofs.Common.{◌∙◌, codes}
 use Rattle.clap.proofs.WalkLemmas.{one_text-rows}
-use Rattle.rd_commands.proofs.Asked.{slot_is}
+use Rattle.rd_commands.proofs.GetterLemmas.{slot_is}
 use Rattle.rd_commands.proofs.words.slot_asked.Goals as goal
 
 pub returns : goal.returns

@@ -3,7 +3,7 @@ use Rattle.std.specs.Prelude.{IsSomeAnd}
 use Rattle.clap.specs.Words.{first_of, found_of, rows_of}
 use Rattle.rd_policy.specs.Zones.{IsZoneOf, IsZoneRule}
 use Rattle.rd_commands.specs.Zones.{rule_text}
-use Rattle.rd_commands.proofs.Asked.{rule_is, zone_ruled, zone_told}
+use Rattle.rd_commands.proofs.GetterLemmas.{rule_is, zone_ruled, zone_told}
 use Rattle.rd_commands.proofs.words.zone_asked.Goals as goal
 
 -- the text that is read is the rule that the rows tell

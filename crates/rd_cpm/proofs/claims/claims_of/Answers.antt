@@ -1,6 +1,6 @@
 use Rattle.std.proofs.Common.{sym, subst}
 use Rattle.rd_cpm.specs.Entries.{IsOfFile}
-use Rattle.rd_cpm.proofs.Tests.{refuted}
+use Rattle.rd_cpm.proofs.TestLemmas.{refuted}
 use Rattle.rd_cpm.proofs.ClaimLemmas.{claims_at_first, claims_free}
 use Rattle.rd_cpm.proofs.claims.claims_of.Goals as goal
 

@@ -1,5 +1,5 @@
 use Rattle.std.proofs.Common.{◌≡◌, ◌*◌, arith}
-use Rattle.rd_cpm.proofs.BitLemmas.{told, weighed, digit}
+use Rattle.rd_cpm.proofs.BitLemmas.{bits_of_tests, weighed, digit}
 use Rattle.rd_cpm.proofs.faults.faults_of.Goals as goal
 
 pub returns : goal.returns
@@ -11,5 +11,5 @@ returns c =
     let f : c.weight-5.result ≡ 16 * digit c.has_hole.result = weighed _ 16 _ c.weight-5.ensures in
     let g : c.weight-6.result ≡ 32 * digit c.is_off_disk.result = weighed _ 32 _ c.weight-6.ensures in
     let h : c.weight-7.result ≡ 64 * digit c.is_crossed.result = weighed _ 64 _ c.weight-7.ensures in
-    told _ _ _ _ _ _ _ _ _ _ (omega arith) c.has_bad_count.ensures c.has_duplicate.ensures c.has_gap.ensures c.is_short.ensures
+    bits_of_tests _ _ _ _ _ _ _ _ _ _ (omega arith) c.has_bad_count.ensures c.has_duplicate.ensures c.has_gap.ensures c.is_short.ensures
     c.has_hole.ensures c.is_off_disk.ensures c.is_crossed.ensures

@@ -5,7 +5,7 @@ use Rattle.std.proofs.lemmas.List.{get_or_default}
 use Rattle.std.proofs.lemmas.List.Elements.{Contains-get_or}
 use Rattle.rd_cpm.specs.Entries.{extent_number_of}
 use Rattle.rd_cpm.specs.Gathered.{HasExtent}
-use Rattle.rd_cpm.proofs.Tests.{refuted}
+use Rattle.rd_cpm.proofs.TestLemmas.{refuted}
 use Rattle.rd_cpm.proofs.faults.has_duplicate.Goals as goal
 
 -- an entry before the place i is one of the front that ends there

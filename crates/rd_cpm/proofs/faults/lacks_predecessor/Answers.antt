@@ -1,7 +1,7 @@
 use Rattle.std.proofs.Common.{◌≡◌, ◌+◌, sym, subst, arith}
 use Rattle.rd_cpm.specs.Entries.{extent_number_of}
 use Rattle.rd_cpm.specs.Gathered.{HasExtent}
-use Rattle.rd_cpm.proofs.Tests.{not_by}
+use Rattle.rd_cpm.proofs.TestLemmas.{not_by}
 use Rattle.rd_cpm.proofs.faults.lacks_predecessor.Goals as goal
 
 pub returns-in-Some : goal.returns-in-Some

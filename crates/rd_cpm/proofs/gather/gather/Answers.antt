@@ -1,6 +1,6 @@
 use Rattle.std.proofs.Common.{◌≡◌, ◌<◌, arith, subst}
 use Rattle.rd_geometry.specs.CpmDisks.{cpm_bytes}
-use Rattle.rd_cpm.specs.Entries.{slot_of}
+use Rattle.rd_cpm.specs.Entries.{entry_of_slot}
 use Rattle.rd_cpm.proofs.GatherLemmas.{IsGatheredBelow, gathered_at_first, gathered_none, gathered_more, gathered_all}
 use Rattle.rd_cpm.proofs.gather.gather.Goals as goal
 
@@ -19,4 +19,4 @@ pub returns : goal.returns
 returns c =
     let first : c.args.file < 64 = c.requires.file.slot in
     let last : c.loop-slot.slot ≡ 64 = omega arith in
-    gathered_all _ _ _ (subst (λ n. IsGatheredBelow (slot_of (cpm_bytes c.args.disk.now)) c.args.file n c.loop-slot.entries.items) last c.loop-slot.invariant)
+    gathered_all _ _ _ (subst (λ n. IsGatheredBelow (entry_of_slot (cpm_bytes c.args.disk.now)) c.args.file n c.loop-slot.entries.items) last c.loop-slot.invariant)

@@ -55,40 +55,40 @@ pub returns-in-Check-clause-one_change : goal.returns-in-Check-clause-one_change
 returns-in-Check-clause-one_change g c =
     let day = to_z-of_z w32 c.args.day c.ranges.day in
     let change = rw day at c.check.ensures.one_change in
-    subst (λ what. MakesOneChange g.S.Store c.args.store.now c.check.new.store c.args.day what (λ told. IsResponseAfter told c.check.result)) (sym c.in-Check.is) change
+    subst (λ what. MakesOneChange g.S.Store c.args.store.now c.check.new.store c.args.day what (λ stored. IsResponseAfter stored c.check.result)) (sym c.in-Check.is) change
 
 pub returns-in-PutImage-clause-one_change : goal.returns-in-PutImage-clause-one_change
 returns-in-PutImage-clause-one_change g c =
-    subst (λ what. MakesOneChange g.S.Store c.args.store.now c.put_image.new.store c.args.day what (λ told. IsResponseAfter told c.put_image.result)) (sym c.in-PutImage.is) (c.put_image.ensures.one_change c.args.day)
+    subst (λ what. MakesOneChange g.S.Store c.args.store.now c.put_image.new.store c.args.day what (λ stored. IsResponseAfter stored c.put_image.result)) (sym c.in-PutImage.is) (c.put_image.ensures.one_change c.args.day)
 
 pub returns-in-PutDeed-clause-one_change : goal.returns-in-PutDeed-clause-one_change
 returns-in-PutDeed-clause-one_change g c =
     let fits : FitsSigned w32 c.in-PutDeed.signed = search rules in
-    subst (λ what. MakesOneChange g.S.Store c.args.store.now c.put_deed.new.store c.args.day what (λ told. IsResponseAfter told c.put_deed.result)) (ap (PutDeed c.in-PutDeed.num c.in-PutDeed.donor) (to_z-of_z w32 c.in-PutDeed.signed fits) ∙ sym c.in-PutDeed.is)
-    (change_alone g.S.Store c.args.day _ _ c.args.store.now c.put_deed.new.store c.at_rest.ensures tt (c.put_deed.ensures.change c.args.day))
+    subst (λ what. MakesOneChange g.S.Store c.args.store.now c.put_deed.new.store c.args.day what (λ stored. IsResponseAfter stored c.put_deed.result)) (ap (PutDeed c.in-PutDeed.num c.in-PutDeed.donor) (to_z-of_z w32 c.in-PutDeed.signed fits) ∙ sym c.in-PutDeed.is)
+    (change_alone g.S.Store c.args.day _ _ c.args.store.now c.put_deed.new.store c.between_calls.ensures tt (c.put_deed.ensures.change c.args.day))
 
 pub returns-in-PutRule-clause-one_change : goal.returns-in-PutRule-clause-one_change
 returns-in-PutRule-clause-one_change g c =
-    subst (λ what. MakesOneChange g.S.Store c.args.store.now c.put_rule.new.store c.args.day what (λ told. IsResponseAfter told c.put_rule.result)) (sym c.in-PutRule.is)
-    (change_alone g.S.Store c.args.day _ _ c.args.store.now c.put_rule.new.store c.at_rest.ensures tt (c.put_rule.ensures.change c.args.day))
+    subst (λ what. MakesOneChange g.S.Store c.args.store.now c.put_rule.new.store c.args.day what (λ stored. IsResponseAfter stored c.put_rule.result)) (sym c.in-PutRule.is)
+    (change_alone g.S.Store c.args.day _ _ c.args.store.now c.put_rule.new.store c.between_calls.ensures tt (c.put_rule.ensures.change c.args.day))
 
 pub returns-in-DropRule-clause-one_change : goal.returns-in-DropRule-clause-one_change
 returns-in-DropRule-clause-one_change g c =
-    subst (λ what. MakesOneChange g.S.Store c.args.store.now c.drop_rule.new.store c.args.day what (λ told. IsResponseAfter told c.drop_rule.result)) (sym c.in-DropRule.is)
-    (change_alone g.S.Store c.args.day _ _ c.args.store.now c.drop_rule.new.store c.at_rest.ensures tt (c.drop_rule.ensures.change c.args.day))
+    subst (λ what. MakesOneChange g.S.Store c.args.store.now c.drop_rule.new.store c.args.day what (λ stored. IsResponseAfter stored c.drop_rule.result)) (sym c.in-DropRule.is)
+    (change_alone g.S.Store c.args.day _ _ c.args.store.now c.drop_rule.new.store c.between_calls.ensures tt (c.drop_rule.ensures.change c.args.day))
 
 pub returns-in-PutKey-clause-one_change : goal.returns-in-PutKey-clause-one_change
 returns-in-PutKey-clause-one_change g c =
-    subst (λ what. MakesOneChange g.S.Store c.args.store.now c.put_key.new.store c.args.day what (λ told. IsResponseAfter told c.put_key.result)) (sym c.in-PutKey.is)
-    (change_alone g.S.Store c.args.day _ _ c.args.store.now c.put_key.new.store c.at_rest.ensures tt (c.put_key.ensures.change c.args.day))
+    subst (λ what. MakesOneChange g.S.Store c.args.store.now c.put_key.new.store c.args.day what (λ stored. IsResponseAfter stored c.put_key.result)) (sym c.in-PutKey.is)
+    (change_alone g.S.Store c.args.day _ _ c.args.store.now c.put_key.new.store c.between_calls.ensures tt (c.put_key.ensures.change c.args.day))
 
 pub returns-in-DropKey-clause-one_change : goal.returns-in-DropKey-clause-one_change
 returns-in-DropKey-clause-one_change g c =
-    subst (λ what. MakesOneChange g.S.Store c.args.store.now c.drop_key.new.store c.args.day what (λ told. IsResponseAfter told c.drop_key.result)) (sym c.in-DropKey.is)
-    (change_alone g.S.Store c.args.day _ _ c.args.store.now c.drop_key.new.store c.at_rest.ensures tt (c.drop_key.ensures.change c.args.day))
+    subst (λ what. MakesOneChange g.S.Store c.args.store.now c.drop_key.new.store c.args.day what (λ stored. IsResponseAfter stored c.drop_key.result)) (sym c.in-DropKey.is)
+    (change_alone g.S.Store c.args.day _ _ c.args.store.now c.drop_key.new.store c.between_calls.ensures tt (c.drop_key.ensures.change c.args.day))
 
 pub returns-in-Unread-clause-one_change : goal.returns-in-Unread-clause-one_change
-returns-in-Unread-clause-one_change g c = no_call g.S.Store c.args.day _ _ c.args.store.now c.at_rest.ensures
+returns-in-Unread-clause-one_change g c = no_call g.S.Store c.args.day _ _ c.args.store.now c.between_calls.ensures
 
 pub returns-in-Deeds-clause-carries : goal.returns-in-Deeds-clause-carries
 returns-in-Deeds-clause-carries g c =

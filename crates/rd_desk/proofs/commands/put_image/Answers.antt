@@ -24,4 +24,4 @@ pub returns-clause-carries : goal.returns-clause-carries
 returns-clause-carries g c = λ day. let carries = c.commit_image.ensures.carries day in search rules
 
 pub returns-clause-one_change : goal.returns-clause-one_change
-returns-clause-one_change g c day = change_alone g.S.Store day _ _ c.args.store.now c.commit_image.new.store c.at_rest.ensures tt (c.commit_image.ensures.change day)
+returns-clause-one_change g c day = change_alone g.S.Store day _ _ c.args.store.now c.commit_image.new.store c.between_calls.ensures tt (c.commit_image.ensures.change day)

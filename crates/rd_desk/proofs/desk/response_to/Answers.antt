@@ -3,7 +3,7 @@ use Rattle.std.proofs.lemmas.Int.{to_z-of_z}
 use Rattle.rd_policy.specs.declared.audience.Audience.TheVariants.{Staff}
 use Rattle.rd_desk.specs.Calls.{MakesResponse}
 use Rattle.rd_desk.proofs.OneChange.{reads_alone, reads_first}
-use Rattle.rd_desk.proofs.Responding.{carries_respond, keeps_respond, known_still, reads_respond, still_open}
+use Rattle.rd_desk.proofs.ResponseLemmas.{carries_respond, keeps_respond, known_still, reads_respond, still_open}
 use Rattle.rd_desk.proofs.desk.response_to.Goals as goal
 
 pub returns-then-not-is_for_staff-clause-makes : goal.returns-then-not-is_for_staff-clause-makes
@@ -27,7 +27,7 @@ returns-clause-makes g c =
     subst (λ day. MakesResponse g.S.Store old c.command.new.store day c.args.request.now c.command.result) (to_z-of_z w32 c.args.day c.ranges.day)
     (keeps_respond g.S.Store _ c.args.request.now c.command.result old found c.command.new.store c.audience.ensures.keeps
     (still_open g.S.Store old found badge c.in_ok-audience.ensures.ends_open (λ none. (c.audience.ensures.untouched none).1))
-    (carries_respond g.S.Store _ c.args.request.now c.command.result found c.command.new.store (search rules) known c.at_rest.ensures c.command.ensures.carries))
+    (carries_respond g.S.Store _ c.args.request.now c.command.result found c.command.new.store (search rules) known c.between_calls.ensures c.command.ensures.carries))
 
 pub returns-in_err-audience-clause-one_change : goal.returns-in_err-audience-clause-one_change
 returns-in_err-audience-clause-one_change g c = reads_alone g.S.Store c.args.day _ _ c.args.store.now c.audience.new.store c.audience.ensures.keeps

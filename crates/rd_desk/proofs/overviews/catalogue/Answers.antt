@@ -1,7 +1,7 @@
 use Rattle.std.proofs.Common.{None, refl, rules}
 use Rattle.rd_store.specs.Held.{desk}
-use Rattle.rd_protocol.proofs.Reading.{catalogue_names_nothing, question_accepted, question_asked}
-use Rattle.rd_protocol.proofs.Cataloguing.{listings_are}
+use Rattle.rd_protocol.proofs.FileReplies.{catalogue_names_nothing, question_accepted, question_asked}
+use Rattle.rd_protocol.proofs.CatalogueLemmas.{listings_are}
 use Rattle.rd_desk.proofs.overviews.catalogue.Goals as goal
 
 pub returns : goal.returns

@@ -1,7 +1,7 @@
 use Rattle.std.proofs.Common.{None, refl, rules}
 use Rattle.rd_store.specs.Held.{desk}
-use Rattle.rd_protocol.proofs.Reading.{images_name_nothing, question_accepted, question_asked}
-use Rattle.rd_protocol.proofs.Selecting.{image_lines_are}
+use Rattle.rd_protocol.proofs.FileReplies.{images_name_nothing, question_accepted, question_asked}
+use Rattle.rd_protocol.proofs.ListedFiles.{image_lines_are}
 use Rattle.rd_desk.proofs.overviews.images.Goals as goal
 
 pub returns : goal.returns

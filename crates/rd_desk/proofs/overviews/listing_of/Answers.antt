@@ -3,7 +3,7 @@ use Rattle.rd_policy.specs.Verdicts.{AreInOrder}
 use Rattle.rd_policy.specs.declared.rule.Band.TheVariants.{Deed}
 use Rattle.rd_holdings.specs.State.{rules_at, rules_for, rules_with}
 use Rattle.rd_protocol.specs.Queries.{AreLinesOf}
-use Rattle.rd_protocol.proofs.Selecting.{lines_are}
+use Rattle.rd_protocol.proofs.ListedFiles.{lines_are}
 use Rattle.rd_desk.proofs.overviews.listing_of.Goals as goal
 
 pub returns : goal.returns

@@ -2,7 +2,7 @@ use Rattle.std.proofs.Common.{◌≡◌, ◌∙◌, ◌++◌, All, map-id, subst
 use Rattle.std.proofs.lemmas.Iterator.Adapters.{YieldsList-from_vec}
 use Rattle.std.proofs.lemmas.Iterator.Consumers.{YieldsList-end}
 use Rattle.rd_desk.specs.Calls.{StandsAs}
-use Rattle.rd_desk.proofs.Batching.{all_before, all_last, numbers_more, numbers_of}
+use Rattle.rd_desk.proofs.BatchLemmas.{all_before, all_last, numbers_more, numbers_of}
 use Rattle.rd_desk.proofs.overviews.with_batch.Goals as goal
 
 pub loop-one-preserved : goal.loop-one-preserved

@@ -1,7 +1,7 @@
 use Rattle.std.proofs.Common.{◌≡◌, ◌++◌, ℕ, All, List}
 use Rattle.rd_holdings.specs.State.{Desk, all_rules}
 use Rattle.rd_desk.specs.Calls.{StandsAs}
-use Rattle.rd_desk.proofs.Batching.{numbers_of}
+use Rattle.rd_desk.proofs.BatchLemmas.{numbers_of}
 use Rattle.rd_desk.proofs.overviews.with_batch.Given as goal
 
 -- after the given lines are those of the accessions so far

@@ -1,6 +1,6 @@
 use Rattle.std.proofs.Common.{rules, subst}
 use Rattle.rd_protocol.specs.Queries.{IsWithheld}
-use Rattle.rd_protocol.proofs.Reading.{served_read, withheld_read}
+use Rattle.rd_protocol.proofs.FileReplies.{served_read, withheld_read}
 use Rattle.rd_desk.proofs.queries.answer_about.Goals as goal
 
 pub returns-in-Some : goal.returns-in-Some

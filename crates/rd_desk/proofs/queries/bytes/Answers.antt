@@ -4,7 +4,7 @@ use Rattle.rd_store.specs.Held.{desk}
 use Rattle.rd_holdings.specs.State.{Desk}
 use Rattle.rd_desk.specs.Calls.{AreAccessionRules}
 use Rattle.rd_protocol.specs.Queries.{Standing}
-use Rattle.rd_protocol.proofs.Reading.{if_ok, read_answered}
+use Rattle.rd_protocol.proofs.FileReplies.{if_ok, read_answered}
 use Rattle.rd_desk.proofs.queries.bytes.Goals as goal
 
 pub returns-in_ok-loaded-in-Some : goal.returns-in_ok-loaded-in-Some

@@ -1,4 +1,4 @@
-use Rattle.rd_protocol.proofs.InTurn.{first_decides, first_in_order, second_decides, second_in_order}
+use Rattle.rd_protocol.proofs.VerdictOrder.{first_decides, first_in_order, second_decides, second_in_order}
 use Rattle.rd_desk.proofs.queries.judge_in_turn.Goals as goal
 
 pub judge-verdict-requires : goal.judge-verdict-requires

@@ -1,8 +1,8 @@
 use Rattle.std.proofs.Common.{rules, subst}
 use Rattle.rd_store.specs.Index.{AreFilesIn}
 use Rattle.rd_protocol.specs.Queries.{AreLinesOf}
-use Rattle.rd_protocol.proofs.Reading.{if_ok}
-use Rattle.rd_protocol.proofs.Selecting.{lines_are}
+use Rattle.rd_protocol.proofs.FileReplies.{if_ok}
+use Rattle.rd_protocol.proofs.ListedFiles.{lines_are}
 use Rattle.rd_desk.proofs.queries.lines.Goals as goal
 
 pub returns : goal.returns

@@ -1,5 +1,5 @@
 use Rattle.std.proofs.Common.{◌++◌, rules}
-use Rattle.rd_protocol.proofs.Selecting.{none_more, one_more}
+use Rattle.rd_protocol.proofs.ListedFiles.{none_more, one_more}
 use Rattle.rd_desk.proofs.queries.listed.Goals as goal
 
 pub loop-file-preserved-in-Ok-1 : goal.loop-file-preserved-in-Ok-1

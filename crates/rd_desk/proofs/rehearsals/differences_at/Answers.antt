@@ -10,7 +10,7 @@ use Rattle.rd_store.specs.Held.{desk}
 use Rattle.rd_store.specs.Index.{AreFilesIn}
 use Rattle.rd_desk.specs.Rehearsing.{is_there, place_at}
 use Rattle.rd_desk.proofs.RehearsalLemmas.{differences_as, differences_over, image_of, placed_if, touched_from, touched_to}
-use Rattle.rd_desk.proofs.Responding.{keeps_then}
+use Rattle.rd_desk.proofs.ResponseLemmas.{keeps_then}
 use Rattle.rd_desk.proofs.rehearsals.differences_at.Goals as goal
 
 pub returns : goal.returns

@@ -7,7 +7,7 @@ use Rattle.rd_store.specs.Held.{desk}
 use Rattle.rd_store.specs.Index.{AreFilesIn}
 use Rattle.rd_desk.specs.Rehearsing.{AreDifferencesAt, desk_changed, place_at}
 use Rattle.rd_desk.proofs.RehearsalLemmas.{image_of, rehearsal_alone, untouched_at}
-use Rattle.rd_desk.proofs.Responding.{keeps_then}
+use Rattle.rd_desk.proofs.ResponseLemmas.{keeps_then}
 use Rattle.rd_desk.proofs.rehearsals.of_accession.Goals as goal
 
 pub returns : goal.returns
@@ -27,7 +27,7 @@ returns g c = record {
       let at = subst (λ (e : Desk). AreDifferencesAt e (desk_changed place put e) r.day acc c.in_ok-lines.lines.items) first_same (c.in_ok-lines.ensures.answer o) in (
         subst (λ band. Stands d band acc) (sym c.requires.band) (ap is_some known.1),
         rehearsal_alone d place put r.day acc known.0 c.in_ok-lines.lines.items known.1 at (λ other row standing apart.
-            let files = c.at_rest.ensures.files o other in
+            let files = c.between_calls.ensures.files o other in
             let found = subst (λ (e : Desk). AreFilesIn (get e.images other) files.0) end_same files.1 in
             untouched_at d place put other row standing r.day
             (λ about. let same : acc ≡ other = subst (λ band. IsAbout other row.deed band acc) c.requires.band about in apart (sym same))

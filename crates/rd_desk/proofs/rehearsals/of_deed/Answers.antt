@@ -6,7 +6,7 @@ use Rattle.rd_store.specs.Held.{desk}
 use Rattle.rd_desk.specs.Calls.{IsRegistered}
 use Rattle.rd_desk.specs.Rehearsing.{AreDifferencesOf, desk_changed, place_at}
 use Rattle.rd_desk.proofs.RehearsalLemmas.{all_registered, numbers_registered, rehearsal_of}
-use Rattle.rd_desk.proofs.Responding.{keeps_then}
+use Rattle.rd_desk.proofs.ResponseLemmas.{keeps_then}
 use Rattle.rd_desk.proofs.rehearsals.of_deed.Goals as goal
 
 pub of_register-requires-clause-known : goal.of_register-requires-clause-known

@@ -3,11 +3,11 @@ use Rattle.rd_holdings.specs.declared.rows.Accession.{Accession}
 use Rattle.rd_store.specs.Held.{desk}
 use Rattle.rd_desk.specs.Rehearsing.{AreDifferencesOf, desk_changed, place_at}
 use Rattle.rd_desk.proofs.RehearsalLemmas.{register_more, registered_still}
-use Rattle.rd_desk.proofs.Responding.{keeps_then}
+use Rattle.rd_desk.proofs.ResponseLemmas.{keeps_then}
 use Rattle.rd_desk.proofs.rehearsals.of_register.Goals as goal
 
 pub loop-entry-init : goal.loop-entry-init
-loop-entry-init g c = record { keeps = search rules; awake = search rules; lines = λ o. c.new-lines.ensures.items }
+loop-entry-init g c = record { keeps = search rules; open_if_clean = search rules; lines = λ o. c.new-lines.ensures.items }
 
 pub with_accession-requires-clause-known : goal.with_accession-requires-clause-known
 with_accession-requires-clause-known g c = λ o.
@@ -16,8 +16,8 @@ with_accession-requires-clause-known g c = λ o.
 
 pub loop-entry-preserved : goal.loop-entry-preserved
 loop-entry-preserved g c = record {
-  keeps = keeps_then g.S.Store c.args.store.now c.loop-entry.store c.with_accession.new.store c.loop-entry.invariant.keeps (λ was clean. c.loop-entry.invariant.awake clean) c.with_accession.ensures.keeps;
-  awake = λ clean. c.in_ok-lines.ensures.ends_open clean;
+  keeps = keeps_then g.S.Store c.args.store.now c.loop-entry.store c.with_accession.new.store c.loop-entry.invariant.keeps (λ was clean. c.loop-entry.invariant.open_if_clean clean) c.with_accession.ensures.keeps;
+  open_if_clean = λ clean. c.in_ok-lines.ensures.ends_open clean;
   lines = λ o.
       let was = c.with_accession.ensures.keeps.lasts.was_open o in
       let r = c.args.rehearsal.now in
@@ -28,7 +28,7 @@ loop-entry-preserved g c = record {
 pub returns : goal.returns
 returns g c = record {
   keeps = c.loop-entry.invariant.keeps;
-  ends_open = λ clean. c.loop-entry.invariant.awake clean;
+  ends_open = λ clean. c.loop-entry.invariant.open_if_clean clean;
   answer = λ o.
       let d = desk g.S.Store c.args.store.now in
       let r = c.args.rehearsal.now in

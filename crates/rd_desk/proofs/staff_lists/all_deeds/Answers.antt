@@ -7,14 +7,14 @@ use Rattle.rd_store.specs.Held.{desk}
 use Rattle.rd_holdings.specs.State.{Desk, registered}
 use Rattle.rd_desk.specs.StaffLists.{deed_line_of}
 use Rattle.rd_desk.proofs.ListLemmas.{lines_alike}
-use Rattle.rd_desk.proofs.Responding.{keeps_then}
+use Rattle.rd_desk.proofs.ResponseLemmas.{keeps_then}
 use Rattle.rd_desk.proofs.staff_lists.all_deeds.Goals as goal
 
 pub loop-entry-preserved : goal.loop-entry-preserved
 loop-entry-preserved g c = record {
-  keeps = keeps_then g.S.Store c.deeds.new.self c.loop-entry.store c.deed_line.new.store c.loop-entry.invariant.keeps (λ was clean. c.loop-entry.invariant.awake clean) c.deed_line.ensures.keeps;
-  awake = λ clean. c.in_ok-line.ensures.ends_open clean;
-  told = λ o.
+  keeps = keeps_then g.S.Store c.deeds.new.self c.loop-entry.store c.deed_line.new.store c.loop-entry.invariant.keeps (λ was clean. c.loop-entry.invariant.open_if_clean clean) c.deed_line.ensures.keeps;
+  open_if_clean = λ clean. c.in_ok-line.ensures.ends_open clean;
+  lines_are = λ o.
       let was = c.deed_line.ensures.keeps.lasts.was_open o in
       let d = desk g.S.Store c.deeds.new.self in
       let register = c.in_ok-register.register.items in
@@ -22,7 +22,7 @@ loop-entry-preserved g c = record {
       let same : desk g.S.Store c.loop-entry.store ≡ d = c.loop-entry.invariant.keeps.same was in
       let line : c.in_ok-line.line ≡ deed_line_of d register entry =
       c.in_ok-line.ensures.answer o ∙ ap (λ (e : Desk). deed_line_of e c.deref.result.now entry) same ∙ ap (λ r. deed_line_of d r entry) c.deref.ensures.value in
-      c.in-Ok.ensures.items ∙ (λ i. c.loop-entry.invariant.told was i ++ line i ∷ []) ∙ sym (map-append (deed_line_of d register) c.loop-entry.yielded (entry ∷ []));
+      c.in-Ok.ensures.items ∙ (λ i. c.loop-entry.invariant.lines_are was i ++ line i ∷ []) ∙ sym (map-append (deed_line_of d register) c.loop-entry.yielded (entry ∷ []));
 }
 
 pub returns : goal.returns
@@ -30,7 +30,7 @@ returns g c = record {
   keeps = keeps_then g.S.Store c.args.store.now c.deeds.new.self c.loop-entry.store
       (keeps_then g.S.Store c.args.store.now c.register.new.self c.deeds.new.self c.register.ensures.reads.keeps (λ was clean. c.in_ok-register.ensures.reads.ends_open clean) c.deeds.ensures.reads.keeps)
       (λ was clean. c.in_ok-deeds.ensures.reads.ends_open clean) c.loop-entry.invariant.keeps;
-  ends_open = λ clean. c.loop-entry.invariant.awake clean;
+  ends_open = λ clean. c.loop-entry.invariant.open_if_clean clean;
   answer = λ o.
       let third = c.loop-entry.invariant.keeps.lasts.was_open o in
       let second = c.deeds.ensures.reads.keeps.lasts.was_open third in
@@ -42,5 +42,5 @@ returns g c = record {
       let gives = c.into_iter-entry-iterator.ensures.into_iter_gives in
       let end = YieldsList-end (YieldsList-from_vec {s = c.into_iter-entry-iterator.result} c.in_ok-deeds.deeds.items gives.0 (gives.1 ∙ c.in_ok-deeds.deeds.ok.0)) c.loop-entry.yielded c.loop-entry.entry-iterator c.loop-entry.yielded_by c.next.result c.next.new.self c.in-None.is c.next.ensures.steps in
       let all : c.loop-entry.yielded ≡ c.in_ok-deeds.deeds.items = sym (map-id c.loop-entry.yielded) ∙ end.0 in
-      c.of.ensures ∙ c.loop-entry.invariant.told o ∙ (λ i. map (deed_line_of (same i) c.in_ok-register.register.items) ((all ∙ deeds) i)) ∙ lines_alike d c.in_ok-register.register.items register (entries d.deeds);
+      c.of.ensures ∙ c.loop-entry.invariant.lines_are o ∙ (λ i. map (deed_line_of (same i) c.in_ok-register.register.items) ((all ∙ deeds) i)) ∙ lines_alike d c.in_ok-register.register.items register (entries d.deeds);
 }

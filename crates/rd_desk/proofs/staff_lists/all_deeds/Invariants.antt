@@ -6,6 +6,6 @@ use Rattle.rd_desk.proofs.staff_lists.all_deeds.Given as goal
 abbrev pub invariant-loop-entry : goal.invariant-loop-entry
 invariant-loop-entry g l = record {
   keeps : Keeps g.S.Store l.initial.store l.store;
-  awake : IsClean g.S.Store l.store → IsOpen g.S.Store l.store;
-  told : IsOpen g.S.Store l.store → l.lines.items ≡ map (deed_line_of (desk g.S.Store l.initial.store) l.register.items) l.yielded;
+  open_if_clean : IsClean g.S.Store l.store → IsOpen g.S.Store l.store;
+  lines_are : IsOpen g.S.Store l.store → l.lines.items ≡ map (deed_line_of (desk g.S.Store l.initial.store) l.register.items) l.yielded;
 }

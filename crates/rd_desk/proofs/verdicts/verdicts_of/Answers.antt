@@ -11,10 +11,10 @@ returns c = λ desk are stands.
     let decided = rw (to_z-of_z w32 c.args.day c.ranges.day) at c.in_ok-files.ensures.decided in
     let image = stands.0 in
     let is = stands.2 in
-    let one = c.args.one in
+    let indexed = c.args.indexed in
     let under = c.under in
-    let both : under.result.0.now ++ under.result.1.now ≡ rules_for desk one.acc =
-    ap₂ (λ t r. t ++ r) (under.ensures.takedowns desk are) (under.ensures.rules desk are ∙ ap (rules_at desk Deed) is.deed) ∙ ap (rules_with desk one.acc) (sym stands.1) in
+    let both : under.result.0.now ++ under.result.1.now ≡ rules_for desk indexed.acc =
+    ap₂ (λ t r. t ++ r) (under.ensures.takedowns desk are) (under.ensures.rules desk are ∙ ap (rules_at desk Deed) is.deed) ∙ ap (rules_with desk indexed.acc) (sym stands.1) in
     record {
       image = image;
       standing = stands.1;

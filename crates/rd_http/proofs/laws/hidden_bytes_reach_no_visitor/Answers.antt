@@ -1,4 +1,4 @@
-use Rattle.rd_http.proofs.Hiding.{reach_none}
+use Rattle.rd_http.proofs.VisitHiding.{reach_none}
 use Rattle.rd_http.proofs.laws.hidden_bytes_reach_no_visitor.Goals as goal
 
 pub returns : goal.returns

@@ -1,4 +1,4 @@
-use Rattle.rd_http.proofs.Hiding.{replied_until_shut}
+use Rattle.rd_http.proofs.VisitHiding.{replied_until_shut}
 use Rattle.rd_http.proofs.laws.visits_are_replied_until_shut.Goals as goal
 
 pub returns : goal.returns

@@ -2,7 +2,7 @@ use Rattle.rd_store.specs.Held.{desk as tables}
 use Rattle.rd_http.specs.Hidden.{RepliesAndHides}
 use Rattle.rd_http.specs.Runs.{HasRun}
 use Rattle.rd_http.specs.Visits.{IsAnswer, IsReplied}
-use Rattle.rd_http.proofs.Hiding.{run_hidden}
+use Rattle.rd_http.proofs.VisitHiding.{run_hidden}
 use Rattle.rd_http.proofs.RunLemmas.{if_told, run_replied}
 use Rattle.rd_http.proofs.serve.serve_many.Goals as goal
 

@@ -17,7 +17,7 @@ invariant-loop-served g l = record {
   last : l.served.ended ≡ Shut → g.D.Door.has_shut l.fn.door ≡ false → IfSome (g.D.Door.told l.fn.door) (λ told. told.under_way ≡ None → NoneLeft (g.D.Door.coming l.door));
   lasts : Lasts g.S.Store l.fn.desk.store l.desk.store;
   zone : l.desk.zone ≡ l.fn.desk.zone;
-  heard : ((conn : _) → g.D.Conn.Wire.take_failed conn ≡ false) → l.served.read_faults ≡ 0;
+  heard : ((conn : _) → g.D.Conn.Wire.read_failed conn ≡ false) → l.served.read_faults ≡ 0;
 }
 
 -- a run that goes on may have an end before it

@@ -19,4 +19,4 @@ returns-in-Fault-clause-answers g c stream is =
 
 pub returns-in-NoMemory-clause-answers : goal.returns-in-NoMemory-clause-answers
 returns-in-NoMemory-clause-answers g c stream is =
-    inr (record { framed = rw c.in-NoMemory.is at is; same = refl; told = c.of_desk-in-NoMemory.ensures.text ∙ ap answer_bytes c.unavailable.ensures })
+    inr (record { framed = rw c.in-NoMemory.is at is; same = refl; text_is = c.of_desk-in-NoMemory.ensures.text ∙ ap answer_bytes c.unavailable.ensures })

@@ -4,7 +4,7 @@ use Rattle.rd_policy.specs.Zones.{day_number}
 use Rattle.rd_store.specs.Held.{IsOpen, desk as tables}
 use Rattle.rd_http.specs.Hidden.{HidesFromVisitor}
 use Rattle.rd_http.specs.Visits.{IsAnswer, IsServed, Visits}
-use Rattle.rd_http.proofs.Hiding.{answer_hides}
+use Rattle.rd_http.proofs.VisitHiding.{answer_hides}
 use Rattle.rd_http.proofs.RunLemmas.{if_told}
 use Rattle.rd_http.proofs.VisitLemmas.{visits_then}
 use Rattle.rd_http.proofs.visit.serve_one.Goals as goal

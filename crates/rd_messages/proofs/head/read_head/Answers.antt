@@ -15,7 +15,7 @@ loop-filled-init g c = record {
   ready = c.requires.ready;
   came = refl;
   kept = refl;
-  put_kept = refl;
+  writes_unchanged = refl;
 }
 
 pub returns-in-Ok-Complete-clause-head : goal.returns-in-Ok-Complete-clause-head

@@ -10,10 +10,10 @@ invariant-loop-filled g l = record {
   room : length l.spans ≡ 64;
   read : Consumes (g.W.Wire.incoming l.fn.wire) (g.W.Wire.incoming l.wire) (take l.filled l.buf);
   none : HasNoRequest (take l.filled l.buf);
-  ready : g.W.Wire.take_failed l.wire ≡ false;
+  ready : g.W.Wire.read_failed l.wire ≡ false;
   came : g.W.Wire.came l.wire ≡ g.W.Wire.came l.fn.wire;
   kept : g.W.Wire.outgoing l.wire ≡ g.W.Wire.outgoing l.fn.wire;
-  put_kept : g.W.Wire.put_failed l.wire ≡ g.W.Wire.put_failed l.fn.wire;
+  writes_unchanged : g.W.Wire.write_failed l.wire ≡ g.W.Wire.write_failed l.fn.wire;
 }
 
 abbrev pub decreases-loop-filled : goal.decreases-loop-filled

@@ -1,5 +1,5 @@
-use Rattle.rd_messages.specs.Examples.{each_goes_in}
+use Rattle.rd_messages.specs.Examples.{each_pattern_inserts}
 use Rattle.rd_messages.proofs.pattern.router.Goals as goal
 
 pub router_of-requires : goal.router_of-requires
-router_of-requires c = each_goes_in
+router_of-requires c = each_pattern_inserts

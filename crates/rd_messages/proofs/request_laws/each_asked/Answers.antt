@@ -1,4 +1,4 @@
-use Rattle.rd_messages.proofs.EachAsked.{each_asked}
+use Rattle.rd_messages.proofs.RequestExistence.{each_asked}
 use Rattle.rd_messages.proofs.request_laws.each_asked.Goals as goal
 
 pub returns : goal.returns

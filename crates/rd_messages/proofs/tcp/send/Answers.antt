@@ -1,5 +1,5 @@
 use Rattle.std.proofs.Common.{arith, length-drop, length-take-le, ℕ}
-use Rattle.rd_messages.proofs.Sending.{sent_more}
+use Rattle.rd_messages.proofs.SentBytes.{sent_more}
 use Rattle.rd_messages.proofs.tcp.send.Goals as goal
 
 pub loop-sent-preserved : goal.loop-sent-preserved

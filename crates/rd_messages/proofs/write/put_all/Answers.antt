@@ -1,6 +1,6 @@
 use Rattle.std.proofs.Common.{◌∙◌, arith, length-drop, length-take-le, ℕ}
 use Rattle.std.proofs.lemmas.Grind.{common_steps}
-use Rattle.rd_messages.proofs.Sending.{sent_more}
+use Rattle.rd_messages.proofs.SentBytes.{sent_more}
 use Rattle.rd_messages.proofs.write.put_all.Goals as goal
 
 pub loop-sent-preserved : goal.loop-sent-preserved
@@ -13,5 +13,5 @@ loop-sent-preserved g c =
       ready = grind (arith, common_steps);
       kept = put.kept ∙ at.kept;
       came = put.came ∙ at.came;
-      take_kept = put.take_kept ∙ at.take_kept;
+      reads_unchanged = put.reads_unchanged ∙ at.reads_unchanged;
     }

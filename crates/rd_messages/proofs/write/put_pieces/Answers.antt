@@ -5,7 +5,7 @@ use Rattle.std.proofs.lemmas.Result.{err_from_is_err_and}
 use Rattle.std.specs.Io.KnownBytes.{Appends}
 use Rattle.std.specs.List.{concat}
 use Rattle.rd_protocol.specs.BodyPieces.{pieces_left}
-use Rattle.rd_messages.proofs.Sending.{piece_more, piece_part}
+use Rattle.rd_messages.proofs.SentBytes.{piece_more, piece_part}
 use Rattle.rd_messages.proofs.write.put_pieces.Goals as goal
 
 pub loop-piece-preserved : goal.loop-piece-preserved
@@ -22,7 +22,7 @@ loop-piece-preserved g c =
       ready = grind (arith, common_steps);
       kept = c.in_ok-put_all.ensures.kept ∙ at.invariant.kept;
       came = c.in_ok-put_all.ensures.came ∙ at.invariant.came;
-      take_kept = c.in_ok-put_all.ensures.take_kept ∙ at.invariant.take_kept;
+      reads_unchanged = c.in_ok-put_all.ensures.reads_unchanged ∙ at.invariant.reads_unchanged;
     }
 
 pub returns-in_err-put_all-clause-sends : goal.returns-in_err-put_all-clause-sends

@@ -8,8 +8,8 @@ abbrev pub invariant-loop-piece : goal.invariant-loop-piece
 invariant-loop-piece g l = record {
   whole : concat (map (λ piece. piece.now) l.yielded ++ pieces_left l.piece-iterator) ≡ l.body.bytes;
   sends : Appends (g.W.Wire.outgoing l.fn.wire) (g.W.Wire.outgoing l.wire) (concat (map (λ piece. piece.now) l.yielded));
-  ready : g.W.Wire.put_failed l.wire ≡ false;
+  ready : g.W.Wire.write_failed l.wire ≡ false;
   kept : g.W.Wire.incoming l.wire ≡ g.W.Wire.incoming l.fn.wire;
   came : g.W.Wire.came l.wire ≡ g.W.Wire.came l.fn.wire;
-  take_kept : g.W.Wire.take_failed l.wire ≡ g.W.Wire.take_failed l.fn.wire;
+  reads_unchanged : g.W.Wire.read_failed l.wire ≡ g.W.Wire.read_failed l.fn.wire;
 }

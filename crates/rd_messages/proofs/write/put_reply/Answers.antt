@@ -1,5 +1,5 @@
 use Rattle.rd_messages.specs.ReplyText.{reply_bytes}
-use Rattle.rd_messages.proofs.Sending.{first_part, then_second}
+use Rattle.rd_messages.proofs.SentBytes.{first_part, then_second}
 use Rattle.rd_messages.proofs.write.put_reply.Goals as goal
 
 pub returns-in-Ok-clause-sends : goal.returns-in-Ok-clause-sends

@@ -1,4 +1,4 @@
-use Rattle.rd_program.proofs.Told.{kept_to_show}
+use Rattle.rd_program.proofs.AnswerKinds.{kept_to_show}
 use Rattle.rd_program.proofs.answers.if_to_show.Goals as goal
 
 pub returns-in_default-clause-is : goal.returns-in_default-clause-is

@@ -1,4 +1,4 @@
-use Rattle.rd_program.proofs.Told.{none_found}
+use Rattle.rd_program.proofs.AnswerKinds.{none_found}
 use Rattle.rd_program.proofs.answers.outcome_in.Goals as goal
 
 pub returns-in_default-clause-is : goal.returns-in_default-clause-is

@@ -1,5 +1,5 @@
 use Rattle.std.proofs.Common.{◌∙◌}
-use Rattle.rd_program.proofs.Told.{not_of_accession, of_open_desk, of_reply}
+use Rattle.rd_program.proofs.AnswerKinds.{not_of_accession, of_open_desk, of_reply}
 use Rattle.rd_program.proofs.answers.refusal_to_check.Goals as goal
 
 pub returns-in_default-clause-is : goal.returns-in_default-clause-is

@@ -6,15 +6,15 @@ use Rattle.std.specs.Io.KnownBytes.{Appends}
 use Rattle.rd_program.specs.Leaves.{LeavesBy, LeavesRefused, OnEnded, StandsThere}
 use Rattle.rd_commands.specs.Listed.{Lists, RefusesList}
 use Rattle.rd_program.specs.Serving.{RefusesServe, serve_text}
-use Rattle.rd_program.proofs.Answered.{once_kept, once_never}
-use Rattle.rd_program.proofs.Imported.{ended_whole, err_whole, ok_whole, whole_is}
-use Rattle.rd_program.proofs.Inited.{at_err_both, left_as, made_as, on_both}
-use Rattle.rd_program.proofs.Left.{on_ended_always}
-use Rattle.rd_program.proofs.LeftBy.{no_refusal}
-use Rattle.rd_program.proofs.Filed.{stands_nowhere}
-use Rattle.rd_commands.proofs.Ran.{as_asked}
+use Rattle.rd_program.proofs.AnswerLemmas.{once_kept, once_never}
+use Rattle.rd_program.proofs.ImportLemmas.{ended_whole, err_whole, ok_whole, whole_is}
+use Rattle.rd_program.proofs.InitLemmas.{at_err_both, left_as, made_as, on_both}
+use Rattle.rd_program.proofs.LeftStores.{on_ended_always}
+use Rattle.rd_program.proofs.LeftStoresByWords.{no_refusal}
+use Rattle.rd_program.proofs.FileLemmas.{stands_nowhere}
+use Rattle.rd_commands.proofs.RunLemmas.{as_asked}
 use Rattle.std.specs.Prelude.{IsSome}
-use Rattle.rd_program.specs.Filing.{GivesFile, IsOfImage}
+use Rattle.rd_program.specs.DiskFiles.{GivesFile, IsOfImage}
 use Rattle.rd_program.specs.Showing.{AnswersBy}
 use Rattle.rd_program.specs.Asked.{AsksBy, IsClockDueBy, IsUnaskedBy}
 use Rattle.rd_program.specs.Rows.{ImportsBy, RefusesSheetBy}
@@ -205,35 +205,35 @@ returns-in-Init-clause-in_part g c = whole_is _ c.init.result c.whole-in-Init.re
 pub returns-in-Serve-clause-in_part : goal.returns-in-Serve-clause-in_part
 returns-in-Serve-clause-in_part g c = whole_is _ c.serve.result c.whole-in-Serve.result c.whole-in-Serve.ensures
 
-pub returns-in-Once-clause-done : goal.returns-in-Once-clause-done
-returns-in-Once-clause-done g c = λ kind slot asked. absurd (subst (IsFileAsk kind (codes "-") slot) c.in-Once.is asked)
+pub returns-in-OneQuestion-clause-done : goal.returns-in-OneQuestion-clause-done
+returns-in-OneQuestion-clause-done g c = λ kind slot asked. absurd (subst (IsFileAsk kind (codes "-") slot) c.in-OneQuestion.is asked)
 
-pub returns-in-Once-clause-refused : goal.returns-in-Once-clause-refused
-returns-in-Once-clause-refused g c = λ kind slot asked. absurd (subst (IsFileAsk kind (codes "-") slot) c.in-Once.is asked)
+pub returns-in-OneQuestion-clause-refused : goal.returns-in-OneQuestion-clause-refused
+returns-in-OneQuestion-clause-refused g c = λ kind slot asked. absurd (subst (IsFileAsk kind (codes "-") slot) c.in-OneQuestion.is asked)
 
-pub returns-in-Once-clause-listed : goal.returns-in-Once-clause-listed
-returns-in-Once-clause-listed g c = λ kind asked. absurd (subst (IsFilesAsk kind (codes "-")) c.in-Once.is asked)
+pub returns-in-OneQuestion-clause-listed : goal.returns-in-OneQuestion-clause-listed
+returns-in-OneQuestion-clause-listed g c = λ kind asked. absurd (subst (IsFilesAsk kind (codes "-")) c.in-OneQuestion.is asked)
 
-pub returns-in-Once-clause-list_refused : goal.returns-in-Once-clause-list_refused
-returns-in-Once-clause-list_refused g c = λ kind asked. absurd (subst (IsFilesAsk kind (codes "-")) c.in-Once.is asked)
+pub returns-in-OneQuestion-clause-list_refused : goal.returns-in-OneQuestion-clause-list_refused
+returns-in-OneQuestion-clause-list_refused g c = λ kind asked. absurd (subst (IsFilesAsk kind (codes "-")) c.in-OneQuestion.is asked)
 
-pub returns-in-Once-clause-made : goal.returns-in-Once-clause-made
-returns-in-Once-clause-made g c = λ store key asked. absurd (subst (IsInitAsk store key) c.in-Once.is asked)
+pub returns-in-OneQuestion-clause-made : goal.returns-in-OneQuestion-clause-made
+returns-in-OneQuestion-clause-made g c = λ store key asked. absurd (subst (IsInitAsk store key) c.in-OneQuestion.is asked)
 
-pub returns-in-Once-clause-not_made : goal.returns-in-Once-clause-not_made
-returns-in-Once-clause-not_made g c = λ store key asked. absurd (subst (IsInitAsk store key) c.in-Once.is asked)
+pub returns-in-OneQuestion-clause-not_made : goal.returns-in-OneQuestion-clause-not_made
+returns-in-OneQuestion-clause-not_made g c = λ store key asked. absurd (subst (IsInitAsk store key) c.in-OneQuestion.is asked)
 
-pub returns-in-Once-clause-served : goal.returns-in-Once-clause-served
-returns-in-Once-clause-served g c = λ store port count rule asked. absurd (subst (IsServeAsk store port count rule) c.in-Once.is asked)
+pub returns-in-OneQuestion-clause-served : goal.returns-in-OneQuestion-clause-served
+returns-in-OneQuestion-clause-served g c = λ store port count rule asked. absurd (subst (IsServeAsk store port count rule) c.in-OneQuestion.is asked)
 
-pub returns-in-Once-clause-not_served : goal.returns-in-Once-clause-not_served
-returns-in-Once-clause-not_served g c = λ store port count rule asked. absurd (subst (IsServeAsk store port count rule) c.in-Once.is asked)
+pub returns-in-OneQuestion-clause-not_served : goal.returns-in-OneQuestion-clause-not_served
+returns-in-OneQuestion-clause-not_served g c = λ store port count rule asked. absurd (subst (IsServeAsk store port count rule) c.in-OneQuestion.is asked)
 
-pub returns-in-Once-clause-imported : goal.returns-in-Once-clause-imported
-returns-in-Once-clause-imported g c = λ asked. absurd (subst TellsInRows c.in-Once.is asked)
+pub returns-in-OneQuestion-clause-imported : goal.returns-in-OneQuestion-clause-imported
+returns-in-OneQuestion-clause-imported g c = λ asked. absurd (subst TellsInRows c.in-OneQuestion.is asked)
 
-pub returns-in-Once-clause-not_imported : goal.returns-in-Once-clause-not_imported
-returns-in-Once-clause-not_imported g c = λ asked. absurd (subst TellsInRows c.in-Once.is asked)
+pub returns-in-OneQuestion-clause-not_imported : goal.returns-in-OneQuestion-clause-not_imported
+returns-in-OneQuestion-clause-not_imported g c = λ asked. absurd (subst TellsInRows c.in-OneQuestion.is asked)
 
 pub returns-in-File-clause-checked : goal.returns-in-File-clause-checked
 returns-in-File-clause-checked g c = λ acc asked. absurd (subst (AsksCheckOf acc) c.in-File.is asked)
@@ -265,21 +265,21 @@ returns-in-Import-clause-checked g c = λ acc asked. absurd (subst (AsksCheckOf 
 pub returns-in-Import-clause-not_answered : goal.returns-in-Import-clause-not_answered
 returns-in-Import-clause-not_answered g c = λ asked. absurd (subst AsksADesk c.in-Import.is asked)
 
-pub returns-in-Once-clause-never : goal.returns-in-Once-clause-never
-returns-in-Once-clause-never g c = IfErr-weaker c.ask_once.result _ _ (λ refusal refused. once_never refusal _ _ refused) c.ask_once.ensures.refused
+pub returns-in-OneQuestion-clause-never : goal.returns-in-OneQuestion-clause-never
+returns-in-OneQuestion-clause-never g c = IfErr-weaker c.ask_once.result _ _ (λ refusal refused. once_never refusal _ _ refused) c.ask_once.ensures.refused
 
-pub returns-in-Once-clause-kept : goal.returns-in-Once-clause-kept
-returns-in-Once-clause-kept g c = IfErr-weaker c.ask_once.result _ _ (λ refusal refused one. inl (once_kept refusal _ _ refused one)) c.ask_once.ensures.refused
+pub returns-in-OneQuestion-clause-kept : goal.returns-in-OneQuestion-clause-kept
+returns-in-OneQuestion-clause-kept g c = IfErr-weaker c.ask_once.result _ _ (λ refusal refused one. inl (once_kept refusal _ _ refused one)) c.ask_once.ensures.refused
 
-pub returns-in-Once-clause-in_part : goal.returns-in-Once-clause-in_part
-returns-in-Once-clause-in_part g c =
-    subst (λ ask. IfOk c.ask_once.result (λ done. done ≡ InPart → TellsOnOutput ask)) (sym c.in-Once.is) c.ask_once.ensures.in_part
+pub returns-in-OneQuestion-clause-in_part : goal.returns-in-OneQuestion-clause-in_part
+returns-in-OneQuestion-clause-in_part g c =
+    subst (λ ask. IfOk c.ask_once.result (λ done. done ≡ InPart → TellsOnOutput ask)) (sym c.in-OneQuestion.is) c.ask_once.ensures.in_part
 
-pub returns-in-Once-clause-checked : goal.returns-in-Once-clause-checked
-returns-in-Once-clause-checked g c = λ acc asked. c.ask_once.ensures.told acc (subst (AsksCheckOf acc) c.in-Once.is asked)
+pub returns-in-OneQuestion-clause-checked : goal.returns-in-OneQuestion-clause-checked
+returns-in-OneQuestion-clause-checked g c = λ acc asked. c.ask_once.ensures.written acc (subst (AsksCheckOf acc) c.in-OneQuestion.is asked)
 
-pub returns-in-Once-clause-not_answered : goal.returns-in-Once-clause-not_answered
-returns-in-Once-clause-not_answered g c = λ asked. c.ask_once.ensures.refused
+pub returns-in-OneQuestion-clause-not_answered : goal.returns-in-OneQuestion-clause-not_answered
+returns-in-OneQuestion-clause-not_answered g c = λ asked. c.ask_once.ensures.refused
 
 -- ---- what is left of the store
 
@@ -302,14 +302,14 @@ returns-in-Import-clause-leaves_refused g c =
     subst (λ ask. IfErr c.import.result (LeavesRefused g.M.Disk.Store (g.M.Machine.left c.args.machine.now) (g.M.Machine.stands c.args.machine.now) (g.M.Machine.left c.import.new.machine)
     (g.W.Write.contents c.args.output.now) (g.W.Write.contents c.import.new.output) ask)) (sym c.in-Import.is) c.import.ensures.opens
 
-pub returns-in-Once-clause-leaves : goal.returns-in-Once-clause-leaves
-returns-in-Once-clause-leaves g c =
-    subst (LeavesBy g.M.Disk.Store (g.M.Machine.clock c.args.machine.now) (g.M.Machine.left c.args.machine.now) (g.M.Machine.stands c.args.machine.now) (g.M.Machine.left c.ask_once.new.machine)) (sym c.in-Once.is) c.ask_once.ensures.steps
+pub returns-in-OneQuestion-clause-leaves : goal.returns-in-OneQuestion-clause-leaves
+returns-in-OneQuestion-clause-leaves g c =
+    subst (LeavesBy g.M.Disk.Store (g.M.Machine.clock c.args.machine.now) (g.M.Machine.left c.args.machine.now) (g.M.Machine.stands c.args.machine.now) (g.M.Machine.left c.ask_once.new.machine)) (sym c.in-OneQuestion.is) c.ask_once.ensures.steps
 
-pub returns-in-Once-clause-leaves_refused : goal.returns-in-Once-clause-leaves_refused
-returns-in-Once-clause-leaves_refused g c =
+pub returns-in-OneQuestion-clause-leaves_refused : goal.returns-in-OneQuestion-clause-leaves_refused
+returns-in-OneQuestion-clause-leaves_refused g c =
     subst (λ ask. IfErr c.ask_once.result (LeavesRefused g.M.Disk.Store (g.M.Machine.left c.args.machine.now) (g.M.Machine.stands c.args.machine.now) (g.M.Machine.left c.ask_once.new.machine)
-    (g.W.Write.contents c.args.output.now) (g.W.Write.contents c.ask_once.new.output) ask)) (sym c.in-Once.is) c.ask_once.ensures.opens
+    (g.W.Write.contents c.args.output.now) (g.W.Write.contents c.ask_once.new.output) ask)) (sym c.in-OneQuestion.is) c.ask_once.ensures.opens
 
 pub returns-in-File-clause-leaves : goal.returns-in-File-clause-leaves
 returns-in-File-clause-leaves g c =
@@ -406,8 +406,8 @@ returns-in-Import-clause-answers g c =
 pub returns-in-Import-clause-unasked : goal.returns-in-Import-clause-unasked
 returns-in-Import-clause-unasked g c = subst (λ ask. IsUnaskedBy (g.M.Machine.clock c.args.machine.now) ask c.import.result) (sym c.in-Import.is) c.import.ensures.unasked
 
-pub returns-in-Once-clause-unasked : goal.returns-in-Once-clause-unasked
-returns-in-Once-clause-unasked g c = subst (λ ask. IsUnaskedBy (g.M.Machine.clock c.args.machine.now) ask c.ask_once.result) (sym c.in-Once.is) c.ask_once.ensures.unasked
+pub returns-in-OneQuestion-clause-unasked : goal.returns-in-OneQuestion-clause-unasked
+returns-in-OneQuestion-clause-unasked g c = subst (λ ask. IsUnaskedBy (g.M.Machine.clock c.args.machine.now) ask c.ask_once.result) (sym c.in-OneQuestion.is) c.ask_once.ensures.unasked
 
 pub returns-in-Import-clause-imports : goal.returns-in-Import-clause-imports
 returns-in-Import-clause-imports g c =
@@ -421,17 +421,17 @@ returns-in-Import-clause-of_file g c =
 pub returns-in-Import-clause-untouched : goal.returns-in-Import-clause-untouched
 returns-in-Import-clause-untouched g c = λ of. absurd (subst IsOfImage c.in-Import.is of)
 
-pub returns-in-Once-clause-answers : goal.returns-in-Once-clause-answers
-returns-in-Once-clause-answers g c =
+pub returns-in-OneQuestion-clause-answers : goal.returns-in-OneQuestion-clause-answers
+returns-in-OneQuestion-clause-answers g c =
     subst (λ ask. AnswersBy g.M.Disk.Store (g.M.Machine.clock c.args.machine.now) (g.M.Machine.stands c.args.machine.now) (g.M.Machine.left c.ask_once.new.machine)
-    (g.W.Write.contents c.args.output.now) (g.W.Write.contents c.ask_once.new.output) ask c.ask_once.result) (sym c.in-Once.is) c.ask_once.ensures.answers
+    (g.W.Write.contents c.args.output.now) (g.W.Write.contents c.ask_once.new.output) ask c.ask_once.result) (sym c.in-OneQuestion.is) c.ask_once.ensures.answers
 
-pub returns-in-Once-clause-of_file : goal.returns-in-Once-clause-of_file
-returns-in-Once-clause-of_file g c =
-    subst (λ ask. GivesFile (g.M.Files.file_bytes c.args.machine.now) (g.W.Write.contents c.args.output.now) (g.W.Write.contents c.ask_once.new.output) ask c.ask_once.result) (sym c.in-Once.is) tt
+pub returns-in-OneQuestion-clause-of_file : goal.returns-in-OneQuestion-clause-of_file
+returns-in-OneQuestion-clause-of_file g c =
+    subst (λ ask. GivesFile (g.M.Files.file_bytes c.args.machine.now) (g.W.Write.contents c.args.output.now) (g.W.Write.contents c.ask_once.new.output) ask c.ask_once.result) (sym c.in-OneQuestion.is) tt
 
-pub returns-in-Once-clause-untouched : goal.returns-in-Once-clause-untouched
-returns-in-Once-clause-untouched g c = λ of. absurd (subst IsOfImage c.in-Once.is of)
+pub returns-in-OneQuestion-clause-untouched : goal.returns-in-OneQuestion-clause-untouched
+returns-in-OneQuestion-clause-untouched g c = λ of. absurd (subst IsOfImage c.in-OneQuestion.is of)
 
 pub returns-in-File-clause-serves : goal.returns-in-File-clause-serves
 returns-in-File-clause-serves g c =
@@ -463,10 +463,10 @@ returns-in-Import-clause-serves g c =
     (g.M.Machine.stands c.args.machine.now) (g.M.Machine.left c.import.new.machine) ask)) (sym c.in-Import.is)
     (stands_nowhere c.import.result)
 
-pub returns-in-Once-clause-serves : goal.returns-in-Once-clause-serves
-returns-in-Once-clause-serves g c =
+pub returns-in-OneQuestion-clause-serves : goal.returns-in-OneQuestion-clause-serves
+returns-in-OneQuestion-clause-serves g c =
     subst (λ ask. OnOk c.ask_once.result (ServesBy g.M.Disk.Store g.M.Door.Door.told g.M.Door.Door.coming (g.M.Machine.door c.args.machine.now) (g.M.Machine.door c.ask_once.new.machine)
-    (g.M.Machine.stands c.args.machine.now) (g.M.Machine.left c.ask_once.new.machine) ask)) (sym c.in-Once.is)
+    (g.M.Machine.stands c.args.machine.now) (g.M.Machine.left c.ask_once.new.machine) ask)) (sym c.in-OneQuestion.is)
     (stands_nowhere c.ask_once.result)
 
 -- ---- the store, the clock and the sheet
@@ -536,18 +536,18 @@ pub returns-in-Import-clause-bad_sheet : goal.returns-in-Import-clause-bad_sheet
 returns-in-Import-clause-bad_sheet g c =
     subst (λ ask. IfErr c.import.result (RefusesSheetBy (g.M.Files.sheet_bytes c.args.machine.now) ask)) (sym c.in-Import.is) c.import.ensures.bad_sheet
 
-pub returns-in-Once-clause-there : goal.returns-in-Once-clause-there
-returns-in-Once-clause-there g c =
-    subst (λ ask. OnEnded c.ask_once.result (StandsThere (g.M.Machine.shows c.args.machine.now) (g.M.Machine.stands c.args.machine.now) (g.M.Machine.left c.ask_once.new.machine) ask)) (sym c.in-Once.is)
+pub returns-in-OneQuestion-clause-there : goal.returns-in-OneQuestion-clause-there
+returns-in-OneQuestion-clause-there g c =
+    subst (λ ask. OnEnded c.ask_once.result (StandsThere (g.M.Machine.shows c.args.machine.now) (g.M.Machine.stands c.args.machine.now) (g.M.Machine.left c.ask_once.new.machine) ask)) (sym c.in-OneQuestion.is)
     c.ask_once.ensures.there
 
-pub returns-in-Once-clause-clock : goal.returns-in-Once-clause-clock
-returns-in-Once-clause-clock g c =
-    subst (λ ask. IfErr c.ask_once.result (IsClockDueBy g.M.Disk.Store (g.M.Machine.stands c.args.machine.now) (g.M.Machine.left c.ask_once.new.machine) ask)) (sym c.in-Once.is) c.ask_once.ensures.clock
+pub returns-in-OneQuestion-clause-clock : goal.returns-in-OneQuestion-clause-clock
+returns-in-OneQuestion-clause-clock g c =
+    subst (λ ask. IfErr c.ask_once.result (IsClockDueBy g.M.Disk.Store (g.M.Machine.stands c.args.machine.now) (g.M.Machine.left c.ask_once.new.machine) ask)) (sym c.in-OneQuestion.is) c.ask_once.ensures.clock
 
-pub returns-in-Once-clause-bad_sheet : goal.returns-in-Once-clause-bad_sheet
-returns-in-Once-clause-bad_sheet g c =
-    subst (λ ask. IfErr c.ask_once.result (RefusesSheetBy (g.M.Files.sheet_bytes c.args.machine.now) ask)) (sym c.in-Once.is) (no_refusal c.ask_once.result)
+pub returns-in-OneQuestion-clause-bad_sheet : goal.returns-in-OneQuestion-clause-bad_sheet
+returns-in-OneQuestion-clause-bad_sheet g c =
+    subst (λ ask. IfErr c.ask_once.result (RefusesSheetBy (g.M.Files.sheet_bytes c.args.machine.now) ask)) (sym c.in-OneQuestion.is) (no_refusal c.ask_once.result)
 
 pub returns-in-File-clause-asked : goal.returns-in-File-clause-asked
 returns-in-File-clause-asked g c =
@@ -569,6 +569,6 @@ pub returns-in-Import-clause-asked : goal.returns-in-Import-clause-asked
 returns-in-Import-clause-asked g c =
     subst (λ ask. AsksBy (g.M.Machine.paths c.args.machine.now) ask (g.M.Machine.paths c.import.new.machine)) (sym c.in-Import.is) c.import.ensures.asked
 
-pub returns-in-Once-clause-asked : goal.returns-in-Once-clause-asked
-returns-in-Once-clause-asked g c =
-    subst (λ ask. AsksBy (g.M.Machine.paths c.args.machine.now) ask (g.M.Machine.paths c.ask_once.new.machine)) (sym c.in-Once.is) c.ask_once.ensures.asked
+pub returns-in-OneQuestion-clause-asked : goal.returns-in-OneQuestion-clause-asked
+returns-in-OneQuestion-clause-asked g c =
+    subst (λ ask. AsksBy (g.M.Machine.paths c.args.machine.now) ask (g.M.Machine.paths c.ask_once.new.machine)) (sym c.in-OneQuestion.is) c.ask_once.ensures.asked

@@ -11,28 +11,28 @@ use Rattle.rd_commands.specs.declared.words.Question.TheVariants.{Catalogue, Che
 use Rattle.httparse.specs.Grammar.{trim_ows}
 use Rattle.sha2.specs.Sha256.{sha256}
 use Rattle.rd_protocol.specs.declared.request.What.TheVariants as request
-use Rattle.rd_commands.specs.Refusals.{IsOfDevice}
+use Rattle.rd_commands.specs.Refusals.{IsDeviceOrMemory}
 use Rattle.rd_program.specs.Leaves.{IsDayBy, moment_of}
 use Rattle.rd_program.specs.Showing.{EndsWith, FindsStore, found_by, what_of}
 use Rattle.rd_commands.proofs.HelpLine.{help_not_taken}
 use Rattle.rd_program.specs.Rows.{IsBadSheetDue, TakesSheetIn}
 use Rattle.rd_program.proofs.RowLemmas.{import_at_1, imports_by, no_memory_sheet, sheet_of_words}
 use Rattle.rd_program.specs.Serving.{IsUnaskedRefusal}
-use Rattle.rd_program.proofs.Unasked.{always, command_at, import_clock, once_clock, unasked_by}
-use Rattle.rd_program.proofs.Visiting.{serves_by}
-use Rattle.rd_program.proofs.Filed.{files_done, files_refused, help_told, of_image, one_file_done, one_file_refused}
-use Rattle.rd_commands.proofs.Asked.{help_asked, no_fault_in}
+use Rattle.rd_program.proofs.DaylessMoments.{always, command_at, import_clock, once_clock, unasked_by}
+use Rattle.rd_program.proofs.VisitLemmas.{serves_by}
+use Rattle.rd_program.proofs.FileLemmas.{files_done, files_refused, help_told, of_image, one_file_done, one_file_refused}
+use Rattle.rd_commands.proofs.GetterLemmas.{help_asked, no_fault_in}
 use Rattle.std.proofs.KnownBytes.{Keeps-refl}
-use Rattle.rd_program.proofs.Answered.{check_asks, check_of_desk, export_is_whole, show_is_whole}
-use Rattle.rd_program.proofs.Imported.{done_lines, import_tells, in_part_is_one, not_in_rows, one_is_some, rows_of, rows_tell}
-use Rattle.rd_program.proofs.Left.{none_still, still_left}
+use Rattle.rd_program.proofs.AnswerLemmas.{check_asks, check_of_desk, export_is_whole, show_is_whole}
+use Rattle.rd_program.proofs.ImportLemmas.{done_lines, import_tells, in_part_is_one, not_in_rows, one_is_some, rows_of, rows_tell}
+use Rattle.rd_program.proofs.LeftStores.{none_still, still_left}
 use Rattle.rd_program.proofs.Named.{asks_by, asks_none, command_of_store, has_both_by, one_of_status}
-use Rattle.rd_program.proofs.Showing.{memory_no_accession, once_due, once_finds, once_not_shown, once_shows}
-use Rattle.rd_program.proofs.LeftBy.{import_leaves, import_names, once_leaves, once_names, serve_leaves, serve_refused}
-use Rattle.rd_commands.proofs.Ran.{is_cut, kept_is_cut, no_sound_file, not_done, of_all, of_known, reads_few, reads_no_input, reads_of_kind, tells}
-use Rattle.rd_commands.proofs.ReadUpTo.{reads_none, reads_within}
+use Rattle.rd_program.proofs.ShowLemmas.{memory_no_accession, once_due, once_finds, once_not_shown, once_shows}
+use Rattle.rd_program.proofs.LeftStoresByWords.{import_leaves, import_names, once_leaves, once_names, serve_leaves, serve_refused}
+use Rattle.rd_commands.proofs.RunLemmas.{is_cut, kept_is_cut, no_sound_file, not_done, of_all, of_known, reads_few, reads_no_input, reads_of_kind, tells}
+use Rattle.rd_commands.proofs.ReadLimits.{reads_none, reads_within}
 use Rattle.rd_commands.proofs.VersionLine.{version_asked, version_no_help, version_not_taken}
-use Rattle.rd_commands.proofs.Written.{none_written}
+use Rattle.rd_commands.proofs.WriterLemmas.{none_written}
 use Rattle.rd_program.proofs.dispatch.run.Goals as goal
 
 pub returns-in-Ok-perform-clause-command : goal.returns-in-Ok-perform-clause-command
@@ -68,18 +68,18 @@ returns-in-Err-perform-clause-refused_command g c = λ one. c.in-Ok.ensures.take
 pub returns-in-Err-perform-clause-silent : goal.returns-in-Err-perform-clause-silent
 returns-in-Err-perform-clause-silent g c = λ zero. absurd (not_done c.in-Err-perform.refused (sym c.tell_refusal.ensures.status ∙ zero))
 
-pub returns-in-Err-perform-clause-told : goal.returns-in-Err-perform-clause-told
-returns-in-Err-perform-clause-told g c = λ three. tells (λ _. ⊤) c.in-Err-perform.refused _ _ _ tt c.tell_refusal.ensures.status c.tell_refusal.ensures.told
+pub returns-in-Err-perform-clause-names_failure : goal.returns-in-Err-perform-clause-names_failure
+returns-in-Err-perform-clause-names_failure g c = λ three. tells (λ _. ⊤) c.in-Err-perform.refused _ _ _ tt c.tell_refusal.ensures.status c.tell_refusal.ensures.written
 
-pub returns-in-Err-perform-clause-refused_told : goal.returns-in-Err-perform-clause-refused_told
-returns-in-Err-perform-clause-refused_told g c = λ one.
-    inl (tells (λ _. ⊤) c.in-Err-perform.refused _ _ _ tt c.tell_refusal.ensures.status c.tell_refusal.ensures.told)
+pub returns-in-Err-perform-clause-names_refusal : goal.returns-in-Err-perform-clause-names_refusal
+returns-in-Err-perform-clause-names_refusal g c = λ one.
+    inl (tells (λ _. ⊤) c.in-Err-perform.refused _ _ _ tt c.tell_refusal.ensures.status c.tell_refusal.ensures.written)
 
 pub returns-in-Err-perform-clause-refused : goal.returns-in-Err-perform-clause-refused
 returns-in-Err-perform-clause-refused g c = λ one.
     elim (c.in-Err-perform.ensures.kept (sym c.tell_refusal.ensures.status ∙ one)) [
       | inl kept ↦ inl kept
-      | inr rows ↦ inr (c.in-Ok.ensures.told_on_output (rows_tell c.in-Ok.ask rows))
+      | inr rows ↦ inr (c.in-Ok.ensures.written_on_output (rows_tell c.in-Ok.ask rows))
     ]
 
 pub returns-in-Err-perform-clause-limit : goal.returns-in-Err-perform-clause-limit
@@ -107,34 +107,34 @@ returns-in-Err-perform-clause-cut g c = λ three kind slot asked.
     of_known (g.R.Read.remaining c.args.input.now) (λ image. is_cut c.in-Err-perform.refused kind slot image _ _ status)
     (c.in-Err-perform.ensures.refused kind slot (c.in-Ok.ensures.read.file kind (codes "-") slot asked))
 
-pub returns-in-Err-perform-clause-told_why : goal.returns-in-Err-perform-clause-told_why
-returns-in-Err-perform-clause-told_why g c = λ some kind slot asked.
-    of_known (g.R.Read.remaining c.args.input.now) (λ image why. tells _ c.in-Err-perform.refused _ _ _ why c.tell_refusal.ensures.status c.tell_refusal.ensures.told)
+pub returns-in-Err-perform-clause-cat_due : goal.returns-in-Err-perform-clause-cat_due
+returns-in-Err-perform-clause-cat_due g c = λ some kind slot asked.
+    of_known (g.R.Read.remaining c.args.input.now) (λ image why. tells _ c.in-Err-perform.refused _ _ _ why c.tell_refusal.ensures.status c.tell_refusal.ensures.written)
     (c.in-Err-perform.ensures.refused kind slot (c.in-Ok.ensures.read.file kind (codes "-") slot asked))
 
 pub returns-in-Err-perform-clause-listed : goal.returns-in-Err-perform-clause-listed
 returns-in-Err-perform-clause-listed g c = λ zero. absurd (not_done c.in-Err-perform.refused (sym c.tell_refusal.ensures.status ∙ zero))
 
-pub returns-in-Err-perform-clause-list_told : goal.returns-in-Err-perform-clause-list_told
-returns-in-Err-perform-clause-list_told g c = λ some kind asked.
-    of_known (g.R.Read.remaining c.args.input.now) (λ image why. tells _ c.in-Err-perform.refused _ _ _ why c.tell_refusal.ensures.status c.tell_refusal.ensures.told)
+pub returns-in-Err-perform-clause-list_due : goal.returns-in-Err-perform-clause-list_due
+returns-in-Err-perform-clause-list_due g c = λ some kind asked.
+    of_known (g.R.Read.remaining c.args.input.now) (λ image why. tells _ c.in-Err-perform.refused _ _ _ why c.tell_refusal.ensures.status c.tell_refusal.ensures.written)
     (c.in-Err-perform.ensures.list_refused kind (c.in-Ok.ensures.read.files kind (codes "-") asked))
 
 pub returns-in-Err-clause-command : goal.returns-in-Err-clause-command
 returns-in-Err-clause-command g c = λ zero. inr (elim (c.tell_unread.ensures.shown zero) [
-  | inl help ↦ inl (help_asked _ c.in-Err.unread help c.in-Err.ensures.told)
-  | inr version ↦ inr (version_asked _ c.in-Err.unread version.0 c.in-Err.ensures.told, version.1)
+  | inl help ↦ inl (help_asked _ c.in-Err.unread help c.in-Err.ensures.mistake_in)
+  | inr version ↦ inr (version_asked _ c.in-Err.unread version.0 c.in-Err.ensures.mistake_in, version.1)
 ])
 
 pub returns-in-Err-clause-refused_command : goal.returns-in-Err-clause-refused_command
 returns-in-Err-clause-refused_command g c = λ one. absurd (c.tell_unread.ensures.not_refused one)
 
-pub returns-in-Err-clause-told : goal.returns-in-Err-clause-told
-returns-in-Err-clause-told g c = λ three.
-    subst (λ s. Tells (λ _. ⊤) s (g.E.Write.contents c.args.errors.now) (g.E.Write.contents c.tell_unread.new.errors)) (sym three) (c.tell_unread.ensures.told three)
+pub returns-in-Err-clause-names_failure : goal.returns-in-Err-clause-names_failure
+returns-in-Err-clause-names_failure g c = λ three.
+    subst (λ s. Tells (λ _. ⊤) s (g.E.Write.contents c.args.errors.now) (g.E.Write.contents c.tell_unread.new.errors)) (sym three) (c.tell_unread.ensures.written three)
 
-pub returns-in-Err-clause-refused_told : goal.returns-in-Err-clause-refused_told
-returns-in-Err-clause-refused_told g c = λ one. absurd (c.tell_unread.ensures.not_refused one)
+pub returns-in-Err-clause-names_refusal : goal.returns-in-Err-clause-names_refusal
+returns-in-Err-clause-names_refusal g c = λ one. absurd (c.tell_unread.ensures.not_refused one)
 
 pub returns-in-Err-clause-refused : goal.returns-in-Err-clause-refused
 returns-in-Err-clause-refused g c = λ one. absurd (c.tell_unread.ensures.not_refused one)
@@ -163,8 +163,8 @@ returns-in-Err-clause-cut g c = λ three kind slot asked.
     let memory = c.tell_unread.ensures.memory (c.in-Err.ensures.unread (inl (kind, codes "-", slot, asked))) in
     kept_is_cut _ kind slot _ _ memory.1
 
-pub returns-in-Err-clause-told_why : goal.returns-in-Err-clause-told_why
-returns-in-Err-clause-told_why g c = λ some kind slot asked.
+pub returns-in-Err-clause-cat_due : goal.returns-in-Err-clause-cat_due
+returns-in-Err-clause-cat_due g c = λ some kind slot asked.
     let none = c.in-Err.ensures.unread (inl (kind, codes "-", slot, asked)) in
     let memory = c.tell_unread.ensures.memory none in
     of_all (g.R.Read.remaining c.args.input.now) (λ image. tells _ NoMemory _ _ _ memory.1 memory.0 (c.tell_unread.ensures.no_memory none))
@@ -174,8 +174,8 @@ returns-in-Err-clause-listed g c = λ zero kind asked.
     let memory = c.tell_unread.ensures.memory (c.in-Err.ensures.unread (inr (inl (kind, codes "-", asked)))) in
     let three : c.tell_unread.result ≡ 3 = memory.0 in absurd (omega arith)
 
-pub returns-in-Err-clause-list_told : goal.returns-in-Err-clause-list_told
-returns-in-Err-clause-list_told g c = λ some kind asked.
+pub returns-in-Err-clause-list_due : goal.returns-in-Err-clause-list_due
+returns-in-Err-clause-list_due g c = λ some kind asked.
     let none = c.in-Err.ensures.unread (inr (inl (kind, codes "-", asked))) in
     let memory = c.tell_unread.ensures.memory none in
     of_all (g.R.Read.remaining c.args.input.now) (λ image. tells _ NoMemory _ _ _ memory.1 memory.0 (c.tell_unread.ensures.no_memory none))
@@ -190,31 +190,31 @@ returns-in-Ok-perform-clause-served g c = λ zero store port count rule asked.
 pub returns-in-Err-perform-clause-made : goal.returns-in-Err-perform-clause-made
 returns-in-Err-perform-clause-made g c = λ zero. absurd (not_done c.in-Err-perform.refused (sym c.tell_refusal.ensures.status ∙ zero))
 
-pub returns-in-Err-perform-clause-init_told : goal.returns-in-Err-perform-clause-init_told
-returns-in-Err-perform-clause-init_told g c = λ some store key asked.
+pub returns-in-Err-perform-clause-init_due : goal.returns-in-Err-perform-clause-init_due
+returns-in-Err-perform-clause-init_due g c = λ some store key asked.
     tells _ c.in-Err-perform.refused _ _ _ (c.in-Err-perform.ensures.not_made store key (c.in-Ok.ensures.read.init store key asked))
-    c.tell_refusal.ensures.status c.tell_refusal.ensures.told
+    c.tell_refusal.ensures.status c.tell_refusal.ensures.written
 
 pub returns-in-Err-perform-clause-served : goal.returns-in-Err-perform-clause-served
 returns-in-Err-perform-clause-served g c = λ zero. absurd (not_done c.in-Err-perform.refused (sym c.tell_refusal.ensures.status ∙ zero))
 
-pub returns-in-Err-perform-clause-serve_told : goal.returns-in-Err-perform-clause-serve_told
-returns-in-Err-perform-clause-serve_told g c = λ some store port count rule asked.
+pub returns-in-Err-perform-clause-serve_due : goal.returns-in-Err-perform-clause-serve_due
+returns-in-Err-perform-clause-serve_due g c = λ some store port count rule asked.
     let asks = c.in-Ok.ensures.read.serve store port count rule asked in
     tells _ c.in-Err-perform.refused _ _ _ (
       c.in-Err-perform.ensures.not_served store port count rule asks,
       serve_refused g.M.Disk.Store (g.M.Machine.clock c.args.machine.now) (g.M.Machine.left c.args.machine.now) (g.M.Machine.stands c.args.machine.now) (g.M.Machine.left c.perform.new.machine)
           c.in-Ok.ask store port count rule (g.W.Write.contents c.args.output.now) (g.W.Write.contents c.perform.new.output) c.in-Err-perform.refused asks c.in-Err-perform.ensures.leaves_refused,
     )
-    c.tell_refusal.ensures.status c.tell_refusal.ensures.told
+    c.tell_refusal.ensures.status c.tell_refusal.ensures.written
 
 pub returns-in-Err-clause-made : goal.returns-in-Err-clause-made
 returns-in-Err-clause-made g c = λ zero store key asked.
     let memory = c.tell_unread.ensures.memory (c.in-Err.ensures.unread (inr (inr (inl (store, key, asked))))) in
     let three : c.tell_unread.result ≡ 3 = memory.0 in absurd (omega arith)
 
-pub returns-in-Err-clause-init_told : goal.returns-in-Err-clause-init_told
-returns-in-Err-clause-init_told g c = λ some store key asked.
+pub returns-in-Err-clause-init_due : goal.returns-in-Err-clause-init_due
+returns-in-Err-clause-init_due g c = λ some store key asked.
     let none = c.in-Err.ensures.unread (inr (inr (inl (store, key, asked)))) in
     let memory = c.tell_unread.ensures.memory none in
     tells _ NoMemory _ _ _ ((memory.1, inr (inr refl)), none_still (g.M.Machine.left c.args.machine.now)) memory.0 (c.tell_unread.ensures.no_memory none)
@@ -224,8 +224,8 @@ returns-in-Err-clause-served g c = λ zero store port count rule asked.
     let memory = c.tell_unread.ensures.memory (c.in-Err.ensures.unread (inr (inr (inr (inl (store, port, count, rule, asked)))))) in
     let three : c.tell_unread.result ≡ 3 = memory.0 in absurd (omega arith)
 
-pub returns-in-Err-clause-serve_told : goal.returns-in-Err-clause-serve_told
-returns-in-Err-clause-serve_told g c = λ some store port count rule asked.
+pub returns-in-Err-clause-serve_due : goal.returns-in-Err-clause-serve_due
+returns-in-Err-clause-serve_due g c = λ some store port count rule asked.
     let none = c.in-Err.ensures.unread (inr (inr (inr (inl (store, port, count, rule, asked))))) in
     let memory = c.tell_unread.ensures.memory none in
     tells _ NoMemory _ _ _ (none_written _ _ (serve_text port count) memory.1, inr (still_left (g.M.Machine.left c.args.machine.now) (g.M.Machine.stands c.args.machine.now store) _)) memory.0 (c.tell_unread.ensures.no_memory none)
@@ -235,35 +235,35 @@ returns-in-Err-clause-serve_told g c = λ some store port count rule asked.
 pub returns-in-Ok-perform-clause-refused_command : goal.returns-in-Ok-perform-clause-refused_command
 returns-in-Ok-perform-clause-refused_command g c = λ one. c.in-Ok.ensures.taken
 
-pub returns-in-Ok-perform-clause-told : goal.returns-in-Ok-perform-clause-told
-returns-in-Ok-perform-clause-told g c = λ three. absurd (omega (arith, c.status.ensures.most, three))
+pub returns-in-Ok-perform-clause-names_failure : goal.returns-in-Ok-perform-clause-names_failure
+returns-in-Ok-perform-clause-names_failure g c = λ three. absurd (omega (arith, c.status.ensures.most, three))
 
-pub returns-in-Ok-perform-clause-refused_told : goal.returns-in-Ok-perform-clause-refused_told
-returns-in-Ok-perform-clause-refused_told g c = λ one.
-    inr (Keeps-refl _, c.in-Ok.ensures.told_on_output (c.in-Ok-perform.ensures.in_part (c.status.ensures.in_part (one_is_some one))))
+pub returns-in-Ok-perform-clause-names_refusal : goal.returns-in-Ok-perform-clause-names_refusal
+returns-in-Ok-perform-clause-names_refusal g c = λ one.
+    inr (Keeps-refl _, c.in-Ok.ensures.written_on_output (c.in-Ok-perform.ensures.in_part (c.status.ensures.in_part (one_is_some one))))
 
 pub returns-in-Ok-perform-clause-refused : goal.returns-in-Ok-perform-clause-refused
 returns-in-Ok-perform-clause-refused g c = λ one.
-    inr (c.in-Ok.ensures.told_on_output (c.in-Ok-perform.ensures.in_part (c.status.ensures.in_part (one_is_some one))))
+    inr (c.in-Ok.ensures.written_on_output (c.in-Ok-perform.ensures.in_part (c.status.ensures.in_part (one_is_some one))))
 
 pub returns-in-Ok-perform-clause-no_sound_file : goal.returns-in-Ok-perform-clause-no_sound_file
 returns-in-Ok-perform-clause-no_sound_file g c = λ one kind slot asked.
     absurd (not_in_rows _ c.in-Ok.ask c.in-Ok.ensures.read (c.in-Ok-perform.ensures.in_part (c.status.ensures.in_part (one_is_some one))) (inl (kind, codes "-", slot, asked)))
 
-pub returns-in-Ok-perform-clause-told_why : goal.returns-in-Ok-perform-clause-told_why
-returns-in-Ok-perform-clause-told_why g c = λ some kind slot asked.
+pub returns-in-Ok-perform-clause-cat_due : goal.returns-in-Ok-perform-clause-cat_due
+returns-in-Ok-perform-clause-cat_due g c = λ some kind slot asked.
     absurd (not_in_rows _ c.in-Ok.ask c.in-Ok.ensures.read (c.in-Ok-perform.ensures.in_part (c.status.ensures.in_part some)) (inl (kind, codes "-", slot, asked)))
 
-pub returns-in-Ok-perform-clause-list_told : goal.returns-in-Ok-perform-clause-list_told
-returns-in-Ok-perform-clause-list_told g c = λ some kind asked.
+pub returns-in-Ok-perform-clause-list_due : goal.returns-in-Ok-perform-clause-list_due
+returns-in-Ok-perform-clause-list_due g c = λ some kind asked.
     absurd (not_in_rows _ c.in-Ok.ask c.in-Ok.ensures.read (c.in-Ok-perform.ensures.in_part (c.status.ensures.in_part some)) (inr (inl (kind, codes "-", asked))))
 
-pub returns-in-Ok-perform-clause-init_told : goal.returns-in-Ok-perform-clause-init_told
-returns-in-Ok-perform-clause-init_told g c = λ some store key asked.
+pub returns-in-Ok-perform-clause-init_due : goal.returns-in-Ok-perform-clause-init_due
+returns-in-Ok-perform-clause-init_due g c = λ some store key asked.
     absurd (not_in_rows _ c.in-Ok.ask c.in-Ok.ensures.read (c.in-Ok-perform.ensures.in_part (c.status.ensures.in_part some)) (inr (inr (inl (store, key, asked)))))
 
-pub returns-in-Ok-perform-clause-serve_told : goal.returns-in-Ok-perform-clause-serve_told
-returns-in-Ok-perform-clause-serve_told g c = λ some store port count rule asked.
+pub returns-in-Ok-perform-clause-serve_due : goal.returns-in-Ok-perform-clause-serve_due
+returns-in-Ok-perform-clause-serve_due g c = λ some store port count rule asked.
     absurd (not_in_rows _ c.in-Ok.ask c.in-Ok.ensures.read (c.in-Ok-perform.ensures.in_part (c.status.ensures.in_part some)) (inr (inr (inr (store, port, count, rule, asked)))))
 
 pub returns-in-Ok-perform-clause-usage : goal.returns-in-Ok-perform-clause-usage
@@ -281,8 +281,8 @@ pub returns-in-Ok-perform-clause-imported : goal.returns-in-Ok-perform-clause-im
 returns-in-Ok-perform-clause-imported g c = λ zero asks.
     done_lines c.in-Ok-perform.done _ _ (c.status.ensures.whole zero) (c.in-Ok-perform.ensures.imported (import_tells _ c.in-Ok.ask c.in-Ok.ensures.read asks))
 
-pub returns-in-Ok-perform-clause-import_told : goal.returns-in-Ok-perform-clause-import_told
-returns-in-Ok-perform-clause-import_told g c = λ some store key sheet moment rule asks.
+pub returns-in-Ok-perform-clause-import_due : goal.returns-in-Ok-perform-clause-import_due
+returns-in-Ok-perform-clause-import_due g c = λ some store key sheet moment rule asks.
     inl (
       in_part_is_one _ c.status.ensures.most some,
       Keeps-refl _,
@@ -292,8 +292,8 @@ returns-in-Ok-perform-clause-import_told g c = λ some store key sheet moment ru
 pub returns-in-Err-perform-clause-imported : goal.returns-in-Err-perform-clause-imported
 returns-in-Err-perform-clause-imported g c = λ zero. absurd (not_done c.in-Err-perform.refused (sym c.tell_refusal.ensures.status ∙ zero))
 
-pub returns-in-Err-perform-clause-import_told : goal.returns-in-Err-perform-clause-import_told
-returns-in-Err-perform-clause-import_told g c = λ some store key sheet moment rule asks.
+pub returns-in-Err-perform-clause-import_due : goal.returns-in-Err-perform-clause-import_due
+returns-in-Err-perform-clause-import_due g c = λ some store key sheet moment rule asks.
     let names = import_names g.M.Disk.Store (g.M.Machine.clock c.args.machine.now) (g.M.Machine.left c.args.machine.now) (g.M.Machine.stands c.args.machine.now) (g.M.Machine.left c.perform.new.machine)
     c.in-Ok.ask store key sheet moment rule (g.W.Write.contents c.args.output.now) (g.W.Write.contents c.perform.new.output) c.in-Err-perform.refused (c.in-Ok.ensures.read.import store key sheet moment rule asks) c.in-Err-perform.ensures.leaves_refused in
     inr (tells _ c.in-Err-perform.refused _ _ _ (
@@ -304,15 +304,15 @@ returns-in-Err-perform-clause-import_told g c = λ some store key sheet moment r
       sheet_of_words (g.M.Files.sheet_bytes c.args.machine.now) c.in-Ok.ask c.in-Err-perform.refused store key sheet moment rule (c.in-Ok.ensures.read.import store key sheet moment rule asks)
           c.in-Err-perform.ensures.bad_sheet,
     )
-    c.tell_refusal.ensures.status c.tell_refusal.ensures.told)
+    c.tell_refusal.ensures.status c.tell_refusal.ensures.written)
 
 pub returns-in-Err-clause-imported : goal.returns-in-Err-clause-imported
 returns-in-Err-clause-imported g c = λ zero asks.
     let memory = c.tell_unread.ensures.memory (c.in-Err.ensures.unread (inr (inr (inr (inr (inl asks)))))) in
     let three : c.tell_unread.result ≡ 3 = memory.0 in absurd (omega arith)
 
-pub returns-in-Err-clause-import_told : goal.returns-in-Err-clause-import_told
-returns-in-Err-clause-import_told g c = λ some store key sheet moment rule asks.
+pub returns-in-Err-clause-import_due : goal.returns-in-Err-clause-import_due
+returns-in-Err-clause-import_due g c = λ some store key sheet moment rule asks.
     let none = c.in-Err.ensures.unread (inr (inr (inr (inr (inl (store, key, sheet, moment, rule, asks)))))) in
     let memory = c.tell_unread.ensures.memory none in
     inr (tells _ NoMemory _ _ _ (inr (inl (inr (inr (inr (inr refl)))), memory.1), tt, tt, no_memory_sheet (g.M.Files.sheet_bytes c.args.machine.now sheet)) memory.0 (c.tell_unread.ensures.no_memory none))
@@ -323,8 +323,8 @@ pub returns-in-Ok-perform-clause-sound : goal.returns-in-Ok-perform-clause-sound
 returns-in-Ok-perform-clause-sound g c = λ zero acc asks.
     subst (TellsCheck acc _ _) (c.status.ensures.whole zero) (c.in-Ok-perform.ensures.checked acc (check_asks _ acc c.in-Ok.ask c.in-Ok.ensures.read asks))
 
-pub returns-in-Ok-perform-clause-check_told : goal.returns-in-Ok-perform-clause-check_told
-returns-in-Ok-perform-clause-check_told g c = λ some store key acc moment rule asks.
+pub returns-in-Ok-perform-clause-check_due : goal.returns-in-Ok-perform-clause-check_due
+returns-in-Ok-perform-clause-check_due g c = λ some store key acc moment rule asks.
     let found = once_finds g.M.Disk.Store (g.M.Machine.clock c.args.machine.now) (g.M.Machine.stands c.args.machine.now) (g.M.Machine.left c.perform.new.machine)
     (g.W.Write.contents c.args.output.now) (g.W.Write.contents c.perform.new.output) (Ok c.in-Ok-perform.done)
     store (Some key) acc moment rule c.in-Ok.ask (c.in-Ok.ensures.read.check store key acc moment rule asks) c.in-Ok-perform.ensures.answers in
@@ -338,15 +338,15 @@ returns-in-Ok-perform-clause-check_told g c = λ some store key acc moment rule 
           (c.status.ensures.in_part some) found,
     )
 
-pub returns-in-Ok-perform-clause-export_told : goal.returns-in-Ok-perform-clause-export_told
-returns-in-Ok-perform-clause-export_told g c = λ some store key moment rule asks.
+pub returns-in-Ok-perform-clause-export_due : goal.returns-in-Ok-perform-clause-export_due
+returns-in-Ok-perform-clause-export_due g c = λ some store key moment rule asks.
     absurd (export_is_whole _ c.in-Ok.ask c.in-Ok.ensures.read (store, key, moment, rule, asks) (c.in-Ok-perform.ensures.in_part (c.status.ensures.in_part some)))
 
 pub returns-in-Err-perform-clause-sound : goal.returns-in-Err-perform-clause-sound
 returns-in-Err-perform-clause-sound g c = λ zero. absurd (not_done c.in-Err-perform.refused (sym c.tell_refusal.ensures.status ∙ zero))
 
-pub returns-in-Err-perform-clause-check_told : goal.returns-in-Err-perform-clause-check_told
-returns-in-Err-perform-clause-check_told g c = λ some store key acc moment rule asks.
+pub returns-in-Err-perform-clause-check_due : goal.returns-in-Err-perform-clause-check_due
+returns-in-Err-perform-clause-check_due g c = λ some store key acc moment rule asks.
     let asked = check_of_desk acc c.in-Ok.ask (check_asks _ acc c.in-Ok.ask c.in-Ok.ensures.read (store, key, moment, rule, asks)) in
     let read = c.in-Ok.ensures.read.check store key acc moment rule asks in
     let names = once_names g.M.Disk.Store (g.M.Machine.clock c.args.machine.now) (g.M.Machine.left c.args.machine.now) (g.M.Machine.stands c.args.machine.now) (g.M.Machine.left c.perform.new.machine)
@@ -356,10 +356,10 @@ returns-in-Err-perform-clause-check_told g c = λ some store key acc moment rule
     store (Some key) (Check acc) moment rule c.in-Ok.ask read c.in-Err-perform.ensures.answers (inl refl) in
     let clock = once_clock g.M.Disk.Store (g.M.Machine.stands c.args.machine.now) (g.M.Machine.left c.perform.new.machine) c.in-Err-perform.refused store moment rule c.in-Ok.ask (Some key) (Check acc)
     read c.in-Err-perform.ensures.clock in
-    inr (tells _ c.in-Err-perform.refused _ _ _ (c.in-Err-perform.ensures.not_answered asked, names, due, clock) c.tell_refusal.ensures.status c.tell_refusal.ensures.told)
+    inr (tells _ c.in-Err-perform.refused _ _ _ (c.in-Err-perform.ensures.not_answered asked, names, due, clock) c.tell_refusal.ensures.status c.tell_refusal.ensures.written)
 
-pub returns-in-Err-perform-clause-export_told : goal.returns-in-Err-perform-clause-export_told
-returns-in-Err-perform-clause-export_told g c = λ some store key moment rule asks.
+pub returns-in-Err-perform-clause-export_due : goal.returns-in-Err-perform-clause-export_due
+returns-in-Err-perform-clause-export_due g c = λ some store key moment rule asks.
     let read = c.in-Ok.ensures.read.export store key moment rule asks in
     let names = once_names g.M.Disk.Store (g.M.Machine.clock c.args.machine.now) (g.M.Machine.left c.args.machine.now) (g.M.Machine.stands c.args.machine.now) (g.M.Machine.left c.perform.new.machine)
     c.in-Ok.ask store key Catalogue moment rule (g.W.Write.contents c.args.output.now) (g.W.Write.contents c.perform.new.output) c.in-Err-perform.refused read c.in-Err-perform.ensures.leaves_refused in
@@ -374,21 +374,21 @@ returns-in-Err-perform-clause-export_told g c = λ some store key moment rule as
           store key Catalogue moment rule c.in-Ok.ask read c.in-Err-perform.ensures.answers (inr refl),
       once_clock g.M.Disk.Store (g.M.Machine.stands c.args.machine.now) (g.M.Machine.left c.perform.new.machine) c.in-Err-perform.refused store moment rule c.in-Ok.ask key Catalogue read
           c.in-Err-perform.ensures.clock,
-    ) c.tell_refusal.ensures.status c.tell_refusal.ensures.told
+    ) c.tell_refusal.ensures.status c.tell_refusal.ensures.written
 
 pub returns-in-Err-clause-sound : goal.returns-in-Err-clause-sound
 returns-in-Err-clause-sound g c = λ zero acc asks.
     let memory = c.tell_unread.ensures.memory (c.in-Err.ensures.unread (inr (inr (inr (inr (inr (inr (inl (acc, asks))))))))) in
     let three : c.tell_unread.result ≡ 3 = memory.0 in absurd (omega arith)
 
-pub returns-in-Err-clause-check_told : goal.returns-in-Err-clause-check_told
-returns-in-Err-clause-check_told g c = λ some store key acc moment rule asks.
+pub returns-in-Err-clause-check_due : goal.returns-in-Err-clause-check_due
+returns-in-Err-clause-check_due g c = λ some store key acc moment rule asks.
     let none = c.in-Err.ensures.unread (inr (inr (inr (inr (inr (inr (inl (acc, (store, key, moment, rule, asks))))))))) in
     let memory = c.tell_unread.ensures.memory none in
     inr (tells _ NoMemory _ _ _ (inl (inr (inl (inr refl)), memory.1), tt, tt, tt) memory.0 (c.tell_unread.ensures.no_memory none))
 
-pub returns-in-Err-clause-export_told : goal.returns-in-Err-clause-export_told
-returns-in-Err-clause-export_told g c = λ some store key moment rule asks.
+pub returns-in-Err-clause-export_due : goal.returns-in-Err-clause-export_due
+returns-in-Err-clause-export_due g c = λ some store key moment rule asks.
     let none = c.in-Err.ensures.unread (inr (inr (inr (inr (inr (inl (store, key, moment, rule, asks))))))) in
     let memory = c.tell_unread.ensures.memory none in
     tells _ NoMemory _ _ _ ((inl (inr (inl (inr refl)), memory.1), memory_no_accession), tt, tt, tt) memory.0 (c.tell_unread.ensures.no_memory none)
@@ -398,14 +398,14 @@ returns-in-Err-clause-export_told g c = λ some store key moment rule asks.
 pub returns-in-Ok-perform-clause-version : goal.returns-in-Ok-perform-clause-version
 returns-in-Ok-perform-clause-version g c = λ zero asks. absurd (version_not_taken _ c.in-Ok.ensures.taken asks)
 
-pub returns-in-Ok-perform-clause-version_told : goal.returns-in-Ok-perform-clause-version_told
-returns-in-Ok-perform-clause-version_told g c = λ some asks. absurd (version_not_taken _ c.in-Ok.ensures.taken asks)
+pub returns-in-Ok-perform-clause-version_due : goal.returns-in-Ok-perform-clause-version_due
+returns-in-Ok-perform-clause-version_due g c = λ some asks. absurd (version_not_taken _ c.in-Ok.ensures.taken asks)
 
 pub returns-in-Err-perform-clause-version : goal.returns-in-Err-perform-clause-version
 returns-in-Err-perform-clause-version g c = λ zero asks. absurd (version_not_taken _ c.in-Ok.ensures.taken asks)
 
-pub returns-in-Err-perform-clause-version_told : goal.returns-in-Err-perform-clause-version_told
-returns-in-Err-perform-clause-version_told g c = λ some asks. absurd (version_not_taken _ c.in-Ok.ensures.taken asks)
+pub returns-in-Err-perform-clause-version_due : goal.returns-in-Err-perform-clause-version_due
+returns-in-Err-perform-clause-version_due g c = λ some asks. absurd (version_not_taken _ c.in-Ok.ensures.taken asks)
 
 pub returns-in-Err-clause-version : goal.returns-in-Err-clause-version
 returns-in-Err-clause-version g c = λ zero asks. elim (c.tell_unread.ensures.shown zero) [
@@ -416,8 +416,8 @@ returns-in-Err-clause-version g c = λ zero asks. elim (c.tell_unread.ensures.sh
   | inr version ↦ version.1
 ]
 
-pub returns-in-Err-clause-version_told : goal.returns-in-Err-clause-version_told
-returns-in-Err-clause-version_told g c = λ some asks. elim (c.in-Err.ensures.version asks) [
+pub returns-in-Err-clause-version_due : goal.returns-in-Err-clause-version_due
+returns-in-Err-clause-version_due g c = λ some asks. elim (c.in-Err.ensures.version asks) [
   | inl none ↦ let memory = c.tell_unread.ensures.memory none in
       tells _ NoMemory _ _ _ (memory.1, refl) memory.0 (c.tell_unread.ensures.no_memory none)
   | inr shown ↦ let told = c.tell_unread.ensures.version shown some in
@@ -435,8 +435,8 @@ pub returns-in-Err-clause-zone : goal.returns-in-Err-clause-zone
 returns-in-Err-clause-zone g c = λ well name rows enters clocks.
     let zero : c.tell_unread.result ≡ 0 = omega (arith, c.tell_unread.ensures.not_refused, well) in
     absurd (elim (c.tell_unread.ensures.shown zero) as (λ _. ⊥) [
-      | inl help ↦ no_fault_in _ name rows _ enters (help_asked _ c.in-Err.unread help c.in-Err.ensures.told)
-      | inr version ↦ no_fault_in _ name rows _ enters (version_asked _ c.in-Err.unread version.0 c.in-Err.ensures.told)
+      | inl help ↦ no_fault_in _ name rows _ enters (help_asked _ c.in-Err.unread help c.in-Err.ensures.mistake_in)
+      | inr version ↦ no_fault_in _ name rows _ enters (version_asked _ c.in-Err.unread version.0 c.in-Err.ensures.mistake_in)
     ])
 
 pub returns-in-Ok-perform-clause-no_rule : goal.returns-in-Ok-perform-clause-no_rule
@@ -513,15 +513,15 @@ returns-in-Ok-perform-clause-shown g c = λ zero store key what moment rule aske
     (g.W.Write.contents c.args.output.now) (g.W.Write.contents c.perform.new.output) (Ok c.in-Ok-perform.done)
     store (Some key) (Show what) moment rule c.in-Ok.ask (c.in-Ok.ensures.read.show store key what moment rule asked) c.in-Ok-perform.ensures.answers (what_of what) refl
 
-pub returns-in-Ok-perform-clause-show_refused : goal.returns-in-Ok-perform-clause-show_refused
-returns-in-Ok-perform-clause-show_refused g c = λ some store key what moment rule asked.
+pub returns-in-Ok-perform-clause-show_due : goal.returns-in-Ok-perform-clause-show_due
+returns-in-Ok-perform-clause-show_due g c = λ some store key what moment rule asked.
     absurd (show_is_whole _ c.in-Ok.ask c.in-Ok.ensures.read (store, key, what, moment, rule, asked) (c.in-Ok-perform.ensures.in_part (c.status.ensures.in_part some)))
 
 pub returns-in-Err-perform-clause-shown : goal.returns-in-Err-perform-clause-shown
 returns-in-Err-perform-clause-shown g c = λ zero. absurd (not_done c.in-Err-perform.refused (sym c.tell_refusal.ensures.status ∙ zero))
 
-pub returns-in-Err-perform-clause-show_refused : goal.returns-in-Err-perform-clause-show_refused
-returns-in-Err-perform-clause-show_refused g c = λ some store key what moment rule asked.
+pub returns-in-Err-perform-clause-show_due : goal.returns-in-Err-perform-clause-show_due
+returns-in-Err-perform-clause-show_due g c = λ some store key what moment rule asked.
     let asks = c.in-Ok.ensures.read.show store key what moment rule asked in
     let names = once_names g.M.Disk.Store (g.M.Machine.clock c.args.machine.now) (g.M.Machine.left c.args.machine.now) (g.M.Machine.stands c.args.machine.now) (g.M.Machine.left c.perform.new.machine)
     c.in-Ok.ask store (Some key) (Show what) moment rule (g.W.Write.contents c.args.output.now) (g.W.Write.contents c.perform.new.output) c.in-Err-perform.refused asks c.in-Err-perform.ensures.leaves_refused in
@@ -533,15 +533,15 @@ returns-in-Err-perform-clause-show_refused g c = λ some store key what moment r
     store (Some key) (Show what) moment rule c.in-Ok.ask asks c.in-Err-perform.ensures.answers (inl refl) in
     let clock = once_clock g.M.Disk.Store (g.M.Machine.stands c.args.machine.now) (g.M.Machine.left c.perform.new.machine) c.in-Err-perform.refused store moment rule c.in-Ok.ask (Some key) (Show what)
     asks c.in-Err-perform.ensures.clock in
-    tells _ c.in-Err-perform.refused _ _ _ (why, names, due, clock) c.tell_refusal.ensures.status c.tell_refusal.ensures.told
+    tells _ c.in-Err-perform.refused _ _ _ (why, names, due, clock) c.tell_refusal.ensures.status c.tell_refusal.ensures.written
 
 pub returns-in-Err-clause-shown : goal.returns-in-Err-clause-shown
 returns-in-Err-clause-shown g c = λ zero store key what moment rule asked.
     let memory = c.tell_unread.ensures.memory (c.in-Err.ensures.unread (inr (inr (inr (inr (inr (inr (inr (store, key, what, moment, rule, asked))))))))) in
     let three : c.tell_unread.result ≡ 3 = memory.0 in absurd (omega arith)
 
-pub returns-in-Err-clause-show_refused : goal.returns-in-Err-clause-show_refused
-returns-in-Err-clause-show_refused g c = λ some store key what moment rule asked.
+pub returns-in-Err-clause-show_due : goal.returns-in-Err-clause-show_due
+returns-in-Err-clause-show_due g c = λ some store key what moment rule asked.
     let none = c.in-Err.ensures.unread (inr (inr (inr (inr (inr (inr (inr (store, key, what, moment, rule, asked)))))))) in
     let memory = c.tell_unread.ensures.memory none in
     tells _ NoMemory _ _ _ ((inl (inr (inl (inr refl)), memory.1), memory_no_accession), tt, tt, tt) memory.0 (c.tell_unread.ensures.no_memory none)
@@ -569,8 +569,8 @@ pub returns-in-Err-clause-named : goal.returns-in-Err-clause-named
 returns-in-Err-clause-named g c = λ well rows enters.
     let zero : c.tell_unread.result ≡ 0 = omega (arith, c.tell_unread.ensures.not_refused, well) in
     absurd (elim (c.tell_unread.ensures.shown zero) as (λ _. ⊥) [
-      | inl help ↦ no_fault_in _ (codes "show") rows _ enters (help_asked _ c.in-Err.unread help c.in-Err.ensures.told)
-      | inr version ↦ no_fault_in _ (codes "show") rows _ enters (version_asked _ c.in-Err.unread version.0 c.in-Err.ensures.told)
+      | inl help ↦ no_fault_in _ (codes "show") rows _ enters (help_asked _ c.in-Err.unread help c.in-Err.ensures.mistake_in)
+      | inr version ↦ no_fault_in _ (codes "show") rows _ enters (version_asked _ c.in-Err.unread version.0 c.in-Err.ensures.mistake_in)
     ])
 
 pub returns-in-Ok-perform-clause-none_named : goal.returns-in-Ok-perform-clause-none_named
@@ -666,7 +666,7 @@ returns-in-Err-perform-clause-help g c = λ asks. absurd (help_not_taken _ c.in-
 
 pub returns-in-Err-clause-help : goal.returns-in-Err-clause-help
 returns-in-Err-clause-help g c = λ asks. elim (c.in-Err.ensures.help asks) [
-  | inl none ↦ inr (tells IsOfDevice NoMemory _ _ _ tt (c.tell_unread.ensures.memory none).0 (c.tell_unread.ensures.no_memory none))
+  | inl none ↦ inr (tells IsDeviceOrMemory NoMemory _ _ _ tt (c.tell_unread.ensures.memory none).0 (c.tell_unread.ensures.no_memory none))
   | inr help ↦ help_told c.tell_unread.result (g.E.Write.contents c.args.errors.now) (g.E.Write.contents c.tell_unread.new.errors) (c.tell_unread.ensures.help help)
 ]
 
@@ -718,7 +718,7 @@ returns-in-Err-perform-clause-rows_in_part g c = λ one store key sheet moment r
     let bad = import_at_1 _ _ c.in-Err-perform.refused (c.in-Err-perform.ensures.not_imported (import_tells _ c.in-Ok.ask c.in-Ok.ensures.read (store, key, sheet, moment, rule, asked)))
     (sym c.tell_refusal.ensures.status ∙ one) in
     inr (
-      tells (λ refusal. refusal ≡ BadSheet) c.in-Err-perform.refused _ _ _ bad c.tell_refusal.ensures.status c.tell_refusal.ensures.told,
+      tells (λ refusal. refusal ≡ BadSheet) c.in-Err-perform.refused _ _ _ bad c.tell_refusal.ensures.status c.tell_refusal.ensures.written,
       subst (λ refusal. IfSome (g.M.Files.sheet_bytes c.args.machine.now sheet) (λ bytes. IsBadSheetDue bytes refusal)) bad
           (sheet_of_words (g.M.Files.sheet_bytes c.args.machine.now) c.in-Ok.ask c.in-Err-perform.refused store key sheet moment rule read c.in-Err-perform.ensures.bad_sheet),
     )
@@ -740,7 +740,7 @@ returns-in-Ok-perform-clause-unasked g c = λ store moment rule asks.
 pub returns-in-Err-perform-clause-unasked : goal.returns-in-Err-perform-clause-unasked
 returns-in-Err-perform-clause-unasked g c = λ store moment rule asks.
     unasked_by _ _ (g.M.Machine.clock c.args.machine.now) c.in-Ok.ask (Err c.in-Err-perform.refused) store moment rule c.in-Ok.ensures.read asks c.in-Err-perform.ensures.unasked
-    (λ is. tells IsUnaskedRefusal c.in-Err-perform.refused _ _ _ is c.tell_refusal.ensures.status c.tell_refusal.ensures.told)
+    (λ is. tells IsUnaskedRefusal c.in-Err-perform.refused _ _ _ is c.tell_refusal.ensures.status c.tell_refusal.ensures.written)
 
 pub returns-in-Err-clause-unasked : goal.returns-in-Err-clause-unasked
 returns-in-Err-clause-unasked g c = λ store moment rule asks.
@@ -765,9 +765,9 @@ pub returns-in-Err-clause-mistake : goal.returns-in-Err-clause-mistake
 returns-in-Err-clause-mistake g c = λ none. elim c.tell_unread.ensures.one_of [
   | inl two ↦ inl two
   | inr other ↦ elim other [
-    | inl help ↦ inr (inl (help_asked _ c.in-Err.unread help c.in-Err.ensures.told))
+    | inl help ↦ inr (inl (help_asked _ c.in-Err.unread help c.in-Err.ensures.mistake_in))
     | inr more ↦ elim more [
-      | inl version ↦ inr (inr (inl (version_asked _ c.in-Err.unread version c.in-Err.ensures.told)))
+      | inl version ↦ inr (inr (inl (version_asked _ c.in-Err.unread version c.in-Err.ensures.mistake_in)))
       | inr memory ↦ inr (inr (inr (tells (λ refusal. refusal ≡ NoMemory) NoMemory _ _ _ refl (c.tell_unread.ensures.memory memory).0 (c.tell_unread.ensures.no_memory memory))))
     ]
   ]
@@ -795,13 +795,13 @@ returns-in-Err-clause-there g c = λ well store names.
 
 pub returns-in-Err-perform-clause-file_told : goal.returns-in-Err-perform-clause-file_told
 returns-in-Err-perform-clause-file_told g c = λ some kind path slot other asks.
-    of_known (g.M.Files.file_bytes c.args.machine.now path) (λ image why. tells _ c.in-Err-perform.refused _ _ _ why c.tell_refusal.ensures.status c.tell_refusal.ensures.told)
+    of_known (g.M.Files.file_bytes c.args.machine.now path) (λ image why. tells _ c.in-Err-perform.refused _ _ _ why c.tell_refusal.ensures.status c.tell_refusal.ensures.written)
     (one_file_refused (g.M.Files.file_bytes c.args.machine.now) (g.W.Write.contents c.args.output.now) (g.W.Write.contents c.perform.new.output) c.in-Err-perform.refused
     c.in-Ok.ask kind path slot other (c.in-Ok.ensures.read.file kind path slot asks) c.in-Err-perform.ensures.of_file)
 
 pub returns-in-Err-perform-clause-list_file_told : goal.returns-in-Err-perform-clause-list_file_told
 returns-in-Err-perform-clause-list_file_told g c = λ some kind path other asks.
-    of_known (g.M.Files.file_bytes c.args.machine.now path) (λ image why. tells _ c.in-Err-perform.refused _ _ _ why c.tell_refusal.ensures.status c.tell_refusal.ensures.told)
+    of_known (g.M.Files.file_bytes c.args.machine.now path) (λ image why. tells _ c.in-Err-perform.refused _ _ _ why c.tell_refusal.ensures.status c.tell_refusal.ensures.written)
     (files_refused (g.M.Files.file_bytes c.args.machine.now) (g.W.Write.contents c.args.output.now) (g.W.Write.contents c.perform.new.output) c.in-Err-perform.refused
     c.in-Ok.ask kind path other (c.in-Ok.ensures.read.files kind path asks) c.in-Err-perform.ensures.of_file)
 

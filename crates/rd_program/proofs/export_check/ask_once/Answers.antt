@@ -1,25 +1,25 @@
 use Rattle.std.proofs.Common.{◌∙◌, IsTrue, option_map, subst, sym}
 use Rattle.sha2.specs.Sha256.{sha256}
 use Rattle.rd_program.specs.Leaves.{IsDayAt, LeavesDesk, StepsOf, moment_of}
-use Rattle.rd_program.proofs.Showing.{answers_once, not_opened_once, passed_on}
+use Rattle.rd_program.proofs.ShowLemmas.{answers_once, not_opened_once, passed_on}
 use Rattle.rd_program.proofs.Named.{asked_then}
-use Rattle.rd_program.proofs.Left.{desk_left, gives_back, has_both, on_ended_always, opening_fails, unopened_left}
-use Rattle.rd_program.proofs.Unasked.{clock_ended, opening_no_clock, unasked}
+use Rattle.rd_program.proofs.LeftStores.{desk_left, gives_back, has_both, on_ended_always, opening_fails, unopened_left}
+use Rattle.rd_program.proofs.DaylessMoments.{clock_ended, opening_no_clock, unasked}
 use Rattle.rd_program.proofs.export_check.ask_once.Goals as goal
 
 pub returns-clause-back : goal.returns-clause-back
 returns-clause-back g c =
     gives_back (g.M.Machine.shows c.args.machine.now) (g.M.Machine.left c.args.machine.now) (g.M.Machine.left c.release.new.self) _
-    (λ shows. c.release.ensures.back (subst (λ b. IsTrue b) (sym (c.tell_asked-told.ensures.shows ∙ c.open_desk.ensures.shows)) shows))
+    (λ shows. c.release.ensures.back (subst (λ b. IsTrue b) (sym (c.tell_asked-ended.ensures.shows ∙ c.open_desk.ensures.shows)) shows))
 
 pub returns-clause-steps : goal.returns-clause-steps
 returns-clause-steps g c =
     let opened = c.in_ok-desk.desk.store in
-    let last = c.tell_asked-told.new.desk.store in
+    let last = c.tell_asked-ended.new.desk.store in
     let badge = option_map sha256 (option_map (λ key. key.now) c.args.ask.key) in
     let told = c.args.ask.when.seconds in
     let clock = g.M.Machine.clock c.args.machine.now in
-    let later = subst (λ m. LeavesDesk g.M.Disk.Store (StepsOf badge (IsDayAt (moment_of told m) c.in_ok-desk.desk.zone) c.args.ask.question) opened last) c.in_ok-desk.ensures.clock c.tell_asked-told.ensures.steps in
+    let later = subst (λ m. LeavesDesk g.M.Disk.Store (StepsOf badge (IsDayAt (moment_of told m) c.in_ok-desk.desk.zone) c.args.ask.question) opened last) c.in_ok-desk.ensures.clock c.tell_asked-ended.ensures.steps in
     let steps = subst (λ z. LeavesDesk g.M.Disk.Store (StepsOf badge (IsDayAt (moment_of told clock) z) c.args.ask.question) opened last) c.in_ok-desk.ensures.zone later in
     desk_left g.M.Disk.Store (g.M.Machine.left c.args.machine.now) (g.M.Machine.stands c.args.machine.now c.args.ask.store.now) (g.M.Machine.left c.release.new.self)
     (StepsOf badge (IsDayAt (moment_of told clock) c.args.ask.when.zone) c.args.ask.question) opened last c.into_connection.result
@@ -35,12 +35,12 @@ returns-in_err-desk-clause-steps g c =
 
 pub returns-clause-answers : goal.returns-clause-answers
 returns-clause-answers g c =
-    answers_once g.M.Disk.Store c.args.ask c.tell_asked-told.result (g.M.Machine.stands c.args.machine.now c.args.ask.store.now) (g.M.Machine.left c.release.new.self)
-    c.in_ok-desk.desk.store c.tell_asked-told.new.desk.store c.into_connection.result (g.M.Machine.clock c.args.machine.now) (g.M.Machine.clock c.open_desk.new.machine)
-    c.in_ok-desk.desk.zone (g.W.Write.contents c.args.output.now) (g.W.Write.contents c.tell_asked-told.new.output)
-    c.in_ok-desk.ensures.opened c.tell_asked-told.ensures.steps.lasts (c.into_connection.ensures.same ∙ c.into_store.ensures) c.release.ensures.left
-    c.in_ok-desk.ensures.clock c.in_ok-desk.ensures.zone c.tell_asked-told.ensures.shown c.tell_asked-told.ensures.not_shown
-    c.tell_asked-told.ensures.found c.tell_asked-told.ensures.due c.tell_asked-told.ensures.steps
+    answers_once g.M.Disk.Store c.args.ask c.tell_asked-ended.result (g.M.Machine.stands c.args.machine.now c.args.ask.store.now) (g.M.Machine.left c.release.new.self)
+    c.in_ok-desk.desk.store c.tell_asked-ended.new.desk.store c.into_connection.result (g.M.Machine.clock c.args.machine.now) (g.M.Machine.clock c.open_desk.new.machine)
+    c.in_ok-desk.desk.zone (g.W.Write.contents c.args.output.now) (g.W.Write.contents c.tell_asked-ended.new.output)
+    c.in_ok-desk.ensures.opened c.tell_asked-ended.ensures.steps.lasts (c.into_connection.ensures.same ∙ c.into_store.ensures) c.release.ensures.left
+    c.in_ok-desk.ensures.clock c.in_ok-desk.ensures.zone c.tell_asked-ended.ensures.shown c.tell_asked-ended.ensures.not_shown
+    c.tell_asked-ended.ensures.found c.tell_asked-ended.ensures.due c.tell_asked-ended.ensures.steps
 
 pub returns-in_err-desk-clause-answers : goal.returns-in_err-desk-clause-answers
 returns-in_err-desk-clause-answers g c =
@@ -49,17 +49,17 @@ returns-in_err-desk-clause-answers g c =
 
 pub returns-clause-there : goal.returns-clause-there
 returns-clause-there g c =
-    on_ended_always c.tell_asked-told.result _ (has_both (g.M.Machine.shows c.args.machine.now) (g.M.Machine.stands c.args.machine.now c.args.ask.store.now) (g.M.Machine.left c.release.new.self) _
-    c.in_ok-desk.ensures.there (λ shows. c.release.ensures.back (subst (λ b. IsTrue b) (sym (c.tell_asked-told.ensures.shows ∙ c.open_desk.ensures.shows)) shows)))
+    on_ended_always c.tell_asked-ended.result _ (has_both (g.M.Machine.shows c.args.machine.now) (g.M.Machine.stands c.args.machine.now c.args.ask.store.now) (g.M.Machine.left c.release.new.self) _
+    c.in_ok-desk.ensures.there (λ shows. c.release.ensures.back (subst (λ b. IsTrue b) (sym (c.tell_asked-ended.ensures.shows ∙ c.open_desk.ensures.shows)) shows)))
 
 pub returns-in_err-desk-clause-there : goal.returns-in_err-desk-clause-there
 returns-in_err-desk-clause-there g c = opening_fails c.from_residual.result c.in_err-desk.field-0.0 _ c.from_residual.ensures.1 c.in_err-desk.ensures.refused
 
 pub returns-clause-clock : goal.returns-clause-clock
 returns-clause-clock g c =
-    clock_ended c.tell_asked-told.result g.M.Disk.Store c.args.ask.when.seconds (g.M.Machine.stands c.args.machine.now c.args.ask.store.now) (g.M.Machine.left c.release.new.self)
-    c.in_ok-desk.desk.store c.tell_asked-told.new.desk.store c.into_connection.result c.in_ok-desk.ensures.opened (c.into_connection.ensures.same ∙ c.into_store.ensures)
-    c.release.ensures.left c.tell_asked-told.ensures.clock
+    clock_ended c.tell_asked-ended.result g.M.Disk.Store c.args.ask.when.seconds (g.M.Machine.stands c.args.machine.now c.args.ask.store.now) (g.M.Machine.left c.release.new.self)
+    c.in_ok-desk.desk.store c.tell_asked-ended.new.desk.store c.into_connection.result c.in_ok-desk.ensures.opened (c.into_connection.ensures.same ∙ c.into_store.ensures)
+    c.release.ensures.left c.tell_asked-ended.ensures.clock
 
 pub returns-in_err-desk-clause-clock : goal.returns-in_err-desk-clause-clock
 returns-in_err-desk-clause-clock g c =
@@ -69,10 +69,10 @@ returns-in_err-desk-clause-clock g c =
 
 pub returns-clause-unasked : goal.returns-clause-unasked
 returns-clause-unasked g c =
-    unasked c.args.ask.when.seconds (g.M.Machine.clock c.args.machine.now) (g.M.Machine.clock c.open_desk.new.machine) c.tell_asked-told.result c.in_ok-desk.ensures.clock
-    c.tell_asked-told.ensures.dayless
+    unasked c.args.ask.when.seconds (g.M.Machine.clock c.args.machine.now) (g.M.Machine.clock c.open_desk.new.machine) c.tell_asked-ended.result c.in_ok-desk.ensures.clock
+    c.tell_asked-ended.ensures.dayless
 
 pub returns-clause-asked : goal.returns-clause-asked
 returns-clause-asked g c =
     asked_then (g.M.Machine.paths c.args.machine.now) (g.M.Machine.paths c.open_desk.new.machine) (g.M.Machine.paths c.release.new.self) c.args.ask.store.now c.open_desk.ensures.asked
-    (c.release.ensures.asked ∙ c.tell_asked-told.ensures.asked)
+    (c.release.ensures.asked ∙ c.tell_asked-ended.ensures.asked)

@@ -9,8 +9,8 @@ use Rattle.rd_commands.specs.Asks.{IsCheckOf}
 use Rattle.rd_protocol.specs.declared.request.What.TheVariants as request
 use Rattle.rd_program.specs.Leaves.{IsDayAt, moment_of}
 use Rattle.rd_program.specs.Showing.{asked_of, request_of, what_of, what_to_show}
-use Rattle.rd_program.proofs.Showing.{badge_there, clock_due, clock_no_accession, due_asked, finds_asked, key_of_check, key_of_show, no_check, passed_on, shows_asked}
-use Rattle.rd_program.proofs.Unasked.{dayless_on, no_clock_on}
+use Rattle.rd_program.proofs.ShowLemmas.{badge_there, clock_due, clock_no_accession, due_asked, finds_asked, key_of_check, key_of_show, no_check, passed_on, shows_asked}
+use Rattle.rd_program.proofs.DaylessMoments.{dayless_on, no_clock_on}
 use Rattle.rd_program.proofs.export_check.tell_asked.Goals as goal
 
 pub returns-in_err-day-clause-not_shown : goal.returns-in_err-day-clause-not_shown
@@ -116,7 +116,7 @@ returns-in-Show-clause-due g c = λ judged.
 pub returns-in_err-day-clause-clock : goal.returns-in_err-day-clause-clock
 returns-in_err-day-clause-clock g c =
     passed_on c.from_residual.result c.in_err-day.field-0.0 _ c.from_residual.ensures.1
-    (dayless_on c.args.ask.now.when.seconds (λ seconds. day_number seconds c.args.desk.now.zone) c.args.desk.now.store c.in_err-day.field-0.0 c.in_err-day.ensures.told)
+    (dayless_on c.args.ask.now.when.seconds (λ seconds. day_number seconds c.args.desk.now.zone) c.args.desk.now.store c.in_err-day.field-0.0 c.in_err-day.ensures.named)
 
 pub returns-in-Catalogue-clause-clock : goal.returns-in-Catalogue-clause-clock
 returns-in-Catalogue-clause-clock g c =

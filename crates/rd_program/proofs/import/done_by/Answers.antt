@@ -1,4 +1,4 @@
-use Rattle.rd_program.proofs.Imported.{done_answer}
+use Rattle.rd_program.proofs.ImportLemmas.{done_answer}
 use Rattle.rd_program.proofs.import.done_by.Goals as goal
 
 pub returns-in_default : goal.returns-in_default

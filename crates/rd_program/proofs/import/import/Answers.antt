@@ -2,10 +2,10 @@ use Rattle.std.proofs.Common.{◌∙◌, IsTrue, ap, subst, sym}
 use Rattle.sha2.specs.Sha256.{sha256}
 use Rattle.rd_program.specs.Leaves.{IsDayAt, LeavesDesk, TakesIn, moment_of}
 use Rattle.rd_program.proofs.RowLemmas.{opening_no_sheet, sheet_ended, shown_before}
-use Rattle.rd_program.proofs.Showing.{passed_on}
-use Rattle.rd_program.proofs.Unasked.{clock_ended, opening_no_clock, unasked}
+use Rattle.rd_program.proofs.ShowLemmas.{passed_on}
+use Rattle.rd_program.proofs.DaylessMoments.{clock_ended, opening_no_clock, unasked}
 use Rattle.rd_program.proofs.Named.{asked_then}
-use Rattle.rd_program.proofs.Left.{desk_left, gives_back, has_both, on_ended_always, opening_fails, unopened_left}
+use Rattle.rd_program.proofs.LeftStores.{desk_left, gives_back, has_both, on_ended_always, opening_fails, unopened_left}
 use Rattle.rd_program.proofs.import.import.Goals as goal
 
 pub returns-clause-back : goal.returns-clause-back

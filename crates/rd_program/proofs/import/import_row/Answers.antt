@@ -1,5 +1,5 @@
-use Rattle.rd_program.proofs.Imported.{answer_row, machine_failed, none_of_line}
-use Rattle.rd_program.proofs.Stepped.{row_taken}
+use Rattle.rd_program.proofs.ImportLemmas.{answer_row, machine_failed, none_of_line}
+use Rattle.rd_program.proofs.DeskSteps.{row_taken}
 use Rattle.rd_program.proofs.import.import_row.Goals as goal
 
 pub returns-in-Err-clause-refused : goal.returns-in-Err-clause-refused
@@ -11,5 +11,5 @@ returns-clause-takes g c =
     row_taken g.M.Disk.Store c.args.desk.now.store asked.new.desk.store c.args.giver.day asked.result
     c.args.giver.badge c.args.row c.in-Ok.bytes.items asked.ensures.responds
 
-pub returns-clause-told : goal.returns-clause-told
-returns-clause-told g c = answer_row c.args.row.acc c.put_image-answer.result c.tell_answer.result _ _ c.tell_answer.ensures.told
+pub returns-clause-written : goal.returns-clause-written
+returns-clause-written g c = answer_row c.args.row.acc c.put_image-answer.result c.tell_answer.result _ _ c.tell_answer.ensures.written

@@ -2,11 +2,11 @@ use Rattle.std.proofs.Common.{◌+◌, inl, inr, refl, rules, subst, sym, ◌∙
 use Rattle.csv.specs.Records.{fields_of}
 use Rattle.rd_program.specs.Importing.{IsDoneLine, TellsRows}
 use Rattle.rd_commands.specs.declared.done.Done.TheVariants.{Whole}
-use Rattle.rd_program.proofs.Imported.{ends_at_row, ends_between, front_kept, no_rows, rows_more, rows_of}
+use Rattle.rd_program.proofs.ImportLemmas.{ends_at_row, ends_between, front_kept, no_rows, rows_more, rows_of}
 use Rattle.rd_program.proofs.RowLemmas.{RowsSoFar, after_rows, before_rows, due_if, no_sheet_after, none_expected, row_no_sheet, row_then}
-use Rattle.rd_program.proofs.Showing.{passed_on}
+use Rattle.rd_program.proofs.ShowLemmas.{passed_on}
 use Rattle.rd_program.specs.Rows.{GivesLine, IsRowTaken}
-use Rattle.rd_program.proofs.Stepped.{row_more}
+use Rattle.rd_program.proofs.DeskSteps.{row_more}
 use Rattle.rd_program.proofs.import.import_rows.Goals as goal
 
 pub returns-in_err-next_row-clause-refused : goal.returns-in_err-next_row-clause-refused
@@ -16,16 +16,16 @@ returns-in_err-next_row-clause-refused g c =
 
 pub returns-in_err-next_row-2-clause-refused : goal.returns-in_err-next_row-2-clause-refused
 returns-in_err-next_row-2-clause-refused g c =
-    let refused = ends_between c.loop-number.done _ _ _ c.loop-number.invariant.told c.in_err-next_row-2.ensures.refused in search rules
+    let refused = ends_between c.loop-number.done _ _ _ c.loop-number.invariant.written c.in_err-next_row-2.ensures.refused in search rules
 
 pub returns-in_err-row-clause-refused : goal.returns-in_err-row-clause-refused
 returns-in_err-row-clause-refused g c =
-    let refused = ends_at_row c.loop-number.done _ _ _ _ c.loop-number.invariant.told c.in_err-row.ensures.refused in search rules
+    let refused = ends_at_row c.loop-number.done _ _ _ _ c.loop-number.invariant.written c.in_err-row.ensures.refused in search rules
 
 pub loop-number-preserved : goal.loop-number-preserved
 loop-number-preserved g c = record {
-  told = subst (TellsRows (g.W.Write.contents c.args.output.now) (g.W.Write.contents c.import_fields.new.output)) (sym c.and-done.ensures)
-      (rows_more c.loop-number.done c.in_ok-row.row _ _ _ c.loop-number.invariant.told c.in_ok-row.ensures.told);
+  written = subst (TellsRows (g.W.Write.contents c.args.output.now) (g.W.Write.contents c.import_fields.new.output)) (sym c.and-done.ensures)
+      (rows_more c.loop-number.done c.in_ok-row.row _ _ _ c.loop-number.invariant.written c.in_ok-row.ensures.written);
   same = c.import_fields.ensures.same ∙ c.loop-number.invariant.same;
   zone = c.import_fields.ensures.zone ∙ c.loop-number.invariant.zone;
   rows = subst (λ d. RowsSoFar g.M.Disk.Store (g.M.Files.file_bytes c.args.machine.now) c.args.giver.badge c.args.giver.day c.args.sheet.now (g.W.Write.contents c.args.output.now)
@@ -42,7 +42,7 @@ loop-number-preserved g c = record {
 
 pub loop-number-init : goal.loop-number-init
 loop-number-init g c = record {
-  told = search rules;
+  written = search rules;
   same = search rules;
   zone = search rules;
   rows = before_rows g.M.Disk.Store (g.M.Files.file_bytes c.args.machine.now) c.args.giver.badge c.args.giver.day c.args.sheet.now (g.W.Write.contents c.args.output.now) c.args.desk.now.store
@@ -60,7 +60,7 @@ returns-then-not-branch-2-clause-rows g c is_open =
     c.in_ok-next_row-2.ensures.kept (c.in_ok-next_row-2.ensures.ready c.loop-number.invariant.rows.at.untrimmed) (search rules) is_open
 
 pub returns-clause-refused : goal.returns-clause-refused
-returns-clause-refused g c = inr (inr (inl refl), front_kept _ _ (rows_of c.loop-number.done _ _ c.loop-number.invariant.told))
+returns-clause-refused g c = inr (inr (inl refl), front_kept _ _ (rows_of c.loop-number.done _ _ c.loop-number.invariant.written))
 
 -- ---- a sheet that is none
 

@@ -6,7 +6,7 @@ use Rattle.rd_program.proofs.import.import_rows.Given as goal
 
 abbrev pub invariant-loop-number : goal.invariant-loop-number
 invariant-loop-number g l = record {
-  told : TellsRows (g.W.Write.contents l.fn.output) (g.W.Write.contents l.output) l.done;
+  written : TellsRows (g.W.Write.contents l.fn.output) (g.W.Write.contents l.output) l.done;
   same : l.machine ≡ l.fn.machine;
   zone : l.desk.zone ≡ l.fn.desk.zone;
   rows : RowsSoFar g.M.Disk.Store (g.M.Files.file_bytes l.fn.machine) l.giver.badge l.giver.day l.sheet (g.W.Write.contents l.fn.output) (g.W.Write.contents l.output)

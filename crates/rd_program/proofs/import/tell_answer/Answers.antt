@@ -1,11 +1,11 @@
 use Rattle.std.proofs.Common.{inr, refl, rules, subst, sym}
 use Rattle.std.specs.Io.KnownBytes.{Appends}
 use Rattle.rd_program.specs.Importing.{TellsAnswer, accession_line}
-use Rattle.rd_program.proofs.Imported.{accession_refused, none_of_line}
+use Rattle.rd_program.proofs.ImportLemmas.{accession_refused, none_of_line}
 use Rattle.rd_program.proofs.import.tell_answer.Goals as goal
 
-pub returns-clause-told : goal.returns-clause-told
-returns-clause-told g c =
+pub returns-clause-written : goal.returns-clause-written
+returns-clause-written g c =
     subst (λ a. TellsAnswer c.args.acc a (g.W.Write.contents c.args.output.now) (g.W.Write.contents c.tell_accession.new.output) c.done_by.result) (sym c.in-Ok.is) (
       subst (λ word. Appends (g.W.Write.contents c.args.output.now) (g.W.Write.contents c.tell_accession.new.output) (accession_line c.args.acc word)) c.word_of.ensures
           c.in_ok-tell_accession.ensures.done,

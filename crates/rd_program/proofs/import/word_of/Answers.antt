@@ -1,5 +1,5 @@
 use Rattle.std.proofs.Common.{sym}
-use Rattle.rd_program.proofs.Imported.{done_answer}
+use Rattle.rd_program.proofs.ImportLemmas.{done_answer}
 use Rattle.rd_program.proofs.import.word_of.Goals as goal
 
 pub returns-in_default : goal.returns-in_default

@@ -1,10 +1,10 @@
 use Rattle.std.proofs.Common.{◌∙◌, IsTrue, ap, rules, subst, sym}
 use Rattle.rd_program.specs.Doors.Place.{Port}
 use Rattle.rd_program.proofs.Named.{asked_then}
-use Rattle.rd_program.proofs.Left.{gives_back, has_both, on_ended_always, opening_fails}
-use Rattle.rd_program.proofs.Visiting.{serves_door}
-use Rattle.rd_program.proofs.LeftBy.{lasts_left, opened_left, serve_ended, serve_not_begun, unserved_left}
-use Rattle.rd_program.proofs.Serving.{both_lines, ends, not_listening, not_opened}
+use Rattle.rd_program.proofs.LeftStores.{gives_back, has_both, on_ended_always, opening_fails}
+use Rattle.rd_program.proofs.VisitLemmas.{serves_door}
+use Rattle.rd_program.proofs.LeftStoresByWords.{lasts_left, opened_left, serve_ended, serve_not_begun, unserved_left}
+use Rattle.rd_program.proofs.ServeLines.{both_lines, ends, not_listening, not_opened}
 use Rattle.rd_program.proofs.serve.serve.Goals as goal
 
 pub returns-in_err-served-clause-refused : goal.returns-in_err-served-clause-refused

@@ -1,7 +1,7 @@
 use Rattle.std.proofs.Common.{◌∙◌, ap}
 use Rattle.std.specs.List.{concat}
 use Rattle.rd_volume.specs.PiecesLeft.{pieces_left}
-use Rattle.rd_protocol.proofs.Slicing.{not_empty_filled, not_empty_joined}
+use Rattle.rd_protocol.proofs.SliceLemmas.{not_empty_filled, not_empty_joined}
 use Rattle.rd_protocol.proofs.body.pieces_of_file.Goals as goal
 
 pub returns-clause-whole : goal.returns-clause-whole

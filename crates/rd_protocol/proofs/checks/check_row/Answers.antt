@@ -1,5 +1,5 @@
 use Rattle.std.proofs.Common.{rules, sym}
-use Rattle.rd_protocol.proofs.Checking.{found_changed, found_sound}
+use Rattle.rd_protocol.proofs.CheckLemmas.{found_changed, found_sound}
 use Rattle.rd_protocol.proofs.checks.check_row.Goals as goal
 
 pub returns-then-has_digest-clause-outcome : goal.returns-then-has_digest-clause-outcome

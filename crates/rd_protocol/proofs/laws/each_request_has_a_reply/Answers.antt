@@ -1,4 +1,4 @@
-use Rattle.rd_protocol.proofs.Replying.{each_reply}
+use Rattle.rd_protocol.proofs.ReplyExistence.{each_reply}
 use Rattle.rd_protocol.proofs.laws.each_request_has_a_reply.Goals as goal
 
 pub returns : goal.returns

@@ -1,4 +1,4 @@
-use Rattle.rd_protocol.proofs.Hiding.{not_told}
+use Rattle.rd_protocol.proofs.ReplyHiding.{not_told}
 use Rattle.rd_protocol.proofs.laws.hidden_bytes_are_not_told.Goals as goal
 
 pub returns : goal.returns

@@ -1,5 +1,5 @@
-use Rattle.rd_protocol.proofs.Hiding.{alike_shows}
-use Rattle.rd_protocol.proofs.Showing.{shown_decides, shows_itself}
+use Rattle.rd_protocol.proofs.ReplyHiding.{alike_shows}
+use Rattle.rd_protocol.proofs.ShownDesks.{shown_decides, shows_itself}
 use Rattle.rd_protocol.proofs.laws.what_is_shown_decides.Goals as goal
 
 pub returns-clause-decides : goal.returns-clause-decides

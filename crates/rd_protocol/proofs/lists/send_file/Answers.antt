@@ -1,7 +1,7 @@
 use Rattle.std.proofs.Common.{subst}
 use Rattle.std.proofs.lemmas.Result.{on_ok_weaker}
 use Rattle.serde.specs.Event.{Logs, text}
-use Rattle.rd_protocol.proofs.Sending.{sent_option, sent_texts}
+use Rattle.rd_protocol.proofs.JsonWriting.{sent_option, sent_texts}
 use Rattle.rd_protocol.proofs.lists.send_file.Goals as goal
 
 pub returns : goal.returns

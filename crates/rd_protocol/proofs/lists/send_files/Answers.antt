@@ -3,7 +3,7 @@ use Rattle.std.proofs.lemmas.Result.{on_ok_weaker}
 use Rattle.serde.proofs.Events.{WritesEach-more, WritesSeq-ends}
 use Rattle.serde_json.specs.Events.{SendsValue}
 use Rattle.rd_protocol.specs.Texts.{line_data}
-use Rattle.rd_protocol.proofs.Sending.{sent_array}
+use Rattle.rd_protocol.proofs.JsonWriting.{sent_array}
 use Rattle.rd_protocol.proofs.lists.send_files.Goals as goal
 
 pub loop-line-preserved : goal.loop-line-preserved

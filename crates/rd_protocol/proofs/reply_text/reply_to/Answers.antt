@@ -1,4 +1,4 @@
-use Rattle.rd_protocol.proofs.Floats.{in_checks, in_deeds, in_keys, in_takedowns, survey_has_no_float}
+use Rattle.rd_protocol.proofs.FloatLemmas.{in_checks, in_deeds, in_keys, in_takedowns, survey_has_no_float}
 use Rattle.rd_protocol.proofs.reply_text.reply_to.Goals as goal
 
 pub json_reply-requires-in-Surveyed : goal.json_reply-requires-in-Surveyed

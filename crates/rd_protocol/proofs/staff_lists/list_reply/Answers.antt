@@ -3,12 +3,12 @@ use Rattle.serde_json.proofs.FreeTexts.{text_of_value}
 use Rattle.rd_protocol.specs.Lent.{held}
 use Rattle.rd_protocol.specs.Texts.{list_data}
 use Rattle.rd_protocol.specs.declared.response.Form.TheVariants.{Json}
-use Rattle.rd_protocol.proofs.Floats.{list_has_no_float}
+use Rattle.rd_protocol.proofs.FloatLemmas.{list_has_no_float}
 use Rattle.rd_protocol.proofs.staff_lists.list_reply.Goals as goal
 
 pub returns-in-Ok : goal.returns-in-Ok
 returns-in-Ok g c =
-    let told = c.in-Ok.ensures.events in
+    let described = c.in-Ok.ensures.events in
     let whole = list_has_no_float c.args.key.now g.T.ListItem.value c.args.items.now c.requires in
-    let body = text_of_value (list_data c.args.key.now g.T.ListItem.value c.args.items.now) told.0 (string_bytes c.in-Ok.text) told.1 told.2 whole in
+    let body = text_of_value (list_data c.args.key.now g.T.ListItem.value c.args.items.now) described.0 (string_bytes c.in-Ok.text) described.1 described.2 whole in
     c.listed_reply.ensures ∙ ap (λ text. record { status = 200; form = Json; body = held text }) body

@@ -2,7 +2,7 @@ use Rattle.std.proofs.Common.{refl}
 use Rattle.std.proofs.lemmas.Result.{on_ok_weaker}
 use Rattle.serde.proofs.Events.{WritesEach-more, WritesSeq-ends}
 use Rattle.serde_json.specs.Events.{SendsValue}
-use Rattle.rd_protocol.proofs.Sending.{sent_array}
+use Rattle.rd_protocol.proofs.JsonWriting.{sent_array}
 use Rattle.rd_protocol.proofs.staff_lists.send_all.Goals as goal
 
 pub loop-item-preserved : goal.loop-item-preserved

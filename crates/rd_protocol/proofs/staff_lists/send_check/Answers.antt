@@ -2,7 +2,7 @@ use Rattle.std.proofs.Common.{subst}
 use Rattle.std.proofs.lemmas.Result.{on_ok_weaker}
 use Rattle.serde_json.specs.Events.{SendsValue}
 use Rattle.rd_protocol.specs.Texts.{text_or_null}
-use Rattle.rd_protocol.proofs.Sending.{sent_text_or_null}
+use Rattle.rd_protocol.proofs.JsonWriting.{sent_text_or_null}
 use Rattle.rd_protocol.proofs.staff_lists.send_check.Goals as goal
 
 pub returns : goal.returns

@@ -3,7 +3,7 @@ use Rattle.std.proofs.lemmas.Result.{on_ok_weaker}
 use Rattle.serde.specs.Event.{Logs, text}
 use Rattle.serde_json.specs.Events.{SendsValue}
 use Rattle.rd_protocol.specs.Texts.{text_or_null, texts}
-use Rattle.rd_protocol.proofs.Sending.{sent_text_or_null, sent_texts}
+use Rattle.rd_protocol.proofs.JsonWriting.{sent_text_or_null, sent_texts}
 use Rattle.rd_protocol.proofs.staff_lists.send_rule.Goals as goal
 
 pub returns : goal.returns

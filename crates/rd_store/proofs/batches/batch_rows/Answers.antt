@@ -3,9 +3,9 @@ use Rattle.std.proofs.lemmas.Result.{IfOk-weaker}
 use Rattle.sqlite.specs.declared.types.Value.TheVariants.{Int}
 use Rattle.sqlite.specs.Held.{state}
 use Rattle.rd_tables.proofs.QueryTexts.{batch_asks}
-use Rattle.rd_tables.proofs.Reading.{shown_was_open, shown_picks}
+use Rattle.rd_tables.proofs.QueryEffects.{shown_was_open, shown_picks}
 use Rattle.rd_store.proofs.Laws.{holds_tables, stays_desk}
-use Rattle.rd_store.proofs.Indexing.{batch_found}
+use Rattle.rd_store.proofs.BatchQueries.{batch_found}
 use Rattle.rd_store.proofs.batches.batch_rows.Goals as goal
 
 pub read_all-requires-clause-tables : goal.read_all-requires-clause-tables

@@ -1,7 +1,7 @@
 use Rattle.std.proofs.Common.{◌∙◌, ap, map, rules}
 use Rattle.rd_store.specs.Batched.{files_at}
 use Rattle.rd_store.specs.Spelled.{file_in}
-use Rattle.rd_store.proofs.Indexing.{files_read}
+use Rattle.rd_store.proofs.BatchQueries.{files_read}
 use Rattle.rd_store.proofs.batches.index_one.Goals as goal
 
 pub returns-clause-one : goal.returns-clause-one

@@ -8,8 +8,8 @@ use Rattle.rd_tables.proofs.Statements.{checkup_params}
 use Rattle.rd_tables.proofs.StatementTexts.{drop_check_writes}
 use Rattle.rd_store.specs.Held.{IsOf, IsClean}
 use Rattle.rd_holdings.specs.State.{without_check}
-use Rattle.rd_store.proofs.Inside.{moves}
-use Rattle.rd_store.proofs.Making.{makes_no_check, of_schema}
+use Rattle.rd_store.proofs.TransactionSteps.{moves}
+use Rattle.rd_store.proofs.DatabaseSteps.{makes_no_check, of_schema}
 use Rattle.rd_store.proofs.checks.delete_check.Goals as goal
 
 pub returns-clause-moves : goal.returns-clause-moves

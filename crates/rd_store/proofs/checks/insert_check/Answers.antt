@@ -9,8 +9,8 @@ use Rattle.rd_tables.proofs.StatementTexts.{put_check_writes}
 use Rattle.rd_store.specs.Codes.{outcome_code}
 use Rattle.rd_store.specs.Held.{IsOf, IsClean}
 use Rattle.rd_holdings.specs.State.{with_check}
-use Rattle.rd_store.proofs.Inside.{moves}
-use Rattle.rd_store.proofs.Making.{makes_check, of_schema}
+use Rattle.rd_store.proofs.TransactionSteps.{moves}
+use Rattle.rd_store.proofs.DatabaseSteps.{makes_check, of_schema}
 use Rattle.rd_store.proofs.checks.insert_check.Goals as goal
 
 pub returns-clause-moves : goal.returns-clause-moves

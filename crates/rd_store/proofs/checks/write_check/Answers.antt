@@ -8,8 +8,8 @@ use Rattle.rd_holdings.specs.State.{Desk, checkup_cmp, with_check, without_check
 use Rattle.rd_store.proofs.Laws.{Laws, clean_at}
 use Rattle.rd_store.proofs.Orders.{checkup_order}
 use Rattle.rd_holdings.proofs.Lawful.{lawful_check}
-use Rattle.rd_store.proofs.Inside.{begun, and_then, stopped, undoes, commits}
-use Rattle.rd_store.proofs.Whole.{starts, changes}
+use Rattle.rd_store.proofs.TransactionSteps.{begun, and_then, stopped, undoes, commits}
+use Rattle.rd_store.proofs.Transactions.{starts, changes}
 use Rattle.rd_store.proofs.checks.write_check.Goals as goal
 
 -- a check that was taken away and put is put in its place

@@ -13,7 +13,7 @@ use Rattle.rd_store.specs.Migrated.{IsFirstConsistent, IsSecondConsistent, Refus
 use Rattle.rd_store.specs.Opened.{IsConsistent, Refuses}
 use Rattle.rd_store.specs.Spelled.{index_of}
 use Rattle.rd_holdings.specs.State.{Desk}
-use Rattle.rd_store.proofs.Judged.{said_here}
+use Rattle.rd_store.proofs.DatabaseTests.{said_here}
 use Rattle.rd_store.proofs.OneSchema.{HaveOneKey, one_schema}
 use Rattle.rd_store.proofs.crash_laws.left_desks_open.Goals as goal
 

@@ -1,9 +1,9 @@
 use Rattle.std.proofs.Common.{Ok, Err, ℕ}
 use Rattle.sqlite.specs.declared.error.Error.{Error}
-use Rattle.rd_store.specs.Created.{IsMade, empty_desk, new_desk}
+use Rattle.rd_store.specs.Created.{HasFirstTables, empty_desk, new_desk}
 use Rattle.rd_store.specs.Held.{IsOf, Moves}
-use Rattle.rd_store.proofs.Creating.{no_key}
-use Rattle.rd_store.proofs.Inside.{and_then, stopped}
+use Rattle.rd_store.proofs.CreationLemmas.{no_key}
+use Rattle.rd_store.proofs.TransactionSteps.{and_then, stopped}
 use Rattle.rd_store.proofs.create.fill.Goals as goal
 
 pub returns-in_err-insert_key-clause-moves : goal.returns-in_err-insert_key-clause-moves
@@ -13,13 +13,13 @@ returns-in_err-insert_key-clause-moves g c =
     let made = c.make_tables.new.tx.conn.now in
     let stamped = c.insert_version.new.tx.conn.now in
     let new = c.insert_key.new.tx.conn.now in
-    let one : Moves {T = Unit {0}} {X = Error} g.S.Store old made (IsMade 0) (IsMade 8) (Ok c.in_ok-make_tables.field-0) = c.in_ok-make_tables.ensures.moves in
-    let two : Moves {T = ℕ} {X = Error} g.S.Store made stamped (IsMade 8) (IsOf empty_desk) (Ok c.in_ok-insert_version.field-0) = c.in_ok-insert_version.ensures.moves in
+    let one : Moves {T = Unit {0}} {X = Error} g.S.Store old made (HasFirstTables 0) (HasFirstTables 8) (Ok c.in_ok-make_tables.field-0) = c.in_ok-make_tables.ensures.moves in
+    let two : Moves {T = ℕ} {X = Error} g.S.Store made stamped (HasFirstTables 8) (IsOf empty_desk) (Ok c.in_ok-insert_version.field-0) = c.in_ok-insert_version.ensures.moves in
     let e = c.in_err-insert_key.field-0.0 in
     let three : Moves {T = ℕ} {X = Error} g.S.Store stamped new (IsOf empty_desk) (IsOf (new_desk staff)) (Err e) = c.in_err-insert_key.ensures.moves empty_desk (no_key staff) in
-    let first = and_then g.S.Store old made stamped (IsMade 0) (IsMade 8) (IsOf empty_desk) c.in_ok-make_tables.field-0 one (Ok c.in_ok-insert_version.field-0) two in
-    let all = and_then g.S.Store old stamped new (IsMade 0) (IsOf empty_desk) (IsOf (new_desk staff)) c.in_ok-insert_version.field-0 first (Err e) three in
-    stopped g.S.Store old new (IsMade 0) (IsOf (new_desk staff)) (IsOf (new_desk staff)) e c.from_residual-in_err-insert_key.result c.from_residual-in_err-insert_key.ensures.0 all
+    let first = and_then g.S.Store old made stamped (HasFirstTables 0) (HasFirstTables 8) (IsOf empty_desk) c.in_ok-make_tables.field-0 one (Ok c.in_ok-insert_version.field-0) two in
+    let all = and_then g.S.Store old stamped new (HasFirstTables 0) (IsOf empty_desk) (IsOf (new_desk staff)) c.in_ok-insert_version.field-0 first (Err e) three in
+    stopped g.S.Store old new (HasFirstTables 0) (IsOf (new_desk staff)) (IsOf (new_desk staff)) e c.from_residual-in_err-insert_key.result c.from_residual-in_err-insert_key.ensures.0 all
 
 pub returns-clause-moves : goal.returns-clause-moves
 returns-clause-moves g c =
@@ -28,10 +28,10 @@ returns-clause-moves g c =
     let made = c.make_tables.new.tx.conn.now in
     let stamped = c.insert_version.new.tx.conn.now in
     let new = c.insert_key.new.tx.conn.now in
-    let one : Moves {T = Unit {0}} {X = Error} g.S.Store old made (IsMade 0) (IsMade 8) (Ok c.in_ok-make_tables.field-0) = c.in_ok-make_tables.ensures.moves in
-    let two : Moves {T = ℕ} {X = Error} g.S.Store made stamped (IsMade 8) (IsOf empty_desk) (Ok c.in_ok-insert_version.field-0) = c.in_ok-insert_version.ensures.moves in
+    let one : Moves {T = Unit {0}} {X = Error} g.S.Store old made (HasFirstTables 0) (HasFirstTables 8) (Ok c.in_ok-make_tables.field-0) = c.in_ok-make_tables.ensures.moves in
+    let two : Moves {T = ℕ} {X = Error} g.S.Store made stamped (HasFirstTables 8) (IsOf empty_desk) (Ok c.in_ok-insert_version.field-0) = c.in_ok-insert_version.ensures.moves in
     let n = c.in_ok-insert_key.field-0 in
     let three : Moves {T = ℕ} {X = Error} g.S.Store stamped new (IsOf empty_desk) (IsOf (new_desk staff)) (Ok n) = c.in_ok-insert_key.ensures.moves empty_desk (no_key staff) in
-    let first = and_then g.S.Store old made stamped (IsMade 0) (IsMade 8) (IsOf empty_desk) c.in_ok-make_tables.field-0 one (Ok c.in_ok-insert_version.field-0) two in
-    let all = and_then g.S.Store old stamped new (IsMade 0) (IsOf empty_desk) (IsOf (new_desk staff)) c.in_ok-insert_version.field-0 first (Ok n) three in
+    let first = and_then g.S.Store old made stamped (HasFirstTables 0) (HasFirstTables 8) (IsOf empty_desk) c.in_ok-make_tables.field-0 one (Ok c.in_ok-insert_version.field-0) two in
+    let all = and_then g.S.Store old stamped new (HasFirstTables 0) (IsOf empty_desk) (IsOf (new_desk staff)) c.in_ok-insert_version.field-0 first (Ok n) three in
     record { quiet = all.quiet; kept = all.kept; ok = all.ok }

@@ -2,14 +2,14 @@ use Rattle.std.proofs.Common.{[]}
 use Rattle.rd_tables.specs.Schemas.{desk_schema}
 use Rattle.rd_tables.specs.Statements.{put_version_text, put_version}
 use Rattle.rd_tables.proofs.StatementTexts.{put_version_writes}
-use Rattle.rd_store.specs.Created.{IsMade, empty_desk}
+use Rattle.rd_store.specs.Created.{HasFirstTables, empty_desk}
 use Rattle.rd_store.specs.Held.{IsOf}
-use Rattle.rd_store.proofs.Creating.{makes_version, made_schema}
-use Rattle.rd_store.proofs.Inside.{moves}
+use Rattle.rd_store.proofs.CreationLemmas.{makes_version, made_schema}
+use Rattle.rd_store.proofs.TransactionSteps.{moves}
 use Rattle.rd_store.proofs.create.insert_version.Goals as goal
 
 pub returns-clause-moves : goal.returns-clause-moves
 returns-clause-moves g c =
     let old = c.args.tx.now.conn.now in
     let new = c.execute.new.self.conn.now in
-    moves desk_schema put_version_text put_version put_version_writes [] (IsMade 8) (IsOf empty_desk) (made_schema 8) makes_version g.S.Store old new c.execute.result c.execute.ensures.ended c.execute.ensures.runs c.execute.ensures.survives
+    moves desk_schema put_version_text put_version put_version_writes [] (HasFirstTables 8) (IsOf empty_desk) (made_schema 8) makes_version g.S.Store old new c.execute.result c.execute.ensures.ended c.execute.ensures.runs c.execute.ensures.survives

@@ -1,10 +1,10 @@
 use Rattle.std.proofs.Common.{◌≡◌, Ok}
 use Rattle.sqlite.specs.declared.error.Error.{Error}
-use Rattle.rd_store.specs.Created.{IsMade}
+use Rattle.rd_store.specs.Created.{HasFirstTables}
 use Rattle.rd_store.specs.Held.{Moves}
 use Rattle.rd_store.proofs.create.make_tables.Given as goal
 
 -- as many tables are made as there were turns
 abbrev pub invariant-loop-at : goal.invariant-loop-at
 invariant-loop-at g l =
-    (l.tx.conn.ghost_name ≡ l.fn.tx.conn.ghost_name) × Moves {T = Unit {0}} {X = Error} g.S.Store l.fn.tx.conn.now l.tx.conn.now (IsMade 0) (IsMade l.at) (Ok tt)
+    (l.tx.conn.ghost_name ≡ l.fn.tx.conn.ghost_name) × Moves {T = Unit {0}} {X = Error} g.S.Store l.fn.tx.conn.now l.tx.conn.now (HasFirstTables 0) (HasFirstTables l.at) (Ok tt)

@@ -1,9 +1,9 @@
 use Rattle.std.proofs.Common.{◌≡◌, subst, rules, Ok, Err}
 use Rattle.sqlite.specs.declared.error.Error.{Error}
-use Rattle.rd_store.specs.Created.{IsMade, Turns, new_desk}
+use Rattle.rd_store.specs.Created.{HasFirstTables, Turns, new_desk}
 use Rattle.rd_store.specs.Held.{IsOf, Moves}
 use Rattle.rd_store.proofs.Laws.{Laws, clean_at}
-use Rattle.rd_store.proofs.Inside.{begun, undoes, commits}
+use Rattle.rd_store.proofs.TransactionSteps.{begun, undoes, commits}
 use Rattle.rd_store.proofs.create.write_desk.Goals as goal
 
 pub returns-in_err-fill : goal.returns-in_err-fill
@@ -15,9 +15,9 @@ returns-in_err-fill g c =
     let last = c.drop-tx.new.self.0 in
     let same : last ≡ c.conn-1.given.0 = search rules in
     let e = c.in_err-fill.field-0.0 in
-    let inside : Moves {T = Unit {0}} {X = Error} g.S.Store (begun old) mid (IsMade 0) after (Err e) =
-    subst (λ h. Moves {T = Unit {0}} {X = Error} g.S.Store h mid (IsMade 0) after (Err e)) c.transaction-tx.ensures.begun c.in_err-fill.ensures.moves in
-    let turns = undoes g.S.Store (clean_at g.S.Store laws) old mid last (IsMade 0) after c.requires.start (Err e) inside c.drop-tx.ensures.undone c.drop-tx.ensures.survives c.from_residual.result c.from_residual.ensures.0 in
+    let inside : Moves {T = Unit {0}} {X = Error} g.S.Store (begun old) mid (HasFirstTables 0) after (Err e) =
+    subst (λ h. Moves {T = Unit {0}} {X = Error} g.S.Store h mid (HasFirstTables 0) after (Err e)) c.transaction-tx.ensures.begun c.in_err-fill.ensures.moves in
+    let turns = undoes g.S.Store (clean_at g.S.Store laws) old mid last (HasFirstTables 0) after c.requires.start (Err e) inside c.drop-tx.ensures.undone c.drop-tx.ensures.survives c.from_residual.result c.from_residual.ensures.0 in
     record { turns = subst (λ h. Turns g.S.Store old h after c.from_residual.result) same turns }
 
 pub returns : goal.returns
@@ -29,7 +29,7 @@ returns g c =
     let last = c.commit.new.self.0 in
     let same : last ≡ c.conn-2-1.given.0 = search rules in
     let u = c.in_ok-fill.field-0 in
-    let inside : Moves {T = Unit {0}} {X = Error} g.S.Store (begun old) mid (IsMade 0) after (Ok u) =
-    subst (λ h. Moves {T = Unit {0}} {X = Error} g.S.Store h mid (IsMade 0) after (Ok u)) c.transaction-tx.ensures.begun c.in_ok-fill.ensures.moves in
-    let turns = commits g.S.Store (clean_at g.S.Store laws) old mid last (IsMade 0) after c.requires.start u inside c.commit.ensures.survives c.commit.result c.commit.ensures.ok c.commit.ensures.err in
+    let inside : Moves {T = Unit {0}} {X = Error} g.S.Store (begun old) mid (HasFirstTables 0) after (Ok u) =
+    subst (λ h. Moves {T = Unit {0}} {X = Error} g.S.Store h mid (HasFirstTables 0) after (Ok u)) c.transaction-tx.ensures.begun c.in_ok-fill.ensures.moves in
+    let turns = commits g.S.Store (clean_at g.S.Store laws) old mid last (HasFirstTables 0) after c.requires.start u inside c.commit.ensures.survives c.commit.result c.commit.ensures.ok c.commit.ensures.err in
     record { turns = subst (λ h. Turns g.S.Store old h after c.commit.result) same turns }

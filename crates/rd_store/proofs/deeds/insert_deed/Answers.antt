@@ -9,8 +9,8 @@ use Rattle.rd_holdings.specs.declared.rows.DeedRow.{DeedRow}
 use Rattle.rd_store.specs.Held.{IsClean, desk}
 use Rattle.rd_holdings.specs.State.{with_deed}
 use Rattle.rd_store.proofs.Laws.{Laws}
-use Rattle.rd_store.proofs.Single.{single}
-use Rattle.rd_store.proofs.Making.{makes_new_deed}
+use Rattle.rd_store.proofs.StatementCalls.{single}
+use Rattle.rd_store.proofs.DatabaseSteps.{makes_new_deed}
 use Rattle.rd_holdings.proofs.Lawful.{lawful_deed}
 use Rattle.rd_store.proofs.deeds.insert_deed.Goals as goal
 

@@ -1,14 +1,14 @@
 use Rattle.std.proofs.Common.{◌≡◌, ◌+◌, ◌∙◌, ℕ, Ok, Err, length, subst, arith}
 use Rattle.sqlite.specs.declared.error.Error.{Error}
-use Rattle.rd_store.specs.Held.{IsOfWith, Moves}
+use Rattle.rd_store.specs.Held.{IsDeskWith, Moves}
 use Rattle.rd_store.specs.Index.{IsFiledTo}
-use Rattle.rd_store.proofs.Inside.{and_then, stopped}
+use Rattle.rd_store.proofs.TransactionSteps.{and_then, stopped}
 use Rattle.rd_store.proofs.files.insert_files.Goals as goal
 
 pub returns-in_err-insert_file-clause-moves : goal.returns-in_err-insert_file-clause-moves
 returns-in_err-insert_file-clause-moves g c desk images =
     let files = c.args.files.now in
-    let filed = λ (count : ℕ). IsOfWith desk (IsFiledTo images c.args.acc files count) in
+    let filed = λ (count : ℕ). IsDeskWith desk (IsFiledTo images c.args.acc files count) in
     let at = c.loop-at.at in
     let old = c.args.tx.now.conn.now in
     let mid = c.loop-at.tx.conn.now in
@@ -23,7 +23,7 @@ pub loop-at-preserved : goal.loop-at-preserved
 loop-at-preserved g c = (
   c.insert_file.ensures.same_reference ∙ c.loop-at.invariant.0,
   λ desk images.
-      let filed = λ (count : ℕ). IsOfWith desk (IsFiledTo images c.args.acc c.args.files.now count) in
+      let filed = λ (count : ℕ). IsDeskWith desk (IsFiledTo images c.args.acc c.args.files.now count) in
       let at = c.loop-at.at in
       let old = c.args.tx.now.conn.now in
       let mid = c.loop-at.tx.conn.now in
@@ -39,4 +39,4 @@ pub returns-clause-moves : goal.returns-clause-moves
 returns-clause-moves g c desk images =
     let files = c.args.files.now in
     let is : c.loop-at.at ≡ length files = omega (arith, c.loop-at-test.false, c.loop-at.auto.at-end) in
-    subst (λ count. Moves {T = Unit {0}} {X = Error} g.S.Store c.args.tx.now.conn.now c.loop-at.tx.conn.now (IsOfWith desk (IsFiledTo images c.args.acc files 0)) (IsOfWith desk (IsFiledTo images c.args.acc files count)) (Ok tt)) is (c.loop-at.invariant.1 desk images)
+    subst (λ count. Moves {T = Unit {0}} {X = Error} g.S.Store c.args.tx.now.conn.now c.loop-at.tx.conn.now (IsDeskWith desk (IsFiledTo images c.args.acc files 0)) (IsDeskWith desk (IsFiledTo images c.args.acc files count)) (Ok tt)) is (c.loop-at.invariant.1 desk images)

@@ -1,6 +1,6 @@
 use Rattle.std.proofs.Common.{◌≡◌, Ok}
 use Rattle.sqlite.specs.declared.error.Error.{Error}
-use Rattle.rd_store.specs.Held.{IsOfWith, Moves}
+use Rattle.rd_store.specs.Held.{IsDeskWith, Moves}
 use Rattle.rd_store.specs.Index.{IsFiledTo}
 use Rattle.rd_store.proofs.files.insert_files.Given as goal
 
@@ -8,4 +8,4 @@ use Rattle.rd_store.proofs.files.insert_files.Given as goal
 abbrev pub invariant-loop-at : goal.invariant-loop-at
 invariant-loop-at g l =
     (l.tx.conn.ghost_name ≡ l.fn.tx.conn.ghost_name)
-    × ((desk : _) (images : _) → Moves {T = Unit {0}} {X = Error} g.S.Store l.fn.tx.conn.now l.tx.conn.now (IsOfWith desk (IsFiledTo images l.fn.acc l.fn.files 0)) (IsOfWith desk (IsFiledTo images l.fn.acc l.fn.files l.at)) (Ok tt))
+    × ((desk : _) (images : _) → Moves {T = Unit {0}} {X = Error} g.S.Store l.fn.tx.conn.now l.tx.conn.now (IsDeskWith desk (IsFiledTo images l.fn.acc l.fn.files 0)) (IsDeskWith desk (IsFiledTo images l.fn.acc l.fn.files l.at)) (Ok tt))

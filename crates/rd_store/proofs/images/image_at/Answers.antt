@@ -1,7 +1,7 @@
 use Rattle.std.proofs.Common.{rules, ◌∙◌}
 use Rattle.std.proofs.lemmas.Result.{IfOk-weaker}
 use Rattle.sqlite.specs.Held.{state}
-use Rattle.rd_store.proofs.Found.{image_found, rows_back}
+use Rattle.rd_store.proofs.QueryResults.{image_found, rows_back}
 use Rattle.rd_store.proofs.images.image_at.Goals as goal
 
 pub returns : goal.returns

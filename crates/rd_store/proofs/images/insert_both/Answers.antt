@@ -5,13 +5,13 @@ use Rattle.rd_geometry.specs.declared.kind.Kind.TheVariants.{D64}
 use Rattle.rd_tables.proofs.Entries.{get_inserted}
 use Rattle.rd_holdings.specs.declared.rows.ImageRow.{ImageRow}
 use Rattle.rd_store.specs.Codes.{kind_code, kind_in}
-use Rattle.rd_store.specs.Held.{IsOfWith, LacksImage, Moves}
+use Rattle.rd_store.specs.Held.{IsDeskWith, LacksImage, Moves}
 use Rattle.rd_store.specs.Index.{IsFiledTo, with_new_image}
 use Rattle.rd_store.specs.Marks.{with_marks}
 use Rattle.rd_store.specs.Shown.{as_row, image_with}
 use Rattle.rd_holdings.specs.State.{Desk}
-use Rattle.rd_store.proofs.Inside.{and_then, stopped}
-use Rattle.rd_store.proofs.Joined.{image_again}
+use Rattle.rd_store.proofs.TransactionSteps.{and_then, stopped}
+use Rattle.rd_store.proofs.MarkedImages.{image_again}
 use Rattle.rd_store.proofs.Orders.{number_order}
 use Rattle.rd_store.proofs.images.insert_both.Goals as goal
 
@@ -21,7 +21,7 @@ returns-in_err-insert_row-clause-moves g c before files =
     let mid = c.insert_row.new.tx.conn.now in
     let image = image_with c.args.heading.now c.args.bytes.now in
     let row = as_row (image_with c.args.heading.now c.split_at.result.0.now) in
-    let filed = λ (i : ImageRow). IsOfWith (with_new_image c.args.acc i before) (IsFiledTo before.images c.args.acc files 0) in
+    let filed = λ (i : ImageRow). IsDeskWith (with_new_image c.args.acc i before) (IsFiledTo before.images c.args.acc files 0) in
     let e = c.in_err-insert_row.field-0.0 in
     let one : Moves {T = ℕ} {X = Error} g.S.Store old mid (LacksImage c.args.acc before) (filed row) (Err e) = c.in_err-insert_row.ensures.moves before files in
     stopped g.S.Store old mid (LacksImage c.args.acc before) (filed row) (filed image) e c.from_residual.result c.from_residual.ensures.0 one
@@ -40,7 +40,7 @@ returns-clause-moves g c before files =
     let whole : blocks ++ marks ≡ c.args.bytes.now = sym c.split_at.ensures.by_index.0 in
     let is : with_marks (Some marks) row ≡ image = λ i. record { kind = sym c.requires.kind i; deed = heading.deed; digest = heading.digest; bytes = whole i } in
     let kind : row.kind ≡ D64 = ap (λ k. kind_in (kind_code k)) c.requires.kind in
-    let filed = λ (d : Desk). IsOfWith d (IsFiledTo before.images acc files 0) in
+    let filed = λ (d : Desk). IsDeskWith d (IsFiledTo before.images acc files 0) in
     let n = c.in_ok-insert_row.field-0 in
     let one : Moves {T = ℕ} {X = Error} g.S.Store old mid (LacksImage acc before) (filed (with_new_image acc row before)) (Ok n) = c.in_ok-insert_row.ensures.moves before files in
     let two = c.insert_marks.ensures.moves (with_new_image acc row before) before.images files 0 row (get_inserted _ number_order before.images acc row) kind in

@@ -2,10 +2,10 @@ use Rattle.std.proofs.Common.{◌≢◌, ℕ, rules, subst}
 use Rattle.sqlite.specs.declared.error.Error.{Error}
 use Rattle.rd_geometry.specs.declared.kind.Kind.TheVariants.{D64e}
 use Rattle.rd_holdings.specs.declared.rows.ImageRow.{ImageRow}
-use Rattle.rd_store.specs.Held.{IsOfWith, LacksImage, Moves}
+use Rattle.rd_store.specs.Held.{IsDeskWith, LacksImage, Moves}
 use Rattle.rd_store.specs.Index.{IsFiledTo, with_new_image}
 use Rattle.rd_store.specs.Shown.{image_with}
-use Rattle.rd_store.proofs.Joined.{plain_as_row}
+use Rattle.rd_store.proofs.MarkedImages.{plain_as_row}
 use Rattle.rd_store.proofs.images.insert_image.Goals as goal
 
 pub returns-clause-moves : goal.returns-clause-moves
@@ -13,4 +13,4 @@ returns-clause-moves g c before files =
     let acc = c.args.acc in
     let image = image_with c.args.heading.now c.args.bytes.now in
     let other : c.args.heading.now.kind ≢ D64e = search rules in
-    subst (λ (i : ImageRow). Moves {T = ℕ} {X = Error} g.S.Store c.args.tx.now.conn.now c.insert_row.new.tx.conn.now (LacksImage acc before) (IsOfWith (with_new_image acc i before) (IsFiledTo before.images acc files 0)) c.insert_row.result) (plain_as_row image other) (c.insert_row.ensures.moves before files)
+    subst (λ (i : ImageRow). Moves {T = ℕ} {X = Error} g.S.Store c.args.tx.now.conn.now c.insert_row.new.tx.conn.now (LacksImage acc before) (IsDeskWith (with_new_image acc i before) (IsFiledTo before.images acc files 0)) c.insert_row.result) (plain_as_row image other) (c.insert_row.ensures.moves before files)

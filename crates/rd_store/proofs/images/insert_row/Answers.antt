@@ -6,11 +6,11 @@ use Rattle.rd_tables.specs.Statements.{put_image_text, put_image}
 use Rattle.rd_tables.proofs.Statements.{image_params}
 use Rattle.rd_tables.proofs.StatementTexts.{put_image_writes}
 use Rattle.rd_store.specs.Codes.{kind_code}
-use Rattle.rd_store.specs.Held.{IsOfWith, IsClean, LacksImage}
+use Rattle.rd_store.specs.Held.{IsDeskWith, IsClean, LacksImage}
 use Rattle.rd_store.specs.Index.{IsFiledTo, with_new_image}
 use Rattle.rd_store.specs.Shown.{as_row, image_with}
-use Rattle.rd_store.proofs.Inside.{moves}
-use Rattle.rd_store.proofs.Making.{makes_image, lacks_schema}
+use Rattle.rd_store.proofs.TransactionSteps.{moves}
+use Rattle.rd_store.proofs.DatabaseSteps.{makes_image, lacks_schema}
 use Rattle.rd_store.proofs.images.insert_row.Goals as goal
 
 pub returns-clause-moves : goal.returns-clause-moves
@@ -22,4 +22,4 @@ returns-clause-moves g c before files =
     let new = c.execute.new.self.conn.now in
     let runs : IsClean g.S.Store new → IsTrue old.in_transaction → ExecutesInside 0 put_image_text params (state g.S.Store old) (state g.S.Store new) c.execute.result =
     rw (c.params-to_sql.ensures, c.params-to_sql-2.ensures, c.params-to_sql-3.ensures, c.params-to_sql-4.ensures, c.params-to_sql-5.ensures, c.of_kind-code.ensures, c.as_slice-sum.ensures) at c.execute.ensures.runs in
-    moves desk_schema put_image_text put_image put_image_writes params (LacksImage acc before) (IsOfWith (with_new_image acc (as_row image) before) (IsFiledTo before.images acc files 0)) (lacks_schema acc image before) (makes_image acc image before files) g.S.Store old new c.execute.result c.execute.ensures.ended runs c.execute.ensures.survives
+    moves desk_schema put_image_text put_image put_image_writes params (LacksImage acc before) (IsDeskWith (with_new_image acc (as_row image) before) (IsFiledTo before.images acc files 0)) (lacks_schema acc image before) (makes_image acc image before files) g.S.Store old new c.execute.result c.execute.ensures.ended runs c.execute.ensures.survives

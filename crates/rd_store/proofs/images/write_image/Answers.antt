@@ -1,14 +1,14 @@
 use Rattle.std.proofs.Common.{◌≡◌, length, subst, rules, Ok, Err, refl, ℕ}
 use Rattle.sqlite.specs.declared.error.Error.{Error}
 use Rattle.sqlite.specs.Held.{state}
-use Rattle.rd_store.specs.Held.{IsOf, IsOfWith, HoldsDesk, LacksImage, Moves, Changes, desk}
+use Rattle.rd_store.specs.Held.{IsOf, IsDeskWith, HoldsDesk, LacksImage, Moves, Changes, desk}
 use Rattle.rd_store.specs.Index.{IsFiledTo, with_new_image}
 use Rattle.rd_store.specs.Shown.{image_with}
 use Rattle.rd_holdings.specs.State.{with_image}
 use Rattle.rd_store.proofs.Laws.{Laws, clean_at}
-use Rattle.rd_store.proofs.Inside.{begun, and_then, moves_to, stopped, undoes, commits}
-use Rattle.rd_store.proofs.Making.{filed_whole}
-use Rattle.rd_store.proofs.Depositing.{lacks, deposited}
+use Rattle.rd_store.proofs.TransactionSteps.{begun, and_then, moves_to, stopped, undoes, commits}
+use Rattle.rd_store.proofs.DatabaseSteps.{filed_whole}
+use Rattle.rd_store.proofs.DepositLemmas.{lacks, deposited}
 use Rattle.rd_store.proofs.images.write_image.Goals as goal
 
 pub returns-in_err-insert_image : goal.returns-in_err-insert_image
@@ -23,8 +23,8 @@ returns-in_err-insert_image g c =
     let files = c.args.files.now in
     let d = desk g.S.Store old in
     let after = with_new_image acc image d in
-    let first_filed = IsOfWith after (IsFiledTo d.images acc files 0) in
-    let all_filed = IsOfWith after (IsFiledTo d.images acc files (length files)) in
+    let first_filed = IsDeskWith after (IsFiledTo d.images acc files 0) in
+    let all_filed = IsDeskWith after (IsFiledTo d.images acc files (length files)) in
     let e = c.in_err-insert_image.field-0.0 in
     let one : Moves {T = ℕ} {X = Error} g.S.Store (begun old) mid (LacksImage acc d) first_filed (Err e) =
     subst (λ h. Moves {T = ℕ} {X = Error} g.S.Store h mid (LacksImage acc d) first_filed (Err e)) c.transaction-tx.ensures.begun (c.in_err-insert_image.ensures.moves d files) in
@@ -47,8 +47,8 @@ returns-in_err-insert_files g c =
     let files = c.args.files.now in
     let d = desk g.S.Store old in
     let after = with_new_image acc image d in
-    let first_filed = IsOfWith after (IsFiledTo d.images acc files 0) in
-    let all_filed = IsOfWith after (IsFiledTo d.images acc files (length files)) in
+    let first_filed = IsDeskWith after (IsFiledTo d.images acc files 0) in
+    let all_filed = IsDeskWith after (IsFiledTo d.images acc files (length files)) in
     let n = c.in_ok-insert_image.field-0 in
     let e = c.in_err-insert_files.field-0.0 in
     let one : Moves {T = ℕ} {X = Error} g.S.Store (begun old) first (LacksImage acc d) first_filed (Ok n) =
@@ -74,8 +74,8 @@ returns g c =
     let files = c.args.files.now in
     let d = desk g.S.Store old in
     let after = with_new_image acc image d in
-    let first_filed = IsOfWith after (IsFiledTo d.images acc files 0) in
-    let all_filed = IsOfWith after (IsFiledTo d.images acc files (length files)) in
+    let first_filed = IsDeskWith after (IsFiledTo d.images acc files 0) in
+    let all_filed = IsDeskWith after (IsFiledTo d.images acc files (length files)) in
     let n = c.in_ok-insert_image.field-0 in
     let m = c.in_ok-insert_files.field-0 in
     let one : Moves {T = ℕ} {X = Error} g.S.Store (begun old) first (LacksImage acc d) first_filed (Ok n) =

@@ -7,8 +7,8 @@ use Rattle.rd_tables.proofs.Statements.{digest_params}
 use Rattle.rd_tables.proofs.StatementTexts.{drop_key_writes}
 use Rattle.rd_store.specs.Held.{IsOf, IsClean}
 use Rattle.rd_holdings.specs.State.{without_key}
-use Rattle.rd_store.proofs.Inside.{moves}
-use Rattle.rd_store.proofs.Making.{makes_no_key, of_schema}
+use Rattle.rd_store.proofs.TransactionSteps.{moves}
+use Rattle.rd_store.proofs.DatabaseSteps.{makes_no_key, of_schema}
 use Rattle.rd_store.proofs.keys.delete_digest.Goals as goal
 
 pub returns-clause-moves : goal.returns-clause-moves

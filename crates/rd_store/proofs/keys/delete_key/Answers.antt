@@ -6,8 +6,8 @@ use Rattle.rd_tables.proofs.StatementTexts.{drop_key_writes}
 use Rattle.rd_store.specs.Held.{IsClean, desk}
 use Rattle.rd_holdings.specs.State.{without_key}
 use Rattle.rd_store.proofs.Laws.{Laws}
-use Rattle.rd_store.proofs.Single.{single}
-use Rattle.rd_store.proofs.Making.{makes_no_key}
+use Rattle.rd_store.proofs.StatementCalls.{single}
+use Rattle.rd_store.proofs.DatabaseSteps.{makes_no_key}
 use Rattle.rd_holdings.proofs.Lawful.{lawful_no_key}
 use Rattle.rd_store.proofs.keys.delete_key.Goals as goal
 

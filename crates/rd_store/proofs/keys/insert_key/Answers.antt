@@ -8,8 +8,8 @@ use Rattle.rd_tables.proofs.StatementTexts.{put_key_writes}
 use Rattle.rd_store.specs.Codes.{audience_code}
 use Rattle.rd_store.specs.Held.{IsOf, IsClean}
 use Rattle.rd_holdings.specs.State.{with_key}
-use Rattle.rd_store.proofs.Inside.{moves}
-use Rattle.rd_store.proofs.Making.{makes_key, of_schema}
+use Rattle.rd_store.proofs.TransactionSteps.{moves}
+use Rattle.rd_store.proofs.DatabaseSteps.{makes_key, of_schema}
 use Rattle.rd_store.proofs.keys.insert_key.Goals as goal
 
 pub returns-clause-moves : goal.returns-clause-moves

@@ -1,6 +1,6 @@
 use Rattle.std.proofs.Common.{◌≡◌, map, take}
-use Rattle.rd_store.specs.Spelled.{key_sheet}
+use Rattle.rd_store.specs.Spelled.{key_spelling}
 use Rattle.rd_store.proofs.keys.read_keys.Given as goal
 
 abbrev pub invariant-loop-row : goal.invariant-loop-row
-invariant-loop-row l = l.keys.items ≡ map key_sheet.entry (take l.row-index l.rows)
+invariant-loop-row l = l.keys.items ≡ map key_spelling.entry (take l.row-index l.rows)

@@ -7,8 +7,8 @@ use Rattle.rd_holdings.specs.State.{Desk, digest_cmp, with_key, without_key}
 use Rattle.rd_store.proofs.Laws.{Laws, clean_at}
 use Rattle.rd_store.proofs.Orders.{digest_order}
 use Rattle.rd_holdings.proofs.Lawful.{lawful_key}
-use Rattle.rd_store.proofs.Inside.{begun, and_then, stopped, undoes, commits}
-use Rattle.rd_store.proofs.Whole.{starts, changes}
+use Rattle.rd_store.proofs.TransactionSteps.{begun, and_then, stopped, undoes, commits}
+use Rattle.rd_store.proofs.Transactions.{starts, changes}
 use Rattle.rd_store.proofs.keys.write_key.Goals as goal
 
 -- a key that was taken away and put is put in its place

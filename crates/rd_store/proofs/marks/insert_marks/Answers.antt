@@ -5,11 +5,11 @@ use Rattle.rd_tables.specs.Schemas.{desk_schema}
 use Rattle.rd_tables.specs.Statements.{put_marks_text, put_marks}
 use Rattle.rd_tables.proofs.Statements.{marks_params}
 use Rattle.rd_tables.proofs.StatementTexts.{put_marks_writes}
-use Rattle.rd_store.specs.Held.{IsOfWith, IsClean}
+use Rattle.rd_store.specs.Held.{IsDeskWith, IsClean}
 use Rattle.rd_store.specs.Index.{IsFiledTo, with_new_image}
 use Rattle.rd_store.specs.Marks.{with_marks}
-use Rattle.rd_store.proofs.Inside.{moves}
-use Rattle.rd_store.proofs.Making.{makes_marks, with_schema}
+use Rattle.rd_store.proofs.TransactionSteps.{moves}
+use Rattle.rd_store.proofs.DatabaseSteps.{makes_marks, with_schema}
 use Rattle.rd_store.proofs.marks.insert_marks.Goals as goal
 
 pub returns-clause-moves : goal.returns-clause-moves
@@ -22,4 +22,4 @@ returns-clause-moves g c before images files count image stands kind =
     let Index = IsFiledTo images acc files count in
     let runs : IsClean g.S.Store new → IsTrue old.in_transaction → ExecutesInside 0 put_marks_text params (state g.S.Store old) (state g.S.Store new) c.execute.result =
     rw (c.params-to_sql.ensures, c.params-to_sql-2.ensures) at c.execute.ensures.runs in
-    moves desk_schema put_marks_text put_marks put_marks_writes params (IsOfWith before Index) (IsOfWith (with_new_image acc (with_marks (Some marks) image) before) Index) (with_schema before Index) (makes_marks acc image marks before Index stands kind c.requires.count) g.S.Store old new c.execute.result c.execute.ensures.ended runs c.execute.ensures.survives
+    moves desk_schema put_marks_text put_marks put_marks_writes params (IsDeskWith before Index) (IsDeskWith (with_new_image acc (with_marks (Some marks) image) before) Index) (with_schema before Index) (makes_marks acc image marks before Index stands kind c.requires.count) g.S.Store old new c.execute.result c.execute.ensures.ended runs c.execute.ensures.survives

@@ -2,10 +2,10 @@ use Rattle.std.proofs.Common.{◌≢◌, ◌∙◌, Some, ap, rules, sym}
 use Rattle.std.proofs.lemmas.Result.{IfOk-weaker}
 use Rattle.sqlite.specs.Held.{state}
 use Rattle.rd_geometry.specs.declared.kind.Kind.TheVariants.{D64}
-use Rattle.rd_tables.specs.Sheets.{map_of}
+use Rattle.rd_tables.specs.Spellings.{map_of}
 use Rattle.rd_store.specs.Marks.{with_marks}
-use Rattle.rd_store.specs.Spelled.{image_sheet, marks_sheet}
-use Rattle.rd_store.proofs.Joined.{joined_at, no_others}
+use Rattle.rd_store.specs.Spelled.{image_spelling, marks_spelling}
+use Rattle.rd_store.proofs.MarkedImages.{joined_at, no_others}
 use Rattle.rd_store.proofs.Laws.{holds_tables, stays_still}
 use Rattle.rd_store.proofs.marks.marked_image.Goals as goal
 
@@ -13,12 +13,12 @@ use Rattle.rd_store.proofs.marks.marked_image.Goals as goal
 pub returns-then-ne-clause-asks : goal.returns-then-ne-clause-asks
 returns-then-ne-clause-asks g c = record {
   stays = stays_still g.S.Store c.args.conn.now (holds_tables (state g.S.Store c.args.conn.now) c.requires.holds);
-  ends_open = c.requires.awake;
+  ends_open = c.requires.open_if_clean;
   fault = tt;
   answer = λ is_open stands.
       let trees = (state g.S.Store c.args.conn.now).now.trees in
-      let images = map_of image_sheet (trees 2) in
-      let marks = map_of marks_sheet (trees 11) in
+      let images = map_of image_spelling (trees 2) in
+      let marks = map_of marks_spelling (trees 11) in
       let other : c.args.row.kind ≢ D64 = search rules in
       let none = no_others images marks (c.requires.holds is_open).holds.of.rows.marks.lawful c.args.acc c.args.row stands other in
       joined_at images marks c.args.acc c.args.row stands ∙ ap (λ m. Some (with_marks m c.args.row)) none;
@@ -34,5 +34,5 @@ returns-clause-asks g c = record {
       let trees = (state g.S.Store c.args.conn.now).now.trees in
       let found = c.in_ok-marks.ensures.asks.answer is_open at.holds.of.rows.marks.spells in
       IfOk-weaker c.with_marks.result _ _ (λ image is stands.
-      joined_at (map_of image_sheet (trees 2)) (map_of marks_sheet (trees 11)) c.args.acc c.args.row stands ∙ ap (λ m. Some (with_marks m c.args.row)) (sym found) ∙ ap Some (sym is)) c.with_marks.ensures.joined;
+      joined_at (map_of image_spelling (trees 2)) (map_of marks_spelling (trees 11)) c.args.acc c.args.row stands ∙ ap (λ m. Some (with_marks m c.args.row)) (sym found) ∙ ap Some (sym is)) c.with_marks.ensures.joined;
 }

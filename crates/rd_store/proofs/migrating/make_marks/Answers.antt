@@ -7,8 +7,8 @@ use Rattle.rd_tables.specs.Statements.{marks_text}
 use Rattle.rd_tables.proofs.CreateTexts.{creates_writes}
 use Rattle.rd_store.specs.Held.{IsClean}
 use Rattle.rd_store.specs.Migrated.{IsFirst, IsHalfway}
-use Rattle.rd_store.proofs.Brought.{makes_marks}
-use Rattle.rd_store.proofs.Inside.{moves}
+use Rattle.rd_store.proofs.MigrationLemmas.{makes_marks}
+use Rattle.rd_store.proofs.TransactionSteps.{moves}
 use Rattle.rd_store.proofs.migrating.make_marks.Goals as goal
 
 pub returns-clause-moves : goal.returns-clause-moves

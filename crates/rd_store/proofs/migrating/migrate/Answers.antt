@@ -5,8 +5,8 @@ use Rattle.rd_store.specs.Held.{IsOpen}
 use Rattle.rd_store.specs.Migrated.{IsHeldIn, IsNotMigrated, IsRegisterIn, first_desk}
 use Rattle.rd_store.specs.Register.{listed, register_of}
 use Rattle.rd_store.specs.declared.version.Version.{Version}
-use Rattle.rd_store.proofs.Brought.{all_brought, all_migrated, first_at, none_brought, opened_second, rests_by, untouched_by}
-use Rattle.rd_store.proofs.Judged.{err_told}
+use Rattle.rd_store.proofs.MigrationLemmas.{all_brought, all_migrated, first_at, none_brought, opened_second, rests_by, untouched_by}
+use Rattle.rd_store.proofs.DatabaseTests.{err_told}
 use Rattle.rd_store.proofs.Laws.{Laws}
 use Rattle.rd_store.proofs.Registers.{brought_listed, register_stays}
 use Rattle.rd_store.proofs.migrating.migrate.Goals as goal

@@ -4,8 +4,8 @@ use Rattle.rd_tables.specs.Statements.{set_version_text, set_version}
 use Rattle.rd_tables.proofs.StatementTexts.{set_version_writes}
 use Rattle.rd_store.specs.Held.{IsOf}
 use Rattle.rd_store.specs.Migrated.{IsHalfway}
-use Rattle.rd_store.proofs.Brought.{makes_second}
-use Rattle.rd_store.proofs.Inside.{moves}
+use Rattle.rd_store.proofs.MigrationLemmas.{makes_second}
+use Rattle.rd_store.proofs.TransactionSteps.{moves}
 use Rattle.rd_store.proofs.migrating.set_version.Goals as goal
 
 pub returns-clause-moves : goal.returns-clause-moves

@@ -2,7 +2,7 @@ use Rattle.std.proofs.Common.{Ok, Err, ℕ}
 use Rattle.sqlite.specs.declared.error.Error.{Error}
 use Rattle.rd_store.specs.Held.{IsOf, Moves}
 use Rattle.rd_store.specs.Migrated.{IsFirst, IsHalfway}
-use Rattle.rd_store.proofs.Inside.{and_then, stopped}
+use Rattle.rd_store.proofs.TransactionSteps.{and_then, stopped}
 use Rattle.rd_store.proofs.migrating.write_second_tables.Goals as goal
 
 pub returns-in_err-make_marks-clause-moves : goal.returns-in_err-make_marks-clause-moves

@@ -5,7 +5,7 @@ use Rattle.rd_store.specs.Created.{Turns}
 use Rattle.rd_store.specs.Held.{IsOf, Moves}
 use Rattle.rd_store.specs.Migrated.{IsFirst, first_desk}
 use Rattle.rd_store.proofs.Laws.{Laws, clean_at}
-use Rattle.rd_store.proofs.Inside.{begun, undoes, commits}
+use Rattle.rd_store.proofs.TransactionSteps.{begun, undoes, commits}
 use Rattle.rd_store.proofs.migrating.write_version.Goals as goal
 
 pub returns-in_err-write_second_tables : goal.returns-in_err-write_second_tables

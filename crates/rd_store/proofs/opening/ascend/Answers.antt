@@ -1,5 +1,5 @@
 use Rattle.std.proofs.lemmas.List.Sorted.{non_decreasing_from_is_sorted}
-use Rattle.rd_store.proofs.Walked.{truth_of}
+use Rattle.rd_store.proofs.ImageWalks.{truth_of}
 use Rattle.rd_store.proofs.opening.ascend.Goals as goal
 
 pub returns : goal.returns

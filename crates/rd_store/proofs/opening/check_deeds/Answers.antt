@@ -1,14 +1,14 @@
 use Rattle.std.proofs.Common.{rules, ◌∙◌, All, map, ap, sym, subst}
 use Rattle.sqlite.specs.Order.{column}
-use Rattle.rd_tables.specs.Sheets.{map_of, natural}
-use Rattle.rd_store.specs.Cells.{IsDeedRow}
+use Rattle.rd_tables.specs.Spellings.{map_of, natural}
+use Rattle.rd_store.specs.RowColumns.{IsDeedRow}
 use Rattle.rd_store.specs.Opened.{AreKeys}
-use Rattle.rd_store.specs.Spelled.{deed_sheet}
-use Rattle.rd_store.proofs.Verdicts.{deeds_told, deed_numbers}
+use Rattle.rd_store.specs.Spelled.{deed_spelling}
+use Rattle.rd_store.proofs.RowTests.{deeds_told, deed_numbers}
 use Rattle.rd_store.proofs.opening.check_deeds.Goals as goal
 use Rattle.std.specs.Prelude.{true, false}
 use Rattle.std.specs.List.Sorted.{IsNonDecreasing}
-use Rattle.rd_store.proofs.Searching.{numbers_ascend}
+use Rattle.rd_store.proofs.BinarySearch.{numbers_ascend}
 
 pub returns-then-not-are_deeds-clause-tests : goal.returns-then-not-are_deeds-clause-tests
 returns-then-not-are_deeds-clause-tests g c = record {
@@ -34,7 +34,7 @@ pub returns-in-Ok-clause-numbers : goal.returns-in-Ok-clause-numbers
 returns-in-Ok-clause-numbers g c is_open =
     let listed = c.in_ok-rows.ensures.asks.answer is_open in
     let lawful = deeds_told _ _ listed true (subst (All IsDeedRow) c.deref.ensures.value c.if-not-are_deeds.ensures) in
-    subst (AreKeys (map_of deed_sheet _)) (sym (c.in-Ok.ensures.numbers ∙ ap (map (λ row. natural (column row 0))) c.deref-2.ensures.value)) (deed_numbers _ _ listed lawful)
+    subst (AreKeys (map_of deed_spelling _)) (sym (c.in-Ok.ensures.numbers ∙ ap (map (λ row. natural (column row 0))) c.deref-2.ensures.value)) (deed_numbers _ _ listed lawful)
 
 pub returns-in-Ok-clause-ascending : goal.returns-in-Ok-clause-ascending
 returns-in-Ok-clause-ascending g c =

@@ -3,9 +3,9 @@ use Rattle.std.specs.Prelude.{true, false}
 use Rattle.std.specs.List.{Any}
 use Rattle.sqlite.specs.Held.{state}
 use Rattle.sqlite.specs.Order.{Row}
-use Rattle.rd_tables.proofs.Listed.{have_rowids}
-use Rattle.rd_store.specs.Cells.{IsKeyRow, IsStaffRow}
-use Rattle.rd_store.proofs.Verdicts.{staff_told}
+use Rattle.rd_tables.proofs.TestedRows.{have_rowids}
+use Rattle.rd_store.specs.RowColumns.{IsKeyRow, IsStaffRow}
+use Rattle.rd_store.proofs.RowTests.{staff_told}
 use Rattle.rd_store.proofs.opening.check_keys.Goals as goal
 
 pub returns-clause-tests : goal.returns-clause-tests

@@ -4,16 +4,16 @@ use Rattle.sqlite.specs.Effect.{Database}
 use Rattle.sqlite.specs.Held.{state}
 use Rattle.rd_tables.specs.Asked.{IsListed}
 use Rattle.rd_tables.specs.Queries.{all_marks_query}
-use Rattle.rd_tables.proofs.Listed.{have_rowids}
-use Rattle.rd_store.specs.Cells.{IsMarksRow}
+use Rattle.rd_tables.proofs.TestedRows.{have_rowids}
+use Rattle.rd_store.specs.RowColumns.{IsMarksRow}
 use Rattle.rd_store.specs.Opened.{AreFiledUnder, AreListed, HaveOtherRowids, IsConsistent, LawfulCommon}
 use Rattle.rd_store.specs.Register.{listed}
 use Rattle.rd_store.specs.Walked.{AreFiledOf, IsWalk, LawfulCommonWalk}
-use Rattle.rd_store.proofs.FilesTold.{filed_in}
+use Rattle.rd_store.proofs.IndexTests.{filed_in}
 use Rattle.rd_store.proofs.Laws.{common_tables, stays_common, stays_tables, stays_then}
-use Rattle.rd_store.proofs.Sequels.{common_in, files_in, marks_in}
-use Rattle.rd_store.proofs.Verdicts.{marks_told}
-use Rattle.rd_store.proofs.Walked.{checked_second, filed_second, firsts, known_marks, part_refused, register_second, then_part, walked_keys}
+use Rattle.rd_store.proofs.TestSequences.{common_in, files_in, marks_in}
+use Rattle.rd_store.proofs.RowTests.{marks_told}
+use Rattle.rd_store.proofs.ImageWalks.{checked_second, filed_second, firsts, known_marks, part_refused, register_second, then_part, walked_keys}
 use Rattle.rd_store.proofs.opening.check_rows.Goals as goal
 
 pub returns-in_err-rows-clause-tests : goal.returns-in_err-rows-clause-tests

@@ -1,8 +1,8 @@
 use Rattle.std.proofs.Common.{rules}
 use Rattle.sqlite.specs.Held.{state}
-use Rattle.rd_tables.proofs.Reading.{shown_is_open}
+use Rattle.rd_tables.proofs.QueryEffects.{shown_is_open}
 use Rattle.rd_store.proofs.Laws.{Laws, clean_at}
-use Rattle.rd_store.proofs.Querying.{shown_stays, failed_stays}
+use Rattle.rd_store.proofs.QueryEffects.{shown_stays, failed_stays}
 use Rattle.rd_store.proofs.read.read_over.Goals as goal
 
 pub returns-in-Ok : goal.returns-in-Ok

@@ -7,8 +7,8 @@ use Rattle.rd_tables.proofs.Statements.{place_params}
 use Rattle.rd_tables.proofs.StatementTexts.{drop_rule_writes}
 use Rattle.rd_store.specs.Held.{IsOf, IsClean}
 use Rattle.rd_holdings.specs.State.{place_of, without_rule, band_code}
-use Rattle.rd_store.proofs.Inside.{moves}
-use Rattle.rd_store.proofs.Making.{makes_no_rule, of_schema}
+use Rattle.rd_store.proofs.TransactionSteps.{moves}
+use Rattle.rd_store.proofs.DatabaseSteps.{makes_no_rule, of_schema}
 use Rattle.rd_store.proofs.rules.delete_place.Goals as goal
 
 pub returns-clause-moves : goal.returns-clause-moves

@@ -8,10 +8,10 @@ use Rattle.rd_tables.specs.Schemas.{desk_schema}
 use Rattle.rd_tables.specs.Statements.{put_rule_text, put_rule}
 use Rattle.rd_tables.proofs.StatementTexts.{put_rule_writes}
 use Rattle.rd_store.specs.Held.{IsOf, IsClean}
-use Rattle.rd_store.specs.Spelled.{rule_sheet}
+use Rattle.rd_store.specs.Spelled.{rule_spelling}
 use Rattle.rd_holdings.specs.State.{place_of, terms_of, with_rule}
-use Rattle.rd_store.proofs.Inside.{moves}
-use Rattle.rd_store.proofs.Making.{makes_rule, of_schema}
+use Rattle.rd_store.proofs.TransactionSteps.{moves}
+use Rattle.rd_store.proofs.DatabaseSteps.{makes_rule, of_schema}
 use Rattle.rd_store.proofs.rules.insert_rule.Goals as goal
 
 bound_or_null : (n : Option ℤ) → bound_value (or_null i32.to_sql-value.it n) ≡ or_null Int n
@@ -22,7 +22,7 @@ pub returns-clause-moves : goal.returns-clause-moves
 returns-clause-moves g c before free =
     let place = place_of c.args.rule.now in
     let terms = terms_of c.args.rule.now in
-    let params = rule_sheet.columns (place, terms) in
+    let params = rule_spelling.columns (place, terms) in
     let old = c.args.tx.now.conn.now in
     let new = c.execute.new.self.conn.now in
     let runs : IsClean g.S.Store new → IsTrue old.in_transaction → ExecutesInside 0 put_rule_text params (state g.S.Store old) (state g.S.Store new) c.execute.result =

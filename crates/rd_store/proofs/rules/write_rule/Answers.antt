@@ -7,8 +7,8 @@ use Rattle.rd_holdings.specs.State.{Desk, place_cmp, place_of, terms_of, with_ru
 use Rattle.rd_store.proofs.Laws.{Laws, clean_at}
 use Rattle.rd_store.proofs.Orders.{place_order}
 use Rattle.rd_holdings.proofs.Lawful.{lawful_rule}
-use Rattle.rd_store.proofs.Inside.{begun, and_then, stopped, undoes, commits}
-use Rattle.rd_store.proofs.Whole.{starts, changes}
+use Rattle.rd_store.proofs.TransactionSteps.{begun, and_then, stopped, undoes, commits}
+use Rattle.rd_store.proofs.Transactions.{starts, changes}
 use Rattle.rd_store.proofs.rules.write_rule.Goals as goal
 
 -- a rule that was taken away and put is put in its place

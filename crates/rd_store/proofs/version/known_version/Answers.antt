@@ -1,6 +1,6 @@
 use Rattle.std.proofs.Common.{subst}
 use Rattle.rd_tables.specs.Schemas.{TellsVersion}
-use Rattle.rd_store.proofs.Judged.{says_asked}
+use Rattle.rd_store.proofs.DatabaseTests.{says_asked}
 use Rattle.rd_store.proofs.version.known_version.Goals as goal
 
 pub said_version-requires-clause-tells : goal.said_version-requires-clause-tells

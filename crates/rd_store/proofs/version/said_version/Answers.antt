@@ -1,7 +1,7 @@
 use Rattle.std.proofs.Common.{rules, ◌≡◌, pos, [], ◌∷◌, map, true, false, subst}
 use Rattle.sqlite.specs.declared.types.Value.TheVariants.{Int}
 use Rattle.sqlite.specs.Order.{column}
-use Rattle.rd_store.proofs.Verdicts.{version_told}
+use Rattle.rd_store.proofs.RowTests.{version_told}
 use Rattle.rd_store.proofs.version.said_version.Goals as goal
 
 pub returns-then-is_version : goal.returns-then-is_version

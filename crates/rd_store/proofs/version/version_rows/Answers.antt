@@ -1,9 +1,9 @@
 use Rattle.std.proofs.Common.{[], refl, rules}
 use Rattle.sqlite.specs.Held.{state}
 use Rattle.rd_tables.proofs.VersionText.{version_asks}
-use Rattle.rd_tables.proofs.Reading.{shown_is_open, shown_picks}
+use Rattle.rd_tables.proofs.QueryEffects.{shown_is_open, shown_picks}
 use Rattle.rd_store.proofs.Laws.{Laws, clean_at}
-use Rattle.rd_store.proofs.Querying.{shown_stays, failed_stays}
+use Rattle.rd_store.proofs.QueryEffects.{shown_stays, failed_stays}
 use Rattle.rd_store.proofs.version.version_rows.Goals as goal
 
 pub returns-in-Ok : goal.returns-in-Ok

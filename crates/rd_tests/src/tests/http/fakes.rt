@@ -20,14 +20,14 @@ pub(super) struct Fragile<'a> {
     pub(super) reads: usize,
     taken: usize,
     writes: usize,
-    take_failed: bool,
-    put_failed: bool,
+    read_failed: bool,
+    write_failed: bool,
 }
 
 impl<'a> Fragile<'a> {
     pub(super) fn new(alloc: Global, came: &'a [u8], plan: Plan) -> Fragile<'a>
-        ensures ready { result.take_failed ≡ false }
-        ensures put_ready { result.put_failed ≡ false }
+        ensures ready { result.read_failed ≡ false }
+        ensures write_ready { result.write_failed ≡ false }
     {
         let (_, given, reads, taken, writes) = plan;
         Fragile {
@@ -37,8 +37,8 @@ impl<'a> Fragile<'a> {
             reads,
             taken,
             writes,
-            take_failed: false,
-            put_failed: false,
+            read_failed: false,
+            write_failed: false,
         }
     }
 }
@@ -50,15 +50,15 @@ impl Wire for Fragile<'_> {
 
     ghost outgoing = { λ _. None };
 
-    ghost take_failed = { λ wire. wire.take_failed };
+    ghost read_failed = { λ wire. wire.read_failed };
 
-    ghost put_failed = { λ wire. wire.put_failed };
+    ghost write_failed = { λ wire. wire.write_failed };
 
     ghost unsent = { λ _. 0 };
 
     fn take(&mut self, into: &mut [u8]) -> Result<usize, Broken> {
         if self.reads == 0 {
-            self.take_failed = true;
+            self.read_failed = true;
             return Err(Broken);
         }
         self.reads -= 1;
@@ -71,7 +71,7 @@ impl Wire for Fragile<'_> {
     fn put(&mut self, bytes: &[u8]) -> Result<usize, Broken> {
         let count = bytes.len().min(self.taken);
         if self.writes == 0 || count == 0 || self.out.extend_from_slice(&bytes[..count]).is_err() {
-            self.put_failed = true;
+            self.write_failed = true;
             return Err(Broken);
         }
         self.writes -= 1;
@@ -81,7 +81,7 @@ impl Wire for Fragile<'_> {
     /// Takes one of the writes.
     fn flush(&mut self) -> Result<(), Broken> {
         if self.writes == 0 {
-            self.put_failed = true;
+            self.write_failed = true;
             return Err(Broken);
         }
         self.writes -= 1;

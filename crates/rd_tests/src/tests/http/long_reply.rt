@@ -18,7 +18,7 @@ const PARTS: usize = 600;
 #[derive(Drop)]
 struct Working<W: Wire + Drop> {
     wire: W,
-    ghost works: { W.put_failed wire ≡ false },
+    ghost works: { W.write_failed wire ≡ false },
 }
 
 /// Puts a part. It gives the connection, and how many bytes of the part it took.

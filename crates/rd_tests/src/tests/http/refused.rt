@@ -70,7 +70,7 @@ fn serve_next(
 
 /// Whether memory was refused for what goes out at the one visit of a door.
 fn is_cut(door: &MemoryDoor) -> bool {
-    matches!(door.visits(), [visit] if visit.put_failed())
+    matches!(door.visits(), [visit] if visit.write_failed())
 }
 
 /// How a visit ends, and what goes out at it. It ends with a fault exactly where memory is refused for what goes out.
@@ -672,7 +672,7 @@ fn two_again(alloc: Global) -> Result<MemoryDoor, NoMemory> {
 /// At a visit its reply went out, or that of a desk that is unavailable, or a front of its reply where the write
 /// failed.
 fn is_answered(visit: &MemoryVisit, wanted: &[u8], unavailable: &[u8]) -> bool {
-    if visit.put_failed() {
+    if visit.write_failed() {
         return visit.out() != wanted && wanted.starts_with(visit.out());
     }
     visit.out() == wanted || visit.out() == unavailable
@@ -680,7 +680,7 @@ fn is_answered(visit: &MemoryVisit, wanted: &[u8], unavailable: &[u8]) -> bool {
 
 /// How many writes of two visits failed.
 fn failed(first: &MemoryVisit, second: &MemoryVisit) -> u32 {
-    match (first.put_failed(), second.put_failed()) {
+    match (first.write_failed(), second.write_failed()) {
         (true, true) => 2,
         (false, false) => 0,
         _ => 1,

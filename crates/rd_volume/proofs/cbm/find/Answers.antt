@@ -8,7 +8,7 @@ returns-in_default-clause-file c = found_none (cbm_kind c.args.disk.now) c.args.
 pub tell-requires : goal.tell-requires
 tell-requires c =
     let at = c.in_ok-file.ensures in
-    few_blocks (cbm_bytes c.args.disk.now) at.blocks c.in-Some.file (answered _ at.blocks _ c.in-Some.file c.in-Some.is at.told)
+    few_blocks (cbm_bytes c.args.disk.now) at.blocks c.in-Some.file (answered _ at.blocks _ c.in-Some.file c.in-Some.is at.described)
 
 pub returns-clause-file : goal.returns-clause-file
 returns-clause-file c =

@@ -1,7 +1,7 @@
 use Rattle.std.proofs.Common.{◌≡◌, ◌∙◌, [], ◌∷◌, ap, append_assoc, arith, length}
 use Rattle.std.specs.Vec.Iter.{into_iter_items}
 use Rattle.rd_volume.specs.Tells.{TellsCpm}
-use Rattle.rd_volume.proofs.ToldLemmas.{told_more}
+use Rattle.rd_volume.proofs.ListLemmas.{told_more}
 use Rattle.rd_volume.proofs.cpm.tell_files.Goals as goal
 
 pub loop-file-preserved : goal.loop-file-preserved
@@ -14,5 +14,5 @@ loop-file-preserved c =
           let gone = c.in-Some.ensures.steps.1 in
           let short = ap length steps in
           omega arith;
-      told = rw c.in_ok-push.ensures.items (told_more TellsCpm _ _ _ _ at.invariant.told c.in_ok-tell.ensures);
+      described = rw c.in_ok-push.ensures.items (told_more TellsCpm _ _ _ _ at.invariant.described c.in_ok-tell.ensures);
     }

@@ -7,5 +7,5 @@ abbrev pub invariant-loop-file : goal.invariant-loop-file
 invariant-loop-file l = record {
   left : l.yielded ++ into_iter_items l.file-iterator ≡ into_iter_items l.initial.file-iterator;
   count : into_iter_len l.file-iterator ≡ length (into_iter_items l.file-iterator);
-  told : TellsCpmFiles l.yielded l.founds.items;
+  described : TellsCpmFiles l.yielded l.founds.items;
 }

@@ -1,6 +1,6 @@
 use Rattle.std.proofs.Common.{rules}
 use Rattle.rd_volume.specs.Words.{words_left}
-use Rattle.rd_commands.proofs.WordsWritten.{first_word, next_word, no_words}
+use Rattle.rd_commands.proofs.BlankedWords.{first_word, next_word, no_words}
 use Rattle.rd_commands.proofs.printed.JoinedDisplay.fmt.Goals.{in-Some+in_ok-write_str, in_default}
 use Rattle.rd_commands.proofs.printed.JoinedDisplay.fmt.Goals as goal
 

@@ -1,4 +1,4 @@
-use Rattle.rd_commands.proofs.WordsWritten.{HasWrittenBefore}
+use Rattle.rd_commands.proofs.BlankedWords.{HasWrittenBefore}
 use Rattle.rd_commands.specs.Printed.{joined}
 use Rattle.rd_volume.specs.Words.{words_left}
 use Rattle.rd_commands.proofs.printed.JoinedDisplay.fmt.Given as goal

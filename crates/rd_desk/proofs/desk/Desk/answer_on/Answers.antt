@@ -1,7 +1,7 @@
 use Rattle.std.proofs.Common.{subst, w32}
 use Rattle.std.proofs.lemmas.Int.{to_z-of_z}
 use Rattle.rd_desk.specs.Served.{Serves}
-use Rattle.rd_desk.proofs.Serving.{serves}
+use Rattle.rd_desk.proofs.ReplyLemmas.{serves}
 use Rattle.rd_desk.proofs.desk.Desk.answer_on.Goals as goal
 
 pub returns-clause-serves : goal.returns-clause-serves

@@ -2,7 +2,7 @@ use Rattle.std.proofs.Common.{◌++◌, ◌∷◌, [], subst, sym}
 use Rattle.std.proofs.lemmas.Result.{IfOk-weaker}
 use Rattle.std.specs.List.{AllZip}
 use Rattle.rd_protocol.specs.Replies.{IsListing}
-use Rattle.rd_protocol.proofs.Cataloguing.{listing_more}
+use Rattle.rd_protocol.proofs.CatalogueLemmas.{listing_more}
 use Rattle.rd_desk.proofs.overviews.CatalogueSeenOverview.with_one.Goals as goal
 
 pub returns : goal.returns

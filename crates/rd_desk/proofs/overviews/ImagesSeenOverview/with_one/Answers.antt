@@ -1,7 +1,7 @@
 use Rattle.std.proofs.Common.{◌++◌, ◌∷◌, [], subst, sym}
 use Rattle.std.proofs.lemmas.Result.{IfOk-weaker}
 use Rattle.rd_protocol.specs.Queries.{AreLinesOfEach}
-use Rattle.rd_protocol.proofs.Selecting.{image_more, nothing_more}
+use Rattle.rd_protocol.proofs.ListedFiles.{image_more, nothing_more}
 use Rattle.rd_desk.proofs.overviews.ImagesSeenOverview.with_one.Goals as goal
 
 pub returns-then-line-eq0 : goal.returns-then-line-eq0

@@ -1,7 +1,7 @@
 use Rattle.std.proofs.Common.{◌≡◌, ◌∙◌, Some, ap, map}
 use Rattle.serde_json.specs.Find.{as_array}
 use Rattle.serde_json.specs.View.{items_of, view}
-use Rattle.rd_messages.proofs.Keys.{if_none, no_audiences}
+use Rattle.rd_messages.proofs.ObjectKeys.{if_none, no_audiences}
 use Rattle.rd_messages.proofs.bodies.audiences.audiences_at.Goals as goal
 
 pub returns-clause-none : goal.returns-clause-none

@@ -5,7 +5,7 @@ use Rattle.std.proofs.lemmas.List.{length-map, map_more, take-map, take_all}
 use Rattle.serde_json.specs.View.{view}
 use Rattle.serde_json.specs.declared.value.Value.{Value}
 use Rattle.rd_policy.specs.declared.audience.Audiences.{Audiences}
-use Rattle.rd_messages.proofs.Naming.{Names, named_twice, names_all, names_more, names_nobody, no_word}
+use Rattle.rd_messages.proofs.AudienceWords.{Names, named_twice, names_all, names_more, names_nobody, no_word}
 use Rattle.rd_messages.proofs.bodies.audiences.audiences_in.Goals as goal
 
 -- the value at a place, as it is seen
@@ -31,7 +31,7 @@ returns-then-contains-clause-none c = λ set.
     let front = subst (λ front. Names front c.loop-value.set) (sym (take-map view i values)) c.loop-value.invariant in
     named_twice (map view values) i (view c.value-item.result) c.loop-value.set set c.in_ok-audience.audience
     (omega (arith, length-map values view, c.loop-value-test.true)) (at_place values i c.value-item.result c.value-item.is)
-    c.in_ok-audience.ensures.told front (c.contains.ensures.0 c.if-contains.true)
+    c.in_ok-audience.ensures.parsed front (c.contains.ensures.0 c.if-contains.true)
 
 pub loop-value-preserved : goal.loop-value-preserved
 loop-value-preserved c =
@@ -42,7 +42,7 @@ loop-value-preserved c =
     ∙ ap (λ value. map view (take i values) ++ view value ∷ []) (sym c.value-item.is) in
     subst (λ front. Names front c.with-set.result) (sym longer)
     (names_more (map view (take i values)) (view c.value-item.result) c.loop-value.set c.with-set.result c.in_ok-audience.audience
-    c.loop-value.invariant c.in_ok-audience.ensures.told (iff_false c.contains.ensures c.if-contains.false) c.with-set.ensures)
+    c.loop-value.invariant c.in_ok-audience.ensures.parsed (iff_false c.contains.ensures c.if-contains.false) c.with-set.ensures)
 
 pub returns-then-is_empty-clause-none : goal.returns-then-is_empty-clause-none
 returns-then-is_empty-clause-none c = λ set.
@@ -51,8 +51,8 @@ returns-then-is_empty-clause-none c = λ set.
     (all_names values c.loop-value.value-index c.loop-value.set c.loop-value-test.false c.loop-value.invariant)
     (c.is_empty.ensures.0 c.if-is_empty.true)
 
-pub returns-else-is_empty-clause-told : goal.returns-else-is_empty-clause-told
-returns-else-is_empty-clause-told c =
+pub returns-else-is_empty-clause-parsed : goal.returns-else-is_empty-clause-parsed
+returns-else-is_empty-clause-parsed c =
     let values = c.args.values.now in
     names_all (map view values) c.loop-value.set
     (all_names values c.loop-value.value-index c.loop-value.set c.loop-value-test.false c.loop-value.invariant)

@@ -1,6 +1,6 @@
 use Rattle.std.proofs.Common.{map, take}
 use Rattle.serde_json.specs.View.{view}
-use Rattle.rd_messages.proofs.Naming.{Names}
+use Rattle.rd_messages.proofs.AudienceWords.{Names}
 use Rattle.rd_messages.proofs.bodies.audiences.audiences_in.Given as goal
 
 -- the words so far name the set

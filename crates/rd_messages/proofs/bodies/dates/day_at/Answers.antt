@@ -4,11 +4,11 @@ use Rattle.serde_json.specs.Find.{as_str}
 use Rattle.serde_json.specs.View.{view}
 use Rattle.rd_policy.specs.Dates.{IsDateOf}
 use Rattle.rd_messages.specs.Objects.{text_at}
-use Rattle.rd_messages.proofs.Keys.{no_day}
+use Rattle.rd_messages.proofs.ObjectKeys.{no_day}
 use Rattle.rd_messages.proofs.bodies.dates.day_at.Goals as goal
 
-pub returns-in-Some-2-clause-told : goal.returns-in-Some-2-clause-told
-returns-in-Some-2-clause-told c =
+pub returns-in-Some-2-clause-parsed : goal.returns-in-Some-2-clause-parsed
+returns-in-Some-2-clause-parsed c =
     let text : text_at c.args.key.now (view c.args.value.now) ≡ Some c.in-Some-as_str.date.now =
     sym (ap (option_and_then as_str) c.in-Some.ensures) ∙ sym c.in-Some-as_str.ensures in
     let day = rw c.in-Some-2.is at c.in_ok-day.ensures in

@@ -2,8 +2,8 @@ use Rattle.std.proofs.Common.{subst}
 use Rattle.std.proofs.lemmas.Result.{IfOk-weaker}
 use Rattle.serde_json.specs.View.{view}
 use Rattle.rd_messages.specs.RequestBodies.{IsNoDeedBody, TellsDeed, TellsNoDeed}
-use Rattle.rd_messages.proofs.Keys.{if_none}
-use Rattle.rd_messages.proofs.OneBody.{one_value}
+use Rattle.rd_messages.proofs.ObjectKeys.{if_none}
+use Rattle.rd_messages.proofs.BodyUniqueness.{one_value}
 use Rattle.rd_messages.proofs.bodies.deed.deed_body.Goals as goal
 
 pub returns-in-Some-clause-none : goal.returns-in-Some-clause-none

@@ -1,5 +1,5 @@
 use Rattle.std.proofs.Common.{◌∙◌, sym}
-use Rattle.rd_messages.proofs.Keys.{any_contains, any_from_contains}
+use Rattle.rd_messages.proofs.ObjectKeys.{any_contains, any_from_contains}
 use Rattle.rd_messages.proofs.bodies.objects.is_among.Goals as goal
 
 pub returns : goal.returns

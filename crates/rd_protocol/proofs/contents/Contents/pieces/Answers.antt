@@ -4,7 +4,7 @@ use Rattle.rd_volume.specs.Volumes.{pieces_of}
 use Rattle.rd_protocol.specs.Kept.{lent_kept}
 use Rattle.rd_protocol.specs.Lent.{Lent}
 use Rattle.rd_protocol.specs.Slices.{AreSlicesOf, not_empty}
-use Rattle.rd_protocol.proofs.Slicing.{lent_sliced}
+use Rattle.rd_protocol.proofs.SliceLemmas.{lent_sliced}
 use Rattle.rd_protocol.proofs.contents.Contents.pieces.Goals as goal
 
 pub returns-clause-slices : goal.returns-clause-slices

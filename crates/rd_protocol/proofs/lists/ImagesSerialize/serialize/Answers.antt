@@ -1,6 +1,6 @@
 use Rattle.std.proofs.lemmas.Result.{on_ok_weaker}
 use Rattle.rd_protocol.specs.Texts.{image_data}
-use Rattle.rd_protocol.proofs.Sending.{sent_array}
+use Rattle.rd_protocol.proofs.JsonWriting.{sent_array}
 use Rattle.rd_protocol.proofs.lists.ImagesSerialize.serialize.Goals as goal
 
 pub returns : goal.returns

@@ -11,5 +11,5 @@ returns g c =
     let effect : c.word-effect.result.now ≡ effect_word line.verdict.effect = c.word-effect.ensures in
     let faults : map (λ word. word.now) c.as_slice.result.now ≡ words_of c.args.self.now.kind line.file.faults = search rules in
     let rule : c.as_str.result.now ≡ label_text line.verdict.label = search rules in
-    subst (λ told. OnOk c.send_file.result (SendsValue told (g.S.Serializer.written c.args.out.now) (g.S.Serializer.written c.send_file.new.out)))
+    subst (λ described. OnOk c.send_file.result (SendsValue described (g.S.Serializer.written c.args.out.now) (g.S.Serializer.written c.send_file.new.out)))
     (λ i. file_data (effect i) (texts (faults i)) (rule i) line.file) c.send_file.ensures

@@ -8,7 +8,7 @@ use Rattle.rd_store.specs.Batched.{IsIndexed}
 use Rattle.rd_store.specs.Held.{Asks, Reads, desk}
 use Rattle.rd_store.specs.Spelled.{index_of}
 use Rattle.rd_store.proofs.ReadLemmas.{reads_of}
-use Rattle.rd_store.proofs.Indexing.{batch_told}
+use Rattle.rd_store.proofs.BatchQueries.{batch_told}
 use Rattle.rd_store.proofs.Laws.{Laws}
 use Rattle.rd_store.proofs.store.Store.batch.Goals as goal
 

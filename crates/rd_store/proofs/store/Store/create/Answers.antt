@@ -6,7 +6,7 @@ use Rattle.rd_store.specs.Register.{register_of}
 use Rattle.rd_holdings.specs.State.{Desk}
 use Rattle.rd_store.proofs.Laws.{Laws, same_commit}
 use Rattle.rd_store.proofs.Registers.{register_empty}
-use Rattle.rd_store.proofs.Creating.{rests_new, made_or_old, only_new}
+use Rattle.rd_store.proofs.CreationLemmas.{rests_new, made_or_old, only_new}
 use Rattle.rd_store.proofs.store.Store.create.Goals as goal
 
 pub invariant_of-result : goal.invariant_of-result

@@ -1,7 +1,7 @@
 use Rattle.std.proofs.Common.{rules, ◌∙◌, ap, map}
 use Rattle.std.proofs.lemmas.Result.{IfOk-weaker}
-use Rattle.rd_store.specs.Spelled.{deed_sheet}
-use Rattle.rd_store.proofs.Found.{deeds_back}
+use Rattle.rd_store.specs.Spelled.{deed_spelling}
+use Rattle.rd_store.proofs.QueryResults.{deeds_back}
 use Rattle.rd_store.proofs.store.Store.deeds.Goals as goal
 
 pub returns-clause-reads : goal.returns-clause-reads
@@ -10,5 +10,5 @@ returns-clause-reads g c = record {
   ends_open = search rules;
   answer = λ is_open.
       let rows = c.deref.ensures.value ∙ c.in_ok-rows.ensures.reads.answer is_open in
-      IfOk-weaker c.read_deeds.result _ _ (λ read is. is ∙ ap (map deed_sheet.entry) rows ∙ deeds_back _) c.read_deeds.ensures.entries;
+      IfOk-weaker c.read_deeds.result _ _ (λ read is. is ∙ ap (map deed_spelling.entry) rows ∙ deeds_back _) c.read_deeds.ensures.entries;
 }

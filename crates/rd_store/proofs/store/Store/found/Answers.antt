@@ -6,7 +6,7 @@ use Rattle.rd_store.specs.Held.{Asks, Reads, desk}
 use Rattle.rd_store.specs.Index.{AreFilesIn}
 use Rattle.rd_store.specs.Spelled.{file_in}
 use Rattle.rd_store.proofs.ReadLemmas.{reads_of}
-use Rattle.rd_store.proofs.FilesFound.{files_found}
+use Rattle.rd_store.proofs.IndexQueries.{files_found}
 use Rattle.rd_store.proofs.Laws.{Laws}
 use Rattle.rd_store.proofs.Orders.{files_back}
 use Rattle.rd_store.proofs.store.Store.found.Goals as goal

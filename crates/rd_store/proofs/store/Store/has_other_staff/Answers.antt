@@ -1,7 +1,7 @@
 use Rattle.std.proofs.Common.{rules, ◌∙◌}
 use Rattle.std.proofs.lemmas.Result.{IfOk-weaker}
 use Rattle.rd_store.specs.Held.{desk}
-use Rattle.rd_store.proofs.Found.{other_told}
+use Rattle.rd_store.proofs.QueryResults.{other_told}
 use Rattle.rd_store.proofs.store.Store.has_other_staff.Goals as goal
 
 pub returns-clause-reads : goal.returns-clause-reads

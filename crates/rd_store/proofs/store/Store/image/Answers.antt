@@ -2,13 +2,13 @@ use Rattle.std.proofs.Common.{◌≡◌, Option, Some, None, Ok, ◌∙◌, rule
 use Rattle.std.specs.FinMap.{get}
 use Rattle.sqlite.specs.Effect.{Database}
 use Rattle.sqlite.specs.Held.{state}
-use Rattle.rd_tables.specs.Sheets.{map_of}
+use Rattle.rd_tables.specs.Spellings.{map_of}
 use Rattle.rd_holdings.specs.declared.rows.ImageRow.{ImageRow}
 use Rattle.rd_store.specs.declared.faults.StoreFault.TheVariants.{Sql}
 use Rattle.rd_store.specs.Held.{Asks, Reads, desk}
-use Rattle.rd_store.specs.Spelled.{desk_of, image_sheet, marks_sheet}
+use Rattle.rd_store.specs.Spelled.{desk_of, image_spelling, marks_spelling}
 use Rattle.rd_store.proofs.ReadLemmas.{reads_of}
-use Rattle.rd_store.proofs.Joined.{joined_nowhere}
+use Rattle.rd_store.proofs.MarkedImages.{joined_nowhere}
 use Rattle.rd_store.proofs.Laws.{Laws, stays_then}
 use Rattle.rd_store.proofs.store.Store.image.Goals as goal
 
@@ -24,7 +24,7 @@ returns-in_default-clause-reads g c =
       answer = λ is_open.
           let at = c.self.invariant.0 (c.image_at.ensures.asks.stays.lasts.was_open is_open) in
           let trees = (state g.S.Store old).now.trees in
-          sym (joined_nowhere (map_of image_sheet (trees 2)) (map_of marks_sheet (trees 11)) c.args.acc (sym (c.in_ok-found.ensures.asks.answer is_open at.holds.of.rows.images) ∙ c.in_default.is));
+          sym (joined_nowhere (map_of image_spelling (trees 2)) (map_of marks_spelling (trees 11)) c.args.acc (sym (c.in_ok-found.ensures.asks.answer is_open at.holds.of.rows.images) ∙ c.in_default.is));
     } in
     subst (λ h. Reads g.S.Store h new (Ok None) (λ (found : Option ImageRow). found ≡ get (desk g.S.Store h).images c.args.acc)) c.self.view_is (reads_of g.S.Store laws old new c.self.invariant.0 asks)
 
@@ -55,7 +55,7 @@ returns-clause-reads g c =
           let was = c.marked_image.ensures.asks.stays.lasts.was_open is_open in
           let at = c.self.invariant.0 (c.image_at.ensures.asks.stays.lasts.was_open was) in
           let row = sym (c.in_ok-found.ensures.asks.answer was at.holds.of.rows.images) ∙ c.in-Some.is in
-          sym (subst (λ (db : Database). get (map_of image_sheet (db.trees 2)) c.args.acc ≡ Some c.in-Some.row → get (desk_of db.trees).images c.args.acc ≡ Some c.in_ok-marked_image.field-0)
+          sym (subst (λ (db : Database). get (map_of image_spelling (db.trees 2)) c.args.acc ≡ Some c.in-Some.row → get (desk_of db.trees).images c.args.acc ≡ Some c.in_ok-marked_image.field-0)
           (c.image_at.ensures.asks.stays.now was) (c.in_ok-marked_image.ensures.asks.answer is_open) row);
     } in
     subst (λ h. Reads g.S.Store h new (Ok (Some c.in_ok-marked_image.field-0)) (λ (found : Option ImageRow). found ≡ get (desk g.S.Store h).images c.args.acc)) c.self.view_is (reads_of g.S.Store laws old new c.self.invariant.0 asks)

@@ -1,7 +1,7 @@
 use Rattle.std.proofs.Common.{rules, ◌∙◌, ap, map}
 use Rattle.std.proofs.lemmas.Result.{IfOk-weaker}
-use Rattle.rd_store.specs.Spelled.{key_sheet}
-use Rattle.rd_store.proofs.Found.{keys_back}
+use Rattle.rd_store.specs.Spelled.{key_spelling}
+use Rattle.rd_store.proofs.QueryResults.{keys_back}
 use Rattle.rd_store.proofs.store.Store.keys.Goals as goal
 
 pub returns-clause-reads : goal.returns-clause-reads
@@ -10,5 +10,5 @@ returns-clause-reads g c = record {
   ends_open = search rules;
   answer = λ is_open.
       let rows = c.deref.ensures.value ∙ c.in_ok-rows.ensures.reads.answer is_open in
-      IfOk-weaker c.read_keys.result _ _ (λ read is. is ∙ ap (map key_sheet.entry) rows ∙ keys_back _) c.read_keys.ensures.entries;
+      IfOk-weaker c.read_keys.result _ _ (λ read is. is ∙ ap (map key_spelling.entry) rows ∙ keys_back _) c.read_keys.ensures.entries;
 }

@@ -1,8 +1,8 @@
 use Rattle.std.proofs.Common.{[], ◌∷◌, pos}
 use Rattle.sqlite.specs.declared.types.Value.TheVariants.{Int}
 use Rattle.sqlite.specs.Held.{state}
-use Rattle.rd_tables.proofs.Reading.{shown_was_open, shown_starts}
-use Rattle.rd_store.proofs.LatestFound.{latest_asks, latest_found}
+use Rattle.rd_tables.proofs.QueryEffects.{shown_was_open, shown_starts}
+use Rattle.rd_store.proofs.LatestCheckQuery.{latest_asks, latest_found}
 use Rattle.rd_store.proofs.ReadLemmas.{reads_as}
 use Rattle.rd_store.proofs.store.Store.latest_rows.Goals as goal
 

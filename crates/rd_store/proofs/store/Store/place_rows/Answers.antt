@@ -1,8 +1,8 @@
 use Rattle.std.proofs.Common.{[]}
 use Rattle.sqlite.specs.Held.{state}
 use Rattle.rd_tables.proofs.QueryTexts.{placed_rules_asks}
-use Rattle.rd_tables.proofs.Reading.{shown_was_open, shown_picks}
-use Rattle.rd_store.proofs.Found.{rules_placed}
+use Rattle.rd_tables.proofs.QueryEffects.{shown_was_open, shown_picks}
+use Rattle.rd_store.proofs.QueryResults.{rules_placed}
 use Rattle.rd_store.proofs.ReadLemmas.{reads_as}
 use Rattle.rd_store.proofs.store.Store.place_rows.Goals as goal
 

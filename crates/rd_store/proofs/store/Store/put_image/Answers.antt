@@ -20,6 +20,6 @@ returns-in-Some-2-clause-judges g c =
     let some : IsSome c.in_ok-deed.field-0 = search rules in
     let apart : ¬ IsSameHeading c.in-Some.standing (heading_of image) = subst (λ b. MatchBool b (IsSameHeading c.in-Some.standing (heading_of image)) (¬ IsSameHeading c.in-Some.standing (heading_of image))) c.if-is_same.false c.is_same.ensures in
     record {
-      told = λ o. (subst (λ (row : Option DeedRow). IsSome row) (c.in_ok-deed.ensures.reads.answer o) some, another d c.args.acc image c.in-Some.standing (found o) apart);
+      why = λ o. (subst (λ (row : Option DeedRow). IsSome row) (c.in_ok-deed.ensures.reads.answer o) some, another d c.args.acc image c.in-Some.standing (found o) apart);
       ends_open = c.in_ok-deed.ensures.reads.ends_open;
     }

@@ -1,6 +1,6 @@
 use Rattle.std.proofs.Common.{◌≡◌, ◌∙◌, IfOk, ap, map, rules, subst}
 use Rattle.rd_store.specs.Held.{desk}
-use Rattle.rd_store.specs.Register.{IsRegisterOf, given_in, register_of}
+use Rattle.rd_store.specs.Register.{IsRegisterOf, numbered_accession, register_of}
 use Rattle.rd_holdings.specs.State.{Desk}
 use Rattle.rd_store.proofs.Registers.{givens_told}
 use Rattle.rd_store.proofs.store.Store.register.Goals as goal
@@ -12,6 +12,6 @@ returns-clause-reads g c = record {
   answer = λ is_open.
       let now = subst (λ h. IsRegisterOf g.S.Store h c.self.inside.register) c.self.view_is c.self.invariant.1 is_open in
       let was = now ∙ ap (λ (d : Desk). register_of d.images) (c.stays_open.ensures.reads.keeps.same is_open) in
-      let all = ap (map given_in) was ∙ givens_told (desk g.S.Store c.args.self.now).images in
-      subst (λ l. IfOk c.givens.result (λ givens. givens.items ≡ l)) all c.givens.ensures.givens;
+      let all = ap (map numbered_accession) was ∙ givens_told (desk g.S.Store c.args.self.now).images in
+      subst (λ l. IfOk c.numbered.result (λ numbered. numbered.items ≡ l)) all c.numbered.ensures.numbered;
 }

@@ -1,7 +1,7 @@
 use Rattle.std.proofs.Common.{rules, ◌∙◌, ap, map}
-use Rattle.rd_store.specs.Spelled.{rule_sheet}
+use Rattle.rd_store.specs.Spelled.{rule_spelling}
 use Rattle.rd_holdings.specs.State.{rule_of}
-use Rattle.rd_store.proofs.Found.{rules_back}
+use Rattle.rd_store.proofs.QueryResults.{rules_back}
 use Rattle.rd_store.proofs.store.Store.rulebook.Goals as goal
 
 pub returns-in-Some-clause-reads : goal.returns-in-Some-clause-reads
@@ -10,5 +10,5 @@ returns-in-Some-clause-reads g c = record {
   ends_open = search rules;
   answer = λ is_open.
       let rows = c.deref.ensures.value ∙ c.in_ok-rows.ensures.reads.answer is_open in
-      c.in-Some.ensures ∙ c.in_ok-rules.ensures.rules ∙ ap (map (λ row. rule_of (rule_sheet.entry row))) rows ∙ rules_back _;
+      c.in-Some.ensures ∙ c.in_ok-rules.ensures.rules ∙ ap (map (λ row. rule_of (rule_spelling.entry row))) rows ∙ rules_back _;
 }

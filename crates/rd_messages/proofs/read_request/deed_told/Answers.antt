@@ -1,4 +1,0 @@
-use Rattle.rd_messages.proofs.read_request.deed_told.Goals as goal
-
-pub returns-in-None : goal.returns-in-None
-returns-in-None c asked (donor, signed, is, told) fits = (rw c.in-None.is at c.in_ok-donor.ensures.none) donor signed told

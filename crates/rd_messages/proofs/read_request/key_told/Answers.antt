@@ -1,5 +1,0 @@
-use Rattle.rd_messages.proofs.OneAsked.{no_key_told}
-use Rattle.rd_messages.proofs.read_request.key_told.Goals as goal
-
-pub returns-in-None : goal.returns-in-None
-returns-in-None c = no_key_told c.args.digest c.args.method c.args.body.now c.in-Put.is (rw c.in-None.is at c.in_ok-audience-in-Put.ensures.none)

@@ -1,0 +1,231 @@
+-- The lines of an import.
+use Rattle.std.proofs.Common.{◌≡◌, ◌≢◌, ◌⊎◌, ◌≤◌, ℕ, List, [], ◌∷◌, ◌++◌, Option, Result, Ok, Err, IfErr, IfOk, OnOk, inl, inr, refl, subst, sym, arith, codes}
+use Rattle.std.proofs.lemmas.List.Elements.{All-nil, All-push, All-weaker}
+use Rattle.std.proofs.lemmas.List.Folds.{concat-append}
+use Rattle.std.specs.List.{concat}
+use Rattle.std.proofs.KnownBytes.{Appends-nil, Keeps-refl}
+use Rattle.std.specs.Io.KnownBytes.{Appends}
+use Rattle.rd_protocol.specs.declared.refusal.Refusal.{Refusal as DeskRefusal}
+use Rattle.rd_protocol.specs.declared.response.Response.{Response}
+use Rattle.rd_protocol.specs.declared.response.Response.TheVariants.{Refused}
+use Rattle.rd_geometry.specs.declared.kind.Kind.{Kind}
+use Rattle.rd_commands.specs.Asks.{TellsInRows, TellsOnOutput}
+use Rattle.rd_commands.specs.Commands.{AsksInit, AsksServe, IsAskOf, IsImport}
+use Rattle.rd_program.specs.Importing.{GainsFront, GainsFrontOfLine, GainsLine, GainsLines, IsDoneLine, IsImportRefusal, IsRowLine, IsRowRefusal, RefusesImport, RefusesRow, RefusesRows, TellsAnswer, TellsRow, TellsRows, bad_row_line, accession_line, done_by, word_of}
+use Rattle.rd_commands.specs.Output.{AppendsPart}
+use Rattle.rd_commands.specs.Refusals.{IsDeviceOrMemory, refusal_for, status_of}
+use Rattle.rd_program.specs.Leaves.{OnEnded}
+use Rattle.rd_program.specs.Serving.{IsOpenRefusal}
+use Rattle.rd_commands.specs.Sheets.{IsReadRefusal}
+use Rattle.rd_commands.specs.RefusalLines.{both, whole}
+use Rattle.rd_commands.specs.Words.{AsksCat, AsksList}
+use Rattle.rd_commands.specs.declared.done.Done.{Done}
+use Rattle.rd_commands.specs.declared.done.Done.TheVariants.{InPart, Whole}
+use Rattle.rd_commands.specs.declared.files.MachineFault.{MachineFault}
+use Rattle.rd_commands.specs.declared.files.MachineFault.TheVariants as machine_fault
+use Rattle.rd_commands.specs.declared.refusal.Refusal.{Refusal}
+use Rattle.rd_commands.specs.declared.refusal.Refusal.TheVariants.{BadSheet, Clock, Device, Inconsistent, NoMemory, NotADesk, Store, Version}
+use Rattle.rd_commands.specs.declared.words.Ask.{Ask}
+use Rattle.rd_commands.specs.declared.words.Ask.TheVariants.{File, Files, Import, Init, OneQuestion, Serve}
+use Rattle.rd_commands.proofs.WriterLemmas.{none_written, part_after, piece_more}
+
+-- ---- lines
+
+done_is_row : (line : List ℕ) → IsDoneLine line → IsRowLine line
+done_is_row line done = inl (done.0, codes "done", done.1)
+
+-- lines of images that were taken in tell of rows
+pub rows_of : (done : Done) (old new : Option (List ℕ)) → TellsRows old new done → GainsLines IsRowLine old new
+rows_of Whole old new rows = record { lines = rows.lines; each = All-weaker IsDoneLine IsRowLine done_is_row rows.lines rows.each; gained = rows.gained }
+rows_of InPart old new rows = rows
+
+row_of : (done : Done) (old new : Option (List ℕ)) → TellsRow old new done → GainsLine IsRowLine old new
+row_of Whole old new row = record { line = row.line; is = done_is_row row.line row.is; gained = row.gained }
+row_of InPart old new row = row
+
+one_more : (P : List ℕ → Type 0) (old mid new : Option (List ℕ)) → GainsLines P old mid → GainsLine P mid new → GainsLines P old new
+one_more P old mid new rows row = record {
+  lines = rows.lines ++ row.line ∷ [];
+  each = All-push P rows.lines row.line rows.each row.is;
+  gained = piece_more old mid new rows.lines row.line rows.gained row.gained;
+}
+
+-- the line of one more row
+pub rows_more : (one other : Done) (old mid new : Option (List ℕ)) → TellsRows old mid one → TellsRow mid new other → TellsRows old new (both one other)
+rows_more Whole Whole old mid new rows row = one_more IsDoneLine old mid new rows row
+rows_more Whole InPart old mid new rows row = one_more IsRowLine old mid new (rows_of Whole old mid rows) row
+rows_more InPart other old mid new rows row = one_more IsRowLine old mid new rows (row_of other mid new row)
+
+-- no line yet
+pub no_rows : (P : List ℕ → Type 0) (old : Option (List ℕ)) → GainsLines P old old
+no_rows P old = record { lines = []; each = All-nil P; gained = Appends-nil old }
+
+-- lines and a front part of the next
+front_of : (old mid new : Option (List ℕ)) → GainsLines IsRowLine old mid → GainsFrontOfLine mid new → GainsFront old new
+front_of old mid new rows front = record {
+  lines = rows.lines ++ front.line ∷ [];
+  each = All-push IsRowLine rows.lines front.line rows.each front.is;
+  gained = part_after old mid new (concat (rows.lines ++ front.line ∷ [])) (concat rows.lines) front.line []
+      (concat-append rows.lines (front.line ∷ [])) rows.gained front.gained;
+}
+
+-- nothing of a line
+pub none_of_line : (old : Option (List ℕ)) → GainsFrontOfLine old old
+none_of_line old = record { line = accession_line 0 []; is = inl (0, [], refl); gained = none_written old old (accession_line 0 []) (Keeps-refl old) }
+
+-- nothing of any line
+pub front_kept : (old new : Option (List ℕ)) → GainsLines IsRowLine old new → GainsFront old new
+front_kept old new rows = front_of old new new rows (none_of_line new)
+
+-- ---- one row
+
+-- what an accession's line is cut to
+pub accession_front : (acc : ℕ) (word : List ℕ) (old new : Option (List ℕ)) → AppendsPart old new (accession_line acc word) → GainsFrontOfLine old new
+accession_front acc word old new part = record { line = accession_line acc word; is = inl (acc, word, refl); gained = part }
+
+of_device : (refusal : Refusal) → IsDeviceOrMemory refusal → IsRowRefusal refusal
+of_device Device is = inl refl
+of_device NoMemory is = inr (inl refl)
+of_device refusal is = absurd is
+
+-- a line that fails
+pub accession_refused : (acc : ℕ) (word : List ℕ) (refusal : Refusal) (old new : Option (List ℕ)) → IsDeviceOrMemory refusal → AppendsPart old new (accession_line acc word)
+    → RefusesRow old new refusal
+accession_refused acc word refusal old new is part = (of_device refusal is, accession_front acc word old new part)
+
+pub bad_refused : (number : ℕ) (refusal : Refusal) (old new : Option (List ℕ)) → IsDeviceOrMemory refusal → AppendsPart old new (bad_row_line number)
+    → RefusesRow old new refusal
+bad_refused number refusal old new is part =
+    (of_device refusal is, record { line = bad_row_line number; is = inr (number, refl); gained = part })
+
+-- what the machine fails for
+pub machine_failed : (fault : MachineFault) (refusal : Refusal) → refusal ≡ refusal_for Device fault → IsRowRefusal refusal
+machine_failed machine_fault.Failed refusal is = inl is
+machine_failed machine_fault.NoMemory refusal is = inr (inl is)
+
+-- a failure before the line
+pub row_not_told : (refusal : Refusal) (old : Option (List ℕ)) → IsRowRefusal refusal → RefusesRow old old refusal
+row_not_told refusal old is = (is, none_of_line old)
+
+-- what is told of an answer is the line of a row
+pub answer_row : {X : Type 0} (acc : ℕ) (r : Result Response X) (told : Result Done Refusal) (old new : Option (List ℕ))
+    → IfOk told (TellsAnswer acc r old new) → IfOk told (TellsRow old new)
+answer_row acc (Ok answer) (Ok done) old new tells = subst (TellsRow old new) (sym tells.1) (row_told answer tells.0)
+  where
+    row_told : (answer : Response) → Appends old new (accession_line acc (word_of answer)) → TellsRow old new (done_by answer)
+    row_told (Refused refusal) wrote = record { line = accession_line acc (word_of (Refused refusal)); is = inl (acc, word_of (Refused refusal), refl); gained = wrote }
+    row_told other wrote = record { line = accession_line acc (codes "done"); is = (acc, refl); gained = wrote }
+answer_row acc (Err fault) (Ok done) old new tells = absurd tells
+answer_row acc r (Err refusal) old new tells = tt
+
+-- an answer that is no refusal is done
+pub done_answer : (answer : Response) → ((refusal : DeskRefusal) → answer ≡ Refused refusal → ⊥) → (word_of answer ≡ codes "done") × (Whole ≡ done_by answer)
+done_answer (Refused refusal) other = absurd (other refusal refl)
+done_answer answer other = (refl, refl)
+
+-- ---- rows
+
+-- a run that ends at a row
+pub ends_at_row : (done : Done) (refusal : Refusal) (old mid new : Option (List ℕ)) → TellsRows old mid done → RefusesRow mid new refusal
+    → RefusesRows old new refusal
+ends_at_row done refusal old mid new rows row = inr (row.0, front_of old mid new (rows_of done old mid rows) row.1)
+
+-- a run that ends because no row is read
+pub ends_between : (done : Done) (refusal : Refusal) (old new : Option (List ℕ)) → TellsRows old new done → IsReadRefusal refusal → RefusesRows old new refusal
+ends_between done refusal old new rows (inl is) = inl (is, rows_of done old new rows)
+ends_between done refusal old new rows (inr (inl is)) = inr (inl is, front_kept old new (rows_of done old new rows))
+ends_between done refusal old new rows (inr (inr is)) = inr (inr (inl is), front_kept old new (rows_of done old new rows))
+
+-- ---- refusals
+
+-- no refusal of an import is one of its words
+pub import_never : (refusal : Refusal) (old new : Option (List ℕ)) → RefusesImport old new refusal → status_of refusal ≢ 2
+import_never refusal old new (inl (inl bad)) = λ two. let is : status_of BadSheet ≡ 2 = subst (λ r. status_of r ≡ 2) bad.0 two in omega arith
+import_never refusal old new (inl (inr row)) = of_row row.0
+  where
+    of_row : IsRowRefusal refusal → status_of refusal ≢ 2
+    of_row (inl is) = λ two. let three : status_of Device ≡ 2 = subst (λ r. status_of r ≡ 2) is two in omega arith
+    of_row (inr (inl is)) = λ two. let three : status_of NoMemory ≡ 2 = subst (λ r. status_of r ≡ 2) is two in omega arith
+    of_row (inr (inr is)) = λ two. let three : status_of Store ≡ 2 = subst (λ r. status_of r ≡ 2) is two in omega arith
+import_never refusal old new (inr begun) = of_begin begun.0
+  where
+    of_open : IsOpenRefusal refusal → status_of refusal ≢ 2
+    of_open (inl is) = λ two. let three : status_of NotADesk ≡ 2 = subst (λ r. status_of r ≡ 2) is two in omega arith
+    of_open (inr (inl is)) = λ two. let three : status_of Version ≡ 2 = subst (λ r. status_of r ≡ 2) is two in omega arith
+    of_open (inr (inr (inl is))) = λ two. let three : status_of Inconsistent ≡ 2 = subst (λ r. status_of r ≡ 2) is two in omega arith
+    of_open (inr (inr (inr (inl is)))) = λ two. let three : status_of Store ≡ 2 = subst (λ r. status_of r ≡ 2) is two in omega arith
+    of_open (inr (inr (inr (inr is)))) = λ two. let three : status_of NoMemory ≡ 2 = subst (λ r. status_of r ≡ 2) is two in omega arith
+
+    of_begin : IsImportRefusal refusal → status_of refusal ≢ 2
+    of_begin (inl opened) = of_open opened
+    of_begin (inr (inl (inl is))) = λ two. let three : status_of Clock ≡ 2 = subst (λ r. status_of r ≡ 2) is two in omega arith
+    of_begin (inr (inl (inr is))) = λ two. let three : status_of NoMemory ≡ 2 = subst (λ r. status_of r ≡ 2) is two in omega arith
+    of_begin (inr (inr is)) = λ two. let three : status_of Device ≡ 2 = subst (λ r. status_of r ≡ 2) is two in omega arith
+
+-- ---- what was done whole
+
+pub ok_whole : {T : Type 0} (P : Type 0) (ended : Result T Refusal) (r : Result Done Refusal) → r ≡ whole ended → OnOk ended P → OnOk r P
+ok_whole P (Ok value) r is fact = subst (λ x. OnOk x P) (sym is) fact
+ok_whole P (Err refusal) r is fact = subst (λ x. OnOk x P) (sym is) tt
+
+pub err_whole : {T : Type 0} (P : Refusal → Type 0) (ended : Result T Refusal) (r : Result Done Refusal) → r ≡ whole ended → IfErr ended P → IfErr r P
+err_whole P (Ok value) r is fact = subst (λ x. IfErr x P) (sym is) tt
+err_whole P (Err refusal) r is fact = subst (λ x. IfErr x P) (sym is) fact
+
+pub ended_whole : {T : Type 0} (P : Type 0) (ended : Result T Refusal) (r : Result Done Refusal) → r ≡ whole ended → OnEnded ended P → OnEnded r P
+ended_whole P (Ok value) r is fact = subst (λ x. OnEnded x P) (sym is) fact
+ended_whole P (Err refusal) r is fact = subst (λ x. OnEnded x P) (sym is) fact
+
+-- it is not done in part
+pub whole_is : {T : Type 0} (P : Type 0) (ended : Result T Refusal) (r : Result Done Refusal) → r ≡ whole ended → IfOk r (λ done. done ≡ InPart → P)
+whole_is P (Ok value) r is = subst (λ x. IfOk x (λ done. done ≡ InPart → P)) (sym is) (λ same. let no : Whole ≡ InPart = same in absurd cc)
+whole_is P (Err refusal) r is = subst (λ x. IfOk x (λ done. done ≡ InPart → P)) (sym is) tt
+
+-- ---- what is asked for
+
+-- where words ask for an import, an import is asked for
+pub import_tells : (words : List (List ℕ)) (ask : Ask) → IsAskOf words ask → IsImport words → TellsInRows ask
+import_tells words (File ask) is asks = is.import asks.0 asks.1 asks.2 asks.3 asks.4 asks.5
+import_tells words (Files ask) is asks = is.import asks.0 asks.1 asks.2 asks.3 asks.4 asks.5
+import_tells words (Init ask) is asks = is.import asks.0 asks.1 asks.2 asks.3 asks.4 asks.5
+import_tells words (Serve ask) is asks = is.import asks.0 asks.1 asks.2 asks.3 asks.4 asks.5
+import_tells words (Import ask) is asks = tt
+import_tells words (OneQuestion ask) is asks = is.import asks.0 asks.1 asks.2 asks.3 asks.4 asks.5
+
+-- what is done in rows is told on the output
+pub rows_tell : (ask : Ask) → TellsInRows ask → TellsOnOutput ask
+rows_tell (Import ask) tells = tt
+rows_tell (OneQuestion ask) tells = absurd tells
+rows_tell ask tells = tells
+
+-- no more is told where all was done
+pub done_lines : (done : Done) (old new : Option (List ℕ)) → done ≡ Whole → TellsRows old new done → GainsLines IsDoneLine old new
+done_lines done old new is rows = subst (TellsRows old new) is rows
+
+-- the words ask for something that is not done in rows
+abbrev pub IsDoneAtOnce : List (List ℕ) → Type 0
+IsDoneAtOnce words = ((kind : Kind) × (image : List ℕ) × (slot : ℕ) × AsksCat words kind image slot)
+    ⊎ (((kind : Kind) × (image : List ℕ) × AsksList words kind image)
+    ⊎ (((store : List ℕ) × (key : List ℕ) × AsksInit words store key)
+    ⊎ ((store : List ℕ) × (port : ℕ) × (count : ℕ) × (rule : List ℕ) × AsksServe words store port count rule)))
+
+-- what is told on the output where not all is well is asked for by no such words
+pub not_in_rows : (words : List (List ℕ)) (ask : Ask) → IsAskOf words ask → TellsOnOutput ask → IsDoneAtOnce words → ⊥
+not_in_rows words (File ask) is tells asks = tells
+not_in_rows words (Files ask) is tells asks = tells
+not_in_rows words (Init ask) is tells asks = tells
+not_in_rows words (Serve ask) is tells asks = tells
+not_in_rows words (Import ask) is tells (inl cat) = is.file cat.0 cat.1 cat.2 cat.3
+not_in_rows words (Import ask) is tells (inr (inl list)) = is.files list.0 list.1 list.2
+not_in_rows words (Import ask) is tells (inr (inr (inl init))) = is.init init.0 init.1 init.2
+not_in_rows words (Import ask) is tells (inr (inr (inr serve))) = is.serve serve.0 serve.1 serve.2 serve.3 serve.4
+not_in_rows words (OneQuestion ask) is tells (inl cat) = is.file cat.0 cat.1 cat.2 cat.3
+not_in_rows words (OneQuestion ask) is tells (inr (inl list)) = is.files list.0 list.1 list.2
+not_in_rows words (OneQuestion ask) is tells (inr (inr (inl init))) = is.init init.0 init.1 init.2
+not_in_rows words (OneQuestion ask) is tells (inr (inr (inr serve))) = is.serve serve.0 serve.1 serve.2 serve.3 serve.4
+
+pub one_is_some : {n : ℕ} → n ≡ 1 → n ≢ 0
+one_is_some one = λ zero. omega (arith, one, zero)
+
+pub in_part_is_one : (n : ℕ) → n ≤ 1 → n ≢ 0 → n ≡ 1
+in_part_is_one n most some = omega (arith, most, some)

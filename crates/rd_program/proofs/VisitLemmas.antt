@@ -1,0 +1,66 @@
+-- The visits that `serve` serves, over the desk that stood.
+use Rattle.std.proofs.Common.{◌≡◌, ℕ, List, Option, Some, None, Result, Ok, Err, IfSome, OnOk, subst, sym}
+use Rattle.std.specs.Prelude.{IsSomeAnd}
+use Rattle.sqlite.specs.Held.{Held}
+use Rattle.sqlite.specs.Store.{Ghosts}
+use Rattle.rd_policy.specs.declared.zone.Zone.{Zone}
+use Rattle.rd_store.specs.Held.{Lasts, desk}
+use Rattle.rd_store.specs.Migrated.{IsMigrated}
+use Rattle.rd_messages.specs.DoorVisits.{Coming, VisitsSoFar}
+use Rattle.rd_http.specs.declared.serve.Ended.TheVariants.{Count}
+use Rattle.rd_http.specs.declared.serve.Served.{Served}
+use Rattle.rd_commands.specs.Asks.{IsServeAsk}
+use Rattle.rd_commands.specs.declared.words.Ask.{Ask}
+use Rattle.rd_commands.specs.declared.words.Ask.TheVariants.{Serve}
+use Rattle.rd_program.specs.Doors.{Place}
+use Rattle.rd_program.specs.Doors.Place.{Port}
+use Rattle.rd_program.specs.Visiting.{RunsVisits, ServesBy, ServesDoor, ServesDoorBy, ServesVisits}
+use Rattle.rd_program.proofs.ShowLemmas.{ends_with}
+
+module _ {S D : Type 0} (g : Ghosts S) (told : D → Option VisitsSoFar) (coming : D → Option (List Coming)) where
+  serves_visits : (count : ℕ) (zone : Zone) (before after : D) (stood opened last : Held S) (served : Served) → served.visits ≡ count → served.ended ≡ Count
+      → IsMigrated g stood opened → Lasts g opened last → RunsVisits g told coming zone before after served opened last
+      → ServesVisits g told coming count zone before after stood last
+  serves_visits count zone before after stood opened last served counted whole at lasts runs = record {
+    served = served;
+    counted = counted;
+    whole = whole;
+    runs = λ is_open. (desk g opened, at.is (lasts.was_open is_open), runs is_open);
+  }
+
+  both_doors : (count : ℕ) (zone : Zone) (door later : Option D) (old new : Option (Held S)) (opened last conn : Held S) (served : Served)
+      → served.visits ≡ count → served.ended ≡ Count → IfSome old (λ before. IsMigrated g before opened) → Lasts g opened last → conn ≡ last
+      → IfSome new (λ held. Some conn ≡ Some held)
+      → IfSome door (λ before. IsSomeAnd later (λ after. RunsVisits g told coming zone before after served opened last))
+      → ServesDoor g told coming count zone door later old new
+  both_doors count zone None later old new opened last conn served counted whole is lasts same took runs = tt
+  both_doors count zone (Some before) (Some after) old new opened last conn served counted whole is lasts same took runs =
+      ends_with g old new opened last conn (ServesVisits g told coming count zone before after) is
+      (λ stood at. serves_visits count zone before after stood opened last served counted whole at lasts runs) same took
+  both_doors count zone (Some before) None old new opened last conn served counted whole is lasts same took runs = absurd runs
+
+  pub serves_door : {T E : Type 0} (r : Result T E) (served : Served) (count : ℕ) (zone asked : Zone) (mid door lent later : Option D) (old new : Option (Held S))
+      (opened last conn : Held S) → zone ≡ asked → mid ≡ door → later ≡ lent → IfSome old (λ before. IsMigrated g before opened) → Lasts g opened last
+      → conn ≡ last → IfSome new (λ held. Some conn ≡ Some held) → (served.ended ≡ Count → served.visits ≡ count) → OnOk r (served.ended ≡ Count)
+      → IfSome mid (λ before. IsSomeAnd lent (λ after. RunsVisits g told coming zone before after served opened last))
+      → OnOk r (ServesDoor g told coming count asked door later old new)
+  serves_door (Ok value) served count zone asked mid door lent later old new opened last conn by here there is lasts same took counted whole runs =
+      subst (λ z. ServesDoor g told coming count z door later old new) by
+      (subst (λ d. ServesDoor g told coming count zone d later old new) here
+      (subst (λ d. ServesDoor g told coming count zone mid d old new) (sym there)
+      (both_doors count zone mid lent old new opened last conn served (counted whole) whole is lasts same took runs)))
+  serves_door (Err error) served count zone asked mid door lent later old new opened last conn by here there is lasts same took counted whole runs = tt
+
+  -- ---- by the words
+
+  pub serves_by : (doors laters : Place → Option D) (stands : List ℕ → Option (Held S)) (left : Option (Held S)) (ask : Ask)
+      (store : List ℕ) (port count : ℕ) (rule : List ℕ) → IsServeAsk store port count rule ask → ServesBy g told coming doors laters stands left ask
+      → ServesDoorBy g told coming count rule (doors (Port port)) (laters (Port port)) (stands store) left
+  serves_by doors laters stands left (Serve ask) store port count rule asks serves = (
+    ask.zone,
+    asks.zone_is,
+    subst (λ n. ServesDoor g told coming n ask.zone (doors (Port port)) (laters (Port port)) (stands store) left) asks.count_is
+        (subst (λ p. ServesDoor g told coming ask.count ask.zone (doors (Port p)) (laters (Port p)) (stands store) left) asks.port_is
+        (subst (λ s. ServesDoor g told coming ask.count ask.zone (doors (Port ask.port)) (laters (Port ask.port)) (stands s) left) asks.store_is serves)),
+  )
+  serves_by doors laters stands left ask store port count rule asks serves = absurd asks

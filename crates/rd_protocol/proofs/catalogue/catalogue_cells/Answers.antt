@@ -1,0 +1,23 @@
+use Rattle.std.proofs.Common.{◌≡◌, refl, rules}
+use Rattle.std.specs.Fmt.{decimal}
+use Rattle.rd_geometry.specs.Kinds.{word_of}
+use Rattle.rd_policy.specs.Verdicts.{label_text}
+use Rattle.rd_protocol.specs.Catalogues.{effect_word, faults_text, number_text}
+use Rattle.rd_protocol.proofs.catalogue.catalogue_cells.Goals as goal
+
+pub returns : goal.returns
+returns c =
+    let listing = c.args.listing.now in
+    let line = c.args.line.now in
+    let accession : c.in_ok-accession.accession ≡ decimal listing.accession = search rules in
+    let deed : c.in_ok-deed.deed ≡ decimal listing.deed = search rules in
+    let kind : c.in_ok-kind.kind ≡ word_of listing.kind = search rules in
+    let slot : c.in_ok-slot.slot ≡ decimal line.file.slot = search rules in
+    let user : c.in_ok-user.user ≡ number_text line.file.user = search rules in
+    let name : c.in_ok-name.name ≡ line.file.name = search rules in
+    let ty : c.in_ok-ty.ty ≡ line.file.ty = search rules in
+    let size : c.in_ok-size.size ≡ number_text line.file.size = search rules in
+    let faults : c.in_ok-faults.faults ≡ faults_text listing.kind line.file.faults = search rules in
+    let rule : c.of-rule.result ≡ label_text line.verdict.label = search rules in
+    let effect : c.in_ok-effect.effect ≡ effect_word line.verdict.effect = search rules in
+    rw (accession, deed, kind, slot, user, name, ty, size, faults, rule, effect) refl

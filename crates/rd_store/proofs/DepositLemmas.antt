@@ -1,0 +1,35 @@
+-- A transaction that puts an image and its files.
+use Rattle.std.proofs.Common.{◌≡◌, ◌⊎◌, ℕ, None, IsSome, OnOk, Result, Option, sym, subst, ap}
+use Rattle.std.specs.FinMap.{get}
+use Rattle.sqlite.specs.Store.{Ghosts}
+use Rattle.sqlite.specs.Held.{Held, state}
+use Rattle.rd_holdings.specs.declared.rows.ImageRow.{ImageRow}
+use Rattle.rd_store.specs.Created.{RestsIn, Turns}
+use Rattle.rd_store.specs.Held.{Changes, HoldsDesk, IsLeft, IsOf, IsOpen, LacksImage, desk}
+use Rattle.rd_holdings.specs.Lawful.{IsImage}
+use Rattle.rd_holdings.specs.State.{Desk, put_or_kept, with_image}
+use Rattle.rd_store.specs.Index.{with_new_image}
+use Rattle.rd_store.proofs.Laws.{Laws}
+use Rattle.rd_holdings.proofs.Lawful.{lawful_insert}
+use Rattle.rd_store.proofs.Transactions.{starts, changes}
+
+-- the same change, told by a desk that is the same where the connection was open
+pub changes_as : {S T X : Type 0} (g : Ghosts S) (old new : Held S) (after other : Desk) (r : Result T X) → (IsOpen g old → after ≡ other) → Changes g old new after r → Changes g old new other r
+changes_as g old new after other r same h = record {
+  lasts = h.lasts;
+  ok = λ o. subst (λ (d : Desk). OnOk r (desk g new ≡ d)) (same (h.lasts.was_open o)) (h.ok o);
+  err = h.err;
+  ends_open = h.ends_open;
+  crash = λ was clean left may. subst (λ (d : Desk). IsLeft (desk g old) left ⊎ IsLeft d left) (same was) (h.crash was clean left may);
+  durable = h.durable;
+}
+
+module _ {S : Type 0} (g : Ghosts S) (laws : Laws g) (old last : Held S) (holds : HoldsDesk (state g old)) (acc : ℕ) (image : ImageRow) (free : IsOpen g old → get (desk g old).images acc ≡ None) where
+  pub lacks : IsOpen g old → RestsIn (LacksImage acc (desk g old)) (state g old)
+  lacks was = let at = starts g old last holds was in record { settled = at.settled; autocommit = at.autocommit; holds = (at.holds, free was) }
+
+  pub deposited : {T X : Type 0} (r : Result T X) → IsImage acc image → (IsOpen g old → IsSome (get (desk g old).deeds image.deed)) → Turns g old last (IsOf (with_new_image acc image (desk g old))) r
+      → HoldsDesk (state g last) × Changes g old last (with_image acc image (desk g old)) r
+  deposited r is deed turns =
+      let all = changes g old last holds laws (with_new_image acc image (desk g old)) (λ was. lawful_insert acc image (desk g old) is (deed was)) r turns in
+      (all.0, changes_as g old last (with_new_image acc image (desk g old)) (with_image acc image (desk g old)) r (λ was. sym (ap (λ (found : Option ImageRow). put_or_kept found acc image (desk g old)) (free was))) all.1)

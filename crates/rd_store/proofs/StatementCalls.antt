@@ -1,0 +1,103 @@
+-- A call that is one statement outside a transaction, from what the statement makes of a desk.
+use Rattle.std.proofs.Common.{◌≡◌, inl, inr, ℕ, List, false, Result, Ok, Err, is_ok, true≢false, OnOk, OnErr, sym, ap, subst, ◌∙◌, IsTrue}
+use Rattle.sqlite.specs.Order.{Row}
+use Rattle.sqlite.specs.Store.{Ghosts}
+use Rattle.sqlite.specs.Command.{Command}
+use Rattle.sqlite.specs.Effect.{Database}
+use Rattle.sqlite.specs.declared.error.Error.{Error}
+use Rattle.sqlite.specs.State.{State, Executes, Survives, CommitsBy}
+use Rattle.sqlite.specs.Held.{Held, state}
+use Rattle.rd_tables.specs.Schemas.{desk_schema}
+use Rattle.rd_tables.proofs.StatementRuns.{IsWrite, Makes, write_fails, was_open, done_was_open, ran, committed}
+use Rattle.rd_holdings.specs.State.{Desk}
+use Rattle.rd_holdings.specs.Lawful.{IsLawful}
+use Rattle.rd_store.specs.Spelled.{desk_of}
+use Rattle.rd_store.specs.Held.{IsOf, Holds, IsDeskAt, HoldsDesk, Changes, IsOpen, IsClean, desk}
+use Rattle.rd_store.proofs.Laws.{Laws, clean_at, lasts_of, leaves_only, left_is}
+
+-- ---- a connection that rests on a database of a desk
+
+pub rests_on : (d : Desk) (s : State) → Holds d s.now → s.committed ≡ s.now → s.in_transaction ≡ false → IsDeskAt s
+rests_on d s h settled autocommit = record {
+  tables = record { schema = h.of.schema; settled = settled; autocommit = autocommit };
+  holds = subst (λ x. Holds x s.now) (sym h.of.is) h;
+}
+
+pub rests_as : (old new : State) → IsDeskAt old → new.now ≡ old.now → new.committed ≡ new.now → new.in_transaction ≡ false → IsDeskAt new
+rests_as old new at now settled autocommit = rests_on (desk_of old.now.trees) new (subst (Holds (desk_of old.now.trees)) (sym now) at.holds) settled autocommit
+
+-- a statement that fails leaves what stood
+pub failed : (text : List ℕ) (params : Row) (old new : State) (e : Error) → IsDeskAt old → IsTrue new.is_open → Executes text params old new (Err e) → IsDeskAt new × (new.now ≡ old.now)
+failed text params old new e at is_open h = elim (write_fails text params old new e h) [
+  | inl same ↦ let now = same.0.now_is in (rests_as old new at now (same.0.committed_is ∙ at.tables.settled ∙ sym now) (same.0.mode ∙ at.tables.autocommit), now)
+  | inr back ↦
+      let undone = back.undone is_open in
+      let now = undone.0 ∙ at.tables.settled in
+      (rests_as old new at now (undone.1 ∙ sym undone.0) back.autocommit, now)
+]
+
+-- ---- one statement
+
+module _ {S : Type 0} (g : Ghosts S) (laws : Laws g) (text : List ℕ) (command : Command) (write : IsWrite desk_schema text command) (params : Row) (after : Desk) (old new : Held S) (outside : old.in_transaction ≡ false) (holds : HoldsDesk (state g old))
+    (makes : IsOpen g old → Makes desk_schema text command write params (IsOf (desk g old)) (IsOf after)) (lawful : IsOpen g old → IsLawful (desk g old) → IsLawful after) where
+  Now : Result ℕ Error → Type 0
+  Now (Ok count) = desk g new ≡ after
+  Now (Err e) = (state g new).now ≡ (state g old).now
+
+  wrote : (count : ℕ) → IsOpen g old → Executes text params (state g old) (state g new) (Ok count) → IsOpen g new × IsDeskAt (state g new) × (desk g new ≡ after)
+  wrote count was h =
+      let at = holds was in
+      let writes = ran desk_schema text command write params (state g old) (state g new) count at.tables.schema h in
+      let made = makes was (state g old).step_limit (state g old).now (state g new).now writes.tally at.holds.of writes.changed writes.sound in
+      let settled : (state g new).committed ≡ (state g new).now = rw at.tables.autocommit at writes.shown.committed_is in
+      (writes.shown.is_open, rests_on after (state g new) (record { of = made; lawful = lawful was at.holds.lawful }) settled (writes.shown.mode ∙ at.tables.autocommit), made.is)
+
+  rested : (q : Result ℕ Error) → IsOpen g new → IsOpen g old → Executes text params (state g old) (state g new) q → IsDeskAt (state g new) × Now q
+  unfolding Now
+  rested (Ok count) is_open was h = let it = wrote count was h in (it.1, it.2)
+  rested (Err e) is_open was h = failed text params (state g old) (state g new) e (holds was) is_open h
+
+  now : (q : Result ℕ Error) → (IsClean g new → Executes text params (state g old) (state g new) q) → IsOpen g new → IsDeskAt (state g new) × Now q
+  now q runs is_open =
+      let h = runs (clean_at g laws new is_open) in
+      rested q is_open (was_open text params (state g old) (state g new) q h is_open) h
+
+  opens : (q : Result ℕ Error) → Executes text params (state g old) (state g new) q → OnOk q (IsOpen g new)
+  opens (Ok count) h = (wrote count (done_was_open text params (state g old) (state g new) count outside h) h).0
+  opens (Err e) h = tt
+
+  done : (q : Result ℕ Error) → Now q → OnOk q (desk g new ≡ after)
+  unfolding Now
+  done (Ok count) h = h
+  done (Err e) h = tt
+
+  left_as : (q : Result ℕ Error) → Now q → OnErr q (desk g new ≡ desk g old)
+  unfolding Now
+  left_as (Ok count) h = tt
+  left_as (Err e) h = ap (λ (db : Database). desk_of db.trees) h
+
+  pub single : (r : Result ℕ Error) → (IsClean g new → Executes text params (state g old) (state g new) r) → Survives (state g old) (state g new) (CommitsBy text params (state g old)) → HoldsDesk (state g new) × Changes g old new after r
+  single r runs survives = (
+    λ is_open. (now r runs is_open).0,
+    record {
+      lasts = lasts_of g old new (CommitsBy text params (state g old)) survives (λ is_open. was_open text params (state g old) (state g new) r (runs (clean_at g laws new is_open)) is_open);
+      ok = λ is_open. done r (now r runs is_open).1;
+      err = λ is_open. left_as r (now r runs is_open).1;
+      ends_open = λ clean. opens r (runs clean);
+      crash = λ was clean left may. elim (survives.crash clean left may) [
+        | inl before ↦ inl (leaves_only g laws old holds was left before)
+        | inr commits ↦
+            let at = holds was in
+            let it = committed desk_schema text command write params (IsOf (desk g old)) (IsOf after) (makes was) (state g old) left at.tables.schema at.holds.of commits in
+            inr (left_is after it.0 left (record { of = it.1; lawful = lawful was at.holds.lawful }) it.2)
+      ];
+      durable = λ is_open. leaves_only g laws new (λ o. (now r runs o).0) is_open;
+    },
+  )
+
+-- the same of a result that tells less
+pub by_other_result : {S T X Y Z : Type 0} (g : Ghosts S) (old new : Held S) (after : Desk) (r : Result T X) (q : Result Y Z) → is_ok r ≡ is_ok q → Changes g old new after r → Changes g old new after q
+by_other_result g old new after (Ok a) (Ok b) e h = record { lasts = h.lasts; ends_open = h.ends_open; ok = h.ok; err = h.err; crash = h.crash; durable = h.durable }
+by_other_result g old new after (Err a) (Err b) e h = record { lasts = h.lasts; ends_open = h.ends_open; ok = h.ok; err = h.err; crash = h.crash; durable = h.durable }
+by_other_result g old new after (Ok a) (Err b) e h = absurd (true≢false e)
+by_other_result g old new after (Err a) (Ok b) e h = absurd (true≢false (sym e))

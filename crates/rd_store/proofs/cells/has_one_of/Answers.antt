@@ -1,6 +1,0 @@
-use Rattle.std.proofs.Common.{sym}
-use Rattle.rd_store.proofs.Searching.{other_isnt}
-use Rattle.rd_store.proofs.cells.has_one_of.Goals as goal
-
-pub returns-in-None : goal.returns-in-None
-returns-in-None c = sym (other_isnt c.args.numbers.now _ c.in-None.ensures)

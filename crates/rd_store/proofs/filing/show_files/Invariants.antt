@@ -1,8 +1,0 @@
-use Rattle.std.proofs.Common.{◌<◌, ℕ, get_or, length}
-use Rattle.sqlite.specs.Order.{Row}
-use Rattle.rd_volume.specs.declared.found.Found.{Found}
-use Rattle.rd_store.specs.Cells.{IsFileRow}
-use Rattle.rd_store.proofs.filing.show_files.Given as goal
-
-abbrev pub invariant-loop-at : goal.invariant-loop-at
-invariant-loop-at l = (k : ℕ) (file : Found) (row : Row) → k < l.at → k < length l.files → IsFileRow (get_or l.files k file) (get_or l.rows k row)

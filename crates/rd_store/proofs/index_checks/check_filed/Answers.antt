@@ -1,0 +1,33 @@
+use Rattle.std.proofs.Common.{rules, List, All, subst}
+use Rattle.std.specs.Prelude.{true, false}
+use Rattle.sqlite.specs.Held.{state}
+use Rattle.sqlite.specs.Order.{Row}
+use Rattle.rd_store.specs.RowColumns.{IsFiledRow}
+use Rattle.rd_store.proofs.IndexTests.{filed_told}
+use Rattle.rd_store.proofs.index_checks.check_filed.Goals as goal
+
+pub returns-then-not-are_filed-clause-tests : goal.returns-then-not-are_filed-clause-tests
+returns-then-not-are_filed-clause-tests g c = record {
+  stays = c.read_listing.ensures.asks.stays;
+  ends_open = search rules;
+  refuses = search rules;
+  named = search rules;
+  judges = λ is_open.
+      filed_told c.args.accessions.now (state g.S.Store c.args.conn.now).now.trees _ (c.in_ok-rows.ensures.asks.answer is_open) false (subst (λ (rows : List Row). ¬ (All (IsFiledRow c.args.accessions.now) rows)) c.deref.ensures.value c.if-not-are_filed.ensures);
+}
+
+pub returns-clause-tests : goal.returns-clause-tests
+returns-clause-tests g c = record {
+  stays = c.read_listing.ensures.asks.stays;
+  ends_open = search rules;
+  refuses = search rules;
+  named = search rules;
+  judges = λ is_open.
+      filed_told c.args.accessions.now (state g.S.Store c.args.conn.now).now.trees _ (c.in_ok-rows.ensures.asks.answer is_open) true (subst (λ (rows : List Row). All (IsFiledRow c.args.accessions.now) rows) c.deref.ensures.value c.if-not-are_filed.ensures);
+}
+
+pub returns-clause-listed : goal.returns-clause-listed
+returns-clause-listed g c is_open = (_, c.in_ok-rows.ensures.asks.answer is_open)
+
+pub read_listing-requires : goal.read_listing-requires
+read_listing-requires g c = record { tables = c.requires.tables }

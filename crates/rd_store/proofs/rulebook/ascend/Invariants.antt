@@ -1,6 +1,0 @@
-use Rattle.rd_store.proofs.Rulebooks.{Rise}
-use Rattle.rd_store.proofs.rulebook.ascend.Given as goal
-
--- each rule passed comes before the next one
-abbrev pub invariant-loop-i : goal.invariant-loop-i
-invariant-loop-i l = Rise l.rules l.i

@@ -1,0 +1,9 @@
+use Rattle.std.proofs.Common.{subst}
+use Rattle.rd_store.specs.Held.{IsAtRest}
+use Rattle.rd_store.proofs.Laws.{Laws, holds_between_calls}
+use Rattle.rd_store.proofs.store.Store.between_calls.Goals as goal
+
+pub returns : goal.returns
+returns g c =
+    let laws : Laws g.S.Store = record { settles = g.met.S.Store.settled; shuts = g.met.S.Store.shut_if_dirty } in
+    subst (IsAtRest g.S.Store) c.self.view_is (holds_between_calls g.S.Store laws c.self.inside.conn c.self.invariant.0)

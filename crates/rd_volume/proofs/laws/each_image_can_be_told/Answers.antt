@@ -1,8 +1,0 @@
-use Rattle.rd_volume.proofs.Existence.{report_of, survey_of}
-use Rattle.rd_volume.proofs.laws.each_image_can_be_told.Goals as goal
-
-pub returns-clause-survey : goal.returns-clause-survey
-returns-clause-survey c = survey_of
-
-pub returns-clause-report : goal.returns-clause-report
-returns-clause-report c = report_of
