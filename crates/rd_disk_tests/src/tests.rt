@@ -1,15 +1,3 @@
-/// A value like another of its type, except for these fields.
-macro_rules! like {
-    ($type:ident, $other:expr, $($field:ident: $value:expr),+) => {
-        $type { $($field: $value,)+ ..$other }
-    };
-}
-
-/// A table, of which each row stands on one line.
-macro_rules! table {
-    ($($row:expr;)+) => { &[$($row),+] };
-}
-
 /// A CP/M disk with these entries from slot 0 on.
 macro_rules! with {
     ($($entry:expr),+) => { like!(Sample, BLANK, base: Base::WithEntries(&[$($entry),+])) };

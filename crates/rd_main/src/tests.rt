@@ -1,26 +1,14 @@
 //! What the program says and writes.
 
-/// A value like another, except for some of its fields.
-macro_rules! like {
-    ($type:ident, $other:expr, $($field:ident: $value:expr),+) => {
-        $type { $($field: $value,)+ ..$other }
-    };
-}
-
-/// A table, of which each row stands on one line.
-macro_rules! table {
-    ($($row:expr;)+) => { &[$($row),+] };
-}
-
 mod edges;
 mod failing;
-mod fakes;
 mod museums;
 mod refused;
 mod sheets;
 mod visits;
 
-use fakes::{Bare, End, Narrow, Tape};
+use rd_fakes::stream::{End, Narrow, Tape};
+use rd_machines::Bare;
 use rd_program::run;
 use rd_samples::cpm::hello;
 use rd_volume::NoMemory;
@@ -88,11 +76,10 @@ fn passes_over_interruptions(rt: HostRuntime) {
         fails_at_end: false,
     };
     let mut output = Narrow {
-        taken: Vec::new(alloc),
         room: 128,
-        is_interrupted: true,
-        end: End::Fails,
         flushes: 1,
+        is_interrupted: true,
+        ..Narrow::new(alloc)
     };
     let mut errors = Vec::new(alloc);
     let status = run(
@@ -112,11 +99,10 @@ fn run_narrow(alloc: Global, room: usize) -> Result<(u8, Narrow, Vec<u8>), NoMem
     let image = hello(alloc)?;
     let words = ["cat", "cpm8", "-", "0"];
     let mut output = Narrow {
-        taken: Vec::new(alloc),
         room,
-        is_interrupted: false,
-        end: End::TakesNone,
         flushes: 1,
+        end: End::TakesNone,
+        ..Narrow::new(alloc)
     };
     let mut errors = Vec::new(alloc);
     let status = run(

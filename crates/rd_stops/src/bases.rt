@@ -1,16 +1,15 @@
 //! The databases from which runs start. Each but the empty one has its last changes in its log
 //! alone.
 
-use crate::commands::{Command, Sample, SampleRule};
-use crate::desk::{
-    create, desk_over, give_each, into_connection, into_store, migrate, words_of_create,
-    words_of_open,
-};
+use crate::commands::{Command, Sample};
+use crate::desk::{desk_of, give_each, words_of_create, words_of_open};
 use crate::drive::Sort;
 use crate::files::{FilesStore, Pair, USUAL_FRAMES, close, connect, into_files, options};
 use anyhow::{Result, bail, ensure};
 use rd_desk::Desk;
+use rd_fakes::desk::{into_connection, into_store, made, migrate};
 use rd_policy::Audience;
+use rd_samples::rules::{CLOSED, OPEN, TAKEDOWN};
 use sqlite::{Alter, Connection, Error};
 use std::alloc::Global;
 
@@ -54,11 +53,11 @@ const NEW_DESK: &[Command] = &[
         donor: "B. Donor",
         signed: 18_321,
     },
-    Command::PutRule(SampleRule::Closed),
+    Command::PutRule(CLOSED),
 ];
 
 /// The last command for a new desk.
-const LAST_RULE: &[Command] = &[Command::PutRule(SampleRule::Open)];
+const LAST_RULE: &[Command] = &[Command::PutRule(OPEN)];
 
 /// The command for an image.
 const FIRST_IMAGE: &[Command] = &[Command::PutImage(12, Sample::Program)];
@@ -73,7 +72,7 @@ const MORE_IMAGES: &[Command] = &[
 const CHECK: &[Command] = &[Command::Check(12)];
 
 /// The command for a takedown of the image.
-const TAKEDOWN: &[Command] = &[Command::PutRule(SampleRule::Takedown)];
+const FIRST_TAKEDOWN: &[Command] = &[Command::PutRule(TAKEDOWN)];
 
 /// The command for another key of the staff.
 const OTHER_STAFF: &[Command] = &[Command::PutKey("other", Audience::Staff)];
@@ -108,10 +107,10 @@ fn connection(alloc: Global, pair: &Pair) -> Result<Connection<FilesStore>> {
 }
 
 /// The desk that is made over a connection.
-fn made<S: Alter + Drop>(conn: Connection<S>) -> Result<Desk<S>> {
-    match create(conn) {
-        Ok(store) => desk_over(store),
-        Err((fault, _)) => bail!("no desk: {}", words_of_create(fault)),
+fn desk_made<S: Alter + Drop>(conn: Connection<S>) -> Result<Desk<S>> {
+    match made(conn) {
+        Ok(store) => desk_of(store),
+        Err(fault) => bail!("no desk: {}", words_of_create(fault)),
     }
 }
 
@@ -124,13 +123,13 @@ fn new_connection(alloc: Global) -> Result<Connection<FilesStore>> {
 /// A desk with one key in new files.
 fn new_desk(alloc: Global) -> Result<Desk<FilesStore>> {
     let conn = new_connection(alloc)?;
-    made(conn)
+    desk_made(conn)
 }
 
 /// The desk that opens over a connection.
 fn opened<S: Alter + Drop>(alloc: Global, conn: Connection<S>) -> Result<Desk<S>> {
     match migrate(alloc, conn) {
-        Ok(store) => desk_over(store),
+        Ok(store) => desk_of(store),
         Err((fault, _)) => bail!("no desk: {}", words_of_open(fault)),
     }
 }
@@ -241,7 +240,7 @@ fn checked(alloc: Global) -> Result<Pair> {
 
 /// The files of the desk with an image, a takedown of it, and another key of the staff.
 fn with_takedown(alloc: Global) -> Result<Pair> {
-    let desk = copied_desk(alloc, &[NEW_DESK, LAST_RULE, FIRST_IMAGE, TAKEDOWN])?;
+    let desk = copied_desk(alloc, &[NEW_DESK, LAST_RULE, FIRST_IMAGE, FIRST_TAKEDOWN])?;
     logged_commands(alloc, &desk, OTHER_STAFF)
 }
 

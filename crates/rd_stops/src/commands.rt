@@ -1,20 +1,14 @@
 //! Commands of the staff.
 
 use rd_desk::{Request, What};
-use rd_geometry::{Items, Kind, NoMemory, Text};
-use rd_policy::{Audience, Audiences, Band, Effect, Rule, Select};
+use rd_geometry::{Items, Kind, NoMemory};
+use rd_policy::Audience;
 use rd_samples::cbm::{add_marks, looped, one_program};
 use rd_samples::cpm::hello;
+use rd_samples::keys::STAFF_DIGEST;
+use rd_samples::rules::{NewRule, rule_of, text_of};
 use sha2::{Digest, Sha256};
 use std::alloc::Global;
-
-/// The desk key of the staff.
-pub(crate) const STAFF_KEY: &str = "abc";
-
-/// The SHA-256 of the desk key of the staff.
-pub(crate) fn staff_digest() -> [u8; 32] {
-    Sha256::digest(STAFF_KEY.as_bytes())
-}
 
 /// A sample image.
 #[derive(Clone, Copy)]
@@ -30,18 +24,6 @@ pub(crate) enum Sample {
 }
 
 #[derive(Clone, Copy)]
-pub(crate) enum SampleRule {
-    /// Of deed 7, rank 10: only the staff may read until 2030.
-    Closed,
-    /// The same, without an end.
-    ClosedWithoutEnd,
-    /// Of deed 7, rank 20: everyone may read.
-    Open,
-    /// Of accession 12, rank 1: only the staff may read the file at slot 0.
-    Takedown,
-}
-
-#[derive(Clone, Copy)]
 pub(crate) enum Command {
     /// A desk key and its audience.
     PutKey(&'static str, Audience),
@@ -53,8 +35,8 @@ pub(crate) enum Command {
         /// In days since 1970-01-01.
         signed: i32,
     },
-    PutRule(SampleRule),
-    DropRule(SampleRule),
+    PutRule(NewRule),
+    DropRule(NewRule),
     /// An accession under deed 7, and its image.
     PutImage(u32, Sample),
     Check(u32),
@@ -82,58 +64,8 @@ fn kind_of(sample: Sample) -> Kind {
     }
 }
 
-/// The rule of deed 7 that lets everyone read every file.
-fn open_rule() -> Rule {
-    Rule {
-        band: Band::Deed,
-        scope: 7,
-        rank: 20,
-        audiences: Audiences {
-            public: true,
-            room: true,
-            staff: true,
-        },
-        from: None,
-        until: None,
-        select: Select::All,
-        effect: Effect::Read,
-    }
-}
-
-/// The same with another rank, which denies files to all but the staff.
-fn denied(rank: u16) -> Rule {
-    Rule {
-        rank,
-        audiences: Audiences {
-            public: true,
-            room: true,
-            staff: false,
-        },
-        effect: Effect::Deny,
-        ..open_rule()
-    }
-}
-
-fn rule_of(sample: SampleRule) -> Rule {
-    match sample {
-        SampleRule::Closed => Rule {
-            until: Some(21_915),
-            ..denied(10)
-        },
-        SampleRule::ClosedWithoutEnd => denied(10),
-        SampleRule::Open => open_rule(),
-        SampleRule::Takedown => Rule {
-            band: Band::Takedown,
-            scope: 12,
-            select: Select::Slot(0),
-            ..denied(1)
-        },
-    }
-}
-
 /// Asks that a rule be dropped from its place.
-fn drop_rule(sample: SampleRule) -> What {
-    let rule = rule_of(sample);
+fn drop_rule(rule: NewRule) -> What {
     What::DropRule {
         band: rule.band,
         scope: rule.scope,
@@ -142,7 +74,7 @@ fn drop_rule(sample: SampleRule) -> What {
 }
 
 fn put_deed(alloc: Global, num: u32, donor: &str, signed: i32) -> Result<What, NoMemory> {
-    let donor = Text::of(String::from_str(alloc, donor)?);
+    let donor = text_of(alloc, donor)?;
     Ok(What::PutDeed { num, donor, signed })
 }
 
@@ -167,7 +99,7 @@ fn what_of(alloc: Global, command: Command) -> Result<What, NoMemory> {
             digest: Sha256::digest(key.as_bytes()),
         },
         Command::PutDeed { num, donor, signed } => put_deed(alloc, num, donor, signed)?,
-        Command::PutRule(rule) => What::PutRule(rule_of(rule)),
+        Command::PutRule(rule) => What::PutRule(rule_of(alloc, rule)?),
         Command::DropRule(rule) => drop_rule(rule),
         Command::PutImage(acc, sample) => put_image(alloc, acc, sample)?,
         Command::Check(acc) => What::Check(acc),
@@ -177,7 +109,7 @@ fn what_of(alloc: Global, command: Command) -> Result<What, NoMemory> {
 /// The request by which the staff gives a command.
 pub(crate) fn request_of(alloc: Global, command: Command) -> Result<Request, NoMemory> {
     Ok(Request {
-        badge: Some(staff_digest()),
+        badge: Some(STAFF_DIGEST),
         what: what_of(alloc, command)?,
     })
 }

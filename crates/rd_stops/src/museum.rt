@@ -1,14 +1,15 @@
 //! A machine whose store is a database on two files in memory, and `desk import` on it.
 
-ghost use Rattle.std.specs.Prelude.{None, Some, true};
-ghost use Rattle.rd_stops.specs.declared.desk.TheConstants.{MOMENT};
+ghost use Rattle.std.specs.Prelude.{Some};
+ghost use Rattle.rd_samples.specs.declared.days.TheConstants.{AFTER};
 
-use crate::commands::{STAFF_KEY, Sample, bytes_of};
-use crate::desk::MOMENT;
+use crate::commands::{Sample, bytes_of};
 use anyhow::{Result, bail};
-use rd_geometry::NoMemory;
-use rd_http::MemoryDoor;
-use rd_program::{Files, Machine, MachineFault, run};
+use rd_fakes::wire::new_door;
+use rd_machines::{Museum, Supply};
+use rd_program::{MachineFault, run};
+use rd_samples::days::AFTER;
+use rd_samples::keys::STAFF_KEY;
 use sqlite::{Alter, Connection};
 use std::alloc::{AllocError, Global};
 
@@ -31,12 +32,9 @@ pub(crate) fn accession_of(row: usize) -> usize {
     FIRST_ACC.saturating_add(row)
 }
 
-/// A machine with a store, a sheet of some rows, and the one image that all rows name.
+/// What the machine gives beside its store: a sheet of some rows, and the one image that all rows name.
 #[derive(Drop)]
-struct Museum<S: Alter + Drop> {
-    /// The store; `None` while the program has it.
-    conn: Option<Connection<S>>,
-    door: MemoryDoor,
+struct Given {
     rows: usize,
 }
 
@@ -53,65 +51,23 @@ fn sheet(alloc: Global, rows: usize) -> Result<String, AllocError> {
     Ok(text)
 }
 
-impl<S: Alter + Drop> Files for Museum<S> {
-    ghost file_bytes = { λ _ _. None };
+impl Supply for Given {
+    ghost clock = { λ _. Some AFTER };
 
-    ghost sheet_bytes = { λ _ _. None };
-
-    fn read_file(&mut self, alloc: Global, _path: &str) -> Result<Vec<u8>, MachineFault> {
+    fn image(&self, alloc: Global, _path: &str) -> Result<Vec<u8>, MachineFault> {
         bytes_of(alloc, Sample::Program).map_err(|_| MachineFault::NoMemory)
     }
 
-    fn read_sheet(&mut self, alloc: Global, _path: &str) -> Result<Vec<u8>, MachineFault> {
+    fn sheet(&self, alloc: Global, _path: &str) -> Result<Vec<u8>, MachineFault> {
         match sheet(alloc, self.rows) {
             Ok(text) => Ok(text.into_bytes()),
             Err(_) => Err(MachineFault::NoMemory),
         }
     }
-}
-
-impl<S: Alter + Drop> Machine for Museum<S> {
-    type Disk = S;
-
-    type Door = MemoryDoor;
-
-    ghost shows = { λ _. true };
-
-    ghost clock = { λ _. Some MOMENT };
-
-    ghost door = { λ machine _. Some machine.door };
-
-    ghost stands = { λ machine _. machine.conn };
-
-    ghost left = { λ machine. machine.conn };
-
-    fn connect(&mut self, _path: &str) -> Result<Connection<S>, MachineFault> {
-        let Some(conn) = self.conn.take() else {
-            return Err(MachineFault::Failed);
-        };
-        if conn.is_autocommit() {
-            return Ok(conn);
-        }
-        self.conn = Some(conn);
-        Err(MachineFault::Failed)
-    }
-
-    /// It closes nothing: the one that runs the program does.
-    fn release(&mut self, conn: &mut Option<Connection<S>>) {
-        self.conn = conn.take();
-    }
 
     fn now(&mut self) -> Result<i64, MachineFault> {
-        Ok(MOMENT)
+        Ok(AFTER)
     }
-
-    fn listen(&mut self, _port: u16) -> Result<&mut MemoryDoor, MachineFault> {
-        Ok(&mut self.door)
-    }
-}
-
-fn new_door(alloc: Global) -> Result<MemoryDoor, NoMemory> {
-    MemoryDoor::new(alloc, Vec::new(alloc))
 }
 
 /// The status of an import, and what it wrote to both outputs.
@@ -126,13 +82,13 @@ fn run_on<S: Alter + Drop>(
     alloc: Global,
     output: &mut Vec<u8>,
     errors: &mut Vec<u8>,
-    museum: &mut Museum<S>,
+    museum: &mut Museum<Given, S>,
 ) -> u8 {
     run(alloc, WORDS, &mut [].as_slice(), output, errors, museum)
 }
 
 /// Has a machine import its sheet.
-fn import_on<S: Alter + Drop>(alloc: Global, museum: &mut Museum<S>) -> Imported {
+fn import_on<S: Alter + Drop>(alloc: Global, museum: &mut Museum<Given, S>) -> Imported {
     let mut output = Vec::new(alloc);
     let mut errors = Vec::new(alloc);
     let status = run_on(alloc, &mut output, &mut errors, museum);
@@ -149,11 +105,11 @@ pub(crate) fn import<S: Alter + Drop>(
     conn: Connection<S>,
     rows: usize,
 ) -> Result<(Imported, Connection<S>)> {
-    let door = new_door(alloc)?;
+    let door = new_door(alloc, Vec::new(alloc))?;
     let mut museum = Museum {
         conn: Some(conn),
         door,
-        rows,
+        supply: Given { rows },
     };
     let imported = import_on(alloc, &mut museum);
     match museum.conn.take() {

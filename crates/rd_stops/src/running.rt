@@ -1,15 +1,13 @@
 //! Carries out what a run does, and closes the files.
 
 use crate::commands::Command;
-use crate::desk::{
-    create, desk_over, into_connection, into_store, migrate, status_of, words_of_create,
-    words_of_open,
-};
+use crate::desk::{desk_of, status_of, words_of_create, words_of_open};
 use crate::files::{Drives, FilesStore, close, connect, into_files, options, pages_of};
 use crate::museum::{Imported, accession_of, import};
 use crate::runs::{Action, Run};
 use anyhow::{Result, bail};
 use rd_desk::Desk;
+use rd_fakes::desk::{create, into_connection, into_store, migrate};
 use rd_store::{CreateFault, OpenFault, Store};
 use sqlite::{Alter, Connection, Error, Options};
 use std::alloc::{AllocError, Global};
@@ -185,7 +183,7 @@ fn run_on_store<S: Alter + Drop>(
     store: Store<S>,
     commands: &[Command],
 ) -> Result<Acted<S>> {
-    let mut desk = desk_over(store)?;
+    let mut desk = desk_of(store)?;
     let report = report_on(alloc, &mut desk, commands)?;
     let conn = into_connection(into_store(desk));
     Ok(Acted { report, conn })

@@ -1,10 +1,11 @@
 //! The runs: what each starts from, what it does, and what it must change.
 
 use crate::bases::Base;
-use crate::commands::{Command, Sample, SampleRule};
+use crate::commands::{Command, Sample};
 use crate::drive::Sort;
 use crate::files::USUAL_FRAMES;
 use rd_policy::Audience;
+use rd_samples::rules::{CLOSED, NewRule, TAKEDOWN};
 use std::alloc::{AllocError, Global};
 
 /// What a run does.
@@ -173,6 +174,12 @@ const FOURTH_DEED: Command = Command::PutDeed {
 /// The command that gives the key `hello` another audience.
 const KEY_CHANGED: Command = Command::PutKey("hello", Audience::Staff);
 
+/// The rule of rank 10 of deed 7, without an end.
+const CLOSED_WITHOUT_END: NewRule = NewRule {
+    until: None,
+    ..CLOSED
+};
+
 /// Ten images are imported. The log stays as it is, as where the process ends before it closes the
 /// files.
 const IMPORTED: Run = Run {
@@ -222,7 +229,7 @@ pub(crate) const RUNS: &[Run] = &[
     Run {
         name: "a takedown is put",
         base: Base::Image,
-        action: Action::Ask(&[Command::PutRule(SampleRule::Takedown)]),
+        action: Action::Ask(&[Command::PutRule(TAKEDOWN)]),
         question: "SELECT scope, rank, audiences, number, effect FROM rule WHERE band = 0",
         before: "version 2\n",
         after: "version 2\n12|1|3|0|0\n",
@@ -230,7 +237,7 @@ pub(crate) const RUNS: &[Run] = &[
     },
     Run {
         name: "a rule is put in place of another",
-        action: Action::Ask(&[Command::PutRule(SampleRule::ClosedWithoutEnd)]),
+        action: Action::Ask(&[Command::PutRule(CLOSED_WITHOUT_END)]),
         question: "SELECT rank, day_until FROM rule ORDER BY rank",
         before: "version 2\n10|21915\n20|NULL\n",
         after: "version 2\n10|NULL\n20|NULL\n",
@@ -238,7 +245,7 @@ pub(crate) const RUNS: &[Run] = &[
     },
     Run {
         name: "a rule is dropped",
-        action: Action::Ask(&[Command::DropRule(SampleRule::Closed)]),
+        action: Action::Ask(&[Command::DropRule(CLOSED)]),
         question: "SELECT rank FROM rule ORDER BY rank",
         before: "version 2\n10\n20\n",
         after: "version 2\n20\n",
@@ -350,7 +357,7 @@ pub(crate) const RUNS: &[Run] = &[
         name: "a takedown is dropped",
         sorts: BOTH,
         base: Base::Takedown,
-        action: Action::Ask(&[Command::DropRule(SampleRule::Takedown)]),
+        action: Action::Ask(&[Command::DropRule(TAKEDOWN)]),
         question: "SELECT scope, rank FROM rule ORDER BY band, rank",
         before: "version 2\n12|1\n7|10\n7|20\n",
         after: "version 2\n7|10\n7|20\n",

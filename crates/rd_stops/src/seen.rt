@@ -1,9 +1,10 @@
 //! What a database holds when it is opened again.
 
-use crate::desk::{create, into_connection, migrate, words_of_open};
+use crate::desk::words_of_open;
 use crate::drive::Sort;
 use crate::files::{Pair, USUAL_FRAMES, connect, options};
 use anyhow::Result;
+use rd_fakes::desk::{create, into_connection, migrate};
 use rd_played::{answer_of, contents_of};
 use rd_store::{OpenFault, Store};
 use sqlite::{Alter, Connection, Error, Options};

@@ -1,7 +1,6 @@
 //! Trials of the program: its runs on a machine in memory.
 
 mod machine;
-mod output;
 mod player;
 mod run;
 mod visitor;

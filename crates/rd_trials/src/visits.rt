@@ -3,6 +3,5 @@
 mod desk;
 mod player;
 mod visit;
-mod wire;
 
 pub(crate) use player::play;

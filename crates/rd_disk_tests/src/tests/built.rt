@@ -5,6 +5,7 @@ use super::sample::{
     BLANK, CROSSED, FORMATTED, FULL, HELLO, LOOPED, MARKED, MIXED, ONE_PROGRAM, SCATTERED, Sample,
 };
 use rd_geometry::{CbmDisk, CpmDisk, Geometry, Image};
+use rd_samples::{like, table};
 
 const BYTES: &[Case] = table![
     ("the first byte of a blank disk", BLANK, Wanted::Bytes(256_256, 0, b"\xe5"));

@@ -7,6 +7,7 @@ use super::sample::{
 use rd_cbm::{CbmEntry, End, directory};
 use rd_geometry::{CbmDisk, Image, NoMemory};
 use rd_samples::cbm::PROGRAM;
+use rd_samples::{like, table};
 use std::alloc::Global;
 
 /// The entry of the program `FILE`.

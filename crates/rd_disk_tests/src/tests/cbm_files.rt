@@ -9,6 +9,7 @@ use rd_cbm::{CbmFile, Class, files};
 use rd_geometry::{CbmDisk, Image, NoMemory};
 use rd_samples::bytes::padded;
 use rd_samples::cbm::{NewCbmEntry, PROGRAM};
+use rd_samples::{like, table};
 use std::alloc::Global;
 
 /// What must be found about files in slots that follow one another.

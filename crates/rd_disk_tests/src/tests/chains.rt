@@ -4,6 +4,7 @@ use super::cases::{Case, Wanted, assert_cases};
 use super::sample::{FORMATTED, FULL, LOOPED, MARKED, ONE_PROGRAM, Runs, Sample, units_of};
 use rd_cbm::{End, Link, chain, link};
 use rd_geometry::{CbmDisk, Image, NoMemory};
+use rd_samples::{like, table};
 use std::alloc::Global;
 
 /// A disk with links of each kind.

@@ -7,6 +7,7 @@ use super::sample::{
 use rd_cpm::{CpmFile, files};
 use rd_geometry::{CpmDisk, Image, NoMemory};
 use rd_samples::cpm::{FILE, NewEntry};
+use rd_samples::{like, table};
 use std::alloc::Global;
 
 const BAD_COUNT: u8 = 1;

@@ -5,6 +5,7 @@ use super::sample::{BLANK, Base, Sample};
 use rd_cpm::entry;
 use rd_geometry::{CpmDisk, Image};
 use rd_samples::cpm::{FILE, NewEntry};
+use rd_samples::{like, table};
 
 /// What the readers of an entry have to give.
 #[derive(Clone, Copy)]

@@ -1,6 +1,7 @@
 //! Kinds of image, their sizes, and the numbers of blocks.
 
 use rd_geometry::{CbmDisk, Image, Items, KIND_WORDS, Kind, NoMemory, Text};
+use rd_samples::table;
 use std::alloc::Global;
 use std::process::Abort;
 use std::test::Fail;

@@ -4,6 +4,7 @@ use super::cases::{Case, Wanted, assert_cases};
 use super::sample::{HELLO, MARKED, ONE_PROGRAM, Sample};
 use super::surveys::{CBM_FILE, CPM_FILE, Contents, HELLO_TOLD, HELLO_TXT, HELLO_UNREAD, Told};
 use rd_samples::cbm::{NewCbmEntry, PROGRAM};
+use rd_samples::{like, table};
 
 /// A sample with bytes that are written from a place on.
 macro_rules! changed {

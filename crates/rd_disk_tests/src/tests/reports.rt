@@ -7,6 +7,7 @@ use super::sample::{
 };
 use rd_cbm::block_map;
 use rd_samples::cbm::{DIRECTORY, NewCbmEntry, PROGRAM};
+use rd_samples::{like, table};
 use rd_volume::{CbmDisk, End, Image, MapReport, NoMemory, directory_end, report};
 use std::alloc::Global;
 

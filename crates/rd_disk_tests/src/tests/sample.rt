@@ -11,6 +11,7 @@ use rd_samples::cbm::{
 use rd_samples::cpm::{
     NewEntry, blank, filled, hello, put_entry, scattered, two_extents, with_entries,
 };
+use rd_samples::like;
 use std::alloc::Global;
 
 /// What the builder of that name makes.

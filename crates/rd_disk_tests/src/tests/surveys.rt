@@ -11,6 +11,7 @@ use super::sample::{
 };
 use rd_samples::cbm::{NewCbmEntry, PROGRAM, full_file};
 use rd_samples::cpm::{FILE, NewEntry, scattered_file};
+use rd_samples::{like, table};
 use rd_volume::{CbmDisk, CpmDisk, Found, Image, NoMemory, Volume, find, pieces, survey};
 use std::alloc::Global;
 

@@ -1,5 +1,6 @@
 //! The words of faults.
 
+use rd_samples::table;
 use rd_volume::{Kind, fault_words};
 use std::process::Abort;
 

@@ -1,9 +1,10 @@
 //! Writers that fail once, and files of the real machine.
 
-use super::fakes::{Bare, End, Stumbling};
 use super::sheets::HEADER;
 use super::{Ran, is_refused};
 use crate::host::Host;
+use rd_fakes::stream::{End, Stumbling};
+use rd_machines::Bare;
 use rd_program::{Files, MachineFault, run};
 use rd_samples::cpm::hello;
 use std::alloc::{Alloc, Global};

@@ -2,11 +2,12 @@
 //! `export`, `check` and `show` write, for every seventh call at which the disk may begin to fail.
 
 use super::Ran;
-use super::fakes::{Museum, Sheet};
-use super::museums::{museum, run_on_museum};
+use super::museums::{Given, Sheet, museum, run_on_museum};
 use super::sheets::{EMPTY, HEADER, HELLO_12};
 use super::visits::door_of;
 use rd_program::MachineFault;
+use rd_samples::days::AFTER;
+use rd_samples::like;
 use sqlite::{Connection, FileStore, Files, Options};
 use sqlite_disk::{Disk, Fuse, Memory};
 use std::alloc::{Alloc, Global};
@@ -15,6 +16,9 @@ use std::test::Fail;
 
 /// A database on a disk in memory that fails after so many calls.
 type Failing = FileStore<Fuse<Memory>>;
+
+/// A museum whose store is such a database.
+type Museum = rd_machines::Museum<Given, Failing>;
 
 /// A new database that keeps two pages in memory; `None` if it cannot be opened.
 fn connection(alloc: Global, calls: u64) -> Option<Connection<Failing>> {
@@ -94,11 +98,8 @@ const SHOW: Trial = like!(Trial, INIT,
 /// Runs on one museum, one after the other.
 const TRIALS: [Trial; 6] = [INIT, FIRST, SECOND, EXPORT, CHECK, SHOW];
 
-/// What the clock of the museum shows.
-const MOMENT: i64 = 1_893_452_400;
-
 /// Changes the store of a museum before a run, and gives whether that succeeded.
-fn is_changed(museum: &mut Museum<Failing>, trial: &Trial) -> bool {
+fn is_changed(museum: &mut Museum, trial: &Trial) -> bool {
     match &mut museum.conn {
         Some(conn) => conn.execute_batch(trial.sql).is_ok(),
         None => false,
@@ -106,10 +107,12 @@ fn is_changed(museum: &mut Museum<Failing>, trial: &Trial) -> bool {
 }
 
 /// What a run left behind.
-fn ran(alloc: Global, museum: &mut Museum<Failing>, trial: &Trial) -> Ran {
-    museum.moment = Ok(MOMENT);
-    museum.is_clock_read = false;
-    museum.sheet = trial.sheet;
+fn ran(alloc: Global, museum: &mut Museum, trial: &Trial) -> Ran {
+    museum.supply = Given {
+        moment: Ok(AFTER),
+        is_clock_read: false,
+        sheet: trial.sheet,
+    };
     let mut output = Vec::new(alloc);
     let mut errors = Vec::new(alloc);
     let status = run_on_museum(alloc, trial.words, &mut output, &mut errors, museum);
@@ -156,7 +159,7 @@ fn assert_trials(rt: &impl Abort, alloc: Global, calls: u64) -> Result<Ended, Fa
                 .iter()
                 .any(|front| is_left(&ran, 3, front, "desk: store\n"));
             assert!(rt; is_told, "{} at {calls} calls: {ran:?}", trial.label);
-            return Ok(if museum.is_clock_read {
+            return Ok(if museum.supply.is_clock_read {
                 Ended::Unavailable(n)
             } else {
                 Ended::Unopened

@@ -1,30 +1,92 @@
 //! A museum: a machine with one store, and questions to the store between runs.
 
-use super::fakes::{Museum, Sheet};
+ghost use Rattle.std.specs.Result.{result_ok};
+
 use rd_http::MemoryDoor;
+use rd_machines::Supply;
 use rd_program::{MachineFault, run};
 use rd_samples::bytes::put;
 use rd_samples::cbm::one_program;
-use rd_volume::NoMemory;
 use sqlite::{Alter, Connection, Error, MemStore, Row, params};
-use std::alloc::Global;
+use std::alloc::{AllocError, Global};
 use std::io::Write;
+
+/// The path of the sheet of a museum.
+const SHEET: &str = "images.csv";
+
+/// The sheet of a museum.
+#[derive(Clone, Copy)]
+pub(super) enum Sheet {
+    /// Texts, one after the other.
+    Texts(&'static [&'static str]),
+    /// The machine does not give it.
+    Fails(MachineFault),
+}
+
+fn joined(alloc: Global, texts: &[&str]) -> Result<Vec<u8>, AllocError> {
+    let mut bytes = Vec::new(alloc);
+    for text in texts {
+        bytes.extend_from_slice(text.as_bytes())?;
+    }
+    Ok(bytes)
+}
+
+/// What a museum gives beside its store and its door: a clock, a sheet, and the file of one image.
+#[derive(Drop)]
+pub(super) struct Given {
+    /// What the clock shows.
+    pub(super) moment: Result<i64, MachineFault>,
+    /// Whether the program has read the clock.
+    pub(super) is_clock_read: bool,
+    pub(super) sheet: Sheet,
+}
+
+impl Supply for Given {
+    ghost clock = { λ given. result_ok given.moment };
+
+    fn image(&self, alloc: Global, path: &str) -> Result<Vec<u8>, MachineFault> {
+        if path != "hello.d64" {
+            return Err(MachineFault::Failed);
+        }
+        one_program(alloc).map_err(|_| MachineFault::NoMemory)
+    }
+
+    fn sheet(&self, alloc: Global, path: &str) -> Result<Vec<u8>, MachineFault> {
+        if path != SHEET {
+            return Err(MachineFault::Failed);
+        }
+        match self.sheet {
+            Sheet::Texts(texts) => joined(alloc, texts).map_err(|_| MachineFault::NoMemory),
+            Sheet::Fails(fault) => Err(fault),
+        }
+    }
+
+    fn now(&mut self) -> Result<i64, MachineFault> {
+        self.is_clock_read = true;
+        self.moment
+    }
+}
+
+/// A museum whose store is in memory.
+pub(super) type Museum = rd_machines::Museum<Given>;
 
 // The calls of the crates below, and of the code under test, have a helper each, without a clause, so that
 // the proof of a test does not carry what all its calls say.
 
-pub(super) fn new_connection(alloc: Global) -> Result<Connection<MemStore>, NoMemory> {
-    Ok(Connection::open_in_memory(alloc)?)
-}
-
 /// A museum whose store is an empty database, and at which nothing fails.
-pub(super) fn museum<S: Alter + Drop>(conn: Connection<S>, door: MemoryDoor) -> Museum<S> {
-    Museum {
-        conn: Some(conn),
-        door,
+pub(super) fn museum<S: Alter + Drop>(
+    conn: Connection<S>,
+    door: MemoryDoor,
+) -> rd_machines::Museum<Given, S> {
+    let supply = Given {
         moment: Ok(0),
         is_clock_read: false,
         sheet: Sheet::Fails(MachineFault::Failed),
+    };
+    rd_machines::Museum {
+        conn: Some(conn),
+        door,
+        supply,
     }
 }
 
@@ -74,7 +136,7 @@ pub(super) fn run_on_museum<W: Write, E: Write, S: Alter + Drop>(
     words: &[&str],
     output: &mut W,
     errors: &mut E,
-    museum: &mut Museum<S>,
+    museum: &mut rd_machines::Museum<Given, S>,
 ) -> u8 {
     run(alloc, words, &mut [].as_slice(), output, errors, museum)
 }

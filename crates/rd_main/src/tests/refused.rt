@@ -1,17 +1,19 @@
 //! Runs that a script makes under an allocator that refuses one growth. A run that says that memory was
 //! refused is made again, and then has to end as ever. Outputs are arrays, which ask for no memory.
 
-use super::fakes::{Bare, Museum, Sheet};
-use super::museums::{museum, new_connection, recorded, run_on_museum, write_over};
+use super::museums::{Museum, Sheet, museum, recorded, run_on_museum, write_over};
 use super::sheets::{EMPTY, HEADER, HELLO_12, OTHER_DIGEST};
 use super::visits::{Visit, door_of};
+use rd_fakes::desk::new_connection;
 use rd_http::MemoryDoor;
+use rd_machines::Bare;
 use rd_program::run;
 use rd_samples::bytes::put;
 use rd_samples::cbm::{
     DIRECTORY, add_marks, formatted, full, full_file, looped, mixed, one_program, put_block,
 };
 use rd_samples::cpm::{FILE, NewEntry, blank, hello, with_entries};
+use rd_samples::{like, table};
 use rd_volume::NoMemory;
 use sqlite::{Connection, Error, MemStore, Row};
 use std::alloc::{Alloc, Global};
@@ -629,7 +631,7 @@ fn assert_import(
 ) -> Result<(), Fail> {
     let lines = *fronts.first().ok_or("no lines")?;
     let before = tables_again(alloc, museum).ok_or("nothing can be read")?;
-    museum.sheet = sheet;
+    museum.supply.sheet = sheet;
     let first = run_once(alloc, IMPORT, museum);
     if is_left(&first, status, lines, "") {
         return Ok(());

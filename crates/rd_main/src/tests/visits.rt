@@ -1,14 +1,13 @@
 //! Visits of the staff: the bytes that come at each.
 
+use rd_fakes::wire::{add_visit, new_door};
 use rd_http::MemoryDoor;
-use rd_volume::{Items, NoMemory};
+use rd_samples::days::AFTER;
+use rd_volume::NoMemory;
 use std::alloc::Global;
 
-/// A visit of the staff: its method and its path, and the body.
+/// A visit of the staff, at the first moment of 2030: its method and its path, and the body.
 pub(super) type Visit = (&'static str, &'static str);
-
-/// The moment of each visit: the first second of 2030 by clocks that are an hour ahead of UTC.
-const AFTER: i64 = 1_893_452_400;
 
 /// A request with the desk key `abc`: its method and its path, and the body.
 fn request(alloc: Global, line: &str, body: &str) -> Result<Vec<u8>, NoMemory> {
@@ -23,7 +22,7 @@ fn request(alloc: Global, line: &str, body: &str) -> Result<Vec<u8>, NoMemory> {
 pub(super) fn door_of(alloc: Global, visits: &[Visit]) -> Result<MemoryDoor, NoMemory> {
     let mut to_come = Vec::new(alloc);
     for (line, body) in visits {
-        to_come.push((AFTER, Items::of(request(alloc, line, body)?)))?;
+        add_visit(&mut to_come, AFTER, request(alloc, line, body)?)?;
     }
-    MemoryDoor::new(alloc, to_come)
+    new_door(alloc, to_come)
 }

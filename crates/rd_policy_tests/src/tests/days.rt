@@ -1,25 +1,12 @@
 //! Days of moments, and their dates.
 
-use super::OPENING;
 use rd_geometry::NoMemory;
 use rd_policy::{DateFault, DayFault, Zone, ZoneFault, date_read, date_text, day_of, is_day};
+use rd_samples::days::{AFTER, BEFORE, CENTRAL, OPENING, SUMMER_AFTER, SUMMER_BEFORE};
+use rd_samples::table;
 use std::alloc::Global;
 use std::process::Abort;
 use std::test::Fail;
-
-/// The last second of 2029 and the first of 2030, an hour ahead of UTC.
-const BEFORE: i64 = 1_893_452_399;
-
-const AFTER: i64 = 1_893_452_400;
-
-/// The rule of central Europe.
-const CENTRAL: &str = "CET-1CEST,M3.5.0,M10.5.0/3";
-
-/// The last second before the first of July 2030, when clocks of central Europe are two hours ahead of UTC, and the
-/// first of that day.
-const SUMMER_BEFORE: i64 = 1_909_087_199;
-
-const SUMMER_AFTER: i64 = 1_909_087_200;
 
 /// The rule of Beirut, whose clocks change at midnight: on 2030-03-31 they pass from 00:00 to 01:00, so that this day
 /// loses its first hour, and as 2030-10-26 would end they go back to 23:00, so that this day gets an hour back.

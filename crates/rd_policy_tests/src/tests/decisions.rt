@@ -1,8 +1,10 @@
 //! The verdict of rules on a file, and the label that names it.
 
-use super::{CLOSED, Files, NewRule, OPEN, OPENING, TAKEDOWN, rules_of, text_of};
 use rd_geometry::{Items, NoMemory};
 use rd_policy::{Audience, Effect, Label, Verdict, decide, in_order};
+use rd_samples::days::OPENING;
+use rd_samples::rules::{CLOSED, Files, NewRule, OPEN, TAKEDOWN, rules_of, text_of};
+use rd_samples::{like, table};
 use rd_volume::Found;
 use std::alloc::Global;
 use std::process::Abort;

@@ -1,8 +1,9 @@
 //! Which values are within their limits, and other questions that yes or no answers.
 
-use super::{ALL, CLOSED, Files, NOT_STAFF, NewRule, OPEN, TAKEDOWN, rule_of, rules_of};
 use rd_geometry::NoMemory;
 use rd_policy::{Audience, Audiences, Effect, in_order, is_day, is_rank, is_scope};
+use rd_samples::rules::{CLOSED, Files, NOT_STAFF, NewRule, OPEN, TAKEDOWN, rule_of, rules_of};
+use rd_samples::{like, table};
 use std::alloc::Global;
 use std::process::Abort;
 use std::test::Fail;

@@ -66,7 +66,6 @@ macro_rules! served {
 
 mod cases;
 mod doors;
-mod fakes;
 mod faults;
 mod limits;
 mod long_reply;

@@ -10,9 +10,9 @@ mod rules;
 mod steps;
 mod told;
 
-use crate::tests::desks::new_store;
-use rd_policy::{Audience, Audiences, Rule, is_day, is_scope};
-use rd_store::{OpenFault, Outcome, Refused, Store, StoreFault, is_donor};
+use rd_fakes::desk::new_store;
+use rd_policy::{Audience, Rule, is_day, is_scope};
+use rd_store::{Outcome, Store, StoreFault, is_donor};
 use sqlite::{Alter, Connection, Error, MemStore};
 use std::alloc::Global;
 use std::process::Abort;
@@ -29,43 +29,8 @@ const OTHER_DIGEST: [u8; 32] = [
     0x91, 0x3e, 0x61, 0x55, 0xe4, 0x46, 0xd3, 0x2e, 0xa7, 0x9b, 0x7e, 0xcc, 0x5f, 0x7a, 0x6c, 0x17,
 ];
 
-const ALL: Audiences = Audiences {
-    public: true,
-    room: true,
-    staff: true,
-};
-
-const ROOM_ALONE: Audiences = Audiences {
-    public: false,
-    room: true,
-    staff: false,
-};
-
-const NOT_STAFF: Audiences = Audiences {
-    public: true,
-    room: true,
-    staff: false,
-};
-
 // The calls of a store have a helper each, without a clause, so that the proof of a test does not carry what
 // all its calls say.
-
-fn into_connection<S: Alter>(desk: Store<S>) -> Connection<S> {
-    desk.into_connection()
-}
-
-/// The desk that a database holds, which may be one of version 1, or why it is not opened as one, and the connection.
-fn migrate<S: Alter>(
-    rt: &impl Abort,
-    alloc: Global,
-    conn: Connection<S>,
-) -> Result<Store<S>, (OpenFault, Connection<S>)> {
-    assert!(rt; conn.is_autocommit());
-    match Store::migrate(alloc, conn) {
-        Ok(desk) => Ok(desk),
-        Err(Refused { fault, conn }) => Err((fault, conn)),
-    }
-}
 
 fn put_deed<S: Alter>(
     rt: &impl Abort,
@@ -161,14 +126,14 @@ fn assert_filled<S: Alter>(
 
 /// A new desk, filled.
 fn filled(rt: &impl Abort, alloc: Global) -> Result<Desk, Fail> {
-    let mut desk = new_store(rt, alloc)?;
+    let mut desk = new_store(alloc)?;
     fill(rt, alloc, &mut desk)?;
     Ok(desk)
 }
 
 /// A new desk with three images.
 fn shelved(rt: &impl Abort, alloc: Global) -> Result<Desk, Fail> {
-    let mut desk = new_store(rt, alloc)?;
+    let mut desk = new_store(alloc)?;
     assert_steps(rt, alloc, &mut desk, "images", SHELVE)?;
     Ok(desk)
 }

@@ -1,17 +1,13 @@
 //! A machine in memory.
 
-ghost use Rattle.std.specs.Prelude.{◌≡◌, None, Some, true};
-
 use crate::image::build_with;
 use anyhow::Result;
+use rd_fakes::desk::new_connection;
+use rd_fakes::wire::new_door;
 use rd_geometry::{Kind, NoMemory};
-use rd_http::MemoryDoor;
-use rd_program::{Files, Machine, MachineFault};
-use sqlite::{Connection, MemStore};
+use rd_machines::Supply;
+use rd_program::MachineFault;
 use std::alloc::Global;
-
-/// The path at which the store of the machine lies.
-const STORE: &str = "museum.sqlite";
 
 /// A file of the machine: its path and its bytes.
 #[derive(Drop)]
@@ -41,18 +37,32 @@ struct Lack {
     fault: MachineFault,
 }
 
-/// A machine with one store, which stays between runs, with files, and with visits to come.
+/// What the machine gives beside its store and its door.
 #[derive(Drop)]
-pub(crate) struct Museum {
-    /// The store; `None` while a command has it.
-    pub(crate) store: Option<Connection<MemStore>>,
+pub(crate) struct Given {
     files: Vec<File>,
     lacks: Vec<Lack>,
     /// What the clock shows; `None` if it shows nothing.
     pub(crate) clock: Option<i64>,
-    pub(crate) door: MemoryDoor,
     /// The last port that the program asked for.
     pub(crate) port: Option<u16>,
+}
+
+pub(crate) type Museum = rd_machines::Museum<Given>;
+
+/// A machine whose store is an empty database, and which has no file.
+pub(crate) fn new_museum(alloc: Global) -> Result<Museum, NoMemory> {
+    let supply = Given {
+        files: Vec::new(alloc),
+        lacks: Vec::new(alloc),
+        clock: None,
+        port: None,
+    };
+    Ok(Museum {
+        conn: Some(new_connection(alloc)?),
+        door: new_door(alloc, Vec::new(alloc))?,
+        supply,
+    })
 }
 
 /// The front of a file: at most one byte more than the largest image has.
@@ -61,23 +71,7 @@ fn front_of(bytes: &[u8]) -> &[u8] {
     &bytes[..count]
 }
 
-fn new_connection(alloc: Global) -> Result<Connection<MemStore>, NoMemory> {
-    Ok(Connection::open_in_memory(alloc)?)
-}
-
-impl Museum {
-    /// A machine whose store is an empty database, and which has no file.
-    pub(crate) fn new(alloc: Global) -> Result<Museum, NoMemory> {
-        Ok(Museum {
-            store: Some(new_connection(alloc)?),
-            files: Vec::new(alloc),
-            lacks: Vec::new(alloc),
-            clock: None,
-            door: MemoryDoor::new(alloc, Vec::new(alloc))?,
-            port: None,
-        })
-    }
-
+impl Given {
     /// Takes in a file. If there are several at a path, the last one counts.
     pub(crate) fn keep(&mut self, file: File) -> Result<()> {
         Ok(self.files.push(file)?)
@@ -102,16 +96,6 @@ impl Museum {
         }
     }
 
-    /// Notes the port that the program asks for.
-    ///
-    /// It fails when the machine does not give the door.
-    fn given_door(&mut self, port: u16) -> Result<(), MachineFault>
-        ensures { self.new.door ≡ self.old.door }
-    {
-        self.port = Some(port);
-        self.given("door")
-    }
-
     /// The bytes of the file at a path.
     fn bytes_at(&self, path: &str) -> Result<&[u8], MachineFault> {
         self.given(path)?;
@@ -129,63 +113,29 @@ fn copied(alloc: Global, bytes: &[u8]) -> Result<Vec<u8>, MachineFault> {
     Vec::from_slice(alloc, bytes).map_err(|_| MachineFault::NoMemory)
 }
 
-impl Files for Museum {
-    ghost file_bytes = { λ _ _. None };
+impl Supply for Given {
+    ghost clock = { λ given. given.clock };
 
-    ghost sheet_bytes = { λ _ _. None };
-
-    fn read_file(&mut self, alloc: Global, path: &str) -> Result<Vec<u8>, MachineFault> {
+    fn image(&self, alloc: Global, path: &str) -> Result<Vec<u8>, MachineFault> {
         copied(alloc, front_of(self.bytes_at(path)?))
     }
 
-    fn read_sheet(&mut self, alloc: Global, path: &str) -> Result<Vec<u8>, MachineFault> {
+    fn sheet(&self, alloc: Global, path: &str) -> Result<Vec<u8>, MachineFault> {
         copied(alloc, self.bytes_at(path)?)
     }
-}
 
-impl Machine for Museum {
-    type Disk = MemStore;
-
-    type Door = MemoryDoor;
-
-    ghost shows = { λ _. true };
-
-    ghost clock = { λ machine. machine.clock };
-
-    ghost door = { λ machine _. Some machine.door };
-
-    ghost stands = { λ machine _. machine.store };
-
-    ghost left = { λ machine. machine.store };
-
-    /// It also fails at a path without a store, and if the store has not come back, or is inside a
-    /// transaction.
-    fn connect(&mut self, path: &str) -> Result<Connection<MemStore>, MachineFault> {
-        self.given("store")?;
-        if path != STORE {
-            return Err(MachineFault::Failed);
-        }
-        let Some(conn) = self.store.take() else {
-            return Err(MachineFault::Failed);
-        };
-        if conn.is_autocommit() {
-            return Ok(conn);
-        }
-        self.store = Some(conn);
-        Err(MachineFault::Failed)
+    fn check_store(&self) -> Result<(), MachineFault> {
+        self.given("store")
     }
 
-    fn release(&mut self, conn: &mut Option<Connection<MemStore>>) {
-        self.store = conn.take();
+    /// Notes the port.
+    fn check_door(&mut self, port: u16) -> Result<(), MachineFault> {
+        self.port = Some(port);
+        self.given("door")
     }
 
     fn now(&mut self) -> Result<i64, MachineFault> {
         self.given("clock")?;
         self.clock.ok_or(MachineFault::Failed)
-    }
-
-    fn listen(&mut self, port: u16) -> Result<&mut MemoryDoor, MachineFault> {
-        self.given_door(port)?;
-        Ok(&mut self.door)
     }
 }

@@ -1,6 +1,6 @@
 //! Trials of the program, played line by line.
 
-use super::machine::{File, Museum};
+use super::machine::{File, Museum, new_museum};
 use super::run::Run;
 use super::visitor::Visitor;
 use crate::change::{Change, Effect, Question};
@@ -50,7 +50,7 @@ impl<'a> Player<'a> {
     fn new(rt: &HostRuntime) -> Result<Player<'a>> {
         Ok(Player {
             tally: Tally::default(),
-            museum: Museum::new(rt.alloc())?,
+            museum: new_museum(rt.alloc())?,
             seconds: None,
             item: Item::Nothing,
             contents: KeptTables::default(),
@@ -108,7 +108,7 @@ impl<'a> Player<'a> {
             }
             "file" => self.item = Item::File(File::new(rt.alloc(), text)?),
             "query" => self.item = Item::Question(Question::new(rt.alloc(), place, text)),
-            "anew" => self.museum = Museum::new(rt.alloc())?,
+            "anew" => self.museum = new_museum(rt.alloc())?,
             "tables" => self.compare(rt, place, text)?,
             _ => self.item = Item::Change(Change::new(place, Effect::of(word), text)),
         }
@@ -122,7 +122,7 @@ impl<'a> Player<'a> {
             Item::Run(run) => run
                 .play(rt, &mut self.museum, &mut self.tally)
                 .context(run.place),
-            Item::File(file) => self.museum.keep(file),
+            Item::File(file) => self.museum.supply.keep(file),
             Item::Change(change) => self.change(rt, &change).context(change.place),
             Item::Question(question) => self.ask(rt, &question).context(question.place),
         }
@@ -130,7 +130,7 @@ impl<'a> Player<'a> {
 
     /// Changes the tables of the store.
     fn change(&mut self, rt: &HostRuntime, change: &Change<'a>) -> Result<()> {
-        match &mut self.museum.store {
+        match &mut self.museum.conn {
             Some(conn) => change.play(rt, conn, &mut self.tally),
             None => bail!("no store"),
         }
@@ -138,7 +138,7 @@ impl<'a> Player<'a> {
 
     /// Asks the tables of the store for rows.
     fn ask(&mut self, rt: &HostRuntime, question: &Question<'a>) -> Result<()> {
-        match &mut self.museum.store {
+        match &mut self.museum.conn {
             Some(conn) => question.play(rt, conn, &mut self.tally),
             None => bail!("no store"),
         }
@@ -146,7 +146,7 @@ impl<'a> Player<'a> {
 
     /// Keeps what the tables of the store hold, or compares it with what it has kept.
     fn compare(&mut self, rt: &HostRuntime, place: &'a str, word: &'a str) -> Result<()> {
-        let contents = match &mut self.museum.store {
+        let contents = match &mut self.museum.conn {
             Some(conn) => contents_of(rt.alloc(), conn)?,
             None => bail!("no store"),
         };

@@ -1,12 +1,12 @@
 //! Runs as a trial describes them.
 
 use super::machine::Museum;
-use super::output::Output;
 use super::visitor::{Visitor, outcome_at};
 use super::wanted::{Ran, Wanted};
 use crate::image::build_with;
 use anyhow::{Context, Result, bail};
-use rd_geometry::{Items, NoMemory};
+use rd_fakes::stream::Narrow;
+use rd_fakes::wire::new_door;
 use rd_http::MemoryDoor;
 use rd_played::{Tally, bytes_of};
 use rd_program::{MachineFault, run};
@@ -69,15 +69,10 @@ fn run_program(
     alloc: Global,
     words: &[&str],
     mut input: &[u8],
-    (output, errors): (&mut Output, &mut Vec<u8>),
+    (output, errors): (&mut Narrow, &mut Vec<u8>),
     museum: &mut Museum,
 ) -> u8 {
     run(alloc, words, &mut input, output, errors, museum)
-}
-
-/// A door through which these visits come.
-fn new_door(alloc: Global, to_come: Vec<(i64, Items<u8>)>) -> Result<MemoryDoor, NoMemory> {
-    MemoryDoor::new(alloc, to_come)
 }
 
 /// A door through which these visitors come.
@@ -167,20 +162,20 @@ impl<'a> Run<'a> {
 
     /// Makes the machine ready for the run.
     fn prepare(&self, rt: &HostRuntime, museum: &mut Museum) -> Result<()> {
-        museum.give_all();
+        museum.supply.give_all();
         for lack in &self.lacks {
-            museum.lack(rt.alloc(), lack.what, lack.fault)?;
+            museum.supply.lack(rt.alloc(), lack.what, lack.fault)?;
         }
-        museum.clock = self.clock;
+        museum.supply.clock = self.clock;
         museum.door = door_of(rt, self.visitors.as_slice())?;
-        museum.port = None;
+        museum.supply.port = None;
         Ok(())
     }
 
     /// Runs the program on a machine.
     fn ran(&self, alloc: Global, museum: &mut Museum) -> Result<Ran> {
         let words = slices_of(alloc, self.words.as_slice())?;
-        let mut output = Output::new(alloc);
+        let mut output = Narrow::new(alloc);
         output.room = self.room;
         output.flushes = self.flushes;
         let mut errors = Vec::new(alloc);
@@ -195,8 +190,8 @@ impl<'a> Run<'a> {
             status,
             output: output.taken,
             errors,
-            port: museum.port,
-            is_released: museum.store.is_some(),
+            port: museum.supply.port,
+            is_released: museum.conn.is_some(),
         })
     }
 

@@ -1,16 +1,17 @@
 //! Trials of a desk, played line by line.
 
 use super::desk::{
-    CENTRAL, Opening, Stage, Way, new_connection, new_desk, open, visit as make_visit,
-    visit_in_memory, with_zone,
+    Opening, Stage, Way, new_desk, open, visit as make_visit, visit_in_memory, with_zone,
 };
 use super::visit::{Likeness, Visit, outcome_of};
-use super::wire::WHOLE;
 use crate::change::{Change, Effect, Question};
 use crate::script::{Line, parts_of};
 use anyhow::{Context, Result, bail};
+use rd_fakes::desk::new_connection;
+use rd_fakes::wire::WHOLE;
 use rd_played::{KeptTables, Tally, contents_of};
 use rd_policy::Zone;
+use rd_samples::days::CENTRAL;
 use rd_store::OpenFault;
 use sqlite::{Connection, MemStore};
 use std::mem;

@@ -1,10 +1,10 @@
 //! Visits as a trial describes them.
 
-use super::wire::{Plan, WHOLE};
 use crate::bytes::add_out;
 use crate::image::build_with;
 use crate::message::Message;
 use anyhow::{Context, Result, bail};
+use rd_fakes::wire::{Plan, WHOLE};
 use rd_http::WireFault;
 use std::alloc::{AllocError, Global};
 

@@ -7,11 +7,12 @@ use super::cases::{
 use super::images::{HELLO_15, MARKED_12, NewImage, PROGRAM_12, Picture, QUOTED_18, bytes_of};
 use super::requests::Ask;
 use super::state::{desk_with, reply_to};
-use crate::tests::desks::{AFTER, BEFORE};
 use crate::tests::keys::{NOBODY, PUBLIC, STAFF};
 use rd_desk::{Body, Contents, Form};
 use rd_geometry::{Items, Kind, NoMemory, Text};
 use rd_samples::cpm::{FILE, NewEntry};
+use rd_samples::days::{AFTER, BEFORE};
+use rd_samples::{like, table};
 use rd_volume::Found;
 use std::alloc::{AllocError, Global};
 use std::process::Abort;

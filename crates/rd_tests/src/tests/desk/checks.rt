@@ -1,7 +1,7 @@
 //! What a check finds of some bytes.
 
-use crate::tests::keys::STAFF_DIGEST;
 use rd_desk::{Outcome, check_row};
+use rd_samples::keys::STAFF_DIGEST;
 use std::process::Abort;
 
 /// Bytes, and what a check finds of them and of the SHA-256 of `abc`.

@@ -1,15 +1,12 @@
 //! The days of moments by the clocks of a desk.
 
-use crate::tests::desks::{AFTER, BEFORE, CENTRAL, Memory, new_desk_by};
+use crate::tests::desks::new_desk_by;
+use rd_fakes::desk::Memory;
 use rd_policy::DayFault;
+use rd_samples::days::{AFTER, BEFORE, CENTRAL, SUMMER_AFTER, SUMMER_BEFORE};
+use rd_samples::table;
 use std::process::Abort;
 use std::test::Fail;
-
-/// The last second before the first of July 2030, when clocks of central Europe are two hours ahead of UTC, and the
-/// first of that day.
-const SUMMER_BEFORE: i64 = 1_909_087_199;
-
-const SUMMER_AFTER: i64 = 1_909_087_200;
 
 /// The first second of 9999-12-30 in UTC: from here on no moment has a day.
 const DAYLESS: i64 = 253_402_128_000;
@@ -41,7 +38,7 @@ fn assert_day(rt: &impl Abort, desk: &Memory, (rule, seconds, wanted): &Moment) 
 #[test]
 fn a_desk_tells_the_day_by_its_clocks(rt: HostRuntime) -> Result<(), Fail> {
     for moment in MOMENTS {
-        let desk = new_desk_by(&rt, rt.alloc(), moment.0)?;
+        let desk = new_desk_by(rt.alloc(), moment.0)?;
         assert_day(&rt, &desk, moment);
     }
     Ok(())

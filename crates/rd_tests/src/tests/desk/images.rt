@@ -6,6 +6,7 @@ use rd_samples::cbm::{
     DIRECTORY, NewCbmEntry, PROGRAM, add_marks, formatted, full, looped, one_program, put_cbm_entry,
 };
 use rd_samples::cpm::{NewEntry, hello, with_entries};
+use rd_samples::like;
 use std::alloc::Global;
 
 /// Bytes that are written over those of an image, each from a place on.

@@ -1,11 +1,13 @@
 //! Which requests are within their limits.
 
 use super::images::{NewImage, PROGRAM_12, Picture};
-use super::requests::{Ask, Files, NewRule, request_of};
-use super::state::{CLOSED, OPEN, OPENING, TAKEDOWN};
+use super::requests::{Ask, request_of};
 use crate::tests::keys::PUBLIC;
 use rd_geometry::NoMemory;
 use rd_policy::{Audience, Audiences, Band, Effect};
+use rd_samples::days::OPENING;
+use rd_samples::rules::{CLOSED, Files, NewRule, OPEN, TAKEDOWN};
+use rd_samples::{like, table};
 use std::alloc::Global;
 use std::process::Abort;
 use std::test::Fail;

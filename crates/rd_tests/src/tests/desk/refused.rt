@@ -7,13 +7,17 @@ use super::cases::{
     UNAVAILABLE, UNKNOWN_KEY, UNTIL_2030, Visit, Wanted, told, wanted_of,
 };
 use super::images::{LOOPED_14, MARKED_12, NewImage, PROGRAM_12, PROGRAM_13, Picture, QUOTED_18};
-use super::requests::{Ask, NewRule, request_of};
-use super::state::{CLOSED, GIVEN, OPEN, TAKEDOWN, answer};
-use crate::tests::desks::{AFTER, BEFORE, Memory, assert_tables, new_desk_again};
+use super::requests::{Ask, request_of};
+use super::state::{GIVEN, answer};
+use crate::tests::desks::{assert_tables, new_desk_again};
 use crate::tests::keys::{Key, NOBODY, PUBLIC, ROOM, STAFF};
 use rd_desk::{Reply, Request};
+use rd_fakes::desk::Memory;
 use rd_geometry::NoMemory;
 use rd_policy::{Audience, Band};
+use rd_samples::days::{AFTER, BEFORE, OPENING as NEW_YEAR};
+use rd_samples::rules::{CLOSED, NewRule, OPEN, TAKEDOWN};
+use rd_samples::{like, table};
 use std::alloc::Global;
 use std::process::Abort;
 use std::test::Fail;
@@ -455,9 +459,6 @@ const VERDICT_COLUMNS: &str =
 const REHEARSAL_COLUMNS: &str = "accession,slot,name,audience,effect,rule,then_effect,then_rule";
 
 const NO_DIFFERENCE: Wanted = Wanted::Table(&[REHEARSAL_COLUMNS]);
-
-/// The first day of 2030.
-const NEW_YEAR: i32 = super::state::OPENING;
 
 /// All verdicts, and what commands would change of them.
 const REHEARSALS: &[Visit] = &[

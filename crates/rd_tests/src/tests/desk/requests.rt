@@ -3,45 +3,11 @@
 use super::images::{NewImage, Picture, bytes_of};
 use crate::tests::keys::Key;
 use rd_desk::{Request, What};
-use rd_geometry::{Items, NoMemory, Text};
-use rd_policy::{Audience, Audiences, Band, Effect, Rule, Select};
+use rd_geometry::{Items, NoMemory};
+use rd_policy::{Audience, Band};
+use rd_samples::rules::{NewRule, rule_of, text_of};
 use sha2::{Digest, Sha256};
 use std::alloc::Global;
-
-pub(super) const ALL: Audiences = Audiences {
-    public: true,
-    room: true,
-    staff: true,
-};
-
-pub(super) const NOT_STAFF: Audiences = Audiences {
-    public: true,
-    room: true,
-    staff: false,
-};
-
-/// The files that a rule speaks of.
-#[derive(Clone, Copy)]
-pub(super) enum Files {
-    All,
-    Slot(u16),
-    Prefix(&'static str),
-    User(u8),
-    Kind(&'static str),
-}
-
-/// A rule to be put.
-#[derive(Clone, Copy)]
-pub(super) struct NewRule {
-    pub(super) band: Band,
-    pub(super) scope: u32,
-    pub(super) rank: u16,
-    pub(super) audiences: Audiences,
-    pub(super) from: Option<i32>,
-    pub(super) until: Option<i32>,
-    pub(super) files: Files,
-    pub(super) effect: Effect,
-}
 
 /// What is asked.
 #[derive(Clone, Copy)]
@@ -79,34 +45,6 @@ fn digest_of(bytes: &[u8]) -> [u8; 32] {
 fn digest_of_picture(alloc: Global, picture: Picture) -> Result<[u8; 32], NoMemory> {
     let bytes = bytes_of(alloc, picture)?;
     Ok(digest_of(bytes.as_slice()))
-}
-
-fn text_of(alloc: Global, text: &str) -> Result<Text, NoMemory> {
-    Ok(Text::of(String::from_str(alloc, text)?))
-}
-
-fn select_of(alloc: Global, files: Files) -> Result<Select, NoMemory> {
-    Ok(match files {
-        Files::All => Select::All,
-        Files::Slot(slot) => Select::Slot(slot),
-        Files::Prefix(prefix) => Select::Prefix(text_of(alloc, prefix)?),
-        Files::User(user) => Select::User(user),
-        Files::Kind(kind) => Select::Kind(text_of(alloc, kind)?),
-    })
-}
-
-fn rule_of(alloc: Global, rule: NewRule) -> Result<Rule, NoMemory> {
-    let select = select_of(alloc, rule.files)?;
-    Ok(Rule {
-        band: rule.band,
-        scope: rule.scope,
-        rank: rule.rank,
-        audiences: rule.audiences,
-        from: rule.from,
-        until: rule.until,
-        select,
-        effect: rule.effect,
-    })
 }
 
 fn put_image_of(alloc: Global, image: NewImage) -> Result<What, NoMemory> {

@@ -1,38 +1,18 @@
 //! Desks that hold something, and what is asked of them.
 
 use super::images::PROGRAM_12;
-use super::requests::{ALL, Ask, Files, NOT_STAFF, NewRule, request_of};
-use crate::tests::desks::{AFTER, Memory, new_desk};
+use super::requests::{Ask, request_of};
+use crate::tests::desks::new_desk;
 use crate::tests::keys::{Key, STAFF};
 use rd_desk::{Reply, Request};
+use rd_fakes::desk::Memory;
 use rd_geometry::NoMemory;
-use rd_policy::{Audience, Band, Effect};
+use rd_policy::Audience;
+use rd_samples::days::AFTER;
+use rd_samples::rules::{CLOSED, OPEN};
 use std::alloc::Global;
 use std::process::Abort;
 use std::test::Fail;
-
-/// The first day of 2030.
-pub(super) const OPENING: i32 = 21_915;
-
-/// The rule of deed 7 that lets everyone read every file.
-pub(super) const OPEN: NewRule = NewRule {
-    band: Band::Deed,
-    scope: 7,
-    rank: 20,
-    audiences: ALL,
-    from: None,
-    until: None,
-    files: Files::All,
-    effect: Effect::Read,
-};
-
-/// The rule of deed 7 that denies every file to all but the staff until 2030.
-pub(super) const CLOSED: NewRule =
-    like!(NewRule, OPEN, rank: 10, audiences: NOT_STAFF, until: Some(OPENING), effect: Effect::Deny);
-
-/// The takedown of the first file of accession 12, for all but the staff.
-pub(super) const TAKEDOWN: NewRule =
-    like!(NewRule, OPEN, band: Band::Takedown, scope: 12, rank: 1, audiences: NOT_STAFF, files: Files::Slot(0), effect: Effect::Deny);
 
 /// What a new desk is given.
 pub(super) const GIVEN: &[Ask] = &[
@@ -91,7 +71,7 @@ pub(super) fn desk_with(
     label: &str,
     commands: &[Ask],
 ) -> Result<Memory, Fail> {
-    let mut desk = new_desk(rt, alloc)?;
+    let mut desk = new_desk(alloc)?;
     carry_out(rt, alloc, &mut desk, label, GIVEN)?;
     carry_out(rt, alloc, &mut desk, label, commands)?;
     Ok(desk)

@@ -9,6 +9,7 @@ use rd_geometry::{Items, Kind, NoMemory, Text};
 use rd_policy::{Effect, Label, Verdict};
 use rd_samples::bytes::put;
 use rd_samples::cbm::formatted;
+use rd_samples::like;
 use rd_volume::{End, Found, MapReport, Report};
 use std::alloc::Global;
 use std::process::Abort;

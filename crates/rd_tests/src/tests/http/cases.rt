@@ -1,13 +1,17 @@
 //! Cases: visits of a desk, and what has to go out at each.
 
-use super::doors::{add_visit, new_door, out_of, run};
-use crate::tests::desks::{AFTER, Memory, new_desk};
+use super::doors::{out_of, run};
+use crate::tests::desks::new_desk;
 use crate::tests::keys::{Key, STAFF};
 use crate::tests::{Texts, repeated};
+use rd_fakes::desk::Memory;
+use rd_fakes::wire::door_of;
 use rd_geometry::NoMemory;
 use rd_http::{Ended, MemoryDoor, Served};
 use rd_samples::cbm::one_program;
 use rd_samples::cpm::two_extents;
+use rd_samples::days::AFTER;
+use rd_samples::table;
 use std::alloc::Global;
 use std::process::Abort;
 use std::test::Fail;
@@ -173,13 +177,6 @@ pub(super) fn text_of(alloc: Global, wanted: Wanted) -> Result<String, NoMemory>
     }
 }
 
-/// A door of one visit.
-pub(super) fn door_of(alloc: Global, seconds: i64, came: Vec<u8>) -> Result<MemoryDoor, NoMemory> {
-    let mut visits = Vec::new(alloc);
-    add_visit(&mut visits, seconds, came)?;
-    Ok(new_door(alloc, visits)?)
-}
-
 const ONE: Served = served!(1, 0, 0, Count);
 
 /// What goes out, as text, in a run of one visit at which these bytes come.
@@ -212,7 +209,7 @@ pub(super) fn assert_visits(
 
 /// A desk that is given a key for the reading room, two deeds, two rules of the first and an image under it.
 pub(super) fn filled_desk(rt: &impl Abort, alloc: Global) -> Result<Memory, Fail> {
-    let mut desk = new_desk(rt, alloc)?;
+    let mut desk = new_desk(alloc)?;
     assert_visits(rt, alloc, &mut desk, GIVEN)?;
     Ok(desk)
 }

@@ -3,11 +3,14 @@
 use super::cases::{
     BAD_HEAD, Came, DONE, FRAMING, NO_DEED, Visit, assert_visits, filled_desk, text_of,
 };
-use super::doors::{add_visit, new_door, out_of, run};
-use super::fakes::{Plan, Visitors};
-use crate::tests::desks::{AFTER, Memory, new_desk};
+use super::doors::{out_of, run};
+use crate::tests::desks::new_desk;
 use crate::tests::keys::STAFF;
+use rd_fakes::desk::Memory;
+use rd_fakes::wire::{Plan, Visitors, WHOLE, add_visit, new_door};
 use rd_http::{Ended, MemoryDoor, Served};
+use rd_samples::days::AFTER;
+use rd_samples::{like, table};
 use std::alloc::{AllocError, Global};
 use std::process::Abort;
 use std::test::Fail;
@@ -20,28 +23,34 @@ const REQUEST: &[u8] =
 const REPLY: &[u8] =
     b"HTTP/1.1 200 OK\r\nContent-Type: application/json\r\nContent-Length: 13\r\nConnection: close\r\n\r\n{\"done\":true}";
 
-/// More bytes, reads and writes than any visit has.
-const ALL: usize = 10_000;
+/// The plan of a connection at which nothing fails, and whose flush is one of its writes.
+const FLUSHED: Plan = like!(Plan, WHOLE, flush_is_a_write: true);
 
-const WHOLE: Plan = (AFTER, ALL, 1, ALL, ALL);
+/// A connection and its moment.
+type Coming = (i64, Plan);
 
-const UNREAD: Plan = (AFTER, 1, 50, ALL, ALL);
+const SOUND: Coming = (AFTER, like!(Plan, FLUSHED, reads: 1));
 
-const UNWRITTEN: Plan = (AFTER, ALL, 1, 1, 50);
+const UNREAD: Coming = (AFTER, like!(Plan, FLUSHED, most_given: 1, reads: 50));
 
-const DAYLESS: Plan = (i64::MAX, ALL, 1, ALL, ALL);
+const UNWRITTEN: Coming = (
+    AFTER,
+    like!(Plan, FLUSHED, reads: 1, most_taken: 1, writes: 50),
+);
+
+const DAYLESS: Coming = (i64::MAX, like!(Plan, FLUSHED, reads: 1));
 
 /// A run of visits: its name, their connections, up to how many are served, how it goes, and how many leave.
-type Run = (&'static str, &'static [Plan], u32, Served, usize);
+type Run = (&'static str, &'static [Coming], u32, Served, usize);
 
 const RUNS: &[Run] = table![
-    ("faults end their visit alone", &[UNREAD, UNWRITTEN, WHOLE], 3, served!(3, 1, 1, Count), 3);
-    ("faults are counted", &[UNREAD, WHOLE, UNREAD, UNWRITTEN, UNREAD], 5, served!(5, 3, 1, Count), 5);
-    ("a moment without a day ends the run", &[WHOLE, DAYLESS, WHOLE], 3, served!(1, 0, 0, Clock), 2);
+    ("faults end their visit alone", &[UNREAD, UNWRITTEN, SOUND], 3, served!(3, 1, 1, Count), 3);
+    ("faults are counted", &[UNREAD, SOUND, UNREAD, UNWRITTEN, UNREAD], 5, served!(5, 3, 1, Count), 5);
+    ("a moment without a day ends the run", &[SOUND, DAYLESS, SOUND], 3, served!(1, 0, 0, Clock), 2);
     ("the first moment without a day", &[DAYLESS], 1, served!(0, 0, 0, Clock), 1);
-    ("fewer are asked for", &[WHOLE, DAYLESS], 1, served!(1, 0, 0, Count), 1);
-    ("none is asked for", &[WHOLE], 0, served!(0, 0, 0, Count), 0);
-    ("the door shuts", &[WHOLE, UNREAD], 3, served!(2, 1, 0, Shut), 2);
+    ("fewer are asked for", &[SOUND, DAYLESS], 1, served!(1, 0, 0, Count), 1);
+    ("none is asked for", &[SOUND], 0, served!(0, 0, 0, Count), 0);
+    ("the door shuts", &[SOUND, UNREAD], 3, served!(2, 1, 0, Shut), 2);
     ("none comes", &[], 1, served!(0, 0, 0, Shut), 0);
 ];
 
@@ -62,18 +71,18 @@ const STANDS: &[Visit] = table![
     ("the deed again", AFTER, Came::Asked("PUT /deeds/9", STAFF, r#"{"donor":"C. Donor","signed":"2021-01-01"}"#), DONE);
 ];
 
-/// Connections that give and take one byte at a time: each has one read, and one write, more than the one
-/// before.
-fn failing(alloc: Global, of_reads: bool, count: usize) -> Result<Vec<Plan>, AllocError> {
+const BYTEWISE: Plan = like!(Plan, FLUSHED, most_given: 1, most_taken: 1);
+
+/// Connections that give and take one byte at a time: each has one read, or one write, more than the one before.
+fn failing(alloc: Global, of_reads: bool, count: usize) -> Result<Vec<Coming>, AllocError> {
     let mut plans = Vec::new(alloc);
     for n in 0..count {
-        plans.push((
-            AFTER,
-            1,
-            if of_reads { n } else { ALL },
-            1,
-            if of_reads { ALL } else { n },
-        ))?;
+        let plan = if of_reads {
+            like!(Plan, BYTEWISE, reads: n)
+        } else {
+            like!(Plan, BYTEWISE, writes: n)
+        };
+        plans.push((AFTER, plan))?;
     }
     Ok(plans)
 }
@@ -114,7 +123,7 @@ fn door_of_fronts(alloc: Global) -> Result<MemoryDoor, Fail> {
 
 #[test]
 fn a_run_ends_as_it_says(rt: HostRuntime) -> Result<(), Fail> {
-    let mut desk = new_desk(&rt, rt.alloc())?;
+    let mut desk = new_desk(rt.alloc())?;
     for case in RUNS {
         assert_run(&rt, rt.alloc(), &mut desk, case);
     }
@@ -130,7 +139,7 @@ fn each_read_and_each_write_may_fail(rt: HostRuntime) -> Result<(), Fail> {
 #[test]
 fn a_request_may_be_cut_anywhere(rt: HostRuntime) -> Result<(), Fail> {
     let alloc = rt.alloc();
-    let mut desk = new_desk(&rt, alloc)?;
+    let mut desk = new_desk(alloc)?;
     let mut door = door_of_fronts(alloc)?;
     assert_eq!(rt;
         run(alloc, &mut door, &mut desk, 102),

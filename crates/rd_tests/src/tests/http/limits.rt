@@ -3,8 +3,10 @@
 use super::cases::{
     Came, FOR_HELLO, FOR_LONG, HELLO, LONG, Wanted, assert_visits, bytes_of, filled_desk, text_of,
 };
-use crate::tests::desks::{AFTER, Memory};
+use rd_fakes::desk::Memory;
 use rd_http::{Clock, Ended, Limits, Listener, Served, StreamDoor, serve_in_memory};
+use rd_samples::days::AFTER;
+use rd_samples::table;
 use std::alloc::{AllocGlobal, Global};
 use std::io::{ErrorKind, Read, Write};
 use std::net::{TcpListener, TcpStream};

@@ -2,10 +2,9 @@
 
 ghost use Rattle.std.specs.Prelude.{◌≡◌, false};
 
-use super::doors::{add_visit, new_door};
-use crate::tests::desks::AFTER;
+use rd_fakes::wire::door_of;
 use rd_http::{Broken, Door, MemoryDoor, MemoryWire, Wire};
-use std::alloc::Global;
+use rd_samples::days::AFTER;
 use std::test::Fail;
 
 /// How many bytes are put at once.
@@ -62,17 +61,10 @@ fn left(door: &mut MemoryDoor, working: Working<MemoryWire>) -> usize {
     }
 }
 
-/// A door with one visit, at which nothing comes.
-fn door_of_one(alloc: Global) -> Result<MemoryDoor, Fail> {
-    let mut visits = Vec::new(alloc);
-    add_visit(&mut visits, AFTER, Vec::new(alloc))?;
-    Ok(new_door(alloc, visits)?)
-}
-
 /// A connection in memory takes each byte while there is memory, however many it has taken. No clause says so.
 #[test]
 fn six_megabytes_go_out_over_a_door_in_memory(rt: HostRuntime) -> Result<(), Fail> {
-    let mut door = door_of_one(rt.alloc())?;
+    let mut door = door_of(rt.alloc(), AFTER, Vec::new(rt.alloc()))?;
     let part = vec![in rt.alloc(); b'A'; PART]?;
     let (working, taken) = put_parts(admitted(&mut door)?, part.as_slice())?;
     assert_eq!(rt; taken, PART * PARTS);

@@ -5,13 +5,17 @@
 use super::cases::{
     ALL_OF_12, BAD_BODY, BAD_HEAD, CLOSED, Came, DONE, FOR_HELLO, FRAMING, GIVEN, HELLO,
     NO_ACCESSION, NO_DEED, NO_ROUTE, NO_RULE, Picture, ROW_OF_12, SOUND, SURVEY_OF_12, TAKEN_DOWN,
-    UNAVAILABLE, Visit, Wanted, bytes_of, door_of, text_of,
+    UNAVAILABLE, Visit, Wanted, bytes_of, text_of,
 };
-use super::doors::{add_visit, new_door, out_of, run};
-use crate::tests::desks::{AFTER, BEFORE, Memory, assert_tables, new_desk_again};
+use super::doors::{out_of, run};
+use crate::tests::desks::{assert_tables, new_desk_again};
 use crate::tests::keys::STAFF;
+use rd_fakes::desk::Memory;
+use rd_fakes::wire::{add_visit, door_of, new_door};
 use rd_geometry::NoMemory;
 use rd_http::{Door, Ended, MemoryDoor, MemoryVisit, Served, WireFault, serve_one};
+use rd_samples::days::{AFTER, BEFORE};
+use rd_samples::like;
 use std::alloc::Global;
 use std::process::Abort;
 use std::test::Fail;

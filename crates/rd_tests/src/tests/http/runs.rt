@@ -1,9 +1,11 @@
 //! Runs of visits in memory.
 
 use super::cases::{CLOSED, FOR_HELLO, HELLO, Wanted, bytes_of, filled_desk, text_of};
-use super::doors::{add_visit, new_door, out_of, run};
-use crate::tests::desks::{AFTER, BEFORE};
+use super::doors::{out_of, run};
+use rd_fakes::wire::{add_visit, new_door};
 use rd_http::{Ended, MemoryDoor, Served};
+use rd_samples::days::{AFTER, BEFORE};
+use rd_samples::table;
 use std::alloc::Global;
 use std::process::Abort;
 use std::test::Fail;

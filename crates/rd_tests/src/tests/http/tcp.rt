@@ -4,9 +4,11 @@ use super::cases::{
     BAD_HEAD, CLOSED, Came, FOR_HELLO, FOR_LONG, HELLO, LONG, Wanted, assert_visits, bytes_of,
     filled_desk, text_of,
 };
-use crate::tests::desks::{AFTER, BEFORE, Memory};
+use rd_fakes::desk::Memory;
 use rd_http::{Clock, Ended, Served, TcpDoor, serve_in_memory};
 use rd_samples::cpm::scattered_file;
+use rd_samples::days::{AFTER, BEFORE};
+use rd_samples::table;
 use std::alloc::AllocGlobal;
 use std::io::{Read, Write};
 use std::net::{Net, Shutdown, TcpListener, TcpStream};

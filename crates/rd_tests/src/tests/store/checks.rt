@@ -1,9 +1,9 @@
 //! What checks of images found.
 
 use super::steps::{Call, DONE, MISSING, Step, assert_steps};
-use super::{Desk, PROGRAM, into_connection, put_check};
-use crate::tests::desks::{new_store, open};
+use super::{Desk, PROGRAM, put_check};
 use crate::tests::tables::rows;
+use rd_fakes::desk::{into_connection, new_store, opened};
 use rd_store::{Outcome, StoreFault};
 use sqlite::{Connection, Error, MemStore, Row};
 use std::alloc::Global;
@@ -129,13 +129,6 @@ fn told(alloc: Global, conn: &mut Connection<MemStore>) -> Result<String, Fail> 
     Ok(told)
 }
 
-fn reopened(rt: &impl Abort, alloc: Global, conn: Connection<MemStore>) -> Result<Desk, Fail> {
-    match open(rt, alloc, conn) {
-        Ok(desk) => Ok(desk),
-        Err((fault, _)) => Err(Fail::from(fault)),
-    }
-}
-
 /// Makes the call of a case, and gives the desk back, opened again.
 fn walked(rt: &impl Abort, alloc: Global, mut desk: Desk, case: &Case) -> Result<Desk, Fail> {
     let answer = put_check(rt, &mut desk, case.acc, case.day, case.outcome);
@@ -143,12 +136,12 @@ fn walked(rt: &impl Abort, alloc: Global, mut desk: Desk, case: &Case) -> Result
     let mut conn = into_connection(desk);
     let rows = told(alloc, &mut conn)?;
     assert_eq!(rt; rows.as_str(), case.rows, "{}", case.label);
-    reopened(rt, alloc, conn)
+    Ok(opened(alloc, conn)?)
 }
 
 #[test]
 fn checks_are_put(rt: HostRuntime) -> Result<(), Fail> {
-    let mut desk = new_store(&rt, rt.alloc())?;
+    let mut desk = new_store(rt.alloc())?;
     assert_steps(&rt, rt.alloc(), &mut desk, "images", IMAGES)?;
     for case in &CASES {
         desk = walked(&rt, rt.alloc(), desk, case)?;

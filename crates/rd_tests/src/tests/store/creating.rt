@@ -1,11 +1,11 @@
 //! Making a desk, and giving its connection back.
 
 use super::steps::{Case, Digest, Question, Start, Step, assert_cases};
-use super::{assert_filled, filled, into_connection, run};
-use crate::tests::desks::{new_connection, open};
-use crate::tests::keys::ROOM_DIGEST;
+use super::{assert_filled, filled, run};
 use crate::tests::tables::number;
+use rd_fakes::desk::{into_connection, new_connection, opened};
 use rd_policy::Audience;
+use rd_samples::keys::ROOM_DIGEST;
 use rd_store::{CreateFault, Refused, Store};
 use sqlite::{Connection, MemStore};
 use std::alloc::Global;
@@ -44,9 +44,7 @@ fn a_desk_that_stands_is_kept(rt: HostRuntime) -> Result<(), Fail> {
     let desk = filled(&rt, rt.alloc())?;
     let (fault, conn) = refusal(&rt, into_connection(desk))?;
     assert_eq!(rt; fault, CreateFault::Exists);
-    let Ok(mut again) = open(&rt, rt.alloc(), conn) else {
-        return Err(Fail::new("no desk"));
-    };
+    let mut again = opened(rt.alloc(), conn)?;
     assert_filled(&rt, rt.alloc(), &mut again)
 }
 

@@ -1,7 +1,7 @@
 //! A desk in a file.
 
-use super::{assert_filled, fill, into_connection};
-use crate::tests::desks::{create, open};
+use super::{assert_filled, fill};
+use rd_fakes::desk::{into_connection, made, opened};
 use rd_store::Store;
 use sqlite::{Alter, Connection, Error, File, FileStore};
 use std::alloc::Global;
@@ -17,13 +17,6 @@ fn connect(rt: &HostRuntime, path: &str) -> Result<Connection<OnDisk>, Error> {
 
 fn close(conn: Connection<OnDisk>) -> Result<(), Error> {
     conn.close()
-}
-
-fn created(rt: &impl Abort, conn: Connection<OnDisk>) -> Result<Store<OnDisk>, Fail> {
-    match create(rt, conn) {
-        Ok(desk) => Ok(desk),
-        Err((fault, _)) => Err(Fail::from(fault)),
-    }
 }
 
 /// The folder for what is made by tests.
@@ -67,16 +60,8 @@ fn filled<S: Alter + Drop>(
 
 /// Makes a filled desk in a file, and closes it.
 fn make(rt: &impl Abort, alloc: Global, conn: Connection<OnDisk>) -> Result<(), Fail> {
-    close(filled(rt, alloc, created(rt, conn)?)?)?;
+    close(filled(rt, alloc, made(conn)?)?)?;
     Ok(())
-}
-
-/// The desk in a file.
-fn reopen(rt: &impl Abort, alloc: Global, conn: Connection<OnDisk>) -> Result<Store<OnDisk>, Fail> {
-    match open(rt, alloc, conn) {
-        Ok(desk) => Ok(desk),
-        Err((fault, _)) => Err(Fail::from(fault)),
-    }
 }
 
 /// The connection of a filled desk, whose reads answer what was put.
@@ -91,7 +76,7 @@ fn read<S: Alter + Drop>(
 
 /// Opens a filled desk in a file, asserts that its reads answer what was put, and closes it.
 fn read_back(rt: &impl Abort, alloc: Global, conn: Connection<OnDisk>) -> Result<(), Fail> {
-    close(read(rt, alloc, reopen(rt, alloc, conn)?)?)?;
+    close(read(rt, alloc, opened(alloc, conn)?)?)?;
     Ok(())
 }
 
@@ -120,9 +105,8 @@ fn opens_a_file_again(rt: HostRuntime) -> Result<(), Fail> {
 }
 
 /// Makes a desk in a file, and closes it.
-fn make_new(rt: &impl Abort, conn: Connection<OnDisk>) -> Result<(), Fail> {
-    let desk = created(rt, conn)?;
-    close(into_connection(desk))?;
+fn make_new(conn: Connection<OnDisk>) -> Result<(), Fail> {
+    close(into_connection(made(conn)?))?;
     Ok(())
 }
 
@@ -130,9 +114,9 @@ fn make_new(rt: &impl Abort, conn: Connection<OnDisk>) -> Result<(), Fail> {
 #[test]
 fn makes_a_desk_in_a_file(rt: HostRuntime) -> Result<(), Fail> {
     if let Ok(path) = env::var(&rt, "DESK_FILE") {
-        return make_new(&rt, connect(&rt, path.as_str())?);
+        return make_new(connect(&rt, path.as_str())?);
     }
     let path = fresh_path(&rt)?;
-    make_new(&rt, connect(&rt, path.as_str())?)?;
+    make_new(connect(&rt, path.as_str())?)?;
     remove(&rt, path.as_str())
 }

@@ -5,8 +5,9 @@ use super::steps::{
     assert_cases, assert_steps, started,
 };
 use super::told::{A, B, C, DATA, FILE, HELLO, HELLO_TXT, LONG, LOOP, LOST, SEPARATOR};
-use super::{CPM, LOOPED, PROGRAM, into_connection};
+use super::{CPM, LOOPED, PROGRAM};
 use crate::tests::tables::number;
+use rd_fakes::desk::into_connection;
 use rd_geometry::Kind;
 use rd_policy::Band;
 use rd_store::{Accession, Outcome};

@@ -6,9 +6,10 @@ use super::steps::{
     answer, tells_so,
 };
 use super::told::{HELLO, HELLO_TXT, LOOP};
-use super::{CPM, Desk, LOOPED, MARKED, PROGRAM, into_connection, migrate, run};
-use crate::tests::desks::{create, new_store_again, open};
+use super::{CPM, Desk, LOOPED, MARKED, PROGRAM, run};
+use crate::tests::desks::new_store_again;
 use crate::tests::tables::{first_tables_of, number, others_of, tables_of};
+use rd_fakes::desk::{create, into_connection, migrate, open, opened};
 use rd_geometry::{Kind, NoMemory};
 use rd_policy::{Audience, Band};
 use rd_store::{Accession, CreateFault, OpenFault, Outcome, StoreFault};
@@ -83,10 +84,7 @@ fn assert_kept(
 ) -> Result<Desk, Fail> {
     let mut conn = into_connection(desk);
     assert_tables(rt, alloc, &mut conn, steps, count)?;
-    match open(rt, alloc, conn) {
-        Ok(desk) => Ok(desk),
-        Err((fault, _)) => Err(Fail::from(fault)),
-    }
+    Ok(opened(alloc, conn)?)
 }
 
 /// The next step, number `n`, answers as it must. If memory is refused at it, the tables are still those of the steps
@@ -379,15 +377,12 @@ fn open_again(
     conn: Connection<MemStore>,
     steps: &[Step<'_>],
 ) -> Result<Desk, Fail> {
-    match open(rt, alloc, conn) {
+    match open(alloc, conn) {
         Ok(desk) => Ok(desk),
         Err((fault, mut conn)) => {
             assert_eq!(rt; fault, OpenFault::Sql);
             assert_tables(rt, alloc, &mut conn, steps, steps.len())?;
-            match open(rt, alloc, conn) {
-                Ok(desk) => Ok(desk),
-                Err((fault, _)) => Err(Fail::from(fault)),
-            }
+            Ok(opened(alloc, conn)?)
         }
     }
 }
@@ -469,11 +464,10 @@ fn unsound(rt: &impl Abort, alloc: Global, sql: &str) -> Result<Connection<MemSt
 
 /// Why a database is not opened, and the connection.
 fn fault_of(
-    rt: &impl Abort,
     alloc: Global,
     conn: Connection<MemStore>,
 ) -> Result<(OpenFault, Connection<MemStore>), Fail> {
-    match open(rt, alloc, conn) {
+    match open(alloc, conn) {
         Ok(_) => Err(Fail::new("a desk")),
         Err(refused) => Ok(refused),
     }
@@ -486,7 +480,7 @@ fn assert_fault(
     alloc: Global,
     (sql, wanted): (&str, OpenFault),
 ) -> Result<(), Fail> {
-    let (first, mut conn) = fault_of(rt, alloc, unsound(rt, alloc, sql)?)?;
+    let (first, mut conn) = fault_of(alloc, unsound(rt, alloc, sql)?)?;
     if first == wanted {
         return Ok(());
     }
@@ -497,7 +491,7 @@ fn assert_fault(
         others_of(alloc, &mut kept)?,
         "{sql}"
     );
-    let (second, _) = fault_of(rt, alloc, conn)?;
+    let (second, _) = fault_of(alloc, conn)?;
     assert_eq!(rt; second, wanted, "{sql}");
     Ok(())
 }
@@ -524,7 +518,7 @@ fn first_version(rt: &impl Abort, alloc: Global) -> Result<Connection<MemStore>,
 /// The desk that a database of version 1 holds, migrated again where memory was refused, which left its tables as
 /// they were. Then it has those of `FEW`.
 fn migrate_again(rt: &impl Abort, alloc: Global, conn: Connection<MemStore>) -> Result<Desk, Fail> {
-    match migrate(rt, alloc, conn) {
+    match migrate(alloc, conn) {
         Ok(desk) => Ok(desk),
         Err((fault, mut conn)) => {
             assert_eq!(rt; fault, OpenFault::Sql);
@@ -533,7 +527,7 @@ fn migrate_again(rt: &impl Abort, alloc: Global, conn: Connection<MemStore>) -> 
                 first_tables_of(alloc, &mut conn)?,
                 first_tables_of(alloc, &mut kept)?
             );
-            match migrate(rt, alloc, conn) {
+            match migrate(alloc, conn) {
                 Ok(desk) => assert_kept(rt, alloc, desk, FEW, FEW.len()),
                 Err((fault, _)) => Err(Fail::from(fault)),
             }
@@ -578,11 +572,10 @@ fn unmigrated(rt: &impl Abort, alloc: Global, sql: &str) -> Result<Connection<Me
 
 /// Why a database is not migrated, and the connection.
 fn migration_fault_of(
-    rt: &impl Abort,
     alloc: Global,
     conn: Connection<MemStore>,
 ) -> Result<(OpenFault, Connection<MemStore>), Fail> {
-    match migrate(rt, alloc, conn) {
+    match migrate(alloc, conn) {
         Ok(_) => Err(Fail::new("a desk")),
         Err(refused) => Ok(refused),
     }
@@ -595,7 +588,7 @@ fn assert_unmigrated(
     alloc: Global,
     (sql, wanted): (&str, OpenFault),
 ) -> Result<(), Fail> {
-    let (first, mut conn) = migration_fault_of(rt, alloc, unmigrated(rt, alloc, sql)?)?;
+    let (first, mut conn) = migration_fault_of(alloc, unmigrated(rt, alloc, sql)?)?;
     if first == wanted {
         return Ok(());
     }
@@ -606,7 +599,7 @@ fn assert_unmigrated(
         first_tables_of(alloc, &mut kept)?,
         "{sql}"
     );
-    let (second, _) = migration_fault_of(rt, alloc, conn)?;
+    let (second, _) = migration_fault_of(alloc, conn)?;
     assert_eq!(rt; second, wanted, "{sql}");
     Ok(())
 }
@@ -627,14 +620,14 @@ fn refusal_again(
     conn: Connection<MemStore>,
     steps: &[Step<'_>],
 ) -> Result<CreateFault, Fail> {
-    let Err((fault, mut conn)) = create(rt, conn) else {
+    let Err((fault, mut conn)) = create(conn) else {
         return Err(Fail::new("a desk"));
     };
     if fault != CreateFault::Sql {
         return Ok(fault);
     }
     assert_tables(rt, alloc, &mut conn, steps, steps.len())?;
-    match create(rt, conn) {
+    match create(conn) {
         Ok(_) => Err(Fail::new("a desk")),
         Err((fault, _)) => Ok(fault),
     }

@@ -2,15 +2,15 @@
 
 use super::lists::{has_deeds, has_keys, has_latest_check, rules_at};
 use super::told::{Told, are_told, is_told};
-use super::{
-    ALL, Desk, NOT_STAFF, OTHER_DIGEST, ROOM_ALONE, filled, put_check, put_deed, put_rule, shelved,
-};
-use crate::tests::desks::new_store;
-use crate::tests::keys::{PROGRAM_DIGEST, ROOM_DIGEST, STAFF_DIGEST};
-use rd_geometry::{Kind, NoMemory, Text};
-use rd_policy::{Audience, Band, Effect, Rule, Select, is_scope};
+use super::{Desk, OTHER_DIGEST, filled, put_check, put_deed, put_rule, shelved};
+use rd_fakes::desk::new_store;
+use rd_geometry::{Kind, NoMemory};
+use rd_policy::{Audience, Audiences, Band, Effect, Rule, is_scope};
 use rd_samples::cbm::{add_marks, crossed, formatted, full, looped, mixed, one_program, put_mark};
 use rd_samples::cpm::{hello, scattered};
+use rd_samples::keys::{PROGRAM_DIGEST, ROOM_DIGEST, STAFF_DIGEST};
+use rd_samples::like;
+use rd_samples::rules::{CLOSED, Files, NOT_STAFF, NewRule, OPEN, TAKEDOWN, rule_of};
 use rd_store::{Accession, DeedRow, ImageRow, Indexed, Outcome, Rulebook, Store, StoreFault};
 use rd_volume::Found;
 use sqlite::Alter;
@@ -201,73 +201,40 @@ fn kind_of(picture: Picture) -> Kind {
     }
 }
 
-fn text(alloc: Global, text: &str) -> Result<Text, NoMemory> {
-    Ok(Text::of(String::from_str(alloc, text)?))
-}
+const ROOM_ALONE: Audiences = Audiences {
+    public: false,
+    room: true,
+    staff: false,
+};
 
-/// The rule of a deed for everyone, without days.
-fn of_deed(scope: u32, rank: u16, select: Select, effect: Effect) -> Rule {
-    Rule {
-        band: Band::Deed,
-        scope,
-        rank,
-        audiences: ALL,
-        from: None,
-        until: None,
-        select,
-        effect,
+/// A rule by its name, of deed 7 or accession 12.
+fn new_rule(named: Named) -> NewRule {
+    match named {
+        Named::Open => OPEN,
+        Named::Closed => CLOSED,
+        Named::Listed => {
+            like!(NewRule, OPEN, rank: 10, files: Files::User(2), effect: Effect::List)
+        }
+        Named::Takedown => TAKEDOWN,
+        Named::LastTakedown => like!(NewRule, TAKEDOWN, rank: 9_999),
+        Named::BySlot => {
+            like!(NewRule, OPEN, rank: 1, from: Some(-719_162), files: Files::Slot(9_999), effect: Effect::Deny)
+        }
+        Named::ByPrefix => {
+            like!(NewRule, OPEN, rank: 2, audiences: ROOM_ALONE, files: Files::Prefix("HE"), effect: Effect::List)
+        }
+        Named::ByUser => {
+            like!(NewRule, OPEN, rank: 3, until: Some(2_932_896), files: Files::User(15))
+        }
+        Named::ByKind => {
+            like!(NewRule, OPEN, rank: 4, audiences: NOT_STAFF, files: Files::Kind(""), effect: Effect::Deny)
+        }
+        Named::ByDays => like!(NewRule, OPEN, rank: 9_999, from: Some(-1), until: Some(0)),
     }
 }
 
-/// The takedown of the file at slot 0 of an accession, for all but the staff.
-fn takedown(scope: u32, rank: u16) -> Rule {
-    Rule {
-        band: Band::Takedown,
-        audiences: NOT_STAFF,
-        ..of_deed(scope, rank, Select::Slot(0), Effect::Deny)
-    }
-}
-
-/// One of the rules with a selector that takes a text, or with days.
-fn selecting(alloc: Global, (named, scope): Ruled) -> Result<Rule, NoMemory> {
-    Ok(match named {
-        Named::ByPrefix => Rule {
-            audiences: ROOM_ALONE,
-            ..of_deed(scope, 2, Select::Prefix(text(alloc, "HE")?), Effect::List)
-        },
-        Named::ByKind => Rule {
-            audiences: NOT_STAFF,
-            ..of_deed(scope, 4, Select::Kind(text(alloc, "")?), Effect::Deny)
-        },
-        Named::BySlot => Rule {
-            from: Some(-719_162),
-            ..of_deed(scope, 1, Select::Slot(9_999), Effect::Deny)
-        },
-        Named::ByUser => Rule {
-            until: Some(2_932_896),
-            ..of_deed(scope, 3, Select::User(15), Effect::Read)
-        },
-        _ => Rule {
-            from: Some(-1),
-            until: Some(0),
-            ..of_deed(scope, 9_999, Select::All, Effect::Read)
-        },
-    })
-}
-
-fn rule_of(alloc: Global, (named, scope): Ruled) -> Result<Rule, NoMemory> {
-    Ok(match named {
-        Named::Open => of_deed(scope, 20, Select::All, Effect::Read),
-        Named::Closed => Rule {
-            audiences: NOT_STAFF,
-            until: Some(21_915),
-            ..of_deed(scope, 10, Select::All, Effect::Deny)
-        },
-        Named::Listed => of_deed(scope, 10, Select::User(2), Effect::List),
-        Named::Takedown => takedown(scope, 1),
-        Named::LastTakedown => takedown(scope, 9_999),
-        _ => selecting(alloc, (named, scope))?,
-    })
+fn named_rule(alloc: Global, (named, scope): Ruled) -> Result<Rule, NoMemory> {
+    rule_of(alloc, like!(NewRule, new_rule(named), scope: scope))
 }
 
 /// All that a rule holds, in words.
@@ -276,7 +243,7 @@ fn told(alloc: Global, rule: &Rule) -> Result<String, NoMemory> {
 }
 
 fn is_rule(alloc: Global, rule: &Rule, wanted: Ruled) -> Result<bool, NoMemory> {
-    let wanted = rule_of(alloc, wanted)?;
+    let wanted = named_rule(alloc, wanted)?;
     Ok(told(alloc, rule)?.as_str() == told(alloc, &wanted)?.as_str())
 }
 
@@ -350,7 +317,7 @@ pub(super) fn answer<S: Alter>(
     Ok(match call {
         Call::PutDeed(num, donor, signed) => put_deed(rt, desk, num, donor, signed),
         Call::PutImage(acc, given) => put_given(rt, alloc, desk, acc, given)?,
-        Call::PutRule(named, scope) => put_rule(rt, desk, &rule_of(alloc, (named, scope))?),
+        Call::PutRule(named, scope) => put_rule(rt, desk, &named_rule(alloc, (named, scope))?),
         Call::DropRule(band, scope, rank) => drop_rule(desk, band, scope, rank),
         Call::PutRoomKey(digest) => put_room_key(desk, digest_of(digest)),
         Call::PutStaffKey(digest) => put_staff_key(desk, digest_of(digest)),
@@ -696,7 +663,7 @@ pub(super) struct Case {
 
 pub(super) fn started(rt: &impl Abort, alloc: Global, start: Start) -> Result<Desk, Fail> {
     match start {
-        Start::New => new_store(rt, alloc),
+        Start::New => Ok(new_store(alloc)?),
         Start::Filled => filled(rt, alloc),
         Start::Shelved => shelved(rt, alloc),
     }

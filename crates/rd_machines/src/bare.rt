@@ -1,0 +1,56 @@
+//! A machine without anything.
+
+ghost use Rattle.std.specs.Prelude.{None, false};
+
+use rd_http::MemoryDoor;
+use rd_program::{Files, Machine, MachineFault};
+use sqlite::{Connection, MemStore};
+use std::alloc::Global;
+
+/// A machine with no file, no store, no clock and no port.
+#[derive(Drop)]
+pub struct Bare;
+
+impl Files for Bare {
+    ghost file_bytes = { λ _ _. None };
+
+    ghost sheet_bytes = { λ _ _. None };
+
+    fn read_file(&mut self, _alloc: Global, _path: &str) -> Result<Vec<u8>, MachineFault> {
+        Err(MachineFault::Failed)
+    }
+
+    fn read_sheet(&mut self, _alloc: Global, _path: &str) -> Result<Vec<u8>, MachineFault> {
+        Err(MachineFault::Failed)
+    }
+}
+
+impl Machine for Bare {
+    type Disk = MemStore;
+
+    type Door = MemoryDoor;
+
+    ghost shows = { λ _. false };
+
+    ghost clock = { λ _. None };
+
+    ghost door = { λ _ _. None };
+
+    ghost stands = { λ _ _. None };
+
+    ghost left = { λ _. None };
+
+    fn connect(&mut self, _path: &str) -> Result<Connection<MemStore>, MachineFault> {
+        Err(MachineFault::Failed)
+    }
+
+    fn release(&mut self, _conn: &mut Option<Connection<MemStore>>) {}
+
+    fn now(&mut self) -> Result<i64, MachineFault> {
+        Err(MachineFault::Failed)
+    }
+
+    fn listen(&mut self, _port: u16) -> Result<&mut MemoryDoor, MachineFault> {
+        Err(MachineFault::Failed)
+    }
+}

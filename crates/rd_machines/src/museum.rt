@@ -1,0 +1,107 @@
+//! A machine with one store, which stays between runs.
+
+ghost use Rattle.std.specs.Prelude.{◌≡◌, IfOk, IfSome, None, Option, Some, true, ℤ};
+
+use rd_http::MemoryDoor;
+use rd_program::{Files, Machine, MachineFault};
+use sqlite::{Alter, Connection, MemStore};
+use std::alloc::Global;
+
+/// The path of the store of a museum.
+pub const STORE: &str = "museum.sqlite";
+
+/// What a museum gives beside its store and its door.
+pub trait Supply {
+    /// The moment that its clock shows next, if it shows it.
+    ghost clock: { Self → Option ℤ };
+
+    /// The bytes of the file of an image.
+    fn image(&self, alloc: Global, path: &str) -> Result<Vec<u8>, MachineFault>;
+
+    fn sheet(&self, alloc: Global, path: &str) -> Result<Vec<u8>, MachineFault>;
+
+    /// It fails when the machine does not give its store.
+    fn check_store(&self) -> Result<(), MachineFault> {
+        Ok(())
+    }
+
+    /// It fails when the machine does not give its door at a port.
+    fn check_door(&mut self, _port: u16) -> Result<(), MachineFault> {
+        Ok(())
+    }
+
+    /// The moment, in seconds since 1970-01-01T00:00:00 UTC.
+    fn now(&mut self) -> Result<i64, MachineFault>
+        ensures { IfOk result (λ seconds. IfSome (clock self.old) (λ moment. seconds ≡ moment)) };
+}
+
+/// A machine with one store, with a door, and with what is supplied. The store is in memory unless a type says
+/// otherwise.
+#[derive(Drop)]
+pub struct Museum<P: Supply + Drop, S: Alter + Drop = MemStore> {
+    /// The store; `None` while a command has it.
+    pub conn: Option<Connection<S>>,
+    pub door: MemoryDoor,
+    pub supply: P,
+}
+
+impl<P: Supply + Drop, S: Alter + Drop> Files for Museum<P, S> {
+    ghost file_bytes = { λ _ _. None };
+
+    ghost sheet_bytes = { λ _ _. None };
+
+    fn read_file(&mut self, alloc: Global, path: &str) -> Result<Vec<u8>, MachineFault> {
+        self.supply.image(alloc, path)
+    }
+
+    fn read_sheet(&mut self, alloc: Global, path: &str) -> Result<Vec<u8>, MachineFault> {
+        self.supply.sheet(alloc, path)
+    }
+}
+
+impl<P: Supply + Drop, S: Alter + Drop> Machine for Museum<P, S> {
+    type Disk = S;
+
+    type Door = MemoryDoor;
+
+    ghost shows = { λ _. true };
+
+    ghost clock = { λ machine. P.clock machine.supply };
+
+    ghost door = { λ machine _. Some machine.door };
+
+    ghost stands = { λ machine _. machine.conn };
+
+    ghost left = { λ machine. machine.conn };
+
+    /// It also fails at a path without a store, and if the store has not come back, or is inside a
+    /// transaction.
+    fn connect(&mut self, path: &str) -> Result<Connection<S>, MachineFault> {
+        self.supply.check_store()?;
+        if path != STORE {
+            return Err(MachineFault::Failed);
+        }
+        let Some(conn) = self.conn.take() else {
+            return Err(MachineFault::Failed);
+        };
+        if conn.is_autocommit() {
+            return Ok(conn);
+        }
+        self.conn = Some(conn);
+        Err(MachineFault::Failed)
+    }
+
+    /// It closes nothing: the one that runs the program does.
+    fn release(&mut self, conn: &mut Option<Connection<S>>) {
+        self.conn = conn.take();
+    }
+
+    fn now(&mut self) -> Result<i64, MachineFault> {
+        self.supply.now()
+    }
+
+    fn listen(&mut self, port: u16) -> Result<&mut MemoryDoor, MachineFault> {
+        self.supply.check_door(port)?;
+        Ok(&mut self.door)
+    }
+}
