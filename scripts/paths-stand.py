@@ -12,7 +12,7 @@ there and is the one that the link's text names; and then, by the column:
 - Proved: the proof is of a function that Coded names, and each of these is there, with a proof or as automatic. For
   an automatic one proofs/ has no folder.
 - Tested: the label is a visit, a run or a note of the trial; in Rattle it is a text or a function of a file of tests,
-  or the name of a run of rd_stops. A script of scripts/ needs no label.
+  or the name of a run of rd_stop_runs. A script of scripts/ needs no label.
 - Refused: what the edit changes is in a function that Coded names.
 
 It does not see whether a step or a rule is described rightly. You need Python 3.11 with its standard library alone."""
@@ -31,7 +31,7 @@ WAY = "The way of "
 RULES = "The rules of the domain"
 COLUMNS = ["Rule", "Defined", "Coded", "Proved", "Tested", "Refused"]
 # The one file in a crate's src/ outside its tests whose texts are labels, and only the names of its runs are.
-RUNS = "rd_stops/runs.rt"
+RUNS = "rd_stop_runs/runs.rt"
 # A link, a name, or the word that stands before names without a file.
 TOKEN = re.compile(r"\[([^\]]+)\]\(([^)\s]+)\)|`([^`]+)`|\b(automatic)\b")
 
@@ -161,7 +161,7 @@ def has_definition(text, name):
 
 
 def has_run(text, name):
-    """Whether a run of rd_stops has this name."""
+    """Whether a run of rd_stop_runs has this name."""
     return re.search(rf'(?m)^ +name: "{re.escape(name)}",$', text)
 
 

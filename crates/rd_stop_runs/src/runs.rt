@@ -196,7 +196,8 @@ const IMPORTED: Run = Run {
     ..MADE
 };
 
-/// All runs. The draws of a run hang on its place here, so a new one stands at the end.
+/// The runs that stop at each call. The draws of a run hang on its place here, so a new one stands at
+/// the end.
 pub(crate) const RUNS: &[Run] = &[
     MADE,
     Run {
@@ -382,4 +383,25 @@ pub(crate) const RUNS: &[Run] = &[
         after: "version 2\n1\n1\n2\n",
         ..DEED_PUT
     },
+    Run {
+        name: "a CP/M image is put",
+        sorts: BOTH,
+        action: Action::Ask(&[Command::PutImage(15, Sample::Record)]),
+        question: "SELECT kind, length(bytes), name FROM image JOIN found ON found.acc = image.acc",
+        before: "version 2\n",
+        after: "version 2\n0|256256|HELLO.TXT\n",
+        ..DEED_PUT
+    },
 ];
+
+/// The runs with too many calls for a stop at each. Here, too, a new one stands at the end.
+pub(crate) const DRAWN_RUNS: &[Run] = &[Run {
+    name: "forty images are imported",
+    action: Action::Import(40),
+    stops: Stops::Drawn(100),
+    is_closed: true,
+    question: "SELECT count(*), min(acc), max(acc) FROM found",
+    before: "version 2\n0|NULL|NULL\n",
+    after: "version 2\n40|21|60\n",
+    ..IMPORTED
+}];

@@ -127,7 +127,7 @@ fn new_desk(alloc: Global) -> Result<Desk<FilesStore>> {
 }
 
 /// The desk that opens over a connection.
-fn opened<S: Alter + Drop>(alloc: Global, conn: Connection<S>) -> Result<Desk<S>> {
+fn desk_migrated<S: Alter + Drop>(alloc: Global, conn: Connection<S>) -> Result<Desk<S>> {
     match migrate(alloc, conn) {
         Ok(store) => desk_of(store),
         Err((fault, _)) => bail!("no desk: {}", words_of_open(fault)),
@@ -137,7 +137,7 @@ fn opened<S: Alter + Drop>(alloc: Global, conn: Connection<S>) -> Result<Desk<S>
 /// The desk in two files.
 fn standing_desk(alloc: Global, pair: &Pair) -> Result<Desk<FilesStore>> {
     let conn = connection(alloc, pair)?;
-    opened(alloc, conn)
+    desk_migrated(alloc, conn)
 }
 
 /// The files of a connection, with all pages in the database.

@@ -6,7 +6,7 @@ ghost use Rattle.rd_samples.specs.declared.days.TheConstants.{AFTER};
 use crate::commands::{Sample, bytes_of};
 use anyhow::{Result, bail};
 use rd_fakes::wire::new_door;
-use rd_machines::{Museum, Supply};
+use rd_machines::{Museum, STORE, Supply};
 use rd_program::{MachineFault, run};
 use rd_samples::days::AFTER;
 use rd_samples::keys::STAFF_KEY;
@@ -17,7 +17,7 @@ use std::alloc::{AllocError, Global};
 const WORDS: &[&str] = &[
     "import",
     "--store",
-    "museum.sqlite",
+    STORE,
     "--key",
     STAFF_KEY,
     "--sheet",
