@@ -2,6 +2,8 @@
 stop, what it finds, and that Back leads to the same place of a list."""
 
 import csv
+import pathlib
+import tempfile
 import time
 import urllib.parse
 
@@ -54,14 +56,28 @@ def below(seen, label, came, limit, unit):
     seen.same(f"{label}: {came:.0f} {unit}", True, came < limit)
 
 
-def see_ready(seen, tab):
-    """The list of all disks is there within two seconds, with the boxes to search in at its top. The stand-in has its
-    reply at hand: to make it takes it longer than the desk itself, and what is measured is the page."""
+# How often the page is loaded, scrolls from end to end, and reads the list of all files. The browser measures by the
+# clock, and other work on the machine can hold it up; a stop of the page's own would come each time.
+TIMES = 3
+
+
+def loaded(seen, tab, label):
+    """What the page shows when it is ready, which it is within two seconds. The stand-in has its reply at hand: to make
+    it takes it longer than the desk itself, and what is measured is the page."""
     reply = tab.door.with_added(tab.door.museum.ask_images("public").reply)
     tab.door.before = lambda method, path: reply if path == "/images" else None
-    tab.browser.open(tab.door.address)
-    shown = tab.read(lambda shown: shown["rows"])
-    below(seen, "ready: 10,000 disks", shown["ready"], READY, "ms")
+    ready = []
+    while len(ready) < TIMES and (not ready or min(ready) >= READY):
+        tab.browser.open(tab.door.address)
+        shown = tab.read(lambda shown: shown["rows"])
+        ready.append(shown["ready"])
+    below(seen, f"ready: {label}", min(ready), READY, "ms")
+    return shown
+
+
+def see_ready(seen, tab):
+    """The list of all disks is there, with the boxes to search in at its top."""
+    shown = loaded(seen, tab, "10,000 disks")
     seen.same("ready: the summary", "You may see files of 9,900 disks.", shown["status"])
     seen.same("ready: the first rows", ["Disk 1", "Commodore 1541", "2", "19"], shown["rows"][0])
     seen.same("ready: few are drawn", True, len(shown["rows"]) <= 400)
@@ -81,11 +97,6 @@ step();
 """
 
 
-# How often the page scrolls from end to end, and reads the list of all files. The browser measures by the clock, and
-# other work on the machine can hold it up; a stop of the page's own would come each time.
-TIMES = 3
-
-
 def see_scroll(seen, tab):
     tab.browser.command("POST", "/timeouts", {"script": 60000})
     longest = []
@@ -99,29 +110,50 @@ def see_scroll(seen, tab):
     below(seen, "scroll: the longest piece of work", min(longest), LONGEST, "ms")
 
 
-def see_back(seen, tab):
-    """Back from a disk leads to the same row of the list, which has the focus."""
-    tab.go("")
-    tab.browser.script("window.scrollTo(0, 150000)")
-    middle = "Array.from(document.querySelectorAll('tbody a')).find((one) => one.getBoundingClientRect().top > 300)"
+def left(tab, before, links="tbody a"):
+    """Scrolls a list to a place, leaves it by a link there, and gives that one's words."""
+    tab.browser.script(f"window.scrollTo(0, {before})")
+    middle = f"Array.from(document.querySelectorAll('{links}')).find((one) => one.getBoundingClientRect().top > 300)"
     end = time.monotonic() + 10
     while time.monotonic() < end and not tab.browser.script(f"return {middle} !== undefined"):
         time.sleep(0.05)
     name = tab.browser.script(f"const at = {middle}; at.click(); return at.textContent")
-    before = 150000
-    shown = tab.read(lambda shown: shown["heading"] == name)
-    seen.same("back: the disk", 19, len(shown["rows"]))
-    seen.same("back: at the top of it", 0, tab.browser.script("return window.scrollY"))
+    tab.read(lambda shown: shown["heading"] == name)
+    return name
+
+
+def see_came_back(seen, tab, label, heading, before, name):
+    """Back leads to the same place of a list, where the link by which the reader left has the focus."""
     tab.door.visits.clear()
     tab.browser.command("POST", "/back", {})
-    tab.read(lambda shown: shown["heading"] == "Disks" and shown["rows"])
+    tab.read(lambda shown: shown["heading"] == heading and shown["rows"])
     time.sleep(0.3)
     place = tab.browser.script("return window.scrollY")
-    seen.same(f"back: the place {place}", True, abs(place - before) <= 2)
-    seen.same("back: the focus", name, tab.browser.focus())
-    seen.same("back: nothing is asked", [], tab.door.visits)
+    seen.same(f"{label}: the place {place}", True, abs(place - before) <= 2)
+    seen.same(f"{label}: the focus", name, tab.browser.focus())
+    seen.same(f"{label}: nothing is asked", [], tab.door.visits)
+
+
+def see_back(seen, tab):
+    """Back from a disk leads to the same row of the list."""
+    tab.go("")
+    name = left(tab, 150000)
+    seen.same("back: the disk", 19, len(tab.read()["rows"]))
+    seen.same("back: at the top of it", 0, tab.browser.script("return window.scrollY"))
+    see_came_back(seen, tab, "back", "Disks", 150000, name)
     tab.browser.command("POST", "/forward", {})
     seen.same("forward: the disk", 19, len(tab.read(lambda shown: shown["heading"] == name)["rows"]))
+
+
+def see_back_to_found(seen, tab):
+    """Back from a file that was found leads to the same row of what was found."""
+    tab.find("letter 1")
+    name = left(tab, 20000, "td.name a")
+    seen.same("back to what was found: the file", True, "of disk" in tab.browser.script(BYTES).lower())
+    see_came_back(seen, tab, "back to what was found", "\u201cletter 1\u201d", 20000, name)
+
+
+BYTES = "return document.getElementById('bytes').textContent"
 
 
 def catalogue(tab):
@@ -187,7 +219,7 @@ def see_names(seen, tab):
     shown = tab.go("1")
     seen.same("names: as they are printed", "NOTES 1", shown["rows"][1][1])
     shown = tab.go("3/1")
-    heading = ("SPRITES 1", "SPRITES 1 \u2013 the reading room")
+    heading = ("SPRITES 1", "SPRITES 1, disk 3, slot 1 \u2013 the reading room")
     seen.same("names: the heading", heading, (shown["heading"], shown["title"]))
 
 
@@ -238,11 +270,44 @@ def see_harmful(seen, tab):
     seen.same("harmful: found", "Disk 1066", tab.find("<IMG")["rows"][0][0])
 
 
+def titles_of(count):
+    """A table of titles and notes for so many disks."""
+    lines = [f'{n},"Letters of ferryman {n}, with the river","Box {n % 77}, 1983 to 1986"\n' for n in range(1, count + 1)]
+    return "".join(["accession,title,note\n", *lines])
+
+
+def see_titles(seen, tab):
+    """With a title for each disk the page is ready as soon, and finds disks by their titles."""
+    shown = loaded(seen, tab, "10,000 disks with titles")
+    row = ["Disk 1", "Letters of ferryman 1, with the river", "Commodore 1541", "2", "19"]
+    seen.same("titles: the first row", row, shown["rows"][0])
+    shown = tab.find("FERRYMAN 77,")
+    seen.same("titles: found", ["Disk 77", "Letters of ferryman 77, with the river"], shown["rows"][0][:2])
+    tab.browser.script(WATCH)
+    longest = []
+    while len(longest) < TIMES and (not longest or min(longest) >= LONGEST):
+        tab.browser.script("window.longest = 0")
+        shown = tab.find(("river", "ferryman", "letters of")[len(longest)])
+        tab.read(lambda shown: shown["rows"])
+        longest.append(tab.browser.script("return window.longest"))
+    heads = "return document.querySelector('#view h2').textContent"
+    seen.same("titles: of all disks", "9,900 disks with this in the title", tab.browser.script(heads))
+    below(seen, "titles: the longest piece of work", min(longest), LONGEST, "ms")
+
+
 def see(seen, browser):
-    with door(made_museum.many(10000, 20), outside=True) as outside:
+    museum = made_museum.many(10000, 20)
+    with door(museum, outside=True) as outside:
         tab = ReadersTab(browser, outside)
-        for group in (see_ready, see_scroll, see_back, see_found, see_names, see_broken, see_small):
+        groups = (
+            see_ready, see_scroll, see_back, see_found, see_back_to_found, see_names, see_broken, see_small
+        )
+        for group in groups:
             group(seen, tab)
+    with tempfile.TemporaryDirectory() as folder:
+        (pathlib.Path(folder) / "titles.csv").write_text(titles_of(10000))
+        with door(museum, outside=True, folder=folder) as outside:
+            see_titles(seen, ReadersTab(browser, outside))
     museum = made_museum.small()
     harmful_disk(museum, 1066, 9)
     with door(museum, outside=True) as outside:

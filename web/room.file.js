@@ -42,7 +42,9 @@ export async function showFile(accession, slot) {
     showBytes(views, views.find((view) => view.text() !== null));
   };
   const summary = `${counted(bytes.length, "byte")}, by rule ${textOf(file.rule)}.`;
-  return { heading: shown || `Slot ${slot}`, summary, parts, fill, leave: forgetDownload };
+  const place = `disk ${accession}, slot ${slot}`;
+  const title = shown ? `${shown}, ${place}` : `Slot ${slot}, disk ${accession}`;
+  return { heading: shown || `Slot ${slot}`, title, summary, parts, fill, leave: forgetDownload };
 }
 
 // The ways to show bytes: an id and the words of each one's button, what to say of it, and its text, which is null

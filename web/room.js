@@ -50,10 +50,10 @@ async function asked({ accession, slot, words }, progress) {
 // What is to be done when the reader leaves the view.
 let leave = () => {};
 
-function display({ heading, summary, parts, fill, leave: leaveThis = () => {} }) {
+function display({ heading, title = heading, summary, parts, fill, leave: leaveThis = () => {} }) {
   leave();
   leave = leaveThis;
-  document.title = `${heading} \u2013 the reading room`;
+  document.title = `${title} \u2013 the reading room`;
   part("heading").textContent = heading;
   part("status").textContent = summary;
   part("view").replaceChildren(...parts);
