@@ -121,6 +121,20 @@ class StaffTab(Tab):
         return sent
 
 
+def told_meanwhile(tab, section, button):
+    """Presses a button, and gives how far its work says that it is, until it ends."""
+    words = "return [document.querySelector(arguments[0])?.textContent ?? '', "
+    words += "document.querySelector('[aria-busy=true]') !== null]"
+    told, busy = set(), True
+    tab.browser.click(button)
+    end = time.monotonic() + 2 * LIMIT
+    while busy and time.monotonic() < end:
+        came, busy = tab.browser.script(words, f"#{section} .result .choices span")
+        told.add(came)
+        time.sleep(0.03)
+    return told
+
+
 def picture(tab, name, width, dark=False, height=900):
     """Writes a picture of the page, to look at."""
     tab.browser.scheme("dark" if dark else "light")

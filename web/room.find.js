@@ -5,7 +5,7 @@ import { searchText } from "./names.js";
 import { asker, clockTime, diskRow, FILE_COLUMNS, fileCells, link, TITLED_COLUMNS } from "./room.cells.js";
 import { fetchedAt, ways } from "./room.forms.js";
 import { cell, counted, element, forgetWithKey, keyInUse, numberOf, row } from "./shared.js";
-import { breather, readTable } from "./stream.js";
+import { inParts, readTable } from "./stream.js";
 import { titled, withTitle } from "./titles.js";
 
 // The columns of the catalogue that are looked at before a file is drawn, and the text to look in behind them.
@@ -14,8 +14,6 @@ const NAME = 5;
 const SEARCHED = 11;
 // How often the page says how far it is, in milliseconds.
 const PACE = 500;
-// How many files it looks through at once.
-const AT_ONCE = 5000;
 
 // The list, or the promise of it, and the key with which it was asked for.
 let catalogue = null;
@@ -78,25 +76,23 @@ function foundRow(record) {
   return row([disk, ...fileCells(file.kind, number, file)]);
 }
 
-// The files that have some words in their names, found bit by bit.
+// The files that have some words in their names.
 async function lookThrough(files, words) {
-  const breathe = breather();
   const found = [];
-  for (let at = 0; at < files.length; at += AT_ONCE) {
-    for (const file of files.slice(at, at + AT_ONCE)) if (file[SEARCHED].includes(words)) found.push(file);
-    await breathe();
-  }
+  await inParts(files, (some) => found.push(...some.filter((file) => file[SEARCHED].includes(words))));
   return found;
 }
 
 // Of some accessions the disks of which the reader may see files, each with their number.
-function disksOf(files, accessions) {
+async function disksOf(files, accessions) {
   const disks = new Map();
-  for (const [accession, deed, kind] of accessions.size ? files : []) {
-    if (!accessions.has(accession)) continue;
+  const take = ([accession, deed, kind]) => {
+    if (!accessions.has(accession)) return;
     const disk = disks.get(accession) ?? { accession: Number(accession), deed: Number(deed), kind, files: 0 };
-    disks.set(accession, { ...disk, files: disk.files + 1 });
-  }
+    disks.set(accession, disk);
+    disk.files += 1;
+  };
+  await inParts(accessions.size ? files : [], (some) => some.forEach(take));
   return [...disks.values()];
 }
 
@@ -106,7 +102,7 @@ export async function showFound(words, progress) {
   const { files, at } = await allFiles(progress);
   const wanted = words.toLowerCase();
   const found = await lookThrough(files, wanted);
-  const disks = disksOf(files, new Set(titled(wanted).map(String)));
+  const disks = await disksOf(files, new Set(titled(wanted).map(String)));
   const none = `There is no file with \u201c${words}\u201d in its name that you may see. ${asker()}`;
   const summary = found.length ? `You may see ${counted(found.length, "file")} with this in the name.` : none;
   const parts = [ways(words), fetchedAt(clockTime(at), "the list of all files", forgetFiles)];

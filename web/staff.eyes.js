@@ -7,7 +7,7 @@ import { formOf, work } from "./staff.desk.js";
 import { limitFields, options } from "./staff.ruleform.js";
 import { COLUMNS, EFFECT_AT, keeper, readVerdicts } from "./staff.verdicts.js";
 import { AUDIENCES, EFFECTS, today } from "./staff.words.js";
-import { save } from "./stream.js";
+import { inParts, save } from "./stream.js";
 import { hasTitles, isTitled, titleOf, withTitle } from "./titles.js";
 
 // The verdicts of the day that was read last; behind each the text to look in.
@@ -32,18 +32,28 @@ function finder(words, audience) {
   return (file) => isNamed(file) || isTitled(Number(file[COLUMNS.accession]), words);
 }
 
-// The files to show: those that are found, and of the hidden ones only where they are asked for.
-function found({ audience, words, closed }) {
-  const isFound = finder(words.value.trim().toLowerCase(), audience.value);
-  const at = EFFECT_AT[audience.value];
-  const isShown = closed.checked ? () => true : (file) => file[at] !== "deny";
-  return seen.files.filter((file) => isShown(file) && isFound(file));
+// What is asked for now.
+function wanted() {
+  const { audience, words, closed } = formOf("eyes").elements;
+  return { audience: audience.value, words: words.value.trim().toLowerCase(), showsClosed: closed.checked };
 }
 
-function summary(audience) {
+// The files to show: those that are found, and of the hidden ones only where they are asked for. And of all files, how
+// many there are of each effect.
+async function lookThrough({ audience, words, showsClosed }) {
+  const isFound = finder(words, audience);
   const at = EFFECT_AT[audience];
   const counts = { read: 0, list: 0, deny: 0 };
-  for (const file of seen.files) counts[file[at]] += 1;
+  const files = [];
+  const take = (file) => {
+    counts[file[at]] += 1;
+    if ((showsClosed || file[at] !== "deny") && isFound(file)) files.push(file);
+  };
+  await inParts(seen.files, (some) => some.forEach(take));
+  return { files, counts };
+}
+
+function summary(audience, counts) {
   const [read, list, deny] = ["read", "list", "deny"].map((effect) => counts[effect].toLocaleString("en"));
   const all = counted(seen.files.length, "file");
   const first = `On ${seen.day} ${AUDIENCES[audience]} may read ${read} of ${all}`;
@@ -67,40 +77,53 @@ function fileRow(file, audience) {
   ]);
 }
 
-function draw() {
-  const { audience, words, closed } = formOf("eyes").elements;
-  const files = found({ audience, words, closed });
-  const isPart = words.value.trim() !== "" || !closed.checked;
+// How often the files were drawn: what was asked for later goes before what has not come yet.
+let turn = 0;
+
+async function draw() {
+  const mine = ++turn;
+  const asked = wanted();
+  const stands = part("eyes").querySelector(".stands");
+  stands.setAttribute("aria-busy", "true");
+  const { files, counts } = await lookThrough(asked);
+  if (mine !== turn) return;
   const number = counted(files.length, "file");
-  const count = element("p", isPart ? `${number} shown here.` : `All ${number}.`);
+  const count = element("p", asked.words !== "" || !asked.showsClosed ? `${number} shown here.` : `All ${number}.`);
   const columns = ["Disk", "Kind", "Slot", "Name", "Type", "They may", "Rule"];
-  const made = files.length ? [longTable("verdicts", columns, files, (file) => fileRow(file, audience.value))] : [];
-  part("eyes").querySelector(".stands").replaceChildren(element("p", summary(audience.value)), count, ...made);
+  const made = files.length ? [longTable("verdicts", columns, files, (file) => fileRow(file, asked.audience))] : [];
+  stands.replaceChildren(element("p", summary(asked.audience, counts)), count, ...made);
+  stands.setAttribute("aria-busy", "false");
   part("eyes").querySelector(".found").hidden = false;
 }
 
+const HEADS = ["disk", "title", "deed", "kind", "slot", "user", "name", "name as shown", "type", "they may", "rule"];
+
+const savedRecord = (file, at) => [
+  file[COLUMNS.accession],
+  titleOf(Number(file[COLUMNS.accession])),
+  ...file.slice(COLUMNS.deed, COLUMNS.name + 1),
+  shownName(file[COLUMNS.kind], file[COLUMNS.name]),
+  file[COLUMNS.type],
+  EFFECTS[file[at]],
+  file[at + 1],
+];
+
 // Saves what is shown as a table for a spreadsheet.
-function saveShown() {
-  const { audience, words, closed } = formOf("eyes").elements;
-  const at = EFFECT_AT[audience.value];
-  const heads = ["disk", "title", "deed", "kind", "slot", "user", "name", "name as shown", "type", "they may", "rule"];
-  const records = found({ audience, words, closed }).map((file) => [
-    file[COLUMNS.accession],
-    titleOf(Number(file[COLUMNS.accession])),
-    ...file.slice(COLUMNS.deed, COLUMNS.name + 1),
-    shownName(file[COLUMNS.kind], file[COLUMNS.name]),
-    file[COLUMNS.type],
-    EFFECTS[file[at]],
-    file[at + 1],
-  ]);
-  save(`${audience.value}-${seen.day}.csv`, [csvText([heads, ...records])], "text/csv");
+async function saveShown() {
+  const asked = wanted();
+  const { day } = seen;
+  const { files } = await lookThrough(asked);
+  const at = EFFECT_AT[asked.audience];
+  const texts = [csvText([HEADS])];
+  await inParts(files, (some) => texts.push(csvText(some.map((file) => savedRecord(file, at)))));
+  save(`${asked.audience}-${day}.csv`, texts, "text/csv");
 }
 
 function look() {
   const { day, audience } = formOf("eyes").elements;
   return work("eyes", async (tools) => {
     await read(day.value, tools);
-    draw();
+    await draw();
     return `Read: what everybody may do on ${day.value}. Shown: ${AUDIENCES[audience.value]}.`;
   });
 }

@@ -7,7 +7,7 @@ import { dated, formOf, work } from "./staff.desk.js";
 import { LONGEST, Lines, MONTHS, PIECE } from "./staff.lines.js";
 import { limitFields } from "./staff.ruleform.js";
 import { today } from "./staff.words.js";
-import { save } from "./stream.js";
+import { inParts, save } from "./stream.js";
 import { withTitle } from "./titles.js";
 
 // From how many changes on the page reads no more.
@@ -115,14 +115,18 @@ function readAnew(tools) {
   return readOlder(tools);
 }
 
+const HEADS = ["moment", "name", "reason", "what", "outcome", "method", "path", "status", "body"];
+
+function savedRecord(change) {
+  const { moment, name, reason, method, path, status, body } = change;
+  return [moment, name, reason, changeWords(change), outcomeWords(change), method, path, status, body];
+}
+
 // Saves what is shown as a table for a spreadsheet.
-function saveShown() {
-  const heads = ["moment", "name", "reason", "what", "outcome", "method", "path", "status", "body"];
-  const records = found(formOf("journal").elements).map((change) => {
-    const { moment, name, reason, method, path, status, body } = change;
-    return [moment, name, reason, changeWords(change), outcomeWords(change), method, path, status, body];
-  });
-  save(`journal-${today()}.csv`, [csvText([heads, ...records])], "text/csv");
+async function saveShown() {
+  const texts = [csvText([HEADS])];
+  await inParts(found(formOf("journal").elements), (some) => texts.push(csvText(some.map(savedRecord))));
+  save(`journal-${today()}.csv`, texts, "text/csv");
 }
 
 // Shows the journal, of one disk where its number is given.

@@ -81,13 +81,15 @@ async function look(tools) {
   const days = await turningDays(now);
   const shown = part("year").querySelector(".stands");
   shown.replaceChildren(element("p", bound(days)));
-  let { effects } = days.length ? await readDay(now, null, tools) : { effects: null };
-  for (const day of days.slice(0, MOST_DAYS)) {
-    const came = await readDay(day, effects, tools);
-    effects = came.effects;
-    shown.append(...dayParts({ words: `On ${day}`, groups: came.groups }, null, "h2"));
-  }
   if (days.length === 0) return "Nothing opens and nothing closes by itself.";
+  const all = [now, ...days.slice(0, MOST_DAYS)];
+  let effects = null;
+  for (const [at, day] of all.entries()) {
+    const progress = (words, count) => tools.progress(`Day ${at + 1} of ${all.length}. ${words}`, count);
+    const came = await readDay(day, effects, { ...tools, progress });
+    effects = came.effects;
+    if (at > 0) shown.append(...dayParts({ words: `On ${day}`, groups: came.groups }, null, "h2"));
+  }
   return `Done: ${counted(Math.min(days.length, MOST_DAYS), "day")} from ${now} on.`;
 }
 

@@ -17,6 +17,18 @@ export function breather() {
   };
 }
 
+// How many items are taken before the page looks whether it has worked for long.
+const AT_ONCE = 1000;
+
+// Hands on many items, some at a time, and lets the browser breathe in between.
+export async function inParts(items, take) {
+  const breathe = breather();
+  for (let at = 0; at < items.length; at += AT_ONCE) {
+    take(items.slice(at, at + AT_ONCE));
+    await breathe();
+  }
+}
+
 // The parts of a reply's text. A connection that ends too early is a lost one.
 async function* partsOf(reply) {
   const reader = reply.body.pipeThrough(new TextDecoderStream()).getReader();
