@@ -184,8 +184,30 @@ def see_refused(seen, tab):
     tab.door.before = lambda method, path: b"" if method == "PUT" and "/rehearsals/" not in path else None
     takedown(tab, "1001", "", "0", "public")
     words += " The desk may have done it all the same. You can safely send it again."
-    seen.same("refused: lost when it was sent", [words], tab.answer(True)["result"])
+    shown = tab.answer(True)
+    seen.same("refused: lost when it was sent", ([words], []), (shown["result"], of_disk(shown, "1001")))
+    takedown(tab, "1001", "", "0", "public")
+    tab.door.before = done_but_lost(tab.door)
+    shown = tab.answer(True)
+    seen.same("refused: done, and the reply lost", ([words], ["1000"]), (shown["result"], of_disk(shown, "1001")))
     tab.door.before = lambda method, path: None
+
+
+def of_disk(shown, number):
+    """The ranks of the takedowns of a disk that the page shows."""
+    return [row[1] for row in shown["rows"] if row[0] == number]
+
+
+def done_but_lost(door_):
+    """Has the museum do what comes, and the connection lost before the reply."""
+    def before(method, path):
+        if method != "PUT" or "/rehearsals/" in path:
+            return None
+        scope, rank = int(path.split("/")[2]), int(path.split("/")[4])
+        door_.museum.rules[f"T{scope}"] = {rank: made_museum.rule(rank, "deny", ["public"], {"slot": 0})}
+        return b""
+
+    return before
 
 
 def see(seen, browser):

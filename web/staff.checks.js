@@ -1,7 +1,7 @@
 // Survey and check of disks, and the latest check of each.
 import { longTable } from "./lists.js";
 import { askObject, cell, counted, element, kindWords, numberOf, own, part, row } from "./shared.js";
-import { change, changed, formOf, held, readHeld, work } from "./staff.desk.js";
+import { change, changed, formOf, held, readHeld, showsAnew, work } from "./staff.desk.js";
 import { sendMany } from "./staff.many.js";
 import { limitFields } from "./staff.ruleform.js";
 import { buttonsCell } from "./staff.rules.js";
@@ -91,6 +91,7 @@ export async function showChecks() {
 export function listenForChecks() {
   const form = formOf("checks");
   const { accession, check: button, before, all } = form.elements;
+  showsAnew("checks", showChecks);
   limitFields(form);
   before.value = dayAfter(today(), -DAYS);
   all.addEventListener("click", () => {

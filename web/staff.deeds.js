@@ -1,7 +1,7 @@
 // Deeds: who gave disks, and when they signed; each with its rules.
 import { longTable } from "./lists.js";
 import { cell, counted, element, part, row } from "./shared.js";
-import { change, dated, formOf, held, readHeld, send, sure } from "./staff.desk.js";
+import { change, dated, formOf, held, readHeld, send, showsAnew, sure } from "./staff.desk.js";
 import { limitFields } from "./staff.ruleform.js";
 import { buttonsCell, leaveButton } from "./staff.rules.js";
 import { ruleWords } from "./staff.words.js";
@@ -75,6 +75,7 @@ export async function showDeeds() {
 
 export function listenForDeeds() {
   const form = formOf("deeds");
+  showsAnew("deeds", showDeeds);
   limitFields(form);
   form.addEventListener("submit", (event) => {
     event.preventDefault();

@@ -92,6 +92,13 @@ export function dated(name, text, fields = {}) {
   return made;
 }
 
+// How each section shows anew what stands.
+const shows = {};
+
+export function showsAnew(name, again) {
+  shows[name] = again;
+}
+
 // Does some work of a section, one at a time, shows the outcome there, and says whether it was done. The work gets a
 // way to show how far it has come, and a signal that the reader stops it. It gives the words or the node to show, or
 // null where what it has shown stays.
@@ -101,13 +108,14 @@ export async function work(name, doing) {
   show(name);
   const stop = new AbortController();
   const tools = { progress: progressOf(name, stop), signal: stop.signal };
-  const { outcome, done } = await Promise.resolve(tools)
+  const { outcome, done, fault } = await Promise.resolve(tools)
     .then(doing)
     .then(
       (made) => ({ outcome: made, done: true }),
-      (fault) => ({ outcome: stop.signal.aborted ? "Stopped." : refusedWork(fault), done: false }),
+      (came) => ({ outcome: stop.signal.aborted ? "Stopped." : refusedWork(came), done: false, fault: came }),
     );
   if (outcome !== null && outcome !== undefined) show(name, paragraph(outcome));
+  if (fault && isUnsure(fault)) await shows[name]?.().catch(() => {});
   part(name).setAttribute("aria-busy", "false");
   return done;
 }

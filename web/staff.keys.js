@@ -1,7 +1,7 @@
 // Keys of the reading room and of the staff: only their SHA-256 goes to the desk.
 import { longTable } from "./lists.js";
 import { asHeaderField, cell, counted, element, keyInUse, part, row } from "./shared.js";
-import { change, digestOf, formOf, held, readHeld, send, sure } from "./staff.desk.js";
+import { change, digestOf, formOf, held, readHeld, send, showsAnew, sure } from "./staff.desk.js";
 import { limitFields, options } from "./staff.ruleform.js";
 import { buttonsCell } from "./staff.rules.js";
 import { AUDIENCES } from "./staff.words.js";
@@ -65,6 +65,7 @@ export async function showKeys() {
 export function listenForKeys() {
   const form = formOf("keys");
   const keys = form.elements;
+  showsAnew("keys", showKeys);
   limitFields(form);
   options(keys.audience, AUDIENCES, ["room", "staff"]);
   keys.seen.addEventListener("change", () => {

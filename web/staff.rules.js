@@ -1,7 +1,7 @@
 // Rules of deeds, and takedowns: the forms that put and change them, and the tables of those that stand.
 import { longTable } from "./lists.js";
 import { cell, counted, element, part, row } from "./shared.js";
-import { change, dated, formOf, held, readHeld, rulesOf, send } from "./staff.desk.js";
+import { change, dated, formOf, held, readHeld, rulesOf, send, showsAnew } from "./staff.desk.js";
 import { sendMany } from "./staff.many.js";
 import { MOST_DISKS, accessionsIn, placeOf } from "./staff.ranks.js";
 import { rehearsalDays, rehearsed } from "./staff.rehearsal.js";
@@ -29,6 +29,7 @@ const scopesIn = (name, typed) => (name === "rules" ? [Number(typed)] : (accessi
 // Puts a rule at each place once the rehearsal is agreed to: at the rank that is typed, or else at a free one.
 async function put(name, scopes, typedRank, rule, tools) {
   await readHeld(READ[name]);
+  hint(name);
   const places = scopes.map((scope) => placeOf(name, scope, typedRank, rulesOf(name, scope)));
   const full = places.find(({ rank }) => rank === null);
   if (full) return full.says;
@@ -186,6 +187,7 @@ export async function openRules(name, scope) {
 
 export function listenForRules(name) {
   const form = formOf(name);
+  showsAnew(name, () => showRules(name));
   makeRuleForm(name, form);
   if (name === "takedowns") takeMany(form);
   form.elements.scope.addEventListener("input", () => draw(name));
