@@ -6,7 +6,8 @@ import time
 import client_cases
 import made_museum
 from client_cases import bytes_of, digest
-from page_tabs import StaffTab, door
+from page_tabs import StaffTab, door, told_meanwhile
+from pages_reading import asked
 
 CHOSEN = ["1001-1002, 1005 1004", "1001–1002,1004;1005"]
 LISTS = {
@@ -35,6 +36,27 @@ def see_lists(seen, tab):
     seen.same("lists: what the field takes", LISTS, came)
 
 
+# The ranks in use of a disk, and the one that a new takedown gets.
+RANKS = [
+    ([], 1000), ([1000], 990), ([30], 20), ([21], 11), ([20], 10), ([10, 20], 5), ([3], 1), ([2, 1000], 1), ([1], 2),
+    ([1, 2, 5], 3), ([1, 9999], 2), (list(range(1, 10000)), None), ([9999], 9989),
+]
+
+
+def see_ranks(seen, tab):
+    for ranks, wanted in RANKS:
+        came = asked(tab, "staff.ranks.js", "freeRank(values[0])", ranks)
+        seen.same(f"ranks: {ranks[:3]}", wanted, came)
+    rules = {rank: made_museum.rule(rank, "deny", ["public"], {"slot": 0}) for rank in range(1, 10000)}
+    tab.door.museum.rules["T1006"] = rules
+    tab.go("takedowns")
+    tab.sent()
+    shown = type_many(tab, "1006")
+    words = ["All ranks of disk 1006 are in use."]
+    seen.same("ranks: all are in use", (words, words[0], []), (shown["result"], shown["hint"], tab.sent()))
+    del tab.door.museum.rules["T1006"]
+
+
 def type_many(tab, scope):
     tab.rule("takedowns", scope, "", "deny", "all", None, "public", "room")
     return tab.submit("takedowns")
@@ -54,8 +76,10 @@ def see_takedowns(seen, tab):
     seen.same("many: nothing is sent", [], tab.sent())
     type_many(tab, f"{CHOSEN[0]} 1099")
     puts = []
-    tab.door.before = lambda method, path: b"" if is_third(puts, method, path) else None
-    shown = tab.answer(True)
+    tab.door.before = lambda method, path: slowly(method) or (b"" if is_third(puts, method, path) else None)
+    told = told_meanwhile(tab, "takedowns", "#sure [value=go]")
+    seen.same("many: progress", [], [words for words in SENDING if words not in told])
+    shown = tab.read()
     seen.same("many: the connection is lost", "2 takedowns put, 1 failed, 1 not sent yet.", shown["result"][0])
     seen.same("many: what was sent", [1001, 1002], [one for one in (1001, 1002, 1004, 1005) if stands(tab, one)])
     tab.door.before = lambda method, path: None
@@ -70,6 +94,15 @@ def see_takedowns(seen, tab):
     tab.answer(True)
     ranks = [sorted(tab.door.museum.rules[f"T{one}"]) for one in (1001, 1002)]
     seen.same("many: each at its own rank", [[990, 1000]] * 2, ranks)
+
+
+SENDING = [f"Sending: {count} of 4." for count in (0, 1, 2)]
+
+
+def slowly(method):
+    """Lets a change wait."""
+    if method == "PUT":
+        time.sleep(0.4)
 
 
 def stands(tab, scope):
@@ -133,6 +166,27 @@ def see_wrong_sheets(seen, tab):
         seen.same(f"sheet: {text[-20:]!r}", [words], shown["result"])
 
 
+MATCHED = """
+const count = 10000;
+const dumps = Array.from({ length: count }, (_, at) => ({ file: { name: `${at >> 1}.d64` }, digest: String(at) }));
+const rows = Array.from({ length: count }, (_, at) => ({ name: `${at >> 1}.d64`, sha256: String(count - 1 - at) }));
+return import("/staff.sheet.js").then(({ matchRows }) => {
+  const begun = performance.now();
+  const others = matchRows(rows, dumps);
+  const taken = performance.now() - begun;
+  return [others.length, rows.filter(({ name, dump }) => dump.file.name === name).length, taken];
+});
+"""
+
+
+def see_matched(seen, tab):
+    """Each row of a large sheet gets a dump of its name, and soon."""
+    came = [tab.browser.script(MATCHED) for _ in range(3)]
+    seen.same("sheet: 10,000 rows", [[0, 10000]] * 3, [one[:2] for one in came])
+    taken = min(one[2] for one in came)
+    seen.same(f"sheet: 10,000 rows: {taken:.0f} ms", True, taken < 200)
+
+
 def results(shown):
     return {row[0]: (row[4], row[5], row[6]) for row in shown["list"]}
 
@@ -158,8 +212,10 @@ def see_sheet(seen, tab):
     seen.same("sheet: row by row", first, came)
     tab.sent()
     puts = []
-    tab.door.before = lambda method, path: b"" if is_third(puts, method, path) else None
-    shown = tab.submit("disks")
+    tab.door.before = lambda method, path: slowly(method) or (b"" if is_third(puts, method, path) else None)
+    told = told_meanwhile(tab, "disks", "#disks > form [type=submit]")
+    seen.same("sheet: progress", [], [words for words in SENDING if words not in told])
+    shown = tab.read()
     seen.same("sheet: the connection is lost", "2 disks put, 1 failed, 1 not sent yet.", shown["result"][0])
     tab.door.before = lambda method, path: None
     shown = tab.press("#disks [name=go-on]")
@@ -207,5 +263,6 @@ def see(seen, browser):
     museum.rules["R7"].pop(10)
     with door(museum) as staffs:
         tab = StaffTab(browser, staffs)
-        for group in (see_lists, see_takedowns, see_wrong_sheets, see_sheet, see_by_hand):
+        groups = (see_lists, see_takedowns, see_ranks, see_wrong_sheets, see_matched, see_sheet, see_by_hand)
+        for group in groups:
             group(seen, tab)

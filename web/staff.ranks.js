@@ -24,7 +24,8 @@ export function freeRank(ranks) {
   if (ranks.length === 0) return FIRST_RANK;
   const least = Math.min(...ranks);
   if (least > 1) return least > 2 * STEP ? least - STEP : Math.floor(least / 2);
-  for (let rank = 2; rank <= LAST_RANK; rank += 1) if (!ranks.includes(rank)) return rank;
+  const used = new Set(ranks);
+  for (let rank = 2; rank <= LAST_RANK; rank += 1) if (!used.has(rank)) return rank;
   return null;
 }
 

@@ -42,16 +42,19 @@ function rowOf([accession, kind, deed, sha256, file]) {
   return { accession, kind, deed, sha256: sha256.toLowerCase(), file, name: file.split(/[/\\]/).at(-1), dump: null };
 }
 
-// Gives each row its dump: by the name of the file, and of several with one name the one with the row's SHA-256.
+// Gives each row its dump: by the name of the file, and of several with one name the one with the row's SHA-256. Gives
+// the dumps that no row names.
 export function matchRows(rows, dumps) {
-  const free = new Set(dumps);
+  const free = new Map();
+  for (const dump of dumps) free.set(dump.file.name, [...(free.get(dump.file.name) ?? []), dump]);
   const take = (row, fits) => {
-    row.dump = [...free].find((dump) => dump.file.name === row.name && fits(dump)) ?? null;
-    free.delete(row.dump);
+    const named = free.get(row.name) ?? [];
+    row.dump = named.find(fits) ?? null;
+    free.set(row.name, named.filter((dump) => dump !== row.dump));
   };
   for (const row of rows) take(row, (dump) => dump.digest === row.sha256);
   for (const row of rows.filter((one) => one.dump === null)) take(row, () => true);
-  return free;
+  return [...free.values()].flat();
 }
 
 // What speaks against sending a row's dump; "" where nothing does.
