@@ -10,8 +10,10 @@ installs as root if they are missing. PART names the parts to look at; all of th
 import sys
 
 import pages_access
+import pages_audit
 import pages_eyes
 import pages_journal
+import pages_keyboard
 import pages_many
 import pages_readers
 import pages_reading
@@ -25,7 +27,7 @@ from page_tabs import browsing
 PARTS = {
     "standing": pages_standing.see, "rehearsal": pages_rehearsal.see, "eyes": pages_eyes.see, "many": pages_many.see,
     "journal": pages_journal.see, "readers": pages_readers.see, "reading": pages_reading.see,
-    "titles": pages_titles.see, "access": pages_access.see,
+    "titles": pages_titles.see, "audit": pages_audit.see, "keyboard": pages_keyboard.see, "access": pages_access.see,
 }
 
 

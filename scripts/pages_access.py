@@ -3,15 +3,18 @@ focus, what is wider than a small screen, and what the browser refuses there."""
 
 import pathlib
 import tempfile
+import threading
 import time
 
 import made_museum
-from page_tabs import StaffTab, door
+from client_cases import digest
+from page_tabs import LIMIT, StaffTab, door
 from pages_journal import journal
 from pages_many import DUMPS, ROWS, choose, sheet_text
 from pages_readers import ReadersTab
 from pages_reading import FILES, made_disk
 from pages_rehearsal import takedown
+from stand_in import refusal
 
 # Faults of what is shown now: controls without a name, ids that come twice, a heading that skips a level, text without
 # contrast.
@@ -133,7 +136,8 @@ def see_readers(seen, tab):
     tab.browser.logs()
     tab.read()
     titles = set()
-    for place in ("", "2001", "2001/0", "2001/1", "2001/8", "find/letter", "99", "nowhere"):
+    places = ("", "2001", "2001/0", "2001/1", "2001/8", "1004", "find/letter", "find/nothing", "99", "nowhere")
+    for place in places:
         tab.go(place)
         see_view(seen, tab, f"readers {place or 'disks'}", titles)
     see_strict(seen, tab, "readers")
@@ -161,7 +165,65 @@ def see_staff(seen, tab):
     see_faults(seen, tab, "a change")
     see_focus(seen, tab, "a change")
     tab.press("#change [name=leave]")
+    see_states(seen, tab)
     see_strict(seen, tab, "staff")
+
+
+def see_states(seen, tab):
+    """What a view shows besides: a survey, a disk that has changed, a refusal, what is asked of a deed and of a key, a
+    report of what failed, and a work that has not ended."""
+    tab.go("checks")
+    tab.of_row("disk 1002", "Survey")
+    see_faults(seen, tab, "a survey")
+    tab.door.museum.latest[1003] = "2026-01-02", "changed"
+    tab.go("deeds")
+    tab.go("checks")
+    see_faults(seen, tab, "a changed disk")
+    tab.go("takedowns")
+    takedown(tab, "99", "", "0", "public")
+    see_faults(seen, tab, "a refusal")
+    tab.go("deeds")
+    tab.fill("deeds", deed="7", donor="Another", signed="2001-02-03")
+    tab.submit("deeds")
+    see_faults(seen, tab, "a deed that stands")
+    see_focus(seen, tab, "a deed that stands")
+    tab.answer(False)
+    tab.go("keys")
+    tab.of_row(f"key {digest(b'hello')}", "Drop")
+    see_faults(seen, tab, "a key")
+    see_focus(seen, tab, "a key")
+    tab.answer(False)
+    see_report(seen, tab)
+    see_progress(seen, tab)
+
+
+def see_report(seen, tab):
+    tab.go("takedowns")
+    tab.rule("takedowns", "1001-1002", "", "deny", "all", None, "public")
+    tab.submit("takedowns")
+    tab.door.before = lambda method, path: refusal(409, "conflict") if method == "PUT" else None
+    tab.answer(True)
+    tab.door.before = lambda method, path: None
+    see_faults(seen, tab, "a report")
+    see_focus(seen, tab, "a report")
+
+
+def see_progress(seen, tab):
+    """The rest of these takedowns, of which the first waits for the desk."""
+    goes = threading.Event()
+
+    def before(method, path):
+        if method == "PUT":
+            goes.wait(4 * LIMIT)
+
+    tab.door.before = before
+    tab.browser.click("#takedowns [name=go-on]")
+    tab.wait(lambda shown: "Sending: 0 of 2." in "".join(shown["result"]), "the progress")
+    see_faults(seen, tab, "a work that has not ended")
+    see_focus(seen, tab, "a work that has not ended")
+    goes.set()
+    seen.same("a work that has ended", "2 takedowns put, 0 failed.", tab.read()["result"][0])
+    tab.door.before = lambda method, path: None
 
 
 TITLES = "accession,title,note\n2001,Letters of a ferryman,from the river\n"
