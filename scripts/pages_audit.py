@@ -74,7 +74,8 @@ def see_eyes(seen, tab):
         lines = verdicts(tab, day)
         for audience in AUDIENCES:
             tab.fill("eyes", audience=audience)
-            rows = [[line["accession"], line["slot"], EFFECTS[line[audience]], line[f"{audience}_rule"]] for line in lines]
+            label = f"{audience}_rule"
+            rows = [[line["accession"], line["slot"], EFFECTS[line[audience]], line[label]] for line in lines]
             came = [[row[0], row[2], row[5], row[6]] for row in tab.read()["rows"]]
             seen.same(f"audit: {audience} on {day}", rows, came)
 

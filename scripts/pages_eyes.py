@@ -136,7 +136,8 @@ def see_bound(seen, tab):
 def at_hand(tab, *days):
     """Has the door give the verdicts of some days at once: to make them takes the stand-in longer than the desk, and
     what is measured is the page."""
-    made = {f"/staff/verdicts/{day}": tab.door.with_added(tab.door.museum.show_verdicts(None, day).reply) for day in days}
+    whole = {day: tab.door.museum.show_verdicts(None, day).reply for day in days}
+    made = {f"/staff/verdicts/{day}": tab.door.with_added(reply) for day, reply in whole.items()}
     tab.door.before = lambda method, path: made.get(path)
 
 
@@ -155,8 +156,8 @@ def see_large(seen, browser):
                 group(seen, tab)
 
 
-# In milliseconds. The browser measures by the clock, and other work on the machine can hold it up: what is long is tried
-# again, and a stop of the page's own would come each time.
+# In milliseconds. The browser measures by the clock, and other work on the machine can hold it up: what is long is
+# tried again, and a stop of the page's own would come each time.
 LONGEST, TIMES = 200, 3
 
 

@@ -1,5 +1,5 @@
-"""Both pages by keys alone: for readers from the top of the page to a file, its download and the zip of its disk; for the
-staff two takedowns of one disk, one of them changed and dropped, a look through others' eyes, the next year and the
+"""Both pages by keys alone: for readers from the top of the page to a file, its download and the zip of its disk; for
+the staff two takedowns of one disk, a change and an end of one, a look through others' eyes, the next year and the
 journal."""
 
 import time

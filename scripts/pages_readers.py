@@ -111,15 +111,16 @@ def see_scroll(seen, tab):
 
 
 def left(tab, before, links="tbody a"):
-    """Scrolls a list to a place, leaves it by a link there, and gives that one's words."""
+    """Scrolls a list to a place, leaves it by a link there, and gives that one's words and the place."""
     tab.browser.script(f"window.scrollTo(0, {before})")
     middle = f"Array.from(document.querySelectorAll('{links}')).find((one) => one.getBoundingClientRect().top > 300)"
     end = time.monotonic() + 10
     while time.monotonic() < end and not tab.browser.script(f"return {middle} !== undefined"):
         time.sleep(0.05)
-    name = tab.browser.script(f"const at = {middle}; at.click(); return at.textContent")
+    words = f"const at = {middle}, place = window.scrollY; at.click(); return [at.textContent, place]"
+    name, place = tab.browser.script(words)
     tab.read(lambda shown: shown["heading"] == name)
-    return name
+    return name, place
 
 
 def see_came_back(seen, tab, label, heading, before, name):
@@ -137,10 +138,10 @@ def see_came_back(seen, tab, label, heading, before, name):
 def see_back(seen, tab):
     """Back from a disk leads to the same row of the list."""
     tab.go("")
-    name = left(tab, 150000)
+    name, before = left(tab, 150000)
     seen.same("back: the disk", 19, len(tab.read()["rows"]))
     seen.same("back: at the top of it", 0, tab.browser.script("return window.scrollY"))
-    see_came_back(seen, tab, "back", "Disks", 150000, name)
+    see_came_back(seen, tab, "back", "Disks", before, name)
     tab.browser.command("POST", "/forward", {})
     seen.same("forward: the disk", 19, len(tab.read(lambda shown: shown["heading"] == name)["rows"]))
 
@@ -148,9 +149,9 @@ def see_back(seen, tab):
 def see_back_to_found(seen, tab):
     """Back from a file that was found leads to the same row of what was found."""
     tab.find("letter 1")
-    name = left(tab, 20000, "td.name a")
+    name, before = left(tab, 20000, "td.name a")
     seen.same("back to what was found: the file", True, "of disk" in tab.browser.script(BYTES).lower())
-    see_came_back(seen, tab, "back to what was found", "\u201cletter 1\u201d", 20000, name)
+    see_came_back(seen, tab, "back to what was found", "\u201cletter 1\u201d", before, name)
 
 
 BYTES = "return document.getElementById('bytes').textContent"
@@ -272,8 +273,8 @@ def see_harmful(seen, tab):
 
 def titles_of(count):
     """A table of titles and notes for so many disks."""
-    lines = [f'{n},"Letters of ferryman {n}, with the river","Box {n % 77}, 1983 to 1986"\n' for n in range(1, count + 1)]
-    return "".join(["accession,title,note\n", *lines])
+    rest = '"Letters of ferryman {0}, with the river","Written on the river, 1983 to 1986"\n'
+    return "".join(["accession,title,note\n", *(f"{n},{rest.format(n)}" for n in range(1, count + 1))])
 
 
 def see_titles(seen, tab):
