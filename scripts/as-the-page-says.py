@@ -29,7 +29,7 @@ import operating_page
 import reading_room
 import tools
 
-from operating_page import LEFT_OUT, Shell, shows
+from operating_page import LEFT_OUT, Shell, compared
 
 NEEDS_SYSTEMD = re.compile(r"systemctl (daemon-reload|reload|restart|status|start|stop)\b")
 ZONES = "/usr/share/zoneinfo/Europe/Prague"
@@ -99,15 +99,10 @@ def run_page(seen, stack, page, folder):
             continue
         # a terminal does not show that a line ends with CR LF
         came = running[prompt].run(words, wanted).replace(b"\r\n", b"\n")
-        seen.same(f"{page}, line {number}: {words}", *told(wanted, came))
+        seen.same(f"{page}, line {number}: {words}", *compared(wanted, came))
         if running[prompt].hangs:
             break
     return left
-
-
-def told(wanted, came):
-    """What is wanted and what came, which are the same where the page shows what came."""
-    return (came, came) if shows(wanted, came) else (operating_page.shown(wanted), came)
 
 
 def main():

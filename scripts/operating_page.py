@@ -107,6 +107,11 @@ def shows(lines, came):
     return came == shown(lines)
 
 
+def compared(wanted, came):
+    """What is wanted and what came, which are the same where the page shows what came."""
+    return (came, came) if shows(wanted, came) else (shown(wanted), came)
+
+
 def copied(program, folder):
     """What the page's commands need of this repository, with the program in its places."""
     for name in COPIED:

@@ -148,7 +148,7 @@ def see_page(seen, machine):
             machine.says(LISTENS)
         if words == "systemctl status desk nginx":
             wanted, came = ["both run"], b"both run\n" if came.count(b"Active: active (running)") == 2 else came
-        seen.same(f"{operating_page.BY_HAND}, line {number}: {words}", operating_page.shown(wanted), came)
+        seen.same(f"{operating_page.BY_HAND}, line {number}: {words}", *operating_page.compared(wanted, came))
     shell.close()
 
 
