@@ -13,12 +13,10 @@ killed at any moment while commands come, 150 times or KILLS times: what was tol
 import contextlib
 import http.client
 import json
-import os
 import random
 import re
 import signal
 import socket
-import subprocess
 import sys
 import threading
 import time
@@ -356,11 +354,6 @@ class Stream:
             thread.join()
 
 
-def workers(room):
-    listed = subprocess.run(["ps", "-o", "pid=", "--ppid", str(room.nginx.pid)], capture_output=True, text=True)
-    return [int(word) for word in listed.stdout.split()]
-
-
 def deeds_in(lines, status):
     """The numbers of the deeds in lines with a status."""
     return {int(line["path"].split("/")[2]) for line in lines if line["status"] == status}
@@ -373,9 +366,7 @@ def see_kills(seen, room, journal, count):
     with Stream(room) as stream:
         for _ in range(count):
             time.sleep(chance.uniform(0.05, 0.2))
-            for worker in workers(room):
-                with contextlib.suppress(ProcessLookupError):
-                    os.kill(worker, signal.SIGKILL)
+            room.kill_workers()
     lines = journal.read()
     begun, ended = (deeds_in(lines, status) for status in ("begun", "200"))
     print(f"{count} kills: {len(stream.done)} told done, of which {len(stream.done - ended)} have no line with 200")

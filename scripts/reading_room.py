@@ -204,6 +204,13 @@ class Room:
             self.nginx.wait(timeout=LIMIT)
         self.nginx = None
 
+    def kill_workers(self):
+        """Kills nginx's workers, in whose place its first process starts others."""
+        listed = subprocess.run(["ps", "-o", "pid=", "--ppid", str(self.nginx.pid)], capture_output=True, text=True)
+        for worker in map(int, listed.stdout.split()):
+            with contextlib.suppress(ProcessLookupError):
+                os.kill(worker, signal.SIGKILL)
+
     def trusting(self):
         """A context of TLS that trusts the room's certificate and no other."""
         return ssl.create_default_context(cafile=str(self.folder / "site.crt"))

@@ -1,18 +1,23 @@
 #!/usr/bin/env python3
-"""scripts/restores-keep-takedowns.py [PROGRAM]: restores Monday's backup on Wednesday by operate/desk-restore, while a
-reader asks all the time, and looks whether what was closed on Tuesday stays closed.
+"""scripts/restores-keep-takedowns.py [PROGRAM [KILLS]]: restores Monday's backup on Wednesday by operate/desk-restore,
+while a reader asks all the time, and looks whether what was closed on Tuesday stays closed.
 
 You need Python 3 with its standard library alone, Linux, and Debian's nginx, openssl and sqlite3, which the script
 installs as root if they are missing. Without PROGRAM it takes ./desk of this repository. PROGRAM has to answer what the
-staff may ask."""
+staff may ask.
+
+On Tuesday there are takedowns, also of a disk that the backup lacks, keys that change, commands whose outcome nobody
+knows, and a bit of a disk that flips. The restore is made with the old store, with one that no longer opens, with a
+journal that is cut, and after nginx's processes were killed 150 times, or KILLS times, while takedowns came."""
 
 import contextlib
+import http.client
 import json
-import os
 import pathlib
+import random
 import re
-import shutil
 import signal
+import sqlite3
 import sys
 import threading
 import time
@@ -27,6 +32,8 @@ IMAGE = bytes_of("images", "museum.d64")
 EVERYBODY = ("public", "room", "staff")
 READERS = ("public", "room")
 SLOT = [{"slot": slot} for slot in range(3)]
+# A byte of the disk that is no link, and in no entry of its directory.
+FLIPPED = 1000
 NEW_KEY = "tuesday's key"
 # A takedown that begins in some years.
 LATER = put_rule("/images/13/rules/5", "deny", SLOT[0], *READERS, **{"from": "2099-01-01"})
@@ -111,7 +118,22 @@ class Week:
         self.unknown(takedown(13, 9, 1, NEW_KEY))
         self.unknown(drop("/images/15/rules/1", NEW_KEY))
         self.unknown(drop("/images/13/rules/5", NEW_KEY))
+        self.flip(14)
         self.reader.turn("tuesday night")
+
+    def flip(self, accession):
+        """One bit of a disk flips in the store, which only a check of that disk finds."""
+        self.room.stop_desk()
+        with contextlib.closing(sqlite3.connect(self.room.store)) as store, store:
+            disk = bytearray(store.execute("SELECT bytes FROM image WHERE acc = ?", [accession]).fetchone()[0])
+            disk[FLIPPED] ^= 1
+            store.execute("UPDATE image SET bytes = ? WHERE acc = ?", [bytes(disk), accession])
+        self.house.start()
+        self.seen.same("a flipped bit", "changed", self.checked(accession))
+
+    def checked(self, accession):
+        """The outcome of a check."""
+        return json.loads(self.room.ask_staffs_door(Asked("POST", f"/images/{accession}/check", NEW_KEY))[1])["outcome"]
 
     def unknown(self, asked):
         """A command that is cut off: the desk is killed while it has it."""
@@ -145,6 +167,7 @@ def see_room(seen, week, label):
             seen.same(f"{label}: {part}: {path} is never open", False, 200 in statuses)
     keys = json.loads(week.room.ask_desk(get("/staff/keys", NEW_KEY))[1])["keys"]
     seen.same(f"{label}: the keys", [{"audience": "staff", "digest": digest(NEW_KEY.encode())}], keys)
+    seen.same(f"{label}: the bit is as it was", "sound", week.checked(14))
     deeds = json.loads(week.room.ask_desk(get("/staff/deeds", NEW_KEY))[1])["deeds"]
     seen.same(f"{label}: the deeds", ["A", "\u017dofie"], [deed["donor"] for deed in deeds])
 
@@ -253,6 +276,55 @@ def up_to_takedown(lines):
     return [*lines[:first], lines[first][:120]]
 
 
+class Takedowns(threading.Thread):
+    """Takedowns without a rest at the staff's door, each of another rank of disk 13, and those that were told done."""
+
+    def __init__(self, room, ranks):
+        super().__init__(daemon=True)
+        self.room, self.ranks, self.done, self.stop = room, ranks, set(), threading.Event()
+
+    def run(self):
+        for rank in self.ranks:
+            if self.stop.is_set():
+                return
+            with contextlib.suppress(OSError, http.client.HTTPException):
+                if self.room.ask_staffs_door(takedown(13, rank, 2))[0] == 200:
+                    self.done.add(rank)
+
+
+def see_kills(seen, program, count):
+    """nginx's processes are killed while takedowns come; the old store is lost. Each that was told done stands again."""
+    chance = random.Random(5)
+    with reading_room.Room(program) as room:
+        week = Week(seen, room)
+        backup = week.monday()
+        week.done(takedown(13, 1, 2))
+        week.reader.turn("tuesday night")
+        senders = [Takedowns(room, ranks) for ranks in (range(10, 5000), range(5000, 9999))]
+        for sender in senders:
+            sender.start()
+        for _ in range(count):
+            time.sleep(chance.uniform(0.02, 0.1))
+            room.kill_workers()
+        for sender in senders:
+            sender.stop.set()
+            sender.join()
+        told = {1}.union(*(sender.done for sender in senders))
+        print(f"{count} kills: {len(told)} takedowns were told done", flush=True)
+        room.stop_desk()
+        room.store.write_bytes(bytes(100000))
+        status, _, errors = week.house.run("desk-restore", backup)
+        seen.same("kills: status", (0, ""), (status, errors))
+        shown = json.loads(room.ask_desk(get("/staff/takedowns", STAFF))[1])["takedowns"]
+        ranks = {rule["rank"] for one in shown if one["accession"] == 13 for rule in one["rules"]}
+        seen.same("kills: some were told done", True, len(told) > count)
+        seen.same("kills: told done, and lost", set(), told - ranks)
+        week.reader.turn("kills: wednesday")
+        parts = {part: week.reader.seen.get((part, FILES[0])) for part in ("tuesday night", "kills: wednesday")}
+        seen.same("kills: it is never open", [], [part for part, statuses in parts.items() if 200 in statuses])
+        week.end()
+
+
 def see_words(seen, program):
     """Words that are none, and backups that are none."""
     with reading_room.Room(program) as room:
@@ -272,10 +344,12 @@ def usage_of(came):
 
 def main():
     reading_room.install()
-    program = reading_room.program(sys.argv[1:])
+    words = sys.argv[1:]
+    program = reading_room.program(words)
     seen = reading_room.Seen()
     for see in (see_whole_week, see_given_up, see_cut_journal, see_words):
         see(seen, program)
+    see_kills(seen, program, int(words[1]) if len(words) > 1 else 150)
     sys.exit(seen.told())
 
 
