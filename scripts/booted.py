@@ -2,6 +2,7 @@
 layers over it and goes away with it. It sees no other process, and of networks its own loopback alone."""
 
 import ctypes
+import functools
 import os
 import pathlib
 import signal
@@ -68,8 +69,10 @@ def make_debian():
         os.rename(made, KEPT)
 
 
+@functools.cache
 def own_mounts():
-    """Gives this process mounts of its own, which nobody else sees and which end with it."""
+    """Gives this process mounts of its own, which nobody else sees, which all its machines share, and which end with
+    it."""
     if ctypes.CDLL(None).unshare(NEW_MOUNTS):
         sys.exit("no mounts of its own")
     command("mount", "--make-rprivate", "/")

@@ -1,10 +1,12 @@
 #!/usr/bin/env python3
 """scripts/installed-by-package.py [PROGRAM]: boots a small Debian by systemd, installs the desk there by the package
-that operate/make-deb makes, and follows it through a museum's day, an upgrade, a removal and a purge.
+that operate/make-deb makes, and follows it through a museum's day, an upgrade, a removal and a purge. On another such
+machine it types what docs/OPERATING.md has a museum type there.
 
 You need Python 3 with its standard library alone, Linux, the rights of root, and Debian's debootstrap,
-systemd-container, binutils and lintian, which the script installs if they are missing. Without PROGRAM the package has
-the program that ./desk has proved; with it the package is one of a trial. PROGRAM has to answer what the staff may ask.
+systemd-container, binutils, lintian and openssl, which the script installs if they are missing. Without PROGRAM the
+package has the program that ./desk has proved; with it the package is one of a trial. PROGRAM has to answer what the
+staff may ask.
 The Debian is kept in /var/tmp/desk-under-systemd for the next run, and no run changes it."""
 
 import pathlib
@@ -15,6 +17,7 @@ import sys
 import tempfile
 
 import booted
+import operating_page
 import reading_room
 import tools
 
@@ -339,9 +342,51 @@ def see_life(seen, machine, older, newer):
     see_cases(seen, machine, "installed again", AGAIN)
 
 
+# What answers apt's questions, and has it install nothing that was not fetched.
+ANSWERS = 'APT::Get::Assume-Yes "true";\nAPT::Install-Recommends "false";\n'
+# The names that the page gives the packages, and how many commands its chapter on installing may have.
+FIRST, SECOND, FEW = "desk_0.1.0+202611271350_amd64.deb", "desk_NEW_amd64.deb", 10
+CHAPTER = re.compile(r"^## On the museum's machine, by the package\n(.*?)^##+ ", re.M | re.S)
+BACKUP = "2026-11-27T031000Z"
+
+
+def see_page(seen, machine):
+    """The commands of the page for a machine with the package, in their order. What they write is compared but for its
+    numbers; of apt only the status."""
+    chapter = CHAPTER.search(re.sub(r"^# ", "+ ", operating_page.text(operating_page.PAGE), flags=re.M))
+    seen.same("the page: few commands install it", True, 0 < chapter[1].count("\n+ ") <= FEW)
+    for number, prompt, words, wanted in operating_page.commands(operating_page.PAGE):
+        if prompt != "package":
+            continue
+        label = f"{operating_page.PAGE}, line {number}: {words}"
+        if words.startswith("apt-get "):
+            seen.same(label, "0", says(machine, f"cd /root && {words} >/root/apt.out 2>&1; echo $?"))
+            continue
+        real = says(machine, "ls /var/backups/desk | head -n 1") if BACKUP in words else BACKUP
+        came = says(machine, f"cd /root && {words.replace(BACKUP, real)}").splitlines()
+        seen.same(label, shapes(wanted), shapes(came[-len(wanted) :] if wanted else came))
+
+
+def shapes(lines):
+    """Lines with a 0 in the place of each number."""
+    return [re.sub("[0-9]+", "0", line) for line in lines]
+
+
+def prepare(machine, older, newer):
+    """What the page takes as given: the packages under its names, another certificate, and a folder of dumps."""
+    home = machine.root / "root"
+    for path, name in ((older, FIRST), (newer, SECOND)):
+        shutil.copy(path, home / name)
+    key = ["-newkey", "ec", "-pkeyopt", "ec_paramgen_curve:P-256", "-nodes", "-keyout", str(home / "NEW.key")]
+    words = ["openssl", "req", "-x509", *key, "-subj", f"/CN={SITE}", "-out", str(home / "NEW.crt")]
+    subprocess.run(words, check=True, capture_output=True)
+    (machine.root / "srv" / "dumps").mkdir()
+    (machine.root / "etc" / "apt" / "apt.conf.d" / "answers").write_text(ANSWERS)
+
+
 def main():
     booted.install()
-    tools.install(["objcopy", "lintian"], ["binutils", "lintian"])
+    tools.install(["objcopy", "lintian", "openssl"], ["binutils", "lintian", "openssl"])
     program = reading_room.program(sys.argv[1:]) if sys.argv[1:] else None
     seen = reading_room.Seen()
     with tempfile.TemporaryDirectory() as folder:
@@ -353,6 +398,10 @@ def main():
                 shutil.copy(path, machine.root / "root")
             machine.boot()
             see_life(seen, machine, older, newer)
+        with booted.Machine() as machine:
+            prepare(machine, older, newer)
+            machine.boot()
+            see_page(seen, machine)
     sys.exit(seen.told())
 
 
