@@ -1,7 +1,7 @@
 #!/usr/bin/env python3
 """scripts/behind-nginx.py [PROGRAM]: visits a desk from outside, through the real nginx as operate/ configures it.
 
-You need Python 3 with its standard library alone, Linux, and Debian's nginx, openssl and sqlite3, which the
+You need Python 3 with its standard library alone, Linux, and Debian's nginx, openssl, sqlite3 and curl, which the
 script installs as root if they are missing. Without PROGRAM it takes ./desk of this repository.
 
 What clients ask of the desk in scripts/as-a-client-sees-it.py is asked again: each GET through nginx, and status, body
@@ -644,7 +644,7 @@ GROUPS = [
 
 
 def main():
-    reading_room.install()
+    reading_room.install(["curl"], ["curl"])
     seen = reading_room.Seen()
     with reading_room.Room(reading_room.program(sys.argv[1:])) as room:
         room.fill()

@@ -1,6 +1,6 @@
 """What nginx does for readers beyond handing requests on: heads, ranges, names of downloads, packed text, validators,
 its own refusals, pages of other sites, what the staff may ask, the journal, the desk's health, and files of the page
-and of the museum's own. scripts/behind-nginx.py asks for these. Each group comes from an address of its own."""
+and of the museum's own; and the same by curl. scripts/behind-nginx.py asks for these. Each group comes from an address of its own."""
 
 import contextlib
 import gzip
@@ -423,6 +423,45 @@ def of(reply):
     return reply.status, reply.body
 
 
+# The same by curl
+
+
+# Words for curl, and what it then writes: the bodies, and what its own words ask for. Its path is the last word.
+BY_CURL = [
+    ("HEAD", "-I", FILE, "-o /dev/null -w %{http_code},%header{content-length}", "200,128"),
+    ("HEAD of a denied file", "-I", DENIED, "-o /dev/null -w %{http_code}", "403"),
+    ("a range", "-r 0-4", FILE, "-w ,%{http_code},%header{content-range}", "%s,206,bytes 0-4/128"),
+    ("a range beyond", "-r 500-", FILE, "-w ,%{http_code}", '{"error":"server-416"},416'),
+    ("a name", "-OJ", FILE, "-w %{filename_effective}", "15-0.bin"),
+    ("packed", "--compressed", "/room.js", "-o /dev/null -w %header{content-encoding}", "gzip"),
+    ("of the desk", "", "/images/15", "-o /dev/null -w %header{cache-control}", "no-store"),
+    ("of the page", "", "/room.css", "-o /dev/null -w %header{cache-control}", "no-cache"),
+    ("a tag", "--etag-save tag", "/room.css", "-o /dev/null -w %{http_code}", "200"),
+    ("the same tag", "--etag-compare tag", "/room.css", "-o /dev/null -w %{http_code}", "304"),
+    ("no file", "", "/none", "", '{"error":"server-404"}'),
+    ("a command", "-X DELETE", "/deeds/7", "-w ,%{http_code}", '{"error":"server-403"},403'),
+    ("another site", "-H Origin:https://x.example", FILE, "-o /dev/null -w %header{access-control-allow-origin}", "*"),
+    ("the page's", "-H Origin:https://x.example", "/", "-o /dev/null -w %header{access-control-allow-origin}", ""),
+    ("health", "", "/health", "", '{"done":true}'),
+    ("robots.txt", "", "/robots.txt", "-o /dev/null -w %{http_code},%{content_type}", "200,text/plain; charset=utf-8"),
+    ("the icon", "", "/favicon.ico", "-o /dev/null -w %{content_type}", "image/vnd.microsoft.icon"),
+    ("openapi.json", "", "/openapi.json", "-o /dev/null -w %{content_type}", "application/json"),
+]
+
+
+def see_by_curl(seen, room):
+    """What the table of docs/FORMATS.md says nginx adds, as curl has it."""
+    folder = room.folder / "by-curl"
+    folder.mkdir()
+    always = ["curl", "-q", "-s", "--noproxy", "*", "--max-time", "60", "--interface", "127.0.3.12"]
+    always += ["--cacert", str(room.folder / "site.crt")]
+    for label, before, path, after, wanted in BY_CURL:
+        words = [*always, *before.split(), *after.split(), f"https://localhost:{room.https_port}{path}"]
+        came = subprocess.run(words, cwd=folder, capture_output=True, stdin=subprocess.DEVNULL).stdout
+        seen.same(f"curl: {label}", wanted.replace("%s", RECORD_BYTES[:5].decode("latin-1")), came.decode("latin-1"))
+    seen.same("curl: what is saved", RECORD_BYTES, (folder / "15-0.bin").read_bytes())
+
+
 # The reading room beside other sites
 
 
@@ -476,5 +515,5 @@ def see_both_sites(seen, room, etc, ports):
 
 GROUPS = [
     see_heads, see_ranges, see_names, see_packed, see_validators, see_refusals, see_origins, see_staffs_questions,
-    see_journal, see_health, see_files, see_beside_others,
+    see_journal, see_health, see_files, see_by_curl, see_beside_others,
 ]
