@@ -2,11 +2,13 @@
 
 import base64
 import contextlib
+import http.server
 import json
 import os
 import pathlib
 import signal
 import subprocess
+import threading
 import urllib.error
 import urllib.request
 
@@ -38,6 +40,26 @@ if (field.type === "checkbox") field.checked = value; else field.value = value;
 field.dispatchEvent(new Event("input", { bubbles: true }));
 field.dispatchEvent(new Event("change", { bubbles: true }));
 """
+
+
+@contextlib.contextmanager
+def other_site(page):
+    """While this is entered, a page of another site is at the address that this gives."""
+
+    class Visit(http.server.BaseHTTPRequestHandler):
+        def log_message(self, *_):
+            pass
+
+        def do_GET(self):
+            self.send_response(200)
+            self.send_header("Content-Type", "text/html; charset=utf-8")
+            self.end_headers()
+            self.wfile.write(page)
+
+    with http.server.ThreadingHTTPServer((HOST, 0), Visit) as server:
+        threading.Thread(target=server.serve_forever, daemon=True).start()
+        yield f"http://{HOST}:{server.server_address[1]}/"
+        server.shutdown()
 
 
 class Browser:

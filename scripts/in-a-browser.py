@@ -22,7 +22,7 @@ import urllib.parse
 import reading_room
 import staff_page
 
-from browser import ENTER, LEFT, TAB, Browser
+from browser import ENTER, LEFT, TAB, Browser, other_site
 from firefox import Firefox
 from client_cases import (
     CLOSED, EVERY, LIMIT, NOBODY, PUBLIC, ROOM, ROOT, STAFF, TAKEDOWN, badge, disk, drop, get, pattern, put,
@@ -577,6 +577,52 @@ def see_strict(seen, page, room):
     seen.same("strict: it is the policy", True, "violates" in refused and "connect-src" in refused)
 
 
+# What pages get of nginx by a script of theirs, or the fault that the browser tells: the page's own, and one of another
+# site, which may read what the public may read and can send no key.
+OF_OWN = [
+    ("/catalogue", "{}", "200"), ("/images/15/files/0", "{headers: {Range: 'bytes=0-4'}}", "206"),
+    ("/images/15/files/0", "{method: 'HEAD'}", "200"), ("/none", "{}", "404"), ("/deeds/7", "{method: 'PUT'}", "403"),
+    ("/health", "{}", "200"), ("/robots.txt", "{}", "200"), ("/favicon.ico", "{}", "200"),
+    ("/openapi.json", "{}", "200"),
+]
+OF_OTHERS = [
+    ("/images", "{}", "200"), ("/images/15/files/0", "{headers: {Range: 'bytes=0-4'}}", "206"),
+    ("/images/15/files/0", "{method: 'HEAD'}", "200"), ("/images/99", "{}", "404"),
+    ("/images", "{headers: {'Desk-Key': 'abc'}}", "TypeError"), ("/room.js", "{}", "TypeError"),
+    ("/deeds/7", "{method: 'PUT'}", "TypeError"), ("/health", "{}", "TypeError"),
+]
+FETCHED = "return fetch(arguments[0], %s).then((reply) => String(reply.status), (fault) => fault.name);"
+# The name of a download, as a page of another site may read it, and how many bytes of a text come packed.
+NAMED = "return fetch(arguments[0]).then((reply) => reply.headers.get('Content-Disposition'));"
+PACKED = """
+return fetch(arguments[0], { cache: "no-store" }).then((reply) => reply.text()).then(() => {
+  const told = performance.getEntriesByType("resource").filter((one) => one.name.endsWith(arguments[0])).pop();
+  return told.encodedBodySize < told.decodedBodySize;
+});
+"""
+
+
+def see_front(seen, page, room):
+    """What nginx does beyond handing on, as scripts of the page and of another site's page find it."""
+    desk = f"https://{reading_room.SITE}:{room.https_port}"
+    page.browser.open(f"{desk}/")
+    page.read()
+    for path, words, wanted in OF_OWN:
+        seen.same(f"front: {path} {words}", wanted, page.browser.script(FETCHED % words, path))
+    seen.same("front: packed text", True, page.browser.script(PACKED, "/room.js"))
+    with other_site(b"<!DOCTYPE html><title>A page of another site</title>") as address:
+        page.browser.open(address)
+        for path, words, wanted in OF_OTHERS:
+            came = page.browser.script(FETCHED % words, f"{desk}{path}")
+            seen.same(f"front: another site: {path} {words}", wanted, came)
+        name = page.browser.script(NAMED, f"{desk}/images/15/files/0")
+        seen.same("front: another site: a name", 'attachment; filename="15-0.bin"', name)
+    # what the browser told of these refusals is no fault of the page's
+    page.browser.logs()
+    page.browser.open(f"{desk}/")
+    page.read()
+
+
 def take_pictures(page):
     for place, name in (("17", "page-files.png"), ("18/0", "page-text.png")):
         page.go(place)
@@ -605,7 +651,7 @@ def main():
         page = Page(browser, f"https://{reading_room.SITE}:{room.https_port}/")
         if "--pictures" in sys.argv:
             take_pictures(page)
-        for see in GROUPS:
+        for see in [*GROUPS, *([see_front] if begun is Browser else [])]:
             see(seen, page, room)
         staff_page.see(seen, page, room, "--pictures" in sys.argv)
     sys.exit(seen.told())
