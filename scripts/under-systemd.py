@@ -6,9 +6,10 @@ You need Python 3 with its standard library alone, Linux, the rights of root, an
 systemd-container, which the script installs if they are missing. PROGRAM is ./desk of this repository where none is
 named. The Debian is kept in /var/tmp/desk-under-systemd for the next run, and no run changes it.
 
-What is looked at: what the page's commands give; the files, the process and their rights; what a process in the place
-of the service may do; visits through nginx; a desk that is killed, stopped, or ends by its count; a setting that is
-changed; an import; a store that cannot be opened; and the machine's next start."""
+What is looked at: what the page's commands give, also those that move, replace and erase a disk with a takedown; the
+files, the process and their rights; what a process in the place of the service may do; visits through nginx; a desk
+that is killed, stopped, or ends by its count; a setting that is changed; an import; a store that cannot be opened; and
+the machine's next start."""
 
 import re
 import sys
