@@ -92,6 +92,9 @@ export function dated(name, text, fields = {}) {
   return made;
 }
 
+// What is said where this cannot be shown anew after a change.
+export const OLDER = "The list below may be older than that: open this view again.";
+
 // How each section shows anew what stands.
 const shows = {};
 
@@ -108,14 +111,18 @@ export async function work(name, doing) {
   show(name);
   const stop = new AbortController();
   const tools = { progress: progressOf(name, stop), signal: stop.signal };
+  // a change that was sent may be done all the same
+  const isStopped = (fault) => stop.signal.aborted && !isUnsure(fault);
   const { outcome, done, fault } = await Promise.resolve(tools)
     .then(doing)
     .then(
       (made) => ({ outcome: made, done: true }),
-      (came) => ({ outcome: stop.signal.aborted ? "Stopped." : refusedWork(came), done: false, fault: came }),
+      (came) => ({ outcome: isStopped(came) ? "Stopped." : refusedWork(came), done: false, fault: came }),
     );
   if (outcome !== null && outcome !== undefined) show(name, paragraph(outcome));
-  if (fault && isUnsure(fault)) await shows[name]?.().catch(() => {});
+  if (fault && isUnsure(fault)) {
+    await shows[name]?.().catch(() => part(name).querySelector(".result").append(paragraph(OLDER)));
+  }
   part(name).setAttribute("aria-busy", "false");
   return done;
 }
@@ -124,7 +131,9 @@ export async function work(name, doing) {
 // the outcome gets the focus.
 export async function change(name, doing) {
   const done = hasWho() && (await work(name, doing));
-  if (document.activeElement === document.body) part(name).querySelector(".result").focus();
+  // a dialog that has just closed may still have the focus
+  const at = document.activeElement;
+  if (at === document.body || at.closest("dialog:not([open])")) part(name).querySelector(".result").focus();
   return done;
 }
 

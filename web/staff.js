@@ -91,6 +91,10 @@ function listen() {
   part("who").addEventListener("submit", (event) => event.preventDefault());
   part("who").addEventListener("input", ({ target }) => target.setCustomValidity(""));
   window.addEventListener("hashchange", () => showView(true));
+  // a link to the view that is open already opens it again
+  part("places").addEventListener("click", ({ target }) => {
+    if (target.hash === location.hash) showView(true);
+  });
   listenForKey(useKey);
 }
 

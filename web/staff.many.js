@@ -2,7 +2,7 @@
 // was lost or the reader stopped.
 import { csvText } from "./csv.js";
 import { Refused, cell, counted, element, explainRefusal, part, refusalName, row, table } from "./shared.js";
-import { change, isUnsure } from "./staff.desk.js";
+import { OLDER, change, isUnsure } from "./staff.desk.js";
 import { today } from "./staff.words.js";
 import { save } from "./stream.js";
 
@@ -36,8 +36,11 @@ export async function sendMany(run, { progress, signal }) {
     run.shown?.(item);
     if (fault !== null && isLost(fault)) break;
   }
-  await run.after?.().catch(() => {});
-  return report(run);
+  let isOlder = false;
+  await run.after?.().catch(() => {
+    isOlder = true;
+  });
+  return report(run, isOlder);
 }
 
 function summary({ items, word, verb }) {
@@ -47,8 +50,9 @@ function summary({ items, word, verb }) {
   return `${counted(done, word)} ${verb}, ${failed} failed${open ? `, ${open} not sent yet` : ""}.`;
 }
 
-// What became of the items: in short, those that failed, and buttons to go on and to save the report.
-function report(run) {
+// What became of the items: in short, those that failed, and buttons to go on and to save the report; and whether what
+// stands below is older.
+function report(run, isOlder) {
   const made = element("div", null);
   const failed = run.items.filter((item) => item.outcome && !isDone(item));
   const isWhole = run.items.every(isDone);
@@ -59,6 +63,7 @@ function report(run) {
   if (!isWhole) buttons.append(button("Go on with the rest", "go-on", goOn));
   buttons.append(button("Save the report", "save-report", () => saveReport(run)));
   made.append(buttons);
+  if (isOlder) made.append(element("p", OLDER));
   return made;
 }
 

@@ -28,8 +28,7 @@ const scopesIn = (name, typed) => (name === "rules" ? [Number(typed)] : (accessi
 
 // Puts a rule at each place once the rehearsal is agreed to: at the rank that is typed, or else at a free one.
 async function put(name, scopes, typedRank, rule, tools) {
-  await readHeld(READ[name]);
-  hint(name);
+  await showRules(name);
   const places = scopes.map((scope) => placeOf(name, scope, typedRank, rulesOf(name, scope)));
   const full = places.find(({ rank }) => rank === null);
   if (full) return full.says;

@@ -45,16 +45,34 @@ function rowOf([accession, kind, deed, sha256, file]) {
 // Gives each row its dump: by the name of the file, and of several with one name the one with the row's SHA-256. Gives
 // the dumps that no row names.
 export function matchRows(rows, dumps) {
-  const free = new Map();
-  for (const dump of dumps) free.set(dump.file.name, [...(free.get(dump.file.name) ?? []), dump]);
-  const take = (row, fits) => {
-    const named = free.get(row.name) ?? [];
-    row.dump = named.find(fits) ?? null;
-    free.set(row.name, named.filter((dump) => dump !== row.dump));
-  };
-  for (const row of rows) take(row, (dump) => dump.digest === row.sha256);
-  for (const row of rows.filter((one) => one.dump === null)) take(row, () => true);
-  return [...free.values()].flat();
+  const both = (name, digest) => `${name}\0${digest}`;
+  const left = giveByKey(
+    rows,
+    dumps,
+    (row) => both(row.name, row.sha256),
+    (dump) => both(dump.file.name, dump.digest),
+  );
+  const others = rows.filter((row) => row.dump === null);
+  return giveByKey(
+    others,
+    left,
+    (row) => row.name,
+    (dump) => dump.file.name,
+  );
+}
+
+// Gives each row the first dump with its key that no row before it has got. Gives the dumps that are left.
+function giveByKey(rows, dumps, keyOfRow, keyOfDump) {
+  const lists = new Map();
+  // from the last dump on, so that the first stands at the end of its list
+  for (const dump of [...dumps].reverse()) {
+    const key = keyOfDump(dump);
+    if (!lists.has(key)) lists.set(key, []);
+    lists.get(key).push(dump);
+  }
+  for (const row of rows) row.dump = lists.get(keyOfRow(row))?.pop() ?? null;
+  const taken = new Set(rows.map(({ dump }) => dump));
+  return dumps.filter((dump) => !taken.has(dump));
 }
 
 // What speaks against sending a row's dump; "" where nothing does.
