@@ -441,7 +441,10 @@ BY_CURL = [
     ("no file", "", "/none", "", '{"error":"server-404"}'),
     ("a command", "-X DELETE", "/deeds/7", "-w ,%{http_code}", '{"error":"server-403"},403'),
     ("another site", "-H Origin:https://x.example", FILE, "-o /dev/null -w %header{access-control-allow-origin}", "*"),
-    ("the page's", "-H Origin:https://x.example", "/", "-o /dev/null -w %header{access-control-allow-origin}", ""),
+    (
+        "the page's", "-H Origin:https://x.example", "/",
+        "-o /dev/null -w %{http_code},%header{access-control-allow-origin}", "200,",
+    ),
     ("health", "", "/health", "", '{"done":true}'),
     ("robots.txt", "", "/robots.txt", "-o /dev/null -w %{http_code},%{content_type}", "200,text/plain; charset=utf-8"),
     ("the icon", "", "/favicon.ico", "-o /dev/null -w %{content_type}", "image/vnd.microsoft.icon"),
@@ -457,8 +460,9 @@ def see_by_curl(seen, room):
     always += ["--cacert", str(room.folder / "site.crt")]
     for label, before, path, after, wanted in BY_CURL:
         words = [*always, *before.split(), *after.split(), f"https://localhost:{room.https_port}{path}"]
-        came = subprocess.run(words, cwd=folder, capture_output=True, stdin=subprocess.DEVNULL).stdout
-        seen.same(f"curl: {label}", wanted.replace("%s", RECORD_BYTES[:5].decode("latin-1")), came.decode("latin-1"))
+        ran = subprocess.run(words, cwd=folder, capture_output=True, stdin=subprocess.DEVNULL)
+        due = 0, wanted.replace("%s", RECORD_BYTES[:5].decode("latin-1"))
+        seen.same(f"curl: {label}", due, (ran.returncode, ran.stdout.decode("latin-1")))
     seen.same("curl: what is saved", RECORD_BYTES, (folder / "15-0.bin").read_bytes())
 
 

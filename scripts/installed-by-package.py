@@ -9,6 +9,7 @@ package has the program that ./desk has proved; with it the package is one of a 
 staff may ask.
 The Debian is kept in /var/tmp/desk-under-systemd for the next run, and no run changes it."""
 
+import functools
 import pathlib
 import re
 import shutil
@@ -348,28 +349,43 @@ ANSWERS = 'APT::Get::Assume-Yes "true";\nAPT::Install-Recommends "false";\n'
 FIRST, SECOND, FEW = "desk_0.1.0+202611271350_amd64.deb", "desk_NEW_amd64.deb", 10
 CHAPTER = re.compile(r"^## On the museum's machine, by the package\n(.*?)^##+ ", re.M | re.S)
 BACKUP = "2026-11-27T031000Z"
+# What begins a backup on the page, and what shows all that were made; and as many commands as it has done again.
+BACKED_UP, ALL_BACKUPS = "systemctl start desk-backup", "journalctl -u desk-backup "
+SINCE = (
+    f"{APT} install curl >/dev/null 2>&1; for n in $(seq 14); do {STAFF} -X PUT http://127.0.0.1:8043/deeds/$n "
+    """-d '{"donor":"A. Curator","signed":"2019-05-04"}'; done"""
+)
+# What may be another one than on the page: moments, sizes and seconds.
+OTHERS = {r"[0-9]{4}-[0-9]{2}-[0-9]{2}T[0-9]{6}Z": "MOMENT", r"[0-9]+ bytes": "SIZE", r"[0-9]+\.[0-9]{2} s ": "TIME "}
 
 
 def see_page(seen, machine):
-    """The commands of the page for a machine with the package, in their order. What they write is compared but for its
-    numbers; of apt only the status."""
+    """The commands of the page for a machine with the package, in their order. All that they write is compared, but for
+    its moments, sizes and seconds; of apt only the status."""
     chapter = CHAPTER.search(re.sub(r"^# ", "+ ", operating_page.text(operating_page.PAGE), flags=re.M))
     seen.same("the page: few commands install it", True, 0 < chapter[1].count("\n+ ") <= FEW)
+    backups = 0
     for number, prompt, words, wanted in operating_page.commands(operating_page.PAGE):
         if prompt != "package":
             continue
+        backups += words == BACKED_UP
         label = f"{operating_page.PAGE}, line {number}: {words}"
         if words.startswith("apt-get "):
             seen.same(label, "0", says(machine, f"cd /root && {words} >/root/apt.out 2>&1; echo $?"))
             continue
-        real = says(machine, "ls /var/backups/desk | head -n 1") if BACKUP in words else BACKUP
+        real = BACKUP
+        if BACKUP in words:
+            real = says(machine, "ls /var/backups/desk | head -n 1")
+            seen.same("the page: commands since", DONE * 14, says(machine, SINCE))
         came = says(machine, f"cd /root && {words.replace(BACKUP, real)}").splitlines()
-        seen.same(label, shapes(wanted), shapes(came[-len(wanted) :] if wanted else came))
+        # the system's journal also has the backups that were made before
+        due = wanted * backups if words.startswith(ALL_BACKUPS) else wanted
+        seen.same(label, shapes(due), shapes(came))
 
 
 def shapes(lines):
-    """Lines with a 0 in the place of each number."""
-    return [re.sub("[0-9]+", "0", line) for line in lines]
+    """Lines with a word in the place of each part that may be another one."""
+    return [functools.reduce(lambda line, part: re.sub(part, OTHERS[part], line), OTHERS, line) for line in lines]
 
 
 def prepare(machine, older, newer):

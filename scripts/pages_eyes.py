@@ -3,6 +3,7 @@
 import csv
 import datetime
 import pathlib
+import re
 import tempfile
 import time
 
@@ -19,8 +20,11 @@ TODAY = datetime.datetime.now(datetime.timezone.utc).date()
 
 def verdicts(tab, day):
     """The lines of the verdicts of a day."""
-    text = tab.door.museum.show_verdicts(None, day).reply.partition(b"\r\n\r\n")[2].decode()
-    return list(csv.DictReader(text.splitlines()))
+    return lines_of(tab.door.museum.show_verdicts(None, day).reply)
+
+
+def lines_of(reply):
+    return list(csv.DictReader(reply.partition(b"\r\n\r\n")[2].decode().splitlines()))
 
 
 def see_day(seen, tab, day):
@@ -182,11 +186,31 @@ def see_large_look(seen, tab):
     see_quick(seen, tab, "eyes", lambda _: tab.press("#eyes [type=submit]"))
 
 
+def texts_seen(tab):
+    """Of each file that the public sees today its name as it was shown, and its disk's title and note; in small
+    letters."""
+    titles = {accession: words for accession, *words in csv.reader(titles_of(10000).splitlines())}
+    lines = lines_of(tab.door.before("GET", f"/staff/verdicts/{TODAY}"))
+    found = [(shown_name(line["name"]), *titles[line["accession"]]) for line in lines if line["public"] != "deny"]
+    return ["\n".join(texts).lower() for texts in found]
+
+
+def shown_name(name):
+    """A name of the museum that was made: what is escaped there is a letter of the other set."""
+    return re.sub("%(..)", lambda found: chr(int(found[1], 16) - 128), name)
+
+
 def see_large_found(seen, tab):
+    texts = texts_seen(tab)
+
     def look_for(count):
-        tab.fill("eyes", words=("letter 7", "ferryman 77", "river")[count])
+        words = ("letter 7", "ferryman 77", "river")[count]
+        tab.fill("eyes", words=words)
         shown = tab.wait(lambda shown: not shown["busy"] and shown["rows"], "a row")
-        seen.same("large: found", True, 0 < len(shown["rows"]) <= 600)
+        number = f"{sum(words in text for text in texts):,} files shown here."
+        first = "\n".join(shown["rows"][0]).lower()
+        came = shown["stands"][1], words in first, len(shown["rows"]) <= 600
+        seen.same(f"large: found: {words}", (number, True, True), came)
 
     see_quick(seen, tab, "eyes: a search", look_for)
 

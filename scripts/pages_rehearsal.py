@@ -2,14 +2,16 @@
 files and which first, on the days that matter; and the rank that a takedown gets."""
 
 import datetime
+import threading
 
 import made_museum
 from disks_by_hand import Disk, File
-from page_tabs import StaffTab, door
+from page_tabs import LIMIT, StaffTab, door
 
 TODAY = str(datetime.datetime.now(datetime.timezone.utc).date())
 NOTHING = "Nothing opens, and nothing closes."
 SAME = "The same as on the day above."
+OLDER = "The list below may be older than that: open this view again."
 CLOSES = "Closes for the public and the reading room: 1 file. Now they may read them; then they see nothing of them."
 OPENS = "Opens for the public and the reading room: 1 file. Now they see nothing of them; then they may read them."
 
@@ -78,6 +80,22 @@ def see_in_use(seen, tab):
     seen.same("in use: both stand", ["1", "2"], [row[1] for row in shown["rows"]])
     closed = ["deny", "read", "deny"]
     seen.same("in use: both are closed", {"public": closed, "room": closed}, effects(tab, 1005))
+
+
+def see_anew(seen, tab):
+    """What another person put meanwhile stands in the table when the rehearsal comes. Where the button that was pressed
+    is gone with its line, the outcome has the focus in the end; else the focus stays."""
+    focus = "const { type, className } = document.activeElement; return type ?? className"
+    tab.door.museum.rules["T1005"][3] = made_museum.rule(3, "list", ["public"], {"slot": 1})
+    takedown(tab, "1005", "4", "1", "public")
+    seen.same("anew: both stand", ["1", "2", "3"], [row[1] for row in tab.read()["rows"]])
+    tab.answer(False)
+    seen.same("anew: the focus stays", "submit", tab.browser.script(focus))
+    tab.door.museum.rules["T1005"].pop(3)
+    tab.of_row("takedown 2 of disk 1005", "Change")
+    tab.press("#change [type=submit]")
+    seen.same("anew: it is gone", ["1", "2"], [row[1] for row in tab.answer(False)["rows"]])
+    seen.same("anew: the focus is at the outcome", "result", tab.browser.script(focus))
 
 
 def see_drop(seen, tab):
@@ -181,7 +199,7 @@ def see_refused(seen, tab):
     shown = takedown(tab, "1001", "", "0", "public")
     words = "This page cannot reach the desk. Check the connection, and try again."
     seen.same("refused: a lost connection", ([words], []), (shown["result"], tab.sent()))
-    tab.door.before = lambda method, path: b"" if method == "PUT" and "/rehearsals/" not in path else None
+    tab.door.before = lambda method, path: b"" if is_sent(method, path) else None
     takedown(tab, "1001", "", "0", "public")
     words += " The desk may have done it all the same. You can safely send it again."
     shown = tab.answer(True)
@@ -191,6 +209,47 @@ def see_refused(seen, tab):
     shown = tab.answer(True)
     seen.same("refused: done, and the reply lost", ([words], ["1000"]), (shown["result"], of_disk(shown, "1001")))
     tab.door.before = lambda method, path: None
+    takedown(tab, "1001", "", "0", "public")
+    tab.door.before = lost_from_put()
+    shown = tab.answer(True)
+    seen.same("refused: lost from then on", [words, OLDER], shown["result"])
+    tab.door.before = lambda method, path: None
+    see_stopped(seen, tab, words)
+
+
+def see_stopped(seen, tab, words):
+    """Stop hides no change that was sent."""
+    is_stopped = threading.Event()
+
+    def before(method, path):
+        if is_sent(method, path):
+            is_stopped.wait(LIMIT)
+            return b""
+
+    takedown(tab, "1001", "", "0", "public", until="2090-01-01")
+    tab.door.before = before
+    tab.browser.click("#sure [value='go']")
+    tab.browser.click("#takedowns .result button")
+    is_stopped.set()
+    shown = tab.wait(lambda shown: not shown["busy"])
+    seen.same("refused: lost, and stopped meanwhile", [words], shown["result"])
+    tab.door.before = lambda method, path: None
+
+
+def is_sent(method, path):
+    """Whether a visit is one of a rule or a takedown that is put."""
+    return method == "PUT" and "/rehearsals/" not in path
+
+
+def lost_from_put():
+    """Has every connection lost from the first one on by which something is put."""
+    lost = []
+
+    def before(method, path):
+        lost.extend([path] if is_sent(method, path) else [])
+        return b"" if lost else None
+
+    return before
 
 
 def of_disk(shown, number):
@@ -201,7 +260,7 @@ def of_disk(shown, number):
 def done_but_lost(door_):
     """Has the museum do what comes, and the connection lost before the reply."""
     def before(method, path):
-        if method != "PUT" or "/rehearsals/" in path:
+        if not is_sent(method, path):
             return None
         scope, rank = int(path.split("/")[2]), int(path.split("/")[4])
         door_.museum.rules[f"T{scope}"] = {rank: made_museum.rule(rank, "deny", ["public"], {"slot": 0})}
@@ -215,7 +274,7 @@ def see(seen, browser):
     harmful_disk(museum, 1066, 7)
     with door(museum) as staffs:
         tab = StaffTab(browser, staffs)
-        for group in (see_first, see_in_use, see_drop, see_nothing, see_days, see_harmful, see_refused):
+        for group in (see_first, see_in_use, see_anew, see_drop, see_nothing, see_days, see_harmful, see_refused):
             group(seen, tab)
     with door(made_museum.many(10000, 20)) as staffs:
         see_many_files(seen, StaffTab(browser, staffs))
