@@ -53,12 +53,15 @@ def by_client(port, asked):
 
 
 def connected(port, room=None):
-    """A plain socket, that sends at once what it is given; its system keeps so much that it has not read yet."""
+    """A plain socket, that sends at once what it is given; its system keeps so much that it has not read yet.
+
+    Small segments make the desk's system keep little of a reply, too: over loopback it takes megabytes of large ones."""
     connection = socket.socket()
     connection.settimeout(LIMIT)
     connection.setsockopt(socket.IPPROTO_TCP, socket.TCP_NODELAY, 1)
     if room:
         connection.setsockopt(socket.SOL_SOCKET, socket.SO_RCVBUF, room)
+        connection.setsockopt(socket.IPPROTO_TCP, socket.TCP_MAXSEG, 536)
     connection.connect((HOST, port))
     return connection
 
