@@ -59,8 +59,8 @@ def taking(size, pause):
 VISITORS = [
     ("who sends nothing", silent, REQUEST, True),
     ("who sends a byte a second", dripping, REQUEST, True),
-    # the first write waits ten seconds and puts a part, and the next one, which puts nothing, waits ten more
-    ("who takes nothing of a long reply", taking(0, 1), 2 * WRITE, True),
+    # a write that puts a part waits ten seconds, too, and another write follows: so the limit is that of the reply
+    ("who takes nothing of a long reply", taking(0, 1), REPLY, True),
     ("who takes a byte a second", taking(1, 1), REPLY, True),
     ("who takes 700 bytes each half second", taking(700, 0.5), REPLY, False),
 ]
