@@ -15,6 +15,7 @@ pub mod Objects
 pub mod RequestBodies
 pub mod ShownRules
 pub mod MemoryDoors
+pub mod Streams
 pub mod ReplyText
 pub mod Sent
 -- ---- inside: what only private functions and proofs cite

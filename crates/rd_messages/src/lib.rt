@@ -30,7 +30,7 @@ pub use answer::{of_desk, send};
 pub use fault::RequestFault;
 pub use limits::{LONGEST_BODY, LONGEST_HEAD, LONGEST_REQUEST, MOST_FIELDS};
 pub use memory::{MemoryDoor, MemoryVisit, MemoryWire, memory_reads};
-pub use pace::{Clock, Limits};
+pub use pace::{Clock, TimeLimits};
 pub use request_laws::{each_asked, one_asked, shown_rules_are_sent_back};
 pub use stream::{Listener, Stream};
 pub use tcp::{StreamDoor, StreamWire, TcpDoor, TcpWire, UnixDoor};

@@ -20,7 +20,7 @@ pub trait Clock {
 
 /// How long a visitor may take. What takes longer counts as a read or a write that failed.
 #[derive(Clone, Copy, Debug, PartialEq, Eq)]
-pub struct Limits {
+pub struct TimeLimits {
     /// For the whole request, from when the door admits the visitor.
     pub request: Duration,
     /// For each write, until the system has room for a byte of it.
@@ -29,14 +29,14 @@ pub struct Limits {
     pub reply: Duration,
 }
 
-impl Limits {
+impl TimeLimits {
     /// Ten seconds for the request, ten for a write, and sixty for the reply.
-    pub fn usual() -> Limits
+    pub fn usual() -> TimeLimits
         ensures request { as_nanos result.request ≡ 10_000_000_000 }
         ensures write { as_nanos result.write ≡ 10_000_000_000 }
         ensures reply { as_nanos result.reply ≡ 60_000_000_000 }
     {
-        Limits {
+        TimeLimits {
             request: Duration::from_secs(10),
             write: Duration::from_secs(10),
             reply: Duration::from_secs(60),
@@ -74,7 +74,7 @@ fn shorter(one: Duration, other: Duration) -> Duration
 #[derive(Drop)]
 pub(crate) struct Pace<C> {
     clock: C,
-    limits: Limits,
+    limits: TimeLimits,
     /// The millisecond at which the door admitted the visitor.
     admitted: u64,
     /// The millisecond of the first write, if there was one.
@@ -83,7 +83,7 @@ pub(crate) struct Pace<C> {
 
 impl<C: Clock> Pace<C> {
     /// The time of a visitor whom the door admitted at a millisecond of this clock.
-    pub(crate) fn new(clock: C, limits: Limits, admitted: u64) -> Pace<C>
+    pub(crate) fn new(clock: C, limits: TimeLimits, admitted: u64) -> Pace<C>
         ensures clock { result.clock ≡ clock }
         ensures limits { result.limits ≡ limits }
         ensures admitted { result.admitted ≡ admitted }

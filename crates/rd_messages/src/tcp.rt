@@ -4,8 +4,9 @@ ghost use Rattle.std.specs.Duration.{as_nanos};
 ghost use Rattle.std.specs.Io.{ReadsAtMost, WritesAtMost};
 ghost use Rattle.std.specs.Io.KnownBytes.{Appends, WriteAppends};
 ghost use Rattle.std.specs.Prelude.{◌≡◌, ◌↔◌, ◌≤◌, ◌*◌, ◌<◌, None, true, false, length, vec_len, IfOk, IfSome, IsErr, OnOk};
+ghost use Rattle.rd_messages.specs.Streams.{limits_of};
 
-use crate::pace::{Clock, Limits, Pace, time_left};
+use crate::pace::{Clock, Pace, TimeLimits, time_left};
 use crate::stream::{Listener, Stream};
 use crate::wire::{Broken, Door, Shut, Wire};
 use std::alloc::Global;
@@ -185,7 +186,7 @@ pub struct StreamDoor<L, C> {
     alloc: Global,
     listener: L,
     clock: C,
-    limits: Limits,
+    limits: TimeLimits,
     spare: Vec<u8>,
     leftover: [u8; 16_384],
     has_shut: bool,
@@ -204,14 +205,18 @@ impl<L: Listener, C: Clock + Copy + Drop> StreamDoor<L, C> {
     /// The door of a listener, with a clock and the usual limits. It takes no memory; its connections take some for
     /// what they hold back.
     pub fn new(alloc: Global, listener: L, clock: C) -> StreamDoor<L, C>
-        ensures { ⟦<StreamDoor<L, C> as Door>⟧.has_shut result ≡ false }
+        ensures ready { ⟦<StreamDoor<L, C> as Door>⟧.has_shut result ≡ false }
+        ensures request { as_nanos (limits_of result).request ≡ 10_000_000_000 }
+        ensures write { as_nanos (limits_of result).write ≡ 10_000_000_000 }
+        ensures reply { as_nanos (limits_of result).reply ≡ 60_000_000_000 }
     {
-        StreamDoor::with_limits(alloc, listener, clock, Limits::usual())
+        StreamDoor::with_limits(alloc, listener, clock, TimeLimits::usual())
     }
 
     /// The door of a listener, with a clock, and how long its visitors may take. It takes memory as that of `new` does.
-    pub fn with_limits(alloc: Global, listener: L, clock: C, limits: Limits) -> StreamDoor<L, C>
-        ensures { ⟦<StreamDoor<L, C> as Door>⟧.has_shut result ≡ false }
+    pub fn with_limits(alloc: Global, listener: L, clock: C, limits: TimeLimits) -> StreamDoor<L, C>
+        ensures ready { ⟦<StreamDoor<L, C> as Door>⟧.has_shut result ≡ false }
+        ensures limits { limits_of result ≡ limits }
     {
         StreamDoor {
             alloc,
@@ -222,6 +227,13 @@ impl<L: Listener, C: Clock + Copy + Drop> StreamDoor<L, C> {
             leftover: [0; 16_384],
             has_shut: false,
         }
+    }
+
+    /// How long each of its visitors may take.
+    pub fn limits(&self) -> TimeLimits
+        ensures { result ≡ limits_of self.now }
+    {
+        self.limits
     }
 }
 
