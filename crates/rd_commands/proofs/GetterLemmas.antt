@@ -24,16 +24,17 @@ use Rattle.rd_policy.specs.declared.zone.Zone.{Zone}
 use Rattle.rd_policy.specs.declared.zone.ZoneFault.{ZoneFault}
 use Rattle.rd_geometry.specs.Kinds.{word_of}
 use Rattle.clap.specs.declared.error.kind.ErrorKind.{ErrorKind}
-use Rattle.rd_commands.specs.Asks.{EntersAs, EntersByRule, EntersCat, EntersCheck, EntersExport, EntersImport, EntersInit, EntersList, EntersNaming, EntersNamingNone, EntersServe, EntersShow, EntersTelling, IsMistake, IsWithinLimits, IsFaultOf, IsForMemory, IsFileAsk, IsFilesAsk, IsHelp, IsImportAsk, IsInitAsk, IsMomentNamed, IsOneQuestionAsk, IsServeAsk, TellsOnOutput}
+use Rattle.rd_commands.specs.Asks.{EntersAs, EntersByRule, EntersCat, EntersCheck, EntersExport, EntersImport, EntersInit, EntersList, EntersNaming, EntersNamingNone, EntersNoPlace, EntersServe, EntersShow, EntersTelling, EntersTimed, HasTimeouts, IsMistake, IsWithinLimits, IsFaultOf, IsForMemory, IsFileAsk, IsFilesAsk, IsHelp, IsImportAsk, IsInitAsk, IsMomentNamed, IsOneQuestionAsk, IsServeAsk, TellsOnOutput}
 use Rattle.rd_commands.specs.CommandLine.{AsksForHelp, Enters, HasFault, IsDeskApp, IsTaken, IsTakenAs, IsTakenTelling, NameList, desk_app}
-use Rattle.rd_commands.specs.Commands.{AsksCheck, AsksExport, AsksImport, AsksInit, AsksServe, AsksShow, IsAskOf, IsCommand, NamesWhatItShows, TellsARule}
+use Rattle.rd_commands.specs.Commands.{AsksCheck, AsksExport, AsksImport, AsksInit, AsksServeAt, AsksShow, IsAskOf, IsCommand, NamesWhatItShows, TellsARule}
+use Rattle.rd_commands.specs.Serving.{Place}
 use Rattle.rd_commands.specs.Words.{AsksCat, AsksList, IsSlotText}
 use Rattle.rd_commands.specs.Zones.{HasClocks, rule_text}
 use Rattle.rd_commands.specs.declared.words.Ask.{Ask}
 use Rattle.rd_commands.specs.declared.words.Question.TheVariants.{Catalogue, Check, Show}
 use Rattle.rd_commands.specs.declared.words.Shown.{Shown}
 use Rattle.rd_commands.specs.declared.words.Unread.{Unread}
-use Rattle.rd_commands.specs.declared.words.Unread.TheVariants.{Day, NoMemory, Clap, Usage}
+use Rattle.rd_commands.specs.declared.words.Unread.TheVariants.{Day, NoMemory, Place as NoPlace, Clap, Usage}
 use Rattle.rd_commands.proofs.CatLine.{gives_cat, simple, takes_cat}
 use Rattle.rd_commands.proofs.ListLine.{gives_list, takes_list}
 use Rattle.rd_commands.proofs.ShowWords.{command_names, named_given, named_some}
@@ -111,7 +112,8 @@ pub record GivesAsk (words : List Text) (o : Option Ask) : Type 0 where
   pub file : (kind : Kind) (image : Text) (slot : ℕ) → AsksCat words kind image slot → IsSomeAnd o (IsFileAsk kind image slot)
   pub files : (kind : Kind) (image : Text) → AsksList words kind image → IsSomeAnd o (IsFilesAsk kind image)
   pub init : (store key : Text) → AsksInit words store key → IsSomeAnd o (IsInitAsk store key)
-  pub serve : (store : Text) (port count : ℕ) (rule : Text) → AsksServe words store port count rule → IsSomeAnd o (IsServeAsk store port count rule)
+  pub serve : (store : Text) (place : Place) (count : ℕ) (rule : Text) → AsksServeAt words store place count rule → IsSomeAnd o (IsServeAsk store place count rule)
+  pub timeouts : (rows : List Row) → Enters words (codes "serve") rows → IfSome o (HasTimeouts rows)
   pub import : (store key sheet : Text) (moment : Option ℤ) (rule : Text) → AsksImport words store key sheet moment rule
       → IsSomeAnd o (IsImportAsk store key sheet moment rule)
   pub export : (store : Text) (key : Option Text) (moment : Option ℤ) (rule : Text) → AsksExport words store key moment rule
@@ -126,7 +128,8 @@ pub record GivesRows (entered : Option (Text × List Row)) (shown : Option Shown
   pub file : (kind : Kind) (image : Text) (slot : ℕ) → EntersCat entered kind image slot → IsSomeAnd o (IsFileAsk kind image slot)
   pub files : (kind : Kind) (image : Text) → EntersList entered kind image → IsSomeAnd o (IsFilesAsk kind image)
   pub init : (store key : Text) → EntersInit entered store key → IsSomeAnd o (IsInitAsk store key)
-  pub serve : (store : Text) (port count : ℕ) (rule : Text) → EntersServe entered store port count rule → IsSomeAnd o (IsServeAsk store port count rule)
+  pub serve : (store : Text) (place : Place) (count : ℕ) (rule : Text) → EntersServe entered store place count rule → IsSomeAnd o (IsServeAsk store place count rule)
+  pub timeouts : IfSome o (EntersTimed entered)
   pub import : (store key sheet : Text) (moment : Option ℤ) (rule : Text) → EntersImport entered store key sheet moment rule
       → IsSomeAnd o (IsImportAsk store key sheet moment rule)
   pub export : (store : Text) (key : Option Text) (moment : Option ℤ) (rule : Text) → EntersExport entered store key moment rule
@@ -136,6 +139,12 @@ pub record GivesRows (entered : Option (Text × List Row)) (shown : Option Shown
   pub show : (store key : Text) (what : Shown) (moment : Option ℤ) (rule : Text) → shown ≡ Some what → EntersShow entered store key moment rule
       → IsSomeAnd o (IsOneQuestionAsk store (Some key) (Show what) moment rule)
 
+-- so the options of `serve` say how long a visitor may take
+timed_rows : (o : Option Ask) (entered : Option (Text × List Row)) (rows : List Row) → entered ≡ Some (codes "serve", rows) → IfSome o (EntersTimed entered)
+    → IfSome o (HasTimeouts rows)
+timed_rows (Some ask) entered rows into timed = timed rows into
+timed_rows None entered rows into timed = tt
+
 pub ask_given : (o : Option Ask) (shown : Option Shown) (app : App) (words : List Text) (m : ArgMatches) → IsDeskApp app → HasMatchesOf app words m
     → EntersNaming (subcommand_rows_of m) shown → GivesRows (subcommand_rows_of m) shown o → GivesAsk words o
 ask_given o shown app words m desk matches naming given =
@@ -144,7 +153,8 @@ ask_given o shown app words m desk matches naming given =
       file = λ kind image slot asks. given.file kind image slot (subst (λ e. EntersCat e kind image slot) same (gives_cat app words kind image slot desk asks));
       files = λ kind image asks. given.files kind image (subst (λ e. EntersList e kind image) same (gives_list app words kind image desk asks));
       init = λ store key asks. given.init store key (record { rows = asks.rows; into = sym same ∙ asks.enters.into app desk; found = asks.found });
-      serve = λ store port count rule asks. given.serve store port count rule (record { rows = asks.rows; into = sym same ∙ asks.enters.into app desk; found = asks.found });
+      serve = λ store place count rule asks. given.serve store place count rule (record { rows = asks.rows; into = sym same ∙ asks.enters.into app desk; found = asks.found });
+      timeouts = λ rows enters. timed_rows o (subcommand_rows_of m) rows (sym same ∙ enters.into app desk) given.timeouts;
       import = λ store key sheet moment rule asks.
           given.import store key sheet moment rule (record { rows = asks.rows; into = sym same ∙ asks.enters.into app desk; found = asks.found });
       export = λ store key moment rule asks. given.export store key moment rule (record { rows = asks.rows; into = sym same ∙ asks.enters.into app desk; found = asks.found });
@@ -158,7 +168,7 @@ ask_given o shown app words m desk matches naming given =
 -- words that are read are what is asked for
 pub ask_read : (o : Option Ask) (fault : Unread) (r : Result Ask Unread) (words : List Text) → r ≡ ok_or o fault → GivesAsk words o
     → IfOk r (IsAskOf words)
-ask_read (Some ask) fault r words is given = subst (λ x. IfOk x (IsAskOf words)) (sym is) (record { file = given.file; files = given.files; init = given.init; serve = given.serve; import = given.import; export = given.export; check = given.check; show = given.show })
+ask_read (Some ask) fault r words is given = subst (λ x. IfOk x (IsAskOf words)) (sym is) (record { file = given.file; files = given.files; init = given.init; serve = given.serve; timeouts = given.timeouts; import = given.import; export = given.export; check = given.check; show = given.show })
 ask_read None fault r words is given = subst (λ x. IfOk x (IsAskOf words)) (sym is) tt
 
 -- an accession that is read is a number of one
@@ -195,6 +205,7 @@ help_asked words (Clap error) help fault = elim fault [
 ]
 help_asked words Usage help fault = absurd help
 help_asked words Day help fault = absurd help
+help_asked words NoPlace help fault = absurd help
 help_asked words NoMemory help fault = absurd help
 
 -- a command is found
@@ -346,13 +357,8 @@ never_faulty Q P (Err fault) holds = λ none. absurd (none holds)
 
 -- they are a mistake, or memory ran out
 pub day_mistake : (fault : Unread) → (fault ≡ Day) ⊎ (fault ≡ NoMemory) → IsMistake fault ⊎ IsForMemory fault
-day_mistake fault (inl day) = inl (inr day)
+day_mistake fault (inl day) = inl (inr (inl day))
 day_mistake fault (inr memory) = inr (for_memory fault memory)
-
--- the day is a mistake, or memory ran out
-pub day_or_memory : (fault : Unread) → (fault ≡ Day) ⊎ (fault ≡ NoMemory) → (fault ≡ Day) ⊎ IsForMemory fault
-day_or_memory fault (inl day) = inl day
-day_or_memory fault (inr memory) = inr (for_memory fault memory)
 
 -- of which `clap` finds no fault
 pub day_no_fault : (words : List Text) (fault : Unread) → (fault ≡ Day) ⊎ (fault ≡ NoMemory) → IsFaultOf words fault
@@ -373,6 +379,10 @@ module _ (app : App) (words : List Text) (m : ArgMatches) (desk : IsDeskApp app)
   -- words of which nothing to show is found are taken as `show`
   pub taken_showing : EntersNamingNone (subcommand_rows_of m) → IsTakenAs (codes "show") words
   taken_showing entered = taken_as (codes "show") (entered.0, entered.1)
+
+  -- words that name no place, or two, are taken as `serve`
+  pub taken_serving : EntersNoPlace (subcommand_rows_of m) → IsTakenAs (codes "serve") words
+  taken_serving entered = taken_as (codes "serve") (entered.0, entered.1)
 
   taken_telling : EntersTelling (subcommand_rows_of m) → IsTakenTelling words
   taken_telling (inl import) = inl (taken_as (codes "import") import)

@@ -6,6 +6,7 @@ pub mod HelpLine
 pub mod VersionLine
 pub mod ShowWords
 pub mod GetterLemmas
+pub mod Places
 pub mod WriterLemmas
 pub mod ReadLimits
 pub mod RefusalLine

@@ -10,7 +10,7 @@ use Rattle.rd_commands.specs.Asks.{IsFaultOf, IsForMemory, IsHelp, IsVersion}
 use Rattle.rd_commands.specs.CommandLine.{AsksForVersion, HasFault, IsDeskApp, IsTaken, NameList, desk_app}
 use Rattle.rd_commands.specs.Words.{AsksVersion}
 use Rattle.rd_commands.specs.declared.words.Unread.{Unread}
-use Rattle.rd_commands.specs.declared.words.Unread.TheVariants.{Day, NoMemory, Clap, Usage}
+use Rattle.rd_commands.specs.declared.words.Unread.TheVariants.{Day, NoMemory, Place, Clap, Usage}
 
 long_shows : (kinds others shown : NameList) (rest : List Text) → fault_of (desk_app kinds others shown) (codes "--version" ∷ rest) ≡ DisplayVersion ∷ []
 unfolding clap_on_literals
@@ -74,6 +74,7 @@ version_asked words (Clap error) shown fault = elim fault [
 ]
 version_asked words Usage shown fault = absurd shown
 version_asked words Day shown fault = absurd shown
+version_asked words Place shown fault = absurd shown
 version_asked words NoMemory shown fault = absurd shown
 
 -- the version is no help
@@ -81,4 +82,5 @@ pub version_no_help : (unread : Unread) → IsVersion unread → IsHelp unread �
 version_no_help (Clap error) shown help = let same : DisplayVersion ≡ DisplayHelp = sym shown ∙ help in absurd (cc same)
 version_no_help Usage shown help = absurd shown
 version_no_help Day shown help = absurd shown
+version_no_help Place shown help = absurd shown
 version_no_help NoMemory shown help = absurd shown

@@ -24,8 +24,9 @@ use Rattle.rd_commands.specs.declared.words.ServeAsk.{ServeAsk}
 use Rattle.rd_commands.specs.declared.words.Shown.{Shown}
 use Rattle.rd_commands.specs.declared.words.Unread.{Unread}
 use Rattle.rd_commands.specs.declared.words.WhenAsk.{WhenAsk}
-use Rattle.rd_commands.specs.declared.words.Unread.TheVariants.{Day, Clap, Usage, NoMemory}
+use Rattle.rd_commands.specs.declared.words.Unread.TheVariants.{Day, Place as NoPlace, Clap, Usage, NoMemory}
 use Rattle.rd_commands.specs.CommandLine.{HasFault}
+use Rattle.rd_commands.specs.Serving.{GivesTimeouts, NamesOnePlace, NamesPlace, Place, place_of}
 use Rattle.rd_commands.specs.Shown.{IsShowable, NamesAny, NamesShown}
 use Rattle.rd_commands.specs.Words.{IsSlotText}
 use Rattle.rd_commands.specs.Zones.{HasClocks, HasZoneRule, IsRuleNamed}
@@ -47,11 +48,11 @@ pub record AsksNew (ask : InitAsk) (store key : List ℕ) : Type 0 where
   pub store_is : ask.store.now ≡ store
   pub key_is : ask.key.now ≡ trim_ows key
 
--- it asks for so many visits, at the port, of the desk in the file of the store, with clocks by
+-- it asks for so many visits, at the place, of the desk in the file of the store, with clocks by
 -- the rule
-pub record AsksVisits (ask : ServeAsk) (store : List ℕ) (port count : ℕ) (rule : List ℕ) : Type 0 where
+pub record AsksVisits (ask : ServeAsk) (store : List ℕ) (place : Place) (count : ℕ) (rule : List ℕ) : Type 0 where
   pub store_is : ask.store.now ≡ store
-  pub port_is : ask.port ≡ port
+  pub place_is : place_of ask.place ≡ place
   pub count_is : ask.count ≡ count
   pub zone_is : IsZoneOf rule ask.zone
 
@@ -91,11 +92,16 @@ abbrev pub IsInitAsk : List ℕ → List ℕ → Ask → Type 0
 IsInitAsk store key (Init ask) = AsksNew ask store key
 IsInitAsk store key _ = ⊥
 
--- the command asks for so many visits at the port, of the desk in the file of the store, by its
+-- the command asks for so many visits at the place, of the desk in the file of the store, by its
 -- clocks
-abbrev pub IsServeAsk : List ℕ → ℕ → ℕ → List ℕ → Ask → Type 0
-IsServeAsk store port count rule (Serve ask) = AsksVisits ask store port count rule
-IsServeAsk store port count rule _ = ⊥
+abbrev pub IsServeAsk : List ℕ → Place → ℕ → List ℕ → Ask → Type 0
+IsServeAsk store place count rule (Serve ask) = AsksVisits ask store place count rule
+IsServeAsk store place count rule _ = ⊥
+
+-- a command that asks for visits gives visitors as long as these options do
+abbrev pub HasTimeouts : List Row → Ask → Type 0
+HasTimeouts rows (Serve ask) = GivesTimeouts rows ask.timeouts
+HasTimeouts rows _ = ⊤
 
 -- the command asks the desk in the file of the store to take in the images of the sheet, for the
 -- key
@@ -166,6 +172,7 @@ abbrev pub IsHelp : Unread → Type 0
 IsHelp (Clap error) = kind_of error ≡ DisplayHelp
 IsHelp Usage = ⊥
 IsHelp Day = ⊥
+IsHelp NoPlace = ⊥
 IsHelp NoMemory = ⊥
 
 -- the text to write is the version
@@ -173,12 +180,13 @@ abbrev pub IsVersion : Unread → Type 0
 IsVersion (Clap error) = kind_of error ≡ DisplayVersion
 IsVersion Usage = ⊥
 IsVersion Day = ⊥
+IsVersion NoPlace = ⊥
 IsVersion NoMemory = ⊥
 
--- the words are no command, although `clap` accepts them: the text of --zone is no rule, or that of --on does not go
--- with what `show` shows
+-- the words are no command, although `clap` accepts them: the text of --zone is no rule, that of --on does not go
+-- with what `show` shows, or `serve` has neither a port nor a socket, or both
 abbrev pub IsMistake : Unread → Type 0
-IsMistake unread = (unread ≡ Usage) ⊎ (unread ≡ Day)
+IsMistake unread = (unread ≡ Usage) ⊎ ((unread ≡ Day) ⊎ (unread ≡ NoPlace))
 
 -- memory ran out, in `clap` or elsewhere
 abbrev pub IsForMemory : Unread → Type 0
@@ -196,6 +204,7 @@ abbrev pub IsFaultOf : List Text → Unread → Type 0
 IsFaultOf words (Clap error) = (kind_of error ≡ OutOfMemory) ⊎ HasFault words (kind_of error)
 IsFaultOf words Usage = Unit {0}
 IsFaultOf words Day = Unit {0}
+IsFaultOf words NoPlace = Unit {0}
 IsFaultOf words NoMemory = Unit {0}
 
 -- the operands that `clap` found for `cat`
@@ -237,21 +246,31 @@ pub record EntersInit (entered : Option (Text × List Row)) (store key : List �
   pub found : AreInitRows rows store key
 
 -- the options that `clap` found for `serve`: of the numbers the texts, and of the zone one that may be absent
-pub record AreServeRows (rows : List Row) (store : List ℕ) (port count : ℕ) (rule : List ℕ) : Type 0 where
+pub record AreServeRows (rows : List Row) (store : List ℕ) (place : Place) (count : ℕ) (rule : List ℕ) : Type 0 where
   pub store_found : first_of (codes "store") rows ≡ Some store
-  pub port_text : List ℕ
-  pub port_found : one_of (codes "port") rows ≡ Some port_text
-  pub port_number : ParsesUnsigned {E = ParseIntError} 16 10 port_text (Ok port)
+  pub place_named : NamesPlace rows place
   pub count_text : List ℕ
   pub count_found : one_of (codes "count") rows ≡ Some count_text
   pub count_number : ParsesUnsigned {E = ParseIntError} 32 10 count_text (Ok count)
   pub rule_named : IsRuleNamed (first_of (codes "zone") rows) rule
 
 -- the parse went into `serve`, and found its options
-pub record EntersServe (entered : Option (Text × List Row)) (store : List ℕ) (port count : ℕ) (rule : List ℕ) : Type 0 where
+pub record EntersServe (entered : Option (Text × List Row)) (store : List ℕ) (place : Place) (count : ℕ) (rule : List ℕ) : Type 0 where
   pub rows : List Row
   pub into : entered ≡ Some (codes "serve", rows)
-  pub found : AreServeRows rows store port count rule
+  pub found : AreServeRows rows store place count rule
+
+-- the parse did not go into `serve`, or names one place there
+abbrev pub EntersAtAPlace : Option (Text × List Row) → Type 0
+EntersAtAPlace entered = (rows : List Row) → entered ≡ Some (codes "serve", rows) → NamesOnePlace rows
+
+-- it went into `serve`, and names no place there, or two
+abbrev pub EntersNoPlace : Option (Text × List Row) → Type 0
+EntersNoPlace entered = (rows : List Row) × (entered ≡ Some (codes "serve", rows)) × ¬ NamesOnePlace rows
+
+-- if it went into `serve`, the command gives visitors as long as the options there do
+abbrev pub EntersTimed : Option (Text × List Row) → Ask → Type 0
+EntersTimed entered ask = (rows : List Row) → entered ≡ Some (codes "serve", rows) → HasTimeouts rows ask
 
 -- what the option for a moment gives: nothing if it is absent, and otherwise the number that its
 -- text writes

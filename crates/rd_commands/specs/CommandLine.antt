@@ -56,9 +56,17 @@ store_rule = required_option (codes "store")
 abbrev pub key_rule : Rule
 key_rule = required_option (codes "key")
 
--- the option for a port, a number from 1 to 65,535
+-- the option for a port, a number from 1 to 65,535, which may be absent
 abbrev pub port_rule : Rule
-port_rule = record (required_option (codes "port")) { parser = Some (Signed (pos 1) (pos 65535)) }
+port_rule = record (new_rule (codes "port")) { long = Some (codes "port"); value_names = 1; parser = Some (Signed (pos 1) (pos 65535)) }
+
+-- the option for a Unix socket, which may be absent
+abbrev pub socket_rule : Rule
+socket_rule = record (new_rule (codes "socket")) { long = Some (codes "socket"); value_names = 1 }
+
+-- an option for how long a visitor may take, a number from 1 to 3,600, which may be absent
+abbrev pub timeout_rule : Text → Rule
+timeout_rule name = record (new_rule name) { long = Some name; value_names = 1; parser = Some (Signed (pos 1) (pos 3600)) }
 
 -- the option for a number of visits, from 0 to 4,294,967,295
 abbrev pub count_rule : Rule
@@ -92,10 +100,17 @@ accession_rule = record (required_option (codes "acc")) { parser = Some (Signed 
 abbrev pub init_app : App
 init_app = with_rule (with_rule (new_app (codes "init")) store_rule) key_rule
 
+-- the command `serve`, without the options for how long a visitor may take
+abbrev pub untimed_app : App
+untimed_app =
+    with_rule (with_rule (with_rule (with_rule (with_rule (new_app (codes "serve")) store_rule) port_rule) socket_rule) count_rule)
+    zone_rule
+
 -- the command `serve`
 abbrev pub serve_app : App
 serve_app =
-    with_rule (with_rule (with_rule (with_rule (new_app (codes "serve")) store_rule) port_rule) count_rule) zone_rule
+    with_rule (with_rule (with_rule untimed_app (timeout_rule (codes "request-timeout"))) (timeout_rule (codes "write-timeout")))
+    (timeout_rule (codes "reply-timeout"))
 
 -- the command `import`
 abbrev pub import_app : App

@@ -5,8 +5,10 @@ use Rattle.rd_geometry.specs.declared.kind.Kind.{Kind}
 use Rattle.rd_commands.specs.declared.words.Ask.{Ask}
 use Rattle.rd_commands.specs.declared.words.Question.TheVariants.{Catalogue, Check, Show}
 use Rattle.rd_commands.specs.declared.words.Shown.{Shown}
-use Rattle.rd_commands.specs.Asks.{AreCheckRows, AreExportRows, AreImportRows, AreInitRows, AreServeRows, AreShowRows, IsFileAsk, IsFilesAsk, IsImportAsk, IsInitAsk, IsOneQuestionAsk, IsServeAsk}
+use Rattle.rd_commands.specs.Asks.{AreCheckRows, AreExportRows, AreImportRows, AreInitRows, AreServeRows, AreShowRows, HasTimeouts, IsFileAsk, IsFilesAsk, IsImportAsk, IsInitAsk, IsOneQuestionAsk, IsServeAsk}
 use Rattle.rd_commands.specs.CommandLine.{Enters}
+use Rattle.rd_commands.specs.Serving.{NamesOnePlace, Place}
+use Rattle.rd_commands.specs.Serving.Place.{Port}
 use Rattle.rd_commands.specs.Shown.{NamesAny, NamesShown}
 use Rattle.rd_commands.specs.Words.{AsksCat, AsksList}
 use Rattle.rd_commands.specs.Zones.{HasClocks, HasZoneRule}
@@ -17,12 +19,16 @@ pub record AsksInit (words : List Text) (store key : List ℕ) : Type 0 where
   pub enters : Enters words (codes "init") rows
   pub found : AreInitRows rows store key
 
--- The words ask for so many visits at a port, of the desk in the file of a store whose clocks are those of the
+-- The words ask for so many visits at a place, of the desk in the file of a store whose clocks are those of the
 -- rule: they are those of `serve`, as `clap` takes them.
-pub record AsksServe (words : List Text) (store : List ℕ) (port count : ℕ) (rule : List ℕ) : Type 0 where
+pub record AsksServeAt (words : List Text) (store : List ℕ) (place : Place) (count : ℕ) (rule : List ℕ) : Type 0 where
   pub rows : List Row
   pub enters : Enters words (codes "serve") rows
-  pub found : AreServeRows rows store port count rule
+  pub found : AreServeRows rows store place count rule
+
+-- the place is a port
+abbrev pub AsksServe : List Text → List ℕ → ℕ → ℕ → List ℕ → Type 0
+AsksServe words store port count rule = AsksServeAt words store (Port port) count rule
 
 -- The words ask the desk in the file of a store to take in the images of a sheet, for a caller
 -- with this key, at a moment that they name, or that of the clock, by the clocks of the rule: they
@@ -77,7 +83,7 @@ IsShow words = (store : List ℕ) × (key : List ℕ) × (shown : Shown) × (mom
 -- holds; none of these reads the input
 abbrev pub AsksOfStore : List Text → Type 0
 AsksOfStore words = ((store : List ℕ) × (key : List ℕ) × AsksInit words store key)
-    ⊎ (((store : List ℕ) × (port : ℕ) × (count : ℕ) × (rule : List ℕ) × AsksServe words store port count rule)
+    ⊎ (((store : List ℕ) × (place : Place) × (count : ℕ) × (rule : List ℕ) × AsksServeAt words store place count rule)
     ⊎ (IsImport words ⊎ (IsExport words ⊎ (((acc : ℕ) × IsCheckOf words acc) ⊎ IsShow words))))
 
 -- the words are a command of the program: a plain form of `cat` or `list`, or any form of the others
@@ -93,13 +99,18 @@ TellsARule words = (name : List ℕ) (rows : List Row) → Enters words name row
 abbrev pub NamesWhatItShows : List Text → Type 0
 NamesWhatItShows words = (rows : List Row) → Enters words (codes "show") rows → NamesAny rows
 
+-- if `clap` takes the words as `serve`, they name one place
+abbrev pub NamesAPlace : List Text → Type 0
+NamesAPlace words = (rows : List Row) → Enters words (codes "serve") rows → NamesOnePlace rows
+
 -- the program asks for what the words ask for
 pub record IsAskOf (words : List Text) (ask : Ask) : Type 0 where
   pub file : (kind : Kind) (image : List ℕ) (slot : ℕ) → AsksCat words kind image slot → IsFileAsk kind image slot ask
   pub files : (kind : Kind) (image : List ℕ) → AsksList words kind image → IsFilesAsk kind image ask
   pub init : (store key : List ℕ) → AsksInit words store key → IsInitAsk store key ask
-  pub serve : (store : List ℕ) (port count : ℕ) (rule : List ℕ) → AsksServe words store port count rule
-      → IsServeAsk store port count rule ask
+  pub serve : (store : List ℕ) (place : Place) (count : ℕ) (rule : List ℕ) → AsksServeAt words store place count rule
+      → IsServeAsk store place count rule ask
+  pub timeouts : (rows : List Row) → Enters words (codes "serve") rows → HasTimeouts rows ask
   pub import : (store key sheet : List ℕ) (moment : Option ℤ) (rule : List ℕ)
       → AsksImport words store key sheet moment rule → IsImportAsk store key sheet moment rule ask
   pub export : (store : List ℕ) (key : Option (List ℕ)) (moment : Option ℤ) (rule : List ℕ)

@@ -2,6 +2,7 @@
 pub mod Words
 pub mod CommandLine
 pub mod Zones
+pub mod Serving
 pub mod Shown
 pub mod Asks
 pub mod Commands

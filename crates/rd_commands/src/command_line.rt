@@ -1,7 +1,7 @@
-ghost use Rattle.std.specs.Prelude.{◌≡◌, IfOk, false};
+ghost use Rattle.std.specs.Prelude.{◌≡◌, IfOk, codes, false};
 ghost use Rattle.clap.specs.Words.{app_of, rule_of};
 ghost use Rattle.clap.specs.declared.builder.command.Command.TheViews.{out-Command as fields_of};
-ghost use Rattle.rd_commands.specs.CommandLine.{IsCatApp, IsDeskApp, IsKindRule, IsListApp, IsShowApp, IsWhatRule, accession_rule, bare_app, check_app, count_rule, day_rule, export_app, image_rule, import_app, init_app, key_rule, moment_rule, optional_key_rule, port_rule, serve_app, sheet_rule, slot_rule, store_rule, zone_rule};
+ghost use Rattle.rd_commands.specs.CommandLine.{IsCatApp, IsDeskApp, IsKindRule, IsListApp, IsShowApp, IsWhatRule, accession_rule, bare_app, check_app, count_rule, day_rule, export_app, image_rule, import_app, init_app, key_rule, moment_rule, optional_key_rule, port_rule, serve_app, sheet_rule, slot_rule, socket_rule, store_rule, timeout_rule, untimed_app, zone_rule};
 
 use crate::version::VERSION;
 use clap::{Arg, Command, value_parser};
@@ -95,12 +95,32 @@ fn port_option<'a>(alloc: Global) -> Arg<'a>
     Arg::new(alloc, "port")
         .long("port")
         .value_name("PORT")
-        .required(true)
-        .help("The port on 127.0.0.1, 1 to 65535")
+        .help("The port on 127.0.0.1, 1 to 65535; give this or --socket")
         .value_parser(value_parser!(u16).range(1..=65_535))
 }
 
-/// The option for a number of visits.
+fn socket_option<'a>(alloc: Global) -> Arg<'a>
+    ensures rule { rule_of result ≡ socket_rule }
+    ensures local { result.global ≡ false }
+{
+    Arg::new(alloc, "socket")
+        .long("socket")
+        .value_name("PATH")
+        .help("The path of a Unix socket, which desk makes; give this or --port")
+}
+
+/// An option for how long a visitor may take.
+fn timeout_option<'a>(alloc: Global, name: &'a str, help: &'a str) -> Arg<'a>
+    ensures rule { rule_of result ≡ timeout_rule name.now }
+    ensures local { result.global ≡ false }
+{
+    Arg::new(alloc, name)
+        .long(name)
+        .value_name("SECONDS")
+        .help(help)
+        .value_parser(value_parser!(u16).range(1..=3_600))
+}
+
 fn count_option<'a>(alloc: Global) -> Arg<'a>
     ensures rule { rule_of result ≡ count_rule }
     ensures local { result.global ≡ false }
@@ -113,7 +133,6 @@ fn count_option<'a>(alloc: Global) -> Arg<'a>
         .value_parser(value_parser!(u32))
 }
 
-/// The option for the zone of the desk's clocks.
 fn zone_option<'a>(alloc: Global) -> Arg<'a>
     ensures rule { rule_of result ≡ zone_rule }
     ensures local { result.global ≡ false }
@@ -158,19 +177,64 @@ fn init_command<'a>(alloc: Global) -> Result<Command<'a>, AllocError>
         .arg(key_option(alloc))
 }
 
-fn serve_command<'a>(alloc: Global) -> Result<Command<'a>, AllocError>
-    ensures shape { IfOk result (λ serve. app_of serve ≡ serve_app) }
+/// The command `serve`, without the options for how long a visitor may take.
+fn untimed_command<'a>(alloc: Global) -> Result<Command<'a>, AllocError>
+    ensures shape { IfOk result (λ serve. app_of serve ≡ untimed_app) }
     ensures local { IfOk result (λ serve. (fields_of serve).has_globals ≡ false) }
 {
     Command::new(alloc, "serve")
-        .about("Serves visits over HTTP on 127.0.0.1, one after the other")
+        .about("Serves visits over HTTP on 127.0.0.1 or at a Unix socket, one after the other")
         .after_help(
             "Example:\n  desk serve --store museum.sqlite --port 8041 --count 1000 --zone CET-1CEST,M3.5.0,M10.5.0/3",
         )
         .arg(store_option(alloc))?
         .arg(port_option(alloc))?
+        .arg(socket_option(alloc))?
         .arg(count_option(alloc))?
         .arg(zone_option(alloc))
+}
+
+fn request_option<'a>(alloc: Global) -> Arg<'a>
+    ensures rule { rule_of result ≡ timeout_rule (codes "request-timeout") }
+    ensures local { result.global ≡ false }
+{
+    timeout_option(
+        alloc,
+        "request-timeout",
+        "How long a visitor may take to send a request, 1 to 3600; without it 10",
+    )
+}
+
+fn write_option<'a>(alloc: Global) -> Arg<'a>
+    ensures rule { rule_of result ≡ timeout_rule (codes "write-timeout") }
+    ensures local { result.global ≡ false }
+{
+    timeout_option(
+        alloc,
+        "write-timeout",
+        "How long a visitor may take nothing of a reply, 1 to 3600; without it 10",
+    )
+}
+
+fn reply_option<'a>(alloc: Global) -> Arg<'a>
+    ensures rule { rule_of result ≡ timeout_rule (codes "reply-timeout") }
+    ensures local { result.global ≡ false }
+{
+    timeout_option(
+        alloc,
+        "reply-timeout",
+        "How long a visitor may take to read a whole reply, 1 to 3600; without it 60",
+    )
+}
+
+fn serve_command<'a>(alloc: Global) -> Result<Command<'a>, AllocError>
+    ensures shape { IfOk result (λ serve. app_of serve ≡ serve_app) }
+    ensures local { IfOk result (λ serve. (fields_of serve).has_globals ≡ false) }
+{
+    untimed_command(alloc)?
+        .arg(request_option(alloc))?
+        .arg(write_option(alloc))?
+        .arg(reply_option(alloc))
 }
 
 fn import_command<'a>(alloc: Global) -> Result<Command<'a>, AllocError>

@@ -12,6 +12,7 @@ pub mod list;
 mod output;
 mod printed;
 mod refusal;
+mod serving;
 mod sheet;
 mod source;
 mod tell;
@@ -23,6 +24,7 @@ pub use files::{Files, MachineFault};
 pub use input::read_front;
 pub use output::write_whole;
 pub use refusal::Refusal;
+pub use serving::{Place, Timeouts};
 pub use sheet::{SheetRow, is_header, next_row, row_of};
 pub use tell::{exit_code, tell_refusal, tell_unread};
 pub use words::{

@@ -34,6 +34,10 @@ const ZONE_MISTAKE: &[u8] =
 const DAY_MISTAKE: &[u8] =
     b"error: --on takes a date, as in 2030-01-01; 'show verdicts' needs it, and nothing else takes it\n\nFor more information, try '--help'.\n";
 
+/// What it says about words of `serve` that name no place, or two.
+const PLACE_MISTAKE: &[u8] =
+    b"error: 'serve' takes --port or --socket, and one of them alone\n\nFor more information, try '--help'.\n";
+
 /// Writes a word after a blank.
 ///
 /// It fails with `Device` when a write fails: then a front part was written.
@@ -143,6 +147,7 @@ pub fn tell_unread<W: Write, E: Write>(unread: Unread, output: &mut W, errors: &
         → kind_of error ≢ DisplayVersion → kind_of error ≢ OutOfMemory → result ≡ 2 }
     ensures mistaken { IsMistake unread → result ≡ 2 }
     ensures one_of { (result ≡ 2) ⊎ (IsHelp unread ⊎ (IsVersion unread ⊎ IsForMemory unread)) }
+    ensures place_mistake { unread ≡ Unread.Place → AppendsPart (E.contents errors.old) (E.contents errors.new) PLACE_MISTAKE.now }
     ensures mistake_written { unread ≡ Unread.Usage → AppendsPart (E.contents errors.old) (E.contents errors.new) ZONE_MISTAKE.now }
     ensures day_mistake { unread ≡ Unread.Day → AppendsPart (E.contents errors.old) (E.contents errors.new) DAY_MISTAKE.now }
     ensures memory { IsForMemory unread
@@ -165,6 +170,10 @@ pub fn tell_unread<W: Write, E: Write>(unread: Unread, output: &mut W, errors: &
         }
         Unread::Day => {
             let _ = write_bytes(errors, DAY_MISTAKE);
+            2
+        }
+        Unread::Place => {
+            let _ = write_bytes(errors, PLACE_MISTAKE);
             2
         }
         Unread::Clap(error) => {

@@ -10,10 +10,13 @@ ghost use Rattle.rd_policy.specs.Rules.{IsScope};
 ghost use Rattle.rd_policy.specs.Zones.{IsZoneOf};
 ghost use Rattle.rd_commands.specs.Asks.{AreCatRows, AreCheckRows, AreExportRows, AreImportRows, AreInitRows, AreListRows, AreServeRows, AreShowRows, IsMomentNamed};
 ghost use Rattle.rd_commands.specs.Asks.{AsksFile, AsksFiles, AsksImages, AsksNew, AsksOneQuestion, AsksVisits, AsksWhen, IsAskable};
+ghost use Rattle.rd_commands.specs.Asks.{EntersAtAPlace, EntersNoPlace, EntersTimed};
 ghost use Rattle.rd_commands.specs.Asks.{EntersByRule, EntersCat, EntersCheck, EntersExport, EntersImport, EntersInit, EntersList, EntersNaming, EntersNamingNone, EntersServe, EntersShow, EntersTelling};
 ghost use Rattle.rd_commands.specs.Asks.{IsWithinLimits, IsFaultOf, IsFileAsk, IsFilesAsk, IsForMemory, IsHelp, IsImportAsk, IsInitAsk, IsMistake, IsOneQuestionAsk, IsServeAsk, IsTold, IsVersion, TellsOnOutput};
 ghost use Rattle.rd_commands.specs.CommandLine.{IsDeskApp, IsTaken, IsTakenAs, IsTakenTelling};
-ghost use Rattle.rd_commands.specs.Commands.{IsAskOf, IsCommand, NamesWhatItShows, TellsARule};
+ghost use Rattle.rd_commands.specs.Commands.{IsAskOf, IsCommand, NamesAPlace, NamesWhatItShows, TellsARule};
+ghost use Rattle.rd_commands.specs.Serving.{GivesTimeouts};
+ghost use Rattle.rd_commands.specs.Serving as spec;
 ghost use Rattle.rd_commands.specs.Shown.{IsDayGiven, IsShowable, IsShownAs, NamesAny, NamesShown};
 ghost use Rattle.rd_commands.specs.Words.{AsksHelp, AsksVersion, IsSlotText};
 ghost use Rattle.rd_commands.specs.Zones.{HasZoneRule, IsRuleNamed};
@@ -21,6 +24,7 @@ ghost use Rattle.rd_commands.specs.declared.words.Unread.TheVariants as Unread;
 
 use crate::blanks::trimmed;
 use crate::command_line::desk_command;
+use crate::serving::{Place, Timeouts, has_place, place_asked, timeouts_asked};
 use clap::{ArgMatches, Command, Error};
 use rd_policy::{DateFault, Zone, date_read, is_scope};
 use rd_volume::Kind;
@@ -60,12 +64,14 @@ pub struct InitAsk<'a> {
 pub struct ServeAsk<'a> {
     /// The path of the store.
     pub store: &'a str,
-    /// The port, 1 to 65,535.
-    pub port: u16,
+    /// Where the visitors come.
+    pub place: Place<'a>,
     /// How many visits.
     pub count: u32,
     /// The zone of the desk's clocks.
     pub zone: Zone,
+    /// How long a visitor may take.
+    pub timeouts: Timeouts,
 }
 
 /// When to do a command, and by which clocks.
@@ -158,6 +164,8 @@ pub enum Unread {
     /// The words are no command, although `clap` accepts them: the text of `--on` is no date, `show verdicts` has no
     /// `--on`, or `show` of anything else has one.
     Day,
+    /// The words are no command, although `clap` accepts them: `serve` has neither a port nor a socket, or both.
+    Place,
     /// Memory ran out, and `clap` did not say so.
     NoMemory,
 }
@@ -235,15 +243,6 @@ fn init_asked<'a>(found: &ArgMatches<'a>) -> Option<InitAsk<'a>>
     })
 }
 
-/// The port that its option reads as, `None` if there is none.
-fn port_asked(found: &ArgMatches) -> Option<u16>
-    ensures { (text : List ℕ) (port : ℕ)
-        → one_of (codes "port") (rows_of (found_of found.now)) ≡ Some text
-        → ParsesUnsigned {E = ParseIntError} 16 10 text (Ok port) → result ≡ Some port }
-{
-    found.get_one::<u16>("port")
-}
-
 /// The number of visits that its option reads as, `None` if there is none.
 fn count_asked(found: &ArgMatches) -> Option<u32>
     ensures { (text : List ℕ) (count : ℕ)
@@ -267,16 +266,18 @@ fn zone_asked(found: &ArgMatches) -> Option<Zone>
 
 /// What the options of `serve` ask for; `None` if one is missing or badly written.
 fn serve_asked<'a>(found: &ArgMatches<'a>) -> Option<ServeAsk<'a>>
-    ensures asked { (store : List ℕ) (port count : ℕ) (rule : List ℕ)
-        → AreServeRows (rows_of (found_of found.now)) store port count rule
-        → IsSomeAnd result (λ ask. AsksVisits ask store port count rule) }
+    ensures asked { (store : List ℕ) (place : spec.Place) (count : ℕ) (rule : List ℕ)
+        → AreServeRows (rows_of (found_of found.now)) store place count rule
+        → IsSomeAnd result (λ ask. AsksVisits ask store place count rule) }
+    ensures timeouts { IfSome result (λ ask. GivesTimeouts (rows_of (found_of found.now)) ask.timeouts) }
     ensures zone { OnSome result (HasZoneRule (rows_of (found_of found.now))) }
 {
     Some(ServeAsk {
         store: found.get_str("store")?,
-        port: port_asked(found)?,
+        place: place_asked(found)?,
         count: count_asked(found)?,
         zone: zone_asked(found)?,
+        timeouts: timeouts_asked(found),
     })
 }
 
@@ -452,6 +453,22 @@ fn show_asked<'a>(found: &ArgMatches<'a>, shown: Shown) -> Option<OneQuestionAsk
     })
 }
 
+/// Looks at what `clap` does not look at: whether `serve` has one place, and what `show` shows; `None` if the words are
+/// not of `show`.
+///
+/// It fails with `Place` when `serve` has no place, or two, and as `shown_found` does.
+fn looked_at(alloc: Global, matches: &ArgMatches) -> Result<Option<Shown>, Unread>
+    ensures named { IfOk result (EntersNaming (subcommand_rows_of matches.now)) }
+    ensures within { IfOk result (λ shown. ForSome shown IsShowable) }
+    ensures place { OnOk result (EntersAtAPlace (subcommand_rows_of matches.now)) }
+    ensures none { IfErr result (λ fault. fault ≡ Unread.Day → EntersNamingNone (subcommand_rows_of matches.now)) }
+    ensures no_place { IfErr result (λ fault. fault ≡ Unread.Place → EntersNoPlace (subcommand_rows_of matches.now)) }
+    ensures failed { IfErr result (λ fault. (fault ≡ Unread.Place) ⊎ ((fault ≡ Unread.Day) ⊎ (fault ≡ Unread.NoMemory))) }
+{
+    has_place(matches)?;
+    shown_asked(alloc, matches)
+}
+
 /// What a command asks for, from a parse of the words, and what `show` shows; `None` if the parse found no command.
 fn ask_found<'a>(matches: &ArgMatches<'a>, shown: Option<Shown>) -> Option<Ask<'a>>
     requires { ForSome shown IsShowable }
@@ -464,9 +481,9 @@ fn ask_found<'a>(matches: &ArgMatches<'a>, shown: Option<Shown>) -> Option<Ask<'
     ensures init { (store key : List ℕ)
         → EntersInit (subcommand_rows_of matches.now) store key
         → IsSomeAnd result (IsInitAsk store key) }
-    ensures serve { (store : List ℕ) (port count : ℕ) (rule : List ℕ)
-        → EntersServe (subcommand_rows_of matches.now) store port count rule
-        → IsSomeAnd result (IsServeAsk store port count rule) }
+    ensures serve { (store : List ℕ) (place : spec.Place) (count : ℕ) (rule : List ℕ)
+        → EntersServe (subcommand_rows_of matches.now) store place count rule
+        → IsSomeAnd result (IsServeAsk store place count rule) }
     ensures import { (store key sheet : List ℕ) (moment : Option ℤ) (rule : List ℕ)
         → EntersImport (subcommand_rows_of matches.now) store key sheet moment rule
         → IsSomeAnd result (IsImportAsk store key sheet moment rule) }
@@ -481,6 +498,7 @@ fn ask_found<'a>(matches: &ArgMatches<'a>, shown: Option<Shown>) -> Option<Ask<'
         → IsSomeAnd result (IsOneQuestionAsk store (Some key) (Question.Show what) moment rule) }
     ensures written_on_output { IfSome result (λ ask. TellsOnOutput ask → EntersTelling (subcommand_rows_of matches.now)) }
     ensures accession { IfSome result IsWithinLimits }
+    ensures timeouts { IfSome result (EntersTimed (subcommand_rows_of matches.now)) }
     ensures zone { OnSome result (EntersByRule (subcommand_rows_of matches.now)) }
 {
     let (name, found) = matches.subcommand()?;
@@ -513,6 +531,10 @@ fn read_by<'a>(alloc: Global, desk: Command<'a>, words: &'a [&'a str]) -> Result
     ensures none_shown { IfErr result (λ fault. ¬ NamesWhatItShows (map (λ word. word.now) words.entry.now)
         → (fault ≡ Unread.Day) ⊎ (IsForMemory fault)) }
     ensures day { IfErr result (λ fault. fault ≡ Unread.Day → IsTakenAs (codes "show") (map (λ word. word.now) words.entry.now)) }
+    ensures place { OnOk result (NamesAPlace (map (λ word. word.now) words.entry.now)) }
+    ensures no_place { IfErr result (λ fault. ¬ NamesAPlace (map (λ word. word.now) words.entry.now)
+        → (fault ≡ Unread.Place) ⊎ (IsForMemory fault)) }
+    ensures placeless { IfErr result (λ fault. fault ≡ Unread.Place → IsTakenAs (codes "serve") (map (λ word. word.now) words.entry.now)) }
     ensures taken { OnOk result (IsTaken (map (λ word. word.now) words.entry.now)) }
     ensures mistake_in { IfErr result (IsFaultOf (map (λ word. word.now) words.entry.now)) }
     ensures unread { IfErr result (λ fault. IsCommand (map (λ word. word.now) words.entry.now)
@@ -525,7 +547,7 @@ fn read_by<'a>(alloc: Global, desk: Command<'a>, words: &'a [&'a str]) -> Result
 {
     match desk.try_get_matches_from(words) {
         Ok(matches) => {
-            let shown = shown_asked(alloc, &matches)?;
+            let shown = looked_at(alloc, &matches)?;
             ask_found(&matches, shown).ok_or(Unread::Usage)
         }
         Err(error) => Err(Unread::Clap(error)),
@@ -535,8 +557,9 @@ fn read_by<'a>(alloc: Global, desk: Command<'a>, words: &'a [&'a str]) -> Result
 /// Reads the words of a command, without the program's name.
 ///
 /// It fails with `Clap` when they ask for help or the version or are no command, and when memory runs out while `clap`
-/// reads them; with `Day` when the operand of `show` and the text of `--on` name nothing that it shows; with `Usage`
-/// when the parse gives no command or not all its operands, or the text of `--zone` is no rule; and with `NoMemory`.
+/// reads them; with `Place` when `serve` has neither a port nor a socket, or both; with `Day` when the operand of `show`
+/// and the text of `--on` name nothing that it shows; with `Usage` when the parse gives no command or not all its
+/// operands, or the text of `--zone` is no rule; and with `NoMemory`.
 pub fn read_words<'a>(alloc: Global, words: &'a [&'a str]) -> Result<Ask<'a>, Unread>
     ensures read { IfOk result (IsAskOf (map (λ word. word.now) words.entry.now)) }
     ensures written_on_output { IfOk result (λ ask. TellsOnOutput ask → IsTakenTelling (map (λ word. word.now) words.entry.now)) }
@@ -548,6 +571,10 @@ pub fn read_words<'a>(alloc: Global, words: &'a [&'a str]) -> Result<Ask<'a>, Un
     ensures none_shown { IfErr result (λ fault. ¬ NamesWhatItShows (map (λ word. word.now) words.entry.now)
         → (fault ≡ Unread.Day) ⊎ (IsForMemory fault)) }
     ensures day { IfErr result (λ fault. fault ≡ Unread.Day → IsTakenAs (codes "show") (map (λ word. word.now) words.entry.now)) }
+    ensures place { OnOk result (NamesAPlace (map (λ word. word.now) words.entry.now)) }
+    ensures no_place { IfErr result (λ fault. ¬ NamesAPlace (map (λ word. word.now) words.entry.now)
+        → (fault ≡ Unread.Place) ⊎ (IsForMemory fault)) }
+    ensures placeless { IfErr result (λ fault. fault ≡ Unread.Place → IsTakenAs (codes "serve") (map (λ word. word.now) words.entry.now)) }
     ensures taken { OnOk result (IsTaken (map (λ word. word.now) words.entry.now)) }
     ensures mistake_in { IfErr result (IsFaultOf (map (λ word. word.now) words.entry.now)) }
     ensures unread { IfErr result (λ fault. IsCommand (map (λ word. word.now) words.entry.now)

@@ -4,6 +4,7 @@ use Rattle.rd_commands.specs.Asks.{AreCatRows, AreCheckRows, AreExportRows, AreI
 use Rattle.rd_commands.specs.declared.words.Question.TheVariants.{Show}
 use Rattle.rd_commands.specs.Zones.{HasZoneRule}
 use Rattle.rd_commands.proofs.GetterLemmas.{clockless, entered_as, name_met, rows_met}
+use Rattle.rd_commands.proofs.Places.{timed_met}
 use Rattle.rd_commands.proofs.words.ask_found.Goals as goal
 
 pub returns-in_err-file_asked-in-cat-clause-file : goal.returns-in_err-file_asked-in-cat-clause-file
@@ -22,14 +23,14 @@ returns-in_ok-init_asked-in-init-clause-init c = λ store key enters.
     c.in_ok-init_asked-in-init.ensures store key (subst (λ r. AreInitRows r store key) rows enters.found)
 
 pub returns-in_err-serve_asked-in-serve-clause-serve : goal.returns-in_err-serve_asked-in-serve-clause-serve
-returns-in_err-serve_asked-in-serve-clause-serve c = λ store port count rule enters.
+returns-in_err-serve_asked-in-serve-clause-serve c = λ store place count rule enters.
     let rows = rows_met c.args.matches.now _ enters.rows _ enters.into (sym c.in_ok-name.ensures.rows) in
-    absurd (c.in_err-serve_asked-in-serve.ensures.asked store port count rule (subst (λ r. AreServeRows r store port count rule) rows enters.found))
+    absurd (c.in_err-serve_asked-in-serve.ensures.asked store place count rule (subst (λ r. AreServeRows r store place count rule) rows enters.found))
 
 pub returns-in_ok-serve_asked-in-serve-clause-serve : goal.returns-in_ok-serve_asked-in-serve-clause-serve
-returns-in_ok-serve_asked-in-serve-clause-serve c = λ store port count rule enters.
+returns-in_ok-serve_asked-in-serve-clause-serve c = λ store place count rule enters.
     let rows = rows_met c.args.matches.now _ enters.rows _ enters.into (sym c.in_ok-name.ensures.rows) in
-    c.in_ok-serve_asked-in-serve.ensures.asked store port count rule (subst (λ r. AreServeRows r store port count rule) rows enters.found)
+    c.in_ok-serve_asked-in-serve.ensures.asked store place count rule (subst (λ r. AreServeRows r store place count rule) rows enters.found)
 
 pub returns-in_err-import_asked-in-import-clause-import : goal.returns-in_err-import_asked-in-import-clause-import
 returns-in_err-import_asked-in-import-clause-import c = λ store key sheet moment rule enters.
@@ -89,6 +90,10 @@ returns-in_ok-init_asked-in-init-clause-zone c = λ name rows into clocks.
 pub returns-in_ok-serve_asked-in-serve-clause-zone : goal.returns-in_ok-serve_asked-in-serve-clause-zone
 returns-in_ok-serve_asked-in-serve-clause-zone c = λ name rows into clocks.
     subst HasZoneRule (sym (rows_met c.args.matches.now name rows _ into (sym c.in_ok-name.ensures.rows))) (c.in_ok-serve_asked-in-serve.ensures.zone)
+
+pub returns-in_ok-serve_asked-in-serve-clause-timeouts : goal.returns-in_ok-serve_asked-in-serve-clause-timeouts
+returns-in_ok-serve_asked-in-serve-clause-timeouts c = λ rows into.
+    timed_met _ rows _ (rows_met c.args.matches.now _ rows _ into (sym c.in_ok-name.ensures.rows)) c.in_ok-serve_asked-in-serve.ensures.timeouts
 
 pub returns-in_ok-import_asked-in-import-clause-zone : goal.returns-in_ok-import_asked-in-import-clause-zone
 returns-in_ok-import_asked-in-import-clause-zone c = λ name rows into clocks.

@@ -2,17 +2,18 @@ use Rattle.std.proofs.Common.{◌≡◌, ◌∙◌, ◌⊎◌, codes, inl, inr, 
 use Rattle.clap.specs.Words.{app_of, subcommand_rows_of}
 use Rattle.rd_commands.specs.Asks.{IsForMemory, IsTold}
 use Rattle.rd_commands.specs.CommandLine.{IsTaken, IsTakenAs}
-use Rattle.rd_commands.specs.Commands.{NamesWhatItShows, TellsARule}
-use Rattle.rd_commands.specs.declared.words.Unread.TheVariants.{Day, Usage}
-use Rattle.rd_commands.proofs.GetterLemmas.{GivesRows, ask_given, ask_accession, ask_read, ask_unread, day_mistake, day_no_fault, day_or_memory, entered_is, fails_for_memory, names_what_it_shows, never_faulty, no_day, no_fault_in, on_ok_always, passed_on, rule_read, taken_by, taken_on_output, taken_showing, unnamed, unread_usage, words_at_fault, words_taken}
+use Rattle.rd_commands.specs.Commands.{NamesAPlace, NamesWhatItShows, TellsARule}
+use Rattle.rd_commands.specs.declared.words.Unread.TheVariants.{Day, Place as NoPlace, Usage}
+use Rattle.rd_commands.proofs.GetterLemmas.{GivesRows, ask_given, ask_accession, ask_read, ask_unread, entered_is, fails_for_memory, names_what_it_shows, never_faulty, no_day, no_fault_in, on_ok_always, passed_on, rule_read, taken_by, taken_on_output, taken_serving, taken_showing, unread_usage, words_at_fault, words_taken}
 use Rattle.rd_commands.proofs.HelpLine.{help_not_parsed, help_unread, not_help}
+use Rattle.rd_commands.proofs.Places.{look_mistake, look_no_fault, look_not_placed, look_not_shown, look_unread, names_a_place, no_place_of}
 use Rattle.rd_commands.proofs.VersionLine.{not_version, version_not_parsed, version_unread}
 use Rattle.rd_commands.proofs.words.read_by.Goals as goal
 
 pub returns-in_ok-shown-in-Ok-clause-read : goal.returns-in_ok-shown-in-Ok-clause-read
 returns-in_ok-shown-in-Ok-clause-read c =
     let words = map (λ word. word.now) c.args.words.now in
-    let rows : GivesRows (subcommand_rows_of c.in-Ok.matches) c.in_ok-shown-in-Ok.shown c.ask_found.result = record { file = c.ask_found.ensures.file; files = c.ask_found.ensures.files; init = c.ask_found.ensures.init; serve = c.ask_found.ensures.serve; import = c.ask_found.ensures.import; export = c.ask_found.ensures.export; check = c.ask_found.ensures.check; show = c.ask_found.ensures.show } in
+    let rows : GivesRows (subcommand_rows_of c.in-Ok.matches) c.in_ok-shown-in-Ok.shown c.ask_found.result = record { file = c.ask_found.ensures.file; files = c.ask_found.ensures.files; init = c.ask_found.ensures.init; serve = c.ask_found.ensures.serve; timeouts = c.ask_found.ensures.timeouts; import = c.ask_found.ensures.import; export = c.ask_found.ensures.export; check = c.ask_found.ensures.check; show = c.ask_found.ensures.show } in
     ask_read c.ask_found.result Usage c.ok_or.result words c.ok_or.ensures.value
     (ask_given c.ask_found.result c.in_ok-shown-in-Ok.shown (app_of c.args.desk) words c.in-Ok.matches c.requires c.in-Ok.ensures.matches c.in_ok-shown-in-Ok.ensures.named rows)
 
@@ -22,7 +23,7 @@ returns-in_ok-shown-in-Ok-clause-accession c = ask_accession c.ask_found.result 
 pub returns-in_ok-shown-in-Ok-clause-unread : goal.returns-in_ok-shown-in-Ok-clause-unread
 returns-in_ok-shown-in-Ok-clause-unread c =
     let words = map (λ word. word.now) c.args.words.now in
-    let rows : GivesRows (subcommand_rows_of c.in-Ok.matches) c.in_ok-shown-in-Ok.shown c.ask_found.result = record { file = c.ask_found.ensures.file; files = c.ask_found.ensures.files; init = c.ask_found.ensures.init; serve = c.ask_found.ensures.serve; import = c.ask_found.ensures.import; export = c.ask_found.ensures.export; check = c.ask_found.ensures.check; show = c.ask_found.ensures.show } in
+    let rows : GivesRows (subcommand_rows_of c.in-Ok.matches) c.in_ok-shown-in-Ok.shown c.ask_found.result = record { file = c.ask_found.ensures.file; files = c.ask_found.ensures.files; init = c.ask_found.ensures.init; serve = c.ask_found.ensures.serve; timeouts = c.ask_found.ensures.timeouts; import = c.ask_found.ensures.import; export = c.ask_found.ensures.export; check = c.ask_found.ensures.check; show = c.ask_found.ensures.show } in
     ask_unread c.ask_found.result Usage c.ok_or.result words IsForMemory c.ok_or.ensures.value
     (ask_given c.ask_found.result c.in_ok-shown-in-Ok.shown (app_of c.args.desk) words c.in-Ok.matches c.requires c.in-Ok.ensures.matches c.in_ok-shown-in-Ok.ensures.named rows)
 
@@ -93,28 +94,67 @@ returns-in-Err-clause-none_shown c =
       | inr found ↦ absurd (none (λ rows enters. absurd (no_fault_in words (codes "show") rows _ enters found)))
     ]
 
--- ---- words of `show` that name nothing
+-- ---- the place
+
+pub returns-in_ok-shown-in-Ok-clause-place : goal.returns-in_ok-shown-in-Ok-clause-place
+returns-in_ok-shown-in-Ok-clause-place c =
+    on_ok_always c.ok_or.result (names_a_place (app_of c.args.desk) _ c.in-Ok.matches c.requires c.in-Ok.ensures.matches c.in_ok-shown-in-Ok.ensures.place)
+
+pub returns-in_ok-shown-in-Ok-clause-no_place : goal.returns-in_ok-shown-in-Ok-clause-no_place
+returns-in_ok-shown-in-Ok-clause-no_place c =
+    never_faulty (NamesAPlace (map (λ word. word.now) c.args.words.now)) (λ fault. (fault ≡ NoPlace) ⊎ IsForMemory fault) c.ok_or.result
+    (names_a_place (app_of c.args.desk) _ c.in-Ok.matches c.requires c.in-Ok.ensures.matches c.in_ok-shown-in-Ok.ensures.place)
+
+pub returns-in_ok-shown-in-Ok-clause-placeless : goal.returns-in_ok-shown-in-Ok-clause-placeless
+returns-in_ok-shown-in-Ok-clause-placeless c =
+    no_place_of (λ fault. IsTakenAs (codes "serve") (map (λ word. word.now) c.args.words.now)) c.ask_found.result c.ok_or.result c.ok_or.ensures.value
+
+pub returns-in-Err-clause-placeless : goal.returns-in-Err-clause-placeless
+returns-in-Err-clause-placeless c = λ place. absurd cc
+
+pub returns-in-Err-clause-no_place : goal.returns-in-Err-clause-no_place
+returns-in-Err-clause-no_place c =
+    let words = map (λ word. word.now) c.args.words.now in
+    let wrong = words_at_fault (app_of c.args.desk) _ c.in-Err.error c.requires c.in-Err.ensures.kinds in
+    λ none. elim wrong [
+      | inl out ↦ inr out
+      | inr found ↦ absurd (none (λ rows enters. absurd (no_fault_in words (codes "serve") rows _ enters found)))
+    ]
+
+-- ---- words of `show` that name nothing, and of `serve` that name no place or two
 
 pub returns-in_err-shown-in-Ok-clause-unread : goal.returns-in_err-shown-in-Ok-clause-unread
 returns-in_err-shown-in-Ok-clause-unread c =
     passed_on c.from_residual.result c.in_err-shown-in-Ok.field-0.0 _ c.from_residual.ensures.1
-    (unnamed (app_of c.args.desk) _ c.in-Ok.matches c.in_err-shown-in-Ok.field-0.0 c.requires c.in-Ok.ensures.matches c.in_err-shown-in-Ok.ensures.failed
-    c.in_err-shown-in-Ok.ensures.none)
+    (look_unread (app_of c.args.desk) _ c.in-Ok.matches c.requires c.in-Ok.ensures.matches c.in_err-shown-in-Ok.field-0.0 c.in_err-shown-in-Ok.ensures.failed
+    c.in_err-shown-in-Ok.ensures.none c.in_err-shown-in-Ok.ensures.no_place)
 
 pub returns-in_err-shown-in-Ok-clause-mistake_in : goal.returns-in_err-shown-in-Ok-clause-mistake_in
 returns-in_err-shown-in-Ok-clause-mistake_in c =
     passed_on c.from_residual.result c.in_err-shown-in-Ok.field-0.0 _ c.from_residual.ensures.1
-    (day_no_fault _ c.in_err-shown-in-Ok.field-0.0 c.in_err-shown-in-Ok.ensures.failed)
+    (look_no_fault _ c.in_err-shown-in-Ok.field-0.0 c.in_err-shown-in-Ok.ensures.failed)
 
 pub returns-in_err-shown-in-Ok-clause-no_rule : goal.returns-in_err-shown-in-Ok-clause-no_rule
 returns-in_err-shown-in-Ok-clause-no_rule c =
     passed_on c.from_residual.result c.in_err-shown-in-Ok.field-0.0 _ c.from_residual.ensures.1
-    (λ none. day_mistake c.in_err-shown-in-Ok.field-0.0 c.in_err-shown-in-Ok.ensures.failed)
+    (λ none. look_mistake c.in_err-shown-in-Ok.field-0.0 c.in_err-shown-in-Ok.ensures.failed)
 
 pub returns-in_err-shown-in-Ok-clause-none_shown : goal.returns-in_err-shown-in-Ok-clause-none_shown
 returns-in_err-shown-in-Ok-clause-none_shown c =
     passed_on c.from_residual.result c.in_err-shown-in-Ok.field-0.0 _ c.from_residual.ensures.1
-    (λ none. day_or_memory c.in_err-shown-in-Ok.field-0.0 c.in_err-shown-in-Ok.ensures.failed)
+    (look_not_shown (app_of c.args.desk) _ c.in-Ok.matches c.requires c.in-Ok.ensures.matches c.in_err-shown-in-Ok.field-0.0 c.in_err-shown-in-Ok.ensures.failed
+    c.in_err-shown-in-Ok.ensures.none c.in_err-shown-in-Ok.ensures.no_place)
+
+pub returns-in_err-shown-in-Ok-clause-no_place : goal.returns-in_err-shown-in-Ok-clause-no_place
+returns-in_err-shown-in-Ok-clause-no_place c =
+    passed_on c.from_residual.result c.in_err-shown-in-Ok.field-0.0 _ c.from_residual.ensures.1
+    (look_not_placed (app_of c.args.desk) _ c.in-Ok.matches c.requires c.in-Ok.ensures.matches c.in_err-shown-in-Ok.field-0.0 c.in_err-shown-in-Ok.ensures.failed
+    c.in_err-shown-in-Ok.ensures.none c.in_err-shown-in-Ok.ensures.no_place)
+
+pub returns-in_err-shown-in-Ok-clause-placeless : goal.returns-in_err-shown-in-Ok-clause-placeless
+returns-in_err-shown-in-Ok-clause-placeless c =
+    passed_on c.from_residual.result c.in_err-shown-in-Ok.field-0.0 _ c.from_residual.ensures.1
+    (λ place. taken_serving (app_of c.args.desk) _ c.in-Ok.matches c.requires c.in-Ok.ensures.matches c.in-Ok.ensures.kinds (c.in_err-shown-in-Ok.ensures.no_place place))
 
 pub returns-in_err-shown-in-Ok-clause-day : goal.returns-in_err-shown-in-Ok-clause-day
 returns-in_err-shown-in-Ok-clause-day c =

@@ -4,23 +4,22 @@ use Rattle.rd_commands.proofs.GetterLemmas.{text_is, text_there}
 use Rattle.rd_commands.proofs.words.serve_asked.Goals as goal
 
 pub returns-in_err-get_str-clause-asked : goal.returns-in_err-get_str-clause-asked
-returns-in_err-get_str-clause-asked c = λ store port count rule rows. absurd (text_there (found_of c.args.found.now) (codes "store") store c.in_err-get_str.ensures rows.store_found)
+returns-in_err-get_str-clause-asked c = λ store place count rule rows. absurd (text_there (found_of c.args.found.now) (codes "store") store c.in_err-get_str.ensures rows.store_found)
 
-pub returns-in_err-port_asked-clause-asked : goal.returns-in_err-port_asked-clause-asked
-returns-in_err-port_asked-clause-asked c = λ store port count rule rows.
-    let none = c.in_err-port_asked.ensures rows.port_text port rows.port_found rows.port_number in absurd (cc none)
+pub returns-in_err-place_asked-clause-asked : goal.returns-in_err-place_asked-clause-asked
+returns-in_err-place_asked-clause-asked c = λ store place count rule rows. absurd (c.in_err-place_asked.ensures.asked place rows.place_named)
 
 pub returns-in_err-count_asked-clause-asked : goal.returns-in_err-count_asked-clause-asked
-returns-in_err-count_asked-clause-asked c = λ store port count rule rows.
+returns-in_err-count_asked-clause-asked c = λ store place count rule rows.
     let none = c.in_err-count_asked.ensures rows.count_text count rows.count_found rows.count_number in absurd (cc none)
 
 pub returns-in_err-zone_asked-clause-asked : goal.returns-in_err-zone_asked-clause-asked
-returns-in_err-zone_asked-clause-asked c = λ store port count rule rows. absurd (c.in_err-zone_asked.ensures.asked rule rows.rule_named)
+returns-in_err-zone_asked-clause-asked c = λ store place count rule rows. absurd (c.in_err-zone_asked.ensures.asked rule rows.rule_named)
 
 pub returns-clause-asked : goal.returns-clause-asked
-returns-clause-asked c = λ store port count rule rows. record {
+returns-clause-asked c = λ store place count rule rows. record {
   store_is = text_is (found_of c.args.found.now) (codes "store") _ store c.in_ok-get_str.ensures rows.store_found;
-  port_is = let same = c.in_ok-port_asked.ensures rows.port_text port rows.port_found rows.port_number in cc;
+  place_is = c.in_ok-place_asked.ensures.asked place rows.place_named;
   count_is = let same = c.in_ok-count_asked.ensures rows.count_text count rows.count_found rows.count_number in cc;
   zone_is = c.in_ok-zone_asked.ensures.asked rule rows.rule_named;
 }

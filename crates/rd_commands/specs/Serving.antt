@@ -1,0 +1,43 @@
+-- Where `serve` has visits come, and how long a visitor may take, as its words give them.
+use Rattle.std.specs.Prelude.{◌≡◌, ℕ, List, None, Ok, Option, Some, codes}
+use Rattle.std.specs.Str.Parse.{ParsesUnsigned}
+use Rattle.std.specs.declared.num.ParseIntError.{ParseIntError}
+use Rattle.clap.specs.Words.{Row, first_of, one_of}
+use Rattle.rd_commands.specs.declared.serving.Place.{Place as Clap}
+use Rattle.rd_commands.specs.declared.serving.Place.TheVariants as told
+use Rattle.rd_commands.specs.declared.serving.Timeouts.{Timeouts}
+
+-- a place at which visits come: a port of the machine itself, or a Unix socket at a path
+pub data Place : Type 0 where
+  Port : ℕ → Place
+  Socket : List ℕ → Place
+
+-- the place that the program was told
+abbrev pub place_of : Clap → Place
+place_of (told.Port port) = Port port
+place_of (told.Socket path) = Socket path.now
+
+-- an option gives this number: it is there, and its text writes the number
+abbrev pub IsNumberTold : Option (List ℕ) → ℕ → Type 0
+IsNumberTold told number = (text : List ℕ) × (told ≡ Some text) × ParsesUnsigned {E = ParseIntError} 16 10 text (Ok number)
+
+-- what `clap` found names this place: the option of the other sort of place is absent
+abbrev pub NamesPlace : List Row → Place → Type 0
+NamesPlace rows (Port port) = IsNumberTold (one_of (codes "port") rows) port × (first_of (codes "socket") rows ≡ None)
+NamesPlace rows (Socket path) = (first_of (codes "socket") rows ≡ Some path) × (first_of (codes "port") rows ≡ None)
+
+-- it names one
+abbrev pub NamesOnePlace : List Row → Type 0
+NamesOnePlace rows = (place : Place) × NamesPlace rows place
+
+-- what an option for seconds gives: the number that its text writes, and the usual one if it is absent
+abbrev pub AreSeconds : ℕ → Option (List ℕ) → ℕ → Type 0
+AreSeconds usual (Some text) seconds = (number : ℕ) → ParsesUnsigned {E = ParseIntError} 16 10 text (Ok number) → seconds ≡ number
+AreSeconds usual None seconds = seconds ≡ usual
+
+-- what `clap` found gives these seconds: ten for a request, ten for a write and sixty for a reply where an option is
+-- absent
+pub record GivesTimeouts (rows : List Row) (timeouts : Timeouts) : Type 0 where
+  pub request : AreSeconds 10 (one_of (codes "request-timeout") rows) timeouts.request
+  pub write : AreSeconds 10 (one_of (codes "write-timeout") rows) timeouts.write
+  pub reply : AreSeconds 60 (one_of (codes "reply-timeout") rows) timeouts.reply

@@ -1,0 +1,117 @@
+//! Where `serve` has visits come, and how long a visitor may take, as its words give them.
+
+ghost use Rattle.std.specs.Prelude.{◌≡◌, IfErr, IfSome, IsSomeAnd, List, None, Ok, OnOk, Some, codes, ℕ};
+ghost use Rattle.std.specs.Str.Parse.{ParsesUnsigned};
+ghost use Rattle.std.specs.declared.num.ParseIntError.{ParseIntError};
+ghost use Rattle.clap.specs.Words.{first_of, found_of, one_of, rows_of, subcommand_rows_of};
+ghost use Rattle.rd_commands.specs.Asks.{EntersAtAPlace, EntersNoPlace};
+ghost use Rattle.rd_commands.specs.Serving.{AreSeconds, GivesTimeouts, IsNumberTold, NamesOnePlace, NamesPlace, place_of};
+ghost use Rattle.rd_commands.specs.Serving.Place.{Socket};
+ghost use Rattle.rd_commands.specs.Serving as spec;
+ghost use Rattle.rd_commands.specs.declared.words.Unread.TheVariants as Unread;
+
+use crate::words::Unread;
+use clap::ArgMatches;
+
+/// Where visits come.
+#[derive(Clone, Copy, Debug)]
+pub enum Place<'a> {
+    /// At a port of the machine itself, 1 to 65,535.
+    Port(u16),
+    /// At a Unix socket at a path.
+    Socket(&'a str),
+}
+
+/// How long a visitor may take, in seconds, 1 to 3,600 each.
+#[derive(Clone, Copy, Debug)]
+pub struct Timeouts {
+    /// For the whole request.
+    pub request: u16,
+    /// For each write, until the visitor takes a byte of it.
+    pub write: u16,
+    /// For the whole reply.
+    pub reply: u16,
+}
+
+/// The port that its option reads as, `None` if there is none.
+fn port_asked(found: &ArgMatches) -> Option<u16>
+    ensures asked { (text : List ℕ) (port : ℕ)
+        → one_of (codes "port") (rows_of (found_of found.now)) ≡ Some text
+        → ParsesUnsigned {E = ParseIntError} 16 10 text (Ok port) → result ≡ Some port }
+    ensures told { IfSome result (IsNumberTold (one_of (codes "port") (rows_of (found_of found.now)))) }
+{
+    found.get_one::<u16>("port")
+}
+
+/// The Unix socket at a path, as the place; `None` if there is a port as well.
+fn socket_alone<'a>(found: &ArgMatches, path: &'a str) -> Option<Place<'a>>
+    ensures alone { first_of (codes "port") (rows_of (found_of found.now)) ≡ None
+        → IsSomeAnd result (λ told. place_of told ≡ Socket path.now) }
+    ensures named { IfSome result (λ told. (place_of told ≡ Socket path.now)
+        × (first_of (codes "port") (rows_of (found_of found.now)) ≡ None)) }
+{
+    match found.get_str("port") {
+        Some(_) => None,
+        None => Some(Place::Socket(path)),
+    }
+}
+
+/// The place that one of its two options gives; `None` if none does, or both do.
+pub(crate) fn place_asked<'a>(found: &ArgMatches<'a>) -> Option<Place<'a>>
+    ensures asked { (place : spec.Place) → NamesPlace (rows_of (found_of found.now)) place
+        → IsSomeAnd result (λ told. place_of told ≡ place) }
+    ensures named { IfSome result (λ told. NamesPlace (rows_of (found_of found.now)) (place_of told)) }
+{
+    match found.get_str("socket") {
+        Some(path) => socket_alone(found, path),
+        None => Some(Place::Port(port_asked(found)?)),
+    }
+}
+
+/// Looks whether the options of `serve` name one place.
+///
+/// It fails with `Place` when they name none, and when they name two.
+fn one_place(found: &ArgMatches) -> Result<(), Unread>
+    ensures named { OnOk result (NamesOnePlace (rows_of (found_of found.now))) }
+    ensures none { IfErr result (λ _. ¬ NamesOnePlace (rows_of (found_of found.now))) }
+    ensures failed { IfErr result (λ fault. fault ≡ Unread.Place) }
+{
+    match place_asked(found) {
+        Some(_) => Ok(()),
+        None => Err(Unread::Place),
+    }
+}
+
+/// Looks whether `serve` has one place, from a parse of the words; there is nothing to look at if they are of another
+/// command.
+///
+/// It fails as `one_place` does.
+pub(crate) fn has_place(matches: &ArgMatches) -> Result<(), Unread>
+    ensures named { OnOk result (EntersAtAPlace (subcommand_rows_of matches.now)) }
+    ensures none { IfErr result (λ _. EntersNoPlace (subcommand_rows_of matches.now)) }
+    ensures failed { IfErr result (λ fault. fault ≡ Unread.Place) }
+{
+    match matches.subcommand_matches("serve") {
+        Some(found) => one_place(found),
+        None => Ok(()),
+    }
+}
+
+/// The seconds that an option gives, and so many if it is absent.
+fn seconds_asked(found: &ArgMatches, name: &str, usual: u16) -> u16
+    ensures { AreSeconds usual (one_of name.now (rows_of (found_of found.now))) result }
+{
+    found.get_one::<u16>(name).unwrap_or(usual)
+}
+
+/// How long a visitor may take, as the options give it: ten seconds for a request, ten for a write and sixty for a
+/// reply where they do not.
+pub(crate) fn timeouts_asked(found: &ArgMatches) -> Timeouts
+    ensures { GivesTimeouts (rows_of (found_of found.now)) result }
+{
+    Timeouts {
+        request: seconds_asked(found, "request-timeout", 10),
+        write: seconds_asked(found, "write-timeout", 10),
+        reply: seconds_asked(found, "reply-timeout", 60),
+    }
+}
