@@ -13,10 +13,11 @@ use Rattle.rd_store.proofs.Laws.{lasts_then}
 use Rattle.rd_http.specs.declared.serve.Ended.{Ended}
 use Rattle.rd_http.specs.declared.serve.Ended.TheVariants as ended
 use Rattle.rd_commands.specs.Asks.{IsImportAsk, IsOneQuestionAsk, IsServeAsk}
-use Rattle.rd_program.specs.Leaves.{HasListened, IsDayAt, IsDayBy, Leaves, LeavesBy, LeavesRefused, LeavesServe, LeavesStore, NamesOpening, StepsOf, TakesIn, moment_of}
+use Rattle.rd_program.specs.Leaves.{HasListened, IsDayAt, IsDayBy, Leaves, LeavesBy, LeavesRefused, LeavesServeAt, LeavesStore, NamesOpening, StepsOf, TakesIn, moment_of}
 use Rattle.rd_commands.specs.Output.{AppendsPart}
+use Rattle.rd_commands.specs.Serving.{Place, place_of}
 use Rattle.rd_commands.specs.Refusals.{IsDeviceOrMemory}
-use Rattle.rd_program.specs.Serving.{RefusesToEnd, listening_line, served_line}
+use Rattle.rd_program.specs.Serving.{RefusesToEnd, listening_at, served_line}
 use Rattle.rd_commands.specs.declared.refusal.Refusal.{Refusal}
 use Rattle.rd_commands.specs.declared.refusal.Refusal.TheVariants.{Device, NoMemory}
 use Rattle.rd_commands.specs.declared.words.Ask.{Ask}
@@ -49,56 +50,56 @@ module _ {S : Type 0} (g : Ghosts S) where
   opened_left was old new opened conn is same took = after_opening g was old new (IsMigrated g) opened opened conn is (λ before at. at) same took
 
   -- the device failed, or memory was refused, before the first
-  pub serve_not_begun : (was old new : Option (Held S)) (port : ℕ) (out written : Option (List ℕ)) (refusal : Refusal) → IsDeviceOrMemory refusal
-      → Leaves was old new (IsMigrated g) → LeavesServe g was old new port out written refusal
-  serve_not_begun was old new port out written Device failure left = inr left
-  serve_not_begun was old new port out written NoMemory failure left = inr left
-  serve_not_begun was old new port out written refusal failure left = absurd failure
+  pub serve_not_begun : (was old new : Option (Held S)) (place : Place) (out written : Option (List ℕ)) (refusal : Refusal) → IsDeviceOrMemory refusal
+      → Leaves was old new (IsMigrated g) → LeavesServeAt g was old new place out written refusal
+  serve_not_begun was old new place out written Device failure left = inr left
+  serve_not_begun was old new place out written NoMemory failure left = inr left
+  serve_not_begun was old new place out written refusal failure left = absurd failure
 
   -- after they began, the first line is written
-  listened_part : (port visits : ℕ) (out mid written : Option (List ℕ)) → Appends out mid (listening_line port) → AppendsPart mid written (served_line visits)
-      → HasListened port out written
-  listened_part port visits out mid written first part = (part.part, Appends-trans out mid written (listening_line port) part.part first part.gained)
+  listened_part : (place : Place) (visits : ℕ) (out mid written : Option (List ℕ)) → Appends out mid (listening_at place) → AppendsPart mid written (served_line visits)
+      → HasListened place out written
+  listened_part place visits out mid written first part = (part.part, Appends-trans out mid written (listening_at place) part.part first part.gained)
 
-  listened_kept : (port : ℕ) (out mid written : Option (List ℕ)) → Appends out mid (listening_line port) → Keeps mid written → HasListened port out written
-  listened_kept port out mid written first kept =
-      ([], subst (Appends out written) (sym (append-nil (listening_line port))) (Appends-kept out mid written (listening_line port) first kept))
+  listened_kept : (place : Place) (out mid written : Option (List ℕ)) → Appends out mid (listening_at place) → Keeps mid written → HasListened place out written
+  listened_kept place out mid written first kept =
+      ([], subst (Appends out written) (sym (append-nil (listening_at place))) (Appends-kept out mid written (listening_at place) first kept))
 
-  of_device : (was old new : Option (Held S)) (port : ℕ) (out written : Option (List ℕ)) (refusal : Refusal) → IsDeviceOrMemory refusal
-      → HasListened port out written → LeavesServe g was old new port out written refusal
-  of_device was old new port out written Device failure first = inl first
-  of_device was old new port out written NoMemory failure first = inl first
-  of_device was old new port out written refusal failure first = absurd failure
+  of_device : (was old new : Option (Held S)) (place : Place) (out written : Option (List ℕ)) (refusal : Refusal) → IsDeviceOrMemory refusal
+      → HasListened place out written → LeavesServeAt g was old new place out written refusal
+  of_device was old new place out written Device failure first = inl first
+  of_device was old new place out written NoMemory failure first = inl first
+  of_device was old new place out written refusal failure first = absurd failure
 
-  ended_left : (was old new : Option (Held S)) (how : Ended) (port visits : ℕ) (out mid written : Option (List ℕ)) (refusal : Refusal)
-      → Appends out mid (listening_line port) → RefusesToEnd how visits mid written refusal → LeavesServe g was old new port out written refusal
-  ended_left was old new ended.Count port visits out mid written refusal first refused =
-      of_device was old new port out written refusal refused.0 (listened_part port visits out mid written first refused.1)
-  ended_left was old new ended.Clock port visits out mid written refusal first refused =
-      subst (LeavesServe g was old new port out written) (sym refused.0) (listened_kept port out mid written first refused.1)
-  ended_left was old new ended.Shut port visits out mid written refusal first refused =
-      subst (LeavesServe g was old new port out written) (sym refused.0) (inl (listened_kept port out mid written first refused.1))
+  ended_left : (was old new : Option (Held S)) (how : Ended) (place : Place) (visits : ℕ) (out mid written : Option (List ℕ)) (refusal : Refusal)
+      → Appends out mid (listening_at place) → RefusesToEnd how visits mid written refusal → LeavesServeAt g was old new place out written refusal
+  ended_left was old new ended.Count place visits out mid written refusal first refused =
+      of_device was old new place out written refusal refused.0 (listened_part place visits out mid written first refused.1)
+  ended_left was old new ended.Clock place visits out mid written refusal first refused =
+      subst (LeavesServeAt g was old new place out written) (sym refused.0) (listened_kept place out mid written first refused.1)
+  ended_left was old new ended.Shut place visits out mid written refusal first refused =
+      subst (LeavesServeAt g was old new place out written) (sym refused.0) (inl (listened_kept place out mid written first refused.1))
 
-  pub serve_ended : {T : Type 0} (r : Result T Refusal) (was old new : Option (Held S)) (how : Ended) (port visits : ℕ) (out mid written : Option (List ℕ))
-      → Appends out mid (listening_line port) → IfErr r (RefusesToEnd how visits mid written) → IfErr r (LeavesServe g was old new port out written)
-  serve_ended (Ok value) was old new how port visits out mid written first refused = tt
-  serve_ended (Err refusal) was old new how port visits out mid written first refused = ended_left was old new how port visits out mid written refusal first refused
+  pub serve_ended : {T : Type 0} (r : Result T Refusal) (was old new : Option (Held S)) (how : Ended) (place : Place) (visits : ℕ) (out mid written : Option (List ℕ))
+      → Appends out mid (listening_at place) → IfErr r (RefusesToEnd how visits mid written) → IfErr r (LeavesServeAt g was old new place out written)
+  serve_ended (Ok value) was old new how place visits out mid written first refused = tt
+  serve_ended (Err refusal) was old new how place visits out mid written first refused = ended_left was old new how place visits out mid written refusal first refused
 
   -- ---- by what is asked for
 
   module _ (clock : Option ℤ) (was : Option (Held S)) (stands : List ℕ → Option (Held S)) (new : Option (Held S)) where
-    pub serve_leaves : (ask : Ask) (store : List ℕ) (port count : ℕ) (rule : List ℕ) → IsServeAsk store port count rule ask → LeavesBy g clock was stands new ask
+    pub serve_leaves : (ask : Ask) (store : List ℕ) (place : Place) (count : ℕ) (rule : List ℕ) → IsServeAsk store place count rule ask → LeavesBy g clock was stands new ask
         → Leaves was (stands store) new (Lasts g)
-    serve_leaves (Serve ask) store port count rule asks leaves = subst (λ s. Leaves was (stands s) new (Lasts g)) asks.store_is leaves
-    serve_leaves ask store port count rule asks leaves = absurd asks
+    serve_leaves (Serve ask) store place count rule asks leaves = subst (λ s. Leaves was (stands s) new (Lasts g)) asks.store_is leaves
+    serve_leaves ask store place count rule asks leaves = absurd asks
 
-    pub serve_refused : (ask : Ask) (store : List ℕ) (port count : ℕ) (rule : List ℕ) (out written : Option (List ℕ)) (refusal : Refusal)
-        → IsServeAsk store port count rule ask → LeavesRefused g was stands new out written ask refusal
-        → LeavesServe g was (stands store) new port out written refusal
-    serve_refused (Serve ask) store port count rule out written refusal asks left =
-        subst (λ p. LeavesServe g was (stands store) new p out written refusal) asks.port_is
-        (subst (λ s. LeavesServe g was (stands s) new ask.port out written refusal) asks.store_is left)
-    serve_refused ask store port count rule out written refusal asks left = absurd asks
+    pub serve_refused : (ask : Ask) (store : List ℕ) (place : Place) (count : ℕ) (rule : List ℕ) (out written : Option (List ℕ)) (refusal : Refusal)
+        → IsServeAsk store place count rule ask → LeavesRefused g was stands new out written ask refusal
+        → LeavesServeAt g was (stands store) new place out written refusal
+    serve_refused (Serve ask) store place count rule out written refusal asks left =
+        subst (λ p. LeavesServeAt g was (stands store) new p out written refusal) asks.place_is
+        (subst (λ s. LeavesServeAt g was (stands s) new (place_of ask.place) out written refusal) asks.store_is left)
+    serve_refused ask store place count rule out written refusal asks left = absurd asks
 
     pub import_leaves : (ask : Ask) (store key sheet : List ℕ) (moment : Option ℤ) (rule : List ℕ) → IsImportAsk store key sheet moment rule ask
         → LeavesBy g clock was stands new ask → Leaves was (stands store) new (LeavesStore g (TakesIn (sha256 (trim_ows key)) (IsDayBy (moment_of moment clock) rule)))

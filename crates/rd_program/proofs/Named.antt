@@ -3,6 +3,7 @@ use Rattle.std.proofs.Common.{◌≡◌, ◌≢◌, ◌≤◌, Bool, ℕ, ℤ, L
 use Rattle.sqlite.specs.Held.{Held}
 use Rattle.rd_commands.specs.Asks.{IsImportAsk, IsInitAsk, IsOneQuestionAsk, IsServeAsk}
 use Rattle.rd_commands.specs.Commands.{IsAskOf, IsCommand}
+use Rattle.rd_commands.specs.Serving.{Place}
 use Rattle.rd_commands.specs.declared.words.Ask.{Ask}
 use Rattle.rd_commands.specs.declared.words.Ask.TheVariants.{Import, Init, OneQuestion, Serve}
 use Rattle.rd_commands.specs.declared.words.Question.{Question}
@@ -17,10 +18,10 @@ module _ {S : Type 0} (shows : Bool) (stands : List ℕ → Option (Held S)) (le
   init_both (Init ask) store key asks both = subst (λ s. HasBoth shows (stands s) left) asks.store_is both
   init_both ask store key asks both = absurd asks
 
-  serve_both : (ask : Ask) (store : List ℕ) (port count : ℕ) (rule : List ℕ) → IsServeAsk store port count rule ask → StandsThere shows stands left ask
+  serve_both : (ask : Ask) (store : List ℕ) (place : Place) (count : ℕ) (rule : List ℕ) → IsServeAsk store place count rule ask → StandsThere shows stands left ask
       → HasBoth shows (stands store) left
-  serve_both (Serve ask) store port count rule asks both = subst (λ s. HasBoth shows (stands s) left) asks.store_is both
-  serve_both ask store port count rule asks both = absurd asks
+  serve_both (Serve ask) store place count rule asks both = subst (λ s. HasBoth shows (stands s) left) asks.store_is both
+  serve_both ask store place count rule asks both = absurd asks
 
   import_both : (ask : Ask) (store key sheet : List ℕ) (moment : Option ℤ) (rule : List ℕ) → IsImportAsk store key sheet moment rule ask → StandsThere shows stands left ask
       → HasBoth shows (stands store) left
@@ -36,7 +37,7 @@ module _ {S : Type 0} (shows : Bool) (stands : List ℕ → Option (Held S)) (le
   pub has_both_by : (words : List (List ℕ)) (ask : Ask) (store : List ℕ) → IsAskOf words ask → NamesStore words store → StandsThere shows stands left ask
       → HasBoth shows (stands store) left
   has_both_by words ask store is (inl (key, asks)) = init_both ask store key (is.init store key asks)
-  has_both_by words ask store is (inr (inl (port, count, rule, asks))) = serve_both ask store port count rule (is.serve store port count rule asks)
+  has_both_by words ask store is (inr (inl (place, count, rule, asks))) = serve_both ask store place count rule (is.serve store place count rule asks)
   has_both_by words ask store is (inr (inr (moment, rule, inl (key, sheet, asks)))) = import_both ask store key sheet moment rule (is.import store key sheet moment rule asks)
   has_both_by words ask store is (inr (inr (moment, rule, inr (inl (key, asks))))) = once_both ask store key Catalogue moment rule (is.export store key moment rule asks)
   has_both_by words ask store is (inr (inr (moment, rule, inr (inr (inl (key, acc, asks)))))) = once_both ask store (Some key) (Check acc) moment rule (is.check store key acc moment rule asks)
@@ -56,9 +57,9 @@ module _ (old new : Option (List (List ℕ))) where
   init_asks (Init ask) store key asks by = subst (λ s. AsksNoOther old s new) asks.store_is (no_other ask.store.now by)
   init_asks ask store key asks by = absurd asks
 
-  serve_asks : (ask : Ask) (store : List ℕ) (port count : ℕ) (rule : List ℕ) → IsServeAsk store port count rule ask → AsksBy old ask new → AsksNoOther old store new
-  serve_asks (Serve ask) store port count rule asks by = subst (λ s. AsksNoOther old s new) asks.store_is (no_other ask.store.now by)
-  serve_asks ask store port count rule asks by = absurd asks
+  serve_asks : (ask : Ask) (store : List ℕ) (place : Place) (count : ℕ) (rule : List ℕ) → IsServeAsk store place count rule ask → AsksBy old ask new → AsksNoOther old store new
+  serve_asks (Serve ask) store place count rule asks by = subst (λ s. AsksNoOther old s new) asks.store_is (no_other ask.store.now by)
+  serve_asks ask store place count rule asks by = absurd asks
 
   import_asks : (ask : Ask) (store key sheet : List ℕ) (moment : Option ℤ) (rule : List ℕ) → IsImportAsk store key sheet moment rule ask → AsksBy old ask new
       → AsksNoOther old store new
@@ -73,7 +74,7 @@ module _ (old new : Option (List (List ℕ))) where
   -- a command asks for no other than the one that the words name
   pub asks_by : (words : List (List ℕ)) (ask : Ask) (store : List ℕ) → IsAskOf words ask → NamesStore words store → AsksBy old ask new → AsksNoOther old store new
   asks_by words ask store is (inl (key, asks)) = init_asks ask store key (is.init store key asks)
-  asks_by words ask store is (inr (inl (port, count, rule, asks))) = serve_asks ask store port count rule (is.serve store port count rule asks)
+  asks_by words ask store is (inr (inl (place, count, rule, asks))) = serve_asks ask store place count rule (is.serve store place count rule asks)
   asks_by words ask store is (inr (inr (moment, rule, inl (key, sheet, asks)))) = import_asks ask store key sheet moment rule (is.import store key sheet moment rule asks)
   asks_by words ask store is (inr (inr (moment, rule, inr (inl (key, asks))))) = once_asks ask store key Catalogue moment rule (is.export store key moment rule asks)
   asks_by words ask store is (inr (inr (moment, rule, inr (inr (inl (key, acc, asks)))))) = once_asks ask store (Some key) (Check acc) moment rule (is.check store key acc moment rule asks)
@@ -91,7 +92,7 @@ asked_then old mid new path asks same = subst (AsksPath old path) (sym same) ask
 -- words that name a store are a command
 pub command_of_store : (words : List (List ℕ)) (store : List ℕ) → NamesStore words store → IsCommand words
 command_of_store words store (inl (key, asks)) = inr (inr (inl (store, key, asks)))
-command_of_store words store (inr (inl (port, count, rule, asks))) = inr (inr (inr (inl (store, port, count, rule, asks))))
+command_of_store words store (inr (inl (place, count, rule, asks))) = inr (inr (inr (inl (store, place, count, rule, asks))))
 command_of_store words store (inr (inr (moment, rule, asks))) = command_at words store moment rule asks
 
 -- a status of at most 1 that is not 0

@@ -12,8 +12,7 @@ use Rattle.rd_http.specs.declared.serve.Served.{Served}
 use Rattle.rd_commands.specs.Asks.{IsServeAsk}
 use Rattle.rd_commands.specs.declared.words.Ask.{Ask}
 use Rattle.rd_commands.specs.declared.words.Ask.TheVariants.{Serve}
-use Rattle.rd_program.specs.Doors.{Place}
-use Rattle.rd_program.specs.Doors.Place.{Port}
+use Rattle.rd_commands.specs.Serving.{Place, place_of}
 use Rattle.rd_program.specs.Visiting.{RunsVisits, ServesBy, ServesDoor, ServesDoorBy, ServesVisits}
 use Rattle.rd_program.proofs.ShowLemmas.{ends_with}
 
@@ -54,13 +53,13 @@ module _ {S D : Type 0} (g : Ghosts S) (told : D → Option VisitsSoFar) (coming
   -- ---- by the words
 
   pub serves_by : (doors laters : Place → Option D) (stands : List ℕ → Option (Held S)) (left : Option (Held S)) (ask : Ask)
-      (store : List ℕ) (port count : ℕ) (rule : List ℕ) → IsServeAsk store port count rule ask → ServesBy g told coming doors laters stands left ask
-      → ServesDoorBy g told coming count rule (doors (Port port)) (laters (Port port)) (stands store) left
-  serves_by doors laters stands left (Serve ask) store port count rule asks serves = (
+      (store : List ℕ) (place : Place) (count : ℕ) (rule : List ℕ) → IsServeAsk store place count rule ask → ServesBy g told coming doors laters stands left ask
+      → ServesDoorBy g told coming count rule (doors place) (laters place) (stands store) left
+  serves_by doors laters stands left (Serve ask) store place count rule asks serves = (
     ask.zone,
     asks.zone_is,
-    subst (λ n. ServesDoor g told coming n ask.zone (doors (Port port)) (laters (Port port)) (stands store) left) asks.count_is
-        (subst (λ p. ServesDoor g told coming ask.count ask.zone (doors (Port p)) (laters (Port p)) (stands store) left) asks.port_is
-        (subst (λ s. ServesDoor g told coming ask.count ask.zone (doors (Port ask.port)) (laters (Port ask.port)) (stands s) left) asks.store_is serves)),
+    subst (λ n. ServesDoor g told coming n ask.zone (doors place) (laters place) (stands store) left) asks.count_is
+        (subst (λ p. ServesDoor g told coming ask.count ask.zone (doors p) (laters p) (stands store) left) asks.place_is
+        (subst (λ s. ServesDoor g told coming ask.count ask.zone (doors (place_of ask.place)) (laters (place_of ask.place)) (stands s) left) asks.store_is serves)),
   )
-  serves_by doors laters stands left ask store port count rule asks serves = absurd asks
+  serves_by doors laters stands left ask store place count rule asks serves = absurd asks

@@ -1,10 +1,7 @@
 -- The door that a machine lends, and the connections that it is asked for.
 use Rattle.std.specs.Prelude.{◌≡◌, ◌⊎◌, ℕ, Bool, IfSome, List, ◌∷◌, Option, Result, Some}
 use Rattle.std.specs.Borrow.{Fml, LendsSoOk, MutBor, RattleType}
-
--- a place at which visits come: a port of the machine itself
-pub data Place : Type 0 where
-  Port : ℕ → Place
+use Rattle.rd_commands.specs.Serving.{Place}
 
 -- a connection was asked for at this path, and at no other
 abbrev pub AsksPath : Option (List (List ℕ)) → List ℕ → Option (List (List ℕ)) → Type 0

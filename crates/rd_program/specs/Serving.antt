@@ -1,6 +1,9 @@
 -- What the command `serve` gives.
-use Rattle.std.specs.Prelude.{◌≡◌, ◌⊎◌, ℕ, ℤ, Err, IfSome, List, Ok, Option, Result, ◌++◌, codes}
+use Rattle.std.specs.Prelude.{◌≡◌, ◌*◌, ◌⊎◌, ℕ, ℤ, Err, IfSome, List, Ok, Option, Result, ◌++◌, codes}
+use Rattle.std.specs.Duration.{as_nanos}
 use Rattle.std.specs.Fmt.{decimal}
+use Rattle.rd_messages.specs.declared.pace.TimeLimits.{TimeLimits}
+use Rattle.rd_commands.specs.declared.serving.Timeouts.{Timeouts}
 use Rattle.std.specs.Io.KnownBytes.{Appends, Keeps}
 use Rattle.rd_policy.specs.Days.{HasDay}
 use Rattle.rd_http.specs.declared.serve.Ended.{Ended}
@@ -8,6 +11,8 @@ use Rattle.rd_http.specs.declared.serve.Ended.TheVariants as ended
 use Rattle.rd_commands.specs.Output.{AppendsPart}
 use Rattle.rd_commands.specs.Printed.{line_feed}
 use Rattle.rd_commands.specs.Refusals.{IsDeviceOrMemory}
+use Rattle.rd_commands.specs.Serving.{Place}
+use Rattle.rd_commands.specs.Serving.Place.{Port, Socket}
 use Rattle.rd_commands.specs.declared.refusal.Refusal.{Refusal}
 use Rattle.rd_commands.specs.declared.refusal.Refusal.TheVariants.{Clock, Device, Inconsistent, NoMemory, NotADesk, Store, Version}
 
@@ -15,13 +20,32 @@ use Rattle.rd_commands.specs.declared.refusal.Refusal.TheVariants.{Clock, Device
 abbrev pub listening_line : ℕ → List ℕ
 listening_line port = codes "listening 127.0.0.1:" ++ (decimal port ++ line_feed)
 
+-- and the line that says at the Unix socket of which path
+abbrev pub listening_on : List ℕ → List ℕ
+listening_on path = codes "listening " ++ (path ++ line_feed)
+
+-- the line that says where visits come
+abbrev pub listening_at : Place → List ℕ
+listening_at (Port port) = listening_line port
+listening_at (Socket path) = listening_on path
+
+-- a visitor may take so many seconds
+pub record AreLimitsOf (timeouts : Timeouts) (limits : TimeLimits) : Type 0 where
+  pub request : as_nanos limits.request ≡ timeouts.request * 1_000_000_000
+  pub write : as_nanos limits.write ≡ timeouts.write * 1_000_000_000
+  pub reply : as_nanos limits.reply ≡ timeouts.reply * 1_000_000_000
+
 -- the line that says how many visits were served
 abbrev pub served_line : ℕ → List ℕ
 served_line count = codes "served " ++ (decimal count ++ line_feed)
 
 -- both lines
+abbrev pub serve_text_at : Place → ℕ → List ℕ
+serve_text_at place count = listening_at place ++ served_line count
+
+-- and so at a port
 abbrev pub serve_text : ℕ → ℕ → List ℕ
-serve_text port count = listening_line port ++ served_line count
+serve_text port count = serve_text_at (Port port) count
 
 -- why the desk in the file of a store is not opened
 abbrev pub IsOpenRefusal : Refusal → Type 0
@@ -50,11 +74,15 @@ IsUnasked moment result = IfSome moment (λ seconds. ¬ HasDay seconds → IsRef
 
 -- Why `serve` fails, and what was written then: nothing if the desk was not opened, the first line
 -- if a moment had no day, and a front part of both lines if the device failed or memory ran out.
+abbrev pub RefusesServeAt : Refusal → Place → ℕ → Option (List ℕ) → Option (List ℕ) → Type 0
+RefusesServeAt Clock place count old new = Appends old new (listening_at place)
+RefusesServeAt Device place count old new = AppendsPart old new (serve_text_at place count)
+RefusesServeAt NoMemory place count old new = AppendsPart old new (serve_text_at place count)
+RefusesServeAt refusal place count old new = Keeps old new × IsOpenRefusal refusal
+
+-- and so at a port
 abbrev pub RefusesServe : Refusal → ℕ → ℕ → Option (List ℕ) → Option (List ℕ) → Type 0
-RefusesServe Clock port count old new = Appends old new (listening_line port)
-RefusesServe Device port count old new = AppendsPart old new (serve_text port count)
-RefusesServe NoMemory port count old new = AppendsPart old new (serve_text port count)
-RefusesServe refusal port count old new = Keeps old new × IsOpenRefusal refusal
+RefusesServe refusal port count old new = RefusesServeAt refusal (Port port) count old new
 
 -- Why a run of visits that ended so is no success, and what was written then: after all visits the
 -- device failed or memory ran out, a moment had no day, or the door shut.

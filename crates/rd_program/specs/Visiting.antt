@@ -14,8 +14,7 @@ use Rattle.rd_http.specs.declared.serve.Ended.TheVariants.{Count}
 use Rattle.rd_http.specs.declared.serve.Served.{Served}
 use Rattle.rd_commands.specs.declared.words.Ask.{Ask}
 use Rattle.rd_commands.specs.declared.words.Ask.TheVariants.{Serve}
-use Rattle.rd_program.specs.Doors.{Place}
-use Rattle.rd_program.specs.Doors.Place.{Port}
+use Rattle.rd_commands.specs.Serving.{Place, place_of}
 use Rattle.rd_program.specs.Showing.{EndsWith}
 
 -- The visits of a door, by what it tells of them before and after, are those of a run over a desk with the clocks of a
@@ -53,5 +52,5 @@ ServesDoorBy g told coming count rule door later stood left =
 abbrev pub ServesBy : {S D : Type 0} → Ghosts S → (D → Option VisitsSoFar) → (D → Option (List Coming)) → (Place → Option D) → (Place → Option D) → (List ℕ → Option (Held S))
     → Option (Held S) → Ask → Type 0
 ServesBy g told coming doors laters stands left (Serve ask) =
-    ServesDoor g told coming ask.count ask.zone (doors (Port ask.port)) (laters (Port ask.port)) (stands ask.store.now) left
+    ServesDoor g told coming ask.count ask.zone (doors (place_of ask.place)) (laters (place_of ask.place)) (stands ask.store.now) left
 ServesBy g told coming doors laters stands left ask = ⊤

@@ -10,21 +10,22 @@ ghost use Rattle.rd_program.specs.Asking.{RefusesOneQuestion, TellsCheck};
 ghost use Rattle.rd_commands.specs.Asks.{AsksADesk, AsksCheckOf, IsWithinLimits, IsFileAsk, IsFilesAsk, IsInitAsk, IsServeAsk, TellsInRows, TellsOnOutput, most_read};
 ghost use Rattle.rd_commands.specs.Cat.{HasNoSoundFile, IsCut, Refuses, Serves};
 ghost use Rattle.rd_commands.specs.CommandLine.{AsksForHelp, AsksForVersion, IsTaken, IsTakenTelling};
-ghost use Rattle.rd_commands.specs.Commands.{AsksCheck, AsksExport, AsksImport, AsksInit, AsksOfStore, AsksServe, AsksShow, IsCheckOf, IsCommand, IsImport, NamesWhatItShows, TellsARule};
+ghost use Rattle.rd_commands.specs.Commands.{AsksCheck, AsksExport, AsksImport, AsksInit, AsksOfStore, AsksServe, AsksServeAt, AsksShow, IsCheckOf, IsCommand, IsImport, NamesAPlace, NamesWhatItShows, TellsARule};
 ghost use Rattle.rd_program.specs.Importing.{GainsLines, IsDoneLine, IsRowLine, RefusesImport, TellsRows};
 ghost use Rattle.rd_program.specs.Inits.{LeavesInit, MakesDesk, RefusesInit, done_line};
 ghost use Rattle.rd_commands.specs.Input.{ReadsUpTo};
-ghost use Rattle.rd_program.specs.Leaves.{Checks, GivesBack, HasBoth, IsDayBy, IsSame, Leaves, LeavesBy, LeavesRefused, LeavesServe, LeavesStore, NamesOpening, OnEnded, StandsThere, TakesIn, moment_of};
+ghost use Rattle.rd_program.specs.Leaves.{Checks, GivesBack, HasBoth, IsDayBy, IsSame, Leaves, LeavesBy, LeavesRefused, LeavesServe, LeavesServeAt, LeavesStore, NamesOpening, OnEnded, StandsThere, TakesIn, moment_of};
 ghost use Rattle.rd_commands.specs.Listed.{Lists, RefusesList};
 ghost use Rattle.rd_commands.specs.Refusals.{IsDeviceOrMemory, status_of};
 ghost use Rattle.rd_program.specs.Rows.{ImportsBy, IsBadSheetDue, RefusesSheetBy, TakesSheetIn};
 ghost use Rattle.rd_policy.specs.Days.{HasDay};
 ghost use Rattle.rd_program.specs.Asked.{AsksAt, AsksBy, IsClockDue, IsClockDueBy, IsUnaskedBy, NamesStore};
-ghost use Rattle.rd_program.specs.Serving.{IsUnaskedRefusal, RefusesServe, serve_text};
+ghost use Rattle.rd_program.specs.Serving.{IsUnaskedRefusal, RefusesServe, RefusesServeAt, serve_text, serve_text_at};
 ghost use Rattle.rd_holdings.specs.declared.rows.Outcome.TheVariants as Outcome;
 ghost use Rattle.rd_protocol.specs.declared.request.What.TheVariants as What;
+ghost use Rattle.rd_commands.specs.Serving.{Place};
+ghost use Rattle.rd_commands.specs.Serving.Place.{Port};
 ghost use Rattle.rd_program.specs.Doors.{AsksNoOther};
-ghost use Rattle.rd_program.specs.Doors.Place.{Port};
 ghost use Rattle.rd_program.specs.Visiting.{ServesBy, ServesDoorBy};
 ghost use Rattle.rd_program.specs.DiskFiles.{GivesFile, IsOfImage};
 ghost use Rattle.rd_program.specs.Showing.{AnswersBy, EndsWith, FindsStore, IsDueIn, RefusesShow, ShowsStore, request_of, what_of};
@@ -77,10 +78,10 @@ fn perform<R: Read, W: Write, M: Machine>(
     ensures not_made { (store key : List ℕ) → IsInitAsk store key ask.entry
         → IfErr result (λ refusal. RefusesInit refusal (W.contents output.old) (W.contents output.new)
         × LeavesInit M.Disk.Store (M.left machine.old) (M.stands machine.old store) (M.left machine.new) (sha256 (trim_ows key)) refusal) }
-    ensures served { (store : List ℕ) (port count : ℕ) (rule : List ℕ) → IsServeAsk store port count rule ask.entry
-        → OnOk result (Appends (W.contents output.old) (W.contents output.new) (serve_text port count)) }
-    ensures not_served { (store : List ℕ) (port count : ℕ) (rule : List ℕ) → IsServeAsk store port count rule ask.entry
-        → IfErr result (λ refusal. RefusesServe refusal port count (W.contents output.old) (W.contents output.new)) }
+    ensures served { (store : List ℕ) (place : Place) (count : ℕ) (rule : List ℕ) → IsServeAsk store place count rule ask.entry
+        → OnOk result (Appends (W.contents output.old) (W.contents output.new) (serve_text_at place count)) }
+    ensures not_served { (store : List ℕ) (place : Place) (count : ℕ) (rule : List ℕ) → IsServeAsk store place count rule ask.entry
+        → IfErr result (λ refusal. RefusesServeAt refusal place count (W.contents output.old) (W.contents output.new)) }
     ensures imported { TellsInRows ask.entry
         → IfOk result (TellsRows (W.contents output.old) (W.contents output.new)) }
     ensures not_imported { TellsInRows ask.entry
@@ -151,6 +152,11 @@ pub fn run<R: Read, W: Write, E: Write, M: Machine>(
     // what is shown. If it does not, the words are a mistake, or memory ran out.
     ensures named { result ≤ 1 → NamesWhatItShows (map (λ word. word.now) words.entry.now) }
     ensures none_named { ¬ NamesWhatItShows (map (λ word. word.now) words.entry.now)
+        → (result ≡ 2) ⊎ Tells (λ refusal. refusal ≡ Refusal.NoMemory) result (E.contents errors.old) (E.contents errors.new) }
+    // At 0 and 1, if they are `serve`, they name a port or a Unix socket, and one of them alone. If they do not, the
+    // words are a mistake, or memory ran out.
+    ensures place { result ≤ 1 → NamesAPlace (map (λ word. word.now) words.entry.now) }
+    ensures no_place { ¬ NamesAPlace (map (λ word. word.now) words.entry.now)
         → (result ≡ 2) ⊎ Tells (λ refusal. refusal ≡ Refusal.NoMemory) result (E.contents errors.old) (E.contents errors.new) }
     // At 0 `errors` gets nothing. At 1 and 3 it gets at most the line of a refusal with this
     // status, and nothing at 1 if the output says which rows an `import` refused, or that a
@@ -230,6 +236,24 @@ pub fn run<R: Read, W: Write, E: Write, M: Machine>(
         (M.stands machine.old store) (M.left machine.new) }
     ensures serve_leaves { (store : List ℕ) (port count : ℕ) (rule : List ℕ)
         → AsksServe (map (λ word. word.now) words.entry.now) store port count rule
+        → Leaves (M.left machine.old) (M.stands machine.old store) (M.left machine.new) (Lasts M.Disk.Store) }
+
+    // And so of a `serve` at any place: a port, or a Unix socket at a path.
+    ensures served_at { result ≡ 0 → (store : List ℕ) (place : Place) (count : ℕ) (rule : List ℕ)
+        → AsksServeAt (map (λ word. word.now) words.entry.now) store place count rule
+        → Appends (W.contents output.old) (W.contents output.new) (serve_text_at place count) }
+    ensures serve_due_at { result ≢ 0 → (store : List ℕ) (place : Place) (count : ℕ) (rule : List ℕ)
+        → AsksServeAt (map (λ word. word.now) words.entry.now) store place count rule
+        → Tells (λ refusal. RefusesServeAt refusal place count (W.contents output.old) (W.contents output.new)
+        × LeavesServeAt M.Disk.Store (M.left machine.old) (M.stands machine.old store) (M.left machine.new) place
+        (W.contents output.old) (W.contents output.new) refusal)
+        result (E.contents errors.old) (E.contents errors.new) }
+    ensures visits_at { result ≡ 0 → (store : List ℕ) (place : Place) (count : ℕ) (rule : List ℕ)
+        → AsksServeAt (map (λ word. word.now) words.entry.now) store place count rule
+        → ServesDoorBy M.Disk.Store M.Door.told M.Door.coming count rule (M.door machine.old place) (M.door machine.new place)
+        (M.stands machine.old store) (M.left machine.new) }
+    ensures serve_leaves_at { (store : List ℕ) (place : Place) (count : ℕ) (rule : List ℕ)
+        → AsksServeAt (map (λ word. word.now) words.entry.now) store place count rule
         → Leaves (M.left machine.old) (M.stands machine.old store) (M.left machine.new) (Lasts M.Disk.Store) }
 
     // An `import`: at 0 it has written only lines that say that an image was taken in. Not at 0 it

@@ -15,4 +15,4 @@ mod show;
 
 pub use dispatch::run;
 pub use machine::{Machine, connect_fault};
-pub use rd_commands::{Files, MachineFault, Refusal, exit_code, read_front};
+pub use rd_commands::{Files, MachineFault, Place, Refusal, exit_code, read_front};

@@ -3,13 +3,14 @@ ghost use Rattle.sqlite.specs.Held.{Held};
 ghost use Rattle.sqlite.specs.declared.error.Error.TheVariants.{SqliteFailure};
 ghost use Rattle.sqlite.specs.declared.error.ErrorCode.TheVariants as code;
 ghost use Rattle.std.specs.Borrow.{sem};
-ghost use Rattle.rd_program.specs.Doors.{AsksPath, LendsDoor, Place};
-ghost use Rattle.rd_program.specs.Doors.Place.{Port};
+ghost use Rattle.rd_commands.specs.Serving as places;
+ghost use Rattle.rd_commands.specs.Serving.{place_of};
+ghost use Rattle.rd_program.specs.Doors.{AsksPath, LendsDoor};
 ghost use Rattle.rd_program.specs.Leaves.{LeavesNone};
 ghost use Rattle.rd_program.specs.Rows.{KeepsFiles};
 
-use rd_commands::{Files, MachineFault};
-use rd_http::Door;
+use rd_commands::{Files, MachineFault, Place};
+use rd_http::{Door, TimeLimits};
 use sqlite::{Alter, Connection, Error, ErrorCode};
 
 /// Why a connection was not made, from the fault of the database.
@@ -37,7 +38,7 @@ pub trait Machine: Files {
     ghost clock: { Self → Option ℤ };
 
     /// The door at a place, if the machine shows it.
-    ghost door: { Self → Place → Option Self.Door };
+    ghost door: { Self → places.Place → Option Self.Door };
 
     /// The connection that stands for a store at a path, if the machine shows it.
     ghost stands: { Self → List ℕ → Option (Held Self.Disk) };
@@ -81,11 +82,11 @@ pub trait Machine: Files {
         ensures asked { paths self.new ≡ paths self.old }
         ensures shows { shows self.new ≡ shows self.old };
 
-    /// Lends the door through which visits come at a port of the machine itself, 1 to 65,535. The machine keeps
-    /// it.
+    /// Lends the door through which visits come at a place, whose visitors may take so long. The machine keeps it. A
+    /// machine need not have sockets, nor visitors who take any time.
     ///
-    /// It fails when it cannot open the port.
-    fn listen(&mut self, port: u16) -> Result<&mut Self::Door, MachineFault>
-        ensures* lends { sem 𝓛 (LendsDoor Self.row Self.Door.row shows paths door (Port port) self.entry result) }
-        ensures lent { IfOk result (λ lent. IfSome (door self.old (Port port)) (λ shown. lent.now ≡ shown)) };
+    /// It fails when it cannot open the place.
+    fn listen(&mut self, place: Place, limits: TimeLimits) -> Result<&mut Self::Door, MachineFault>
+        ensures* lends { sem 𝓛 (LendsDoor Self.row Self.Door.row shows paths door (place_of place.entry) self.entry result) }
+        ensures lent { IfOk result (λ lent. IfSome (door self.old (place_of place.entry)) (λ shown. lent.now ≡ shown)) };
 }

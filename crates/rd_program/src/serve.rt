@@ -1,32 +1,61 @@
 ghost use Rattle.std.specs.Prelude.{◌≡◌, IfErr, IfOk, IfSome, IsSomeAnd, OnErr, OnOk};
 ghost use Rattle.std.specs.Io.KnownBytes.{Appends};
+ghost use Rattle.std.specs.String.{string_bytes};
 ghost use Rattle.rd_store.specs.Held.{Lasts};
+ghost use Rattle.rd_commands.specs.Serving.{place_of};
 ghost use Rattle.rd_program.specs.Doors.{AsksPath};
-ghost use Rattle.rd_program.specs.Doors.Place.{Port};
-ghost use Rattle.rd_program.specs.Leaves.{GivesBack, HasBoth, Leaves, LeavesServe, OnEnded};
+ghost use Rattle.rd_program.specs.Leaves.{GivesBack, HasBoth, Leaves, LeavesServeAt, OnEnded};
 ghost use Rattle.rd_program.specs.Visiting.{RunsVisits, ServesDoor};
 ghost use Rattle.rd_commands.specs.Output.{AppendsPart};
 ghost use Rattle.rd_commands.specs.Refusals.{IsDeviceOrMemory};
-ghost use Rattle.rd_program.specs.Serving.{RefusesServe, RefusesToEnd, listening_line, serve_text, served_line};
+ghost use Rattle.rd_program.specs.Serving.{AreLimitsOf, RefusesServeAt, RefusesToEnd, listening_at, listening_line, listening_on, serve_text_at, served_line};
 
 use crate::machine::Machine;
 use crate::open_desk::open_desk;
-use rd_commands::{Refusal, ServeAsk, write_whole};
+use rd_commands::{Place, Refusal, ServeAsk, Timeouts, write_whole};
 use rd_desk::Desk;
-use rd_http::{Ended, Served, serve_many};
-use std::alloc::Global;
+use rd_http::{Ended, Served, TimeLimits, serve_many};
+use std::alloc::{AllocError, Global};
 use std::io::Write;
+use std::time::Duration;
 
-/// Writes at which port visits come, and flushes the output.
-///
-/// It fails with `NoMemory`, and with `Device` when a write or the flush fails.
-fn tell_listening<W: Write>(alloc: Global, port: u16, output: &mut W) -> Result<(), Refusal>
-    ensures done { OnOk result (Appends (W.contents output.old) (W.contents output.new) (listening_line port)) }
-    ensures cut { OnErr result (AppendsPart (W.contents output.old) (W.contents output.new) (listening_line port)) }
-    ensures refused { IfErr result IsDeviceOrMemory }
+/// The line that says at which port visits come. It fails when memory runs out.
+fn port_line(alloc: Global, port: u16) -> Result<String, AllocError>
+    ensures { IfOk result (λ line. string_bytes line ≡ listening_line port) }
 {
     let mut line = String::new(alloc);
     write!(line, "listening 127.0.0.1:{port}\n")?;
+    Ok(line)
+}
+
+/// The line that says at the Unix socket of which path visits come. It fails when memory runs out.
+fn socket_line(alloc: Global, path: &str) -> Result<String, AllocError>
+    ensures { IfOk result (λ line. string_bytes line ≡ listening_on path.now) }
+{
+    let mut line = String::new(alloc);
+    write!(line, "listening {path}\n")?;
+    Ok(line)
+}
+
+/// The line that says where visits come. It fails when memory runs out.
+fn place_line(alloc: Global, place: Place) -> Result<String, AllocError>
+    ensures { IfOk result (λ line. string_bytes line ≡ listening_at (place_of place.entry)) }
+{
+    match place {
+        Place::Port(port) => port_line(alloc, port),
+        Place::Socket(path) => socket_line(alloc, path),
+    }
+}
+
+/// Writes where visits come, and flushes the output.
+///
+/// It fails with `NoMemory`, and with `Device` when a write or the flush fails.
+fn tell_listening<W: Write>(alloc: Global, place: Place, output: &mut W) -> Result<(), Refusal>
+    ensures done { OnOk result (Appends (W.contents output.old) (W.contents output.new) (listening_at (place_of place.entry))) }
+    ensures cut { OnErr result (AppendsPart (W.contents output.old) (W.contents output.new) (listening_at (place_of place.entry))) }
+    ensures refused { IfErr result IsDeviceOrMemory }
+{
+    let line = place_line(alloc, place)?;
     write_whole(output, line.as_bytes())
 }
 
@@ -43,9 +72,20 @@ fn tell_served<W: Write>(alloc: Global, count: u32, output: &mut W) -> Result<()
     write_whole(output, line.as_bytes())
 }
 
-/// Serves visits at the port that the command names.
+/// How long a visitor may take, from so many seconds.
+fn limits_of(timeouts: Timeouts) -> TimeLimits
+    ensures { AreLimitsOf timeouts result }
+{
+    TimeLimits {
+        request: Duration::from_secs(u64::from(timeouts.request)),
+        write: Duration::from_secs(u64::from(timeouts.write)),
+        reply: Duration::from_secs(u64::from(timeouts.reply)),
+    }
+}
+
+/// Serves visits at the place that the command names.
 ///
-/// It fails with `Device` when it cannot open the port or a write fails, and with `NoMemory`.
+/// It fails with `Device` when it cannot open the place or a write fails, and with `NoMemory`.
 fn serve_visits<W: Write, M: Machine>(
     alloc: Global,
     ask: ServeAsk,
@@ -53,23 +93,23 @@ fn serve_visits<W: Write, M: Machine>(
     output: &mut W,
     machine: &mut M,
 ) -> Result<Served, Refusal>
-    ensures listening { OnOk result (Appends (W.contents output.old) (W.contents output.new) (listening_line ask.entry.port)) }
-    ensures cut { OnErr result (AppendsPart (W.contents output.old) (W.contents output.new) (listening_line ask.entry.port)) }
+    ensures listening { OnOk result (Appends (W.contents output.old) (W.contents output.new) (listening_at (place_of ask.entry.place))) }
+    ensures cut { OnErr result (AppendsPart (W.contents output.old) (W.contents output.new) (listening_at (place_of ask.entry.place))) }
     ensures refused { IfErr result IsDeviceOrMemory }
     ensures count { IfOk result (λ served. served.ended ≡ Ended.Count → served.visits ≡ ask.entry.count) }
     ensures lasts { IfOk result (λ _. Lasts M.Disk.Store desk.old.store desk.new.store) }
     ensures unserved { IfErr result (λ _. desk.new.store ≡ desk.old.store) }
     ensures shows { M.shows machine.new ≡ M.shows machine.old }
     ensures asked { M.paths machine.new ≡ M.paths machine.old }
-    ensures visits { IfOk result (λ served. IfSome (M.door machine.old (Port ask.entry.port))
-        (λ before. IsSomeAnd (M.door machine.new (Port ask.entry.port)) (λ after.
+    ensures visits { IfOk result (λ served. IfSome (M.door machine.old (place_of ask.entry.place))
+        (λ before. IsSomeAnd (M.door machine.new (place_of ask.entry.place)) (λ after.
         RunsVisits M.Disk.Store M.Door.told M.Door.coming desk.old.zone before after served desk.old.store desk.new.store))) }
 {
-    let door = match machine.listen(ask.port) {
+    let door = match machine.listen(ask.place, limits_of(ask.timeouts)) {
         Ok(door) => door,
         Err(fault) => return Err(fault.or(Refusal::Device)),
     };
-    tell_listening(alloc, ask.port, output)?;
+    tell_listening(alloc, ask.place, output)?;
     Ok(serve_many(alloc, door, desk, ask.count))
 }
 
@@ -89,11 +129,11 @@ fn tell_ended<W: Write>(alloc: Global, served: Served, output: &mut W) -> Result
     }
 }
 
-/// Serves visits of the desk in the file of a store. It writes at which port they come and, at the
+/// Serves visits of the desk in the file of a store. It writes where they come and, at the
 /// end, how many there were, and flushes each line.
 ///
 /// It fails with `NotADesk`, `Version`, `Inconsistent` and `Store` when it cannot open the desk,
-/// then with `Device` when it cannot open the port, a write fails or the door shuts, with `Clock`
+/// then with `Device` when it cannot open the place, a write fails or the door shuts, with `Clock`
 /// when a moment has no day, and with `NoMemory`.
 pub(crate) fn serve<W: Write, M: Machine>(
     alloc: Global,
@@ -101,14 +141,14 @@ pub(crate) fn serve<W: Write, M: Machine>(
     output: &mut W,
     machine: &mut M,
 ) -> Result<(), Refusal>
-    ensures done { OnOk result (Appends (W.contents output.old) (W.contents output.new) (serve_text ask.entry.port ask.entry.count)) }
-    ensures refused { IfErr result (λ refusal. RefusesServe refusal ask.entry.port ask.entry.count
+    ensures done { OnOk result (Appends (W.contents output.old) (W.contents output.new) (serve_text_at (place_of ask.entry.place) ask.entry.count)) }
+    ensures refused { IfErr result (λ refusal. RefusesServeAt refusal (place_of ask.entry.place) ask.entry.count
         (W.contents output.old) (W.contents output.new)) }
     ensures lasts { Leaves (M.left machine.old) (M.stands machine.old ask.entry.store.now) (M.left machine.new) (Lasts M.Disk.Store) }
-    ensures left { IfErr result (LeavesServe M.Disk.Store (M.left machine.old) (M.stands machine.old ask.entry.store.now) (M.left machine.new)
-        ask.entry.port (W.contents output.old) (W.contents output.new)) }
+    ensures left { IfErr result (LeavesServeAt M.Disk.Store (M.left machine.old) (M.stands machine.old ask.entry.store.now) (M.left machine.new)
+        (place_of ask.entry.place) (W.contents output.old) (W.contents output.new)) }
     ensures visits { OnOk result (ServesDoor M.Disk.Store M.Door.told M.Door.coming ask.entry.count ask.entry.zone
-        (M.door machine.old (Port ask.entry.port)) (M.door machine.new (Port ask.entry.port))
+        (M.door machine.old (place_of ask.entry.place)) (M.door machine.new (place_of ask.entry.place))
         (M.stands machine.old ask.entry.store.now) (M.left machine.new)) }
     ensures back { GivesBack (M.shows machine.old) (M.left machine.old) (M.left machine.new) }
     ensures there { OnEnded result (HasBoth (M.shows machine.old) (M.stands machine.old ask.entry.store.now) (M.left machine.new)) }

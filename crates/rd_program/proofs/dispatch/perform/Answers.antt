@@ -5,7 +5,7 @@ use Rattle.rd_commands.specs.Cat.{Refuses, Serves}
 use Rattle.std.specs.Io.KnownBytes.{Appends}
 use Rattle.rd_program.specs.Leaves.{LeavesBy, LeavesRefused, OnEnded, StandsThere}
 use Rattle.rd_commands.specs.Listed.{Lists, RefusesList}
-use Rattle.rd_program.specs.Serving.{RefusesServe, serve_text}
+use Rattle.rd_program.specs.Serving.{RefusesServeAt, serve_text_at}
 use Rattle.rd_program.proofs.AnswerLemmas.{once_kept, once_never}
 use Rattle.rd_program.proofs.ImportLemmas.{ended_whole, err_whole, ok_whole, whole_is}
 use Rattle.rd_program.proofs.InitLemmas.{at_err_both, left_as, made_as, on_both}
@@ -89,10 +89,10 @@ pub returns-in-File-clause-not_made : goal.returns-in-File-clause-not_made
 returns-in-File-clause-not_made g c = λ store key asked. absurd (subst (IsInitAsk store key) c.in-File.is asked)
 
 pub returns-in-File-clause-served : goal.returns-in-File-clause-served
-returns-in-File-clause-served g c = λ store port count rule asked. absurd (subst (IsServeAsk store port count rule) c.in-File.is asked)
+returns-in-File-clause-served g c = λ store place count rule asked. absurd (subst (IsServeAsk store place count rule) c.in-File.is asked)
 
 pub returns-in-File-clause-not_served : goal.returns-in-File-clause-not_served
-returns-in-File-clause-not_served g c = λ store port count rule asked. absurd (subst (IsServeAsk store port count rule) c.in-File.is asked)
+returns-in-File-clause-not_served g c = λ store place count rule asked. absurd (subst (IsServeAsk store place count rule) c.in-File.is asked)
 
 pub returns-in-Files-clause-made : goal.returns-in-Files-clause-made
 returns-in-Files-clause-made g c = λ store key asked. absurd (subst (IsInitAsk store key) c.in-Files.is asked)
@@ -101,16 +101,16 @@ pub returns-in-Files-clause-not_made : goal.returns-in-Files-clause-not_made
 returns-in-Files-clause-not_made g c = λ store key asked. absurd (subst (IsInitAsk store key) c.in-Files.is asked)
 
 pub returns-in-Files-clause-served : goal.returns-in-Files-clause-served
-returns-in-Files-clause-served g c = λ store port count rule asked. absurd (subst (IsServeAsk store port count rule) c.in-Files.is asked)
+returns-in-Files-clause-served g c = λ store place count rule asked. absurd (subst (IsServeAsk store place count rule) c.in-Files.is asked)
 
 pub returns-in-Files-clause-not_served : goal.returns-in-Files-clause-not_served
-returns-in-Files-clause-not_served g c = λ store port count rule asked. absurd (subst (IsServeAsk store port count rule) c.in-Files.is asked)
+returns-in-Files-clause-not_served g c = λ store place count rule asked. absurd (subst (IsServeAsk store place count rule) c.in-Files.is asked)
 
 pub returns-in-Init-clause-served : goal.returns-in-Init-clause-served
-returns-in-Init-clause-served g c = λ store port count rule asked. absurd (subst (IsServeAsk store port count rule) c.in-Init.is asked)
+returns-in-Init-clause-served g c = λ store place count rule asked. absurd (subst (IsServeAsk store place count rule) c.in-Init.is asked)
 
 pub returns-in-Init-clause-not_served : goal.returns-in-Init-clause-not_served
-returns-in-Init-clause-not_served g c = λ store port count rule asked. absurd (subst (IsServeAsk store port count rule) c.in-Init.is asked)
+returns-in-Init-clause-not_served g c = λ store place count rule asked. absurd (subst (IsServeAsk store place count rule) c.in-Init.is asked)
 
 pub returns-in-Serve-clause-made : goal.returns-in-Serve-clause-made
 returns-in-Serve-clause-made g c = λ store key asked. absurd (subst (IsInitAsk store key) c.in-Serve.is asked)
@@ -132,17 +132,17 @@ returns-in-Init-clause-not_made g c = λ store key asked.
     (left_as _ (g.M.Machine.left c.args.machine.now) (g.M.Machine.stands c.args.machine.now) (g.M.Machine.left c.init.new.machine) c.init.result _ store _ key asks.store_is asks.key_is c.init.ensures.left))
 
 pub returns-in-Serve-clause-served : goal.returns-in-Serve-clause-served
-returns-in-Serve-clause-served g c = λ store port count rule asked.
-    let asks : AsksVisits c.in-Serve.ask store port count rule = subst (IsServeAsk store port count rule) c.in-Serve.is asked in
-    ok_whole _ c.serve.result c.whole-in-Serve.result c.whole-in-Serve.ensures (subst (λ n. OnOk c.serve.result (Appends (g.W.Write.contents c.args.output.now) (g.W.Write.contents c.serve.new.output) (serve_text port n))) asks.count_is
-    (subst (λ p. OnOk c.serve.result (Appends (g.W.Write.contents c.args.output.now) (g.W.Write.contents c.serve.new.output) (serve_text p c.in-Serve.ask.count))) asks.port_is
+returns-in-Serve-clause-served g c = λ store place count rule asked.
+    let asks : AsksVisits c.in-Serve.ask store place count rule = subst (IsServeAsk store place count rule) c.in-Serve.is asked in
+    ok_whole _ c.serve.result c.whole-in-Serve.result c.whole-in-Serve.ensures (subst (λ n. OnOk c.serve.result (Appends (g.W.Write.contents c.args.output.now) (g.W.Write.contents c.serve.new.output) (serve_text_at place n))) asks.count_is
+    (subst (λ p. OnOk c.serve.result (Appends (g.W.Write.contents c.args.output.now) (g.W.Write.contents c.serve.new.output) (serve_text_at p c.in-Serve.ask.count))) asks.place_is
     c.serve.ensures.done))
 
 pub returns-in-Serve-clause-not_served : goal.returns-in-Serve-clause-not_served
-returns-in-Serve-clause-not_served g c = λ store port count rule asked.
-    let asks : AsksVisits c.in-Serve.ask store port count rule = subst (IsServeAsk store port count rule) c.in-Serve.is asked in
-    err_whole _ c.serve.result c.whole-in-Serve.result c.whole-in-Serve.ensures (subst (λ n. IfErr c.serve.result (λ refusal. RefusesServe refusal port n (g.W.Write.contents c.args.output.now) (g.W.Write.contents c.serve.new.output))) asks.count_is
-    (subst (λ p. IfErr c.serve.result (λ refusal. RefusesServe refusal p c.in-Serve.ask.count (g.W.Write.contents c.args.output.now) (g.W.Write.contents c.serve.new.output))) asks.port_is
+returns-in-Serve-clause-not_served g c = λ store place count rule asked.
+    let asks : AsksVisits c.in-Serve.ask store place count rule = subst (IsServeAsk store place count rule) c.in-Serve.is asked in
+    err_whole _ c.serve.result c.whole-in-Serve.result c.whole-in-Serve.ensures (subst (λ n. IfErr c.serve.result (λ refusal. RefusesServeAt refusal place n (g.W.Write.contents c.args.output.now) (g.W.Write.contents c.serve.new.output))) asks.count_is
+    (subst (λ p. IfErr c.serve.result (λ refusal. RefusesServeAt refusal p c.in-Serve.ask.count (g.W.Write.contents c.args.output.now) (g.W.Write.contents c.serve.new.output))) asks.place_is
     c.serve.ensures.refused))
 
 pub returns-in-Import-clause-done : goal.returns-in-Import-clause-done
@@ -164,10 +164,10 @@ pub returns-in-Import-clause-not_made : goal.returns-in-Import-clause-not_made
 returns-in-Import-clause-not_made g c = λ store key asked. absurd (subst (IsInitAsk store key) c.in-Import.is asked)
 
 pub returns-in-Import-clause-served : goal.returns-in-Import-clause-served
-returns-in-Import-clause-served g c = λ store port count rule asked. absurd (subst (IsServeAsk store port count rule) c.in-Import.is asked)
+returns-in-Import-clause-served g c = λ store place count rule asked. absurd (subst (IsServeAsk store place count rule) c.in-Import.is asked)
 
 pub returns-in-Import-clause-not_served : goal.returns-in-Import-clause-not_served
-returns-in-Import-clause-not_served g c = λ store port count rule asked. absurd (subst (IsServeAsk store port count rule) c.in-Import.is asked)
+returns-in-Import-clause-not_served g c = λ store place count rule asked. absurd (subst (IsServeAsk store place count rule) c.in-Import.is asked)
 
 pub returns-in-File-clause-imported : goal.returns-in-File-clause-imported
 returns-in-File-clause-imported g c = λ tells. absurd (subst TellsInRows c.in-File.is tells)
@@ -224,10 +224,10 @@ pub returns-in-OneQuestion-clause-not_made : goal.returns-in-OneQuestion-clause-
 returns-in-OneQuestion-clause-not_made g c = λ store key asked. absurd (subst (IsInitAsk store key) c.in-OneQuestion.is asked)
 
 pub returns-in-OneQuestion-clause-served : goal.returns-in-OneQuestion-clause-served
-returns-in-OneQuestion-clause-served g c = λ store port count rule asked. absurd (subst (IsServeAsk store port count rule) c.in-OneQuestion.is asked)
+returns-in-OneQuestion-clause-served g c = λ store place count rule asked. absurd (subst (IsServeAsk store place count rule) c.in-OneQuestion.is asked)
 
 pub returns-in-OneQuestion-clause-not_served : goal.returns-in-OneQuestion-clause-not_served
-returns-in-OneQuestion-clause-not_served g c = λ store port count rule asked. absurd (subst (IsServeAsk store port count rule) c.in-OneQuestion.is asked)
+returns-in-OneQuestion-clause-not_served g c = λ store place count rule asked. absurd (subst (IsServeAsk store place count rule) c.in-OneQuestion.is asked)
 
 pub returns-in-OneQuestion-clause-imported : goal.returns-in-OneQuestion-clause-imported
 returns-in-OneQuestion-clause-imported g c = λ asked. absurd (subst TellsInRows c.in-OneQuestion.is asked)

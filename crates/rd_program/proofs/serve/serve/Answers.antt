@@ -1,5 +1,5 @@
 use Rattle.std.proofs.Common.{◌∙◌, IsTrue, ap, rules, subst, sym}
-use Rattle.rd_program.specs.Doors.Place.{Port}
+use Rattle.rd_commands.specs.Serving.{place_of}
 use Rattle.rd_program.proofs.Named.{asked_then}
 use Rattle.rd_program.proofs.LeftStores.{gives_back, has_both, on_ended_always, opening_fails}
 use Rattle.rd_program.proofs.VisitLemmas.{serves_door}
@@ -9,21 +9,21 @@ use Rattle.rd_program.proofs.serve.serve.Goals as goal
 
 pub returns-in_err-served-clause-refused : goal.returns-in_err-served-clause-refused
 returns-in_err-served-clause-refused g c =
-    let refused = not_listening _ c.args.ask.port c.args.ask.count _ _ c.in_err-served.ensures.refused c.in_err-served.ensures.cut in search rules
+    let refused = not_listening _ (place_of c.args.ask.place) c.args.ask.count _ _ c.in_err-served.ensures.refused c.in_err-served.ensures.cut in search rules
 
 pub returns-clause-done : goal.returns-clause-done
 returns-clause-done g c =
-    both_lines c.tell_ended.result c.in_ok-served.field-0.ended c.args.ask.port c.in_ok-served.field-0.visits c.args.ask.count _ _ _ c.in_ok-served.ensures.count
+    both_lines c.tell_ended.result c.in_ok-served.field-0.ended (place_of c.args.ask.place) c.in_ok-served.field-0.visits c.args.ask.count _ _ _ c.in_ok-served.ensures.count
     c.in_ok-served.ensures.listening c.tell_ended.ensures.count c.tell_ended.ensures.done
 
 pub returns-clause-refused : goal.returns-clause-refused
 returns-clause-refused g c =
-    ends c.tell_ended.result c.in_ok-served.field-0.ended c.args.ask.port c.in_ok-served.field-0.visits c.args.ask.count _ _ _ c.in_ok-served.ensures.count
+    ends c.tell_ended.result c.in_ok-served.field-0.ended (place_of c.args.ask.place) c.in_ok-served.field-0.visits c.args.ask.count _ _ _ c.in_ok-served.ensures.count
     c.in_ok-served.ensures.listening c.tell_ended.ensures.refused
 
 pub returns-in_err-desk-clause-refused : goal.returns-in_err-desk-clause-refused
 returns-in_err-desk-clause-refused g c =
-    let refused = not_opened _ c.args.ask.port c.args.ask.count (g.W.Write.contents c.args.output.now) c.in_err-desk.ensures.refused in search rules
+    let refused = not_opened _ (place_of c.args.ask.place) c.args.ask.count (g.W.Write.contents c.args.output.now) c.in_err-desk.ensures.refused in search rules
 
 -- ---- what is left of the store
 
@@ -38,7 +38,7 @@ returns-in_err-served-clause-left g c =
     let was = g.M.Machine.left c.args.machine.now in
     let stood = g.M.Machine.stands c.args.machine.now c.args.ask.store.now in
     let left = g.M.Machine.left c.release.new.self in
-    let refused = serve_not_begun g.M.Disk.Store was stood left c.args.ask.port (g.W.Write.contents c.args.output.now) (g.W.Write.contents c.serve_visits-served.new.output) _
+    let refused = serve_not_begun g.M.Disk.Store was stood left (place_of c.args.ask.place) (g.W.Write.contents c.args.output.now) (g.W.Write.contents c.serve_visits-served.new.output) _
     c.in_err-served.ensures.refused
     (opened_left g.M.Disk.Store was stood left c.in_ok-desk.desk.store c.into_connection.result c.in_ok-desk.ensures.opened
     (c.into_connection.ensures.same ∙ c.into_store.ensures ∙ c.in_err-served.ensures.unserved) c.release.ensures.left) in search rules
@@ -52,7 +52,7 @@ returns-clause-lasts g c =
 pub returns-clause-left : goal.returns-clause-left
 returns-clause-left g c =
     serve_ended g.M.Disk.Store c.tell_ended.result (g.M.Machine.left c.args.machine.now) (g.M.Machine.stands c.args.machine.now c.args.ask.store.now)
-    (g.M.Machine.left c.release.new.self) c.in_ok-served.field-0.ended c.args.ask.port c.in_ok-served.field-0.visits _ _ _
+    (g.M.Machine.left c.release.new.self) c.in_ok-served.field-0.ended (place_of c.args.ask.place) c.in_ok-served.field-0.visits _ _ _
     c.in_ok-served.ensures.listening c.tell_ended.ensures.refused
 
 pub returns-clause-back : goal.returns-clause-back
@@ -67,7 +67,7 @@ returns-in_err-served-clause-back g c =
 
 pub returns-clause-visits : goal.returns-clause-visits
 returns-clause-visits g c =
-    let at = Port c.args.ask.port in
+    let at = place_of c.args.ask.place in
     serves_door g.M.Disk.Store g.M.Door.Door.told g.M.Door.Door.coming c.tell_ended.result c.in_ok-served.field-0 c.args.ask.count c.in_ok-desk.desk.zone c.args.ask.zone
     (g.M.Machine.door c.open_desk.new.machine at) (g.M.Machine.door c.args.machine.now at) (g.M.Machine.door c.serve_visits-served.new.machine at)
     (g.M.Machine.door c.release.new.self at) (g.M.Machine.stands c.args.machine.now c.args.ask.store.now) (g.M.Machine.left c.release.new.self)
