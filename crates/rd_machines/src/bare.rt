@@ -2,12 +2,12 @@
 
 ghost use Rattle.std.specs.Prelude.{None, false};
 
-use rd_http::MemoryDoor;
-use rd_program::{Files, Machine, MachineFault};
+use rd_http::{MemoryDoor, TimeLimits};
+use rd_program::{Files, Machine, MachineFault, Place};
 use sqlite::{Connection, MemStore};
 use std::alloc::Global;
 
-/// A machine with no file, no store, no clock and no port.
+/// A machine with no file, no store, no clock and no door.
 #[derive(Drop)]
 pub struct Bare;
 
@@ -50,7 +50,11 @@ impl Machine for Bare {
         Err(MachineFault::Failed)
     }
 
-    fn listen(&mut self, _port: u16) -> Result<&mut MemoryDoor, MachineFault> {
+    fn listen(
+        &mut self,
+        _place: Place,
+        _limits: TimeLimits,
+    ) -> Result<&mut MemoryDoor, MachineFault> {
         Err(MachineFault::Failed)
     }
 }

@@ -2,8 +2,8 @@
 
 ghost use Rattle.std.specs.Prelude.{◌≡◌, IfOk, IfSome, None, Option, Some, true, ℤ};
 
-use rd_http::MemoryDoor;
-use rd_program::{Files, Machine, MachineFault};
+use rd_http::{MemoryDoor, TimeLimits};
+use rd_program::{Files, Machine, MachineFault, Place};
 use sqlite::{Alter, Connection, MemStore};
 use std::alloc::Global;
 
@@ -25,8 +25,8 @@ pub trait Supply {
         Ok(())
     }
 
-    /// It fails when the machine does not give its door at a port.
-    fn check_door(&mut self, _port: u16) -> Result<(), MachineFault> {
+    /// It fails when the machine does not give its door at a place, to visitors who may take so long.
+    fn check_door(&mut self, _place: Place, _limits: TimeLimits) -> Result<(), MachineFault> {
         Ok(())
     }
 
@@ -100,8 +100,12 @@ impl<P: Supply + Drop, S: Alter + Drop> Machine for Museum<P, S> {
         self.supply.now()
     }
 
-    fn listen(&mut self, port: u16) -> Result<&mut MemoryDoor, MachineFault> {
-        self.supply.check_door(port)?;
+    fn listen(
+        &mut self,
+        place: Place,
+        limits: TimeLimits,
+    ) -> Result<&mut MemoryDoor, MachineFault> {
+        self.supply.check_door(place, limits)?;
         Ok(&mut self.door)
     }
 }

@@ -1,14 +1,14 @@
 ghost use Rattle.std.specs.Prelude.{None, false};
 
-use rd_http::{Clock, Door, TcpDoor};
+use crate::places::{HostListener, at_port, at_socket};
+use rd_http::{Clock, Door, StreamDoor, TimeLimits};
 use rd_program::{
-    Files, Machine, MachineFault, Refusal, connect_fault, exit_code, read_front, run,
+    Files, Machine, MachineFault, Place, Refusal, connect_fault, exit_code, read_front, run,
 };
 use rd_volume::Kind;
 use sqlite::{Connection, File, FileStore};
 use std::alloc::{AllocError, Global};
 use std::io::{BufWriter, ErrorKind, Read};
-use std::net::{Ipv4Addr, TcpListener};
 use std::process::ExitCode;
 use std::time::{Instant, SystemTime, UNIX_EPOCH};
 use std::{env, fs};
@@ -34,47 +34,53 @@ impl Clock for HostClock {
     }
 }
 
-/// What opens doors at ports of the machine itself.
-pub(crate) trait Ports<D: Door> {
-    /// A door at a port, 1 to 65,535.
+/// What opens doors at places of the machine itself.
+pub(crate) trait Places<D: Door> {
+    /// A door at a place, for visitors who may take so long.
     ///
-    /// It fails with `NoMemory`, and with `Failed` when the port cannot be opened.
-    fn open(&self, port: u16) -> Result<D, MachineFault>;
+    /// It fails with `NoMemory`, and with `Failed` when the place cannot be opened.
+    fn open(&self, place: Place, limits: TimeLimits) -> Result<D, MachineFault>;
 }
 
-/// The ports of the machine that the program runs on.
+/// The places of the machine that the program runs on.
 #[derive(Drop)]
-pub(crate) struct HostPorts<'a> {
+pub(crate) struct HostPlaces<'a> {
     rt: &'a HostRuntime,
 }
 
-impl Ports<TcpDoor<HostClock>> for HostPorts<'_> {
+/// A door of that machine.
+type HostDoor<'a> = StreamDoor<HostListener<'a>, HostClock>;
+
+impl<'a> Places<HostDoor<'a>> for HostPlaces<'a> {
     /// It also fails with `Failed` when the clock fails.
-    fn open(&self, port: u16) -> Result<TcpDoor<HostClock>, MachineFault> {
-        let listener = TcpListener::bind(self.rt, (Ipv4Addr::LOCALHOST, port))?;
+    fn open(&self, place: Place, limits: TimeLimits) -> Result<HostDoor<'a>, MachineFault> {
+        let listener = match place {
+            Place::Port(port) => at_port(self.rt, port)?,
+            Place::Socket(path) => at_socket(self.rt, path)?,
+        };
         let clock = HostClock {
             rt: *self.rt,
             start: Instant::now(self.rt)?,
         };
-        Ok(TcpDoor::new(self.rt.alloc(), listener, clock))
+        Ok(StreamDoor::with_limits(self.rt.alloc(), listener, clock, limits))
     }
 }
 
 /// The machine that the program runs on.
 #[derive(Drop)]
-pub(crate) struct Host<'a, D: Door + Drop, P: Ports<D> + Drop> {
+pub(crate) struct Host<'a, D: Door + Drop, P: Places<D> + Drop> {
     rt: &'a HostRuntime,
-    ports: P,
+    places: P,
     /// The doors that it has lent, the last one at the end.
     doors: Vec<D>,
 }
 
-impl<'a> Host<'a, TcpDoor<HostClock>, HostPorts<'a>> {
+impl<'a> Host<'a, HostDoor<'a>, HostPlaces<'a>> {
     /// The machine of the process.
-    pub(crate) fn new(rt: &'a HostRuntime) -> Host<'a, TcpDoor<HostClock>, HostPorts<'a>> {
+    pub(crate) fn new(rt: &'a HostRuntime) -> Host<'a, HostDoor<'a>, HostPlaces<'a>> {
         Host {
             rt,
-            ports: HostPorts { rt },
+            places: HostPlaces { rt },
             doors: Vec::new(rt.alloc()),
         }
     }
@@ -87,7 +93,7 @@ fn seconds_now(rt: &HostRuntime) -> Option<i64> {
     i64::try_from(now.duration_since(UNIX_EPOCH).ok()?.as_secs()).ok()
 }
 
-impl<D: Door + Drop, P: Ports<D> + Drop> Files for Host<'_, D, P> {
+impl<D: Door + Drop, P: Places<D> + Drop> Files for Host<'_, D, P> {
     ghost file_bytes = { λ _ _. None };
 
     ghost sheet_bytes = { λ _ _. None };
@@ -112,7 +118,7 @@ impl<D: Door + Drop, P: Ports<D> + Drop> Files for Host<'_, D, P> {
     }
 }
 
-impl<'a, D: Door + Drop, P: Ports<D> + Drop> Machine for Host<'a, D, P> {
+impl<'a, D: Door + Drop, P: Places<D> + Drop> Machine for Host<'a, D, P> {
     type Disk = FileStore<File>;
 
     type Door = D;
@@ -142,13 +148,13 @@ impl<'a, D: Door + Drop, P: Ports<D> + Drop> Machine for Host<'a, D, P> {
         seconds_now(self.rt).ok_or(MachineFault::Failed)
     }
 
-    fn listen(&mut self, port: u16) -> Result<&mut D, MachineFault> {
-        let door = self.ports.open(port)?;
-        let place = self.doors.len();
+    fn listen(&mut self, place: Place, limits: TimeLimits) -> Result<&mut D, MachineFault> {
+        let door = self.places.open(place, limits)?;
+        let last = self.doors.len();
         if self.doors.push(door).is_err() {
             return Err(MachineFault::NoMemory);
         }
-        Ok(&mut self.doors[place])
+        Ok(&mut self.doors[last])
     }
 }
 

@@ -2,6 +2,7 @@
 #![tactic(auto)]
 
 mod host;
+mod places;
 #[cfg(test)]
 mod tests;
 

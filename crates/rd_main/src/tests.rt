@@ -5,6 +5,7 @@ mod failing;
 mod museums;
 mod refused;
 mod sheets;
+mod sockets;
 mod visits;
 
 use rd_fakes::stream::{End, Narrow, Tape};

@@ -110,7 +110,7 @@ fn the_machine_reads_no_folder_and_no_more_than_an_image(rt: HostRuntime) {
 }
 
 /// The path of a new, empty file in the folder for files that tests make.
-fn fresh_path(rt: &HostRuntime) -> Result<String, Fail> {
+pub(super) fn fresh_path(rt: &HostRuntime) -> Result<String, Fail> {
     let folder = match env::var(rt, "TMPDIR") {
         Ok(folder) => folder,
         Err(_) => String::from_str(rt.alloc(), "/tmp")?,
