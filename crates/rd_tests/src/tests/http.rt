@@ -72,3 +72,4 @@ mod long_reply;
 mod refused;
 mod runs;
 mod tcp;
+mod waits;

@@ -5,9 +5,10 @@ use anyhow::Result;
 use rd_fakes::desk::new_connection;
 use rd_fakes::wire::new_door;
 use rd_geometry::{Kind, NoMemory};
+use rd_http::TimeLimits;
 use rd_machines::Supply;
-use rd_program::MachineFault;
-use std::alloc::Global;
+use rd_program::{MachineFault, Place};
+use std::alloc::{AllocError, Global};
 
 /// A file of the machine: its path and its bytes.
 #[derive(Drop)]
@@ -40,12 +41,31 @@ struct Lack {
 /// What the machine gives beside its store and its door.
 #[derive(Drop)]
 pub(crate) struct Given {
+    alloc: Global,
     files: Vec<File>,
     lacks: Vec<Lack>,
     /// What the clock shows; `None` if it shows nothing.
     pub(crate) clock: Option<i64>,
-    /// The last port that the program asked for.
-    pub(crate) port: Option<u16>,
+    /// The last place that the program asked for, and how long a visitor may take there if that is not as usual, as the
+    /// report of a run has them.
+    pub(crate) place: Option<String>,
+}
+
+/// A place as the report of a run has it, and how many seconds a visitor may take there, if that is not as usual.
+fn told_place(alloc: Global, place: Place, limits: TimeLimits) -> Result<String, AllocError> {
+    let mut text = match place {
+        Place::Port(port) => format!(in alloc; "port {port}")?,
+        Place::Socket(path) => format!(in alloc; "socket {path}")?,
+    };
+    if limits != TimeLimits::usual() {
+        let (request, write, reply) = (
+            limits.request.as_secs(),
+            limits.write.as_secs(),
+            limits.reply.as_secs(),
+        );
+        write!(text, ", limits {request} {write} {reply}")?;
+    }
+    Ok(text)
 }
 
 pub(crate) type Museum = rd_machines::Museum<Given>;
@@ -53,10 +73,11 @@ pub(crate) type Museum = rd_machines::Museum<Given>;
 /// A machine whose store is an empty database, and which has no file.
 pub(crate) fn new_museum(alloc: Global) -> Result<Museum, NoMemory> {
     let supply = Given {
+        alloc,
         files: Vec::new(alloc),
         lacks: Vec::new(alloc),
         clock: None,
-        port: None,
+        place: None,
     };
     Ok(Museum {
         conn: Some(new_connection(alloc)?),
@@ -128,9 +149,12 @@ impl Supply for Given {
         self.given("store")
     }
 
-    /// Notes the port.
-    fn check_door(&mut self, port: u16) -> Result<(), MachineFault> {
-        self.port = Some(port);
+    /// Notes the place, and how long a visitor may take there.
+    ///
+    /// It also fails when memory runs out.
+    fn check_door(&mut self, place: Place, limits: TimeLimits) -> Result<(), MachineFault> {
+        let told = told_place(self.alloc, place, limits).map_err(|_| MachineFault::NoMemory)?;
+        self.place = Some(told);
         self.given("door")
     }
 

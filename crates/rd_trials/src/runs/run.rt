@@ -144,7 +144,7 @@ impl<'a> Run<'a> {
             "flushes" => self.flushes = text.parse()?,
             "fails" => self.add_lack(text, MachineFault::Failed)?,
             "no-memory" => self.add_lack(text, MachineFault::NoMemory)?,
-            "status" | "out" | "out-fill" | "errors" | "port" | "part" => {
+            "status" | "out" | "out-fill" | "errors" | "port" | "socket" | "limits" | "part" => {
                 self.wanted.read(rt.alloc(), word, text)?
             }
             _ => build_with(rt, &mut self.input, word, text)?,
@@ -168,7 +168,7 @@ impl<'a> Run<'a> {
         }
         museum.supply.clock = self.clock;
         museum.door = door_of(rt, self.visitors.as_slice())?;
-        museum.supply.port = None;
+        museum.supply.place = None;
         Ok(())
     }
 
@@ -190,7 +190,7 @@ impl<'a> Run<'a> {
             status,
             output: output.taken,
             errors,
-            port: museum.supply.port,
+            place: museum.supply.place.take(),
             is_released: museum.conn.is_some(),
         })
     }

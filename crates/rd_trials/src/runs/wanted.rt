@@ -1,7 +1,7 @@
 //! What a run must leave.
 
 use crate::bytes::add_out;
-use anyhow::Result;
+use anyhow::{Result, bail};
 use rd_played::{Tally, add_bytes};
 use std::alloc::{AllocError, Global};
 
@@ -11,20 +11,20 @@ pub(crate) struct Ran {
     pub(crate) status: u8,
     pub(crate) output: Vec<u8>,
     pub(crate) errors: Vec<u8>,
-    /// The port that the program asked the machine for.
-    pub(crate) port: Option<u16>,
+    /// The place that the program asked the machine for, and how long a visitor may take there if that is not as usual.
+    pub(crate) place: Option<String>,
     /// Whether the machine has its store back.
     pub(crate) is_released: bool,
 }
 
-/// What a run must leave: its status, what it writes to its output and its errors, and the port
+/// What a run must leave: its status, what it writes to its output and its errors, and the place
 /// that it asks for.
 #[derive(Drop)]
 pub(crate) struct Wanted<'a> {
     status: u8,
     output: Vec<u8>,
     errors: Vec<u8>,
-    port: Option<u16>,
+    place: Option<String>,
     /// Texts that the output must have. If there are any, the rest of the output is not compared.
     parts: Vec<&'a str>,
     /// Whether the run must write something to its errors, whatever it is.
@@ -37,11 +37,11 @@ fn outcome_of(
     status: u8,
     output: &[u8],
     errors: &[u8],
-    port: Option<u16>,
+    place: Option<&str>,
 ) -> Result<Vec<u8>, AllocError> {
     let mut text = format!(in alloc; "[status {status}")?;
-    if let Some(port) = port {
-        write!(text, ", port {port}")?;
+    if let Some(place) = place {
+        write!(text, ", {place}")?;
     }
     text.push_str("] ")?;
     let mut told = text.into_bytes();
@@ -59,7 +59,7 @@ impl<'a> Wanted<'a> {
             status: 0,
             output: Vec::new(alloc),
             errors: Vec::new(alloc),
-            port: None,
+            place: None,
             parts: Vec::new(alloc),
             is_mistake: false,
         }
@@ -77,12 +77,21 @@ impl<'a> Wanted<'a> {
     pub(crate) fn read(&mut self, alloc: Global, word: &str, text: &'a str) -> Result<()> {
         match word {
             "status" => self.status = text.parse()?,
-            "port" => self.port = Some(text.parse()?),
+            "port" | "socket" => self.place = Some(format!(in alloc; "{word} {text}")?),
+            "limits" => self.add_limits(text)?,
             "part" => self.parts.push(text)?,
             "errors" => add_bytes(&mut self.errors, text)?,
             _ => add_out(alloc, &mut self.output, word, text)?,
         }
         Ok(())
+    }
+
+    /// Adds how many seconds a visitor may take, after the line of a place.
+    fn add_limits(&mut self, text: &str) -> Result<()> {
+        match &mut self.place {
+            Some(place) => Ok(write!(place, ", limits {text}")?),
+            None => bail!("limits without a place"),
+        }
     }
 
     /// The expected report of the run.
@@ -97,7 +106,7 @@ impl<'a> Wanted<'a> {
             self.status,
             self.output.as_slice(),
             errors,
-            self.port,
+            self.place.as_deref(),
         )
     }
 
@@ -113,7 +122,7 @@ impl<'a> Wanted<'a> {
         } else {
             ran.errors.as_slice()
         };
-        let mut told = outcome_of(alloc, ran.status, output, errors, ran.port)?;
+        let mut told = outcome_of(alloc, ran.status, output, errors, ran.place.as_deref())?;
         if !ran.is_released {
             told.extend_from_slice(b" [the store is kept]")?;
         }

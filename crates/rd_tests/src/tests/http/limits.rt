@@ -4,7 +4,7 @@ use super::cases::{
     Came, FOR_HELLO, FOR_LONG, HELLO, LONG, Wanted, assert_visits, bytes_of, filled_desk, text_of,
 };
 use rd_fakes::desk::Memory;
-use rd_http::{Clock, Ended, Limits, Listener, Served, StreamDoor, serve_in_memory};
+use rd_http::{Clock, Ended, Listener, Served, StreamDoor, TimeLimits, serve_in_memory};
 use rd_samples::days::AFTER;
 use rd_samples::table;
 use std::alloc::{AllocGlobal, Global};
@@ -70,9 +70,9 @@ fn serve_call<L: Listener>(alloc: Global, desk: &mut Memory, listener: L, call: 
         step: *step,
         shown: 1_000_000,
     };
-    let limits = Limits {
+    let limits = TimeLimits {
         request: Duration::from_millis(*request),
-        ..Limits::usual()
+        ..TimeLimits::usual()
     };
     let mut door = StreamDoor::with_limits(alloc, listener, clock, limits);
     serve_in_memory(alloc, &mut door, desk, 1)
