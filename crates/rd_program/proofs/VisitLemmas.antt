@@ -1,6 +1,6 @@
 -- The visits that `serve` serves, over the desk that stood.
 use Rattle.std.proofs.Common.{◌≡◌, ℕ, List, Option, Some, None, Result, Ok, Err, IfSome, OnOk, subst, sym}
-use Rattle.std.specs.Prelude.{IsSomeAnd}
+use Rattle.std.specs.Prelude.{IsSomeAnd, ⊤}
 use Rattle.sqlite.specs.Held.{Held}
 use Rattle.sqlite.specs.Store.{Ghosts}
 use Rattle.rd_policy.specs.declared.zone.Zone.{Zone}
@@ -13,6 +13,10 @@ use Rattle.rd_commands.specs.Asks.{IsServeAsk}
 use Rattle.rd_commands.specs.declared.words.Ask.{Ask}
 use Rattle.rd_commands.specs.declared.words.Ask.TheVariants.{Serve}
 use Rattle.rd_commands.specs.Serving.{Place, place_of}
+use Rattle.rd_commands.specs.Commands.{AsksServeAt, IsAskOf}
+use Rattle.rd_commands.specs.declared.serving.Timeouts.{Timeouts}
+use Rattle.rd_messages.specs.declared.pace.TimeLimits.{TimeLimits}
+use Rattle.rd_program.specs.Serving.{AreLimitsOf, GivesLimits, KeepsLimits}
 use Rattle.rd_program.specs.Visiting.{RunsVisits, ServesBy, ServesDoor, ServesDoorBy, ServesVisits}
 use Rattle.rd_program.proofs.ShowLemmas.{ends_with}
 
@@ -63,3 +67,29 @@ module _ {S D : Type 0} (g : Ghosts S) (told : D → Option VisitsSoFar) (coming
         (subst (λ s. ServesDoor g told coming ask.count ask.zone (doors (place_of ask.place)) (laters (place_of ask.place)) (stands s) left) asks.store_is serves)),
   )
   serves_by doors laters stands left ask store place count rule asks serves = absurd asks
+
+-- ---- how long visitors may take
+
+-- the limits that a machine was told are those of the seconds
+pub limits_are : (shown : Option TimeLimits) (timeouts : Timeouts) (given : TimeLimits) → AreLimitsOf timeouts given → IfSome shown (λ limit. limit ≡ given)
+    → IfSome shown (AreLimitsOf timeouts)
+limits_are (Some limit) timeouts given are is = subst (AreLimitsOf timeouts) (sym is) are
+limits_are None timeouts given are is = tt
+
+-- a call after the visits keeps them
+pub limits_kept : {T E : Type 0} (r : Result T E) (shown later : Option TimeLimits) (timeouts : Timeouts) → later ≡ shown → IfSome shown (AreLimitsOf timeouts)
+    → OnOk r (IfSome later (AreLimitsOf timeouts))
+limits_kept (Ok value) shown later timeouts same are = subst (λ l. IfSome l (AreLimitsOf timeouts)) (sym same) are
+limits_kept (Err error) shown later timeouts same are = tt
+
+-- no other command has any
+pub no_limits : {T E : Type 0} (r : Result T E) → OnOk r (⊤)
+no_limits (Ok value) = tt
+no_limits (Err error) = tt
+
+-- the seconds are those that the words give
+pub limits_by : (words : List (List ℕ)) (shown : Option TimeLimits) (ask : Ask) (store : List ℕ) (place : Place) (count : ℕ) (rule : List ℕ) → IsAskOf words ask
+    → (asks : AsksServeAt words store place count rule) → KeepsLimits shown ask → IfSome shown (GivesLimits asks)
+limits_by words (Some limit) (Serve ask) store place count rule is asks are = (ask.timeouts, is.timeouts asks.rows asks.enters, are)
+limits_by words None (Serve ask) store place count rule is asks are = tt
+limits_by words shown ask store place count rule is asks are = absurd (is.serve store place count rule asks)

@@ -1,5 +1,5 @@
 -- What the command `serve` gives.
-use Rattle.std.specs.Prelude.{◌≡◌, ◌*◌, ◌⊎◌, ℕ, ℤ, Err, IfSome, List, Ok, Option, Result, ◌++◌, codes}
+use Rattle.std.specs.Prelude.{◌≡◌, ◌*◌, ◌⊎◌, ℕ, ℤ, Err, IfSome, List, Ok, Option, Result, ◌++◌, codes, ⊤}
 use Rattle.std.specs.Duration.{as_nanos}
 use Rattle.std.specs.Fmt.{decimal}
 use Rattle.rd_messages.specs.declared.pace.TimeLimits.{TimeLimits}
@@ -11,8 +11,11 @@ use Rattle.rd_http.specs.declared.serve.Ended.TheVariants as ended
 use Rattle.rd_commands.specs.Output.{AppendsPart}
 use Rattle.rd_commands.specs.Printed.{line_feed}
 use Rattle.rd_commands.specs.Refusals.{IsDeviceOrMemory}
-use Rattle.rd_commands.specs.Serving.{Place}
+use Rattle.rd_commands.specs.Commands.{AsksServeAt}
+use Rattle.rd_commands.specs.Serving.{GivesTimeouts, Place}
 use Rattle.rd_commands.specs.Serving.Place.{Port, Socket}
+use Rattle.rd_commands.specs.declared.words.Ask.{Ask}
+use Rattle.rd_commands.specs.declared.words.Ask.TheVariants.{Serve}
 use Rattle.rd_commands.specs.declared.refusal.Refusal.{Refusal}
 use Rattle.rd_commands.specs.declared.refusal.Refusal.TheVariants.{Clock, Device, Inconsistent, NoMemory, NotADesk, Store, Version}
 
@@ -34,6 +37,16 @@ pub record AreLimitsOf (timeouts : Timeouts) (limits : TimeLimits) : Type 0 wher
   pub request : as_nanos limits.request ≡ timeouts.request * 1_000_000_000
   pub write : as_nanos limits.write ≡ timeouts.write * 1_000_000_000
   pub reply : as_nanos limits.reply ≡ timeouts.reply * 1_000_000_000
+
+-- visitors may take as many seconds as the words of `serve` give
+abbrev pub GivesLimits : {words : List (List ℕ)} {store : List ℕ} {place : Place} {count : ℕ} {rule : List ℕ} → AsksServeAt words store place count rule
+    → TimeLimits → Type 0
+GivesLimits asks limits = (timeouts : Timeouts) × GivesTimeouts asks.rows timeouts × AreLimitsOf timeouts limits
+
+-- visitors, if it is shown how long they may take, may take as long as the command says
+abbrev pub KeepsLimits : Option TimeLimits → Ask → Type 0
+KeepsLimits shown (Serve ask) = IfSome shown (AreLimitsOf ask.timeouts)
+KeepsLimits shown ask = ⊤
 
 -- the line that says how many visits were served
 abbrev pub served_line : ℕ → List ℕ

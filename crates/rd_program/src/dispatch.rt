@@ -20,7 +20,7 @@ ghost use Rattle.rd_commands.specs.Refusals.{IsDeviceOrMemory, status_of};
 ghost use Rattle.rd_program.specs.Rows.{ImportsBy, IsBadSheetDue, RefusesSheetBy, TakesSheetIn};
 ghost use Rattle.rd_policy.specs.Days.{HasDay};
 ghost use Rattle.rd_program.specs.Asked.{AsksAt, AsksBy, IsClockDue, IsClockDueBy, IsUnaskedBy, NamesStore};
-ghost use Rattle.rd_program.specs.Serving.{IsUnaskedRefusal, RefusesServe, RefusesServeAt, serve_text, serve_text_at};
+ghost use Rattle.rd_program.specs.Serving.{GivesLimits, IsUnaskedRefusal, KeepsLimits, RefusesServe, RefusesServeAt, serve_text, serve_text_at};
 ghost use Rattle.rd_holdings.specs.declared.rows.Outcome.TheVariants as Outcome;
 ghost use Rattle.rd_protocol.specs.declared.request.What.TheVariants as What;
 ghost use Rattle.rd_commands.specs.Serving.{Place};
@@ -94,6 +94,7 @@ fn perform<R: Read, W: Write, M: Machine>(
         (W.contents output.old) (W.contents output.new) ask.entry result }
     ensures serves { OnOk result (ServesBy M.Disk.Store M.Door.told M.Door.coming (M.door machine.old) (M.door machine.new)
         (M.stands machine.old) (M.left machine.new) ask.entry) }
+    ensures limits { OnOk result (KeepsLimits (M.door_limits machine.new) ask.entry) }
     ensures imports { ImportsBy M.Disk.Store (M.file_bytes machine.old) (M.sheet_bytes machine.old) (M.clock machine.old) (M.stands machine.old)
         (M.left machine.new) (W.contents output.old) (W.contents output.new) ask.entry result }
     ensures unasked { IsUnaskedBy (M.clock machine.old) ask.entry result }
@@ -238,7 +239,8 @@ pub fn run<R: Read, W: Write, E: Write, M: Machine>(
         → AsksServe (map (λ word. word.now) words.entry.now) store port count rule
         → Leaves (M.left machine.old) (M.stands machine.old store) (M.left machine.new) (Lasts M.Disk.Store) }
 
-    // And so of a `serve` at any place: a port, or a Unix socket at a path.
+    // And so of a `serve` at any place: a port, or a Unix socket at a path. Its visitors may take as long as the words
+    // say.
     ensures served_at { result ≡ 0 → (store : List ℕ) (place : Place) (count : ℕ) (rule : List ℕ)
         → AsksServeAt (map (λ word. word.now) words.entry.now) store place count rule
         → Appends (W.contents output.old) (W.contents output.new) (serve_text_at place count) }
@@ -252,6 +254,9 @@ pub fn run<R: Read, W: Write, E: Write, M: Machine>(
         → AsksServeAt (map (λ word. word.now) words.entry.now) store place count rule
         → ServesDoorBy M.Disk.Store M.Door.told M.Door.coming count rule (M.door machine.old place) (M.door machine.new place)
         (M.stands machine.old store) (M.left machine.new) }
+    ensures limits { result ≡ 0 → (store : List ℕ) (place : Place) (count : ℕ) (rule : List ℕ)
+        → (asks : AsksServeAt (map (λ word. word.now) words.entry.now) store place count rule)
+        → IfSome (M.door_limits machine.new) (GivesLimits asks) }
     ensures serve_leaves_at { (store : List ℕ) (place : Place) (count : ℕ) (rule : List ℕ)
         → AsksServeAt (map (λ word. word.now) words.entry.now) store place count rule
         → Leaves (M.left machine.old) (M.stands machine.old store) (M.left machine.new) (Lasts M.Disk.Store) }

@@ -3,6 +3,7 @@ ghost use Rattle.sqlite.specs.Held.{Held};
 ghost use Rattle.sqlite.specs.declared.error.Error.TheVariants.{SqliteFailure};
 ghost use Rattle.sqlite.specs.declared.error.ErrorCode.TheVariants as code;
 ghost use Rattle.std.specs.Borrow.{sem};
+ghost use Rattle.rd_messages.specs.declared.pace.TimeLimits as pace;
 ghost use Rattle.rd_commands.specs.Serving as places;
 ghost use Rattle.rd_commands.specs.Serving.{place_of};
 ghost use Rattle.rd_program.specs.Doors.{AsksPath, LendsDoor};
@@ -40,6 +41,9 @@ pub trait Machine: Files {
     /// The door at a place, if the machine shows it.
     ghost door: { Self → places.Place → Option Self.Door };
 
+    /// How long visitors may take at the door that it lent last, if the machine shows it.
+    ghost door_limits: { Self → Option pace.TimeLimits } = { λ _. None };
+
     /// The connection that stands for a store at a path, if the machine shows it.
     ghost stands: { Self → List ℕ → Option (Held Self.Disk) };
 
@@ -71,6 +75,7 @@ pub trait Machine: Files {
         ensures back { IsTrue (shows self.old) → left self.new ≡ conn.old }
         ensures asked { paths self.new ≡ paths self.old }
         ensures shows { shows self.new ≡ shows self.old }
+        ensures door_limits { door_limits self.new ≡ door_limits self.old }
         ensures door { door self.new ≡ door self.old };
 
     /// The seconds since 1970-01-01T00:00:00 UTC.
@@ -87,6 +92,6 @@ pub trait Machine: Files {
     ///
     /// It fails when it cannot open the place.
     fn listen(&mut self, place: Place, limits: TimeLimits) -> Result<&mut Self::Door, MachineFault>
-        ensures* lends { sem 𝓛 (LendsDoor Self.row Self.Door.row shows paths door (place_of place.entry) self.entry result) }
+        ensures* lends { sem 𝓛 (LendsDoor Self.row Self.Door.row shows paths door_limits door (place_of place.entry) limits self.entry result) }
         ensures lent { IfOk result (λ lent. IfSome (door self.old (place_of place.entry)) (λ shown. lent.now ≡ shown)) };
 }

@@ -101,6 +101,7 @@ fn serve_visits<W: Write, M: Machine>(
     ensures unserved { IfErr result (λ _. desk.new.store ≡ desk.old.store) }
     ensures shows { M.shows machine.new ≡ M.shows machine.old }
     ensures asked { M.paths machine.new ≡ M.paths machine.old }
+    ensures limits { IfOk result (λ _. IfSome (M.door_limits machine.new) (AreLimitsOf ask.entry.timeouts)) }
     ensures visits { IfOk result (λ served. IfSome (M.door machine.old (place_of ask.entry.place))
         (λ before. IsSomeAnd (M.door machine.new (place_of ask.entry.place)) (λ after.
         RunsVisits M.Disk.Store M.Door.told M.Door.coming desk.old.zone before after served desk.old.store desk.new.store))) }
@@ -150,6 +151,7 @@ pub(crate) fn serve<W: Write, M: Machine>(
     ensures visits { OnOk result (ServesDoor M.Disk.Store M.Door.told M.Door.coming ask.entry.count ask.entry.zone
         (M.door machine.old (place_of ask.entry.place)) (M.door machine.new (place_of ask.entry.place))
         (M.stands machine.old ask.entry.store.now) (M.left machine.new)) }
+    ensures limits { OnOk result (IfSome (M.door_limits machine.new) (AreLimitsOf ask.entry.timeouts)) }
     ensures back { GivesBack (M.shows machine.old) (M.left machine.old) (M.left machine.new) }
     ensures there { OnEnded result (HasBoth (M.shows machine.old) (M.stands machine.old ask.entry.store.now) (M.left machine.new)) }
     ensures asked { AsksPath (M.paths machine.old) ask.entry.store.now (M.paths machine.new) }

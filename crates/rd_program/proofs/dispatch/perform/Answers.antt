@@ -5,7 +5,8 @@ use Rattle.rd_commands.specs.Cat.{Refuses, Serves}
 use Rattle.std.specs.Io.KnownBytes.{Appends}
 use Rattle.rd_program.specs.Leaves.{LeavesBy, LeavesRefused, OnEnded, StandsThere}
 use Rattle.rd_commands.specs.Listed.{Lists, RefusesList}
-use Rattle.rd_program.specs.Serving.{RefusesServeAt, serve_text_at}
+use Rattle.rd_program.specs.Serving.{KeepsLimits, RefusesServeAt, serve_text_at}
+use Rattle.rd_program.proofs.VisitLemmas.{no_limits}
 use Rattle.rd_program.proofs.AnswerLemmas.{once_kept, once_never}
 use Rattle.rd_program.proofs.ImportLemmas.{ended_whole, err_whole, ok_whole, whole_is}
 use Rattle.rd_program.proofs.InitLemmas.{at_err_both, left_as, made_as, on_both}
@@ -468,6 +469,32 @@ returns-in-OneQuestion-clause-serves g c =
     subst (λ ask. OnOk c.ask_once.result (ServesBy g.M.Disk.Store g.M.Door.Door.told g.M.Door.Door.coming (g.M.Machine.door c.args.machine.now) (g.M.Machine.door c.ask_once.new.machine)
     (g.M.Machine.stands c.args.machine.now) (g.M.Machine.left c.ask_once.new.machine) ask)) (sym c.in-OneQuestion.is)
     (stands_nowhere c.ask_once.result)
+
+-- ---- how long visitors may take
+
+pub returns-in-File-clause-limits : goal.returns-in-File-clause-limits
+returns-in-File-clause-limits g c = subst (λ ask. OnOk c.whole.result (KeepsLimits (g.M.Machine.door_limits c.cat.new.machine) ask)) (sym c.in-File.is) (no_limits c.whole.result)
+
+pub returns-in-Files-clause-limits : goal.returns-in-Files-clause-limits
+returns-in-Files-clause-limits g c =
+    subst (λ ask. OnOk c.whole-in-Files.result (KeepsLimits (g.M.Machine.door_limits c.list.new.machine) ask)) (sym c.in-Files.is) (no_limits c.whole-in-Files.result)
+
+pub returns-in-Init-clause-limits : goal.returns-in-Init-clause-limits
+returns-in-Init-clause-limits g c =
+    subst (λ ask. OnOk c.whole-in-Init.result (KeepsLimits (g.M.Machine.door_limits c.init.new.machine) ask)) (sym c.in-Init.is) (no_limits c.whole-in-Init.result)
+
+pub returns-in-Serve-clause-limits : goal.returns-in-Serve-clause-limits
+returns-in-Serve-clause-limits g c =
+    subst (λ ask. OnOk c.whole-in-Serve.result (KeepsLimits (g.M.Machine.door_limits c.serve.new.machine) ask)) (sym c.in-Serve.is)
+    (ok_whole _ c.serve.result c.whole-in-Serve.result c.whole-in-Serve.ensures c.serve.ensures.limits)
+
+pub returns-in-Import-clause-limits : goal.returns-in-Import-clause-limits
+returns-in-Import-clause-limits g c =
+    subst (λ ask. OnOk c.import.result (KeepsLimits (g.M.Machine.door_limits c.import.new.machine) ask)) (sym c.in-Import.is) (no_limits c.import.result)
+
+pub returns-in-OneQuestion-clause-limits : goal.returns-in-OneQuestion-clause-limits
+returns-in-OneQuestion-clause-limits g c =
+    subst (λ ask. OnOk c.ask_once.result (KeepsLimits (g.M.Machine.door_limits c.ask_once.new.machine) ask)) (sym c.in-OneQuestion.is) (no_limits c.ask_once.result)
 
 -- ---- the store, the clock and the sheet
 

@@ -20,7 +20,7 @@ use Rattle.rd_program.specs.Rows.{IsBadSheetDue, TakesSheetIn}
 use Rattle.rd_program.proofs.RowLemmas.{import_at_1, imports_by, no_memory_sheet, sheet_of_words}
 use Rattle.rd_program.specs.Serving.{IsUnaskedRefusal}
 use Rattle.rd_program.proofs.DaylessMoments.{always, command_at, import_clock, once_clock, unasked_by}
-use Rattle.rd_program.proofs.VisitLemmas.{serves_by}
+use Rattle.rd_program.proofs.VisitLemmas.{limits_by, serves_by}
 use Rattle.rd_program.proofs.FileLemmas.{files_done, files_refused, help_told, of_image, one_file_done, one_file_refused}
 use Rattle.rd_commands.proofs.GetterLemmas.{help_asked, no_fault_in}
 use Rattle.std.proofs.KnownBytes.{Keeps-refl}
@@ -734,6 +734,18 @@ returns-in-Ok-perform-clause-visits_at g c = λ zero store place count rule aske
 
 pub returns-in-Ok-perform-clause-visits : goal.returns-in-Ok-perform-clause-visits
 returns-in-Ok-perform-clause-visits g c = λ zero store port. returns-in-Ok-perform-clause-visits_at g c zero store (Port port)
+
+pub returns-in-Ok-perform-clause-limits : goal.returns-in-Ok-perform-clause-limits
+returns-in-Ok-perform-clause-limits g c = λ zero store place count rule asks.
+    limits_by _ (g.M.Machine.door_limits c.perform.new.machine) c.in-Ok.ask store place count rule c.in-Ok.ensures.read asks c.in-Ok-perform.ensures.limits
+
+pub returns-in-Err-perform-clause-limits : goal.returns-in-Err-perform-clause-limits
+returns-in-Err-perform-clause-limits g c = λ zero. absurd (not_done c.in-Err-perform.refused (sym c.tell_refusal.ensures.status ∙ zero))
+
+pub returns-in-Err-clause-limits : goal.returns-in-Err-clause-limits
+returns-in-Err-clause-limits g c = λ zero store place count rule asks.
+    let memory = c.tell_unread.ensures.memory (c.in-Err.ensures.unread (inr (inr (inr (inl (store, place, count, rule, asks)))))) in
+    let three : c.tell_unread.result ≡ 3 = memory.0 in absurd (omega arith)
 
 pub returns-in-Err-perform-clause-visits_at : goal.returns-in-Err-perform-clause-visits_at
 returns-in-Err-perform-clause-visits_at g c = λ zero. absurd (not_done c.in-Err-perform.refused (sym c.tell_refusal.ensures.status ∙ zero))

@@ -2,7 +2,7 @@ use Rattle.std.proofs.Common.{◌∙◌, IsTrue, ap, rules, subst, sym}
 use Rattle.rd_commands.specs.Serving.{place_of}
 use Rattle.rd_program.proofs.Named.{asked_then}
 use Rattle.rd_program.proofs.LeftStores.{gives_back, has_both, on_ended_always, opening_fails}
-use Rattle.rd_program.proofs.VisitLemmas.{serves_door}
+use Rattle.rd_program.proofs.VisitLemmas.{limits_kept, serves_door}
 use Rattle.rd_program.proofs.LeftStoresByWords.{lasts_left, opened_left, serve_ended, serve_not_begun, unserved_left}
 use Rattle.rd_program.proofs.ServeLines.{both_lines, ends, not_listening, not_opened}
 use Rattle.rd_program.proofs.serve.serve.Goals as goal
@@ -74,6 +74,11 @@ returns-clause-visits g c =
     c.in_ok-desk.desk.store c.serve_visits-served.new.desk.store c.into_connection.result
     c.in_ok-desk.ensures.zone (ap (λ d. d at) c.open_desk.ensures.door) (ap (λ d. d at) c.release.ensures.door) c.in_ok-desk.ensures.opened c.in_ok-served.ensures.lasts
     (c.into_connection.ensures.same ∙ c.into_store.ensures) c.release.ensures.left c.in_ok-served.ensures.count c.tell_ended.ensures.count c.in_ok-served.ensures.visits
+
+pub returns-clause-limits : goal.returns-clause-limits
+returns-clause-limits g c =
+    limits_kept c.tell_ended.result (g.M.Machine.door_limits c.serve_visits-served.new.machine) (g.M.Machine.door_limits c.release.new.self) c.args.ask.timeouts
+    c.release.ensures.door_limits c.in_ok-served.ensures.limits
 
 pub returns-clause-there : goal.returns-clause-there
 returns-clause-there g c =
