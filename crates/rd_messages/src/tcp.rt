@@ -29,7 +29,7 @@ const MOST_HELD: usize = 16_384;
 ///
 /// It holds back up to 16,384 bytes that were put, so that a file's many short slices take few
 /// system calls. It sends them as soon as it may hold no more; `flush` sends the last of them. If
-/// there is no memory for them, it sends at once what is put.
+/// there is no memory for them, it sends what is put at once, as many bytes in a write.
 #[derive(Drop)]
 pub struct StreamWire<S, C> {
     stream: S,
@@ -165,7 +165,7 @@ impl<S: Stream, C: Clock + Drop> Wire for StreamWire<S, C> {
         let count = bytes.len().min(MOST_HELD - self.held.len());
         match self.held.extend_from_slice(&bytes[..count]) {
             Ok(()) => Ok(count),
-            Err(_) => self.put_at_once(bytes),
+            Err(_) => self.put_at_once(&bytes[..count]),
         }
     }
 
