@@ -26,7 +26,7 @@ use Rattle.rd_geometry.specs.Kinds.{word_of}
 use Rattle.clap.specs.declared.error.kind.ErrorKind.{ErrorKind}
 use Rattle.rd_commands.specs.Asks.{EntersAs, EntersByRule, EntersCat, EntersCheck, EntersExport, EntersImport, EntersInit, EntersList, EntersNaming, EntersNamingNone, EntersNoPlace, EntersServe, EntersShow, EntersTelling, EntersTimed, HasTimeouts, IsMistake, IsWithinLimits, IsFaultOf, IsForMemory, IsFileAsk, IsFilesAsk, IsHelp, IsImportAsk, IsInitAsk, IsMomentNamed, IsOneQuestionAsk, IsServeAsk, TellsOnOutput}
 use Rattle.rd_commands.specs.CommandLine.{AsksForHelp, Enters, HasFault, IsDeskApp, IsTaken, IsTakenAs, IsTakenTelling, NameList, desk_app}
-use Rattle.rd_commands.specs.Commands.{AsksCheck, AsksExport, AsksImport, AsksInit, AsksServeAt, AsksShow, IsAskOf, IsCommand, NamesWhatItShows, TellsARule}
+use Rattle.rd_commands.specs.Commands.{AsksCheck, AsksExport, AsksImport, AsksInit, AsksServe, AsksShow, IsAskOf, IsCommand, IsTakenServingNowhere, IsTakenShowingNothing, NamesWhatItShows, TellsARule}
 use Rattle.rd_commands.specs.Serving.{Place}
 use Rattle.rd_commands.specs.Words.{AsksCat, AsksList, IsSlotText}
 use Rattle.rd_commands.specs.Zones.{HasClocks, rule_text}
@@ -112,7 +112,7 @@ pub record GivesAsk (words : List Text) (o : Option Ask) : Type 0 where
   pub file : (kind : Kind) (image : Text) (slot : ℕ) → AsksCat words kind image slot → IsSomeAnd o (IsFileAsk kind image slot)
   pub files : (kind : Kind) (image : Text) → AsksList words kind image → IsSomeAnd o (IsFilesAsk kind image)
   pub init : (store key : Text) → AsksInit words store key → IsSomeAnd o (IsInitAsk store key)
-  pub serve : (store : Text) (place : Place) (count : ℕ) (rule : Text) → AsksServeAt words store place count rule → IsSomeAnd o (IsServeAsk store place count rule)
+  pub serve : (store : Text) (place : Place) (count : ℕ) (rule : Text) → AsksServe words store place count rule → IsSomeAnd o (IsServeAsk store place count rule)
   pub timeouts : (rows : List Row) → Enters words (codes "serve") rows → IfSome o (HasTimeouts rows)
   pub import : (store key sheet : Text) (moment : Option ℤ) (rule : Text) → AsksImport words store key sheet moment rule
       → IsSomeAnd o (IsImportAsk store key sheet moment rule)
@@ -367,7 +367,7 @@ day_no_fault words fault (inr memory) = subst (IsFaultOf words) (sym memory) tt
 
 module _ (app : App) (words : List Text) (m : ArgMatches) (desk : IsDeskApp app) (matches : HasMatchesOf app words m) (none : is_simple_and_free app ≡ true → fault_of app words ≡ []) where
   -- the words are the command that a parse of them went into
-  taken_as : (name : Text) → EntersAs name (subcommand_rows_of m) → IsTakenAs name words
+  abbrev taken_as : (name : Text) → EntersAs name (subcommand_rows_of m) → IsTakenAs name words
   taken_as name entered = record {
     app = app;
     is_desk = desk;
@@ -377,12 +377,12 @@ module _ (app : App) (words : List Text) (m : ArgMatches) (desk : IsDeskApp app)
   }
 
   -- words of which nothing to show is found are taken as `show`
-  pub taken_showing : EntersNamingNone (subcommand_rows_of m) → IsTakenAs (codes "show") words
-  taken_showing entered = taken_as (codes "show") (entered.0, entered.1)
+  pub taken_showing : EntersNamingNone (subcommand_rows_of m) → IsTakenShowingNothing words
+  taken_showing entered = (taken_as (codes "show") (entered.0, entered.1), entered.2)
 
   -- words that name no place, or two, are taken as `serve`
-  pub taken_serving : EntersNoPlace (subcommand_rows_of m) → IsTakenAs (codes "serve") words
-  taken_serving entered = taken_as (codes "serve") (entered.0, entered.1)
+  pub taken_serving : EntersNoPlace (subcommand_rows_of m) → IsTakenServingNowhere words
+  taken_serving entered = (taken_as (codes "serve") (entered.0, entered.1), entered.2)
 
   taken_telling : EntersTelling (subcommand_rows_of m) → IsTakenTelling words
   taken_telling (inl import) = inl (taken_as (codes "import") import)

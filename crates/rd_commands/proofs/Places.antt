@@ -11,7 +11,7 @@ use Rattle.rd_commands.specs.CommandLine.{IsDeskApp}
 use Rattle.rd_commands.specs.Commands.{IsCommand, NamesAPlace, NamesWhatItShows}
 use Rattle.rd_commands.specs.Serving.{AreSeconds, GivesTimeouts, IsNumberTold, NamesOnePlace, NamesPlace, Place, place_of}
 use Rattle.rd_commands.specs.Serving.Place.{Port, Socket}
-use Rattle.rd_commands.specs.declared.serving.Place.{Place as Clap}
+use Rattle.rd_commands.specs.declared.serving.Place.{Place as Told}
 use Rattle.rd_commands.specs.declared.serving.Timeouts.{Timeouts}
 use Rattle.rd_commands.specs.declared.words.Ask.{Ask}
 use Rattle.rd_commands.specs.declared.words.Unread.{Unread}
@@ -42,7 +42,7 @@ there_and_absent o text there absent = let no : Some text ≡ None = there ∙ a
 -- ---- the place
 
 -- where there is a socket, a place that is named is that socket, and there is no port
-pub socket_is : (rows : List Row) (path : Text) (told : Option Clap) (place : Place) → Some path ≡ first_of (codes "socket") rows
+pub socket_is : (rows : List Row) (path : Text) (told : Option Told) (place : Place) → Some path ≡ first_of (codes "socket") rows
     → (first_of (codes "port") rows ≡ None → IsSomeAnd told (λ t. place_of t ≡ Socket path)) → NamesPlace rows place
     → IsSomeAnd told (λ t. place_of t ≡ place)
 socket_is rows path told (Port port) there alone named = absurd (there_and_absent _ path there named.1)
@@ -52,7 +52,7 @@ socket_is rows path told (Socket other) there alone named =
     subst (λ p. IsSomeAnd told (λ t. place_of t ≡ Socket p)) same (alone named.1)
 
 -- and what is given there is named
-pub socket_named : (rows : List Row) (path : Text) (told : Option Clap) → Some path ≡ first_of (codes "socket") rows
+pub socket_named : (rows : List Row) (path : Text) (told : Option Told) → Some path ≡ first_of (codes "socket") rows
     → IfSome told (λ t. (place_of t ≡ Socket path) × (first_of (codes "port") rows ≡ None)) → IfSome told (λ t. NamesPlace rows (place_of t))
 socket_named rows path (Some told) there given = subst (NamesPlace rows) (sym given.0) (sym there, given.1)
 socket_named rows path None there given = tt

@@ -6,9 +6,8 @@ use Rattle.rd_commands.specs.declared.words.Ask.{Ask}
 use Rattle.rd_commands.specs.declared.words.Question.TheVariants.{Catalogue, Check, Show}
 use Rattle.rd_commands.specs.declared.words.Shown.{Shown}
 use Rattle.rd_commands.specs.Asks.{AreCheckRows, AreExportRows, AreImportRows, AreInitRows, AreServeRows, AreShowRows, HasTimeouts, IsFileAsk, IsFilesAsk, IsImportAsk, IsInitAsk, IsOneQuestionAsk, IsServeAsk}
-use Rattle.rd_commands.specs.CommandLine.{Enters}
+use Rattle.rd_commands.specs.CommandLine.{Enters, IsTakenAs}
 use Rattle.rd_commands.specs.Serving.{NamesOnePlace, Place}
-use Rattle.rd_commands.specs.Serving.Place.{Port}
 use Rattle.rd_commands.specs.Shown.{NamesAny, NamesShown}
 use Rattle.rd_commands.specs.Words.{AsksCat, AsksList}
 use Rattle.rd_commands.specs.Zones.{HasClocks, HasZoneRule}
@@ -21,14 +20,10 @@ pub record AsksInit (words : List Text) (store key : List ℕ) : Type 0 where
 
 -- The words ask for so many visits at a place, of the desk in the file of a store whose clocks are those of the
 -- rule: they are those of `serve`, as `clap` takes them.
-pub record AsksServeAt (words : List Text) (store : List ℕ) (place : Place) (count : ℕ) (rule : List ℕ) : Type 0 where
+pub record AsksServe (words : List Text) (store : List ℕ) (place : Place) (count : ℕ) (rule : List ℕ) : Type 0 where
   pub rows : List Row
   pub enters : Enters words (codes "serve") rows
   pub found : AreServeRows rows store place count rule
-
--- the place is a port
-abbrev pub AsksServe : List Text → List ℕ → ℕ → ℕ → List ℕ → Type 0
-AsksServe words store port count rule = AsksServeAt words store (Port port) count rule
 
 -- The words ask the desk in the file of a store to take in the images of a sheet, for a caller
 -- with this key, at a moment that they name, or that of the clock, by the clocks of the rule: they
@@ -83,7 +78,7 @@ IsShow words = (store : List ℕ) × (key : List ℕ) × (shown : Shown) × (mom
 -- holds; none of these reads the input
 abbrev pub AsksOfStore : List Text → Type 0
 AsksOfStore words = ((store : List ℕ) × (key : List ℕ) × AsksInit words store key)
-    ⊎ (((store : List ℕ) × (place : Place) × (count : ℕ) × (rule : List ℕ) × AsksServeAt words store place count rule)
+    ⊎ (((store : List ℕ) × (place : Place) × (count : ℕ) × (rule : List ℕ) × AsksServe words store place count rule)
     ⊎ (IsImport words ⊎ (IsExport words ⊎ (((acc : ℕ) × IsCheckOf words acc) ⊎ IsShow words))))
 
 -- the words are a command of the program: a plain form of `cat` or `list`, or any form of the others
@@ -103,12 +98,20 @@ NamesWhatItShows words = (rows : List Row) → Enters words (codes "show") rows 
 abbrev pub NamesAPlace : List Text → Type 0
 NamesAPlace words = (rows : List Row) → Enters words (codes "serve") rows → NamesOnePlace rows
 
+-- `clap` takes the words as `show`, and they name nothing that it shows
+abbrev pub IsTakenShowingNothing : List Text → Type 0
+IsTakenShowingNothing words = (taken : IsTakenAs (codes "show") words) × ¬ NamesAny taken.rows
+
+-- it takes them as `serve`, and they name no place, or two
+abbrev pub IsTakenServingNowhere : List Text → Type 0
+IsTakenServingNowhere words = (taken : IsTakenAs (codes "serve") words) × ¬ NamesOnePlace taken.rows
+
 -- the program asks for what the words ask for
 pub record IsAskOf (words : List Text) (ask : Ask) : Type 0 where
   pub file : (kind : Kind) (image : List ℕ) (slot : ℕ) → AsksCat words kind image slot → IsFileAsk kind image slot ask
   pub files : (kind : Kind) (image : List ℕ) → AsksList words kind image → IsFilesAsk kind image ask
   pub init : (store key : List ℕ) → AsksInit words store key → IsInitAsk store key ask
-  pub serve : (store : List ℕ) (place : Place) (count : ℕ) (rule : List ℕ) → AsksServeAt words store place count rule
+  pub serve : (store : List ℕ) (place : Place) (count : ℕ) (rule : List ℕ) → AsksServe words store place count rule
       → IsServeAsk store place count rule ask
   pub timeouts : (rows : List Row) → Enters words (codes "serve") rows → HasTimeouts rows ask
   pub import : (store key sheet : List ℕ) (moment : Option ℤ) (rule : List ℕ)

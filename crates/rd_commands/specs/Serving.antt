@@ -3,7 +3,7 @@ use Rattle.std.specs.Prelude.{◌≡◌, ℕ, List, None, Ok, Option, Some, code
 use Rattle.std.specs.Str.Parse.{ParsesUnsigned}
 use Rattle.std.specs.declared.num.ParseIntError.{ParseIntError}
 use Rattle.clap.specs.Words.{Row, first_of, one_of}
-use Rattle.rd_commands.specs.declared.serving.Place.{Place as Clap}
+use Rattle.rd_commands.specs.declared.serving.Place.{Place as Told}
 use Rattle.rd_commands.specs.declared.serving.Place.TheVariants as told
 use Rattle.rd_commands.specs.declared.serving.Timeouts.{Timeouts}
 
@@ -13,7 +13,7 @@ pub data Place : Type 0 where
   Socket : List ℕ → Place
 
 -- the place that the program was told
-abbrev pub place_of : Clap → Place
+abbrev pub place_of : Told → Place
 place_of (told.Port port) = Port port
 place_of (told.Socket path) = Socket path.now
 

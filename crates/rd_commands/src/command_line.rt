@@ -201,7 +201,7 @@ fn request_option<'a>(alloc: Global) -> Arg<'a>
     timeout_option(
         alloc,
         "request-timeout",
-        "How long a visitor may take to send a request, 1 to 3600; without it 10",
+        "The most seconds for sending a request, 1 to 3600; 10 where it is not given",
     )
 }
 
@@ -212,7 +212,7 @@ fn write_option<'a>(alloc: Global) -> Arg<'a>
     timeout_option(
         alloc,
         "write-timeout",
-        "How long a visitor may take nothing of a reply, 1 to 3600; without it 10",
+        "The most seconds that a reply waits for room, 1 to 3600; 10 where it is not given",
     )
 }
 
@@ -223,7 +223,7 @@ fn reply_option<'a>(alloc: Global) -> Arg<'a>
     timeout_option(
         alloc,
         "reply-timeout",
-        "How long a visitor may take to read a whole reply, 1 to 3600; without it 60",
+        "The most seconds for taking a reply, 1 to 3600; 60 where it is not given",
     )
 }
 

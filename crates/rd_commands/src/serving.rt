@@ -27,7 +27,7 @@ pub enum Place<'a> {
 pub struct Timeouts {
     /// For the whole request.
     pub request: u16,
-    /// For each write, until the visitor takes a byte of it.
+    /// For each wait until the system has room for a byte of the reply.
     pub write: u16,
     /// For the whole reply.
     pub reply: u16,
@@ -71,7 +71,7 @@ pub(crate) fn place_asked<'a>(found: &ArgMatches<'a>) -> Option<Place<'a>>
 /// Looks whether the options of `serve` name one place.
 ///
 /// It fails with `Place` when they name none, and when they name two.
-fn one_place(found: &ArgMatches) -> Result<(), Unread>
+fn check_one_place(found: &ArgMatches) -> Result<(), Unread>
     ensures named { OnOk result (NamesOnePlace (rows_of (found_of found.now))) }
     ensures none { IfErr result (λ _. ¬ NamesOnePlace (rows_of (found_of found.now))) }
     ensures failed { IfErr result (λ fault. fault ≡ Unread.Place) }
@@ -85,14 +85,14 @@ fn one_place(found: &ArgMatches) -> Result<(), Unread>
 /// Looks whether `serve` has one place, from a parse of the words; there is nothing to look at if they are of another
 /// command.
 ///
-/// It fails as `one_place` does.
-pub(crate) fn has_place(matches: &ArgMatches) -> Result<(), Unread>
+/// It fails as `check_one_place` does.
+pub(crate) fn check_place(matches: &ArgMatches) -> Result<(), Unread>
     ensures named { OnOk result (EntersAtAPlace (subcommand_rows_of matches.now)) }
     ensures none { IfErr result (λ _. EntersNoPlace (subcommand_rows_of matches.now)) }
     ensures failed { IfErr result (λ fault. fault ≡ Unread.Place) }
 {
     match matches.subcommand_matches("serve") {
-        Some(found) => one_place(found),
+        Some(found) => check_one_place(found),
         None => Ok(()),
     }
 }

@@ -36,7 +36,7 @@ const DAY_MISTAKE: &[u8] =
 
 /// What it says about words of `serve` that name no place, or two.
 const PLACE_MISTAKE: &[u8] =
-    b"error: 'serve' takes --port or --socket, and one of them alone\n\nFor more information, try '--help'.\n";
+    b"error: 'serve' needs --port or --socket, and takes only one of them\n\nFor more information, try '--help'.\n";
 
 /// Writes a word after a blank.
 ///

@@ -13,8 +13,8 @@ ghost use Rattle.rd_commands.specs.Asks.{AsksFile, AsksFiles, AsksImages, AsksNe
 ghost use Rattle.rd_commands.specs.Asks.{EntersAtAPlace, EntersNoPlace, EntersTimed};
 ghost use Rattle.rd_commands.specs.Asks.{EntersByRule, EntersCat, EntersCheck, EntersExport, EntersImport, EntersInit, EntersList, EntersNaming, EntersNamingNone, EntersServe, EntersShow, EntersTelling};
 ghost use Rattle.rd_commands.specs.Asks.{IsWithinLimits, IsFaultOf, IsFileAsk, IsFilesAsk, IsForMemory, IsHelp, IsImportAsk, IsInitAsk, IsMistake, IsOneQuestionAsk, IsServeAsk, IsTold, IsVersion, TellsOnOutput};
-ghost use Rattle.rd_commands.specs.CommandLine.{IsDeskApp, IsTaken, IsTakenAs, IsTakenTelling};
-ghost use Rattle.rd_commands.specs.Commands.{IsAskOf, IsCommand, NamesAPlace, NamesWhatItShows, TellsARule};
+ghost use Rattle.rd_commands.specs.CommandLine.{IsDeskApp, IsTaken, IsTakenTelling};
+ghost use Rattle.rd_commands.specs.Commands.{IsAskOf, IsCommand, IsTakenServingNowhere, IsTakenShowingNothing, NamesAPlace, NamesWhatItShows, TellsARule};
 ghost use Rattle.rd_commands.specs.Serving.{GivesTimeouts};
 ghost use Rattle.rd_commands.specs.Serving as spec;
 ghost use Rattle.rd_commands.specs.Shown.{IsDayGiven, IsShowable, IsShownAs, NamesAny, NamesShown};
@@ -24,7 +24,7 @@ ghost use Rattle.rd_commands.specs.declared.words.Unread.TheVariants as Unread;
 
 use crate::blanks::trimmed;
 use crate::command_line::desk_command;
-use crate::serving::{Place, Timeouts, has_place, place_asked, timeouts_asked};
+use crate::serving::{Place, Timeouts, check_place, place_asked, timeouts_asked};
 use clap::{ArgMatches, Command, Error};
 use rd_policy::{DateFault, Zone, date_read, is_scope};
 use rd_volume::Kind;
@@ -457,7 +457,7 @@ fn show_asked<'a>(found: &ArgMatches<'a>, shown: Shown) -> Option<OneQuestionAsk
 /// not of `show`.
 ///
 /// It fails with `Place` when `serve` has no place, or two, and as `shown_found` does.
-fn looked_at(alloc: Global, matches: &ArgMatches) -> Result<Option<Shown>, Unread>
+fn shown_if_placed(alloc: Global, matches: &ArgMatches) -> Result<Option<Shown>, Unread>
     ensures named { IfOk result (EntersNaming (subcommand_rows_of matches.now)) }
     ensures within { IfOk result (λ shown. ForSome shown IsShowable) }
     ensures place { OnOk result (EntersAtAPlace (subcommand_rows_of matches.now)) }
@@ -465,7 +465,7 @@ fn looked_at(alloc: Global, matches: &ArgMatches) -> Result<Option<Shown>, Unrea
     ensures no_place { IfErr result (λ fault. fault ≡ Unread.Place → EntersNoPlace (subcommand_rows_of matches.now)) }
     ensures failed { IfErr result (λ fault. (fault ≡ Unread.Place) ⊎ ((fault ≡ Unread.Day) ⊎ (fault ≡ Unread.NoMemory))) }
 {
-    has_place(matches)?;
+    check_place(matches)?;
     shown_asked(alloc, matches)
 }
 
@@ -530,11 +530,11 @@ fn read_by<'a>(alloc: Global, desk: Command<'a>, words: &'a [&'a str]) -> Result
         → IsMistake fault ⊎ (IsForMemory fault)) }
     ensures none_shown { IfErr result (λ fault. ¬ NamesWhatItShows (map (λ word. word.now) words.entry.now)
         → (fault ≡ Unread.Day) ⊎ (IsForMemory fault)) }
-    ensures day { IfErr result (λ fault. fault ≡ Unread.Day → IsTakenAs (codes "show") (map (λ word. word.now) words.entry.now)) }
+    ensures day { IfErr result (λ fault. fault ≡ Unread.Day → IsTakenShowingNothing (map (λ word. word.now) words.entry.now)) }
     ensures place { OnOk result (NamesAPlace (map (λ word. word.now) words.entry.now)) }
     ensures no_place { IfErr result (λ fault. ¬ NamesAPlace (map (λ word. word.now) words.entry.now)
         → (fault ≡ Unread.Place) ⊎ (IsForMemory fault)) }
-    ensures placeless { IfErr result (λ fault. fault ≡ Unread.Place → IsTakenAs (codes "serve") (map (λ word. word.now) words.entry.now)) }
+    ensures placeless { IfErr result (λ fault. fault ≡ Unread.Place → IsTakenServingNowhere (map (λ word. word.now) words.entry.now)) }
     ensures taken { OnOk result (IsTaken (map (λ word. word.now) words.entry.now)) }
     ensures mistake_in { IfErr result (IsFaultOf (map (λ word. word.now) words.entry.now)) }
     ensures unread { IfErr result (λ fault. IsCommand (map (λ word. word.now) words.entry.now)
@@ -547,7 +547,7 @@ fn read_by<'a>(alloc: Global, desk: Command<'a>, words: &'a [&'a str]) -> Result
 {
     match desk.try_get_matches_from(words) {
         Ok(matches) => {
-            let shown = looked_at(alloc, &matches)?;
+            let shown = shown_if_placed(alloc, &matches)?;
             ask_found(&matches, shown).ok_or(Unread::Usage)
         }
         Err(error) => Err(Unread::Clap(error)),
@@ -570,11 +570,11 @@ pub fn read_words<'a>(alloc: Global, words: &'a [&'a str]) -> Result<Ask<'a>, Un
         → IsMistake fault ⊎ (IsForMemory fault)) }
     ensures none_shown { IfErr result (λ fault. ¬ NamesWhatItShows (map (λ word. word.now) words.entry.now)
         → (fault ≡ Unread.Day) ⊎ (IsForMemory fault)) }
-    ensures day { IfErr result (λ fault. fault ≡ Unread.Day → IsTakenAs (codes "show") (map (λ word. word.now) words.entry.now)) }
+    ensures day { IfErr result (λ fault. fault ≡ Unread.Day → IsTakenShowingNothing (map (λ word. word.now) words.entry.now)) }
     ensures place { OnOk result (NamesAPlace (map (λ word. word.now) words.entry.now)) }
     ensures no_place { IfErr result (λ fault. ¬ NamesAPlace (map (λ word. word.now) words.entry.now)
         → (fault ≡ Unread.Place) ⊎ (IsForMemory fault)) }
-    ensures placeless { IfErr result (λ fault. fault ≡ Unread.Place → IsTakenAs (codes "serve") (map (λ word. word.now) words.entry.now)) }
+    ensures placeless { IfErr result (λ fault. fault ≡ Unread.Place → IsTakenServingNowhere (map (λ word. word.now) words.entry.now)) }
     ensures taken { OnOk result (IsTaken (map (λ word. word.now) words.entry.now)) }
     ensures mistake_in { IfErr result (IsFaultOf (map (λ word. word.now) words.entry.now)) }
     ensures unread { IfErr result (λ fault. IsCommand (map (λ word. word.now) words.entry.now)

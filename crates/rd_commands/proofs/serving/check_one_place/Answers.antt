@@ -1,4 +1,4 @@
-use Rattle.rd_commands.proofs.serving.one_place.Goals as goal
+use Rattle.rd_commands.proofs.serving.check_one_place.Goals as goal
 
 pub returns-in-Some-clause-named : goal.returns-in-Some-clause-named
 returns-in-Some-clause-named c = (_, c.in-Some.ensures.named)

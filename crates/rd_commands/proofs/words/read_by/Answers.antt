@@ -1,8 +1,8 @@
 use Rattle.std.proofs.Common.{◌≡◌, ◌∙◌, ◌⊎◌, codes, inl, inr, map, sym}
 use Rattle.clap.specs.Words.{app_of, subcommand_rows_of}
 use Rattle.rd_commands.specs.Asks.{IsForMemory, IsTold}
-use Rattle.rd_commands.specs.CommandLine.{IsTaken, IsTakenAs}
-use Rattle.rd_commands.specs.Commands.{NamesAPlace, NamesWhatItShows, TellsARule}
+use Rattle.rd_commands.specs.CommandLine.{IsTaken}
+use Rattle.rd_commands.specs.Commands.{IsTakenServingNowhere, IsTakenShowingNothing, NamesAPlace, NamesWhatItShows, TellsARule}
 use Rattle.rd_commands.specs.declared.words.Unread.TheVariants.{Day, Place as NoPlace, Usage}
 use Rattle.rd_commands.proofs.GetterLemmas.{GivesRows, ask_given, ask_accession, ask_read, ask_unread, entered_is, fails_for_memory, names_what_it_shows, never_faulty, no_day, no_fault_in, on_ok_always, passed_on, rule_read, taken_by, taken_on_output, taken_serving, taken_showing, unread_usage, words_at_fault, words_taken}
 use Rattle.rd_commands.proofs.HelpLine.{help_not_parsed, help_unread, not_help}
@@ -80,7 +80,7 @@ returns-in_ok-shown-in-Ok-clause-none_shown c =
     (names_what_it_shows (app_of c.args.desk) _ c.in-Ok.matches c.in_ok-shown-in-Ok.shown c.requires c.in-Ok.ensures.matches c.in_ok-shown-in-Ok.ensures.named)
 
 pub returns-in_ok-shown-in-Ok-clause-day : goal.returns-in_ok-shown-in-Ok-clause-day
-returns-in_ok-shown-in-Ok-clause-day c = no_day (λ fault. IsTakenAs (codes "show") (map (λ word. word.now) c.args.words.now)) c.ask_found.result c.ok_or.result c.ok_or.ensures.value
+returns-in_ok-shown-in-Ok-clause-day c = no_day (λ fault. IsTakenShowingNothing (map (λ word. word.now) c.args.words.now)) c.ask_found.result c.ok_or.result c.ok_or.ensures.value
 
 pub returns-in-Err-clause-day : goal.returns-in-Err-clause-day
 returns-in-Err-clause-day c = λ day. absurd cc
@@ -107,7 +107,7 @@ returns-in_ok-shown-in-Ok-clause-no_place c =
 
 pub returns-in_ok-shown-in-Ok-clause-placeless : goal.returns-in_ok-shown-in-Ok-clause-placeless
 returns-in_ok-shown-in-Ok-clause-placeless c =
-    no_place_of (λ fault. IsTakenAs (codes "serve") (map (λ word. word.now) c.args.words.now)) c.ask_found.result c.ok_or.result c.ok_or.ensures.value
+    no_place_of (λ fault. IsTakenServingNowhere (map (λ word. word.now) c.args.words.now)) c.ask_found.result c.ok_or.result c.ok_or.ensures.value
 
 pub returns-in-Err-clause-placeless : goal.returns-in-Err-clause-placeless
 returns-in-Err-clause-placeless c = λ place. absurd cc
