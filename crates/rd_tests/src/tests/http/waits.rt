@@ -155,22 +155,22 @@ impl<'a> Listener for Visitors<'a> {
 /// Visits: their name, how the visitors behave, how many there are, how the run goes, and what the streams are asked.
 type Call = (&'static str, Manner, u32, Served, &'static str);
 
-const IN_TIME: &str = "30000 read 10000
-31000 read 9000
-32000 read 8000
-33000 read 7000
-34000 read 6000
+const IN_TIME: &str = "30000 read 12000
+31000 read 11000
+32000 read 10000
+33000 read 9000
+34000 read 8000
 35000 write 20000
 50000 write 20000
 65000 write 20000
 80000 write 5000
 95000 end
 95000 read 200
-126000 read 10000
-127000 read 9000
-128000 read 8000
-129000 read 7000
-130000 read 6000
+126000 read 12000
+127000 read 11000
+128000 read 10000
+129000 read 9000
+130000 read 8000
 131000 write 20000
 146000 write 20000
 161000 write 20000
@@ -179,18 +179,18 @@ const IN_TIME: &str = "30000 read 10000
 191000 read 200
 ";
 
-const SLOW_REQUEST: &str = "30000 read 10000
-34000 read 6000
-38000 read 2000
+const SLOW_REQUEST: &str = "30000 read 12000
+34000 read 8000
+38000 read 4000
 42000 end
 42000 read 200
 ";
 
-const SLOW_REPLY: &str = "30000 read 10000
-31000 read 9000
-32000 read 8000
-33000 read 7000
-34000 read 6000
+const SLOW_REPLY: &str = "30000 read 12000
+31000 read 11000
+32000 read 10000
+33000 read 9000
+34000 read 8000
 35000 write 20000
 50000 write 20000
 65000 write 20000
@@ -205,10 +205,10 @@ const CALLS: &[Call] = table![
     ("a reply that takes too long", (1_000, 50), 1, served!(1, 0, 1, Count), SLOW_REPLY);
 ];
 
-/// Ten seconds for a request, twenty for a write and fifty for a reply.
+/// Twelve seconds for a request, twenty for a write and fifty for a reply: none of them is as usual.
 fn limits() -> TimeLimits {
     TimeLimits {
-        request: Duration::from_secs(10),
+        request: Duration::from_secs(12),
         write: Duration::from_secs(20),
         reply: Duration::from_secs(50),
     }
