@@ -36,6 +36,8 @@ impl Machine for Bare {
 
     ghost door = { λ _ _. None };
 
+    ghost door_limits = { λ _. None };
+
     ghost stands = { λ _ _. None };
 
     ghost left = { λ _. None };

@@ -25,7 +25,7 @@ pub trait Supply {
         Ok(())
     }
 
-    /// It fails when the machine does not give its door at a place, to visitors who may take so long.
+    /// It fails when the machine does not give its door at a place, or not with these limits for its visitors.
     fn check_door(&mut self, _place: Place, _limits: TimeLimits) -> Result<(), MachineFault> {
         Ok(())
     }
@@ -42,6 +42,8 @@ pub struct Museum<P: Supply + Drop, S: Alter + Drop = MemStore> {
     /// The store; `None` while a command has it.
     pub conn: Option<Connection<S>>,
     pub door: MemoryDoor,
+    /// The limits that visitors were given when it lent its door last.
+    pub limits: Option<TimeLimits>,
     pub supply: P,
 }
 
@@ -69,6 +71,8 @@ impl<P: Supply + Drop, S: Alter + Drop> Machine for Museum<P, S> {
     ghost clock = { λ machine. P.clock machine.supply };
 
     ghost door = { λ machine _. Some machine.door };
+
+    ghost door_limits = { λ machine. machine.limits };
 
     ghost stands = { λ machine _. machine.conn };
 
@@ -106,6 +110,7 @@ impl<P: Supply + Drop, S: Alter + Drop> Machine for Museum<P, S> {
         limits: TimeLimits,
     ) -> Result<&mut MemoryDoor, MachineFault> {
         self.supply.check_door(place, limits)?;
+        self.limits = Some(limits);
         Ok(&mut self.door)
     }
 }

@@ -129,6 +129,8 @@ impl<'a, D: Door + Drop, P: Places<D> + Drop> Machine for Host<'a, D, P> {
 
     ghost door = { λ _ _. None };
 
+    ghost door_limits = { λ _. None };
+
     ghost stands = { λ _ _. None };
 
     ghost left = { λ _. None };

@@ -10,7 +10,7 @@ use Rattle.rd_protocol.specs.declared.response.Response.{Response}
 use Rattle.rd_protocol.specs.declared.response.Response.TheVariants.{Refused}
 use Rattle.rd_geometry.specs.declared.kind.Kind.{Kind}
 use Rattle.rd_commands.specs.Asks.{TellsInRows, TellsOnOutput}
-use Rattle.rd_commands.specs.Commands.{AsksInit, AsksServeAt, IsAskOf, IsImport}
+use Rattle.rd_commands.specs.Commands.{AsksInit, AsksServe, IsAskOf, IsImport}
 use Rattle.rd_commands.specs.Serving.{Place}
 use Rattle.rd_program.specs.Importing.{GainsFront, GainsFrontOfLine, GainsLine, GainsLines, IsDoneLine, IsImportRefusal, IsRowLine, IsRowRefusal, RefusesImport, RefusesRow, RefusesRows, TellsAnswer, TellsRow, TellsRows, bad_row_line, accession_line, done_by, word_of}
 use Rattle.rd_commands.specs.Output.{AppendsPart}
@@ -208,7 +208,7 @@ abbrev pub IsDoneAtOnce : List (List ℕ) → Type 0
 IsDoneAtOnce words = ((kind : Kind) × (image : List ℕ) × (slot : ℕ) × AsksCat words kind image slot)
     ⊎ (((kind : Kind) × (image : List ℕ) × AsksList words kind image)
     ⊎ (((store : List ℕ) × (key : List ℕ) × AsksInit words store key)
-    ⊎ ((store : List ℕ) × (place : Place) × (count : ℕ) × (rule : List ℕ) × AsksServeAt words store place count rule)))
+    ⊎ ((store : List ℕ) × (place : Place) × (count : ℕ) × (rule : List ℕ) × AsksServe words store place count rule)))
 
 -- what is told on the output where not all is well is asked for by no such words
 pub not_in_rows : (words : List (List ℕ)) (ask : Ask) → IsAskOf words ask → TellsOnOutput ask → IsDoneAtOnce words → ⊥

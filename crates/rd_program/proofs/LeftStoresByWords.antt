@@ -13,7 +13,7 @@ use Rattle.rd_store.proofs.Laws.{lasts_then}
 use Rattle.rd_http.specs.declared.serve.Ended.{Ended}
 use Rattle.rd_http.specs.declared.serve.Ended.TheVariants as ended
 use Rattle.rd_commands.specs.Asks.{IsImportAsk, IsOneQuestionAsk, IsServeAsk}
-use Rattle.rd_program.specs.Leaves.{HasListened, IsDayAt, IsDayBy, Leaves, LeavesBy, LeavesRefused, LeavesServeAt, LeavesStore, NamesOpening, StepsOf, TakesIn, moment_of}
+use Rattle.rd_program.specs.Leaves.{HasListened, IsDayAt, IsDayBy, Leaves, LeavesBy, LeavesRefused, LeavesServe, LeavesStore, NamesOpening, StepsOf, TakesIn, moment_of}
 use Rattle.rd_commands.specs.Output.{AppendsPart}
 use Rattle.rd_commands.specs.Serving.{Place, place_of}
 use Rattle.rd_commands.specs.Refusals.{IsDeviceOrMemory}
@@ -51,7 +51,7 @@ module _ {S : Type 0} (g : Ghosts S) where
 
   -- the device failed, or memory was refused, before the first
   pub serve_not_begun : (was old new : Option (Held S)) (place : Place) (out written : Option (List ℕ)) (refusal : Refusal) → IsDeviceOrMemory refusal
-      → Leaves was old new (IsMigrated g) → LeavesServeAt g was old new place out written refusal
+      → Leaves was old new (IsMigrated g) → LeavesServe g was old new place out written refusal
   serve_not_begun was old new place out written Device failure left = inr left
   serve_not_begun was old new place out written NoMemory failure left = inr left
   serve_not_begun was old new place out written refusal failure left = absurd failure
@@ -66,22 +66,22 @@ module _ {S : Type 0} (g : Ghosts S) where
       ([], subst (Appends out written) (sym (append-nil (listening_at place))) (Appends-kept out mid written (listening_at place) first kept))
 
   of_device : (was old new : Option (Held S)) (place : Place) (out written : Option (List ℕ)) (refusal : Refusal) → IsDeviceOrMemory refusal
-      → HasListened place out written → LeavesServeAt g was old new place out written refusal
+      → HasListened place out written → LeavesServe g was old new place out written refusal
   of_device was old new place out written Device failure first = inl first
   of_device was old new place out written NoMemory failure first = inl first
   of_device was old new place out written refusal failure first = absurd failure
 
   ended_left : (was old new : Option (Held S)) (how : Ended) (place : Place) (visits : ℕ) (out mid written : Option (List ℕ)) (refusal : Refusal)
-      → Appends out mid (listening_at place) → RefusesToEnd how visits mid written refusal → LeavesServeAt g was old new place out written refusal
+      → Appends out mid (listening_at place) → RefusesToEnd how visits mid written refusal → LeavesServe g was old new place out written refusal
   ended_left was old new ended.Count place visits out mid written refusal first refused =
       of_device was old new place out written refusal refused.0 (listened_part place visits out mid written first refused.1)
   ended_left was old new ended.Clock place visits out mid written refusal first refused =
-      subst (LeavesServeAt g was old new place out written) (sym refused.0) (listened_kept place out mid written first refused.1)
+      subst (LeavesServe g was old new place out written) (sym refused.0) (listened_kept place out mid written first refused.1)
   ended_left was old new ended.Shut place visits out mid written refusal first refused =
-      subst (LeavesServeAt g was old new place out written) (sym refused.0) (inl (listened_kept place out mid written first refused.1))
+      subst (LeavesServe g was old new place out written) (sym refused.0) (inl (listened_kept place out mid written first refused.1))
 
   pub serve_ended : {T : Type 0} (r : Result T Refusal) (was old new : Option (Held S)) (how : Ended) (place : Place) (visits : ℕ) (out mid written : Option (List ℕ))
-      → Appends out mid (listening_at place) → IfErr r (RefusesToEnd how visits mid written) → IfErr r (LeavesServeAt g was old new place out written)
+      → Appends out mid (listening_at place) → IfErr r (RefusesToEnd how visits mid written) → IfErr r (LeavesServe g was old new place out written)
   serve_ended (Ok value) was old new how place visits out mid written first refused = tt
   serve_ended (Err refusal) was old new how place visits out mid written first refused = ended_left was old new how place visits out mid written refusal first refused
 
@@ -95,10 +95,10 @@ module _ {S : Type 0} (g : Ghosts S) where
 
     pub serve_refused : (ask : Ask) (store : List ℕ) (place : Place) (count : ℕ) (rule : List ℕ) (out written : Option (List ℕ)) (refusal : Refusal)
         → IsServeAsk store place count rule ask → LeavesRefused g was stands new out written ask refusal
-        → LeavesServeAt g was (stands store) new place out written refusal
+        → LeavesServe g was (stands store) new place out written refusal
     serve_refused (Serve ask) store place count rule out written refusal asks left =
-        subst (λ p. LeavesServeAt g was (stands store) new p out written refusal) asks.place_is
-        (subst (λ s. LeavesServeAt g was (stands s) new (place_of ask.place) out written refusal) asks.store_is left)
+        subst (λ p. LeavesServe g was (stands store) new p out written refusal) asks.place_is
+        (subst (λ s. LeavesServe g was (stands s) new (place_of ask.place) out written refusal) asks.store_is left)
     serve_refused ask store place count rule out written refusal asks left = absurd asks
 
     pub import_leaves : (ask : Ask) (store key sheet : List ℕ) (moment : Option ℤ) (rule : List ℕ) → IsImportAsk store key sheet moment rule ask

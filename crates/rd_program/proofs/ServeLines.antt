@@ -6,54 +6,54 @@ use Rattle.rd_http.specs.declared.serve.Ended.{Ended}
 use Rattle.rd_http.specs.declared.serve.Ended.TheVariants as ended
 use Rattle.rd_commands.specs.Output.{AppendsPart}
 use Rattle.rd_commands.specs.Refusals.{IsDeviceOrMemory}
-use Rattle.rd_program.specs.Serving.{IsOpenRefusal, RefusesServeAt, RefusesToEnd, listening_at, serve_text_at, served_line}
+use Rattle.rd_program.specs.Serving.{IsOpenRefusal, RefusesServe, RefusesToEnd, listening_at, serve_text, served_line}
 use Rattle.rd_commands.specs.declared.refusal.Refusal.{Refusal}
 use Rattle.rd_commands.specs.declared.refusal.Refusal.TheVariants.{Device, NoMemory}
 use Rattle.rd_commands.proofs.WriterLemmas.{none_written, part_after, part_of, whole_part}
 use Rattle.rd_commands.specs.Serving.{Place}
 
 -- where the desk was not opened nothing was written
-pub not_opened : (refusal : Refusal) (place : Place) (count : ℕ) (o : Option (List ℕ)) → IsOpenRefusal refusal → RefusesServeAt refusal place count o o
-not_opened refusal place count o (inl is) = subst (λ r. RefusesServeAt r place count o o) (sym is) (Keeps-refl o, inl refl)
-not_opened refusal place count o (inr (inl is)) = subst (λ r. RefusesServeAt r place count o o) (sym is) (Keeps-refl o, inr (inl refl))
-not_opened refusal place count o (inr (inr (inl is))) = subst (λ r. RefusesServeAt r place count o o) (sym is) (Keeps-refl o, inr (inr (inl refl)))
-not_opened refusal place count o (inr (inr (inr (inl is)))) = subst (λ r. RefusesServeAt r place count o o) (sym is) (Keeps-refl o, inr (inr (inr (inl refl))))
-not_opened refusal place count o (inr (inr (inr (inr is)))) = subst (λ r. RefusesServeAt r place count o o) (sym is) (none_written o o (serve_text_at place count) (Keeps-refl o))
+pub not_opened : (refusal : Refusal) (place : Place) (count : ℕ) (o : Option (List ℕ)) → IsOpenRefusal refusal → RefusesServe refusal place count o o
+not_opened refusal place count o (inl is) = subst (λ r. RefusesServe r place count o o) (sym is) (Keeps-refl o, inl refl)
+not_opened refusal place count o (inr (inl is)) = subst (λ r. RefusesServe r place count o o) (sym is) (Keeps-refl o, inr (inl refl))
+not_opened refusal place count o (inr (inr (inl is))) = subst (λ r. RefusesServe r place count o o) (sym is) (Keeps-refl o, inr (inr (inl refl)))
+not_opened refusal place count o (inr (inr (inr (inl is)))) = subst (λ r. RefusesServe r place count o o) (sym is) (Keeps-refl o, inr (inr (inr (inl refl))))
+not_opened refusal place count o (inr (inr (inr (inr is)))) = subst (λ r. RefusesServe r place count o o) (sym is) (none_written o o (serve_text place count) (Keeps-refl o))
 
 of_failure : (refusal : Refusal) (place : Place) (count : ℕ) (old new : Option (List ℕ)) → IsDeviceOrMemory refusal
-    → AppendsPart old new (serve_text_at place count) → RefusesServeAt refusal place count old new
+    → AppendsPart old new (serve_text place count) → RefusesServe refusal place count old new
 of_failure Device place count old new failure part = part
 of_failure NoMemory place count old new failure part = part
 of_failure refusal place count old new failure part = absurd failure
 
 -- where the first line was cut, a part of both is written
 pub not_listening : (refusal : Refusal) (place : Place) (count : ℕ) (old new : Option (List ℕ)) → IsDeviceOrMemory refusal
-    → AppendsPart old new (listening_at place) → RefusesServeAt refusal place count old new
+    → AppendsPart old new (listening_at place) → RefusesServe refusal place count old new
 not_listening refusal place count old new failure part =
-    of_failure refusal place count old new failure (part_of old new (serve_text_at place count) (listening_at place) (served_line count) refl part)
+    of_failure refusal place count old new failure (part_of old new (serve_text place count) (listening_at place) (served_line count) refl part)
 
 -- after the first line
 not_ended : (how : Ended) (refusal : Refusal) (place : Place) (visits count : ℕ) (old mid new : Option (List ℕ)) → (how ≡ ended.Count → visits ≡ count)
-    → Appends old mid (listening_at place) → RefusesToEnd how visits mid new refusal → RefusesServeAt refusal place count old new
+    → Appends old mid (listening_at place) → RefusesToEnd how visits mid new refusal → RefusesServe refusal place count old new
 not_ended ended.Count refusal place visits count old mid new whole written refused =
     let part : AppendsPart mid new (served_line count) = subst (λ n. AppendsPart mid new (served_line n)) (whole refl) refused.1 in
     of_failure refusal place count old new refused.0
-    (part_after old mid new (serve_text_at place count) (listening_at place) (served_line count) [] (ap (λ l. listening_at place ++ l) (sym (append-nil (served_line count)))) written part)
+    (part_after old mid new (serve_text place count) (listening_at place) (served_line count) [] (ap (λ l. listening_at place ++ l) (sym (append-nil (served_line count)))) written part)
 not_ended ended.Clock refusal place visits count old mid new whole written refused =
-    subst (λ r. RefusesServeAt r place count old new) (sym refused.0) (Appends-kept old mid new (listening_at place) written refused.1)
+    subst (λ r. RefusesServe r place count old new) (sym refused.0) (Appends-kept old mid new (listening_at place) written refused.1)
 not_ended ended.Shut refusal place visits count old mid new whole written refused =
-    subst (λ r. RefusesServeAt r place count old new) (sym refused.0)
-    (part_of old new (serve_text_at place count) (listening_at place) (served_line count) refl (whole_part old mid new (listening_at place) written refused.1))
+    subst (λ r. RefusesServe r place count old new) (sym refused.0)
+    (part_of old new (serve_text place count) (listening_at place) (served_line count) refl (whole_part old mid new (listening_at place) written refused.1))
 
 pub ends : {T : Type 0} (r : Result T Refusal) (how : Ended) (place : Place) (visits count : ℕ) (old mid new : Option (List ℕ)) → (how ≡ ended.Count → visits ≡ count)
-    → Appends old mid (listening_at place) → IfErr r (RefusesToEnd how visits mid new) → IfErr r (λ refusal. RefusesServeAt refusal place count old new)
+    → Appends old mid (listening_at place) → IfErr r (RefusesToEnd how visits mid new) → IfErr r (λ refusal. RefusesServe refusal place count old new)
 ends (Ok value) how place visits count old mid new whole written refused = tt
 ends (Err refusal) how place visits count old mid new whole written refused = not_ended how refusal place visits count old mid new whole written refused
 
 -- both lines
 pub both_lines : {T E : Type 0} (r : Result T E) (how : Ended) (place : Place) (visits count : ℕ) (old mid new : Option (List ℕ)) → (how ≡ ended.Count → visits ≡ count)
     → Appends old mid (listening_at place) → OnOk r (how ≡ ended.Count) → OnOk r (Appends mid new (served_line visits))
-    → OnOk r (Appends old new (serve_text_at place count))
+    → OnOk r (Appends old new (serve_text place count))
 both_lines (Ok value) how place visits count old mid new whole written counted last =
     Appends-trans old mid new (listening_at place) (served_line count) written (subst (λ n. Appends mid new (served_line n)) (whole counted) last)
 both_lines (Err error) how place visits count old mid new whole written counted last = tt

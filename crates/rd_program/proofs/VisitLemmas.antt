@@ -1,5 +1,5 @@
 -- The visits that `serve` serves, over the desk that stood.
-use Rattle.std.proofs.Common.{◌≡◌, ℕ, List, Option, Some, None, Result, Ok, Err, IfSome, OnOk, subst, sym}
+use Rattle.std.proofs.Common.{◌≡◌, ℕ, Bool, IsTrue, List, Option, Some, None, Result, Ok, Err, IfSome, OnOk, subst, sym}
 use Rattle.std.specs.Prelude.{IsSomeAnd, ⊤}
 use Rattle.sqlite.specs.Held.{Held}
 use Rattle.sqlite.specs.Store.{Ghosts}
@@ -12,11 +12,11 @@ use Rattle.rd_http.specs.declared.serve.Served.{Served}
 use Rattle.rd_commands.specs.Asks.{IsServeAsk}
 use Rattle.rd_commands.specs.declared.words.Ask.{Ask}
 use Rattle.rd_commands.specs.declared.words.Ask.TheVariants.{Serve}
-use Rattle.rd_commands.specs.Serving.{Place, place_of}
-use Rattle.rd_commands.specs.Commands.{AsksServeAt, IsAskOf}
+use Rattle.rd_commands.specs.Serving.{GivesTimeouts, Place, place_of}
+use Rattle.rd_commands.specs.Commands.{AsksServe, IsAskOf}
 use Rattle.rd_commands.specs.declared.serving.Timeouts.{Timeouts}
 use Rattle.rd_messages.specs.declared.pace.TimeLimits.{TimeLimits}
-use Rattle.rd_program.specs.Serving.{AreLimitsOf, GivesLimits, KeepsLimits}
+use Rattle.rd_program.specs.Serving.{AreLimitsOf, GivesLimits, LimitsVisitors}
 use Rattle.rd_program.specs.Visiting.{RunsVisits, ServesBy, ServesDoor, ServesDoorBy, ServesVisits}
 use Rattle.rd_program.proofs.ShowLemmas.{ends_with}
 
@@ -70,26 +70,27 @@ module _ {S D : Type 0} (g : Ghosts S) (told : D → Option VisitsSoFar) (coming
 
 -- ---- how long visitors may take
 
--- the limits that a machine was told are those of the seconds
-pub limits_are : (shown : Option TimeLimits) (timeouts : Timeouts) (given : TimeLimits) → AreLimitsOf timeouts given → IfSome shown (λ limit. limit ≡ given)
-    → IfSome shown (AreLimitsOf timeouts)
-limits_are (Some limit) timeouts given are is = subst (AreLimitsOf timeouts) (sym is) are
-limits_are None timeouts given are is = tt
-
--- a call after the visits keeps them
-pub limits_kept : {T E : Type 0} (r : Result T E) (shown later : Option TimeLimits) (timeouts : Timeouts) → later ≡ shown → IfSome shown (AreLimitsOf timeouts)
-    → OnOk r (IfSome later (AreLimitsOf timeouts))
-limits_kept (Ok value) shown later timeouts same are = subst (λ l. IfSome l (AreLimitsOf timeouts)) (sym same) are
-limits_kept (Err error) shown later timeouts same are = tt
+-- a call after the visits keeps the limits, and the machine showed from the first whether it shows them
+pub limits_kept : {T E : Type 0} (r : Result T E) (shows showed : Bool) (limits later : Option TimeLimits) (timeouts : Timeouts) → showed ≡ shows → later ≡ limits
+    → (IsTrue showed → IsSomeAnd limits (AreLimitsOf timeouts)) → OnOk r (IsTrue shows → IsSomeAnd later (AreLimitsOf timeouts))
+limits_kept (Ok value) shows showed limits later timeouts same kept are =
+    λ shown. subst (λ l. IsSomeAnd l (AreLimitsOf timeouts)) (sym kept) (are (subst (λ b. IsTrue b) (sym same) shown))
+limits_kept (Err error) shows showed limits later timeouts same kept are = tt
 
 -- no other command has any
 pub no_limits : {T E : Type 0} (r : Result T E) → OnOk r (⊤)
 no_limits (Ok value) = tt
 no_limits (Err error) = tt
 
--- the seconds are those that the words give
-pub limits_by : (words : List (List ℕ)) (shown : Option TimeLimits) (ask : Ask) (store : List ℕ) (place : Place) (count : ℕ) (rule : List ℕ) → IsAskOf words ask
-    → (asks : AsksServeAt words store place count rule) → KeepsLimits shown ask → IfSome shown (GivesLimits asks)
-limits_by words (Some limit) (Serve ask) store place count rule is asks are = (ask.timeouts, is.timeouts asks.rows asks.enters, are)
-limits_by words None (Serve ask) store place count rule is asks are = tt
-limits_by words shown ask store place count rule is asks are = absurd (is.serve store place count rule asks)
+-- limits that are those of the seconds of a command are those that the options give
+given_by : (are_given : Timeouts → Type 0) (limits : Option TimeLimits) (timeouts : Timeouts) → are_given timeouts → IsSomeAnd limits (AreLimitsOf timeouts)
+    → IsSomeAnd limits (GivesLimits are_given)
+given_by are_given (Some limit) timeouts given are = (timeouts, given, are)
+given_by are_given None timeouts given are = absurd are
+
+pub limits_by : (words : List (List ℕ)) (shows : Bool) (limits : Option TimeLimits) (ask : Ask) (store : List ℕ) (place : Place) (count : ℕ) (rule : List ℕ)
+    → IsAskOf words ask → (asks : AsksServe words store place count rule) → LimitsVisitors shows limits ask → IsTrue shows
+    → IsSomeAnd limits (GivesLimits (GivesTimeouts asks.rows))
+limits_by words shows limits (Serve ask) store place count rule is asks are =
+    λ shown. given_by (GivesTimeouts asks.rows) limits ask.timeouts (is.timeouts asks.rows asks.enters) (are shown)
+limits_by words shows limits ask store place count rule is asks are = absurd (is.serve store place count rule asks)

@@ -4,7 +4,7 @@ use Rattle.sqlite.specs.Held.{Held}
 use Rattle.sqlite.specs.Store.{Ghosts}
 use Rattle.rd_policy.specs.Days.{HasDay}
 use Rattle.rd_store.specs.Migrated.{IsMigrated}
-use Rattle.rd_commands.specs.Commands.{AsksCheck, AsksExport, AsksImport, AsksInit, AsksServeAt, AsksShow}
+use Rattle.rd_commands.specs.Commands.{AsksCheck, AsksExport, AsksImport, AsksInit, AsksServe, AsksShow}
 use Rattle.rd_commands.specs.declared.done.Done.{Done}
 use Rattle.rd_commands.specs.declared.refusal.Refusal.{Refusal}
 use Rattle.rd_commands.specs.declared.refusal.Refusal.TheVariants.{Clock}
@@ -30,7 +30,7 @@ AsksAt words store moment rule =
 abbrev pub NamesStore : List (List ℕ) → List ℕ → Type 0
 NamesStore words store =
     ((key : List ℕ) × AsksInit words store key)
-    ⊎ (((place : Place) × (count : ℕ) × (rule : List ℕ) × AsksServeAt words store place count rule)
+    ⊎ (((place : Place) × (count : ℕ) × (rule : List ℕ) × AsksServe words store place count rule)
     ⊎ ((moment : Option ℤ) × (rule : List ℕ) × AsksAt words store moment rule))
 
 -- `clock` comes only where a desk was opened in the store and nothing more was done, and never if the words name a

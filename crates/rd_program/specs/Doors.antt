@@ -1,5 +1,5 @@
 -- The door that a machine lends, and the connections that it is asked for.
-use Rattle.std.specs.Prelude.{◌≡◌, ◌⊎◌, ℕ, Bool, IfSome, List, ◌∷◌, Option, Result, Some}
+use Rattle.std.specs.Prelude.{◌≡◌, ◌⊎◌, ℕ, Bool, IfSome, IsTrue, List, ◌∷◌, Option, Result, Some}
 use Rattle.std.specs.Borrow.{Fml, LendsSoOk, MutBor, RattleType}
 use Rattle.rd_messages.specs.declared.pace.TimeLimits.{TimeLimits}
 use Rattle.rd_commands.specs.Serving.{Place}
@@ -13,12 +13,12 @@ abbrev pub AsksNoOther : Option (List (List ℕ)) → List ℕ → Option (List 
 AsksNoOther old path new = IfSome old (λ before. (new ≡ Some before) ⊎ (new ≡ Some (path ∷ before)))
 
 -- The machine shows its connections as before, no connection was asked for, and at the place, if it showed the door there, the door as its borrower
--- left it. If it shows how long visitors may take, they may take as long as it was told.
+-- left it. A machine that shows its connections shows that visitors may take as long as it was told.
 pub record KeepsDoor {M D : Type 0} (shows : M → Bool) (paths : M → Option (List (List ℕ))) (limits : M → Option TimeLimits) (doors : M → Place → Option D)
     (place : Place) (given : TimeLimits) (old new : M) (door : D) : Type 0 where
   pub shown : shows new ≡ shows old
   pub asked : paths new ≡ paths old
-  pub limited : IfSome (limits new) (λ limit. limit ≡ given)
+  pub limited : IsTrue (shows old) → limits new ≡ Some given
   pub kept : IfSome (doors old place) (λ before. doors new place ≡ Some door)
 
 module _ (R T : RattleType) where

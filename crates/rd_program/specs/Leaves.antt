@@ -21,7 +21,6 @@ use Rattle.rd_protocol.specs.declared.request.What.{What}
 use Rattle.rd_protocol.specs.declared.request.What.TheVariants as request
 use Rattle.rd_program.specs.Serving.{listening_at}
 use Rattle.rd_commands.specs.Serving.{Place, place_of}
-use Rattle.rd_commands.specs.Serving.Place.{Port}
 use Rattle.rd_commands.specs.Refusals.{status_of}
 use Rattle.rd_commands.specs.Sheets.{Says}
 use Rattle.rd_commands.specs.declared.refusal.Refusal.{Refusal}
@@ -110,17 +109,12 @@ HasListened place old new = (more : List ℕ) × Appends old new (listening_at p
 
 -- What stands after `serve` fails: no desk was opened; or one was, and nothing more was done, unless
 -- the line about visits was written, and visits may have come.
-abbrev pub LeavesServeAt : {S : Type 0} → Ghosts S → Option (Held S) → Option (Held S) → Option (Held S) → Place
+abbrev pub LeavesServe : {S : Type 0} → Ghosts S → Option (Held S) → Option (Held S) → Option (Held S) → Place
     → Option (List ℕ) → Option (List ℕ) → Refusal → Type 0
-LeavesServeAt g was old new place out written Clock = HasListened place out written
-LeavesServeAt g was old new place out written Device = HasListened place out written ⊎ Leaves was old new (IsMigrated g)
-LeavesServeAt g was old new place out written NoMemory = HasListened place out written ⊎ Leaves was old new (IsMigrated g)
-LeavesServeAt g was old new place out written refusal = LeavesUnopened g was old new refusal
-
--- and so at a port
-abbrev pub LeavesServe : {S : Type 0} → Ghosts S → Option (Held S) → Option (Held S) → Option (Held S) → ℕ
-    → Option (List ℕ) → Option (List ℕ) → Refusal → Type 0
-LeavesServe g was old new port out written refusal = LeavesServeAt g was old new (Port port) out written refusal
+LeavesServe g was old new place out written Clock = HasListened place out written
+LeavesServe g was old new place out written Device = HasListened place out written ⊎ Leaves was old new (IsMigrated g)
+LeavesServe g was old new place out written NoMemory = HasListened place out written ⊎ Leaves was old new (IsMigrated g)
+LeavesServe g was old new place out written refusal = LeavesUnopened g was old new refusal
 
 -- ---- what a desk is asked
 
@@ -210,7 +204,7 @@ LeavesBy g clock was stands new ask = ⊤
 -- the opening gave it
 abbrev pub LeavesRefused : {S : Type 0} → Ghosts S → Option (Held S) → (List ℕ → Option (Held S)) → Option (Held S)
     → Option (List ℕ) → Option (List ℕ) → Ask → Refusal → Type 0
-LeavesRefused g was stands new out written (Serve ask) refusal = LeavesServeAt g was (stands ask.store.now) new (place_of ask.place) out written refusal
+LeavesRefused g was stands new out written (Serve ask) refusal = LeavesServe g was (stands ask.store.now) new (place_of ask.place) out written refusal
 LeavesRefused g was stands new out written (Import ask) refusal = NamesOpening g (stands ask.store.now) new refusal
 LeavesRefused g was stands new out written (OneQuestion ask) refusal = NamesOpening g (stands ask.store.now) new refusal
 LeavesRefused g was stands new out written ask refusal = ⊤

@@ -1,5 +1,5 @@
 -- What the command `serve` gives.
-use Rattle.std.specs.Prelude.{◌≡◌, ◌*◌, ◌⊎◌, ℕ, ℤ, Err, IfSome, List, Ok, Option, Result, ◌++◌, codes, ⊤}
+use Rattle.std.specs.Prelude.{◌≡◌, ◌*◌, ◌⊎◌, ℕ, ℤ, Bool, Err, IfSome, IsSomeAnd, IsTrue, List, Ok, Option, Result, ◌++◌, codes, ⊤}
 use Rattle.std.specs.Duration.{as_nanos}
 use Rattle.std.specs.Fmt.{decimal}
 use Rattle.rd_messages.specs.declared.pace.TimeLimits.{TimeLimits}
@@ -11,8 +11,7 @@ use Rattle.rd_http.specs.declared.serve.Ended.TheVariants as ended
 use Rattle.rd_commands.specs.Output.{AppendsPart}
 use Rattle.rd_commands.specs.Printed.{line_feed}
 use Rattle.rd_commands.specs.Refusals.{IsDeviceOrMemory}
-use Rattle.rd_commands.specs.Commands.{AsksServeAt}
-use Rattle.rd_commands.specs.Serving.{GivesTimeouts, Place}
+use Rattle.rd_commands.specs.Serving.{Place}
 use Rattle.rd_commands.specs.Serving.Place.{Port, Socket}
 use Rattle.rd_commands.specs.declared.words.Ask.{Ask}
 use Rattle.rd_commands.specs.declared.words.Ask.TheVariants.{Serve}
@@ -38,27 +37,22 @@ pub record AreLimitsOf (timeouts : Timeouts) (limits : TimeLimits) : Type 0 wher
   pub write : as_nanos limits.write ≡ timeouts.write * 1_000_000_000
   pub reply : as_nanos limits.reply ≡ timeouts.reply * 1_000_000_000
 
--- visitors may take as many seconds as the words of `serve` give
-abbrev pub GivesLimits : {words : List (List ℕ)} {store : List ℕ} {place : Place} {count : ℕ} {rule : List ℕ} → AsksServeAt words store place count rule
-    → TimeLimits → Type 0
-GivesLimits asks limits = (timeouts : Timeouts) × GivesTimeouts asks.rows timeouts × AreLimitsOf timeouts limits
+-- visitors may take as many seconds as are given
+abbrev pub GivesLimits : (Timeouts → Type 0) → TimeLimits → Type 0
+GivesLimits are_given limits = (timeouts : Timeouts) × are_given timeouts × AreLimitsOf timeouts limits
 
--- visitors, if it is shown how long they may take, may take as long as the command says
-abbrev pub KeepsLimits : Option TimeLimits → Ask → Type 0
-KeepsLimits shown (Serve ask) = IfSome shown (AreLimitsOf ask.timeouts)
-KeepsLimits shown ask = ⊤
+-- where the machine shows how long visitors may take, they may take as long as the command says
+abbrev pub LimitsVisitors : Bool → Option TimeLimits → Ask → Type 0
+LimitsVisitors shows limits (Serve ask) = IsTrue shows → IsSomeAnd limits (AreLimitsOf ask.timeouts)
+LimitsVisitors shows limits ask = ⊤
 
 -- the line that says how many visits were served
 abbrev pub served_line : ℕ → List ℕ
 served_line count = codes "served " ++ (decimal count ++ line_feed)
 
 -- both lines
-abbrev pub serve_text_at : Place → ℕ → List ℕ
-serve_text_at place count = listening_at place ++ served_line count
-
--- and so at a port
-abbrev pub serve_text : ℕ → ℕ → List ℕ
-serve_text port count = serve_text_at (Port port) count
+abbrev pub serve_text : Place → ℕ → List ℕ
+serve_text place count = listening_at place ++ served_line count
 
 -- why the desk in the file of a store is not opened
 abbrev pub IsOpenRefusal : Refusal → Type 0
@@ -87,15 +81,11 @@ IsUnasked moment result = IfSome moment (λ seconds. ¬ HasDay seconds → IsRef
 
 -- Why `serve` fails, and what was written then: nothing if the desk was not opened, the first line
 -- if a moment had no day, and a front part of both lines if the device failed or memory ran out.
-abbrev pub RefusesServeAt : Refusal → Place → ℕ → Option (List ℕ) → Option (List ℕ) → Type 0
-RefusesServeAt Clock place count old new = Appends old new (listening_at place)
-RefusesServeAt Device place count old new = AppendsPart old new (serve_text_at place count)
-RefusesServeAt NoMemory place count old new = AppendsPart old new (serve_text_at place count)
-RefusesServeAt refusal place count old new = Keeps old new × IsOpenRefusal refusal
-
--- and so at a port
-abbrev pub RefusesServe : Refusal → ℕ → ℕ → Option (List ℕ) → Option (List ℕ) → Type 0
-RefusesServe refusal port count old new = RefusesServeAt refusal (Port port) count old new
+abbrev pub RefusesServe : Refusal → Place → ℕ → Option (List ℕ) → Option (List ℕ) → Type 0
+RefusesServe Clock place count old new = Appends old new (listening_at place)
+RefusesServe Device place count old new = AppendsPart old new (serve_text place count)
+RefusesServe NoMemory place count old new = AppendsPart old new (serve_text place count)
+RefusesServe refusal place count old new = Keeps old new × IsOpenRefusal refusal
 
 -- Why a run of visits that ended so is no success, and what was written then: after all visits the
 -- device failed or memory ran out, a moment had no day, or the door shut.

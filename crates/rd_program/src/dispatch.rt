@@ -1,4 +1,4 @@
-ghost use Rattle.std.specs.Prelude.{◌≡◌, ◌≢◌, ◌⊎◌, ◌≤◌, ◌+◌, ⊤, IfErr, IfOk, IfSome, List, OnOk, Option, Some, codes, map, option_map, ℕ, ℤ};
+ghost use Rattle.std.specs.Prelude.{◌≡◌, ◌≢◌, ◌⊎◌, ◌≤◌, ◌+◌, ⊤, IfErr, IfOk, IfSome, IsSomeAnd, IsTrue, List, OnOk, Option, Some, codes, map, option_map, ℕ, ℤ};
 ghost use Rattle.std.specs.Io.KnownBytes.{Appends, Keeps};
 ghost use Rattle.httparse.specs.Grammar.{trim_ows};
 ghost use Rattle.sha2.specs.Sha256.{sha256};
@@ -10,21 +10,20 @@ ghost use Rattle.rd_program.specs.Asking.{RefusesOneQuestion, TellsCheck};
 ghost use Rattle.rd_commands.specs.Asks.{AsksADesk, AsksCheckOf, IsWithinLimits, IsFileAsk, IsFilesAsk, IsInitAsk, IsServeAsk, TellsInRows, TellsOnOutput, most_read};
 ghost use Rattle.rd_commands.specs.Cat.{HasNoSoundFile, IsCut, Refuses, Serves};
 ghost use Rattle.rd_commands.specs.CommandLine.{AsksForHelp, AsksForVersion, IsTaken, IsTakenTelling};
-ghost use Rattle.rd_commands.specs.Commands.{AsksCheck, AsksExport, AsksImport, AsksInit, AsksOfStore, AsksServe, AsksServeAt, AsksShow, IsCheckOf, IsCommand, IsImport, NamesAPlace, NamesWhatItShows, TellsARule};
+ghost use Rattle.rd_commands.specs.Commands.{AsksCheck, AsksExport, AsksImport, AsksInit, AsksOfStore, AsksServe, AsksShow, IsCheckOf, IsCommand, IsImport, NamesAPlace, NamesWhatItShows, TellsARule};
 ghost use Rattle.rd_program.specs.Importing.{GainsLines, IsDoneLine, IsRowLine, RefusesImport, TellsRows};
 ghost use Rattle.rd_program.specs.Inits.{LeavesInit, MakesDesk, RefusesInit, done_line};
 ghost use Rattle.rd_commands.specs.Input.{ReadsUpTo};
-ghost use Rattle.rd_program.specs.Leaves.{Checks, GivesBack, HasBoth, IsDayBy, IsSame, Leaves, LeavesBy, LeavesRefused, LeavesServe, LeavesServeAt, LeavesStore, NamesOpening, OnEnded, StandsThere, TakesIn, moment_of};
+ghost use Rattle.rd_program.specs.Leaves.{Checks, GivesBack, HasBoth, IsDayBy, IsSame, Leaves, LeavesBy, LeavesRefused, LeavesServe, LeavesStore, NamesOpening, OnEnded, StandsThere, TakesIn, moment_of};
 ghost use Rattle.rd_commands.specs.Listed.{Lists, RefusesList};
 ghost use Rattle.rd_commands.specs.Refusals.{IsDeviceOrMemory, status_of};
 ghost use Rattle.rd_program.specs.Rows.{ImportsBy, IsBadSheetDue, RefusesSheetBy, TakesSheetIn};
 ghost use Rattle.rd_policy.specs.Days.{HasDay};
 ghost use Rattle.rd_program.specs.Asked.{AsksAt, AsksBy, IsClockDue, IsClockDueBy, IsUnaskedBy, NamesStore};
-ghost use Rattle.rd_program.specs.Serving.{GivesLimits, IsUnaskedRefusal, KeepsLimits, RefusesServe, RefusesServeAt, serve_text, serve_text_at};
+ghost use Rattle.rd_program.specs.Serving.{GivesLimits, IsUnaskedRefusal, LimitsVisitors, RefusesServe, serve_text};
 ghost use Rattle.rd_holdings.specs.declared.rows.Outcome.TheVariants as Outcome;
 ghost use Rattle.rd_protocol.specs.declared.request.What.TheVariants as What;
-ghost use Rattle.rd_commands.specs.Serving.{Place};
-ghost use Rattle.rd_commands.specs.Serving.Place.{Port};
+ghost use Rattle.rd_commands.specs.Serving.{GivesTimeouts, Place};
 ghost use Rattle.rd_program.specs.Doors.{AsksNoOther};
 ghost use Rattle.rd_program.specs.Visiting.{ServesBy, ServesDoorBy};
 ghost use Rattle.rd_program.specs.DiskFiles.{GivesFile, IsOfImage};
@@ -79,9 +78,9 @@ fn perform<R: Read, W: Write, M: Machine>(
         → IfErr result (λ refusal. RefusesInit refusal (W.contents output.old) (W.contents output.new)
         × LeavesInit M.Disk.Store (M.left machine.old) (M.stands machine.old store) (M.left machine.new) (sha256 (trim_ows key)) refusal) }
     ensures served { (store : List ℕ) (place : Place) (count : ℕ) (rule : List ℕ) → IsServeAsk store place count rule ask.entry
-        → OnOk result (Appends (W.contents output.old) (W.contents output.new) (serve_text_at place count)) }
+        → OnOk result (Appends (W.contents output.old) (W.contents output.new) (serve_text place count)) }
     ensures not_served { (store : List ℕ) (place : Place) (count : ℕ) (rule : List ℕ) → IsServeAsk store place count rule ask.entry
-        → IfErr result (λ refusal. RefusesServeAt refusal place count (W.contents output.old) (W.contents output.new)) }
+        → IfErr result (λ refusal. RefusesServe refusal place count (W.contents output.old) (W.contents output.new)) }
     ensures imported { TellsInRows ask.entry
         → IfOk result (TellsRows (W.contents output.old) (W.contents output.new)) }
     ensures not_imported { TellsInRows ask.entry
@@ -94,7 +93,7 @@ fn perform<R: Read, W: Write, M: Machine>(
         (W.contents output.old) (W.contents output.new) ask.entry result }
     ensures serves { OnOk result (ServesBy M.Disk.Store M.Door.told M.Door.coming (M.door machine.old) (M.door machine.new)
         (M.stands machine.old) (M.left machine.new) ask.entry) }
-    ensures limits { OnOk result (KeepsLimits (M.door_limits machine.new) ask.entry) }
+    ensures limits { OnOk result (LimitsVisitors (M.shows machine.old) (M.door_limits machine.new) ask.entry) }
     ensures imports { ImportsBy M.Disk.Store (M.file_bytes machine.old) (M.sheet_bytes machine.old) (M.clock machine.old) (M.stands machine.old)
         (M.left machine.new) (W.contents output.old) (W.contents output.new) ask.entry result }
     ensures unasked { IsUnaskedBy (M.clock machine.old) ask.entry result }
@@ -220,45 +219,27 @@ pub fn run<R: Read, W: Write, E: Write, M: Machine>(
         result (E.contents errors.old) (E.contents errors.new) }
 
     // A `serve`: at 0 it has served as many visits as the words ask for, and said so. Not at 0 it
-    // names its refusal, whose status is never 1. At 0 the visits of the door at the port are those of a
-    // run over the desk that stood, with the clocks of the rule, and they left the desk as it is.
-    ensures served { result ≡ 0 → (store : List ℕ) (port count : ℕ) (rule : List ℕ)
-        → AsksServe (map (λ word. word.now) words.entry.now) store port count rule
-        → Appends (W.contents output.old) (W.contents output.new) (serve_text port count) }
-    ensures serve_due { result ≢ 0 → (store : List ℕ) (port count : ℕ) (rule : List ℕ)
-        → AsksServe (map (λ word. word.now) words.entry.now) store port count rule
-        → Tells (λ refusal. RefusesServe refusal port count (W.contents output.old) (W.contents output.new)
-        × LeavesServe M.Disk.Store (M.left machine.old) (M.stands machine.old store) (M.left machine.new) port
+    // names its refusal, whose status is never 1. At 0 the visits of the door at that place are those of a
+    // run over the desk that stood, with the clocks of the rule, they left the desk as it is, and visitors may
+    // take as long as the words say.
+    ensures served { result ≡ 0 → (store : List ℕ) (place : Place) (count : ℕ) (rule : List ℕ)
+        → AsksServe (map (λ word. word.now) words.entry.now) store place count rule
+        → Appends (W.contents output.old) (W.contents output.new) (serve_text place count) }
+    ensures serve_due { result ≢ 0 → (store : List ℕ) (place : Place) (count : ℕ) (rule : List ℕ)
+        → AsksServe (map (λ word. word.now) words.entry.now) store place count rule
+        → Tells (λ refusal. RefusesServe refusal place count (W.contents output.old) (W.contents output.new)
+        × LeavesServe M.Disk.Store (M.left machine.old) (M.stands machine.old store) (M.left machine.new) place
         (W.contents output.old) (W.contents output.new) refusal)
         result (E.contents errors.old) (E.contents errors.new) }
-    ensures visits { result ≡ 0 → (store : List ℕ) (port count : ℕ) (rule : List ℕ)
-        → AsksServe (map (λ word. word.now) words.entry.now) store port count rule
-        → ServesDoorBy M.Disk.Store M.Door.told M.Door.coming count rule (M.door machine.old (Port port)) (M.door machine.new (Port port))
-        (M.stands machine.old store) (M.left machine.new) }
-    ensures serve_leaves { (store : List ℕ) (port count : ℕ) (rule : List ℕ)
-        → AsksServe (map (λ word. word.now) words.entry.now) store port count rule
-        → Leaves (M.left machine.old) (M.stands machine.old store) (M.left machine.new) (Lasts M.Disk.Store) }
-
-    // And so of a `serve` at any place: a port, or a Unix socket at a path. Its visitors may take as long as the words
-    // say.
-    ensures served_at { result ≡ 0 → (store : List ℕ) (place : Place) (count : ℕ) (rule : List ℕ)
-        → AsksServeAt (map (λ word. word.now) words.entry.now) store place count rule
-        → Appends (W.contents output.old) (W.contents output.new) (serve_text_at place count) }
-    ensures serve_due_at { result ≢ 0 → (store : List ℕ) (place : Place) (count : ℕ) (rule : List ℕ)
-        → AsksServeAt (map (λ word. word.now) words.entry.now) store place count rule
-        → Tells (λ refusal. RefusesServeAt refusal place count (W.contents output.old) (W.contents output.new)
-        × LeavesServeAt M.Disk.Store (M.left machine.old) (M.stands machine.old store) (M.left machine.new) place
-        (W.contents output.old) (W.contents output.new) refusal)
-        result (E.contents errors.old) (E.contents errors.new) }
-    ensures visits_at { result ≡ 0 → (store : List ℕ) (place : Place) (count : ℕ) (rule : List ℕ)
-        → AsksServeAt (map (λ word. word.now) words.entry.now) store place count rule
+    ensures visits { result ≡ 0 → (store : List ℕ) (place : Place) (count : ℕ) (rule : List ℕ)
+        → AsksServe (map (λ word. word.now) words.entry.now) store place count rule
         → ServesDoorBy M.Disk.Store M.Door.told M.Door.coming count rule (M.door machine.old place) (M.door machine.new place)
         (M.stands machine.old store) (M.left machine.new) }
     ensures limits { result ≡ 0 → (store : List ℕ) (place : Place) (count : ℕ) (rule : List ℕ)
-        → (asks : AsksServeAt (map (λ word. word.now) words.entry.now) store place count rule)
-        → IfSome (M.door_limits machine.new) (GivesLimits asks) }
-    ensures serve_leaves_at { (store : List ℕ) (place : Place) (count : ℕ) (rule : List ℕ)
-        → AsksServeAt (map (λ word. word.now) words.entry.now) store place count rule
+        → (asks : AsksServe (map (λ word. word.now) words.entry.now) store place count rule)
+        → IsTrue (M.shows machine.old) → IsSomeAnd (M.door_limits machine.new) (GivesLimits (GivesTimeouts asks.rows)) }
+    ensures serve_leaves { (store : List ℕ) (place : Place) (count : ℕ) (rule : List ℕ)
+        → AsksServe (map (λ word. word.now) words.entry.now) store place count rule
         → Leaves (M.left machine.old) (M.stands machine.old store) (M.left machine.new) (Lasts M.Disk.Store) }
 
     // An `import`: at 0 it has written only lines that say that an image was taken in. Not at 0 it

@@ -41,8 +41,8 @@ pub trait Machine: Files {
     /// The door at a place, if the machine shows it.
     ghost door: { Self → places.Place → Option Self.Door };
 
-    /// How long visitors may take at the door that it lent last, if the machine shows it.
-    ghost door_limits: { Self → Option pace.TimeLimits } = { λ _. None };
+    /// How long visitors may take at the door that it lent last. A machine that shows its connections shows it.
+    ghost door_limits: { Self → Option pace.TimeLimits };
 
     /// The connection that stands for a store at a path, if the machine shows it.
     ghost stands: { Self → List ℕ → Option (Held Self.Disk) };
@@ -87,8 +87,8 @@ pub trait Machine: Files {
         ensures asked { paths self.new ≡ paths self.old }
         ensures shows { shows self.new ≡ shows self.old };
 
-    /// Lends the door through which visits come at a place, whose visitors may take so long. The machine keeps it. A
-    /// machine need not have sockets, nor visitors who take any time.
+    /// Lends the door through which visits come at a place, and gives its visitors these limits. The machine keeps the
+    /// door. A machine need not have sockets, and the visitors of one in memory take no time.
     ///
     /// It fails when it cannot open the place.
     fn listen(&mut self, place: Place, limits: TimeLimits) -> Result<&mut Self::Door, MachineFault>

@@ -1,14 +1,14 @@
-ghost use Rattle.std.specs.Prelude.{◌≡◌, IfErr, IfOk, IfSome, IsSomeAnd, OnErr, OnOk};
+ghost use Rattle.std.specs.Prelude.{◌≡◌, IfErr, IfOk, IfSome, IsSomeAnd, IsTrue, OnErr, OnOk};
 ghost use Rattle.std.specs.Io.KnownBytes.{Appends};
 ghost use Rattle.std.specs.String.{string_bytes};
 ghost use Rattle.rd_store.specs.Held.{Lasts};
 ghost use Rattle.rd_commands.specs.Serving.{place_of};
 ghost use Rattle.rd_program.specs.Doors.{AsksPath};
-ghost use Rattle.rd_program.specs.Leaves.{GivesBack, HasBoth, Leaves, LeavesServeAt, OnEnded};
+ghost use Rattle.rd_program.specs.Leaves.{GivesBack, HasBoth, Leaves, LeavesServe, OnEnded};
 ghost use Rattle.rd_program.specs.Visiting.{RunsVisits, ServesDoor};
 ghost use Rattle.rd_commands.specs.Output.{AppendsPart};
 ghost use Rattle.rd_commands.specs.Refusals.{IsDeviceOrMemory};
-ghost use Rattle.rd_program.specs.Serving.{AreLimitsOf, RefusesServeAt, RefusesToEnd, listening_at, listening_line, listening_on, serve_text_at, served_line};
+ghost use Rattle.rd_program.specs.Serving.{AreLimitsOf, RefusesServe, RefusesToEnd, listening_at, listening_line, listening_on, serve_text, served_line};
 
 use crate::machine::Machine;
 use crate::open_desk::open_desk;
@@ -73,7 +73,7 @@ fn tell_served<W: Write>(alloc: Global, count: u32, output: &mut W) -> Result<()
 }
 
 /// How long a visitor may take, from so many seconds.
-fn limits_of(timeouts: Timeouts) -> TimeLimits
+fn time_limits(timeouts: Timeouts) -> TimeLimits
     ensures { AreLimitsOf timeouts result }
 {
     TimeLimits {
@@ -101,12 +101,12 @@ fn serve_visits<W: Write, M: Machine>(
     ensures unserved { IfErr result (λ _. desk.new.store ≡ desk.old.store) }
     ensures shows { M.shows machine.new ≡ M.shows machine.old }
     ensures asked { M.paths machine.new ≡ M.paths machine.old }
-    ensures limits { IfOk result (λ _. IfSome (M.door_limits machine.new) (AreLimitsOf ask.entry.timeouts)) }
+    ensures limits { IfOk result (λ _. IsTrue (M.shows machine.old) → IsSomeAnd (M.door_limits machine.new) (AreLimitsOf ask.entry.timeouts)) }
     ensures visits { IfOk result (λ served. IfSome (M.door machine.old (place_of ask.entry.place))
         (λ before. IsSomeAnd (M.door machine.new (place_of ask.entry.place)) (λ after.
         RunsVisits M.Disk.Store M.Door.told M.Door.coming desk.old.zone before after served desk.old.store desk.new.store))) }
 {
-    let door = match machine.listen(ask.place, limits_of(ask.timeouts)) {
+    let door = match machine.listen(ask.place, time_limits(ask.timeouts)) {
         Ok(door) => door,
         Err(fault) => return Err(fault.or(Refusal::Device)),
     };
@@ -142,16 +142,16 @@ pub(crate) fn serve<W: Write, M: Machine>(
     output: &mut W,
     machine: &mut M,
 ) -> Result<(), Refusal>
-    ensures done { OnOk result (Appends (W.contents output.old) (W.contents output.new) (serve_text_at (place_of ask.entry.place) ask.entry.count)) }
-    ensures refused { IfErr result (λ refusal. RefusesServeAt refusal (place_of ask.entry.place) ask.entry.count
+    ensures done { OnOk result (Appends (W.contents output.old) (W.contents output.new) (serve_text (place_of ask.entry.place) ask.entry.count)) }
+    ensures refused { IfErr result (λ refusal. RefusesServe refusal (place_of ask.entry.place) ask.entry.count
         (W.contents output.old) (W.contents output.new)) }
     ensures lasts { Leaves (M.left machine.old) (M.stands machine.old ask.entry.store.now) (M.left machine.new) (Lasts M.Disk.Store) }
-    ensures left { IfErr result (LeavesServeAt M.Disk.Store (M.left machine.old) (M.stands machine.old ask.entry.store.now) (M.left machine.new)
+    ensures left { IfErr result (LeavesServe M.Disk.Store (M.left machine.old) (M.stands machine.old ask.entry.store.now) (M.left machine.new)
         (place_of ask.entry.place) (W.contents output.old) (W.contents output.new)) }
     ensures visits { OnOk result (ServesDoor M.Disk.Store M.Door.told M.Door.coming ask.entry.count ask.entry.zone
         (M.door machine.old (place_of ask.entry.place)) (M.door machine.new (place_of ask.entry.place))
         (M.stands machine.old ask.entry.store.now) (M.left machine.new)) }
-    ensures limits { OnOk result (IfSome (M.door_limits machine.new) (AreLimitsOf ask.entry.timeouts)) }
+    ensures limits { OnOk result (IsTrue (M.shows machine.old) → IsSomeAnd (M.door_limits machine.new) (AreLimitsOf ask.entry.timeouts)) }
     ensures back { GivesBack (M.shows machine.old) (M.left machine.old) (M.left machine.new) }
     ensures there { OnEnded result (HasBoth (M.shows machine.old) (M.stands machine.old ask.entry.store.now) (M.left machine.new)) }
     ensures asked { AsksPath (M.paths machine.old) ask.entry.store.now (M.paths machine.new) }

@@ -109,6 +109,7 @@ pub(crate) fn import<S: Alter + Drop>(
     let mut museum = Museum {
         conn: Some(conn),
         door,
+        limits: None,
         supply: Given { rows },
     };
     let imported = import_on(alloc, &mut museum);

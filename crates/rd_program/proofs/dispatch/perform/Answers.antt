@@ -5,7 +5,7 @@ use Rattle.rd_commands.specs.Cat.{Refuses, Serves}
 use Rattle.std.specs.Io.KnownBytes.{Appends}
 use Rattle.rd_program.specs.Leaves.{LeavesBy, LeavesRefused, OnEnded, StandsThere}
 use Rattle.rd_commands.specs.Listed.{Lists, RefusesList}
-use Rattle.rd_program.specs.Serving.{KeepsLimits, RefusesServeAt, serve_text_at}
+use Rattle.rd_program.specs.Serving.{LimitsVisitors, RefusesServe, serve_text}
 use Rattle.rd_program.proofs.VisitLemmas.{no_limits}
 use Rattle.rd_program.proofs.AnswerLemmas.{once_kept, once_never}
 use Rattle.rd_program.proofs.ImportLemmas.{ended_whole, err_whole, ok_whole, whole_is}
@@ -135,15 +135,15 @@ returns-in-Init-clause-not_made g c = λ store key asked.
 pub returns-in-Serve-clause-served : goal.returns-in-Serve-clause-served
 returns-in-Serve-clause-served g c = λ store place count rule asked.
     let asks : AsksVisits c.in-Serve.ask store place count rule = subst (IsServeAsk store place count rule) c.in-Serve.is asked in
-    ok_whole _ c.serve.result c.whole-in-Serve.result c.whole-in-Serve.ensures (subst (λ n. OnOk c.serve.result (Appends (g.W.Write.contents c.args.output.now) (g.W.Write.contents c.serve.new.output) (serve_text_at place n))) asks.count_is
-    (subst (λ p. OnOk c.serve.result (Appends (g.W.Write.contents c.args.output.now) (g.W.Write.contents c.serve.new.output) (serve_text_at p c.in-Serve.ask.count))) asks.place_is
+    ok_whole _ c.serve.result c.whole-in-Serve.result c.whole-in-Serve.ensures (subst (λ n. OnOk c.serve.result (Appends (g.W.Write.contents c.args.output.now) (g.W.Write.contents c.serve.new.output) (serve_text place n))) asks.count_is
+    (subst (λ p. OnOk c.serve.result (Appends (g.W.Write.contents c.args.output.now) (g.W.Write.contents c.serve.new.output) (serve_text p c.in-Serve.ask.count))) asks.place_is
     c.serve.ensures.done))
 
 pub returns-in-Serve-clause-not_served : goal.returns-in-Serve-clause-not_served
 returns-in-Serve-clause-not_served g c = λ store place count rule asked.
     let asks : AsksVisits c.in-Serve.ask store place count rule = subst (IsServeAsk store place count rule) c.in-Serve.is asked in
-    err_whole _ c.serve.result c.whole-in-Serve.result c.whole-in-Serve.ensures (subst (λ n. IfErr c.serve.result (λ refusal. RefusesServeAt refusal place n (g.W.Write.contents c.args.output.now) (g.W.Write.contents c.serve.new.output))) asks.count_is
-    (subst (λ p. IfErr c.serve.result (λ refusal. RefusesServeAt refusal p c.in-Serve.ask.count (g.W.Write.contents c.args.output.now) (g.W.Write.contents c.serve.new.output))) asks.place_is
+    err_whole _ c.serve.result c.whole-in-Serve.result c.whole-in-Serve.ensures (subst (λ n. IfErr c.serve.result (λ refusal. RefusesServe refusal place n (g.W.Write.contents c.args.output.now) (g.W.Write.contents c.serve.new.output))) asks.count_is
+    (subst (λ p. IfErr c.serve.result (λ refusal. RefusesServe refusal p c.in-Serve.ask.count (g.W.Write.contents c.args.output.now) (g.W.Write.contents c.serve.new.output))) asks.place_is
     c.serve.ensures.refused))
 
 pub returns-in-Import-clause-done : goal.returns-in-Import-clause-done
@@ -473,28 +473,28 @@ returns-in-OneQuestion-clause-serves g c =
 -- ---- how long visitors may take
 
 pub returns-in-File-clause-limits : goal.returns-in-File-clause-limits
-returns-in-File-clause-limits g c = subst (λ ask. OnOk c.whole.result (KeepsLimits (g.M.Machine.door_limits c.cat.new.machine) ask)) (sym c.in-File.is) (no_limits c.whole.result)
+returns-in-File-clause-limits g c = subst (λ ask. OnOk c.whole.result (LimitsVisitors (g.M.Machine.shows c.args.machine.now) (g.M.Machine.door_limits c.cat.new.machine) ask)) (sym c.in-File.is) (no_limits c.whole.result)
 
 pub returns-in-Files-clause-limits : goal.returns-in-Files-clause-limits
 returns-in-Files-clause-limits g c =
-    subst (λ ask. OnOk c.whole-in-Files.result (KeepsLimits (g.M.Machine.door_limits c.list.new.machine) ask)) (sym c.in-Files.is) (no_limits c.whole-in-Files.result)
+    subst (λ ask. OnOk c.whole-in-Files.result (LimitsVisitors (g.M.Machine.shows c.args.machine.now) (g.M.Machine.door_limits c.list.new.machine) ask)) (sym c.in-Files.is) (no_limits c.whole-in-Files.result)
 
 pub returns-in-Init-clause-limits : goal.returns-in-Init-clause-limits
 returns-in-Init-clause-limits g c =
-    subst (λ ask. OnOk c.whole-in-Init.result (KeepsLimits (g.M.Machine.door_limits c.init.new.machine) ask)) (sym c.in-Init.is) (no_limits c.whole-in-Init.result)
+    subst (λ ask. OnOk c.whole-in-Init.result (LimitsVisitors (g.M.Machine.shows c.args.machine.now) (g.M.Machine.door_limits c.init.new.machine) ask)) (sym c.in-Init.is) (no_limits c.whole-in-Init.result)
 
 pub returns-in-Serve-clause-limits : goal.returns-in-Serve-clause-limits
 returns-in-Serve-clause-limits g c =
-    subst (λ ask. OnOk c.whole-in-Serve.result (KeepsLimits (g.M.Machine.door_limits c.serve.new.machine) ask)) (sym c.in-Serve.is)
+    subst (λ ask. OnOk c.whole-in-Serve.result (LimitsVisitors (g.M.Machine.shows c.args.machine.now) (g.M.Machine.door_limits c.serve.new.machine) ask)) (sym c.in-Serve.is)
     (ok_whole _ c.serve.result c.whole-in-Serve.result c.whole-in-Serve.ensures c.serve.ensures.limits)
 
 pub returns-in-Import-clause-limits : goal.returns-in-Import-clause-limits
 returns-in-Import-clause-limits g c =
-    subst (λ ask. OnOk c.import.result (KeepsLimits (g.M.Machine.door_limits c.import.new.machine) ask)) (sym c.in-Import.is) (no_limits c.import.result)
+    subst (λ ask. OnOk c.import.result (LimitsVisitors (g.M.Machine.shows c.args.machine.now) (g.M.Machine.door_limits c.import.new.machine) ask)) (sym c.in-Import.is) (no_limits c.import.result)
 
 pub returns-in-OneQuestion-clause-limits : goal.returns-in-OneQuestion-clause-limits
 returns-in-OneQuestion-clause-limits g c =
-    subst (λ ask. OnOk c.ask_once.result (KeepsLimits (g.M.Machine.door_limits c.ask_once.new.machine) ask)) (sym c.in-OneQuestion.is) (no_limits c.ask_once.result)
+    subst (λ ask. OnOk c.ask_once.result (LimitsVisitors (g.M.Machine.shows c.args.machine.now) (g.M.Machine.door_limits c.ask_once.new.machine) ask)) (sym c.in-OneQuestion.is) (no_limits c.ask_once.result)
 
 -- ---- the store, the clock and the sheet
 

@@ -3,8 +3,7 @@ use Rattle.std.specs.Prelude.{⊤}
 use Rattle.rd_program.specs.Asking.{TellsCheck}
 use Rattle.rd_commands.specs.Input.{ReadsUpTo}
 use Rattle.rd_commands.specs.Refusals.{status_of}
-use Rattle.rd_program.specs.Serving.{serve_text_at}
-use Rattle.rd_commands.specs.Serving.Place.{Port}
+use Rattle.rd_program.specs.Serving.{serve_text}
 use Rattle.rd_commands.specs.RefusalLines.{Tells}
 use Rattle.rd_commands.specs.Versions.{RefusesVersion}
 use Rattle.rd_commands.specs.declared.refusal.Refusal.TheVariants.{BadSheet, NoMemory}
@@ -184,12 +183,9 @@ returns-in-Err-clause-list_due g c = λ some kind asked.
 pub returns-in-Ok-perform-clause-made : goal.returns-in-Ok-perform-clause-made
 returns-in-Ok-perform-clause-made g c = λ zero store key asked. c.in-Ok-perform.ensures.made store key (c.in-Ok.ensures.read.init store key asked)
 
-pub returns-in-Ok-perform-clause-served_at : goal.returns-in-Ok-perform-clause-served_at
-returns-in-Ok-perform-clause-served_at g c = λ zero store place count rule asked.
-    c.in-Ok-perform.ensures.served store place count rule (c.in-Ok.ensures.read.serve store place count rule asked)
-
 pub returns-in-Ok-perform-clause-served : goal.returns-in-Ok-perform-clause-served
-returns-in-Ok-perform-clause-served g c = λ zero store port. returns-in-Ok-perform-clause-served_at g c zero store (Port port)
+returns-in-Ok-perform-clause-served g c = λ zero store place count rule asked.
+    c.in-Ok-perform.ensures.served store place count rule (c.in-Ok.ensures.read.serve store place count rule asked)
 
 pub returns-in-Err-perform-clause-made : goal.returns-in-Err-perform-clause-made
 returns-in-Err-perform-clause-made g c = λ zero. absurd (not_done c.in-Err-perform.refused (sym c.tell_refusal.ensures.status ∙ zero))
@@ -199,14 +195,11 @@ returns-in-Err-perform-clause-init_due g c = λ some store key asked.
     tells _ c.in-Err-perform.refused _ _ _ (c.in-Err-perform.ensures.not_made store key (c.in-Ok.ensures.read.init store key asked))
     c.tell_refusal.ensures.status c.tell_refusal.ensures.written
 
-pub returns-in-Err-perform-clause-served_at : goal.returns-in-Err-perform-clause-served_at
-returns-in-Err-perform-clause-served_at g c = λ zero. absurd (not_done c.in-Err-perform.refused (sym c.tell_refusal.ensures.status ∙ zero))
-
 pub returns-in-Err-perform-clause-served : goal.returns-in-Err-perform-clause-served
-returns-in-Err-perform-clause-served g c = λ zero store port. returns-in-Err-perform-clause-served_at g c zero store (Port port)
+returns-in-Err-perform-clause-served g c = λ zero. absurd (not_done c.in-Err-perform.refused (sym c.tell_refusal.ensures.status ∙ zero))
 
-pub returns-in-Err-perform-clause-serve_due_at : goal.returns-in-Err-perform-clause-serve_due_at
-returns-in-Err-perform-clause-serve_due_at g c = λ some store place count rule asked.
+pub returns-in-Err-perform-clause-serve_due : goal.returns-in-Err-perform-clause-serve_due
+returns-in-Err-perform-clause-serve_due g c = λ some store place count rule asked.
     let asks = c.in-Ok.ensures.read.serve store place count rule asked in
     tells _ c.in-Err-perform.refused _ _ _ (
       c.in-Err-perform.ensures.not_served store place count rule asks,
@@ -214,9 +207,6 @@ returns-in-Err-perform-clause-serve_due_at g c = λ some store place count rule 
           c.in-Ok.ask store place count rule (g.W.Write.contents c.args.output.now) (g.W.Write.contents c.perform.new.output) c.in-Err-perform.refused asks c.in-Err-perform.ensures.leaves_refused,
     )
     c.tell_refusal.ensures.status c.tell_refusal.ensures.written
-
-pub returns-in-Err-perform-clause-serve_due : goal.returns-in-Err-perform-clause-serve_due
-returns-in-Err-perform-clause-serve_due g c = λ some store port. returns-in-Err-perform-clause-serve_due_at g c some store (Port port)
 
 pub returns-in-Err-clause-made : goal.returns-in-Err-clause-made
 returns-in-Err-clause-made g c = λ zero store key asked.
@@ -229,22 +219,16 @@ returns-in-Err-clause-init_due g c = λ some store key asked.
     let memory = c.tell_unread.ensures.memory none in
     tells _ NoMemory _ _ _ ((memory.1, inr (inr refl)), none_still (g.M.Machine.left c.args.machine.now)) memory.0 (c.tell_unread.ensures.no_memory none)
 
-pub returns-in-Err-clause-served_at : goal.returns-in-Err-clause-served_at
-returns-in-Err-clause-served_at g c = λ zero store place count rule asked.
+pub returns-in-Err-clause-served : goal.returns-in-Err-clause-served
+returns-in-Err-clause-served g c = λ zero store place count rule asked.
     let memory = c.tell_unread.ensures.memory (c.in-Err.ensures.unread (inr (inr (inr (inl (store, place, count, rule, asked)))))) in
     let three : c.tell_unread.result ≡ 3 = memory.0 in absurd (omega arith)
 
-pub returns-in-Err-clause-served : goal.returns-in-Err-clause-served
-returns-in-Err-clause-served g c = λ zero store port. returns-in-Err-clause-served_at g c zero store (Port port)
-
-pub returns-in-Err-clause-serve_due_at : goal.returns-in-Err-clause-serve_due_at
-returns-in-Err-clause-serve_due_at g c = λ some store place count rule asked.
+pub returns-in-Err-clause-serve_due : goal.returns-in-Err-clause-serve_due
+returns-in-Err-clause-serve_due g c = λ some store place count rule asked.
     let none = c.in-Err.ensures.unread (inr (inr (inr (inl (store, place, count, rule, asked))))) in
     let memory = c.tell_unread.ensures.memory none in
-    tells _ NoMemory _ _ _ (none_written _ _ (serve_text_at place count) memory.1, inr (still_left (g.M.Machine.left c.args.machine.now) (g.M.Machine.stands c.args.machine.now store) _)) memory.0 (c.tell_unread.ensures.no_memory none)
-
-pub returns-in-Err-clause-serve_due : goal.returns-in-Err-clause-serve_due
-returns-in-Err-clause-serve_due g c = λ some store port. returns-in-Err-clause-serve_due_at g c some store (Port port)
+    tells _ NoMemory _ _ _ (none_written _ _ (serve_text place count) memory.1, inr (still_left (g.M.Machine.left c.args.machine.now) (g.M.Machine.stands c.args.machine.now store) _)) memory.0 (c.tell_unread.ensures.no_memory none)
 
 -- ---- what was done in part
 
@@ -278,12 +262,9 @@ pub returns-in-Ok-perform-clause-init_due : goal.returns-in-Ok-perform-clause-in
 returns-in-Ok-perform-clause-init_due g c = λ some store key asked.
     absurd (not_in_rows _ c.in-Ok.ask c.in-Ok.ensures.read (c.in-Ok-perform.ensures.in_part (c.status.ensures.in_part some)) (inr (inr (inl (store, key, asked)))))
 
-pub returns-in-Ok-perform-clause-serve_due_at : goal.returns-in-Ok-perform-clause-serve_due_at
-returns-in-Ok-perform-clause-serve_due_at g c = λ some store place count rule asked.
-    absurd (not_in_rows _ c.in-Ok.ask c.in-Ok.ensures.read (c.in-Ok-perform.ensures.in_part (c.status.ensures.in_part some)) (inr (inr (inr (store, place, count, rule, asked)))))
-
 pub returns-in-Ok-perform-clause-serve_due : goal.returns-in-Ok-perform-clause-serve_due
-returns-in-Ok-perform-clause-serve_due g c = λ some store port. returns-in-Ok-perform-clause-serve_due_at g c some store (Port port)
+returns-in-Ok-perform-clause-serve_due g c = λ some store place count rule asked.
+    absurd (not_in_rows _ c.in-Ok.ask c.in-Ok.ensures.read (c.in-Ok-perform.ensures.in_part (c.status.ensures.in_part some)) (inr (inr (inr (store, place, count, rule, asked)))))
 
 pub returns-in-Ok-perform-clause-usage : goal.returns-in-Ok-perform-clause-usage
 returns-in-Ok-perform-clause-usage g c = λ two. absurd (omega (arith, c.status.ensures.most, two))
@@ -472,13 +453,10 @@ returns-in-Err-clause-no_rule g c = λ none. elim (c.in-Err.ensures.no_rule none
 
 -- ---- what is left of the store
 
-pub returns-in-Ok-perform-clause-serve_leaves_at : goal.returns-in-Ok-perform-clause-serve_leaves_at
-returns-in-Ok-perform-clause-serve_leaves_at g c = λ store place count rule asked.
+pub returns-in-Ok-perform-clause-serve_leaves : goal.returns-in-Ok-perform-clause-serve_leaves
+returns-in-Ok-perform-clause-serve_leaves g c = λ store place count rule asked.
     serve_leaves g.M.Disk.Store (g.M.Machine.clock c.args.machine.now) (g.M.Machine.left c.args.machine.now) (g.M.Machine.stands c.args.machine.now) (g.M.Machine.left c.perform.new.machine)
     c.in-Ok.ask store place count rule (c.in-Ok.ensures.read.serve store place count rule asked) c.perform.ensures.leaves
-
-pub returns-in-Ok-perform-clause-serve_leaves : goal.returns-in-Ok-perform-clause-serve_leaves
-returns-in-Ok-perform-clause-serve_leaves g c = λ store port. returns-in-Ok-perform-clause-serve_leaves_at g c store (Port port)
 
 pub returns-in-Ok-perform-clause-import_leaves : goal.returns-in-Ok-perform-clause-import_leaves
 returns-in-Ok-perform-clause-import_leaves g c = λ store key sheet moment rule asked.
@@ -495,13 +473,10 @@ returns-in-Ok-perform-clause-export_leaves g c = λ store key moment rule asked.
     once_leaves g.M.Disk.Store (g.M.Machine.clock c.args.machine.now) (g.M.Machine.left c.args.machine.now) (g.M.Machine.stands c.args.machine.now) (g.M.Machine.left c.perform.new.machine)
     c.in-Ok.ask store key Catalogue moment rule (c.in-Ok.ensures.read.export store key moment rule asked) c.perform.ensures.leaves
 
-pub returns-in-Err-perform-clause-serve_leaves_at : goal.returns-in-Err-perform-clause-serve_leaves_at
-returns-in-Err-perform-clause-serve_leaves_at g c = λ store place count rule asked.
+pub returns-in-Err-perform-clause-serve_leaves : goal.returns-in-Err-perform-clause-serve_leaves
+returns-in-Err-perform-clause-serve_leaves g c = λ store place count rule asked.
     serve_leaves g.M.Disk.Store (g.M.Machine.clock c.args.machine.now) (g.M.Machine.left c.args.machine.now) (g.M.Machine.stands c.args.machine.now) (g.M.Machine.left c.perform.new.machine)
     c.in-Ok.ask store place count rule (c.in-Ok.ensures.read.serve store place count rule asked) c.perform.ensures.leaves
-
-pub returns-in-Err-perform-clause-serve_leaves : goal.returns-in-Err-perform-clause-serve_leaves
-returns-in-Err-perform-clause-serve_leaves g c = λ store port. returns-in-Err-perform-clause-serve_leaves_at g c store (Port port)
 
 pub returns-in-Err-perform-clause-import_leaves : goal.returns-in-Err-perform-clause-import_leaves
 returns-in-Err-perform-clause-import_leaves g c = λ store key sheet moment rule asked.
@@ -518,11 +493,8 @@ returns-in-Err-perform-clause-export_leaves g c = λ store key moment rule asked
     once_leaves g.M.Disk.Store (g.M.Machine.clock c.args.machine.now) (g.M.Machine.left c.args.machine.now) (g.M.Machine.stands c.args.machine.now) (g.M.Machine.left c.perform.new.machine)
     c.in-Ok.ask store key Catalogue moment rule (c.in-Ok.ensures.read.export store key moment rule asked) c.perform.ensures.leaves
 
-pub returns-in-Err-clause-serve_leaves_at : goal.returns-in-Err-clause-serve_leaves_at
-returns-in-Err-clause-serve_leaves_at g c = λ store place count rule asked. still_left (g.M.Machine.left c.args.machine.now) (g.M.Machine.stands c.args.machine.now store) _
-
 pub returns-in-Err-clause-serve_leaves : goal.returns-in-Err-clause-serve_leaves
-returns-in-Err-clause-serve_leaves g c = λ store port. returns-in-Err-clause-serve_leaves_at g c store (Port port)
+returns-in-Err-clause-serve_leaves g c = λ store place count rule asked. still_left (g.M.Machine.left c.args.machine.now) (g.M.Machine.stands c.args.machine.now store) _
 
 pub returns-in-Err-clause-import_leaves : goal.returns-in-Err-clause-import_leaves
 returns-in-Err-clause-import_leaves g c = λ store key sheet moment rule asked. still_left (g.M.Machine.left c.args.machine.now) (g.M.Machine.stands c.args.machine.now store) _
@@ -726,18 +698,15 @@ returns-in-Err-clause-help g c = λ asks. elim (c.in-Err.ensures.help asks) [
 
 -- ---- visits
 
-pub returns-in-Ok-perform-clause-visits_at : goal.returns-in-Ok-perform-clause-visits_at
-returns-in-Ok-perform-clause-visits_at g c = λ zero store place count rule asked.
+pub returns-in-Ok-perform-clause-visits : goal.returns-in-Ok-perform-clause-visits
+returns-in-Ok-perform-clause-visits g c = λ zero store place count rule asked.
     serves_by g.M.Disk.Store g.M.Door.Door.told g.M.Door.Door.coming (g.M.Machine.door c.args.machine.now) (g.M.Machine.door c.perform.new.machine)
     (g.M.Machine.stands c.args.machine.now) (g.M.Machine.left c.perform.new.machine) c.in-Ok.ask store place count rule
     (c.in-Ok.ensures.read.serve store place count rule asked) c.in-Ok-perform.ensures.serves
 
-pub returns-in-Ok-perform-clause-visits : goal.returns-in-Ok-perform-clause-visits
-returns-in-Ok-perform-clause-visits g c = λ zero store port. returns-in-Ok-perform-clause-visits_at g c zero store (Port port)
-
 pub returns-in-Ok-perform-clause-limits : goal.returns-in-Ok-perform-clause-limits
 returns-in-Ok-perform-clause-limits g c = λ zero store place count rule asks.
-    limits_by _ (g.M.Machine.door_limits c.perform.new.machine) c.in-Ok.ask store place count rule c.in-Ok.ensures.read asks c.in-Ok-perform.ensures.limits
+    limits_by _ (g.M.Machine.shows c.args.machine.now) (g.M.Machine.door_limits c.perform.new.machine) c.in-Ok.ask store place count rule c.in-Ok.ensures.read asks c.in-Ok-perform.ensures.limits
 
 pub returns-in-Err-perform-clause-limits : goal.returns-in-Err-perform-clause-limits
 returns-in-Err-perform-clause-limits g c = λ zero. absurd (not_done c.in-Err-perform.refused (sym c.tell_refusal.ensures.status ∙ zero))
@@ -747,19 +716,13 @@ returns-in-Err-clause-limits g c = λ zero store place count rule asks.
     let memory = c.tell_unread.ensures.memory (c.in-Err.ensures.unread (inr (inr (inr (inl (store, place, count, rule, asks)))))) in
     let three : c.tell_unread.result ≡ 3 = memory.0 in absurd (omega arith)
 
-pub returns-in-Err-perform-clause-visits_at : goal.returns-in-Err-perform-clause-visits_at
-returns-in-Err-perform-clause-visits_at g c = λ zero. absurd (not_done c.in-Err-perform.refused (sym c.tell_refusal.ensures.status ∙ zero))
-
 pub returns-in-Err-perform-clause-visits : goal.returns-in-Err-perform-clause-visits
-returns-in-Err-perform-clause-visits g c = λ zero store port. returns-in-Err-perform-clause-visits_at g c zero store (Port port)
-
-pub returns-in-Err-clause-visits_at : goal.returns-in-Err-clause-visits_at
-returns-in-Err-clause-visits_at g c = λ zero store place count rule asks.
-    let memory = c.tell_unread.ensures.memory (c.in-Err.ensures.unread (inr (inr (inr (inl (store, place, count, rule, asks)))))) in
-    let three : c.tell_unread.result ≡ 3 = memory.0 in absurd (omega arith)
+returns-in-Err-perform-clause-visits g c = λ zero. absurd (not_done c.in-Err-perform.refused (sym c.tell_refusal.ensures.status ∙ zero))
 
 pub returns-in-Err-clause-visits : goal.returns-in-Err-clause-visits
-returns-in-Err-clause-visits g c = λ zero store port. returns-in-Err-clause-visits_at g c zero store (Port port)
+returns-in-Err-clause-visits g c = λ zero store place count rule asks.
+    let memory = c.tell_unread.ensures.memory (c.in-Err.ensures.unread (inr (inr (inr (inl (store, place, count, rule, asks)))))) in
+    let three : c.tell_unread.result ≡ 3 = memory.0 in absurd (omega arith)
 
 pub returns-in-Err-clause-back : goal.returns-in-Err-clause-back
 returns-in-Err-clause-back g c = λ shows had. had

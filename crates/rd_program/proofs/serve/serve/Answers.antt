@@ -77,8 +77,8 @@ returns-clause-visits g c =
 
 pub returns-clause-limits : goal.returns-clause-limits
 returns-clause-limits g c =
-    limits_kept c.tell_ended.result (g.M.Machine.door_limits c.serve_visits-served.new.machine) (g.M.Machine.door_limits c.release.new.self) c.args.ask.timeouts
-    c.release.ensures.door_limits c.in_ok-served.ensures.limits
+    limits_kept c.tell_ended.result (g.M.Machine.shows c.args.machine.now) (g.M.Machine.shows c.open_desk.new.machine) (g.M.Machine.door_limits c.serve_visits-served.new.machine)
+    (g.M.Machine.door_limits c.release.new.self) c.args.ask.timeouts c.open_desk.ensures.shows c.release.ensures.door_limits c.in_ok-served.ensures.limits
 
 pub returns-clause-there : goal.returns-clause-there
 returns-clause-there g c =
