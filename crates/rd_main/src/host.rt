@@ -1,4 +1,5 @@
-ghost use Rattle.std.specs.Prelude.{None, false};
+ghost use Rattle.std.specs.Prelude.{◌≡◌, IfOk, None, false};
+ghost use Rattle.rd_messages.specs.Streams.{limits_of};
 
 use crate::places::{HostListener, at_port, at_socket};
 use rd_http::{Clock, Door, StreamDoor, TimeLimits};
@@ -53,7 +54,9 @@ type HostDoor<'a> = StreamDoor<HostListener<'a>, HostClock>;
 
 impl<'a> Places<HostDoor<'a>> for HostPlaces<'a> {
     /// It also fails with `Failed` when the clock fails.
-    fn open(&self, place: Place, limits: TimeLimits) -> Result<HostDoor<'a>, MachineFault> {
+    fn open(&self, place: Place, limits: TimeLimits) -> Result<HostDoor<'a>, MachineFault>
+        ensures { IfOk result (λ door. limits_of door ≡ limits) }
+    {
         let listener = match place {
             Place::Port(port) => at_port(self.rt, port)?,
             Place::Socket(path) => at_socket(self.rt, path)?,

@@ -3,9 +3,9 @@
 use rd_http::{Listener, Stream};
 use std::fs;
 use std::fs::Permissions;
-use std::io::{ErrorKind, Read, Result, Write};
+use std::io::{Error, ErrorKind, Read, Result, Write};
 use std::net::{Ipv4Addr, TcpListener, TcpStream};
-use std::os::unix::fs::{FileTypeExt, PermissionsExt};
+use std::os::unix::fs::{FileTypeExt, MetadataExt, PermissionsExt};
 use std::os::unix::net::{UnixListener, UnixStream};
 use std::time::Duration;
 
@@ -67,25 +67,38 @@ impl Stream for HostStream {
     }
 }
 
-/// The file of a Unix socket that this desk has made. It goes when this value does.
-pub(crate) struct SocketFile<'a> {
+/// Which file it is: its device, and its number there.
+type FileNumber = (u64, u64);
+
+/// A Unix socket, and the file by which visitors find it. Where it ends, the file goes first, so that no other desk can
+/// have taken the path by then, and the socket shuts after that. A file that somebody has put in its place stays.
+pub(crate) struct HostSocket<'a> {
     rt: &'a HostRuntime,
     path: String,
+    file: FileNumber,
+    listener: UnixListener,
 }
 
-impl Drop for SocketFile<'_> {
+impl Drop for HostSocket<'_> {
     fn drop(self) {
-        let SocketFile { rt, path } = self;
-        let _ = fs::remove_file(rt, path.as_str());
+        let HostSocket {
+            rt,
+            path,
+            file,
+            listener,
+        } = self;
+        if number_at(rt, path.as_str()).is_ok_and(|found| found == file) {
+            let _ = fs::remove_file(rt, path.as_str());
+        }
+        drop(listener);
     }
 }
 
-/// What waits for visitors at a port, or at a Unix socket. The file of the socket goes before the socket shuts, so that it
-/// is never that of a desk which has come after.
+/// What waits for visitors at a port, or at a Unix socket.
 #[derive(Drop)]
 pub(crate) enum HostListener<'a> {
     Port(TcpListener),
-    Socket(SocketFile<'a>, UnixListener),
+    Socket(HostSocket<'a>),
 }
 
 impl Listener for HostListener<'_> {
@@ -94,7 +107,7 @@ impl Listener for HostListener<'_> {
     fn next(&self) -> Result<HostStream> {
         match self {
             HostListener::Port(listener) => Ok(HostStream::Port(listener.next()?)),
-            HostListener::Socket(_, listener) => Ok(HostStream::Socket(listener.next()?)),
+            HostListener::Socket(socket) => Ok(HostStream::Socket(socket.listener.next()?)),
         }
     }
 }
@@ -116,17 +129,33 @@ fn is_left_over(rt: &HostRuntime, path: &str) -> bool {
     }
 }
 
+/// Which file is at a path. A link is a file of its own.
+fn number_at(rt: &HostRuntime, path: &str) -> Result<FileNumber> {
+    let found = fs::symlink_metadata(rt, path)?;
+    Ok((found.dev(), found.ino()))
+}
+
 /// What waits at a Unix socket at a path, which its owner and its group may use. A socket at which nobody answers gives
-/// way; anything else that is there stays.
+/// way; anything else that is there stays. No other desk may be starting at the path meanwhile: between the look and the
+/// new socket, its own would be taken for one that was left.
 ///
-/// It fails when there is something else at the path, when the socket cannot be made, and when memory runs out.
+/// It fails when the path is empty, when there is something else at it, when the socket cannot be made, and when memory
+/// runs out.
 pub(crate) fn at_socket<'a>(rt: &'a HostRuntime, path: &str) -> Result<HostListener<'a>> {
+    if path.is_empty() {
+        return Err(Error::from(ErrorKind::InvalidInput));
+    }
     let name = String::from_str(rt.alloc(), path)?;
     if is_left_over(rt, path) {
         fs::remove_file(rt, path)?;
     }
     let listener = UnixListener::bind(rt, path)?;
-    let file = SocketFile { rt, path: name };
+    let socket = HostSocket {
+        rt,
+        path: name,
+        file: number_at(rt, path)?,
+        listener,
+    };
     fs::set_permissions(rt, path, Permissions::from_mode(SOCKET_MODE))?;
-    Ok(HostListener::Socket(file, listener))
+    Ok(HostListener::Socket(socket))
 }

@@ -1,7 +1,9 @@
 //! What the program says and writes.
 
+mod doors;
 mod edges;
 mod failing;
+mod folders;
 mod museums;
 mod refused;
 mod sheets;

@@ -109,12 +109,17 @@ fn the_machine_reads_no_folder_and_no_more_than_an_image(rt: HostRuntime) {
     }
 }
 
-/// The path of a new, empty file in the folder for files that tests make.
-pub(super) fn fresh_path(rt: &HostRuntime) -> Result<String, Fail> {
-    let folder = match env::var(rt, "TMPDIR") {
-        Ok(folder) => folder,
-        Err(_) => String::from_str(rt.alloc(), "/tmp")?,
-    };
+/// The folder for files that tests make.
+pub(super) fn test_folder(rt: &HostRuntime) -> Result<String, Fail> {
+    match env::var(rt, "TMPDIR") {
+        Ok(folder) => Ok(folder),
+        Err(_) => Ok(String::from_str(rt.alloc(), "/tmp")?),
+    }
+}
+
+/// The path of a new, empty file in that folder.
+fn fresh_path(rt: &HostRuntime) -> Result<String, Fail> {
+    let folder = test_folder(rt)?;
     for n in 0..1_000 {
         let path = format!(in rt.alloc(); "{folder}/desk-image-{n}")?;
         if fs::File::create_new(rt, path.as_str()).is_ok() {

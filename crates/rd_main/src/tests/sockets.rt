@@ -1,33 +1,39 @@
-//! Unix sockets of the real machine.
+//! Paths at which the real machine is to make a Unix socket.
 
-use super::edges::fresh_path;
+use super::folders::Folder;
 use crate::host::Host;
 use rd_http::TimeLimits;
-use rd_program::{Machine, Place};
+use rd_program::{Machine, MachineFault, Place};
 use std::fs;
-use std::os::unix::fs::PermissionsExt;
+use std::os::unix::fs::{MetadataExt, PermissionsExt, symlink};
 use std::os::unix::net::UnixListener;
 use std::test::Fail;
 
-/// A path in the folder for files that tests make, at which nothing is.
-fn free_path(rt: &HostRuntime) -> Result<String, Fail> {
-    let path = fresh_path(rt)?;
-    fs::remove_file(rt, path.as_str())?;
-    Ok(path)
+/// Whether a machine can listen at a path. It is over at once.
+fn listened(rt: &HostRuntime, path: &str) -> Result<(), MachineFault> {
+    let mut host = Host::new(rt);
+    let listened = host
+        .listen(Place::Socket(path), TimeLimits::usual())
+        .map(|_| ());
+    listened
 }
 
-/// Whether a machine can listen at a path. It is over at once.
-fn can_listen(rt: &HostRuntime, path: &str) -> bool {
-    let mut host = Host::new(rt);
-    let can = host
-        .listen(Place::Socket(path), TimeLimits::usual())
-        .is_ok();
-    can
+/// Leaves a socket at a path, at which nobody answers.
+fn leave_socket(rt: &HostRuntime, path: &str) -> Result<(), Fail> {
+    let _left = UnixListener::bind(rt, path)?;
+    Ok(())
+}
+
+/// Which file is at a path.
+fn number_at(rt: &HostRuntime, path: &str) -> Result<(u64, u64), Fail> {
+    let found = fs::symlink_metadata(rt, path)?;
+    Ok((found.dev(), found.ino()))
 }
 
 #[test]
 fn a_socket_is_for_owner_and_group_and_goes_with_its_desk(rt: HostRuntime) -> Result<(), Fail> {
-    let path = free_path(&rt)?;
+    let folder = Folder::new(&rt)?;
+    let path = folder.path("door")?;
     {
         let mut host = Host::new(&rt);
         let is_open = host
@@ -36,25 +42,87 @@ fn a_socket_is_for_owner_and_group_and_goes_with_its_desk(rt: HostRuntime) -> Re
         assert!(rt; is_open);
         let found = fs::symlink_metadata(&rt, path.as_str())?;
         assert!(rt; found.permissions().mode() & 0o777 == 0o660);
-        assert!(rt; !can_listen(&rt, path.as_str()), "a desk listens there");
-        assert!(rt; fs::exists(&rt, path.as_str())?, "its socket stays");
     }
     assert!(rt; !fs::exists(&rt, path.as_str())?);
     Ok(())
 }
 
 #[test]
-fn only_a_socket_that_was_left_gives_way(rt: HostRuntime) -> Result<(), Fail> {
-    let path = free_path(&rt)?;
+fn what_has_taken_the_place_of_a_socket_stays(rt: HostRuntime) -> Result<(), Fail> {
+    let folder = Folder::new(&rt)?;
+    let path = folder.path("door")?;
     {
-        let _left = UnixListener::bind(&rt, path.as_str())?;
+        let mut host = Host::new(&rt);
+        let is_open = host
+            .listen(Place::Socket(path.as_str()), TimeLimits::usual())
+            .is_ok();
+        assert!(rt; is_open);
+        fs::remove_file(&rt, path.as_str())?;
+        leave_socket(&rt, path.as_str())?;
     }
+    assert!(rt; fs::exists(&rt, path.as_str())?);
+    Ok(())
+}
+
+#[test]
+fn a_socket_that_was_left_gives_way(rt: HostRuntime) -> Result<(), Fail> {
+    let folder = Folder::new(&rt)?;
+    let path = folder.path("door")?;
+    leave_socket(&rt, path.as_str())?;
     assert!(rt; fs::exists(&rt, path.as_str())?, "it was left");
-    assert!(rt; can_listen(&rt, path.as_str()), "nobody answers there");
-    fs::write(&rt, path.as_str(), b"BYTES")?;
-    assert!(rt; !can_listen(&rt, path.as_str()), "a file is there");
-    let length = fs::metadata(&rt, path.as_str())?.len();
-    fs::remove_file(&rt, path.as_str())?;
-    assert!(rt; length == 5, "the file stays");
+    assert_eq!(rt; listened(&rt, path.as_str()), Ok(()));
+    Ok(())
+}
+
+/// What does not give way, by its name.
+const STAYING: [&str; 5] = ["desk", "listener", "link", "file", "folder"];
+
+#[test]
+fn nothing_else_gives_way(rt: HostRuntime) -> Result<(), Fail> {
+    let folder = Folder::new(&rt)?;
+    let desk = folder.path("desk")?;
+    let left = folder.path("left")?;
+    let mut host = Host::new(&rt);
+    let is_open = host
+        .listen(Place::Socket(desk.as_str()), TimeLimits::usual())
+        .is_ok();
+    assert!(rt; is_open);
+    let _listener = UnixListener::bind(&rt, folder.path("listener")?.as_str())?;
+    leave_socket(&rt, left.as_str())?;
+    symlink(&rt, left.as_str(), folder.path("link")?.as_str())?;
+    fs::write(&rt, folder.path("file")?.as_str(), b"BYTES")?;
+    fs::create_dir(&rt, folder.path("folder")?.as_str())?;
+    for name in STAYING {
+        let path = folder.path(name)?;
+        let number = number_at(&rt, path.as_str())?;
+        assert_eq!(rt;
+            listened(&rt, path.as_str()),
+            Err(MachineFault::Failed),
+            "{name}"
+        );
+        assert!(rt; number_at(&rt, path.as_str())? == number, "{name}");
+    }
+    assert!(rt; fs::exists(&rt, left.as_str())?, "the link's socket");
+    Ok(())
+}
+
+#[test]
+fn a_path_has_a_folder_and_1_to_107_bytes(rt: HostRuntime) -> Result<(), Fail> {
+    let folder = Folder::new(&rt)?;
+    let longest = folder.path_of(107)?;
+    assert_eq!(rt; longest.len(), 107);
+    assert_eq!(rt; listened(&rt, longest.as_str()), Ok(()));
+    for path in [
+        folder.path_of(108)?,
+        folder.path("none/door")?,
+        folder.path("")?,
+    ] {
+        assert_eq!(rt;
+            listened(&rt, path.as_str()),
+            Err(MachineFault::Failed),
+            "{path}"
+        );
+    }
+    assert_eq!(rt; listened(&rt, ""), Err(MachineFault::Failed));
     Ok(())
 }
