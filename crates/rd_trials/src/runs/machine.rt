@@ -51,21 +51,33 @@ pub(crate) struct Given {
     pub(crate) place: Option<String>,
 }
 
-/// A place as the report of a run has it, and how many seconds a visitor may take there, if that is not as usual.
-fn told_place(alloc: Global, place: Place, limits: TimeLimits) -> Result<String, AllocError> {
-    let mut text = match place {
+/// A place as the report of a run has it.
+pub(crate) fn told_place(alloc: Global, place: Place) -> Result<String, AllocError> {
+    Ok(match place {
         Place::Port(port) => format!(in alloc; "port {port}")?,
         Place::Socket(path) => format!(in alloc; "socket {path}")?,
-    };
-    if limits != TimeLimits::usual() {
-        let (request, write, reply) = (
-            limits.request.as_secs(),
-            limits.write.as_secs(),
-            limits.reply.as_secs(),
-        );
-        write!(text, ", limits {request} {write} {reply}")?;
+    })
+}
+
+/// Adds to the report of a place how many seconds a visitor may take there, if that is not as usual.
+pub(crate) fn add_limits(told: &mut String, limits: TimeLimits) -> Result<(), AllocError> {
+    if limits == TimeLimits::usual() {
+        return Ok(());
     }
-    Ok(text)
+    let (request, write, reply) = (
+        limits.request.as_secs(),
+        limits.write.as_secs(),
+        limits.reply.as_secs(),
+    );
+    write!(told, ", limits {request} {write} {reply}")?;
+    Ok(())
+}
+
+/// The report of a place, and of how long a visitor may take there.
+fn told_door(alloc: Global, place: Place, limits: TimeLimits) -> Result<String, AllocError> {
+    let mut told = told_place(alloc, place)?;
+    add_limits(&mut told, limits)?;
+    Ok(told)
 }
 
 pub(crate) type Museum = rd_machines::Museum<Given>;
@@ -153,7 +165,7 @@ impl Supply for Given {
     ///
     /// It also fails when memory runs out.
     fn check_door(&mut self, place: Place, limits: TimeLimits) -> Result<(), MachineFault> {
-        let told = told_place(self.alloc, place, limits).map_err(|_| MachineFault::NoMemory)?;
+        let told = told_door(self.alloc, place, limits).map_err(|_| MachineFault::NoMemory)?;
         self.place = Some(told);
         self.given("door")
     }

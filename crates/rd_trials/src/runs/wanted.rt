@@ -1,9 +1,13 @@
 //! What a run must leave.
 
+use super::machine::{add_limits, told_place};
 use crate::bytes::add_out;
 use anyhow::{Result, bail};
+use rd_http::TimeLimits;
 use rd_played::{Tally, add_bytes};
+use rd_program::Place;
 use std::alloc::{AllocError, Global};
+use std::time::Duration;
 
 /// What a run left.
 #[derive(Drop)]
@@ -53,6 +57,19 @@ fn outcome_of(
     Ok(told)
 }
 
+/// How long a visitor may take, from three numbers of seconds.
+fn limits_of(text: &str) -> Result<TimeLimits> {
+    let mut parts = text.split(' ');
+    match (parts.next(), parts.next(), parts.next(), parts.next()) {
+        (Some(request), Some(write), Some(reply), None) => Ok(TimeLimits {
+            request: Duration::from_secs(request.parse()?),
+            write: Duration::from_secs(write.parse()?),
+            reply: Duration::from_secs(reply.parse()?),
+        }),
+        _ => bail!("limits are three numbers"),
+    }
+}
+
 impl<'a> Wanted<'a> {
     pub(crate) fn new(alloc: Global) -> Wanted<'a> {
         Wanted {
@@ -77,7 +94,8 @@ impl<'a> Wanted<'a> {
     pub(crate) fn read(&mut self, alloc: Global, word: &str, text: &'a str) -> Result<()> {
         match word {
             "status" => self.status = text.parse()?,
-            "port" | "socket" => self.place = Some(format!(in alloc; "{word} {text}")?),
+            "port" => self.place = Some(told_place(alloc, Place::Port(text.parse()?))?),
+            "socket" => self.place = Some(told_place(alloc, Place::Socket(text))?),
             "limits" => self.add_limits(text)?,
             "part" => self.parts.push(text)?,
             "errors" => add_bytes(&mut self.errors, text)?,
@@ -89,7 +107,7 @@ impl<'a> Wanted<'a> {
     /// Adds how many seconds a visitor may take, after the line of a place.
     fn add_limits(&mut self, text: &str) -> Result<()> {
         match &mut self.place {
-            Some(place) => Ok(write!(place, ", limits {text}")?),
+            Some(place) => Ok(add_limits(place, limits_of(text)?)?),
             None => bail!("limits without a place"),
         }
     }
