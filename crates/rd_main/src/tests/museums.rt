@@ -86,6 +86,7 @@ pub(super) fn museum<S: Alter + Drop>(
     rd_machines::Museum {
         conn: Some(conn),
         door,
+        limits: None,
         supply,
     }
 }

@@ -94,6 +94,7 @@ pub(crate) fn new_museum(alloc: Global) -> Result<Museum, NoMemory> {
     Ok(Museum {
         conn: Some(new_connection(alloc)?),
         door: new_door(alloc, Vec::new(alloc))?,
+        limits: None,
         supply,
     })
 }
