@@ -150,10 +150,11 @@ pub(crate) fn at_socket<'a>(rt: &'a HostRuntime, path: &str) -> Result<HostListe
         fs::remove_file(rt, path)?;
     }
     let listener = UnixListener::bind(rt, path)?;
+    let file = number_at(rt, path)?;
     let socket = HostSocket {
         rt,
         path: name,
-        file: number_at(rt, path)?,
+        file,
         listener,
     };
     fs::set_permissions(rt, path, Permissions::from_mode(SOCKET_MODE))?;
