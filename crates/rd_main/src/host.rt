@@ -50,11 +50,11 @@ pub(crate) struct HostPlaces<'a> {
 }
 
 /// A door of that machine.
-type HostDoor<'a> = StreamDoor<HostListener<'a>, HostClock>;
+type HostDoor = StreamDoor<HostListener, HostClock>;
 
-impl<'a> Places<HostDoor<'a>> for HostPlaces<'a> {
+impl Places<HostDoor> for HostPlaces<'_> {
     /// It also fails with `Failed` when the clock fails.
-    fn open(&self, place: Place, limits: TimeLimits) -> Result<HostDoor<'a>, MachineFault>
+    fn open(&self, place: Place, limits: TimeLimits) -> Result<HostDoor, MachineFault>
         ensures { IfOk result (λ door. limits_of door ≡ limits) }
     {
         let listener = match place {
@@ -78,9 +78,9 @@ pub(crate) struct Host<'a, D: Door + Drop, P: Places<D> + Drop> {
     doors: Vec<D>,
 }
 
-impl<'a> Host<'a, HostDoor<'a>, HostPlaces<'a>> {
+impl<'a> Host<'a, HostDoor, HostPlaces<'a>> {
     /// The machine of the process.
-    pub(crate) fn new(rt: &'a HostRuntime) -> Host<'a, HostDoor<'a>, HostPlaces<'a>> {
+    pub(crate) fn new(rt: &'a HostRuntime) -> Host<'a, HostDoor, HostPlaces<'a>> {
         Host {
             rt,
             places: HostPlaces { rt },

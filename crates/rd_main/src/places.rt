@@ -72,14 +72,14 @@ type FileNumber = (u64, u64);
 
 /// A Unix socket, and the file by which visitors find it. Where it ends, the file goes first, so that no other desk can
 /// have taken the path by then, and the socket shuts after that. A file that somebody has put in its place stays.
-pub(crate) struct HostSocket<'a> {
-    rt: &'a HostRuntime,
+pub(crate) struct HostSocket {
+    rt: HostRuntime,
     path: String,
     file: FileNumber,
     listener: UnixListener,
 }
 
-impl Drop for HostSocket<'_> {
+impl Drop for HostSocket {
     fn drop(self) {
         let HostSocket {
             rt,
@@ -87,8 +87,8 @@ impl Drop for HostSocket<'_> {
             file,
             listener,
         } = self;
-        if number_at(rt, path.as_str()).is_ok_and(|found| found == file) {
-            let _ = fs::remove_file(rt, path.as_str());
+        if number_at(&rt, path.as_str()).is_ok_and(|found| found == file) {
+            let _ = fs::remove_file(&rt, path.as_str());
         }
         drop(listener);
     }
@@ -96,12 +96,12 @@ impl Drop for HostSocket<'_> {
 
 /// What waits for visitors at a port, or at a Unix socket.
 #[derive(Drop)]
-pub(crate) enum HostListener<'a> {
+pub(crate) enum HostListener {
     Port(TcpListener),
-    Socket(HostSocket<'a>),
+    Socket(HostSocket),
 }
 
-impl Listener for HostListener<'_> {
+impl Listener for HostListener {
     type Stream = HostStream;
 
     fn next(&self) -> Result<HostStream> {
@@ -113,7 +113,7 @@ impl Listener for HostListener<'_> {
 }
 
 /// What waits at a port of the machine itself. It fails when the port cannot be opened.
-pub(crate) fn at_port<'a>(rt: &'a HostRuntime, port: u16) -> Result<HostListener<'a>> {
+pub(crate) fn at_port(rt: &HostRuntime, port: u16) -> Result<HostListener> {
     let listener = TcpListener::bind(rt, (Ipv4Addr::LOCALHOST, port))?;
     Ok(HostListener::Port(listener))
 }
@@ -141,7 +141,7 @@ fn number_at(rt: &HostRuntime, path: &str) -> Result<FileNumber> {
 ///
 /// It fails when the path is empty, when there is something else at it, when the socket cannot be made, and when memory
 /// runs out.
-pub(crate) fn at_socket<'a>(rt: &'a HostRuntime, path: &str) -> Result<HostListener<'a>> {
+pub(crate) fn at_socket(rt: &HostRuntime, path: &str) -> Result<HostListener> {
     if path.is_empty() {
         return Err(Error::from(ErrorKind::InvalidInput));
     }
@@ -152,7 +152,7 @@ pub(crate) fn at_socket<'a>(rt: &'a HostRuntime, path: &str) -> Result<HostListe
     let listener = UnixListener::bind(rt, path)?;
     let file = number_at(rt, path)?;
     let socket = HostSocket {
-        rt,
+        rt: *rt,
         path: name,
         file,
         listener,
