@@ -54,16 +54,33 @@ def key_in(path):
     return key.strip(b" \t")
 
 
-class Desk:
-    """A desk at a port of this machine, and the key by which it is asked. The port may be that of the staff's door."""
+class SocketConnection(http.client.HTTPConnection):
+    """A connection to a Unix socket."""
 
-    def __init__(self, port, key, limit=LIMIT):
-        self.port, self.key, self.limit = port, key, limit
+    def __init__(self, path, timeout):
+        super().__init__("desk", timeout=timeout)
+        self.path = path
+
+    def connect(self):
+        self.sock = socket.socket(socket.AF_UNIX)
+        self.sock.settimeout(self.timeout)
+        self.sock.connect(self.path)
+
+
+class Desk:
+    """A desk, and the key by which it is asked: at the port of the staff's door, or at the path of its own socket."""
+
+    def __init__(self, place, key, limit=LIMIT):
+        self.place, self.key, self.limit = place, key, limit
+
+    def connection(self):
+        if isinstance(self.place, int):
+            return http.client.HTTPConnection(HOST, self.place, timeout=self.limit)
+        return SocketConnection(self.place, self.limit)
 
     def visit(self, method, path, body=None, fields=()):
         """The status and the body of a reply. Raises OSError or HTTPException where there is none."""
-        connection = http.client.HTTPConnection(HOST, self.port, timeout=self.limit)
-        with contextlib.closing(connection):
+        with contextlib.closing(self.connection()) as connection:
             connection.request(method, path, body, {"Desk-Key": self.key, **dict(fields)})
             reply = connection.getresponse()
             return reply.status, reply.read()
@@ -84,12 +101,12 @@ class Desk:
 
 
 class Served:
-    """A desk that serves a store at a port of its own, as the user of the desk where there is one. nginx does not know
-    the port. Raises Failed where desk does not open the store."""
+    """A desk that serves a store at a socket beside it, as the user of the desk where there is one. nginx does not know
+    the socket. Raises Failed where desk does not open the store."""
 
     def __init__(self, program, store):
-        self.port, self.store = free_port(), store
-        words = [program, "serve", "--store", str(store), "--port", str(self.port), "--count", "1000000"]
+        self.socket, self.store = str(store.parent / "socket"), store
+        words = [program, "serve", "--store", str(store), "--socket", self.socket, "--count", "1000000"]
         streams = {"stdin": subprocess.DEVNULL, "stdout": subprocess.PIPE, "stderr": subprocess.PIPE}
         self.process = subprocess.Popen(words, **streams, **as_desk(store.parent))
 
@@ -109,12 +126,6 @@ class Served:
         """Ends the desk, and gives what it has written to its standard error."""
         self.process.kill()
         return self.process.communicate()[1].decode(errors="replace")
-
-
-def free_port():
-    with socket.socket() as probe:
-        probe.bind((HOST, 0))
-        return probe.getsockname()[1]
 
 
 def as_desk(folder):

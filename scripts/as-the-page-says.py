@@ -6,11 +6,12 @@ PAGE is docs/OPERATING.md, docs/BY-HAND.md, README.md or docs/COMMANDS.md; witho
 built desk; without one it is ./desk of this repository. You need Linux, Python 3 with its standard library alone, and
 packages of Debian, which the script installs as root: for the first page nginx, openssl, sqlite3, curl, python3 and
 tzdata, for docs/BY-HAND.md nginx, openssl, sqlite3, curl, logrotate, adduser and systemd, for README.md curl, for
-docs/COMMANDS.md curl, sqlite3 and cpmtools. The ports 8041, 8042, 8043, 8080 and 8443 have to be free.
+docs/COMMANDS.md curl, sqlite3 and cpmtools. The ports 8041, 8043, 8080 and 8443 have to be free.
 
 Commands after `$` run in one shell, in a copy of what they need of this repository; those of README.md and
 docs/COMMANDS.md have a /tmp of their own. Commands after `#` need the rights of root. Where it has them, they run in
-another shell, in a mount namespace whose /etc, /usr and /var are throw-away layers over the machine's.
+another shell, in a mount namespace whose /etc, /usr and /var are throw-away layers over the machine's, and whose /run
+is empty.
 
 The script names some commands and does not run them: those that prove, build or measure, those that need a network or
 the package, and all of root's from the first one on that needs a running systemd. scripts/under-systemd.py runs the
@@ -39,6 +40,7 @@ set -e
 mount --make-rprivate /
 mkdir layers
 mount -t tmpfs tmpfs layers
+mount -t tmpfs tmpfs /run
 for folder in etc usr var; do
     mkdir -p layers/$folder/upper layers/$folder/work
     upper=$PWD/layers/$folder/upper work=$PWD/layers/$folder/work

@@ -12,7 +12,6 @@ Then readers ask without a rest while stores of some size are backed up, the lar
 longest wait may not grow with the store. At last come backups that fail, and the choice of those that are kept."""
 
 import contextlib
-import http.client
 import importlib.machinery
 import importlib.util
 import json
@@ -30,7 +29,7 @@ import time
 
 import reading_room
 
-from client_cases import HOST, LIMIT, STAFF, bytes_of, digest
+from client_cases import LIMIT, STAFF, bytes_of, digest
 from house import House, TOOLS
 
 TOOL = os.path.join(TOOLS, "desk-backup")
@@ -44,11 +43,11 @@ PAUSE = 0.1
 
 
 class Writer(threading.Thread):
-    """Commands one after the other at a port, each with another value, and how many were begun and how many done."""
+    """Commands one after the other at a place, each with another value, and how many were begun and how many done."""
 
-    def __init__(self, port, seed, pause=0):
+    def __init__(self, place, seed, pause=0):
         super().__init__(daemon=True)
-        self.port_now, self.chance, self.pause = port, random.Random(seed), pause
+        self.place_now, self.chance, self.pause = place, random.Random(seed), pause
         self.sent, self.begun, self.done, self.images, self.refused = [], 0, 0, 0, []
         self.rest, self.stop = threading.Event(), threading.Event()
         self.rest.set()
@@ -79,8 +78,7 @@ class Writer(threading.Thread):
     def send(self, what, value, path, body):
         self.sent.append((what, value))
         self.begun += 1
-        connection = http.client.HTTPConnection(HOST, self.port_now, timeout=LIMIT)
-        with contextlib.closing(connection):
+        with contextlib.closing(reading_room.client_at(self.place_now)) as connection:
             connection.request("PUT", path, body, {"Desk-Key": STAFF})
             reply = connection.getresponse().read()
         if reply != b'{"done":true}':
@@ -137,7 +135,7 @@ def see_backups(seen, room, count):
     writer.start()
     for number in range(count):
         around = number % 5 == 4
-        writer.port_now = room.desk_port if around else room.staff_port
+        writer.place_now = room.place if around else room.staff_port
         see_backup(seen, house, writer, f"backup {number}{' of commands that go round the door' if around else ''}")
         if not around:
             seen.same(f"backup {number}: the desk is never frozen", 0, house.freezes())
@@ -198,7 +196,7 @@ def see_waits(seen, program, disks):
 
 def fill(house, count):
     """So many disks in a store, of which everybody may read all."""
-    writer = Writer(house.room.desk_port, 1)
+    writer = Writer(house.room.place, 1)
     for deed in range(1, DEEDS + 1):
         writer.send(("deed", deed), "", f"/deeds/{deed}", json.dumps({"donor": "D", "signed": "2020-01-01"}))
     rule = {"audiences": ["public", "room", "staff"], "select": {"all": True}, "effect": "read"}

@@ -585,10 +585,10 @@ def see_slow(seen, room):
 
 def see_why(seen, room):
     """Without nginx such a visitor stops all others: so the case above can fail."""
-    with socket.create_connection((HOST, room.desk_port)) as slow:
+    with reading_room.socket_at(room.place) as slow:
         slow.sendall(QUESTION[:30])
         time.sleep(0.3)
-        with contextlib.closing(http.client.HTTPConnection(HOST, room.desk_port, timeout=SOON)) as other:
+        with contextlib.closing(reading_room.client_at(room.place, SOON)) as other:
             try:
                 other.request("GET", "/images")
                 came = other.getresponse().status

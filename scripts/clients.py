@@ -52,17 +52,22 @@ def by_client(port, asked):
         return head(f"{version} {response.status} {response.reason}", *lines) + response.read()
 
 
-def connected(port, room=None):
-    """A plain socket, that sends at once what it is given; its system keeps so much that it has not read yet.
+def connected(place, room=None):
+    """A plain socket, that sends at once what it is given; its system keeps so much that it has not read yet. The place
+    is a port, or the path of a Unix socket.
 
-    Small segments make the desk's system keep little of a reply, too: over loopback it takes megabytes of large ones."""
-    connection = socket.socket()
+    At a Unix socket the sender's system keeps what is not read. At a port, small segments make the desk's system keep
+    little of a reply, too: over loopback it takes megabytes of large ones."""
+    is_port = isinstance(place, int)
+    connection = socket.socket(socket.AF_INET if is_port else socket.AF_UNIX)
     connection.settimeout(LIMIT)
-    connection.setsockopt(socket.IPPROTO_TCP, socket.TCP_NODELAY, 1)
+    if is_port:
+        connection.setsockopt(socket.IPPROTO_TCP, socket.TCP_NODELAY, 1)
     if room:
         connection.setsockopt(socket.SOL_SOCKET, socket.SO_RCVBUF, room)
+    if room and is_port:
         connection.setsockopt(socket.IPPROTO_TCP, socket.TCP_MAXSEG, 536)
-    connection.connect((HOST, port))
+    connection.connect((HOST, place) if is_port else str(place))
     return connection
 
 

@@ -22,7 +22,7 @@ stop) echo stop >>"$folder/calls"; kill -KILL "$pid" 2>/dev/null; while runs; do
 start)
     echo start >>"$folder/calls"
     : >"$folder/serves"
-    {program} serve --store "$folder/museum.sqlite" --port {port} --count 1000000 >"$folder/serves" 2>/dev/null &
+    {program} serve --store "$folder/museum.sqlite" --socket {socket} --count 1000000 >"$folder/serves" 2>/dev/null &
     pid=$!
     echo $pid >"$folder/desk.pid"
     until grep -q listening "$folder/serves"; do runs || exit 1; sleep 0.05; done
@@ -38,7 +38,7 @@ class House:
         self.room, self.bin = room, room.folder / "bin"
         self.bin.mkdir()
         tool = self.bin / "systemctl"
-        tool.write_text(SYSTEMCTL.format(folder=room.folder, program=room.program, port=room.desk_port))
+        tool.write_text(SYSTEMCTL.format(folder=room.folder, program=room.program, socket=room.place))
         tool.chmod(0o755)
         room.run("init", "--store", str(room.store), "--key", STAFF)
         (room.folder / "staff-key").write_text(f"Desk-Key: {STAFF}\n")

@@ -50,6 +50,13 @@ INSTALLED = [
     ("the desk", f"{VISIT} {OUTSIDE}/images", '{"images":[]}'),
     ("its health", f"{VISIT} {OUTSIDE}/health", DONE),
     ("the staff's page", f"curl -s http://127.0.0.1:8043/ | {TITLE}", "<title>The staff's page</title>"),
+    ("where it listens", "stat -c '%U:%G %a %F' /run/desk/socket", "desk:www-data 660 socket"),
+    (
+        "nobody else comes to it",
+        "runuser -u nobody -- curl -s --unix-socket /run/desk/socket http://x/; echo $?; runuser -u www-data -- "
+        "curl -s --unix-socket /run/desk/socket http://x/images",
+        '7\n{"images":[]}',
+    ),
     ("a command from outside", f"{VISIT} {CODE} -X PUT {OUTSIDE}/deeds/7", "403"),
     ("Debian's own site is there", f"curl -s http://127.0.0.1/ | {TITLE}", "<title>Welcome to nginx!</title>"),
     ("no file of another package is touched", "dpkg --verify nginx-common nginx; echo $?", "0"),
@@ -72,7 +79,7 @@ FILES = {
     "/var/lib/desk": "desk:desk 700", "/var/lib/desk/museum.sqlite": "desk:desk 600", "/etc/desk": "root:root 755",
     "/etc/desk/site.key": "root:root 600", "/etc/desk/staff-key": "root:root 600", "/etc/desk/places": "root:root 644",
     "/var/log/desk": "root:www-data 750", "/var/log/desk/journal": "root:www-data 640",
-    "/var/backups/desk": "root:root 700",
+    "/var/backups/desk": "root:root 700", "/run/desk": "desk:www-data 2750",
 }
 RIGHTS = [(name, f"stat -c '%U:%G %a' {name}", wanted) for name, wanted in FILES.items()]
 DAY = [

@@ -278,7 +278,11 @@ def see_readers(seen, room):
 def see_cut_off(seen, room):
     """Who works, and why, does not go to the desk."""
     room.stop_desk()
-    with socket.create_server((HOST, room.desk_port)) as port:
+    room.place.unlink(missing_ok=True)
+    with socket.socket(socket.AF_UNIX) as port:
+        port.bind(str(room.place))
+        reading_room.give_to_nginx(room.place, 0o660)
+        port.listen()
         port.settimeout(LIMIT)
         sender = threading.Thread(target=asked, args=(room, "PUT", "/deeds/7", DEED, NAMES))
         sender.start()

@@ -68,7 +68,7 @@ def see_client(seen, room, label, client, due):
     """Visits often, and tells how many replies were lost or cut, and how."""
     lost = collections.Counter()
     for _ in range(VISITS):
-        reply = tried(client, room.desk_port)
+        reply = tried(client, room.place)
         if reply != due:
             lost[what_came(reply, due)] += 1
     print(f"{label}: {lost.total()} of {VISITS} replies are lost or cut", flush=True)
@@ -105,15 +105,15 @@ def visit(port):
 
 def see_next(seen, room, label, stays):
     """Visits behind clients who stay, compares the replies with that of a visit before, and tells how long they take."""
-    alone, due = visit(room.desk_port)
+    alone, due = visit(room.place)
     alone.close()
     seen.same(f"before {label}", (True, "an end"), (due[0].startswith(b"HTTP/1.1 200 "), due[1]))
     taken, others = [], 0
     for _ in range(STAYS):
-        first, reply = visit(room.desk_port)
+        first, reply = visit(room.place)
         with first, stays(first):
             begun = time.monotonic()
-            second, came = visit(room.desk_port)
+            second, came = visit(room.place)
             taken.append(time.monotonic() - begun)
             second.close()
         others += (reply, came) != (due, due)
@@ -127,7 +127,7 @@ def main():
     if missing:
         sys.exit(f"missing: {' '.join(missing)}")
     seen = reading_room.Seen()
-    with reading_room.Room(reading_room.program(sys.argv[1:])) as room:
+    with reading_room.Room(reading_room.program(sys.argv[1:]), at_port=True) as room:
         room.fill((*FIRST, *MORE, *LONG))
         for label, client, due in CLIENTS:
             see_client(seen, room, label, client, due)

@@ -7,11 +7,13 @@ they can: they send nothing, send a byte a second, take nothing of a long reply,
 little that their reply would last three minutes. Behind each waits a reader. The reader gets the reply that they get
 when the desk is free, and waits no longer than the limit of the visitor before them, and two seconds for all else.
 Behind the first four the reader also waits for at least eight seconds, since nothing but a limit of ten ends them. One
-more visitor takes a long reply slowly, but in time, and gets all of it.
+more visitor takes a long reply slowly, but in time, and gets all of it. All this is done at a port and, side by side
+with it, at a Unix socket.
 
 It takes two minutes and a half. You need Python 3 with its standard library alone, and Linux. PROGRAM is ./desk of this
 repository where none is named."""
 
+import concurrent.futures
 import contextlib
 import sys
 import threading
@@ -67,10 +69,10 @@ VISITORS = [
 
 
 @contextlib.contextmanager
-def staying(port, visitor):
+def staying(place, visitor):
     """A visitor keeps the desk until the block ends, or until their connection does."""
     ended = threading.Event()
-    with connected(port, LITTLE_ROOM) as connection:
+    with connected(place, LITTLE_ROOM) as connection:
 
         def stay():
             with contextlib.suppress(OSError):
@@ -87,10 +89,10 @@ def staying(port, visitor):
             thread.join()
 
 
-def reply_of(port, limit=None):
+def reply_of(place, limit=None):
     """What comes of a short visit, and how long it takes."""
     begun = time.monotonic()
-    with connected(port) as connection:
+    with connected(place) as connection:
         connection.settimeout(limit)
         connection.sendall(QUESTION)
         try:
@@ -100,20 +102,21 @@ def reply_of(port, limit=None):
     return came, time.monotonic() - begun
 
 
-def see_visitor(seen, port, due, label, visitor, limit, holds):
+def see_visitor(seen, place, due, label, visitor, limit, holds):
     """A reader waits behind a visitor, and for no longer than the limit of that visitor."""
-    with staying(port, visitor):
-        came, taken = reply_of(port, limit + MORE_TIME)
+    with staying(place, visitor):
+        came, taken = reply_of(place, limit + MORE_TIME)
+    label = f"{label}, at {'a port' if isinstance(place, int) else 'a socket'}"
     print(f"behind a visitor {label}: a reader waits {taken:.1f} s", flush=True)
     seen.same(f"behind a visitor {label}", due, came)
     if holds:
         seen.same(f"a visitor {label} holds the desk for eight seconds", True, taken > 0.8 * WRITE)
 
 
-def take_in_time(port):
+def take_in_time(place):
     """Takes a long file slowly, in half a minute."""
     came = b""
-    with connected(port, LITTLE_ROOM) as connection:
+    with connected(place, LITTLE_ROOM) as connection:
         connection.sendall(LONG_QUESTION)
         while part := connection.recv(4096):
             came += part
@@ -121,16 +124,22 @@ def take_in_time(port):
     return came
 
 
+def see_room(seen, room):
+    """All visitors of a room, one after the other."""
+    room.fill((*FIRST, *MORE, *LONG))
+    due, _ = reply_of(room.place)
+    seen.same("a reader, while the desk is free", (True, "an end"), (due[0].startswith(b"HTTP/1.1 200 "), due[1]))
+    for label, visitor, limit, holds in VISITORS:
+        see_visitor(seen, room.place, due, label, visitor, limit, holds)
+    seen.same("a visitor who takes a long reply slowly, in time", content(LONG_FILE), take_in_time(room.place))
+    seen.same("the desk still serves", None, room.desk.poll())
+
+
 def main():
-    seen = reading_room.Seen()
-    with reading_room.Room(reading_room.program(sys.argv[1:])) as room:
-        room.fill((*FIRST, *MORE, *LONG))
-        due, _ = reply_of(room.desk_port)
-        seen.same("a reader, while the desk is free", (True, "an end"), (due[0].startswith(b"HTTP/1.1 200 "), due[1]))
-        for label, visitor, limit, holds in VISITORS:
-            see_visitor(seen, room.desk_port, due, label, visitor, limit, holds)
-        seen.same("a visitor who takes a long reply slowly, in time", content(LONG_FILE), take_in_time(room.desk_port))
-        seen.same("the desk still serves", None, room.desk.poll())
+    seen, program = reading_room.Seen(), reading_room.program(sys.argv[1:])
+    with reading_room.Room(program, at_port=True) as one, reading_room.Room(program) as other:
+        with concurrent.futures.ThreadPoolExecutor() as both:
+            list(both.map(see_room, [seen, seen], [one, other]))
     sys.exit(seen.told())
 
 

@@ -62,6 +62,41 @@ def wait_for(port, process):
     raise RuntimeError(f"nobody listens at port {port}")
 
 
+class SocketConnection(http.client.HTTPConnection):
+    """A client at a Unix socket."""
+
+    def __init__(self, path, timeout):
+        super().__init__("desk", timeout=timeout)
+        self.path = path
+
+    def connect(self):
+        self.sock = socket_at(self.path, self.timeout)
+
+
+def socket_at(place, timeout=LIMIT):
+    """A plain connection to a port of this machine, or to the Unix socket at a path."""
+    if isinstance(place, int):
+        return socket.create_connection((HOST, place), timeout)
+    connection = socket.socket(socket.AF_UNIX)
+    connection.settimeout(timeout)
+    connection.connect(str(place))
+    return connection
+
+
+def client_at(place, timeout=LIMIT):
+    """A client at a port of this machine, or at the Unix socket at a path."""
+    if isinstance(place, int):
+        return http.client.HTTPConnection(HOST, place, timeout=timeout)
+    return SocketConnection(place, timeout)
+
+
+def give_to_nginx(path, mode):
+    """Makes what is at a path nginx's group's, where this process may, and sets its mode."""
+    if os.geteuid() == 0:
+        shutil.chown(path, group="www-data")
+    path.chmod(mode)
+
+
 class Seen:
     """What was compared so far."""
 
@@ -84,15 +119,19 @@ class Seen:
 
 
 class Room:
-    """A folder with a store, a certificate, the page and the places; and the processes that it has started."""
+    """A folder with a store, a certificate, the page and the places; and the processes that it has started. The desk is
+    at a Unix socket, which nginx's group may use, or at a port where that is wished for."""
 
-    def __init__(self, program):
+    def __init__(self, program, at_port=False):
         self.program = program
         self.folder = pathlib.Path(tempfile.mkdtemp(prefix="reading-room-"))
         # nginx gives up the rights of root, and then still has to read the page
         self.folder.chmod(0o755)
         self.store = self.folder / "museum.sqlite"
-        self.desk_port, self.https_port, self.http_port, self.staff_port = free_ports(4)
+        port, self.https_port, self.http_port, self.staff_port = free_ports(4)
+        (self.folder / "desk").mkdir()
+        give_to_nginx(self.folder / "desk", 0o2750)
+        self.place = port if at_port else self.folder / "desk" / "socket"
         self.desk = self.nginx = None
 
     def __enter__(self):
@@ -113,13 +152,14 @@ class Room:
 
     def start_desk(self, count=1000000):
         """Starts the desk, and waits until it listens."""
-        words = ["serve", "--store", str(self.store), "--port", str(self.desk_port), "--count", str(count)]
+        where = ["--port" if isinstance(self.place, int) else "--socket", str(self.place)]
+        words = ["serve", "--store", str(self.store), *where, "--count", str(count)]
         self.desk = subprocess.Popen([self.program, *words], stdin=subprocess.DEVNULL, stdout=subprocess.PIPE)
         watch = threading.Timer(LIMIT, self.desk.kill)
         watch.start()
         line = self.desk.stdout.readline().decode()
         watch.cancel()
-        if line != f"listening {HOST}:{self.desk_port}\n":
+        if line != f"listening {f'{HOST}:' if isinstance(self.place, int) else ''}{self.place}\n":
             raise RuntimeError(f"the desk does not listen: {line!r}")
 
     def stop_desk(self):
@@ -131,7 +171,7 @@ class Room:
 
     def ask_desk(self, asked):
         """The status and the body of the desk's own reply, as a program has it on the machine itself."""
-        return asked_at(self.desk_port, asked)
+        return asked_at(self.place, asked)
 
     def ask_staffs_door(self, asked):
         """The same of what comes through nginx at the staff's door."""
@@ -166,7 +206,7 @@ class Room:
             "SITE": SITE, "HTTPS_PORT": self.https_port, "HTTP_PORT": self.http_port,
             "CERTIFICATE": self.folder / "site.crt", "CERTIFICATE_KEY": self.folder / "site.key",
             "HSTS_AGE": 31536000,
-            "PROGRAM": self.program, "STORE": self.store, "DESK_PORT": self.desk_port, "ZONE": "UTC0",
+            "PROGRAM": self.program, "STORE": self.store, "DESK_SOCKET": self.place, "ZONE": "UTC0",
             "STAFF_PORT": self.staff_port, "JOURNAL": self.folder / "journal", "GATE": self.folder / "gate",
             "BACKUPS": self.folder / "backups", "STAFF_KEY": self.folder / "staff-key",
             "WEB": self.folder / "web", "OWN_WEB": self.folder / "own",
@@ -231,8 +271,8 @@ class Room:
         return words in self.logs()
 
 
-def asked_at(port, asked):
-    with contextlib.closing(http.client.HTTPConnection(HOST, port, timeout=LIMIT)) as connection:
+def asked_at(place, asked):
+    with contextlib.closing(client_at(place)) as connection:
         connection.request(asked.method, asked.path, asked.body, fields_of(asked))
         reply = connection.getresponse()
         return reply.status, reply.read()

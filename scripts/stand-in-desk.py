@@ -2,12 +2,14 @@
 """scripts/stand-in-desk.py init|serve|--version ..: the stand-in for the desk as a program with a store, so that
 scripts/in-a-browser.py can look at the pages through nginx while no desk is built.
 
-It takes `init --store F --key K` and `serve --store F --port P` of the program desk, and keeps the same tables. It
-shows nothing of the desk itself: only a built desk does."""
+It takes `init --store F --key K` and `serve --store F`, with `--port P` or `--socket PATH`, of the program desk, and keeps
+the same tables. It shows nothing of the desk itself: only a built desk does."""
 
 import argparse
+import contextlib
 import datetime
 import hashlib
+import os
 import re
 import socketserver
 import sqlite3
@@ -73,13 +75,14 @@ class Store:
         return {"rank": rank, "audiences": words, "effect": EFFECTS[effect], "select": {selector: value}, **days}
 
 
-class Desk(socketserver.ThreadingTCPServer):
-    """A desk at a port."""
+class Desk:
+    """What a desk replies, wherever it listens."""
 
     allow_reuse_address = daemon_threads = True
+    request_queue_size = 128
 
-    def __init__(self, port, store):
-        super().__init__((HOST, port), stand_in.Visit)
+    def __init__(self, place, store):
+        super().__init__(place, stand_in.Visit)
         self.store, self.lock = store, threading.Lock()
 
     def answer(self, data, _):
@@ -91,6 +94,20 @@ class Desk(socketserver.ThreadingTCPServer):
         return due.reply
 
 
+class PortDesk(Desk, socketserver.ThreadingTCPServer):
+    """A desk at a port."""
+
+
+class SocketDesk(Desk, socketserver.ThreadingUnixStreamServer):
+    """A desk at a Unix socket, which its group may use."""
+
+    def server_bind(self):
+        with contextlib.suppress(FileNotFoundError):
+            os.unlink(self.server_address)
+        super().server_bind()
+        os.chmod(self.server_address, 0o660)
+
+
 def main():
     parser = argparse.ArgumentParser()
     parser.add_argument("--version", action="version", version="stand-in")
@@ -99,7 +116,9 @@ def main():
     for command in (init, serve):
         command.add_argument("--store", required=True)
     init.add_argument("--key", required=True)
-    serve.add_argument("--port", type=int, required=True)
+    place = serve.add_mutually_exclusive_group(required=True)
+    place.add_argument("--port", type=int)
+    place.add_argument("--socket")
     serve.add_argument("--count")
     words = parser.parse_args()
     store = Store(words.store)
@@ -107,8 +126,9 @@ def main():
         store.make(words.key)
         print("done")
         return
-    desk = Desk(words.port, store.read())
-    print(f"listening {HOST}:{words.port}", flush=True)
+    at = [PortDesk, (HOST, words.port)] if words.socket is None else [SocketDesk, words.socket]
+    desk = at[0](at[1], store.read())
+    print(f"listening {words.socket or f'{HOST}:{words.port}'}", flush=True)
     desk.serve_forever()
 
 

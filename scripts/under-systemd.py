@@ -30,21 +30,25 @@ STATUS = f"{VISIT}/images -o /dev/null -w '%{{http_code}}'"
 SOON = "--fail --retry 30 --retry-delay 1 --retry-max-time 40"
 FILE = f"{VISIT}/images/12/files/0 {SOON} | head -n 1 | tr -d '\\r'"
 FIRST_LINE = "WELCOME TO THE READING ROOM"
-PUT = "curl -s --max-time 10 -X PUT -H @/etc/desk/staff-key http://127.0.0.1:8041"
+PUT = "curl -s --max-time 10 -X PUT -H @/etc/desk/staff-key http://127.0.0.1:8043"
+SOCKET = "/run/desk/socket"
 IMAGES = (
     '{"images":[{"accession":12,"deed":7,"files":2,"kind":"cpm8"},{"accession":13,"deed":7,"files":3,"kind":"d64"}]}'
 )
 # After a command that starts the desk: until it listens, for who types is slower than a script.
 STARTS = re.compile("systemctl (re)?start desk")
-LISTENS = "for _ in $(seq 300); do ss -ltnH 'sport = :8041' | grep -q . && break; sleep 0.1; done"
+LISTENS = f"for _ in $(seq 300); do ss -lxH | grep -q ' {SOCKET} ' && break; sleep 0.1; done"
 
 # Tables of a label, what is typed, and what it writes.
 STARTED = [
     ("the desk is enabled", "systemctl is-enabled desk", "enabled"),
     ("both are active", "systemctl is-active desk nginx", "active\nactive"),
     ("a visit through nginx", f"{VISIT}/images {SOON}", IMAGES),
-    ("where it listens", "ss -ltnH 'sport = :8041' | awk '{ print $4 }'", "127.0.0.1:8041"),
-    ("its line in the journal", "journalctl -u desk -o cat | grep listening | uniq", "listening 127.0.0.1:8041"),
+    ("where it listens", f"stat -c '%U:%G %a %F' {SOCKET}", "desk:www-data 660 socket"),
+    ("at no port", "ss -ltnpH | grep -c desk", "0"),
+    ("nobody else comes to it", f"runuser -u nobody -- curl -s --unix-socket {SOCKET} http://x/; echo $?", "7"),
+    ("nginx's user does", f"runuser -u www-data -- curl -s --unix-socket {SOCKET} http://x/images", IMAGES),
+    ("its line in the journal", "journalctl -u desk -o cat | grep listening | uniq", f"listening {SOCKET}"),
     ("a deed", f"""{PUT}/deeds/8 -d '{{"donor":"C. Curator","signed":"2019-05-04"}}'""", '{"done":true}'),
     ("a file through nginx", FILE, FIRST_LINE),
     ("the page for readers", f"{VISIT}/ | grep -o '<title>.*</title>'", "<title>The reading room</title>"),
@@ -57,7 +61,7 @@ STARTED = [
     ("and then deleted", "systemctl is-enabled logrotate.timer", "enabled"),
 ]
 FILES = {
-    "/var/lib/desk": "desk:desk 700", "/var/lib/desk/museum.sqlite": "desk:desk 600",
+    "/run/desk": "desk:www-data 2750", "/var/lib/desk": "desk:desk 700", "/var/lib/desk/museum.sqlite": "desk:desk 600",
     "/var/lib/desk/museum.sqlite-wal": "desk:desk 600", "/usr/local/bin/desk": "root:root 755",
     "/usr/local/share/desk/web/index.html": "root:root 644", "/etc/desk": "root:root 755",
     "/etc/desk/site.key": "root:root 600", "/etc/desk/staff-key": "root:root 600", UNIT: "root:root 644",
@@ -98,7 +102,7 @@ STORE, BACKUP = "/var/lib/desk/museum.sqlite", "/var/lib/desk/2*.sqlite"
 AS_DESK = "runuser -u desk -- desk"
 KEY = "$(sed 's/^Desk-Key: //' /etc/desk/staff-key)"
 IMPORT = f"cd {HOME} && {AS_DESK} import --store {STORE} --key {KEY} --sheet"
-SERVE_NONE = f"{AS_DESK} serve --port 8041 --count 0 --store"
+SERVE_NONE = f"{AS_DESK} serve --socket /run/desk/other --count 0 --store"
 OF_ROOT = "/var/lib/desk/root.sqlite"
 STOPPED = [
     ("an import while the desk serves", f"{IMPORT} images/shelf.csv", "desk: store"),
@@ -132,7 +136,8 @@ TRIED = [
     (">/srv/open/tried", "Read-only file system", "done"),
     ("</etc/passwd", "done", "done"),
     ("ls /home >/dev/null", "Permission denied", "done"),
-    ("</dev/tcp/127.0.0.1/80", "done", "done"),
+    (">/run/desk/tried", "done", "done"),
+    ("</dev/tcp/127.0.0.1/80", "Address family not supported by protocol", "done"),
     ("</dev/tcp/::1/80", "Address family not supported by protocol", "Connection refused"),
 ]
 
@@ -168,7 +173,7 @@ def see_confined(seen, machine):
     ways = ["systemctl daemon-reload; systemctl start --wait tried", "runuser -u desk -- bash /usr/local/share/tried"]
     for column, words in enumerate(ways, 1):
         machine.says(words)
-        came = machine.says("cat /var/lib/desk/told; rm -f /var/lib/desk/t* /srv/open/t*")
+        came = machine.says("cat /var/lib/desk/told; rm -f /var/lib/desk/t* /srv/open/t* /run/desk/t*")
         seen.same(f"confined: {words}", [tried[column] for tried in TRIED], came.splitlines())
 
 
