@@ -481,6 +481,8 @@ def see_beside_others(seen, room):
     shutil.copytree("/etc/nginx", etc)
     for path in etc.glob("sites-enabled/*"):
         path.unlink()
+    # where nginx has modules, Debian's configuration names them from nginx's own folder, in whose place is the room's
+    (room.folder / "modules").symlink_to("/usr/share/nginx/modules")
     debians = (etc / "nginx.conf").read_text()
     main = debians.replace("/etc/nginx", str(etc)).replace("/var/log/nginx", str(room.folder))
     (etc / "nginx.conf").write_text(main.replace("/run/nginx.pid", str(room.folder / "beside.pid")))
