@@ -1,17 +1,23 @@
 #!/usr/bin/env python3
-"""scripts/backups-open.py [PROGRAM [COUNT [DISKS]]]: makes backups by operate/desk-backup while commands come without a
-rest, and looks at each.
+"""scripts/backups-open.py [PROGRAM [COUNT [DISKS [MINUTES]]]]: makes backups by operate/desk-backup while commands come
+without a rest, and looks at each.
 
 You need Python 3 with its standard library alone, Linux, and Debian's nginx, openssl and sqlite3, which the script
 installs as root if they are missing. Without PROGRAM it takes ./desk of this repository. PROGRAM has to answer what the
-staff may ask. COUNT is the number of backups, 20 by default: most are made while commands come through the staff's
-door, and some while they go round it. A backup has to be a store after exactly as many commands as were done at one
-moment between its beginning and its end; sqlite3 reads it, and desk has opened it.
+staff may ask.
 
-Then readers ask without a rest while stores of some size are backed up, the larger of DISKS disks, 400 by default: the
-longest wait may not grow with the store. At last come backups that fail, and the choice of those that are kept."""
+It makes COUNT backups, 20 by default, of a store of 10 MB, and as many of one of DISKS disks, 400 by default, which are
+70 MB; 5,700 are 1 GB. The two take turns. A backup has to be a store after exactly as many commands as were done at one
+moment between its beginning and its end; sqlite3 reads it, and desk has opened it. A reader asks without a rest, too:
+their longest wait at the larger store is at most twice that at the smaller one. After MINUTES, 60 by default, the rest
+of these backups is left out, and the script says so; but it makes three of each size.
 
+Then come backups while commands go round the staff's door, backups that fail, and the choice of those that are kept.
+The larger store needs four times its room on the disk, and twice in the memory."""
+
+import collections
 import contextlib
+import http.client
 import importlib.machinery
 import importlib.util
 import json
@@ -19,6 +25,7 @@ import os
 import pathlib
 import random
 import re
+import shutil
 import signal
 import sqlite3
 import statistics
@@ -35,28 +42,33 @@ from house import House, TOOLS
 TOOL = os.path.join(TOOLS, "desk-backup")
 IMAGE = bytes_of("images", "museum.d64")
 DEEDS = 40
-SMALL = 40
-# How much longer a visitor may wait at the larger store, of a wait that is no matter of chance.
+# The disks of the smaller store, and the fewest backups of a size.
+SMALL, FEWEST = 57, 3
+# How many backups are made while commands go round the door.
+AROUND = 4
+# How much longer a reader may wait at the larger store, of a wait that is no matter of chance.
 LONGER, NOTHING = 2, 0.25
-# Between two commands while readers are watched, in seconds.
-PAUSE = 0.1
+READ = "/images/1/files/0"
 
 
 class Writer(threading.Thread):
     """Commands one after the other at a place, each with another value, and how many were begun and how many done."""
 
-    def __init__(self, place, seed, pause=0):
+    def __init__(self, place, seed):
         super().__init__(daemon=True)
-        self.place_now, self.chance, self.pause = place, random.Random(seed), pause
+        self.place_now, self.chance = place, random.Random(seed)
         self.sent, self.begun, self.done, self.images, self.refused = [], 0, 0, 0, []
-        self.rest, self.stop = threading.Event(), threading.Event()
-        self.rest.set()
+        self.may_send, self.stop = threading.Event(), threading.Event()
 
     def run(self):
         while not self.stop.is_set():
-            self.rest.wait()
+            self.may_send.wait()
             self.send(*self.command())
-            time.sleep(self.pause)
+
+    def end(self):
+        self.stop.set()
+        self.may_send.set()
+        self.join()
 
     def command(self):
         """What a command sets, its value, and its path and body."""
@@ -66,14 +78,29 @@ class Writer(threading.Thread):
             body = json.dumps({"donor": f"D{number}", "signed": "2020-01-01"})
             return ("deed", deed), f"D{number}", f"/deeds/{deed}", body
         if what < 0.52:
-            self.images += 1
-            image = bytearray(IMAGE)
-            image[100:108] = number.to_bytes(8, "big")
-            path = f"/accessions/{self.images}/d64/{self.chance.randint(1, DEEDS)}/{digest(bytes(image))}"
-            return ("image", self.images), digest(bytes(image)), path, bytes(image)
+            return self.disk(self.chance.randint(1, DEEDS))
         deed, rank = self.chance.randint(1, DEEDS), self.chance.randint(1, 9)
         rule = {"audiences": ["public"], "select": {"prefix": f"P{number}"}, "effect": "read"}
         return ("rule", deed, rank), f"P{number}", f"/deeds/{deed}/rules/{rank}", json.dumps(rule)
+
+    def disk(self, deed):
+        """The command for another disk of a deed."""
+        self.images += 1
+        image = bytearray(IMAGE)
+        image[100:108] = self.images.to_bytes(8, "big")
+        path = f"/accessions/{self.images}/d64/{deed}/{digest(bytes(image))}"
+        return ("image", self.images), digest(bytes(image)), path, bytes(image)
+
+    def fill(self, disks):
+        """All deeds, so many disks of the first one, and the rule by which everybody may read a file of each."""
+        for _ in range(DEEDS):
+            self.send(*self.command())
+        rule = {"audiences": ["public"], "select": {"prefix": "T"}, "effect": "read"}
+        self.send(("rule", 1, 10), "T", "/deeds/1/rules/10", json.dumps(rule))
+        for _ in range(disks):
+            self.send(*self.disk(1))
+        if self.refused:
+            raise RuntimeError(f"not filled: {self.refused[:1]}")
 
     def send(self, what, value, path, body):
         self.sent.append((what, value))
@@ -85,13 +112,52 @@ class Writer(threading.Thread):
             self.refused.append((path, reply))
         self.done += 1
 
-    def state(self, count):
-        """What the store holds after so many commands."""
-        return dict(self.sent[:count])
+    def fits(self, least, most, holds):
+        """Whether a store holds this after so many commands, of the least number to the most."""
+        state = dict(self.sent[:least])
+        if state == holds:
+            return True
+        for what, value in self.sent[least:most]:
+            state[what] = value
+            if state == holds:
+                return True
+        return False
+
+
+class Reader(threading.Thread):
+    """A reader who asks without a rest, and how long they waited at most, until the block ends."""
+
+    def __init__(self, room):
+        super().__init__(daemon=True)
+        self.room, self.longest, self.statuses = room, 0, collections.Counter()
+        self.stop = threading.Event()
+
+    def __enter__(self):
+        self.start()
+        return self
+
+    def __exit__(self, *_):
+        self.stop.set()
+        self.join()
+
+    def run(self):
+        """No address asks more often than it may."""
+        number = 0
+        while not self.stop.is_set():
+            began, number = time.monotonic(), number + 1
+            try:
+                with contextlib.closing(self.room.visitor(f"127.0.5.{1 + number % 200}")) as reader:
+                    reader.request("GET", READ)
+                    reply = reader.getresponse()
+                    reply.read()
+                self.statuses[reply.status] += 1
+            except (OSError, http.client.HTTPException) as fault:
+                self.statuses[repr(fault)] += 1
+            self.longest = max(self.longest, time.monotonic() - began)
 
 
 def held(folder):
-    """What a backup holds, read by sqlite3 from a copy of it, or why it cannot be read."""
+    """What a backup holds, read by sqlite3, or why it cannot be read."""
     with contextlib.closing(sqlite3.connect(folder / "museum.sqlite")) as store:
         try:
             whole = store.execute("PRAGMA integrity_check").fetchone()[0]
@@ -104,109 +170,89 @@ def held(folder):
             return repr(fault)
 
 
-def see_backup(seen, house, writer, label):
-    """One backup under commands: what it holds, and how desk-backup ends."""
+def see_backup(seen, store, label):
+    """One backup under commands: what it holds, how desk-backup ends, and how long a reader waited. It is taken away
+    again."""
+    house, writer = store.house, store.writer
     least = writer.done
-    status, out, errors = house.back_up()
-    writer.rest.clear()
+    with Reader(house.room) as reader:
+        status, out, errors = house.back_up()
+    writer.may_send.clear()
     most = writer.begun
     seen.same(f"{label}: status", (0, ""), (status, errors))
-    if status:
-        return writer.rest.set()
-    folder = pathlib.Path(out.split(": ")[0])
+    seen.same(f"{label}: its reader", {200}, set(reader.statuses))
+    if status == 0:
+        see_copy(seen, pathlib.Path(out.split(": ")[0]), writer, (least, most), label)
+    writer.may_send.set()
+    for old in house.backups():
+        shutil.rmtree(old)
+    print(f"{label}: a reader waited {reader.longest:.3f} s; {out.strip().split('; ')[-1]}", flush=True)
+    return reader.longest
+
+
+def see_copy(seen, folder, writer, counts, label):
+    """That a backup holds what was done after as many commands as one of these counts or one between them."""
     names = ["checks.json", "deeds.json", "keys.json", "museum.sqlite", "museum.sqlite-wal", "takedowns.json"]
     seen.same(f"{label}: its files", names, sorted(path.name for path in folder.iterdir()))
     holds = held(folder)
-    fits = [count for count in range(least, most + 1) if writer.state(count) == holds]
-    seen.same(f"{label}: it holds what was done at a moment", True, bool(fits))
+    fits = writer.fits(*counts, holds)
+    seen.same(f"{label}: it holds what was done at a moment", True, fits)
     deeds = json.loads((folder / "deeds.json").read_text())["deeds"]
     donors = {("deed", deed["deed"]): deed["donor"] for deed in deeds}
     written = {what: value for what, value in holds.items() if what[0] == "deed"} if fits else None
     seen.same(f"{label}: its deeds", written, donors)
-    return writer.rest.set()
 
 
-def see_backups(seen, room, count):
-    """Backups while commands come at the staff's door, which wait and are never refused, and while they go round it."""
-    house = House(room)
-    writer = Writer(room.staff_port, 7)
-    while len(writer.sent) < DEEDS:
-        writer.send(*writer.command())
-    writer.start()
-    for number in range(count):
-        around = number % 5 == 4
-        writer.place_now = room.place if around else room.staff_port
-        see_backup(seen, house, writer, f"backup {number}{' of commands that go round the door' if around else ''}")
-        if not around:
-            seen.same(f"backup {number}: the desk is never frozen", 0, house.freezes())
-        (room.folder / "freezes").unlink(missing_ok=True)
-        for old in house.backups():
-            subprocess.run(["rm", "-r", str(old)], check=True)
-    writer.stop.set()
-    writer.rest.set()
-    writer.join()
-    print(f"{count} backups under {writer.done} commands, with {writer.images} disks", flush=True)
-    seen.same("no command is refused", [], writer.refused)
+# A house with a store of so many disks, who sends commands to it, and the longest wait of a reader at each backup.
+Busy = collections.namedtuple("Busy", "disks house writer waits")
 
 
-# How long a visitor waits
+@contextlib.contextmanager
+def busy(seen, program, disks, seed):
+    """Such a house. Its writer may send commands where this is allowed, at first at the staff's door."""
+    with reading_room.Room(program) as room:
+        house, writer = House(room), Writer(room.place, seed)
+        writer.fill(disks)
+        writer.place_now = room.staff_port
+        writer.start()
+        yield Busy(disks, house, writer, [])
+        writer.end()
+        seen.same(f"{disks} disks: no command is refused", [], writer.refused)
 
 
-def longest_wait(house):
-    """The longest wait of a reader while a backup is made, and what desk-backup writes."""
-    waits, stop = [], threading.Event()
-
-    def read():
-        while not stop.is_set():
-            began = time.monotonic()
-            with contextlib.closing(house.room.visitor(f"127.0.5.{1 + len(waits) % 200}")) as reader:
-                reader.request("GET", "/images/1/files/0")
-                reader.getresponse().read()
-            waits.append(time.monotonic() - began)
-
-    reader = threading.Thread(target=read)
-    reader.start()
-    writer = Writer(house.room.staff_port, 9, PAUSE)
-    writer.images = 100000
-    writer.start()
-    came = house.back_up()
-    writer.stop.set()
-    stop.set()
-    reader.join()
-    writer.join()
-    return max(waits), came
+def see_sizes(seen, program, count, disks, seconds):
+    """Backups of a large and of a small store in turn, as many as begin in time."""
+    with busy(seen, program, disks, 1) as large, busy(seen, program, SMALL, 2) as small:
+        end = time.monotonic() + seconds
+        while len(small.waits) < count and (time.monotonic() < end or len(small.waits) < FEWEST):
+            for store in (large, small):
+                store.writer.may_send.set()
+                store.waits.append(see_backup(seen, store, f"{store.disks} disks, backup {len(store.waits) + 1}"))
+                store.writer.may_send.clear()
+        left = count - len(small.waits)
+        print(f"{len(small.waits)} backups of each store are made, {left} are left out", flush=True)
+        see_waits(seen, large, small)
 
 
-def see_waits(seen, program, disks):
-    """The longest wait of a reader at a small and at a large store, of three backups each."""
-    longest = {}
-    for count in (SMALL, disks):
-        with reading_room.Room(program) as room:
-            house = House(room)
-            fill(house, count)
-            found = [longest_wait(house) for _ in range(3)]
-            longest[count] = statistics.median(wait for wait, _ in found)
-            size = os.path.getsize(room.store) >> 20
-            of_tool = found[0][1][1].split("; ")[-1]
-            print(f"{count} disks, {size} MiB: a reader waits {longest[count]:.3f} s; {of_tool}", end="", flush=True)
-            seen.same(f"waits: {count} disks", [(0, "")] * 3, [(came[0], came[2]) for _, came in found])
-    small, large = longest[SMALL], longest[disks]
-    seen.same(f"waits: {large:.2f} s beside {small:.2f} s", True, large <= max(LONGER * small, NOTHING))
+def see_waits(seen, large, small):
+    """How long a reader waited while backups were made of a large and of a small store."""
+    for store in (large, small):
+        size, most, usual = os.path.getsize(store.house.room.store), max(store.waits), statistics.median(store.waits)
+        words = f"{store.disks} disks, {size / 1e6:.0f} MB, {store.writer.done} commands"
+        print(f"{words}: a reader waited {most:.3f} s at most, {usual:.3f} s mostly", flush=True)
+        seen.same(f"{store.disks} disks: the desk is never frozen", 0, store.house.freezes())
+    longest, allowed = max(large.waits), max(LONGER * max(small.waits), NOTHING)
+    seen.same(f"a reader waits {longest:.3f} s at most at the larger store", True, longest <= allowed)
 
 
-def fill(house, count):
-    """So many disks in a store, of which everybody may read all."""
-    writer = Writer(house.room.place, 1)
-    for deed in range(1, DEEDS + 1):
-        writer.send(("deed", deed), "", f"/deeds/{deed}", json.dumps({"donor": "D", "signed": "2020-01-01"}))
-    rule = {"audiences": ["public", "room", "staff"], "select": {"all": True}, "effect": "read"}
-    writer.send("rule", "", "/deeds/1/rules/9999", json.dumps(rule))
-    for number in range(1, count + 1):
-        image = bytearray(IMAGE)
-        image[100:108] = number.to_bytes(8, "big")
-        writer.send("image", "", f"/accessions/{number}/d64/1/{digest(bytes(image))}", bytes(image))
-    if writer.refused:
-        raise RuntimeError(f"not filled: {writer.refused[:1]}")
+def see_around(seen, program):
+    """Backups while commands go round the staff's door: at last the desk is frozen for the copy."""
+    with busy(seen, program, SMALL, 3) as store:
+        store.writer.place_now = store.house.room.place
+        store.writer.may_send.set()
+        for number in range(1, AROUND + 1):
+            see_backup(seen, store, f"round the door, backup {number}")
+        seen.same("round the door: the desk is frozen", True, store.house.freezes() > 0)
 
 
 # What fails, and what is kept
@@ -308,11 +354,11 @@ def main():
     reading_room.install()
     words = sys.argv[1:]
     program = reading_room.program(words)
-    count, disks = (int(words[at]) if len(words) > at else value for at, value in ((1, 20), (2, 400)))
+    numbers = [int(word) for word in words[1:]]
+    count, disks, minutes = numbers + [20, 400, 60][len(numbers):]
     seen = reading_room.Seen()
-    with reading_room.Room(program) as room:
-        see_backups(seen, room, count)
-    see_waits(seen, program, disks)
+    see_sizes(seen, program, count, disks, 60 * minutes)
+    see_around(seen, program)
     see_failures(seen, program)
     see_kept(seen)
     sys.exit(seen.told())
