@@ -20,8 +20,26 @@ SUITE = "bookworm"
 KEPT = pathlib.Path("/var/tmp/desk-under-systemd")
 # What a Debian of the least size lacks, and what is fetched for the machine to install without a network.
 ADDED = "systemd-sysv,dbus,iproute2"
-FETCHED = "nginx openssl sqlite3 curl logrotate python3"
+FETCHED = "nginx openssl sqlite3 curl logrotate python3 openssh-server openssh-client"
 FETCH = f"apt-get update -qq && apt-get install -y -qq --download-only --no-install-recommends {FETCHED}"
+# What sets the clock of a machine some seconds after its start; and what is typed to see that it was set, and that the
+# desk has started after it, each with what that writes.
+LATE_CLOCK = """[Unit]
+DefaultDependencies=no
+Before=time-sync.target
+[Service]
+Type=oneshot
+RemainAfterExit=yes
+ExecStart=/bin/sleep 5
+[Install]
+WantedBy=time-sync.target
+"""
+CLOCK_SET = "systemctl is-active late-clock time-sync.target", "active\nactive"
+AFTER_CLOCK = (
+    "when() { systemctl show -p $1 --value $2; }; "
+    "[ $(when ExecMainStartTimestampMonotonic desk) -gt $(when ExecMainExitTimestampMonotonic late-clock) ]; echo $?",
+    "0",
+)
 CGROUPS = pathlib.Path("/sys/fs/cgroup")
 # The flag CLONE_NEWNS of Linux.
 NEW_MOUNTS = 0x20000
@@ -148,6 +166,11 @@ class Machine:
                     self.nspawn.kill()
                 self.nspawn.wait()
         self.nspawn = self.first = None
+
+    def set_clock_late(self):
+        """Has the machine set its clock late, from its next start on."""
+        (self.root / "etc" / "systemd" / "system" / "late-clock.service").write_text(LATE_CLOCK)
+        self.says("systemctl enable late-clock")
 
     def says(self, words):
         """What lines of the shell write inside."""

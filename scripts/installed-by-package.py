@@ -1,7 +1,7 @@
 #!/usr/bin/env python3
 """scripts/installed-by-package.py [PROGRAM]: boots a small Debian by systemd, installs the desk there by the package
 that operate/make-deb makes, and follows it through a museum's day, an upgrade, a removal and a purge. On another such
-machine it types what docs/OPERATING.md has a museum type there.
+machine it types what docs/OPERATING.md has a museum type there, and opens that page's tunnel from a machine beside it.
 
 You need Python 3 with its standard library alone, Linux, the rights of root, and Debian's debootstrap,
 systemd-container, binutils, lintian and openssl, which the script installs if they are missing. Without PROGRAM the
@@ -34,7 +34,7 @@ SITE = "desk.museum.example"
 VISIT = f"curl -sk --max-time 10 --resolve {SITE}:443:127.0.0.1 --resolve {SITE}:80:127.0.0.1"
 CODE = "-o /dev/null -w '%{http_code}'"
 TITLE = "grep -o '<title>.*</title>'"
-READERS = "<title>The reading room</title>"
+READERS, STAFFS = "<title>The reading room</title>", "<title>The staff's page</title>"
 RULE = '{"audiences":["public"],"select":{"all":true},"effect":"%s"}'
 OUTSIDE, DONE = "https://localhost", '{"done":true}'
 
@@ -49,7 +49,7 @@ INSTALLED = [
     ("the page, at once", f"{VISIT} {OUTSIDE}/ | {TITLE}", READERS),
     ("the desk", f"{VISIT} {OUTSIDE}/images", '{"images":[]}'),
     ("its health", f"{VISIT} {OUTSIDE}/health", DONE),
-    ("the staff's page", f"curl -s http://127.0.0.1:8043/ | {TITLE}", "<title>The staff's page</title>"),
+    ("the staff's page", f"curl -s http://127.0.0.1:8043/ | {TITLE}", STAFFS),
     ("where it listens", "stat -c '%U:%G %a %F' /run/desk/socket", "desk:www-data 660 socket"),
     (
         "nobody else comes to it",
@@ -195,6 +195,14 @@ FAILS = [
         "0",
     ),
     (
+        "a report by mail",
+        "printf '#!/bin/sh\\n{ echo $*; cat; } >/root/mail\\n' >/usr/sbin/sendmail; chmod +x /usr/sbin/sendmail; "
+        "sed -i 's/^ALARM=.*/ALARM=anna@museum.example/' /etc/desk/places; "
+        "systemctl start desk-alarm@desk-look.service; echo $?; sed -n '1,2p; s/ on .*//; s/^Subject: //p' /root/mail; "
+        "grep -o 'the desk does not answer' /root/mail | uniq",
+        "0\n-t\nTo: anna@museum.example\ndesk: desk-look.service has failed\nthe desk does not answer",
+    ),
+    (
         "it is back",
         "systemctl stop desk; rm -f /var/lib/desk/museum.sqlite*; mv /root/kept/* /var/lib/desk; systemctl "
         "reset-failed desk; systemctl start desk; echo $?",
@@ -239,6 +247,11 @@ UPGRADED = [
     ("the name of the site", "grep -c desk.museum.example /etc/desk/site-name", "1"),
     ("the limit", "grep -c rate=25r /etc/nginx/conf.d/desk.conf", "1"),
     ("its disks", f"{VISIT} https://{SITE}/images/13/files/2", '{"error":"denied","rule":"T13.1"}'),
+]
+NEXT_START = [
+    ("both are active", "sleep 5; systemctl is-active desk nginx", "active\nactive"),
+    ("the clock was set late", *booted.CLOCK_SET),
+    ("the desk has waited for that", *booted.AFTER_CLOCK),
 ]
 REMOVED = [
     ("the desk", "systemctl is-active desk desk-backup.timer", "inactive\ninactive"),
@@ -326,6 +339,31 @@ def see_refusals(seen, folder):
     seen.same("no folder", 1, subprocess.run([MAKE, f"{folder}/none"], capture_output=True).returncode)
 
 
+# The users and groups of a machine, as far as the package's folders are theirs.
+NAMES = {"root": 0, "www-data": 33, "desk": 990}
+USERS, GROUPS = (
+    "".join(f"{name}:x:{number}:{rest}\n" for name, number in NAMES.items()) for rest in ("0::/:/bin/sh", "")
+)
+
+
+def see_journals_folder(seen):
+    """What is written in the folder of the journal is on the disk at once. The booted machine's folders are in memory,
+    where this cannot be, so it is seen in a folder on this machine's disk."""
+    with tempfile.TemporaryDirectory(dir="/var/tmp") as name:
+        root = pathlib.Path(name)
+        for folder in ("etc", "run", "var/lib", "var/log", "var/backups", "tried"):
+            (root / folder).mkdir(parents=True)
+        (root / "etc" / "passwd").write_text(USERS)
+        (root / "etc" / "group").write_text(GROUPS)
+        if subprocess.run(["chattr", "+S", root / "tried"], stderr=subprocess.DEVNULL).returncode:
+            print("not seen: the disk of /var/tmp has no folders that are written at once")
+            return
+        words = ["systemd-tmpfiles", f"--root={root}", "--create", f"{ROOT}/operate/package/tmpfiles.conf"]
+        seen.same("folders", 0, subprocess.run(words).returncode)
+        ran = subprocess.run(["lsattr", "-d", root / "var/log/desk"], capture_output=True, text=True)
+        seen.same(f"the journal's folder is written at once: {ran.stdout}", True, "S" in ran.stdout.split()[0])
+
+
 def see_life(seen, machine, older, newer):
     """A museum's machine from its first day to its last."""
     seen.same("install", "Status: install ok installed", install(machine, older).splitlines()[-1])
@@ -337,10 +375,10 @@ def see_life(seen, machine, older, newer):
     see_cases(seen, machine, "changed", CHANGED)
     seen.same("upgrade", "Status: install ok installed", install(machine, newer, KEEP).splitlines()[-1])
     see_cases(seen, machine, "upgraded", UPGRADED)
+    machine.set_clock_late()
     machine.halt()
     machine.boot()
-    both = [("both are active", "sleep 5; systemctl is-active desk nginx", "active\nactive")]
-    see_cases(seen, machine, "the next start", both)
+    see_cases(seen, machine, "the next start", NEXT_START)
     says(machine, f"{APT} remove desk")
     see_cases(seen, machine, "removed", REMOVED)
     left = says(machine, f"{APT} purge desk 2>&1 | grep -c 'stay; remove them by hand'")
@@ -366,6 +404,41 @@ SINCE = (
 OTHERS = {r"[0-9]{4}-[0-9]{2}-[0-9]{2}T[0-9]{6}Z": "MOMENT", r"[0-9]+ bytes": "SIZE", r"[0-9]+\.[0-9]{2} s ": "TIME "}
 
 
+# Another machine beside the museum's, as the namespace of a network, and who may log in from it.
+OTHER = "ip netns exec other"
+ANOTHER = [
+    ("ssh", f"{APT} install openssh-server openssh-client >/dev/null 2>&1; systemctl is-active ssh", "active"),
+    (
+        "its network",
+        "ip netns add other && ip -n other link set lo up && ip link add here type veth peer name there netns other && "
+        "ip addr add 10.9.9.1/24 dev here && ip link set here up && ip -n other addr add 10.9.9.2/24 dev there && "
+        "ip -n other link set there up; echo $?",
+        "0",
+    ),
+    (
+        "its key",
+        "install -d -m 700 /root/.ssh; ssh-keygen -q -t ed25519 -N '' -f /root/.ssh/id_ed25519; cp /root/.ssh/*.pub "
+        "/root/.ssh/authorized_keys; printf '%s\\n' 'Host museum' 'HostName 10.9.9.1' 'StrictHostKeyChecking no' "
+        "'LogLevel ERROR' >/root/.ssh/config; echo $?",
+        "0",
+    ),
+    (
+        "the page for readers",
+        f"{OTHER} curl -sk --max-time 10 --resolve {SITE}:443:10.9.9.1 https://{SITE}/ | {TITLE}",
+        READERS,
+    ),
+    ("the staff's door is shut", f"{OTHER} curl -s --max-time 5 http://10.9.9.1:8043/; echo $?", "7"),
+]
+
+
+def see_tunnel(seen, machine, label, words):
+    """A tunnel from another machine, as the page has it: the staff's page is at its end, for as long as it is open."""
+    see_cases(seen, machine, "another machine", ANOTHER)
+    visit = f"{OTHER} curl -s http://127.0.0.1:8043/"
+    soon = f"for _ in $(seq 100); do {visit} | {TITLE} && break; sleep 0.1; done"
+    seen.same(label, f"{STAFFS}\n7", says(machine, f"{OTHER} {words} & {soon}; kill $!; wait; {visit}; echo $?"))
+
+
 def see_page(seen, machine):
     """The commands of the page for a machine with the package, in their order. All that they write is compared, but for
     its moments, sizes and seconds; of apt only the status."""
@@ -373,10 +446,12 @@ def see_page(seen, machine):
     seen.same("the page: few commands install it", True, 0 < chapter[1].count("\n+ ") <= FEW)
     backups = 0
     for number, prompt, words, wanted in operating_page.commands(operating_page.PAGE):
+        label = f"{operating_page.PAGE}, line {number}: {words}"
+        if words.startswith("ssh "):
+            see_tunnel(seen, machine, label, words)
         if prompt != "package":
             continue
         backups += words == BACKED_UP
-        label = f"{operating_page.PAGE}, line {number}: {words}"
         if words.startswith("apt-get "):
             seen.same(label, "0", says(machine, f"cd /root && {words} >/root/apt.out 2>&1; echo $?"))
             continue
@@ -416,6 +491,7 @@ def main():
         see_refusals(seen, folder)
         older, newer = made(folder, program, "0.1.0"), made(folder, program, "0.1.1")
         see_package(seen, newer)
+        see_journals_folder(seen)
         with booted.Machine() as machine:
             for path in (older, newer, pathlib.Path(ROOT, "images", "museum.d64")):
                 shutil.copy(path, machine.root / "root")

@@ -9,7 +9,7 @@ named. The Debian is kept in /var/tmp/desk-under-systemd for the next run, and n
 What is looked at: what the page's commands give, also those that move, replace and erase a disk with a takedown; the
 files, the process and their rights; what a process in the place of the service may do; visits through nginx; a desk
 that is killed, stopped, or ends by its count; a setting that is changed; an import; a store that cannot be opened; and
-the machine's next start."""
+the machine's next start, with a clock that is set late."""
 
 import re
 import sys
@@ -129,7 +129,12 @@ NO_STORE = [
     ("reset-failed and start", "systemctl reset-failed desk && systemctl start desk; echo $?", "0"),
     ("a visit", FILE, FIRST_LINE),
 ]
-NEXT_START = [("both are active", "systemctl is-active desk nginx", "active\nactive"), ("a visit", FILE, FIRST_LINE)]
+NEXT_START = [
+    ("both are active", "systemctl is-active desk nginx", "active\nactive"),
+    ("a visit", FILE, FIRST_LINE),
+    ("the clock was set late", *booted.CLOCK_SET),
+    ("the desk has waited for that", *booted.AFTER_CLOCK),
+]
 # What is tried, and how it ends in the place of the service, and for the same user outside of it.
 TRIED = [
     (">/var/lib/desk/tried", "done", "done"),
@@ -223,6 +228,7 @@ def main():
         see_cases(seen, machine, "a setting", SETTING)
         see_cases(seen, machine, "stopped", STOPPED)
         see_cases(seen, machine, "no store", NO_STORE)
+        machine.set_clock_late()
         machine.halt()
         machine.boot()
         see_cases(seen, machine, "the next start", NEXT_START)
