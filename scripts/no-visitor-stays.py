@@ -7,21 +7,24 @@ they can: they send nothing, send a byte a second, take nothing of a long reply,
 little that their reply would last three minutes. Behind each waits a reader. The reader gets the reply that they get
 when the desk is free, and waits no longer than the limit of the visitor before them, and two seconds for all else.
 Behind the first four the reader also waits for at least eight seconds, since nothing but a limit of ten ends them. One
-more visitor takes a long reply slowly, but in time, and gets all of it. All this is done at a port and, side by side
-with it, at a Unix socket.
+more visitor takes a long reply slowly, but in time, and gets all of it.
 
-It takes two minutes and a half. You need Python 3 with its standard library alone, and Linux. PROGRAM is ./desk of this
+Then three desks have one shorter limit each, by an option of `serve`, and the visitor whom it is for: behind them the
+reader waits for less than any usual limit. All this is done at a port and, side by side with it, at a Unix socket.
+
+It takes three minutes. You need Python 3 with its standard library alone, and Linux. PROGRAM is ./desk of this
 repository where none is named."""
 
 import concurrent.futures
 import contextlib
+import subprocess
 import sys
 import threading
 import time
 
 import reading_room
 
-from client_cases import FIRST, LONG, LONG_FILE, MORE, content, head
+from client_cases import FIRST, LIMIT, LONG, LONG_FILE, MORE, content, head
 from clients import connected, read_all
 
 # The limits in seconds, and how much longer the next visitor may wait.
@@ -57,15 +60,40 @@ def taking(size, pause):
     return take
 
 
-# What visitors do, what they are called, how long they may hold the desk, and whether they hold it for eight seconds.
+# What visitors are called, what they do, and how many seconds they may and must hold the desk.
 VISITORS = [
-    ("who sends nothing", silent, REQUEST, True),
-    ("who sends a byte a second", dripping, REQUEST, True),
+    ("who sends nothing", silent, REQUEST, 0.8 * REQUEST),
+    ("who sends a byte a second", dripping, REQUEST, 0.8 * REQUEST),
     # a write that puts a part waits ten seconds, too, and another write follows: so the limit is that of the reply
-    ("who takes nothing of a long reply", taking(0, 1), REPLY, True),
-    ("who takes a byte a second", taking(1, 1), REPLY, True),
-    ("who takes 700 bytes each half second", taking(700, 0.5), REPLY, False),
+    ("who takes nothing of a long reply", taking(0, 1), REPLY, 0.8 * WRITE),
+    ("who takes a byte a second", taking(1, 1), REPLY, 0.8 * WRITE),
+    ("who takes 700 bytes each half second", taking(700, 0.5), REPLY, 0),
 ]
+# The same of visitors at a desk with an option.
+OPTIONS = [
+    ("--request-timeout", 2, "who sends nothing", silent, 2, 1.6),
+    # three writes, each of which waits two seconds
+    ("--write-timeout", 2, "who takes nothing of a long reply", taking(0, 1), 6, 1.6),
+    ("--reply-timeout", 4, "who takes a byte a second", taking(1, 1), 4, 3.2),
+]
+
+
+@contextlib.contextmanager
+def serving(room, place, *options):
+    """A desk with the store of a room serves at a port, or at the Unix socket of a path."""
+    where = ["--port" if isinstance(place, int) else "--socket", str(place)]
+    words = ["serve", "--store", str(room.store), *where, "--count", "1000000", *options]
+    with subprocess.Popen([room.program, *words], stdin=subprocess.DEVNULL, stdout=subprocess.PIPE) as desk:
+        try:
+            watch = threading.Timer(LIMIT, desk.kill)
+            watch.start()
+            line = desk.stdout.readline()
+            watch.cancel()
+            if not line.startswith(b"listening "):
+                raise RuntimeError(f"the desk does not listen: {line!r}")
+            yield desk
+        finally:
+            desk.kill()
 
 
 @contextlib.contextmanager
@@ -102,15 +130,19 @@ def reply_of(place, limit=None):
     return came, time.monotonic() - begun
 
 
-def see_visitor(seen, place, due, label, visitor, limit, holds):
-    """A reader waits behind a visitor, and for no longer than the limit of that visitor."""
+def told(place):
+    return "at a port" if isinstance(place, int) else "at a socket"
+
+
+def see_visitor(seen, place, due, label, visitor, limit, least):
+    """A reader waits behind a visitor, for no longer than the limit of that visitor, and at least for these seconds."""
     with staying(place, visitor):
         came, taken = reply_of(place, limit + MORE_TIME)
-    label = f"{label}, at {'a port' if isinstance(place, int) else 'a socket'}"
+    label = f"{label}, {told(place)}"
     print(f"behind a visitor {label}: a reader waits {taken:.1f} s", flush=True)
     seen.same(f"behind a visitor {label}", due, came)
-    if holds:
-        seen.same(f"a visitor {label} holds the desk for eight seconds", True, taken > 0.8 * WRITE)
+    if least:
+        seen.same(f"a visitor {label} holds the desk for {least:.1f} seconds", True, taken > least)
 
 
 def take_in_time(place):
@@ -124,22 +156,30 @@ def take_in_time(place):
     return came
 
 
-def see_room(seen, room):
-    """All visitors of a room, one after the other."""
+def see_place(seen, room, place):
+    """All visitors of a room at a port or at a socket, one after the other."""
     room.fill((*FIRST, *MORE, *LONG))
-    due, _ = reply_of(room.place)
-    seen.same("a reader, while the desk is free", (True, "an end"), (due[0].startswith(b"HTTP/1.1 200 "), due[1]))
-    for label, visitor, limit, holds in VISITORS:
-        see_visitor(seen, room.place, due, label, visitor, limit, holds)
-    seen.same("a visitor who takes a long reply slowly, in time", content(LONG_FILE), take_in_time(room.place))
-    seen.same("the desk still serves", None, room.desk.poll())
+    room.stop_desk()
+    with serving(room, place) as desk:
+        due, _ = reply_of(place)
+        begins, end = due[0].startswith(b"HTTP/1.1 200 "), due[1]
+        seen.same(f"a reader, while the desk is free, {told(place)}", (True, "an end"), (begins, end))
+        for visitor in VISITORS:
+            see_visitor(seen, place, due, *visitor)
+        taken = take_in_time(place)
+        seen.same(f"a visitor who takes a long reply slowly, in time, {told(place)}", content(LONG_FILE), taken)
+        seen.same(f"the desk still serves, {told(place)}", None, desk.poll())
+    for option, seconds, label, *visitor in OPTIONS:
+        with serving(room, place, option, str(seconds)):
+            see_visitor(seen, place, due, f"{label}, with {option} {seconds}", *visitor)
 
 
 def main():
     seen, program = reading_room.Seen(), reading_room.program(sys.argv[1:])
-    with reading_room.Room(program, at_port=True) as one, reading_room.Room(program) as other:
+    with reading_room.Room(program) as one, reading_room.Room(program) as other:
+        places = [reading_room.free_ports(1)[0], other.folder / "socket"]
         with concurrent.futures.ThreadPoolExecutor() as both:
-            list(both.map(see_room, [seen, seen], [one, other]))
+            list(both.map(see_place, [seen, seen], [one, other], places))
     sys.exit(seen.told())
 
 
