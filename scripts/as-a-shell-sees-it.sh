@@ -1,12 +1,14 @@
 #!/usr/bin/env bash
 # Runs the built program as a shell does, and compares what it writes to its standard output and its standard
 # errors, and its exit status, for each of the statuses 0 to 3; a closed standard output and a full device are
-# among the cases. You need `rt run` in crates/rd_main, or the program as an argument.
+# among the cases. Of a Unix socket it looks who may use it, whether it gives way once its desk was killed, and
+# whether it goes with its desk. You need `rt run` in crates/rd_main, or the program as an argument.
 set -u
 desk=$(realpath "${1:-$(dirname "$0")/../crates/rd_main/out/rd_main}") || exit 1
 cd "$(dirname "$0")/.." || exit 1
 work=$(mktemp -d) || exit 1
-trap 'rm -rf "$work"' EXIT
+serving=
+trap '[ -z "$serving" ] || kill -9 "$serving"; rm -rf "$work"' EXIT
 hello=crates/rd_main/stdin
 passed=0 failed=0
 : >"$work/nothing"
@@ -39,6 +41,38 @@ ends() {
     failed=$((failed + 1))
 }
 
+# same WHAT WANTED CAME: the two texts have to be the same
+same() {
+    if [ "$2" = "$3" ]; then
+        passed=$((passed + 1))
+        return
+    fi
+    echo "FAILED: $1: $3, not $2"
+    failed=$((failed + 1))
+}
+
+# begins to serve at a socket, and waits until it listens, for a minute at most
+serve_at() {
+    "$desk" serve --store "$work/store" --socket "$1" --count 9 >"$work/serving" &
+    serving=$!
+    for _ in $(seq 600); do
+        grep -q '^listening ' "$work/serving" && return
+        sleep 0.1
+    done
+    echo "FAILED: it does not listen at $1"
+    failed=$((failed + 1))
+}
+
+# ends it as a loss of power would
+kill_it() {
+    kill -9 "$serving"
+    wait "$serving" 2>/dev/null
+    serving=
+}
+
+# what is at a path: its mode and its kind
+kind_at() { stat -c '%a %F' "$1" 2>/dev/null || echo nothing; }
+
 from() { "${@:2}" <"$1"; }
 into() { "${@:2}" >"$1"; }
 closed() { "$@" >&-; }
@@ -69,6 +103,30 @@ ends 3 "desk: device" "$work/nothing" into /dev/full "$desk" --help
 ends 3 "desk: device" "$work/nothing" into /dev/full "$desk" --version
 ends 3 "desk: device" "$work/nothing" closed "$desk" cat cpm8 "$hello" 0
 ends 3 "desk: device" "$work/nothing" closed "$desk" list cpm8 "$hello"
+
+# The socket of a killed desk gives way; that of a desk that serves, a link, a file and a folder do not.
+socket=$work/socket
+printf 'listening %s\nserved 0\n' "$socket" >"$work/both"
+printf 'done\n' >"$work/done"
+ends 0 "" "$work/done" "$desk" init --store "$work/store" --key abc
+ends 0 "" "$work/done" "$desk" init --store "$work/other" --key abc
+serve_at "$socket"
+same "the socket while its desk serves" '660 socket' "$(kind_at "$socket")"
+ends 3 "desk: device" "$work/nothing" "$desk" serve --store "$work/other" --socket "$socket" --count 0
+same "the socket once a second desk has looked at it" '660 socket' "$(kind_at "$socket")"
+kill_it
+same "the socket of a desk that was killed" '660 socket' "$(kind_at "$socket")"
+ln -s "$socket" "$work/link" && mkdir "$work/folder" || exit 1
+for name in link folder version; do
+    before=$(kind_at "$work/$name")
+    ends 3 "desk: device" "$work/nothing" "$desk" serve --store "$work/store" --socket "$work/$name" --count 0
+    same "what was at $name" "$before" "$(kind_at "$work/$name")"
+done
+same "the socket behind a link" '660 socket' "$(kind_at "$socket")"
+ends 0 "" "$work/both" "$desk" serve --store "$work/store" --socket "$socket" --count 0
+same "the socket at the end of its desk" nothing "$(kind_at "$socket")"
+ends 3 "desk: device" "$work/nothing" "$desk" serve --store "$work/store" --socket '' --count 0
+ends 3 "desk: device" "$work/nothing" "$desk" serve --store "$work/store" --socket "$work/missing/socket" --count 0
 
 echo "$passed passed, $failed failed"
 [ "$failed" -eq 0 ]
