@@ -8,7 +8,7 @@ import made_museum
 from client_cases import bytes_of, digest
 from page_tabs import StaffTab, door, told_meanwhile
 from pages_reading import asked
-from pages_rehearsal import OLDER, lost_from_put
+from pages_rehearsal import lost_from_put, older
 
 CHOSEN = ["1001-1002, 1005 1004", "1001–1002,1004;1005"]
 LISTS = {
@@ -102,7 +102,7 @@ def see_older(seen, tab):
     type_many(tab, "1003 1006")
     tab.door.before = lost_from_put()
     shown = tab.answer(True)
-    words = ["0 takedowns put, 1 failed, 1 not sent yet.", OLDER]
+    words = ["0 takedowns put, 1 failed, 1 not sent yet.", older("takedowns")]
     seen.same("older: the report says so", words, [shown["result"][0], shown["result"][-1]])
     tab.door.before = lambda method, path: None
     tab.door.museum.rules["T1003"] = {1: made_museum.rule(1, "deny", ["public"])}

@@ -11,9 +11,14 @@ from page_tabs import LIMIT, StaffTab, door
 TODAY = str(datetime.datetime.now(datetime.timezone.utc).date())
 NOTHING = "Nothing opens, and nothing closes."
 SAME = "The same as on the day above."
-OLDER = "The list below may be older than that: open this view again."
+CANNOT_REACH = "This page cannot reach the desk. Check the connection, and try again."
 CLOSES = "Closes for the public and the reading room: 1 file. Now they may read them; then they see nothing of them."
 OPENS = "Opens for the public and the reading room: 1 file. Now they see nothing of them; then they may read them."
+
+
+def older(name):
+    """What the page says where it cannot read anew what stands."""
+    return f"The {name} could not be read anew after that: the list below may be older. Open this view again."
 
 
 def effects(tab, acc):
@@ -197,11 +202,10 @@ def see_refused(seen, tab):
     seen.same("refused: no disk", (words, []), (shown["result"], tab.sent()))
     tab.door.before = lambda method, path: b"" if "/rehearsals/" in path else None
     shown = takedown(tab, "1001", "", "0", "public")
-    words = "This page cannot reach the desk. Check the connection, and try again."
-    seen.same("refused: a lost connection", ([words], []), (shown["result"], tab.sent()))
+    seen.same("refused: a lost connection", ([CANNOT_REACH], []), (shown["result"], tab.sent()))
     tab.door.before = lambda method, path: b"" if is_sent(method, path) else None
     takedown(tab, "1001", "", "0", "public")
-    words += " The desk may have done it all the same. You can safely send it again."
+    words = f"{CANNOT_REACH} The desk may have done it all the same. You can safely send it again."
     shown = tab.answer(True)
     seen.same("refused: lost when it was sent", ([words], []), (shown["result"], of_disk(shown, "1001")))
     takedown(tab, "1001", "", "0", "public")
@@ -212,7 +216,7 @@ def see_refused(seen, tab):
     takedown(tab, "1001", "", "0", "public")
     tab.door.before = lost_from_put()
     shown = tab.answer(True)
-    seen.same("refused: lost from then on", [words, OLDER], shown["result"])
+    seen.same("refused: lost from then on", [words, older("takedowns")], shown["result"])
     tab.door.before = lambda method, path: None
     see_stopped(seen, tab, words)
 

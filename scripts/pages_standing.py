@@ -4,6 +4,7 @@ dropped in its line, and read anew after each change."""
 import made_museum
 from client_cases import digest
 from page_tabs import StaffTab, door
+from pages_rehearsal import CANNOT_REACH, older
 
 WHO = ("Ada%20Archivist", "a%20letter%20of%20today")
 DEED_7 = [
@@ -171,6 +172,92 @@ def see_who(seen, tab):
     seen.same("who: the longest reason", [("PUT", "/deeds/40", "Ada", "%C3%BC" * 166)], tab.sent())
 
 
+def lost_after_change():
+    """Has every connection lost that comes after the first change, which is done."""
+    done = []
+
+    def before(method, path):
+        if done:
+            return b""
+        done.extend([path] if method != "GET" and not path.startswith("/staff/") else [])
+        return None
+
+    return before
+
+
+def put_deed(tab):
+    tab.fill("deeds", deed="50", donor="L. Later", signed="2001-01-01")
+    return tab.submit("deeds")
+
+
+def put_rule(tab):
+    tab.rule("rules", "50", "20", "read", "all", None, "public")
+    return agreed(tab, tab.submit("rules"))
+
+
+def put_takedown(tab):
+    tab.rule("takedowns", "1006", "7", "deny", "all", None, "public")
+    return agreed(tab, tab.submit("takedowns"))
+
+
+def put_key(tab):
+    tab.fill("keys", key="a late key", audience="room")
+    return tab.submit("keys")
+
+
+LATE = digest(b"a late key")
+# Changes by their views: what makes each, and what the page says of one that is done.
+NOT_READ = [
+    ("deeds", put_deed, "Done: deed 50."), ("rules", put_rule, "Done: rule 20 of deed 50."),
+    (
+        "rules", lambda tab: agreed(tab, tab.of_row("rule 20 of deed 50", "Drop")),
+        "Done: there is no rule 20 of deed 50 now.",
+    ),
+    ("takedowns", put_takedown, "Done: takedown 7 of disk 1006."),
+    (
+        "takedowns", lambda tab: agreed(tab, tab.of_row("takedown 7 of disk 1006", "Drop")),
+        "Done: there is no takedown 7 of disk 1006 now.",
+    ),
+    ("keys", put_key, f"Done: key of the reading room, SHA-256 {LATE}."),
+    (
+        "keys", lambda tab: agreed(tab, tab.of_row(f"key {LATE}", "Drop")),
+        f"Done: there is no key with SHA-256 {LATE} now.",
+    ),
+    (
+        "checks", lambda tab: tab.of_row("disk 1006", "Check"),
+        "Disk 1006. Sound: the disk still has the SHA-256 that came with it.",
+    ),
+]
+
+
+def see_not_read(seen, tab):
+    """A change that is done is called done, also where what stands cannot be read after it; the page says what it could
+    not read."""
+    for place, make, said in NOT_READ:
+        tab.browser.command("POST", "/refresh", {})
+        tab.begin()
+        tab.go(place)
+        tab.sent()
+        tab.door.before = lost_after_change()
+        shown = make(tab)
+        tab.door.before = lambda method, path: None
+        seen.same(f"not read: {said}", [said, older(place), CANNOT_REACH], shown["result"])
+        seen.same(f"not read: {said}: it is sent once", 1, len(tab.sent()))
+
+
+def see_own_key(seen, tab):
+    """A key that the staff gives away and uses itself can read no keys any more."""
+    number = digest(b"abc")
+    tab.door.museum.badges[digest(b"another of the staff")] = "staff"
+    tab.go("deeds")
+    tab.go("keys")
+    shown = tab.of_row(f"key {number}", "Give it to the reading room")
+    words = [f"Done: key of the reading room, SHA-256 {number}.", older("keys")]
+    words += ["Only the staff may do this. Use a key of the staff.", "Refusal: staff-only", "Rule: S0, for the staff"]
+    seen.same("not read: one's own key is given away", words, shown["result"])
+    tab.door.museum.badges[number] = "staff"
+
+
 def see_large(seen, browser):
     """A thousand deeds, three thousand rules and 10,000 checks are there at once, and drawn as far as they are seen."""
     with door(made_museum.many(10000, 20)) as staffs:
@@ -190,6 +277,6 @@ def see_large(seen, browser):
 def see(seen, browser):
     with door(made_museum.small()) as staffs:
         tab = StaffTab(browser, staffs)
-        for group in (see_deeds, see_rules, see_ways, see_keys, see_checks, see_who):
+        for group in (see_deeds, see_rules, see_ways, see_keys, see_checks, see_who, see_not_read, see_own_key):
             group(seen, tab)
     see_large(seen, browser)

@@ -1,7 +1,7 @@
 // Survey and check of disks, and the latest check of each.
 import { longTable } from "./lists.js";
 import { askObject, cell, counted, element, kindWords, numberOf, own, part, row } from "./shared.js";
-import { change, changed, formOf, held, readHeld, showsAnew, work } from "./staff.desk.js";
+import { change, changed, formOf, held, readHeld, shownAnew, showsAnew, work } from "./staff.desk.js";
 import { sendMany } from "./staff.many.js";
 import { limitFields } from "./staff.ruleform.js";
 import { buttonsCell } from "./staff.rules.js";
@@ -38,8 +38,7 @@ const survey = async (accession) => surveyed(await askObject(`/images/${accessio
 
 async function check(accession) {
   const { outcome } = await changed("POST", `/images/${accession}/check`);
-  await showChecks();
-  return `Disk ${accession}. ${OUTCOMES[outcome]}`;
+  return shownAnew("checks", `Disk ${accession}. ${OUTCOMES[outcome]}`);
 }
 
 // Checks all disks whose latest check is before a day, or that were never checked.

@@ -1,7 +1,7 @@
 // Deeds: who gave disks, and when they signed; each with its rules.
 import { longTable } from "./lists.js";
 import { cell, counted, element, part, row } from "./shared.js";
-import { change, dated, formOf, held, readHeld, send, showsAnew, sure } from "./staff.desk.js";
+import { change, dated, formOf, held, readHeld, send, shownAnew, showsAnew, sure } from "./staff.desk.js";
 import { limitFields } from "./staff.ruleform.js";
 import { buttonsCell, leaveButton } from "./staff.rules.js";
 import { ruleWords } from "./staff.words.js";
@@ -18,8 +18,7 @@ async function put(deed, body) {
     if (!(await sure(asked))) return `Kept: deed ${deed}.`;
   }
   await send("PUT", `/deeds/${deed}`, JSON.stringify(body));
-  await showDeeds();
-  return `Done: deed ${deed}.`;
+  return shownAnew("deeds", `Done: deed ${deed}.`);
 }
 
 const bodyOf = ({ donor, signed }) => ({ donor: donor.value, signed: signed.value });

@@ -92,9 +92,6 @@ export function dated(name, text, fields = {}) {
   return made;
 }
 
-// What is said where this cannot be shown anew after a change.
-export const OLDER = "The list below may be older than that: open this view again.";
-
 // How each section shows anew what stands.
 const shows = {};
 
@@ -102,8 +99,22 @@ export function showsAnew(name, again) {
   shows[name] = again;
 }
 
+// What is said where a section cannot be shown anew after a change.
+export const older = (name) =>
+  paragraph(`The ${name} could not be read anew after that: the list below may be older. Open this view again.`);
+
+// The words of a change that is done, once its section is shown anew; where it cannot be, also what was not read, and
+// why.
+export async function shownAnew(name, words) {
+  const fault = await shows[name]().then(
+    () => null,
+    (came) => came,
+  );
+  return fault === null ? words : [words, older(name), refusal(fault)];
+}
+
 // Does some work of a section, one at a time, shows the outcome there, and says whether it was done. The work gets a
-// way to show how far it has come, and a signal that the reader stops it. It gives the words or the node to show, or
+// way to show how far it has come, and a signal that the reader stops it. It gives what to show, words or nodes, or
 // null where what it has shown stays.
 export async function work(name, doing) {
   if (part(name).getAttribute("aria-busy") === "true") return false;
@@ -119,9 +130,9 @@ export async function work(name, doing) {
       (made) => ({ outcome: made, done: true }),
       (came) => ({ outcome: isStopped(came) ? "Stopped." : refusedWork(came), done: false, fault: came }),
     );
-  if (outcome !== null && outcome !== undefined) show(name, paragraph(outcome));
+  if (outcome !== null && outcome !== undefined) show(name, ...[outcome].flat().map(paragraph));
   if (fault && isUnsure(fault)) {
-    await shows[name]?.().catch(() => part(name).querySelector(".result").append(paragraph(OLDER)));
+    await shows[name]?.().catch(() => part(name).querySelector(".result").append(older(name)));
   }
   part(name).setAttribute("aria-busy", "false");
   return done;

@@ -1,7 +1,7 @@
 // Keys of the reading room and of the staff: only their SHA-256 goes to the desk.
 import { longTable } from "./lists.js";
 import { asHeaderField, cell, counted, element, keyInUse, part, row } from "./shared.js";
-import { change, digestOf, formOf, held, readHeld, send, showsAnew, sure } from "./staff.desk.js";
+import { change, digestOf, formOf, held, readHeld, send, shownAnew, showsAnew, sure } from "./staff.desk.js";
 import { limitFields, options } from "./staff.ruleform.js";
 import { buttonsCell } from "./staff.rules.js";
 import { AUDIENCES } from "./staff.words.js";
@@ -20,8 +20,7 @@ const typedDigest = async ({ key: typed, digest }) =>
 
 async function put(digest, audience) {
   await send("PUT", keyPath(digest), JSON.stringify({ audience }));
-  await showKeys();
-  return `Done: key of ${AUDIENCES[audience]}, SHA-256 ${digest}.`;
+  return shownAnew("keys", `Done: key of ${AUDIENCES[audience]}, SHA-256 ${digest}.`);
 }
 
 async function drop(digest) {
@@ -31,8 +30,8 @@ async function drop(digest) {
   if (!(await sure({ words: `Drop ${words}?`, more, go: "Drop it", keep: "Keep it" }))) return `Kept: ${words}.`;
   const isOwn = await isInUse(digest);
   await send("DELETE", keyPath(digest));
-  if (!isOwn) await showKeys();
-  return `Done: there is no ${words} now.`;
+  const said = `Done: there is no ${words} now.`;
+  return isOwn ? said : shownAnew("keys", said);
 }
 
 // After a key is put or dropped, no field holds it.

@@ -2,7 +2,7 @@
 // was lost or the reader stopped.
 import { csvText } from "./csv.js";
 import { Refused, cell, counted, element, explainRefusal, part, refusalName, row, table } from "./shared.js";
-import { OLDER, change, isUnsure } from "./staff.desk.js";
+import { change, isUnsure, older } from "./staff.desk.js";
 import { today } from "./staff.words.js";
 import { save } from "./stream.js";
 
@@ -63,7 +63,7 @@ function report(run, isOlder) {
   if (!isWhole) buttons.append(button("Go on with the rest", "go-on", goOn));
   buttons.append(button("Save the report", "save-report", () => saveReport(run)));
   made.append(buttons);
-  if (isOlder) made.append(element("p", OLDER));
+  if (isOlder) made.append(older(run.section));
   return made;
 }
 

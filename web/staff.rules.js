@@ -1,7 +1,7 @@
 // Rules of deeds, and takedowns: the forms that put and change them, and the tables of those that stand.
 import { longTable } from "./lists.js";
 import { cell, counted, element, part, row } from "./shared.js";
-import { change, dated, formOf, held, readHeld, rulesOf, send, showsAnew } from "./staff.desk.js";
+import { change, dated, formOf, held, readHeld, rulesOf, send, shownAnew, showsAnew } from "./staff.desk.js";
 import { sendMany } from "./staff.many.js";
 import { MOST_DISKS, accessionsIn, placeOf } from "./staff.ranks.js";
 import { rehearsalDays, rehearsed } from "./staff.rehearsal.js";
@@ -44,8 +44,7 @@ async function put(name, scopes, typedRank, rule, tools) {
   if (agreed.length === 0) return `Not put: ${words}.`;
   if (places.length > 1) return putMany(name, agreed, tools);
   await send("PUT", agreed[0].path, body);
-  await showRules(name);
-  return `Done: ${words}.`;
+  return shownAnew(name, `Done: ${words}.`);
 }
 
 // Puts the same takedown of many disks.
@@ -86,8 +85,7 @@ async function drop(name, scope, rule, tools) {
   const asked = { words: `Drop ${said}?`, notes, commands, days: rehearsalDays(rule), go: "Drop it" };
   if ((await rehearsed(asked, tools)).length === 0) return `Kept: ${said}.`;
   await send("DELETE", path(scope, rule.rank));
-  await showRules(name);
-  return `Done: there is no ${said} now.`;
+  return shownAnew(name, `Done: there is no ${said} now.`);
 }
 
 // The dialog in which a rule is changed where it stands.
