@@ -112,13 +112,7 @@ class StaffTab(Tab):
 
     def sent(self):
         """The changes that the page has sent since it was asked last: method, path, name and reason."""
-        fields = (b"desk-staff", b"desk-note")
-        sent = [
-            (method, path, *(field.get(name, b"").decode() for name in fields))
-            for method, path, field in self.door.visits if method != "GET" and not path.startswith("/staff/")
-        ]
-        self.door.visits.clear()
-        return sent
+        return self.door.sent()
 
 
 def told_meanwhile(tab, section, button):

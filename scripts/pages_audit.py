@@ -61,7 +61,8 @@ def see_standing(seen, tab):
     latest = [museum.latest.get(acc, ("never", "")) for acc in sorted(museum.images)]
     checks = [[str(acc), day, outcome] for acc, (day, outcome) in zip(sorted(museum.images), latest)]
     seen.same("audit: checks", checks, [row[:3] for row in shown["rows"]])
-    summary = "6 disks, 4 of them never checked. Changed: 1003."
+    never = len(museum.images) - len(museum.latest)
+    summary = f"{len(museum.images)} disks, {never} of them never checked. Changed: 1003."
     seen.same("audit: the changed disk is named", [summary], shown["stands"])
 
 
@@ -88,19 +89,24 @@ def see_year(seen, tab):
     seen.same("audit: it is done", [f"Done: 2 days from {TODAY} on."], shown["result"])
 
 
-def see_journal(seen, tab):
-    shown = tab.go("journal")
+def see_journal(seen, tab, due):
+    tab.go("journal")
     tab.fill("journal", checks=True)
     shown = tab.read()
-    who = [[name, what, outcome, reason] for _, _, (name, what, outcome, reason) in reversed(CHANGES)]
-    seen.same("audit: who changed what", who, [row[1:] for row in shown["rows"]])
+    seen.same("audit: who changed what", due, [row[1:] for row in shown["rows"]])
+
+
+def see_audit(seen, tab, due):
+    """An audit, of which the journal is due to show some lines: who, what, the outcome and the reason."""
+    tab.door.visited()
+    tab.begin(name="", reason="")
+    for group in (see_standing, see_eyes, see_year):
+        group(seen, tab)
+    see_journal(seen, tab, due)
+    seen.same("audit: nothing but questions", {"GET"}, {method for method, _ in tab.door.visited()})
 
 
 def see(seen, browser):
     with door(museum_of_an_audit()) as staffs:
         staffs.journals = {"/journal": journal()}
-        tab = StaffTab(browser, staffs)
-        tab.begin(name="", reason="")
-        for group in (see_standing, see_eyes, see_year, see_journal):
-            group(seen, tab)
-        seen.same("audit: nothing but questions", {"GET"}, {method for method, _, _ in staffs.visits})
+        see_audit(seen, StaffTab(browser, staffs), [words for _, _, words in reversed(CHANGES)])

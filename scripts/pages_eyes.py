@@ -57,7 +57,7 @@ def see_search(seen, tab):
         seen.same(f"eyes: {words}", (wanted, count), (len(shown["rows"]), shown["stands"][1]))
 
 
-def see_saved(seen, tab):
+def see_saved(seen, tab, harmful=HARMFUL):
     """The table that is saved has every file that is shown, and no formula."""
     tab.fill("eyes", words="1066")
     tab.browser.click("#eyes [name=save]")
@@ -66,28 +66,20 @@ def see_saved(seen, tab):
     while time.monotonic() < end and not path.exists():
         time.sleep(0.05)
     rows = list(csv.reader(path.read_text().splitlines()))
-    names = [name if name[0] != "=" else f"'{name}" for name in HARMFUL]
+    names = [name if name[0] != "=" else f"'{name}" for name in harmful]
     seen.same("saved: names", names, [row[6] for row in rows[1:]])
     line = ["1066", "", "7", "d64", "0", "", "../../X", "../../X", "SEQ", "read them", "R7.20"]
     seen.same("saved: a line", line, rows[1])
 
 
-def slowly(method, path):
-    """Lets the verdicts of a day wait."""
-    if "/verdicts/" in path:
-        time.sleep(0.5)
-
-
 def see_year(seen, tab):
     """Each day of the next year on which a rule begins or ends, and no other."""
-    museum = tab.door.museum
     days = [str(TODAY + datetime.timedelta(number)) for number in (10, 20, 365, 366)]
-    museum.rules["R9"][5] = made_museum.rule(5, "deny", ["public"], {"slot": 0}, days[0], days[1])
-    museum.rules["T1002"] = {1: made_museum.rule(1, "list", ["room", "public"], None, days[2], days[3])}
+    tab.door.put_rule("R9", made_museum.rule(5, "deny", ["public"], {"slot": 0}, days[0], days[1]))
+    tab.door.put_rule("T1002", made_museum.rule(1, "list", ["room", "public"], None, days[2], days[3]))
     tab.go("year")
-    tab.door.before = slowly
-    told = told_meanwhile(tab, "year", "#year [type=submit]")
-    tab.door.before = lambda method, path: None
+    with tab.door.slow(tab, 0.5):
+        told = told_meanwhile(tab, "year", "#year [type=submit]")
     shown = tab.read()
     count = len(verdicts(tab, days[0]))
     # what is said of the last day may be gone at once
@@ -115,10 +107,9 @@ def see_year(seen, tab):
 
 def see_bound(seen, tab):
     """Of more days than the page names, it looks at the first ones; and it stops when it is asked to."""
-    museum = tab.door.museum
     for number in range(1, 71):
         day = str(TODAY + datetime.timedelta(number))
-        museum.rules["R9"][100 + number] = made_museum.rule(100 + number, "list", ["public"], None, day)
+        tab.door.put_rule("R9", made_museum.rule(100 + number, "list", ["public"], None, day))
     tab.go("deeds")
     shown = tab.go("year")
     bound = tab.browser.script("return document.querySelector('#year .bound').textContent")
@@ -128,37 +119,43 @@ def see_bound(seen, tab):
     seen.same("bound: the first days", words, shown["stands"][0])
     heads = "return document.querySelectorAll('#year .stands h2').length"
     seen.same("bound: as many", 60, tab.browser.script(heads))
-    tab.door.before = lambda method, path: time.sleep(0.3) if "/verdicts/" in path else None
-    tab.browser.click("#year [type=submit]")
-    tab.wait(lambda shown: shown["busy"])
-    time.sleep(0.5)
-    tab.browser.click("#year .result button")
-    shown = tab.wait(lambda shown: not shown["busy"])
+    with tab.door.slow(tab, 0.3):
+        tab.browser.click("#year [type=submit]")
+        tab.wait(lambda shown: " of 61. Reading " in "".join(shown["result"]), "a day")
+        tab.browser.click("#year .result button")
+        shown = tab.wait(lambda shown: not shown["busy"])
     seen.same("bound: stopped", ["Stopped."], shown["result"])
-    tab.door.before = lambda method, path: None
 
 
-def at_hand(tab, *days):
-    """Has the door give the verdicts of some days at once: to make them takes the stand-in longer than the desk, and
-    what is measured is the page."""
-    whole = {day: tab.door.museum.show_verdicts(None, day).reply for day in days}
-    made = {f"/staff/verdicts/{day}": tab.door.with_added(reply) for day, reply in whole.items()}
-    tab.door.before = lambda method, path: made.get(path)
+def verdicts_at_hand(door_, *days):
+    """Has the verdicts of some days come at once."""
+    make = door_.museum.show_verdicts
+    door_.at_hand({f"/staff/verdicts/{day}": lambda day=day: make(None, day).reply for day in days})
+
+
+def large_museum(disks):
+    """A museum of so many disks of twenty files, with a rule that begins and ends in the next year; and the days on
+    which somebody looks at it."""
+    museum = made_museum.many(disks, 20)
+    days = [str(TODAY + datetime.timedelta(number)) for number in (0, 10, 20)]
+    museum.rules["R9"][5] = made_museum.rule(5, "deny", ["public"], {"slot": 0}, *days[1:])
+    return museum, days
+
+
+def see_many_files(seen, tab):
+    """All files of disks with titles: read with progress, looked through, saved, and compared over a year."""
+    tab.begin()
+    for group in (see_large_look, see_large_found, see_large_saved, see_large_year):
+        group(seen, tab)
 
 
 def see_large(seen, browser):
-    """200,000 files of disks with titles: read with progress, looked through, saved, and compared over a year."""
-    museum = made_museum.many(10000, 20)
-    days = [str(TODAY + datetime.timedelta(number)) for number in (0, 10, 20)]
-    museum.rules["R9"][5] = made_museum.rule(5, "deny", ["public"], {"slot": 0}, *days[1:])
+    museum, days = large_museum(10000)
     with tempfile.TemporaryDirectory() as folder:
         (pathlib.Path(folder) / "titles.csv").write_text(titles_of(10000))
         with door(museum, folder=folder) as staffs:
-            tab = StaffTab(browser, staffs)
-            tab.begin()
-            at_hand(tab, *days)
-            for group in (see_large_look, see_large_found, see_large_saved, see_large_year):
-                group(seen, tab)
+            verdicts_at_hand(staffs, *days)
+            see_many_files(seen, StaffTab(browser, staffs))
 
 
 # In milliseconds. The browser measures by the clock, and other work on the machine can hold it up: what is long is
@@ -177,20 +174,26 @@ def see_quick(seen, tab, label, doing):
     seen.same(f"{label}: the longest piece of work: {longest}", True, min(longest) < LONGEST)
 
 
+def files_of(tab):
+    """How many files there are, where each disk has twenty."""
+    return 20 * len(tab.door.museum.images)
+
+
 def see_large_look(seen, tab):
     tab.go("eyes")
     tab.browser.script(WATCH)
     told = told_meanwhile(tab, "eyes", "#eyes [type=submit]")
     seen.same("large: progress", True, sum(text.startswith("Reading") for text in told) > 3)
-    seen.same("large: in short", True, "of 200,000 files" in tab.read()["stands"][0])
+    seen.same("large: in short", True, f"of {files_of(tab):,} files" in tab.read()["stands"][0])
     see_quick(seen, tab, "eyes", lambda _: tab.press("#eyes [type=submit]"))
 
 
 def texts_seen(tab):
     """Of each file that the public sees today its name as it was shown, and its disk's title and note; in small
     letters."""
-    titles = {accession: words for accession, *words in csv.reader(titles_of(10000).splitlines())}
-    lines = lines_of(tab.door.before("GET", f"/staff/verdicts/{TODAY}"))
+    text = titles_of(len(tab.door.museum.images))
+    titles = {accession: words for accession, *words in csv.reader(text.splitlines())}
+    lines = verdicts(tab, str(TODAY))
     found = [(shown_name(line["name"]), *titles[line["accession"]]) for line in lines if line["public"] != "deny"]
     return ["\n".join(texts).lower() for texts in found]
 
@@ -225,8 +228,9 @@ def see_large_saved(seen, tab):
         rows[:] = downloaded(tab, f"public-{TODAY}.csv")
 
     see_quick(seen, tab, "eyes: a table that is saved", save)
-    last = ["10000", "Letters of ferryman 10000, with the river"]
-    seen.same("large: saved", (200001, last), (len(rows), rows[-1][:2]))
+    number = len(tab.door.museum.images)
+    last = [str(number), f"Letters of ferryman {number}, with the river"]
+    seen.same("large: saved", (files_of(tab) + 1, last), (len(rows), rows[-1][:2]))
 
 
 def see_large_year(seen, tab):

@@ -11,7 +11,6 @@ from page_tabs import STAFF, StaffTab, door
 from pages_journal import journal
 from pages_reading import downloaded
 from pages_readers import ReadersTab
-from pages_rehearsal import effects
 
 SPACE, DOWN = " ", "\ue015"
 # What has the focus is in this part of the page.
@@ -111,19 +110,19 @@ def see_takedowns(seen, tab):
     type_takedown(tab, "2")
     shown = agree(tab)
     seen.same("keys: the second", ["990", "1000"], [row[1] for row in shown["rows"]])
-    seen.same("keys: both are closed", ["deny", "read", "deny"], effects(tab, 1002)["public"])
+    seen.same("keys: both are closed", ["deny", "read", "deny"], tab.door.effects(1002)["public"])
     type_at(tab, "[aria-label='Change takedown 990 of disk 1002']", ENTER)
     type_at(tab, "#change [value=room]", SPACE)
     type_at(tab, "#change [type=submit]", ENTER)
     tab.wait(lambda shown: shown["sure"], "the rehearsal of the change")
     agree(tab)
-    seen.same("keys: changed", ["read", "read", "deny"], effects(tab, 1002)["room"])
+    seen.same("keys: changed", ["read", "read", "deny"], tab.door.effects(1002)["room"])
     type_at(tab, "[aria-label='Drop takedown 1000 of disk 1002']", ENTER)
     tab.wait(lambda shown: shown["sure"], "the rehearsal of the end")
     shown = agree(tab)
     seen.same("keys: dropped", ["990"], [row[1] for row in shown["rows"]])
     seen.same("keys: the focus is at the outcome", True, tab.browser.script(AT, "#takedowns .result"))
-    seen.same("keys: it is open", ["read", "read", "deny"], effects(tab, 1002)["public"])
+    seen.same("keys: it is open", ["read", "read", "deny"], tab.door.effects(1002)["public"])
 
 
 def again(tab):

@@ -76,24 +76,23 @@ def see_takedowns(seen, tab):
         tab.answer(False)
     seen.same("many: nothing is sent", [], tab.sent())
     type_many(tab, f"{CHOSEN[0]} 1099")
-    puts = []
-    tab.door.before = lambda method, path: slowly(method) or (b"" if is_third(puts, method, path) else None)
-    told = told_meanwhile(tab, "takedowns", "#sure [value=go]")
+    with tab.door.lost_at_third(tab):
+        told = told_meanwhile(tab, "takedowns", "#sure [value=go]")
     seen.same("many: progress", [], [words for words in SENDING if words not in told])
     shown = tab.read()
     seen.same("many: the connection is lost", "2 takedowns put, 1 failed, 1 not sent yet.", shown["result"][0])
-    seen.same("many: what was sent", [1001, 1002], [one for one in (1001, 1002, 1004, 1005) if stands(tab, one)])
-    tab.door.before = lambda method, path: None
+    disks = (1001, 1002, 1004, 1005)
+    seen.same("many: what was sent", [[1000], [1000], [], []], [tab.door.ranks(acc) for acc in disks])
     shown = tab.press("#takedowns [name=go-on]")
     seen.same("many: gone on", "4 takedowns put, 0 failed.", shown["result"][0])
-    seen.same("many: all stand", [True] * 4, [stands(tab, scope) for scope in (1001, 1002, 1004, 1005)])
+    seen.same("many: all stand", [[1000]] * 4, [tab.door.ranks(acc) for acc in disks])
     tab.browser.click("#takedowns [name=save-report]")
     rows = [[str(scope), "1000", "done", "Ada Archivist", "a letter of today"] for scope in (1001, 1002, 1004, 1005)]
     heads = ["accession", "rank", "outcome", "name", "reason"]
     seen.same("many: the report", [heads, *rows], downloaded(tab, f"takedowns-{tab.door.museum.day}.csv"))
     shown = type_many(tab, "1001-1002")
     tab.answer(True)
-    ranks = [sorted(tab.door.museum.rules[f"T{one}"]) for one in (1001, 1002)]
+    ranks = [tab.door.ranks(acc) for acc in disks[:2]]
     seen.same("many: each at its own rank", [[990, 1000]] * 2, ranks)
 
 
@@ -112,23 +111,6 @@ def see_older(seen, tab):
 
 
 SENDING = [f"Sending: {count} of 4." for count in (0, 1, 2)]
-
-
-def slowly(method):
-    """Lets a change wait."""
-    if method == "PUT":
-        time.sleep(0.4)
-
-
-def stands(tab, scope):
-    return bool(tab.door.museum.rules.get(f"T{scope}"))
-
-
-def is_third(puts, method, path):
-    if method != "PUT" or "/rehearsals/" in path:
-        return False
-    puts.append(path)
-    return len(puts) == 3
 
 
 HELLO, RECORD, MARKED = client_cases.PROGRAM_DISK, client_cases.RECORD_DISK, client_cases.MARKED_DISK
@@ -220,6 +202,7 @@ NO_DEED = "There is no such deed. Check its number, or put the deed first. (no-d
 
 def see_sheet(seen, tab):
     """The dumps of a sheet are found by their names, compared, and put; what is wrong is not sent."""
+    tab.go("disks")
     shown = choose(tab, {**DUMPS, "shelf.CSV": sheet_text(ROWS).encode()})
     words = "7 files chosen. The sheet has 7 rows: 4 ready, 2 with another disk than it says, 1 without a file."
     seen.same("sheet: chosen", [words], shown["result"])
@@ -233,27 +216,24 @@ def see_sheet(seen, tab):
     }
     seen.same("sheet: row by row", first, came)
     tab.sent()
-    puts = []
-    tab.door.before = lambda method, path: slowly(method) or (b"" if is_third(puts, method, path) else None)
-    told = told_meanwhile(tab, "disks", "#disks > form [type=submit]")
+    with tab.door.lost_at_third(tab):
+        told = told_meanwhile(tab, "disks", "#disks > form [type=submit]")
     seen.same("sheet: progress", [], [words for words in SENDING if words not in told])
     shown = tab.read()
     seen.same("sheet: the connection is lost", "2 disks put, 1 failed, 1 not sent yet.", shown["result"][0])
-    tab.door.before = lambda method, path: None
     shown = tab.press("#disks [name=go-on]")
     seen.same("sheet: gone on", "3 disks put, 1 failed.", shown["result"][0])
     done = {name: (acc, deed, "done") for name, (acc, deed, says) in first.items() if says == "" and acc != "2007"}
     seen.same("sheet: the outcomes", {**first, **done, "=1+1": ("2007", "99", NO_DEED)}, results(shown))
-    held = {acc: tab.door.museum.images[acc].bytes for acc in range(2001, 2008) if acc in tab.door.museum.images}
     wanted = {2001: RECORD, 2002: HELLO, 2006: DUMPS["..%2f..%2fX"]}
-    seen.same("sheet: what the desk has", True, wanted == held)
+    seen.same("sheet: what the desk has", True, wanted == tab.door.images(2001, 2007))
     seen.same("sheet: sent with a name", {"Ada%20Archivist"}, {name for _, _, name, _ in tab.sent()})
     tab.browser.click("#disks [name=save-report]")
     rows = downloaded(tab, f"disks-{tab.door.museum.day}.csv")
     line = ["2007", "cpm8", "99", digest(RECORD), "'=1+1", NO_DEED]
     seen.same("sheet: the report", [line], [row[:6] for row in rows if row[0] == "2007"])
     seen.same("sheet: all in the report", ["accession", "2001", "2002", "2006", "2007"], [row[0] for row in rows])
-    tab.door.museum.deeds[99] = ("Late Donor", "2020-01-01")
+    tab.door.put_deed(99, "Late Donor", "2020-01-01")
     shown = tab.press("#disks [name=go-on]")
     seen.same("sheet: the refused one again", "4 disks put, 0 failed.", shown["result"][0])
     tab.browser.click("#disks [name=empty]")

@@ -1,6 +1,7 @@
-"""The page for readers over a museum of 10,000 disks and 200,000 files: how soon it is ready, that it scrolls without a
-stop, what it finds, and that Back leads to the same place of a list."""
+"""The page for readers over a museum of many disks, of twenty files each: how soon it is ready, that it scrolls without
+a stop, what it finds, and that Back leads to the same place of a list."""
 
+import contextlib
 import csv
 import pathlib
 import tempfile
@@ -33,11 +34,12 @@ class ReadersTab(Tab):
     """The page for readers."""
 
     def read(self, holds=lambda shown: True):
-        end = time.monotonic() + 60
+        end, shown = time.monotonic() + 60, None
         while time.monotonic() < end:
-            shown = self.browser.script(READ)
-            if shown["busy"] == "false" and holds(shown):
-                return shown
+            with contextlib.suppress(KeyError):
+                shown = self.browser.script(READ)
+                if shown["busy"] == "false" and holds(shown):
+                    return shown
             time.sleep(0.02)
         raise TimeoutError(f"it does not come: {str(shown)[:500]}")
 
@@ -62,10 +64,8 @@ TIMES = 3
 
 
 def loaded(seen, tab, label):
-    """What the page shows when it is ready, which it is within two seconds. The stand-in has its reply at hand: to make
-    it takes it longer than the desk itself, and what is measured is the page."""
-    reply = tab.door.with_added(tab.door.museum.ask_images("public").reply)
-    tab.door.before = lambda method, path: reply if path == "/images" else None
+    """What the page shows when it is ready, which it is within two seconds."""
+    tab.door.at_hand({"/images": lambda: tab.door.museum.ask_images("public").reply})
     ready = []
     while len(ready) < TIMES and (not ready or min(ready) >= READY):
         tab.browser.open(tab.door.address)
@@ -75,15 +75,22 @@ def loaded(seen, tab, label):
     return shown
 
 
+def count_of(tab):
+    """How many disks there are, and how many the public sees: all but each hundredth."""
+    count = len(tab.door.museum.images)
+    return count, count - count // 100
+
+
 def see_ready(seen, tab):
     """The list of all disks is there, with the boxes to search in at its top."""
-    shown = loaded(seen, tab, "10,000 disks")
-    seen.same("ready: the summary", "You may see files of 9,900 disks.", shown["status"])
+    count, open_ = count_of(tab)
+    shown = loaded(seen, tab, f"{count:,} disks")
+    seen.same("ready: the summary", f"You may see files of {open_:,} disks.", shown["status"])
     seen.same("ready: the first rows", ["Disk 1", "Commodore 1541", "2", "19"], shown["rows"][0])
     seen.same("ready: few are drawn", True, len(shown["rows"]) <= 400)
     tops = "return ['find', 'disk'].map((id) => document.getElementById(id).getBoundingClientRect().bottom < 400)"
     seen.same("ready: the boxes are at the top", [True, True], tab.browser.script(tops))
-    tab.door.before = lambda method, path: None
+    tab.door.at_hand({})
 
 
 SCROLL = """
@@ -99,13 +106,13 @@ step();
 
 def see_scroll(seen, tab):
     tab.browser.command("POST", "/timeouts", {"script": 60000})
-    longest = []
+    count, longest = count_of(tab)[0], []
     for _ in range(TIMES):
         tab.browser.script(f"window.scrollTo(0, 0); {WATCH}")
         tab.read(lambda shown: shown["rows"] and shown["rows"][0][0] == "Disk 1")
         far = tab.browser.command("POST", "/execute/async", {"script": SCROLL, "args": []})
-        shown = tab.read(lambda shown: shown["rows"] and shown["rows"][-1][0] == "Disk 9999")
-        seen.same("scroll: to the end", True, far > 100000 and len(shown["rows"]) <= 600)
+        shown = tab.read(lambda shown: shown["rows"] and shown["rows"][-1][0] == f"Disk {count - 1}")
+        seen.same("scroll: to the end", True, far > 10 * count and len(shown["rows"]) <= 600)
         longest.append(tab.browser.script("return window.longest"))
     below(seen, "scroll: the longest piece of work", min(longest), LONGEST, "ms")
 
@@ -125,20 +132,20 @@ def left(tab, before, links="tbody a"):
 
 def see_came_back(seen, tab, label, heading, before, name):
     """Back leads to the same place of a list, where the link by which the reader left has the focus."""
-    tab.door.visits.clear()
+    tab.door.visited()
     tab.browser.command("POST", "/back", {})
     tab.read(lambda shown: shown["heading"] == heading and shown["rows"])
     time.sleep(0.3)
     place = tab.browser.script("return window.scrollY")
     seen.same(f"{label}: the place {place}", True, abs(place - before) <= 2)
     seen.same(f"{label}: the focus", name, tab.browser.focus())
-    seen.same(f"{label}: nothing is asked", [], tab.door.visits)
+    seen.same(f"{label}: nothing is asked", [], tab.door.visited())
 
 
 def see_back(seen, tab):
     """Back from a disk leads to the same row of the list."""
     tab.go("")
-    name, before = left(tab, 150000)
+    name, before = left(tab, 15 * count_of(tab)[0])
     seen.same("back: the disk", 19, len(tab.read()["rows"]))
     seen.same("back: at the top of it", 0, tab.browser.script("return window.scrollY"))
     see_came_back(seen, tab, "back", "Disks", before, name)
@@ -149,7 +156,7 @@ def see_back(seen, tab):
 def see_back_to_found(seen, tab):
     """Back from a file that was found leads to the same row of what was found."""
     tab.find("letter 1")
-    name, before = left(tab, 20000, "td.name a")
+    name, before = left(tab, 2 * count_of(tab)[0], "td.name a")
     seen.same("back to what was found: the file", True, "of disk" in tab.browser.script(BYTES).lower())
     see_came_back(seen, tab, "back to what was found", "\u201cletter 1\u201d", before, name)
 
@@ -172,6 +179,7 @@ def plain(name):
 def see_found(seen, tab):
     """All files with some words in their names are found, in letters of both sets, in small or capital letters."""
     lines = catalogue(tab)
+    tab.door.visited()
     tab.browser.script(WATCH)
     tab.go("")
     came, words = set(), "LETTER 1"
@@ -192,8 +200,8 @@ def see_found(seen, tab):
             shown = tab.read(lambda shown: shown["rows"])
             first = [f"Disk {wanted[0]['accession']}", wanted[0]["slot"]]
             seen.same(f"found: {words}: the first", first, shown["rows"][0][:2])
-    asked = [path for _, path, _ in tab.door.visits if path == "/catalogue"]
-    seen.same("found: the list is asked for once", 1, len(asked))
+    asked = [path for _, path in tab.door.visited()].count("/catalogue")
+    seen.same("found: the list is asked for once", 1, asked)
     longest = [tab.browser.script("return window.longest")]
     for _ in range(TIMES - 1):
         tab.browser.open(tab.door.address)
@@ -204,7 +212,7 @@ def see_found(seen, tab):
         longest.append(tab.browser.script("return window.longest"))
     below(seen, "found: the longest piece of work", min(longest), LONGEST, "ms")
     heap = {one["name"]: one["value"] for one in metrics(tab)}["JSHeapUsedSize"]
-    below(seen, "memory of the tab, with the list of 200,000 files", heap / 1e6, 150, "MB")
+    below(seen, f"memory of the tab, with the list of {20 * count_of(tab)[0]:,} files", heap / 1e6, 150, "MB")
 
 
 def metrics(tab):
@@ -279,7 +287,8 @@ def titles_of(count):
 
 def see_titles(seen, tab):
     """With a title for each disk the page is ready as soon, and finds disks by their titles."""
-    shown = loaded(seen, tab, "10,000 disks with titles")
+    count, open_ = count_of(tab)
+    shown = loaded(seen, tab, f"{count:,} disks with titles")
     row = ["Disk 1", "Letters of ferryman 1, with the river", "Commodore 1541", "2", "19"]
     seen.same("titles: the first row", row, shown["rows"][0])
     shown = tab.find("FERRYMAN 77,")
@@ -292,7 +301,7 @@ def see_titles(seen, tab):
         tab.read(lambda shown: shown["rows"])
         longest.append(tab.browser.script("return window.longest"))
     heads = "return document.querySelector('#view h2').textContent"
-    seen.same("titles: of all disks", "9,900 disks with this in the title", tab.browser.script(heads))
+    seen.same("titles: of all disks", f"{open_:,} disks with this in the title", tab.browser.script(heads))
     below(seen, "titles: the longest piece of work", min(longest), LONGEST, "ms")
 
 

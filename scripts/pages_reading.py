@@ -192,8 +192,8 @@ DOWNLOADS = {
 }
 
 
-def see_downloads(seen, tab):
-    for place, (name, data) in DOWNLOADS.items():
+def see_downloads(seen, tab, downloads=DOWNLOADS):
+    for place, (name, data) in downloads.items():
         tab.go(place)
         tab.browser.click("#download")
         seen.same(f"download: {place}", data, downloaded(tab, name))
@@ -202,7 +202,6 @@ def see_downloads(seen, tab):
 def see_zip(seen, tab):
     """All files that may be read, each as it is; the list of their SHA-256; names that harm nobody."""
     tab.go("2001")
-    tab.door.visits.clear()
     tries = []
     often = b"HTTP/1.1 429 Too Many Requests\r\nContent-Length: 0\r\nConnection: close\r\n\r\n"
 
@@ -221,16 +220,25 @@ def see_zip(seen, tab):
     gaps = [later - first for (_, first), (_, later) in zip(tries, tries[1:])]
     seen.same("zip: at most ten a second", True, min(gaps) > 0.09)
     seen.same("zip: it waits after 429", True, gaps[3] > 1.5)
+    see_members(seen, tab, data, FILES)
+
+
+MARKUP_NAME = "_IMG SRC_X ONERROR_WINDOW.HARMED_1_.usr"
+
+
+def see_members(seen, tab, data, files, markup_name=MARKUP_NAME):
+    """The members of the zip of a disk with some files, of which the desk gives out those with bytes."""
+    files = [file for file in files if file[2] is not None]
     with zipfile.ZipFile(io.BytesIO(data)) as made:
         seen.same("zip: it is whole", None, made.testzip())
-        see_members(seen, made, [FILES[slot] for slot in given])
-    words = f"Saved: {len(given)} files."
+        see_names_and_bytes(seen, made, files, markup_name)
+    words = f"Saved: {len(files)} files."
     seen.same("zip: said", words, tab.browser.script("return document.getElementById('zip-says').textContent"))
 
 
-def see_members(seen, made, files):
+def see_names_and_bytes(seen, made, files, markup_name):
     names = made.namelist()
-    wanted = ["HELLO.prg", "LETTER.seq", "____X.usr", "_CON.usr", "_IMG SRC_X ONERROR_WINDOW.HARMED_1_.usr", "_1_1.usr"]
+    wanted = ["HELLO.prg", "LETTER.seq", "____X.usr", "_CON.usr", markup_name, "_1_1.usr"]
     wanted = [f"files/{name}" for name in [*wanted, "a _QUOTED__ NAME.usr", "DATA.prg"]]
     seen.same("zip: names", [*wanted, "SHA256SUMS", "list.csv"], names)
     harmless = re.compile(r"(files/)?[A-Za-z0-9_][A-Za-z0-9 ._()-]*")
@@ -245,17 +253,21 @@ def see_members(seen, made, files):
     seen.same("zip: no formula", harmless, [row[2] for row in rows[1:]])
 
 
-def see_zip_refused(seen, tab):
-    """A file that was closed in between is left out; a lost connection saves nothing; the reader can stop."""
+def see_zip_closed(seen, tab):
+    """A file that was closed in between is left out."""
     tab.go("1002")
-    tab.door.museum.rules["T1002"] = {1: made_museum.rule(1, "deny", ["public"], {"slot": 2})}
+    tab.door.put_rule("T1002", made_museum.rule(1, "deny", ["public"], {"slot": 2}))
     tab.browser.click("#zip")
     with zipfile.ZipFile(io.BytesIO(downloaded(tab, "disk-1002.zip"))) as made:
         seen.same("zip: a file that is closed", ["files/TOUR.prg", "SHA256SUMS", "list.csv"], made.namelist())
         row = list(csv.reader(made.read("list.csv").decode().splitlines()))[2]
         words = "You may not read this file. Ask the staff, who know why."
         seen.same("zip: and why", ["2", "", "GUIDE", "GUIDE", "SEQ", "", words, ""], row)
-    del tab.door.museum.rules["T1002"]
+    tab.door.drop_rule("T1002", 1)
+
+
+def see_zip_refused(seen, tab):
+    """A lost connection saves nothing; the reader can stop."""
     tab.go("2001")
     tab.door.before = lambda method, path: b"" if path.endswith("/files/2") else None
     tab.browser.click("#zip")
@@ -297,7 +309,8 @@ def see(seen, browser):
         tab = ReadersTab(browser, outside)
         tab.read()
         groups = (
-            see_listings, see_texts, see_names, see_views, see_phone, see_downloads, see_zip, see_zip_refused, see_real,
+            see_listings, see_texts, see_names, see_views, see_phone, see_downloads, see_zip, see_zip_closed,
+            see_zip_refused, see_real,
         )
         for group in groups:
             group(seen, tab)

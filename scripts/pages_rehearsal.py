@@ -21,14 +21,6 @@ def older(name):
     return f"The {name} could not be read anew after that: the list below may be older. Open this view again."
 
 
-def effects(tab, acc):
-    """What the public and the room may do with each file of a disk, as the museum itself has it."""
-    museum = tab.door.museum
-    image = museum.images[acc]
-    files = museum.disks.files(image.kind, image.bytes)
-    return {word: [museum.verdict(acc, word, file)[1] for file in files] for word in ("public", "room")}
-
-
 def takedown(tab, scope, rank, slot, *audiences, **days):
     tab.rule("takedowns", scope, rank, "deny", "slot", slot, *audiences, **days)
     return tab.submit("takedowns")
@@ -60,14 +52,14 @@ def see_first(seen, tab):
     shown = tab.answer(True)
     seen.same("second: the order", ["990", "1000"], [row[1] for row in shown["rows"]])
     wanted = {"public": ["deny", "read", "deny"], "room": ["read", "read", "deny"]}
-    seen.same("second: both are closed", wanted, effects(tab, 1002))
+    seen.same("second: both are closed", wanted, tab.door.effects(1002))
 
 
 def see_in_use(seen, tab):
     """The second lawyer of a morning: rank 1 is in use, and both files end closed."""
-    tab.door.museum.rules["T1005"] = {1: made_museum.rule(1, "deny", ["public", "room"], {"slot": 0})}
+    tab.door.put_rule("T1005", made_museum.rule(1, "deny", ["public", "room"], {"slot": 0}))
     # disk 1005 is of deed 7, which is closed to the public and the room: open it first
-    tab.door.museum.rules["R7"].pop(10)
+    tab.door.drop_rule("R7", 10)
     tab.go("deeds")
     tab.go("takedowns/1005")
     shown = takedown(tab, "1005", "1", "2", "public", "room")
@@ -84,19 +76,19 @@ def see_in_use(seen, tab):
     shown = tab.answer(True)
     seen.same("in use: both stand", ["1", "2"], [row[1] for row in shown["rows"]])
     closed = ["deny", "read", "deny"]
-    seen.same("in use: both are closed", {"public": closed, "room": closed}, effects(tab, 1005))
+    seen.same("in use: both are closed", {"public": closed, "room": closed}, tab.door.effects(1005))
 
 
 def see_anew(seen, tab):
     """What another person put meanwhile stands in the table when the rehearsal comes. Where the button that was pressed
     is gone with its line, the outcome has the focus in the end; else the focus stays."""
     focus = "const { type, className } = document.activeElement; return type ?? className"
-    tab.door.museum.rules["T1005"][3] = made_museum.rule(3, "list", ["public"], {"slot": 1})
+    tab.door.put_rule("T1005", made_museum.rule(3, "list", ["public"], {"slot": 1}))
     takedown(tab, "1005", "4", "1", "public")
     seen.same("anew: both stand", ["1", "2", "3"], [row[1] for row in tab.read()["rows"]])
     tab.answer(False)
     seen.same("anew: the focus stays", "submit", tab.browser.script(focus))
-    tab.door.museum.rules["T1005"].pop(3)
+    tab.door.drop_rule("T1005", 3)
     tab.of_row("takedown 2 of disk 1005", "Change")
     tab.press("#change [type=submit]")
     seen.same("anew: it is gone", ["1", "2"], [row[1] for row in tab.answer(False)["rows"]])
@@ -114,7 +106,7 @@ def see_drop(seen, tab):
     tab.of_row("takedown 2 of disk 1005", "Drop")
     shown = tab.answer(True)
     seen.same("drop: done", ["Done: there is no takedown 2 of disk 1005 now."], shown["result"])
-    seen.same("drop: it is open", ["deny", "read", "read"], effects(tab, 1005)["public"])
+    seen.same("drop: it is open", ["deny", "read", "read"], tab.door.effects(1005)["public"])
 
 
 def see_nothing(seen, tab):
@@ -182,12 +174,12 @@ def harmful_disk(museum, acc, deed):
     made_museum.put(museum, acc, "d64", deed, b"harmful")
 
 
-def see_harmful(seen, tab):
+def see_harmful(seen, tab, harmful=HARMFUL):
     """Names that are markup are shown as they are."""
     tab.go("takedowns")
     tab.rule("takedowns", "1066", "", "deny", "all", None, "public")
     shown = tab.submit("takedowns")
-    wanted = [f"{name} (disk 1066, slot {slot})" for slot, name in enumerate(HARMFUL)]
+    wanted = [f"{name} (disk 1066, slot {slot})" for slot, name in enumerate(harmful)]
     seen.same("harmful: names in a rehearsal", wanted, shown["sure"][-5:])
     harmed = "return [window.harmed ?? null, document.querySelectorAll('img, b, script').length]"
     seen.same("harmful: nothing comes of them", [None, 1], tab.browser.script(harmed))

@@ -3,6 +3,7 @@ museum that it holds in memory; scripts/desk_by_hand.py decides what is due to a
 questions of the staff, and gives the pages, with the fields that operate/nginx/ adds."""
 
 import collections
+import contextlib
 import csv
 import datetime
 import hashlib
@@ -81,6 +82,10 @@ class Disks:
 
     def report(self, kind, image):
         return self.disk(kind, image).report
+
+    def image(self, kind, image):
+        """The bytes of a disk as a desk takes them."""
+        return image
 
 
 class Museum(desk_by_hand.Desk):
@@ -336,6 +341,78 @@ class Door(socketserver.ThreadingTCPServer):
         if path not in self.journals:
             return refused_by_nginx(404, "Not Found")
         return ranged(self.journals[path], fields.get(b"range", b"").decode())
+
+    # What a test has stand there, and what came of it
+
+    def put_rule(self, label, rule):
+        """Has a rule stand, of a deed or a disk by its label."""
+        self.museum.rules[label][rule["rank"]] = rule
+
+    def drop_rule(self, label, rank):
+        self.museum.rules[label].pop(rank)
+
+    def put_deed(self, number, donor, signed):
+        self.museum.deeds[number] = donor, signed
+
+    def ranks(self, acc):
+        """The ranks of the takedowns of a disk."""
+        return sorted(self.museum.rules.get(f"T{acc}", {}))
+
+    def images(self, first, last):
+        """The bytes of the disks with these numbers."""
+        return {acc: image.bytes for acc, image in self.museum.images.items() if first <= acc <= last}
+
+    def effects(self, acc):
+        """What the public and the room may do with each file of a disk."""
+        image = self.museum.images[acc]
+        files = self.museum.disks.files(image.kind, image.bytes)
+        return {word: [self.museum.verdict(acc, word, file)[1] for file in files] for word in ("public", "room")}
+
+    def sent(self):
+        """The changes that came since this was asked last: method, path, name and reason."""
+        fields = (b"desk-staff", b"desk-note")
+        came = [
+            (method, path, *(field.get(name, b"").decode() for name in fields))
+            for method, path, field in self.visits if method != "GET" and not path.startswith("/staff/")
+        ]
+        self.visits.clear()
+        return came
+
+    def visited(self):
+        """What was asked of the desk since this was asked last: methods and paths."""
+        came = [(method, path) for method, path, _ in self.visits]
+        self.visits.clear()
+        return came
+
+    def at_hand(self, replies):
+        """Has replies, by their paths, come at once: to make them takes a stand-in longer than the desk, and what is
+        measured is the page."""
+        made = {path: self.with_added(make()) for path, make in replies.items()}
+        self.before = lambda method, path: made.get(path)
+
+    @contextlib.contextmanager
+    def slow(self, _, seconds):
+        """While this is entered, each reply takes so much longer to come."""
+        self.before = lambda method, path: time.sleep(seconds)
+        yield
+        self.before = lambda method, path: None
+
+    @contextlib.contextmanager
+    def lost_at_third(self, tab):
+        """While this is entered, the connection is lost at the third change that comes."""
+        changes = []
+
+        def before(method, path):
+            if method != "PUT" or path.startswith("/staff/"):
+                return None
+            time.sleep(0.4)
+            changes.append(path)
+            return b"" if len(changes) == 3 else None
+
+        self.before = before
+        yield
+        tab.read()
+        self.before = lambda method, path: None
 
     def with_added(self, whole):
         head, _, body = whole.partition(b"\r\n\r\n")
