@@ -71,6 +71,32 @@ def put_directory(image, free, label, entries):
     image[place(18, 0) : place(18, 0) + len(head)] = head
 
 
+# The blocks that files can have beside a directory that has a track of its own, and those of its entries.
+DATA_BLOCKS = [(track, sector) for track in SECTORS if track != 18 for sector in range(SECTORS[track])]
+ENTRY_BLOCKS = [(18, sector) for sector in range(1, SECTORS[18])]
+
+
+def filled(label, files):
+    """An image with files, each the byte of its type, its name and its bytes: block after block, and at most 144."""
+    image, free = bytearray(SIZE), list(DATA_BLOCKS)
+    entries = []
+    for kind, name, data in files:
+        parts = parts_of(data)
+        blocks, free = free[: len(parts)], free[len(parts) :]
+        put_chain(image, blocks, parts)
+        entries.append(bytes([kind, *blocks[0]]) + padded(name) + bytes(9) + len(parts).to_bytes(2, "little"))
+    groups = [entries[at : at + 8] for at in range(0, len(entries), 8)] or [[]]
+    for here, after, group in zip(ENTRY_BLOCKS, [*ENTRY_BLOCKS[1 : len(groups)], None], groups):
+        at = place(*here)
+        image[at : at + 2] = bytes(after) if after else b"\x00\xff"
+        for number, entry in enumerate(group):
+            image[at + 32 * number + 2 : at + 32 * number + 32] = entry
+    unused = {*free, *ENTRY_BLOCKS[len(groups) :]}
+    head = b"\x12\x01A\x00" + free_map(unused) + padded(label) + b"\xa0\xa0RR\xa02A"
+    image[place(18, 0) : place(18, 0) + len(head)] = head
+    return bytes(image)
+
+
 def new_free():
     """The blocks of an empty disk that files can have."""
     return {(track, sector) for track in SECTORS for sector in range(SECTORS[track])} - {(18, 0), (18, 1)}

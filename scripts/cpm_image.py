@@ -53,8 +53,19 @@ def reaches_last_track(entries):
     return any(block and track(8 * block + 7) == LAST_TRACK for entry in entries for block in entry[16:])
 
 
-def write(file_name, files):
-    """Writes an image below images/: files are names, contents and blocks, one entry each, in order."""
+def filled(files):
+    """An image with files, each eleven bytes of name and type, and its bytes in whole records: block after block, one
+    entry each."""
+    placed, block = [], 2
+    for name, data in files:
+        count = -(-len(data) // 1024)
+        placed.append((name, data, range(block, block + count)))
+        block += count
+    return of_entries(placed)
+
+
+def of_entries(files):
+    """An image of files that are names, contents and blocks, one entry each, in order."""
     image = bytearray(b"\xe5" * SIZE)
     directory = b""
     for name, data, blocks in files:
@@ -63,5 +74,11 @@ def write(file_name, files):
         for record in range(records):
             if blocks[record // 8]:
                 put(image, 8 * blocks[record // 8] + record % 8, data[128 * record : 128 * record + 128])
-    put(image, 0, directory)
-    pathlib.Path(__file__).resolve().parent.parent.joinpath("images", file_name).write_bytes(image)
+    for entry in range(0, len(directory), 128):
+        put(image, entry // 128, directory[entry : entry + 128])
+    return bytes(image)
+
+
+def write(file_name, files):
+    """Writes an image below images/, of files as `of_entries` takes them."""
+    pathlib.Path(__file__).resolve().parent.parent.joinpath("images", file_name).write_bytes(of_entries(files))

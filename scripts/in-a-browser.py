@@ -9,7 +9,8 @@ place of Chromium, of Debian's package firefox-esr.
 Of the page for readers it looks at what the public, the room and the staff see before and after a takedown; at denied,
 faulty and listed files; at files that are found by name; at names that are markup; at the bytes of files as text, in
 hexadecimal digits and as a download; at where a key is left; at the page by keyboard and on a small screen; and at what
-the browser refuses. scripts/staff_page.py has what it looks at on the staff's page."""
+the browser refuses. scripts/staff_page.py has what it looks at on the staff's page. In Chromium it also looks at what
+scripts/built_pages.py has, each part of it over a museum of its own."""
 
 import contextlib
 import csv
@@ -19,6 +20,8 @@ import sys
 import time
 import urllib.parse
 
+import built_pages
+import page_tabs
 import reading_room
 import staff_page
 
@@ -642,7 +645,8 @@ def main():
         needed, packages, begun = ["firefox-esr"], ["firefox-esr"], Firefox
     reading_room.install(needed, [*packages, "fonts-dejavu-core"])
     seen = reading_room.Seen()
-    with reading_room.Room(reading_room.program(words)) as room, contextlib.ExitStack() as stack:
+    program = reading_room.program(words)
+    with reading_room.Room(program) as room, contextlib.ExitStack() as stack:
         room.fill([*reading_room.FIRST, *reading_room.MORE, *MORE_CASES])
         room.start_nginx()
         browser = begun(room.folder)
@@ -654,6 +658,9 @@ def main():
         for see in [*GROUPS, *([see_front] if begun is Browser else [])]:
             see(seen, page, room)
         staff_page.see(seen, page, room, "--pictures" in sys.argv)
+    if begun is Browser:
+        with page_tabs.browsing() as browser:
+            built_pages.see(seen, browser, program)
     sys.exit(seen.told())
 
 

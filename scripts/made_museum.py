@@ -2,7 +2,10 @@
 
 import hashlib
 import itertools
+import urllib.parse
 
+import cbm_image
+import cpm_image
 import desk_by_hand
 import stand_in
 from client_cases import bytes_of
@@ -29,6 +32,21 @@ class ManyDisks(stand_in.Disks):
             self.disks[image] = made_disk(kind, int(number), int(count))
         return super().disk(kind, image)
 
+    def image(self, kind, image):
+        if not image.startswith(b"many:"):
+            return image
+        files = self.disk(kind, image).files
+        if kind == "cpm8":
+            return cpm_image.filled((name_of_cpm(file), file.data) for file in files)
+        named = ((urllib.parse.unquote_to_bytes(file.fields["name"]), file.data) for file in files)
+        return cbm_image.filled(b"MUSEUM", [(0x81, name, data) for name, data in named])
+
+
+def name_of_cpm(file):
+    """The eleven bytes of a name and its type."""
+    name, _, kind = file.fields["name"].partition(".")
+    return name.encode().ljust(8) + kind.encode().ljust(3)
+
 
 def made_disk(kind, number, count):
     files = [made_file(kind, number, slot) for slot in range(count)]
@@ -42,7 +60,8 @@ def made_file(kind, number, slot):
     data = f"{word} {slot} OF DISK {number}\r".encode()
     name, type_, user = f"{word} {slot}", "SEQ", ""
     if kind == "cpm8":
-        name, type_, user = f"{word.replace(' ', '')}{slot}.TXT", "TXT", "0"
+        name, type_, user = f"{word.replace(' ', '')[:6]}{slot}.TXT", "TXT", "0"
+        data = cpm_image.text(f"{word} {slot} OF DISK {number}\n")
     elif number % 3 == 0:
         name = "".join(f"%{ord(sign) + 128:02X}" if sign.isalpha() else sign for sign in name)
     fields = {"slot": str(slot), "user": user, "type": type_, "size": str(len(data)), "faults": "", "name": name}
