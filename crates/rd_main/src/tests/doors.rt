@@ -88,7 +88,7 @@ fn serve_visit<D: Door>(alloc: Global, door: &mut D) -> Result<Served, Fail> {
 }
 
 /// A visitor who has connected sends their bytes; then they are served; then they read what has come.
-fn visited<D: Door, C: Read + Write + Drop>(
+fn make_visit<D: Door, C: Read + Write + Drop>(
     rt: &HostRuntime,
     door: &mut D,
     mut client: C,
@@ -123,7 +123,7 @@ fn a_visitor_at_a_socket_is_served_in_time(rt: HostRuntime) -> Result<(), Fail> 
         let mut host = Host::new(&rt);
         let door = host.listen(Place::Socket(path.as_str()), limits(visit.request))?;
         let client = UnixStream::connect(&rt, path.as_str())?;
-        let visited = visited(&rt, door, client, visit.sent)?;
+        let visited = make_visit(&rt, door, client, visit.sent)?;
         assert!(rt; visited.is(visit), "{}: {visited:?}", visit.label);
     }
     Ok(())
@@ -142,7 +142,7 @@ fn a_visitor_at_a_port_is_served_in_time(rt: HostRuntime) -> Result<(), Fail> {
         let mut host = Host::new(&rt);
         let door = host.listen(Place::Port(port), limits(visit.request))?;
         let client = TcpStream::connect(&rt, ("127.0.0.1", port))?;
-        let visited = visited(&rt, door, client, visit.sent)?;
+        let visited = make_visit(&rt, door, client, visit.sent)?;
         assert!(rt; visited.is(visit), "{}: {visited:?}", visit.label);
     }
     Ok(())
