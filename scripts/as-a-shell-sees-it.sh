@@ -53,6 +53,7 @@ same() {
 
 # begins to serve at a socket, and waits until it listens, for a minute at most
 serve_at() {
+    : >"$work/serving"
     "$desk" serve --store "$work/store" --socket "$1" --count 9 >"$work/serving" &
     serving=$!
     for _ in $(seq 600); do

@@ -1,11 +1,12 @@
 #!/usr/bin/env python3
 """scripts/no-visitor-stays.py [PROGRAM]: looks how long a visitor holds the desk who sends or takes little.
 
-The desk serves one visitor at a time. It gives them ten seconds to send their request, ten seconds to take the next
-bytes of the reply, and a minute to take all of it. Five visitors keep the desk, one after the other, each as long as
-they can: they send nothing, send a byte a second, take nothing of a long reply, take a byte a second, and take so
-little that their reply would last three minutes. Behind each waits a reader. The reader gets the reply that they get
-when the desk is free, and waits no longer than the limit of the visitor before them, and two seconds for all else.
+The desk serves one visitor at a time. It gives them ten seconds to send their request; each write of the reply waits
+ten seconds at most until the system has room for a byte of it; and the whole reply may take a minute. Five visitors
+keep the desk, one after the other, each as long as they can: they send nothing, send a byte a second, take nothing of a
+long reply, take a byte a second, and take so little that their reply would last three minutes. Behind each waits a
+reader. The reader gets the reply that they get when the desk is free, and waits no longer than the limit of the visitor
+before them, and two seconds for all else.
 Behind the first four the reader also waits for at least eight seconds, since nothing but a limit of ten ends them. One
 more visitor takes a long reply slowly, but in time, and gets all of it.
 
