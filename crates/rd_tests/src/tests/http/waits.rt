@@ -1,6 +1,7 @@
 //! How long a door lets a stream wait, by a listener and a clock in memory.
 
 use super::cases::{FOR_HELLO, bytes_of, filled_desk};
+use rd_fakes::desk::Memory;
 use rd_http::{Clock, Ended, Listener, Served, Stream, StreamDoor, TimeLimits, serve_in_memory};
 use rd_samples::days::AFTER;
 use rd_samples::table;
@@ -214,24 +215,36 @@ fn limits() -> TimeLimits {
     }
 }
 
+/// Serves so many visits of visitors who behave so, through a new door, and gives how long that lets them take, and how
+/// the run goes.
+fn served_beside<'a>(
+    alloc: Global,
+    desk: &mut Memory,
+    notes: &'a Notes,
+    came: &'a [u8],
+    manner: Manner,
+    count: u32,
+) -> (TimeLimits, Served) {
+    let listener = Visitors {
+        notes,
+        came,
+        manner,
+    };
+    let mut door = StreamDoor::with_limits(alloc, listener, Hand(notes), limits());
+    let given = door.limits();
+    (given, serve_in_memory(alloc, &mut door, desk, count))
+}
+
 #[test]
 fn a_stream_waits_for_what_is_left(rt: HostRuntime) -> Result<(), Fail> {
-    let mut desk = filled_desk(&rt, rt.alloc())?;
-    let came = bytes_of(rt.alloc(), FOR_HELLO)?;
+    let alloc = rt.alloc();
+    let mut desk = filled_desk(&rt, alloc)?;
+    let came = bytes_of(alloc, FOR_HELLO)?;
     for (label, manner, count, served, asked) in CALLS {
-        let notes = Notes::new(rt.alloc());
-        let listener = Visitors {
-            notes: &notes,
-            came: came.as_slice(),
-            manner: *manner,
-        };
-        let mut door = StreamDoor::with_limits(rt.alloc(), listener, Hand(&notes), limits());
-        assert!(rt; door.limits() == limits(), "{label}");
-        assert_eq!(rt;
-            serve_in_memory(rt.alloc(), &mut door, &mut desk, *count),
-            *served,
-            "{label}"
-        );
+        let notes = Notes::new(alloc);
+        let went = served_beside(alloc, &mut desk, &notes, came.as_slice(), *manner, *count);
+        assert!(rt; went.0 == limits(), "{label}");
+        assert_eq!(rt; went.1, *served, "{label}");
         let taken = notes.taken();
         assert_eq!(rt; taken.as_str(), *asked, "{label}");
     }
