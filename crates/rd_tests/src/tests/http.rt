@@ -72,4 +72,3 @@ mod long_reply;
 mod refused;
 mod runs;
 mod tcp;
-mod waits;
