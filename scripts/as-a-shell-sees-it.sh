@@ -105,6 +105,12 @@ ends 3 "desk: device" "$work/nothing" into /dev/full "$desk" --version
 ends 3 "desk: device" "$work/nothing" closed "$desk" cat cpm8 "$hello" 0
 ends 3 "desk: device" "$work/nothing" closed "$desk" list cpm8 "$hello"
 
+# No store is made at a path that SQLite takes for something other than a file.
+for path in :memory: file:desk; do
+    ends 3 "desk: store" "$work/nothing" "$desk" init --store "$path" --key abc
+    same "what is at $path" nothing "$(kind_at "$path")"
+done
+
 # The socket of a killed desk gives way; that of a desk that serves, a link, a file and a folder do not.
 socket=$work/socket
 printf 'listening %s\nserved 0\n' "$socket" >"$work/both"

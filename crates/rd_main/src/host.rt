@@ -7,8 +7,10 @@ use rd_program::{
     Files, Machine, MachineFault, Place, Refusal, connect_fault, exit_code, read_front, run,
 };
 use rd_volume::Kind;
-use sqlite::{Connection, File, FileStore};
+use sqlite::{Connection, FileFrom, FileStore, Options, Wary};
+use sqlite_std_file::OpenError;
 use std::alloc::{AllocError, Global};
+use std::hash::{BuildHasher, RandomState};
 use std::io::{BufWriter, ErrorKind, Read};
 use std::process::ExitCode;
 use std::time::{Instant, SystemTime, UNIX_EPOCH};
@@ -16,6 +18,40 @@ use std::{env, fs};
 
 /// The most bytes that a sheet may have: 64 MiB.
 const SHEET_LIMIT: u64 = 67_108_864;
+
+/// How many frames the log of a store has at least when the next command that writes first copies them into the store's
+/// file. With 1 the log alone has no more than the last command, once a command has been given.
+const COPIED_FRAMES: usize = 1;
+
+/// What keeps the bytes of a store: a file of the machine and its log. It is wary: where a crash interrupts a write of a
+/// page, it trusts no byte of that page.
+type HostDisk = FileStore<FileFrom<Wary>>;
+
+/// Opens the store in the file at a path, or makes it.
+///
+/// It fails with `NoMemory`, and with `Failed` when it cannot open the file, when the file holds no sound database, and
+/// when SQLite takes the path for something other than a file: `:memory:`, or what begins with `file:`.
+fn open_store(rt: &HostRuntime, path: &str) -> Result<Connection<HostDisk>, MachineFault>
+    ensures outside { IfOk result (λ conn. conn.in_transaction ≡ false) }
+{
+    if path == ":memory:" || path.starts_with("file:") {
+        return Err(MachineFault::Failed);
+    }
+    let files = match sqlite_std_file::open(rt, path, Wary) {
+        Ok(files) => files,
+        Err(OpenError::OutOfMemory) => return Err(MachineFault::NoMemory),
+        Err(OpenError::Io(error)) => return Err(error.into()),
+        Err(_) => return Err(MachineFault::Failed),
+    };
+    let options = Options {
+        checkpoint_frames: COPIED_FRAMES,
+        ..Options::new(RandomState::new(rt)?.hash_one(&0u8))
+    };
+    match Connection::open_files_with(rt.alloc(), files, options, false) {
+        Ok(conn) => Ok(conn),
+        Err((error, _)) => Err(connect_fault(error)),
+    }
+}
 
 /// The clock of the machine.
 #[derive(Clone, Copy)]
@@ -122,7 +158,7 @@ impl<D: Door + Drop, P: Places<D> + Drop> Files for Host<'_, D, P> {
 }
 
 impl<'a, D: Door + Drop, P: Places<D> + Drop> Machine for Host<'a, D, P> {
-    type Disk = FileStore<File>;
+    type Disk = HostDisk;
 
     type Door = D;
 
@@ -138,12 +174,12 @@ impl<'a, D: Door + Drop, P: Places<D> + Drop> Machine for Host<'a, D, P> {
 
     ghost left = { λ _. None };
 
-    fn connect(&mut self, path: &str) -> Result<Connection<FileStore<File>>, MachineFault> {
-        Connection::open(self.rt, path).map_err(|error| connect_fault(error))
+    fn connect(&mut self, path: &str) -> Result<Connection<HostDisk>, MachineFault> {
+        open_store(self.rt, path)
     }
 
     /// What was committed stands already, so a fault of closing loses nothing.
-    fn release(&mut self, conn: &mut Option<Connection<FileStore<File>>>) {
+    fn release(&mut self, conn: &mut Option<Connection<HostDisk>>) {
         if let Some(conn) = conn.take() {
             let _ = conn.close();
         }
