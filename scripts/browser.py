@@ -18,6 +18,8 @@ from client_cases import HOST, LIMIT
 
 ELEMENT = "element-6066-11e4-a52e-4f735466cecf"
 TAB, ENTER, ESCAPE = "\ue004", "\ue007", "\ue00c"
+# After how many seconds a browser that does not start is given up: a machine that does much else needs them.
+START = 300
 
 # A script: all places of a page in which something could be left.
 LEFT = """
@@ -79,8 +81,10 @@ class Browser:
 
     def begin(self):
         """Begins the session."""
-        reading_room.wait_for(self.port, self.driver)
-        self.session = self.ask("POST", "/session", {"capabilities": {"alwaysMatch": self.wishes()}})["sessionId"]
+        reading_room.wait_for(self.port, self.driver, START)
+        wishes = {"capabilities": {"alwaysMatch": self.wishes()}}
+        # the driver itself waits for the browser, and says so when it does not come
+        self.session = self.ask("POST", "/session", wishes, START + LIMIT)["sessionId"]
         where = str(self.folder / "downloads")
         self.cdp("Browser.setDownloadBehavior", {"behavior": "allow", "downloadPath": where})
 
@@ -90,7 +94,8 @@ class Browser:
         if os.geteuid() == 0:
             words.append("--no-sandbox")
         logs = {"goog:loggingPrefs": {"browser": "ALL"}}
-        return {"acceptInsecureCerts": True, "goog:chromeOptions": {"args": words}, **logs}
+        chromium = {"args": words, "browserStartupTimeout": 1000 * START}
+        return {"acceptInsecureCerts": True, "goog:chromeOptions": chromium, **logs}
 
     def close(self):
         if self.session:
@@ -99,13 +104,13 @@ class Browser:
         os.killpg(self.driver.pid, signal.SIGKILL)
         self.driver.wait()
 
-    def ask(self, method, path, body=None):
-        """What the driver answers; a fault of it is raised."""
+    def ask(self, method, path, body=None, seconds=LIMIT):
+        """What the driver answers in time; a fault of it is raised."""
         data = None if body is None else json.dumps(body).encode()
         fields = {"Content-Type": "application/json"}
         request = urllib.request.Request(f"http://{HOST}:{self.port}{path}", data, fields, method=method)
         try:
-            with urllib.request.urlopen(request, timeout=LIMIT) as reply:
+            with urllib.request.urlopen(request, timeout=seconds) as reply:
                 return json.load(reply)["value"]
         except urllib.error.HTTPError as fault:
             raise KeyError(json.load(fault)["value"]["message"].splitlines()[0]) from fault

@@ -10,7 +10,7 @@ import socket
 import subprocess
 
 import reading_room
-from browser import Browser
+from browser import START, Browser
 from client_cases import HOST, LIMIT
 
 # How Marionette calls the commands of WebDriver.
@@ -68,10 +68,11 @@ class Firefox(Browser):
 
     def begin(self):
         """Begins the session."""
-        reading_room.wait_for(self.port, self.driver)
-        self.session = socket.create_connection((HOST, self.port), LIMIT)
+        reading_room.wait_for(self.port, self.driver, START)
+        self.session = socket.create_connection((HOST, self.port), START)
         self.take()
         self.say("WebDriver:NewSession", {"acceptInsecureCerts": True})
+        self.session.settimeout(LIMIT)
         self.say("WebDriver:SetWindowRect", {"width": 1100, "height": 900})
 
     def close(self):

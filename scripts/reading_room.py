@@ -51,9 +51,9 @@ def free_ports(count):
         return [probe.getsockname()[1] for probe in probes]
 
 
-def wait_for(port, process):
-    """Waits until a process listens at a port."""
-    end = time.monotonic() + LIMIT
+def wait_for(port, process, seconds=LIMIT):
+    """Waits until a process listens at a port, for so many seconds at most."""
+    end = time.monotonic() + seconds
     while time.monotonic() < end and process.poll() is None:
         with socket.socket() as probe:
             if probe.connect_ex((HOST, port)) == 0:
