@@ -1,16 +1,17 @@
 #!/usr/bin/env python3
-"""scripts/backups-open.py [PROGRAM [COUNT [DISKS [MINUTES]]]]: makes backups by operate/desk-backup while commands come
-without a rest, and looks at each.
+"""scripts/backups-open.py [PROGRAM [COUNT [DISKS [MINUTES [LARGE]]]]]: makes backups by operate/desk-backup while
+commands come without a rest, and looks at each.
 
 You need Python 3 with its standard library alone, Linux, and Debian's nginx, openssl and sqlite3, which the script
 installs as root if they are missing. Without PROGRAM it takes ./desk of this repository. PROGRAM has to answer what the
 staff may ask.
 
-It makes COUNT backups, 20 by default, of a store of 10 MB, and as many of one of DISKS disks, 400 by default, which are
-70 MB; 5,700 are 1 GB. The two take turns. A backup has to be a store after exactly as many commands as were done at one
-moment between its beginning and its end; sqlite3 reads it, and desk has opened it. A reader asks without a rest, too:
-their longest wait at the larger store is at most twice that at the smaller one. After MINUTES, 60 by default, the rest
-of these backups is left out, and the script says so; but it makes three of each size.
+It makes COUNT backups, 20 by default, of a store of 10 MB, and LARGE, by default as many, of one of DISKS disks, 400 by
+default, which are 70 MB; 5,700 are 1 GB. The two take turns. A backup has to be a store after exactly as many commands
+as were done at one moment between its beginning and its end; sqlite3 reads it, and desk has opened it. A reader asks
+without a rest, too: their longest wait at the larger store is at most twice that at the smaller one. Where MINUTES, 60
+by default, are not enough, backups are left out, first those of the larger store, and the script says how many; but it
+makes ten of each size.
 
 Then come backups while commands go round the staff's door, backups that fail, and the choice of those that are kept.
 The larger store needs four times its room on the disk, and twice in the memory."""
@@ -43,9 +44,10 @@ TOOL = os.path.join(TOOLS, "desk-backup")
 IMAGE = bytes_of("images", "museum.d64")
 DEEDS = 40
 # The disks of the smaller store, and the fewest backups of a size.
-SMALL, FEWEST = 57, 3
-# How many backups are made while commands go round the door.
-AROUND = 4
+SMALL, FEWEST = 57, 10
+# How many backups are made while commands go round the door; and during how many no more than one disk is put, so that
+# the store keeps its size.
+AROUND, EACH = 4, 4
 # How much longer a reader may wait at the larger store, of a wait that is no matter of chance.
 LONGER, NOTHING = 2, 0.25
 READ = "/images/1/files/0"
@@ -57,7 +59,9 @@ class Writer(threading.Thread):
     def __init__(self, place, seed):
         super().__init__(daemon=True)
         self.place_now, self.chance = place, random.Random(seed)
-        self.sent, self.begun, self.done, self.images, self.refused = [], 0, 0, 0, []
+        self.sent, self.begun, self.done, self.refused = [], 0, 0, []
+        # how many disks it has put, and how many it may have put
+        self.images, self.most = 0, 0
         self.may_send, self.stop = threading.Event(), threading.Event()
 
     def run(self):
@@ -77,7 +81,7 @@ class Writer(threading.Thread):
             deed = number if number <= DEEDS else self.chance.randint(1, DEEDS)
             body = json.dumps({"donor": f"D{number}", "signed": "2020-01-01"})
             return ("deed", deed), f"D{number}", f"/deeds/{deed}", body
-        if what < 0.52:
+        if what < 0.6 and self.images < self.most:
             return self.disk(self.chance.randint(1, DEEDS))
         deed, rank = self.chance.randint(1, DEEDS), self.chance.randint(1, 9)
         rule = {"audiences": ["public"], "select": {"prefix": f"P{number}"}, "effect": "read"}
@@ -171,8 +175,8 @@ def held(folder):
 
 
 def see_backup(seen, store, label):
-    """One backup under commands: what it holds, how desk-backup ends, and how long a reader waited. It is taken away
-    again."""
+    """One backup under commands: what it holds, how desk-backup ends, and how long a reader waited, which the store
+    keeps. The backup is taken away again."""
     house, writer = store.house, store.writer
     least = writer.done
     with Reader(house.room) as reader:
@@ -187,7 +191,8 @@ def see_backup(seen, store, label):
     for old in house.backups():
         shutil.rmtree(old)
     print(f"{label}: a reader waited {reader.longest:.3f} s; {out.strip().split('; ')[-1]}", flush=True)
-    return reader.longest
+    store.waits.append(reader.longest)
+    store.replies += reader.statuses[200]
 
 
 def see_copy(seen, folder, writer, counts, label):
@@ -203,34 +208,68 @@ def see_copy(seen, folder, writer, counts, label):
     seen.same(f"{label}: its deeds", written, donors)
 
 
-# A house with a store of so many disks, who sends commands to it, and the longest wait of a reader at each backup.
-Busy = collections.namedtuple("Busy", "disks house writer waits")
+class Busy:
+    """A house with a store of so many disks, who sends commands to it, how many backups are due, the longest wait of a
+    reader at each that was made, and how many seconds each took."""
+
+    def __init__(self, house, writer, disks, due):
+        self.house, self.writer, self.disks, self.due = house, writer, disks, due
+        self.waits, self.replies, self.taken = [], 0, []
+
+    def left(self):
+        return self.due - len(self.waits)
+
+    def has_few(self):
+        return len(self.waits) < min(FEWEST, self.due)
+
+    def seconds(self):
+        """How long one more backup may take."""
+        return statistics.mean(self.taken or [0])
+
+    def back_up(self, seen, label):
+        begun = time.monotonic()
+        self.writer.most = self.disks + 1 + len(self.waits) // EACH
+        self.writer.may_send.set()
+        see_backup(seen, self, label)
+        self.writer.may_send.clear()
+        self.taken.append(time.monotonic() - begun)
 
 
 @contextlib.contextmanager
-def busy(seen, program, disks, seed):
+def busy(seen, program, disks, due, seed):
     """Such a house. Its writer may send commands where this is allowed, at first at the staff's door."""
     with reading_room.Room(program) as room:
         house, writer = House(room), Writer(room.place, seed)
+        begun = time.monotonic()
         writer.fill(disks)
+        size, seconds = os.path.getsize(room.store) / 1e6, time.monotonic() - begun
+        print(f"{disks} disks: {size:.0f} MB in the store, filled in {seconds:.0f} s", flush=True)
         writer.place_now = room.staff_port
         writer.start()
-        yield Busy(disks, house, writer, [])
+        yield Busy(house, writer, disks, due)
         writer.end()
         seen.same(f"{disks} disks: no command is refused", [], writer.refused)
 
 
-def see_sizes(seen, program, count, disks, seconds):
-    """Backups of a large and of a small store in turn, as many as begin in time."""
-    with busy(seen, program, disks, 1) as large, busy(seen, program, SMALL, 2) as small:
+def next_of(large, small, seconds):
+    """The store of which a backup is made next, where there are so many seconds left: the one of which a smaller part
+    of what is due is made. None where there is no time, or nothing is left."""
+    few = [store for store in (large, small) if store.has_few()]
+    stores = few or [store for store in (large, small) if store.left() and seconds > 0]
+    if not few and seconds < small.left() * small.seconds() + large.seconds():
+        # the time that is left is for the smaller one
+        stores = [store for store in stores if store is small]
+    return min(stores, key=lambda store: len(store.waits) / store.due, default=None)
+
+
+def see_sizes(seen, program, dues, disks, seconds):
+    """Backups of a large and of a small store in turn, as many as there is time for."""
+    with busy(seen, program, disks, dues[0], 1) as large, busy(seen, program, SMALL, dues[1], 2) as small:
         end = time.monotonic() + seconds
-        while len(small.waits) < count and (time.monotonic() < end or len(small.waits) < FEWEST):
-            for store in (large, small):
-                store.writer.may_send.set()
-                store.waits.append(see_backup(seen, store, f"{store.disks} disks, backup {len(store.waits) + 1}"))
-                store.writer.may_send.clear()
-        left = count - len(small.waits)
-        print(f"{len(small.waits)} backups of each store are made, {left} are left out", flush=True)
+        while store := next_of(large, small, end - time.monotonic()):
+            store.back_up(seen, f"{store.disks} disks, backup {len(store.waits) + 1}")
+        for store in (large, small):
+            print(f"{store.disks} disks: {len(store.waits)} backups are made, {store.left()} are left out", flush=True)
         see_waits(seen, large, small)
 
 
@@ -238,7 +277,7 @@ def see_waits(seen, large, small):
     """How long a reader waited while backups were made of a large and of a small store."""
     for store in (large, small):
         size, most, usual = os.path.getsize(store.house.room.store), max(store.waits), statistics.median(store.waits)
-        words = f"{store.disks} disks, {size / 1e6:.0f} MB, {store.writer.done} commands"
+        words = f"{store.disks} disks, {size / 1e6:.0f} MB, {store.writer.done} commands, {store.replies} replies"
         print(f"{words}: a reader waited {most:.3f} s at most, {usual:.3f} s mostly", flush=True)
         seen.same(f"{store.disks} disks: the desk is never frozen", 0, store.house.freezes())
     longest, allowed = max(large.waits), max(LONGER * max(small.waits), NOTHING)
@@ -247,11 +286,10 @@ def see_waits(seen, large, small):
 
 def see_around(seen, program):
     """Backups while commands go round the staff's door: at last the desk is frozen for the copy."""
-    with busy(seen, program, SMALL, 3) as store:
+    with busy(seen, program, SMALL, AROUND, 3) as store:
         store.writer.place_now = store.house.room.place
-        store.writer.may_send.set()
-        for number in range(1, AROUND + 1):
-            see_backup(seen, store, f"round the door, backup {number}")
+        while store.left():
+            store.back_up(seen, f"round the door, backup {len(store.waits) + 1}")
         seen.same("round the door: the desk is frozen", True, store.house.freezes() > 0)
 
 
@@ -355,9 +393,10 @@ def main():
     words = sys.argv[1:]
     program = reading_room.program(words)
     numbers = [int(word) for word in words[1:]]
-    count, disks, minutes = numbers + [20, 400, 60][len(numbers):]
+    count, disks, minutes = [*numbers, *[20, 400, 60][len(numbers):]][:3]
+    large = numbers[3] if len(numbers) > 3 else count
     seen = reading_room.Seen()
-    see_sizes(seen, program, count, disks, 60 * minutes)
+    see_sizes(seen, program, (large, count), disks, 60 * minutes)
     see_around(seen, program)
     see_failures(seen, program)
     see_kept(seen)
