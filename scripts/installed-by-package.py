@@ -198,7 +198,7 @@ FAILS = [
         "a report by mail",
         "printf '#!/bin/sh\\n{ echo $*; cat; } >/root/mail\\n' >/usr/sbin/sendmail; chmod +x /usr/sbin/sendmail; "
         "sed -i 's/^ALARM=.*/ALARM=anna@museum.example/' /etc/desk/places; "
-        "systemctl start desk-alarm@desk-look.service; echo $?; sed -n '1,2p; s/ on .*//; s/^Subject: //p' /root/mail; "
+        "systemctl start desk-alarm@desk-look.service.service; echo $?; sed -n '1,2p; s/ on .*//; s/^Subject: //p' /root/mail; "
         "grep -o 'the desk does not answer' /root/mail | uniq",
         "0\n-t\nTo: anna@museum.example\ndesk: desk-look.service has failed\nthe desk does not answer",
     ),
@@ -407,7 +407,7 @@ OTHERS = {r"[0-9]{4}-[0-9]{2}-[0-9]{2}T[0-9]{6}Z": "MOMENT", r"[0-9]+ bytes": "S
 # Another machine beside the museum's, as the namespace of a network, and who may log in from it.
 OTHER = "ip netns exec other"
 ANOTHER = [
-    ("ssh", f"{APT} install openssh-server openssh-client >/dev/null 2>&1; systemctl is-active ssh", "active"),
+    ("ssh", f"{APT} install openssh-server openssh-client curl >/dev/null 2>&1; systemctl is-active ssh", "active"),
     (
         "its network",
         "ip netns add other && ip -n other link set lo up && ip link add here type veth peer name there netns other && "
