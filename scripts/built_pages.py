@@ -17,7 +17,7 @@ import pages_rehearsal
 import pages_titles
 from built_door import FILLED_BY, REASON, BuiltDoor, built
 from client_cases import HOST
-from page_tabs import StaffTab
+from page_tabs import StaffTab, saved
 from pages_readers import ReadersTab
 from pages_rehearsal import HARMFUL
 
@@ -84,7 +84,7 @@ def see_zip(seen, tab):
     with too_many(tab.door.room):
         tab.browser.click("#zip")
         refused = tab.door.room.has_logged(b'files/0 HTTP/1.1" 429')
-    data = pages_reading.downloaded(tab, "disk-2001.zip")
+    data = saved(tab, "disk-2001.zip")
     asked = tab.browser.script(ASKED)
     given = [slot for slot, (_, _, data_) in enumerate(FILES) if data_ is not None]
     slots = [slot for slot, _ in asked]

@@ -9,7 +9,8 @@ import time
 import browser
 import stand_in
 
-LIMIT = 30
+# After how many seconds a page that does not come to its end is given up: a machine that does much else needs them.
+LIMIT = 120
 STAFF = "abc"
 
 READ = """
@@ -35,6 +36,17 @@ new PerformanceObserver((list) => {
   for (const entry of list.getEntries()) window.longest = Math.max(window.longest, entry.duration);
 }).observe({ type: "longtask" });
 """
+# What a place of the page says from then on, one text after the other, as window.told.
+TELL = """
+const [selector] = arguments;
+window.told = [];
+const tell = () => {
+  const text = document.querySelector(selector)?.textContent ?? "";
+  if (text !== window.told.at(-1)) window.told.push(text);
+};
+window.teller = new MutationObserver(tell);
+window.teller.observe(document.body, { subtree: true, childList: true, characterData: true });
+"""
 
 
 class Tab:
@@ -53,7 +65,7 @@ class Tab:
                 if holds(shown):
                     return shown
             time.sleep(0.03)
-        raise TimeoutError(f"{what} does not come: {shown}")
+        raise TimeoutError(f"{what} does not come: {str(shown)[:500]}")
 
     def read(self):
         """What the page shows when it is done, or asks something."""
@@ -116,17 +128,31 @@ class StaffTab(Tab):
 
 
 def told_meanwhile(tab, section, button):
-    """Presses a button, and gives how far its work says that it is, until it ends."""
-    words = "return [document.querySelector(arguments[0])?.textContent ?? '', "
-    words += "document.querySelector('[aria-busy=true]') !== null]"
-    told, busy = set(), True
+    """Presses a button, and gives how far its work says that it is, until it ends: all that the page has said."""
+    tab.browser.script(TELL, f"#{section} .result .choices span")
     tab.browser.click(button)
-    end = time.monotonic() + 2 * LIMIT
+    busy, end = True, time.monotonic() + LIMIT
     while busy and time.monotonic() < end:
-        came, busy = tab.browser.script(words, f"#{section} .result .choices span")
-        told.add(came)
         time.sleep(0.03)
-    return told
+        busy = tab.browser.script("return document.querySelector('[aria-busy=true]') !== null")
+    return set(tab.browser.script("window.teller.disconnect(); return window.told"))
+
+
+def saved(tab, name):
+    """The bytes of a file that the page saved, once the browser has all of it; None where it does not come."""
+    path, end = tab.browser.folder / "downloads" / name, time.monotonic() + LIMIT
+    while time.monotonic() < end and not is_whole(path):
+        time.sleep(0.05)
+    data = path.read_bytes() if is_whole(path) else None
+    path.unlink(missing_ok=True)
+    return data
+
+
+def is_whole(path):
+    """Whether a browser has saved a file. Until then its bytes are in another file of the folder; Firefox keeps the
+    name by a file without bytes."""
+    beside = [one for word in ("crdownload", "part") for one in path.parent.glob(f"*.{word}")]
+    return path.exists() and path.stat().st_size > 0 and not beside
 
 
 def picture(tab, name, width, dark=False, height=900):

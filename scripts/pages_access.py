@@ -214,7 +214,7 @@ def see_progress(seen, tab):
 
     def before(method, path):
         if method == "PUT":
-            goes.wait(4 * LIMIT)
+            goes.wait(LIMIT)
 
     tab.door.before = before
     tab.browser.click("#takedowns [name=go-on]")

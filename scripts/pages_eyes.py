@@ -5,7 +5,6 @@ import datetime
 import pathlib
 import re
 import tempfile
-import time
 
 import made_museum
 from page_tabs import WATCH, StaffTab, door, told_meanwhile
@@ -61,11 +60,7 @@ def see_saved(seen, tab, harmful=HARMFUL):
     """The table that is saved has every file that is shown, and no formula."""
     tab.fill("eyes", words="1066")
     tab.browser.click("#eyes [name=save]")
-    path = tab.browser.folder / "downloads" / f"staff-{TODAY}.csv"
-    end = time.monotonic() + 10
-    while time.monotonic() < end and not path.exists():
-        time.sleep(0.05)
-    rows = list(csv.reader(path.read_text().splitlines()))
+    rows = downloaded(tab, f"staff-{TODAY}.csv")
     names = [name if name[0] != "=" else f"'{name}" for name in harmful]
     seen.same("saved: names", names, [row[6] for row in rows[1:]])
     line = ["1066", "", "7", "d64", "0", "", "../../X", "../../X", "SEQ", "read them", "R7.20"]

@@ -7,9 +7,8 @@ import time
 import made_museum
 from browser import ENTER, TAB
 from client_cases import LIMIT
-from page_tabs import STAFF, StaffTab, door
+from page_tabs import STAFF, StaffTab, door, saved
 from pages_journal import journal
-from pages_reading import downloaded
 from pages_readers import ReadersTab
 
 SPACE, DOWN = " ", "\ue015"
@@ -57,7 +56,7 @@ def see_readers(seen, tab):
     type_at(tab, "#as-hex", ENTER)
     seen.same("keys: as bytes", "000000  ", tab.browser.script(bytes_))
     type_at(tab, "#download", ENTER)
-    seen.same("keys: downloaded", True, len(downloaded(tab, "GUIDE.seq") or b"") > 0)
+    seen.same("keys: downloaded", True, len(saved(tab, "GUIDE.seq") or b"") > 0)
     tab.browser.command("POST", "/back", {})
     tab.read(lambda shown: shown["heading"] == "\u201cguide\u201d")
     wait_for_focus(tab, "a[href='#/1002/2']")
@@ -65,7 +64,7 @@ def see_readers(seen, tab):
     type_at(tab, "#disk", *"1002", ENTER)
     tab.read(lambda shown: shown["heading"] == "Disk 1002")
     type_at(tab, "#zip", ENTER)
-    seen.same("keys: the zip", b"PK", (downloaded(tab, "disk-1002.zip") or b"")[:2])
+    seen.same("keys: the zip", b"PK", (saved(tab, "disk-1002.zip") or b"")[:2])
     type_at(tab, "#slot", *"9", ENTER)
     shown = tab.read(lambda shown: shown["refusal"])
     seen.same("keys: a slot without a file", "Refusal: no-file", shown["refusal"][1])

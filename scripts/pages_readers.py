@@ -9,7 +9,7 @@ import time
 import urllib.parse
 
 import made_museum
-from page_tabs import WATCH, Tab, door
+from page_tabs import LIMIT, WATCH, Tab, door
 from pages_rehearsal import HARMFUL, harmful_disk
 
 READ = """
@@ -34,7 +34,7 @@ class ReadersTab(Tab):
     """The page for readers."""
 
     def read(self, holds=lambda shown: True):
-        end, shown = time.monotonic() + 60, None
+        end, shown = time.monotonic() + LIMIT, None
         while time.monotonic() < end:
             with contextlib.suppress(KeyError):
                 shown = self.browser.script(READ)

@@ -6,6 +6,7 @@ import hashlib
 import io
 import re
 import struct
+import threading
 import time
 import zipfile
 
@@ -13,7 +14,7 @@ import cbm_image
 import made_museum
 from client_cases import LIMIT
 from disks_by_hand import Disk, File
-from page_tabs import door
+from page_tabs import door, saved
 from pages_readers import ReadersTab
 from pages_rehearsal import HARMFUL
 
@@ -174,17 +175,6 @@ def see_phone(seen, tab):
             seen.same(f"phone: {place}", 360, tab.browser.script("return document.documentElement.scrollWidth"))
 
 
-def downloaded(tab, name):
-    """The bytes of a file that the browser has saved whole."""
-    path = tab.browser.folder / "downloads" / name
-    end = time.monotonic() + LIMIT
-    while time.monotonic() < end and not (path.exists() and not path.with_name(f"{name}.crdownload").exists()):
-        time.sleep(0.05)
-    data = path.read_bytes() if path.exists() else None
-    path.unlink(missing_ok=True)
-    return data
-
-
 DOWNLOADS = {
     "2001/0": ("HELLO.prg", BASIC), "2001/1": ("LETTER.seq", GRAPHIC), "2002/0": ("LETTER.TXT", STAR),
     "2001/2": ("____X.usr", b"TEXT\r"), "2001/3": ("_CON.usr", b"TEXT\r"), "2001/5": ("_1_1.usr", b"TEXT\r"),
@@ -196,7 +186,7 @@ def see_downloads(seen, tab, downloads=DOWNLOADS):
     for place, (name, data) in downloads.items():
         tab.go(place)
         tab.browser.click("#download")
-        seen.same(f"download: {place}", data, downloaded(tab, name))
+        seen.same(f"download: {place}", data, saved(tab, name))
 
 
 def see_zip(seen, tab):
@@ -212,7 +202,7 @@ def see_zip(seen, tab):
 
     tab.door.before = before
     tab.browser.click("#zip")
-    data = downloaded(tab, "disk-2001.zip")
+    data = saved(tab, "disk-2001.zip")
     tab.door.before = lambda method, path: None
     given = [slot for slot, (_, _, data_) in enumerate(FILES) if data_ is not None]
     asked_for = [int(path.rpartition("/")[2]) for path, _ in tries]
@@ -258,7 +248,7 @@ def see_zip_closed(seen, tab):
     tab.go("1002")
     tab.door.put_rule("T1002", made_museum.rule(1, "deny", ["public"], {"slot": 2}))
     tab.browser.click("#zip")
-    with zipfile.ZipFile(io.BytesIO(downloaded(tab, "disk-1002.zip"))) as made:
+    with zipfile.ZipFile(io.BytesIO(saved(tab, "disk-1002.zip"))) as made:
         seen.same("zip: a file that is closed", ["files/TOUR.prg", "SHA256SUMS", "list.csv"], made.namelist())
         row = list(csv.reader(made.read("list.csv").decode().splitlines()))[2]
         words = "You may not read this file. Ask the staff, who know why."
@@ -273,10 +263,19 @@ def see_zip_refused(seen, tab):
     tab.browser.click("#zip")
     words = "This page cannot reach the desk. Check the connection, and try again."
     seen.same("zip: lost", words, wait_for_words(tab, "reach"))
-    tab.door.before = lambda method, path: None
+    stopped = threading.Event()
+
+    def held(method, path):
+        """A file that comes only when the reader has stopped."""
+        if path.endswith("/files/2"):
+            stopped.wait(LIMIT)
+
+    tab.door.before = held
     tab.browser.click("#zip")
     tab.browser.click("#stop-zip")
     seen.same("zip: stopped", "Stopped.", wait_for_words(tab, "Stopped"))
+    stopped.set()
+    tab.door.before = lambda method, path: None
 
 
 def wait_for_words(tab, words):
