@@ -31,10 +31,12 @@ READERS = (
 )
 
 
-def tell_memory(tab, what):
+def tell_memory(seen, tab, what):
     """Tells the memory of the page's own objects, and that of its whole process."""
     heap = {one["name"]: one["value"] for one in pages_readers.metrics(tab)}["JSHeapUsedSize"] / 1e6
-    print(f"memory of the tab, {what}: {heap:,.0f} MB of its own objects, {process_of(tab):,.0f} MB in all", flush=True)
+    whole = process_of(tab)
+    print(f"memory of the tab, {what}: {heap:,.0f} MB of its own objects, {whole:,.0f} MB in all", flush=True)
+    seen.same(f"memory of the tab, {what}: it is found", True, whole > heap > 0)
 
 
 def process_of(tab):
@@ -42,8 +44,9 @@ def process_of(tab):
     sizes = [0]
     for status in pathlib.Path("/proc").glob("[0-9]*/status"):
         try:
-            words = (status.parent / "cmdline").read_bytes().split(b"\0")
-            if b"--type=renderer" in words and os.getpgid(int(status.parent.name)) == tab.browser.driver.pid:
+            # what Chromium writes there has blanks in the place of ends
+            words = (status.parent / "cmdline").read_bytes()
+            if b" --type=renderer " in words and os.getpgid(int(status.parent.name)) == tab.browser.driver.pid:
                 fields = dict(line.split(":", 1) for line in status.read_text().splitlines())
                 sizes.append(int(fields["VmRSS"].split()[0]) / 1000)
         except (OSError, KeyError):
@@ -57,12 +60,12 @@ def see(seen, browser, room, museum):
     readers.read()
     for group in READERS:
         group(seen, readers)
-    tell_memory(readers, "with the list of all files")
+    tell_memory(seen, readers, "with the list of all files")
     (room.folder / "own" / "titles.csv").write_text(pages_readers.titles_of(len(museum.images)))
     pages_readers.see_titles(seen, readers)
     staffs = StaffTab(browser, BuiltDoor(room, museum))
     pages_eyes.see_many_files(seen, staffs)
-    tell_memory(staffs, "with the verdicts of a day")
+    tell_memory(seen, staffs, "with the verdicts of a day")
 
 
 def main():

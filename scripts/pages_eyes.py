@@ -178,7 +178,8 @@ def see_large_look(seen, tab):
     tab.go("eyes")
     tab.browser.script(WATCH)
     told = told_meanwhile(tab, "eyes", "#eyes [type=submit]")
-    seen.same("large: progress", True, sum(text.startswith("Reading") for text in told) > 3)
+    least = files_of(tab) // 50_000
+    seen.same("large: progress", True, sum(text.startswith("Reading") for text in told) > least)
     seen.same("large: in short", True, f"of {files_of(tab):,} files" in tab.read()["stands"][0])
     see_quick(seen, tab, "eyes", lambda _: tab.press("#eyes [type=submit]"))
 
