@@ -18,7 +18,8 @@ from client_cases import HOST, LIMIT
 
 ELEMENT = "element-6066-11e4-a52e-4f735466cecf"
 TAB, ENTER, ESCAPE = "\ue004", "\ue007", "\ue00c"
-# After how many seconds a browser that does not start is given up: a machine that does much else needs them.
+# After how many seconds a browser is given up that does not start, or does not answer: a machine that does much else
+# needs them.
 START = 300
 
 # A script: all places of a page in which something could be left.
@@ -104,7 +105,7 @@ class Browser:
         os.killpg(self.driver.pid, signal.SIGKILL)
         self.driver.wait()
 
-    def ask(self, method, path, body=None, seconds=LIMIT):
+    def ask(self, method, path, body=None, seconds=START):
         """What the driver answers in time; a fault of it is raised."""
         data = None if body is None else json.dumps(body).encode()
         fields = {"Content-Type": "application/json"}
