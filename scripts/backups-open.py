@@ -190,6 +190,8 @@ def see_backup(seen, store, label):
     writer.may_send.set()
     for old in house.backups():
         shutil.rmtree(old)
+    # what the disk does for that is done before the next one
+    os.sync()
     print(f"{label}: a reader waited {reader.longest:.3f} s; {out.strip().split('; ')[-1]}", flush=True)
     store.waits.append(reader.longest)
     store.replies += reader.statuses[200]
