@@ -262,6 +262,8 @@ def see_bar(seen, key):
 
 def see_stop(seen, key):
     """Ctrl-C ends it with the counts."""
+    # what runs in the background of a shell ignores it, and what it starts does too
+    signal.signal(signal.SIGINT, signal.default_int_handler)
     with stand_in({12: "sound", 13: "changed", 14: STALLS, 15: "sound"}) as server:
         words = [CHECK_ALL, str(key), address(server)]
         process = subprocess.Popen(words, stdin=subprocess.DEVNULL, stdout=subprocess.PIPE, stderr=subprocess.PIPE)

@@ -198,7 +198,8 @@ FAILS = [
         "a report by mail",
         "printf '#!/bin/sh\\n{ echo $*; cat; } >/root/mail\\n' >/usr/sbin/sendmail; chmod +x /usr/sbin/sendmail; "
         "sed -i 's/^ALARM=.*/ALARM=anna@museum.example/' /etc/desk/places; "
-        "systemctl start desk-alarm@desk-look.service.service; echo $?; sed -n '1,2p; s/ on .*//; s/^Subject: //p' /root/mail; "
+        "systemctl start desk-alarm@desk-look.service.service; echo $?; "
+        "sed -n '1,2p; s/ on .*//; s/^Subject: //p' /root/mail; "
         "grep -o 'the desk does not answer' /root/mail | uniq",
         "0\n-t\nTo: anna@museum.example\ndesk: desk-look.service has failed\nthe desk does not answer",
     ),
