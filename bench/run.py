@@ -24,7 +24,7 @@ import tempfile
 import images
 
 HERE = os.path.dirname(os.path.abspath(__file__))
-sys.path.insert(0, os.path.join(HERE, "..", "scripts"))
+sys.path.insert(0, os.path.join(HERE, "..", "scripts", "lib"))
 import tools
 
 NEEDED = ["cpmcp", "cbmconvert", "cc1541", "valgrind", "gcc", "/usr/include/stdio.h"]

@@ -1,8 +1,8 @@
 #!/usr/bin/env python3
 """scripts/as-a-client-sees-it.py [PROGRAM]: makes a desk in a file, serves it, and visits it as clients do.
 
-You need Python 3 with its standard library alone, the programs curl and sqlite3, and Linux. PROGRAM is
-crates/rd_main/out/rd_main of this repository where none is named: `rt run` in crates/rd_main builds it.
+You need Python 3 with its standard library alone, the programs curl and sqlite3, and Linux. PROGRAM is ./desk of this
+repository where none is named.
 
 A request that curl and Python's http.client can both say is sent by both, so each of these commands is given twice.
 Plain sockets say the others: parts with pauses, heads at their limit, clients that go away. Every reply is compared
@@ -30,17 +30,20 @@ import sys
 import tempfile
 import time
 
+import lib
+import harness
 import tools
 
 from client_cases import (
     ALL_ROWS, BADGES, BADGE_ROWS, CHANGED, CHECK_ROWS, COUNTS, CUT, DEED, DEED_BODY, DEED_HEAD, DIFFERS, DONE,
     EVERY, FIRST, FIRST_ROWS, FOREIGN, FOR_HELLO_BY_STAFF, FOR_RECORD, FOR_TOO_MUCH, FRAMING, GONE, HEADS,
-    HELLO_CHANGED, HELLO_LINE, HELLO_TO_LIST, HOST, IMAGES, KEYS, LEAVES_SOME, LET_LIST, LIMIT, LONG, LONG_FILE,
-    LOOP_LINE, MORE, NO_DEED, NO_ROUTES, OF_12_TO_OTHERS, ONE_BYTE, OTHER_METHODS, PARTS, PATHS, PAUSE, PROGRAM,
-    QUESTION, READ_BACK, RECORD, RECORD_LINE, REFUSALS, ROOM, ROOT, ROUTES, RULES, SAMPLES, SOUND, STAFF, TAKEDOWN,
-    TOO_LONG, UNTIED, UPLOADED, UPLOADS, USAGE, bytes_of, catalogue, check, content, denied, digest, drop, faulty,
-    get, head, listed, listing, put, put_rule, refused, write,
+    HELLO_CHANGED, HELLO_LINE, HELLO_TO_LIST, IMAGES, KEYS, LEAVES_SOME, LET_LIST, LONG, LONG_FILE, LOOP_LINE, MORE,
+    NO_DEED, NO_ROUTES, OF_12_TO_OTHERS, ONE_BYTE, OTHER_METHODS, PARTS, PATHS, PAUSE, QUESTION, READ_BACK, RECORD,
+    RECORD_LINE, REFUSALS, ROOM, ROUTES, RULES, SAMPLES, SOUND, STAFF, TAKEDOWN, TOO_LONG, UNTIED, UPLOADED,
+    UPLOADS, USAGE, bytes_of, catalogue, check, content, denied, digest, drop, faulty, get, head, listed, listing,
+    put, put_rule, refused, write,
 )
+from harness import HOST, LIMIT, ROOT
 from clients import (
     Lost, Serving, by_client, by_curl, by_socket, connected, curl, free_port, leave, minutes_to_noon, read_all, tried,
     zone_of,
@@ -209,26 +212,19 @@ def too_long_by_client(port):
 # The program
 
 
-def shown(value):
-    """A value as a report shows it, without its middle where it is long."""
-    text = repr(value)
-    return text if len(text) <= 700 else f"{text[:500]} .. {text[-150:]}"
-
-
 def stops(name, status=3):
     """How the program ends where it refuses."""
     return status, b"", f"desk: {name}\n".encode()
 
 
-class Desk:
+class Desk(harness.Seen):
     """The program, a folder for its stores, the filled store, and what was seen so far."""
 
     def __init__(self, program, folder):
+        super().__init__()
         self.program = program
         self.folder = folder
         self.store = self.path("desk.sqlite")
-        self.passed = 0
-        self.failed = 0
 
     def path(self, name):
         return os.path.join(self.folder, name)
@@ -236,13 +232,6 @@ class Desk:
     def copied(self, name):
         """A copy of the filled store."""
         return shutil.copy(self.store, self.path(f"{name}.sqlite"))
-
-    def same(self, label, wanted, came):
-        if wanted == came:
-            self.passed += 1
-            return
-        self.failed += 1
-        print(f"FAILED: {label}: wanted {shown(wanted)}, came {shown(came)}", flush=True)
 
     def run(self, *words, output=subprocess.PIPE):
         """How the program ends: its status, and what it writes to its standard output and errors."""
@@ -278,15 +267,13 @@ def serve(desk, group, store, steps, *words, kills=False):
     count = sum(step.visits for step in steps) + kills
     with Serving(desk.program, store, count, words) as serving:
         line = serving.line()
-        desk.same(f"{group}: it listens", f"listening {HOST}:{serving.port}\n", line or serving.end())
+        desk.same(f"{group}: it listens", serving.wanted_line(), line or serving.end())
         for number, step in enumerate(steps):
             try:
                 wanted, came = step.walk(serving.port)
             except (Lost, OSError) as fault:
                 left = len(steps) - number
-                desk.failed += left
-                print(f"FAILED: {group}: {step.label}: {fault!r}; with it {left} cases are given up", flush=True)
-                return
+                return desk.fails(f"{group}: {step.label}: {fault!r}; with it {left} cases are given up", left)
             desk.same(f"{group}: {step.label}", wanted, came)
         if not kills:
             desk.same(f"{group}: it ends", (0, f"served {count}\n", ""), serving.end())
@@ -536,8 +523,8 @@ GROUPS = [
 
 
 def main():
-    program = os.path.abspath(sys.argv[1]) if len(sys.argv) > 1 else PROGRAM
-    missing = tools.missing([program, "curl", "sqlite3"])
+    program = harness.program(sys.argv[1:])
+    missing = tools.missing(["curl", "sqlite3"])
     if missing:
         sys.exit(f"missing: {' '.join(missing)}")
     signal.signal(signal.SIGTERM, lambda *_: sys.exit(1))
@@ -545,8 +532,7 @@ def main():
         desk = Desk(program, folder)
         for see in GROUPS:
             see(desk)
-    print(f"{desk.passed} passed, {desk.failed} failed")
-    sys.exit(1 if desk.failed else 0)
+    sys.exit(desk.told())
 
 
 if __name__ == "__main__":

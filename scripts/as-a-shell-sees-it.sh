@@ -2,15 +2,14 @@
 # Runs the built program as a shell does, and compares what it writes to its standard output and its standard
 # errors, and its exit status, for each of the statuses 0 to 3; a closed standard output and a full device are
 # among the cases. Of a Unix socket it looks who may use it, whether it gives way once its desk was killed, and
-# whether it goes with its desk. You need `rt run` in crates/rd_main, or the program as an argument.
+# whether it goes with its desk. The program is ./desk of this repository, or the one that you name.
 set -u
-desk=$(realpath "${1:-$(dirname "$0")/../crates/rd_main/out/rd_main}") || exit 1
-cd "$(dirname "$0")/.." || exit 1
+desk=${1:+$(realpath "$1")}
+cd "$(dirname "$0")/.." && source scripts/lib/harness.sh && desk=$(program "$desk") || exit 1
 work=$(mktemp -d) || exit 1
 serving=
 trap '[ -z "$serving" ] || kill -9 "$serving"; rm -rf "$work"' EXIT
 hello=crates/rd_main/stdin
-passed=0 failed=0
 : >"$work/nothing"
 printf '0\t0\tTXT\t128\t\tHELLO.TXT\nfiles\t1\tend\n' >"$work/list"
 echo 'desk 0.1.0' >"$work/version"
@@ -37,18 +36,7 @@ ends() {
         passed=$((passed + 1))
         return
     fi
-    echo "FAILED: status $status, not $wanted, or other text: ${*##*/}: $(head -n 1 "$work/stderr")"
-    failed=$((failed + 1))
-}
-
-# same WHAT WANTED CAME: the two texts have to be the same
-same() {
-    if [ "$2" = "$3" ]; then
-        passed=$((passed + 1))
-        return
-    fi
-    echo "FAILED: $1: $3, not $2"
-    failed=$((failed + 1))
+    fails "status $status, not $wanted, or other text: ${*##*/}: $(head -n 1 "$work/stderr")"
 }
 
 # begins to serve at a socket, and waits until it listens, for a minute at most
@@ -60,8 +48,7 @@ serve_at() {
         grep -q '^listening ' "$work/serving" && return
         sleep 0.1
     done
-    echo "FAILED: it does not listen at $1"
-    failed=$((failed + 1))
+    fails "it does not listen at $1"
 }
 
 # ends it as a loss of power would
@@ -135,5 +122,4 @@ same "the socket at the end of its desk" nothing "$(kind_at "$socket")"
 ends 3 "desk: device" "$work/nothing" "$desk" serve --store "$work/store" --socket '' --count 0
 ends 3 "desk: device" "$work/nothing" "$desk" serve --store "$work/store" --socket "$work/missing/socket" --count 0
 
-echo "$passed passed, $failed failed"
-[ "$failed" -eq 0 ]
+told

@@ -14,7 +14,7 @@ come after a whole reply, are counted; those of visits that send bytes beyond th
 there is none, are counted by themselves. All four counts have to be 0.
 
 You need Python 3 with its standard library alone, its SQLite of 3.37 or later, and Linux. PROGRAM is
-crates/rd_main/out/rd_main of this repository where none is named."""
+./desk of this repository where none is named."""
 
 import argparse
 import collections
@@ -30,12 +30,12 @@ import subprocess
 import sys
 import tempfile
 
-import tools
+import lib
+import harness
 
-from client_cases import BAD_HEAD, FIRST, MORE, ONE_BYTE, PROGRAM, STAFF, badge, get, put, survey
+from client_cases import BAD_HEAD, FIRST, MORE, ONE_BYTE, STAFF, badge, get, put, survey
 from desk_by_hand import Desk, Disks
 from mutations import Good, Request, Visit, mutated
-from reading_room import Seen
 from requests_by_hand import bytes_beyond, is_waited_for
 from clients import Lost, Serving, connected, noon_zone, read_all
 
@@ -135,7 +135,7 @@ class Stage:
         self.program = program
         self.store = os.path.join(folder, "desk.sqlite")
         self.attack = attack
-        self.seen = Seen()
+        self.seen = harness.Seen()
         self.zone = noon_zone()
 
     def serve(self, label, count, walk):
@@ -201,15 +201,13 @@ def arguments():
     parser = argparse.ArgumentParser()
     parser.add_argument("--seed", type=int, default=1)
     parser.add_argument("--visits", type=int, default=10000)
-    parser.add_argument("program", nargs="?", default=PROGRAM)
+    parser.add_argument("program", nargs="?")
     return parser.parse_args()
 
 
 def main():
     words = arguments()
-    program = os.path.abspath(words.program)
-    if tools.missing([program]):
-        sys.exit(f"missing: {program}")
+    program = harness.program([words.program])
     signal.signal(signal.SIGTERM, lambda *_: sys.exit(1))
     with tempfile.TemporaryDirectory() as folder:
         desk = Desk(Disks(program, folder), datetime.datetime.now(datetime.timezone.utc).date().isoformat())

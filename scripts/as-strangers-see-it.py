@@ -9,30 +9,29 @@ the day after. Each export is read by Python's csv and by sqlite3's .import, and
 one that `desk list` of each image and the rules, as the plain function `verdict` of rules_by_hand.py reads them, make
 together.
 
-PROGRAM is crates/rd_main/out/rd_main of this repository where none is named. Run as root, it installs Debian's packages
+PROGRAM is ./desk of this repository where none is named. Run as root, it installs Debian's packages
 where one is missing."""
 
 import contextlib
 import csv
 import hashlib
-import http.client
 import io
 import json
 import os
 import random
-import socket
 import subprocess
 import sys
 import tempfile
 
+import lib
 import cbm_image
 import cpm_image
+import harness
 import rules_by_hand
 import tools
-from tools import bytes_of, write
+from harness import bytes_of, write
 
 ROOT = os.path.join(os.path.dirname(os.path.abspath(__file__)), "..")
-HOST = "127.0.0.1"
 LIMIT = 300
 COLUMNS = ["accession", "deed", "kind", "slot", "user", "name", "type", "size", "faults", "rule", "effect"]
 SHEET = ["accession", "kind", "deed", "sha256", "file"]
@@ -188,51 +187,35 @@ def read_by_sqlite3(path):
 # The desk
 
 
-class Desk:
+class Desk(harness.Seen):
     """The program, its store, and what was seen so far."""
 
     def __init__(self, program, folder):
+        super().__init__()
         self.program = program
         self.store = os.path.join(folder, "desk.sqlite")
-        self.passed = self.failed = 0
 
     def same(self, what, wanted, came):
-        if wanted == came:
-            self.passed += 1
-            return
-        self.failed += 1
-        where = ""
-        if isinstance(wanted, list) and isinstance(came, list):
+        """Of two lists that differ, the first places where they do are shown."""
+        if wanted != came and isinstance(wanted, list) and isinstance(came, list):
             differing = (n for n, (one, other) in enumerate(zip(wanted, came)) if one != other)
             first = next(differing, min(len(wanted), len(came)))
             where, wanted, came = f", at {first} of {len(wanted)} and {len(came)}", wanted[first:][:1], came[first:][:1]
-        print(f"FAILED: {what}{where}: wanted {wanted!r}, came {came!r}", flush=True)
+            return self.fails(f"{what}{where}: wanted {wanted!r}, came {came!r}")
+        super().same(what, wanted, came)
 
     def run(self, *words):
         return run(self.program, *words)
 
     def put(self, requests):
         """Serves a desk, and puts what each path and body say by the key of the staff."""
-        with socket.socket() as probe:
-            probe.bind((HOST, 0))
-            port = probe.getsockname()[1]
-        words = ["serve", "--store", self.store, "--port", str(port), "--count", str(len(requests))]
-        with subprocess.Popen([self.program, *words], stdout=subprocess.PIPE) as server:
-            try:
-                self.put_to(server, port, requests)
-            except BaseException:
-                server.kill()
-                raise
-
-    def put_to(self, server, port, requests):
-        if server.stdout.readline() != f"listening {HOST}:{port}\n".encode():
-            sys.exit("the desk does not listen")
-        for path, body in requests:
-            with contextlib.closing(http.client.HTTPConnection(HOST, port, timeout=LIMIT)) as connection:
-                connection.request("PUT", path, json.dumps(body), {"Desk-Key": KEYS["staff"]})
-                self.same(f"PUT {path}", b'{"done":true}', connection.getresponse().read())
-        told, _ = server.communicate(timeout=LIMIT)
-        self.same("the end of a server", (f"served {len(requests)}\n".encode(), 0), (told, server.returncode))
+        with harness.Serving(self.program, self.store, len(requests)) as serving:
+            serving.listens()
+            for path, body in requests:
+                with contextlib.closing(harness.client_at(serving.port)) as connection:
+                    connection.request("PUT", path, json.dumps(body), {"Desk-Key": KEYS["staff"]})
+                    self.same(f"PUT {path}", b'{"done":true}', connection.getresponse().read())
+            self.same("the end of a server", (0, f"served {len(requests)}\n", ""), serving.end())
 
     def listed(self, kind, path):
         """The files of an image as `list` tells them, by the names of the catalogue's columns."""
@@ -301,9 +284,7 @@ def check_cases(desk, files, tables):
 
 
 def main():
-    program = os.path.abspath(sys.argv[1] if len(sys.argv) > 1 else os.path.join(ROOT, "crates/rd_main/out/rd_main"))
-    if tools.missing([program]):
-        sys.exit(f"missing: {program}")
+    program = harness.program(sys.argv[1:])
     tools.install(["mkfs.cpm", "cpmcp", "cc1541", "sqlite3"], ["cpmtools", "cc1541", "sqlite3"])
     with tempfile.TemporaryDirectory() as folder:
         images = new_images(folder)
@@ -315,8 +296,7 @@ def main():
     check_cases(desk, files, tables)
     print(f"{len(images)} images with {len(files)} files; rows shown:", end=" ")
     print(", ".join(f"{audience} {when} {len(rows) - 1}" for (audience, when), rows in tables.items()))
-    print(f"{desk.passed} passed, {desk.failed} failed")
-    sys.exit(1 if desk.failed else 0)
+    sys.exit(desk.told())
 
 
 if __name__ == "__main__":

@@ -26,6 +26,8 @@ import signal
 import sys
 import tempfile
 
+import lib
+import harness
 import operating_page
 import reading_room
 import tools
@@ -112,9 +114,9 @@ def main():
     page = words.pop(0) if words and words[0] in PAGES else operating_page.PAGE
     tools.install(PAGES[page].needed, PAGES[page].packages)
     signal.signal(signal.SIGTERM, lambda *_: sys.exit(1))
-    seen = reading_room.Seen()
+    seen = harness.Seen()
     seen.same("blocks without a command", PAGES[page].plain, plain_blocks(page))
-    program = reading_room.program(words)
+    program = harness.program(words)
     # not in /tmp, which may be another one for the page's commands
     with tempfile.TemporaryDirectory(prefix="as-the-page-says-", dir="/var/tmp") as name, contextlib.ExitStack() as stack:
         folder = pathlib.Path(name)

@@ -4,8 +4,8 @@
 # which the script installs as root if they are missing. Each backup must give the catalogue of its moment, images
 # with the SHA-256 that they came with, and the last change before it, which is only in the log.
 set -u
-desk=$(realpath "${1:-$(dirname "$0")/../desk}") || exit 1
-cd "$(dirname "$0")/.." || exit 1
+desk=${1:+$(realpath "$1")}
+cd "$(dirname "$0")/.." && source scripts/lib/harness.sh && desk=$(program "$desk") || exit 1
 there() { command -v sqlite3 >/dev/null && command -v curl >/dev/null; }
 install() { DEBIAN_FRONTEND=noninteractive apt-get install -y -qq --no-install-recommends sqlite3 curl </dev/null; }
 there || { apt-get update -qq && install; }
@@ -16,30 +16,9 @@ port=20000
 while (: <>"/dev/tcp/127.0.0.1/$port") 2>/dev/null; do port=$((port + 1)); done
 room=http://127.0.0.1:$port
 serving=
-passed=0 failed=0
 
 leave() { kill -KILL $serving 2>/dev/null; rm -rf "$work"; }
 trap leave EXIT
-
-# same LABEL WANTED CAME: two texts have to be equal
-same() {
-    if [ "$2" = "$3" ]; then
-        passed=$((passed + 1))
-        return
-    fi
-    echo "FAILED: $1: wanted ${2:0:300}, came ${3:0:300}"
-    failed=$((failed + 1))
-}
-
-# differs LABEL ONE OTHER: two texts may not be equal
-differs() {
-    if [ "$2" != "$3" ]; then
-        passed=$((passed + 1))
-        return
-    fi
-    echo "FAILED: $1: both are ${2:0:300}"
-    failed=$((failed + 1))
-}
 
 # start STORE: serves a store, and waits until it listens
 start() {
@@ -119,5 +98,4 @@ restored() {
 
 restored "the file and its log" "$work/copy/museum.sqlite" "$work/copy/museum.sqlite-wal"
 restored "the file of sqlite3" "$work/backup.sqlite"
-echo "$passed passed, $failed failed"
-[ "$failed" -eq 0 ]
+told

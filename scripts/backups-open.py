@@ -35,6 +35,7 @@ import sys
 import threading
 import time
 
+import lib
 import reading_room
 
 from client_cases import LIMIT, STAFF, bytes_of, digest

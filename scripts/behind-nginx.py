@@ -8,7 +8,7 @@ What clients ask of the desk in scripts/as-a-client-sees-it.py is asked again: e
 and fields have to be those that the desk gives; each other request through nginx too, which has to answer 403, and then
 at the staff's door, on the machine, so that the next cases find what it did. After that come who is let in at that
 door, the limits, visitors who send or take a byte a second or nothing at all, and a desk that is down. Each group comes
-from an address of its own, so that none uses up what nginx allows another. scripts/front_cases.py has what nginx does
+from an address of its own, so that none uses up what nginx allows another. scripts/lib/front_cases.py has what nginx does
 beyond handing on: heads, ranges, names of downloads, packed text, its own refusals, pages of other sites, and files."""
 
 import contextlib
@@ -22,14 +22,17 @@ import sys
 import threading
 import time
 
+import lib
 import front_cases
+import harness
 import reading_room
 
 from client_cases import (
-    ALL, BAD_HEAD, EVERY, HOST, KEYS, LONG, LONG_FILE, NO_ROUTES, NOBODY, OTHER_METHODS, QUESTION, READ_BACK, RECORD,
+    ALL, BAD_HEAD, EVERY, KEYS, LONG, LONG_FILE, NO_ROUTES, NOBODY, OTHER_METHODS, QUESTION, READ_BACK, RECORD,
     REFUSALS, ROUTES, RULES, SAMPLES, STAFF, Asked, badge, bytes_of, drop, get, head, put, put_image, put_rule,
     with_fields,
 )
+from harness import HOST
 from reading_room import fields_of
 
 # Paths that the configuration hands on to the desk.
@@ -585,10 +588,10 @@ def see_slow(seen, room):
 
 def see_why(seen, room):
     """Without nginx such a visitor stops all others: so the case above can fail."""
-    with reading_room.socket_at(room.place) as slow:
+    with harness.socket_at(room.place) as slow:
         slow.sendall(QUESTION[:30])
         time.sleep(0.3)
-        with contextlib.closing(reading_room.client_at(room.place, SOON)) as other:
+        with contextlib.closing(harness.client_at(room.place, SOON)) as other:
             try:
                 other.request("GET", "/images")
                 came = other.getresponse().status
@@ -645,8 +648,8 @@ GROUPS = [
 
 def main():
     reading_room.install(["curl"], ["curl"])
-    seen = reading_room.Seen()
-    with reading_room.Room(reading_room.program(sys.argv[1:])) as room:
+    seen = harness.Seen()
+    with reading_room.Room(harness.program(sys.argv[1:])) as room:
         room.fill()
         room.start_nginx()
         for see in GROUPS:

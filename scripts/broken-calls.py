@@ -8,8 +8,8 @@ however it is sent; that such a fault ends its visit alone, and a command that w
 visit is that at which the visitor came. Then clients reset their connections before they are accepted, during a visit
 and after it. Each broken visit is followed by another, which has to have its answer.
 
-You need Python 3 with its standard library alone, gcc with the C library's headers, and Linux. PROGRAM is
-crates/rd_main/out/rd_main of this repository where none is named."""
+You need Python 3 with its standard library alone, gcc with the C library's headers, and Linux. PROGRAM is ./desk of
+this repository where none is named."""
 
 import collections
 import contextlib
@@ -22,15 +22,17 @@ import sys
 import tempfile
 import time
 
+import lib
 import cpm_image
+import harness
 import tools
 
 from client_cases import (
     BAD_HEAD, DEED, DEED_BODY, DEED_HEAD, DONE, ENDS, EVERY, FIRST, FOR_RECORD, FRAMING, LONG, LONG_FILE, MORE,
-    NEXT_DEED, NO_DEED, PAUSE, PROGRAM, QUESTION, RECORD, RECORD_DISK, ROOT, STAFF, badge, content, denied, drop, get,
-    head, listed, put, put_image, put_rule, table, told,
+    NEXT_DEED, NO_DEED, PAUSE, QUESTION, RECORD, RECORD_DISK, STAFF, badge, content, denied, drop, get, head,
+    listed, put, put_image, put_rule, table, told,
 )
-from reading_room import Seen
+from harness import ROOT
 from clients import Serving, by_client, by_socket, connected, leave, read_all, tried
 
 ERRORS = ("EIO", "ECONNRESET", "EINTR", "EAGAIN")
@@ -197,7 +199,7 @@ class Stage:
         self.folder = folder
         self.store = self.path("desk.sqlite")
         self.library = self.path("broken-calls.so")
-        self.seen = Seen()
+        self.seen = harness.Seen()
 
     def path(self, name):
         return os.path.join(self.folder, name)
@@ -257,18 +259,18 @@ class Stage:
         clock = self.path("clock")
         rule = put_rule("/deeds/9/rules/1", "deny", EVERY, "public", until="2030-01-01")
         closed = denied("R9.1")
-        tools.write(clock, before.encode())
+        harness.write(clock, before.encode())
         with self.serving("moment", 6, BREAK_CLOCK=clock) as serving:
             self.seen.same("moment: an embargo", DONE, by_client(serving.port, rule))
             steps = [("before", before, closed), ("at", after, RECORD), ("again before", before, closed)]
             for label, moment, wanted in steps:
                 # the desk waits for the visitor by now
                 time.sleep(PAUSE)
-                tools.write(clock, moment.encode())
+                harness.write(clock, moment.encode())
                 self.seen.same(f"moment: a visitor {label} the end", wanted, by_client(serving.port, FOR_RECORD))
             with connected(serving.port) as connection:
                 time.sleep(PAUSE)
-                tools.write(clock, after.encode())
+                harness.write(clock, after.encode())
                 connection.sendall(QUESTION)
                 self.seen.same("moment: who came before it and asks after it", closed, read_all(connection)[0])
             self.seen.same("moment: the next", RECORD, by_client(serving.port, FOR_RECORD))
@@ -317,8 +319,8 @@ def reset(connection):
 
 
 def main():
-    program = os.path.abspath(sys.argv[1] if len(sys.argv) > 1 else PROGRAM)
-    missing = tools.missing([program, "gcc"])
+    program = harness.program(sys.argv[1:])
+    missing = tools.missing(["gcc"])
     if missing:
         sys.exit(f"missing: {' '.join(missing)}")
     with tempfile.TemporaryDirectory() as folder:

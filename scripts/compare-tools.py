@@ -1,5 +1,5 @@
 #!/usr/bin/env python3
-"""scripts/compare-tools.py PROGRAM [KIND..]: compares desk with cpmtools, cbmconvert and cc1541.
+"""scripts/compare-tools.py [PROGRAM [KIND..]]: compares desk with cpmtools, cbmconvert and cc1541.
 
 It makes 24 undamaged images of each kind: files of several sizes, users and types, added and deleted with cpmtools or
 cc1541. In some images of 1541 disks it adds a REL file with its side sectors, which neither tool writes.
@@ -22,10 +22,12 @@ import subprocess
 import sys
 import tempfile
 
+import lib
 import cbm_image
 import cpm_image
+import harness
 import tools
-from tools import bytes_of, write
+from harness import bytes_of, write
 
 IMAGES = 24
 FORMAT = ["-f", "ibm-3740"]
@@ -54,18 +56,15 @@ def listed(desk, kind, image):
     return [line.split("\t") for line in lines[:-1]]
 
 
-class Differences:
-    """Counts what was compared, and the files that read with an error, and keeps what differs."""
+class Differences(harness.Seen):
+    """What was compared so far, and the files that read with an error."""
 
     def __init__(self):
-        self.comparisons = self.unread = 0
-        self.found = []
+        super().__init__()
+        self.unread = 0
 
     def expect(self, same, what):
-        self.comparisons += 1
-        if not same:
-            self.found.append(what)
-            print("DIFFERS:", what, flush=True)
+        self.same(what, True, bool(same))
 
 
 # CP/M
@@ -270,7 +269,7 @@ def compare_d64e(desk, number, cwd, differences):
 
 
 def main():
-    desk, kinds = tools.arguments(__doc__)
+    desk, kinds = harness.program(sys.argv[1:2]), sys.argv[2:] or ["cpm8", "d64", "d64e"]
     tools.install(["cpmcp", "cbmconvert", "cc1541"], ["cpmtools", "cbmconvert", "cc1541"])
     differences = Differences()
     compare = {"cpm8": compare_cpm, "d64": compare_d64, "d64e": compare_d64e}
@@ -282,8 +281,7 @@ def main():
     if "d64e" in kinds:
         print(f"{differences.unread} files read with an error")
         differences.expect(differences.unread > 0, "no file reads with an error")
-    print(f"{differences.comparisons} comparisons, {len(differences.found)} unexplained differences")
-    sys.exit(1 if differences.found else 0)
+    sys.exit(differences.told())
 
 
 if __name__ == "__main__":

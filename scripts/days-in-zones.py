@@ -22,7 +22,9 @@ import os
 import sys
 import time
 
+import lib
 import cpm_image
+import harness
 import reading_room
 
 from client_cases import ALL, EVERY, put, put_image, put_rule
@@ -174,8 +176,8 @@ def see_place(seen, room, place, rule, dates):
 
 
 def main():
-    program = reading_room.program(sys.argv[1:])
-    seen = reading_room.Seen()
+    program = harness.program(sys.argv[1:])
+    seen = harness.Seen()
     dates = set()
     for rule in RULES.values():
         take(rule)

@@ -19,7 +19,8 @@ import tempfile
 import termios
 import time
 
-import reading_room
+import lib
+import harness
 
 ROOT = pathlib.Path(__file__).resolve().parent.parent
 LIMIT = 60
@@ -66,10 +67,17 @@ class Repository:
         shutil.copy(ROOT / "scripts" / "fake-rt.py", folder / "bin" / "rt")
         (folder / "bin" / "rt").chmod(0o755)
         (self.root / "scripts" / "lanes.sh").write_text("echo 3\n")
+        self.checks(0)
         (self.root / "crates.txt").write_text(CRATES)
         for name, words in FUNCTIONS.items():
             self.source(name).parent.mkdir(parents=True)
             self.write(name, words)
+
+    def checks(self, status):
+        """Has scripts/check end with a status."""
+        check = self.root / "scripts" / "check"
+        check.write_text(f"#!/bin/sh\necho checked \"$@\"\nexit {status}\n")
+        check.chmod(0o755)
 
     def source(self, name):
         return self.root / "crates" / name / "src" / "lib.rt"
@@ -422,7 +430,10 @@ def what_stops_it(seen):
 def lanes(seen):
     """lanes.sh counts a lane a processor, as far as 10,500 MiB for the first and 5,500 MiB for each other are free."""
     with repository() as made:
-        seen.same(".ci/run asks scripts/lanes.sh", "lanes: 3\n", made.says("bash", ".ci/run"))
+        wanted = "checked fast\nlanes: 3\n"
+        seen.same(".ci/run checks, and asks scripts/lanes.sh", wanted, made.says("bash", ".ci/run"))
+        made.checks(1)
+        seen.same(".ci/run proves nothing where a check fails", "checked fast\n", made.says("bash", ".ci/run"))
         counted = [(4, 27, 4), (4, 26, 3), (4, 21, 3), (4, 20, 2), (8, 16, 2), (8, 15, 1), (2, 64, 2), (8, 4, 1)]
         for processors, memory, wanted in counted:
             made.command("nproc", f"echo {processors}")
@@ -438,7 +449,7 @@ CASES = (
 
 
 def main():
-    seen = reading_room.Seen()
+    seen = harness.Seen()
     for case in CASES:
         case(seen)
     return seen.told()

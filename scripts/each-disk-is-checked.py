@@ -23,9 +23,10 @@ import termios
 import threading
 import time
 
-import reading_room
+import lib
+import harness
 
-from client_cases import HOST, LIMIT, ROOT
+from harness import HOST, LIMIT, ROOT
 
 CHECK_ALL = os.path.join(ROOT, "operate", "check-all")
 KEY = "open sesame ü".encode()
@@ -222,7 +223,7 @@ def see_words(seen, folder, key):
     seen.same("no words", usage, run())
     seen.same("four words", usage, run(key, "http://127.0.0.1", "more", "still more"))
     refused = (2, "", [f"{LIST}: no reply ([Errno 111] Connection refused)"])
-    seen.same("nobody there", refused, run(key, f"http://{HOST}:{reading_room.free_ports(1)[0]}"))
+    seen.same("nobody there", refused, run(key, f"http://{HOST}:{harness.free_ports(1)[0]}"))
 
 
 def on_terminal(words, columns):
@@ -286,7 +287,7 @@ def see_many(seen, key):
 
 
 def main():
-    seen = reading_room.Seen()
+    seen = harness.Seen()
     with tempfile.TemporaryDirectory() as name:
         folder = pathlib.Path(name)
         key = folder / "staff-key"

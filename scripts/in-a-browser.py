@@ -9,8 +9,8 @@ place of Chromium, of Debian's package firefox-esr.
 Of the page for readers it looks at what the public, the room and the staff see before and after a takedown; at denied,
 faulty and listed files; at files that are found by name; at names that are markup; at the bytes of files as text, in
 hexadecimal digits and as a download; at where a key is left; at the page by keyboard and on a small screen; and at what
-the browser refuses. scripts/staff_page.py has what it looks at on the staff's page. In Chromium it also looks at what
-scripts/built_pages.py has, each part of it over a museum of its own."""
+the browser refuses. scripts/lib/staff_page.py has what it looks at on the staff's page. In Chromium it also looks at what
+scripts/lib/built_pages.py has, each part of it over a museum of its own."""
 
 import contextlib
 import csv
@@ -20,6 +20,7 @@ import sys
 import time
 import urllib.parse
 
+import lib
 import built_pages
 import page_tabs
 import reading_room

@@ -16,7 +16,9 @@ import shutil
 import sys
 import tempfile
 
+import lib
 import firefox
+import harness
 import made_museum
 import pages_access
 import pages_eyes
@@ -27,7 +29,6 @@ import pages_reading
 import pages_rehearsal
 import pages_standing
 import pages_titles
-import reading_room
 import tools
 from page_tabs import StaffTab, door
 
@@ -101,7 +102,7 @@ def browsing():
 def main():
     named = sys.argv[1:] or list(PARTS)
     tools.install(["firefox-esr"], ["firefox-esr", "fonts-dejavu-core"])
-    seen = reading_room.Seen()
+    seen = harness.Seen()
     with browsing() as browser:
         for name in named:
             PARTS[name](seen, browser)

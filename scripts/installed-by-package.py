@@ -17,6 +17,7 @@ import subprocess
 import sys
 import tempfile
 
+import lib
 import booted
 import operating_page
 import reading_room

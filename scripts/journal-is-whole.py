@@ -21,9 +21,12 @@ import sys
 import threading
 import time
 
+import lib
+import harness
 import reading_room
 
-from client_cases import HOST, LIMIT, NOBODY, ROOM, STAFF, badge, bytes_of, digest, get
+from client_cases import NOBODY, ROOM, STAFF, badge, bytes_of, digest, get
+from harness import HOST, LIMIT
 from front_cases import Door, refusal, request
 
 IMAGE = bytes_of("images", "museum.d64")
@@ -382,8 +385,8 @@ def see_kills(seen, room, journal, count):
 def main():
     reading_room.install()
     words = sys.argv[1:]
-    seen = reading_room.Seen()
-    with reading_room.Room(reading_room.program(words)) as room:
+    seen = harness.Seen()
+    with reading_room.Room(harness.program(words)) as room:
         room.fill()
         room.start_nginx()
         journal = Journal(room)

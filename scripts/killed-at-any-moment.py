@@ -22,7 +22,7 @@ fewer than half of the kills fell within a command, or if a sort of command was 
 decides which commands come and when a run is killed; how far the run is by then depends on the machine.
 
 You need Python 3 with its standard library alone, its SQLite of 3.37 or later, the shell `sqlite3`, and Linux. It takes
-one to four minutes. PROGRAM is crates/rd_main/out/rd_main of this repository where none is named."""
+one to four minutes. PROGRAM is ./desk of this repository where none is named."""
 
 import argparse
 import collections
@@ -41,14 +41,16 @@ import tempfile
 import threading
 import time
 
+import lib
+import harness
 import tools
 
-from client_cases import LIMIT, PROGRAM, STAFF, digest, put, put_image
+from client_cases import STAFF, digest, put, put_image
+from harness import LIMIT
 from clients import Serving, by_socket, noon_zone
 from desk_by_hand import SIZES
 from made_commands import NAMES, Chance, Museum
 from made_disks import MAKERS, KnownDisks
-from reading_room import Seen
 
 DEEDS, ROWS, OTHERS = range(1, 4), range(101, 141), range(16)
 # How often a run is killed while it opens the store, and at which of its commands it is killed at the latest.
@@ -131,12 +133,12 @@ class Store:
         """Copies the file with its log, in the place of an older copy."""
         remove(self.copy)
         shutil.copyfile(self.path, self.copy)
-        tools.write(f"{self.copy}-wal", self.log())
+        harness.write(f"{self.copy}-wal", self.log())
 
     def log(self):
         """The bytes of the log; none where there is no log."""
         path = f"{self.path}-wal"
-        return tools.bytes_of(path) if os.path.exists(path) else b""
+        return harness.bytes_of(path) if os.path.exists(path) else b""
 
     def integrity(self):
         """What the shell finds in the copy."""
@@ -209,9 +211,9 @@ class Sheet:
         lines = ["accession,kind,deed,sha256,file"]
         for acc, disk in self.disks.items():
             path = os.path.join(folder, f"{acc}.img")
-            tools.write(path, disk.bytes)
+            harness.write(path, disk.bytes)
             lines.append(f"{acc},{disk.kind},{self.deed(acc)},{digest(disk.bytes)},{path}")
-        tools.write(self.path, "\n".join(lines).encode())
+        harness.write(self.path, "\n".join(lines).encode())
 
     def deed(self, acc):
         return DEEDS[acc % len(DEEDS)]
@@ -234,7 +236,7 @@ class Stage:
         self.day = datetime.datetime.now(datetime.timezone.utc).date().isoformat()
         self.sheet, self.store = Sheet(folder, rows), Store(program, folder, noon_zone())
         self.disks, self.commands = KnownDisks(rows + others), Chance(self.chance, others)
-        self.moments, self.seen = Moments(self.chance), Seen()
+        self.moments, self.seen = Moments(self.chance), harness.Seen()
         self.kills, self.fates, self.done, self.cut = (collections.Counter() for _ in range(4))
         self.museum, self.museums, self.is_right = None, 0, False
 
@@ -405,14 +407,14 @@ def arguments():
     parser = argparse.ArgumentParser()
     parser.add_argument("--seed", type=int, default=time.time_ns() % 10**6)
     parser.add_argument("--kills", type=int, default=200)
-    parser.add_argument("program", nargs="?", default=PROGRAM)
+    parser.add_argument("program", nargs="?")
     return parser.parse_args()
 
 
 def main():
     words = arguments()
-    program = os.path.abspath(words.program)
-    missing = tools.missing([program, "sqlite3"])
+    program = harness.program([words.program])
+    missing = tools.missing(["sqlite3"])
     if missing:
         sys.exit(f"missing: {' '.join(missing)}")
     signal.signal(signal.SIGTERM, lambda *_: sys.exit(1))

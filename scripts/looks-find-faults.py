@@ -12,9 +12,12 @@ import subprocess
 import sys
 import time
 
+import lib
+import harness
 import reading_room
 
-from client_cases import LIMIT, ROOT, STAFF
+from client_cases import STAFF
+from harness import LIMIT, ROOT
 
 LOOK, ALARM = (os.path.join(ROOT, "operate", name) for name in ("desk-look", "desk-alarm"))
 GOOD = (0, "", "")
@@ -56,7 +59,7 @@ def see_looks(seen, room):
         ("no certificate", {"CERTIFICATE": room.folder / "none"}, r"the certificate cannot be read: .*/none\n"),
         ("no backup", {"BACKUPS": room.folder / "none"}, r"there is no backup in .*/none\n"),
         (
-            "nginx is down", {"STAFF_PORT": reading_room.free_ports(1)[0]},
+            "nginx is down", {"STAFF_PORT": harness.free_ports(1)[0]},
             r"nginx gives no reply: .*Connection refused\n",
         ),
         ("room", {"STORE": sparse(room)}, r"(.* has [0-9]+ MiB free; it needs [0-9]+\n){2}"),
@@ -127,8 +130,8 @@ def see_alarm(seen, room):
 
 def main():
     reading_room.install()
-    seen = reading_room.Seen()
-    with reading_room.Room(reading_room.program(sys.argv[1:])) as room:
+    seen = harness.Seen()
+    with reading_room.Room(harness.program(sys.argv[1:])) as room:
         room.run("init", "--store", str(room.store), "--key", STAFF)
         room.start_desk()
         room.start_nginx()

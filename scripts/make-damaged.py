@@ -7,6 +7,7 @@ the second the third block of LOGBOOK fails its checksum, and so does one that n
 """
 import pathlib
 
+import lib
 import cbm_image
 from cpm_image import text, write
 

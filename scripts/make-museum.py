@@ -5,6 +5,7 @@ It shares no code with the program: blocks are placed by counting the sectors of
 """
 import pathlib
 
+import lib
 import cbm_image
 
 GUIDE = """\

@@ -1,5 +1,6 @@
 #!/usr/bin/env python3
 """Writes images/welcome.img, a CP/M 2.2 eight-inch disk with two texts for visitors."""
+import lib
 from cpm_image import SKEW, text, write
 
 WELCOME = """\

@@ -19,6 +19,7 @@ import pathlib
 import sys
 import time
 
+import lib
 import pages_eyes
 import pages_readers
 import reading_room

@@ -15,7 +15,8 @@ import subprocess
 import sys
 import tempfile
 
-import reading_room
+import lib
+import harness
 import tools
 import trials
 from client_cases import STAFF, bytes_of, digest, get, told
@@ -54,7 +55,7 @@ def statements(folder):
     for (word, text), (after, name) in zip(lines, [*lines[1:], ("", "")]):
         if after == "image":
             path = folder / name
-            tools.write(path, trials.image(name))
+            harness.write(path, trials.image(name))
             text = text.replace("?1", f"readfile('{path}')")
         if word in ("sql", "sql-idle"):
             yield f"{text};"
@@ -99,7 +100,7 @@ class Stage:
 def see_commands(stage):
     """Each command does what it does on a store of version 2, twice."""
     sheet = stage.path("none.csv")
-    tools.write(sheet, b"accession,kind,deed,sha256,file\n")
+    harness.write(sheet, b"accession,kind,deed,sha256,file\n")
     cases = [
         ("export", [*AT, *ZONE], COLUMNS + HELLO + RECORD, ""),
         ("export", ["--key", "hello", *AT, *ZONE], COLUMNS + HELLO + LOOP + RECORD, ""),
@@ -160,9 +161,9 @@ def see_marks(stage):
     """An image with error bytes is taken in after the migration, and read."""
     image = bytes_of("images", "damaged.d64")
     path, sheet, store = stage.path("damaged.d64"), stage.path("images.csv"), stage.copy("marks")
-    tools.write(path, image)
+    harness.write(path, image)
     row = f"13,d64e,7,{digest(image)},{path}\n"
-    tools.write(sheet, f"accession,kind,deed,sha256,file\n{row}".encode())
+    harness.write(sheet, f"accession,kind,deed,sha256,file\n{row}".encode())
     words = ["import", "--store", store, "--key", "abc", "--sheet", sheet, *AT]
     stage.seen.same("an image with error bytes", (0, "13 done\n", ""), stage.run(*words))
     asked = "SELECT acc, lower(hex(bytes)) FROM marks"
@@ -179,9 +180,9 @@ def see_marks(stage):
 
 
 def main():
-    program = reading_room.program(sys.argv[1:])
+    program = harness.program(sys.argv[1:])
     tools.install(["sqlite3"], ["sqlite3"])
-    seen = reading_room.Seen()
+    seen = harness.Seen()
     with tempfile.TemporaryDirectory() as folder:
         stage = Stage(program, folder, seen)
         for see in (see_commands, see_served, see_declared, see_refused, see_marks):

@@ -19,10 +19,12 @@ import sys
 import threading
 import time
 
+import lib
+import harness
 import reading_room
 
 from browser import Browser, other_site
-from client_cases import HOST
+from harness import HOST
 
 # How many connections at a time, to each port, and after how many seconds others come.
 AT_A_TIME, RENEWED = 12, 1
@@ -124,7 +126,7 @@ def see_harm(seen, program, browser):
         room.fill()
         with opened(browser, [room.place]):
             begun = time.monotonic()
-            with contextlib.closing(reading_room.client_at(room.place, PATIENCE)) as connection:
+            with contextlib.closing(harness.client_at(room.place, PATIENCE)) as connection:
                 connection.request("GET", "/images")
                 status = connection.getresponse().status
         taken = time.monotonic() - begun
@@ -134,7 +136,7 @@ def see_harm(seen, program, browser):
 
 def main():
     reading_room.install(["chromium", "chromedriver"], ["chromium", "chromium-driver"])
-    program, seen = reading_room.program(sys.argv[1:]), reading_room.Seen()
+    program, seen = harness.program(sys.argv[1:]), harness.Seen()
     with reading_room.Room(program) as room, contextlib.ExitStack() as stack:
         room.fill()
         room.start_nginx()

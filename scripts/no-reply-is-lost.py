@@ -22,10 +22,13 @@ import sys
 import threading
 import time
 
+import lib
+import harness
 import reading_room
 import tools
 
-from client_cases import FIRST, FRAMING, LIMIT, LONG, LONG_FILE, MORE, content, head, put_image
+from client_cases import FIRST, FRAMING, LONG, LONG_FILE, MORE, content, head, put_image
+from harness import LIMIT
 from clients import by_client, by_curl, connected, read_all, tried
 
 VISITS = 200
@@ -126,8 +129,8 @@ def main():
     missing = tools.missing(["curl"])
     if missing:
         sys.exit(f"missing: {' '.join(missing)}")
-    seen = reading_room.Seen()
-    with reading_room.Room(reading_room.program(sys.argv[1:]), at_port=True) as room:
+    seen = harness.Seen()
+    with reading_room.Room(harness.program(sys.argv[1:]), at_port=True) as room:
         room.fill((*FIRST, *MORE, *LONG))
         for label, client, due in CLIENTS:
             see_client(seen, room, label, client, due)

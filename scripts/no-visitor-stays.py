@@ -18,14 +18,15 @@ repository where none is named."""
 
 import concurrent.futures
 import contextlib
-import subprocess
 import sys
 import threading
 import time
 
+import lib
+import harness
 import reading_room
 
-from client_cases import FIRST, LIMIT, LONG, LONG_FILE, MORE, content, head
+from client_cases import FIRST, LONG, LONG_FILE, MORE, content, head
 from clients import connected, read_all
 
 # The limits in seconds, and how much longer the next visitor may wait.
@@ -82,19 +83,9 @@ OPTIONS = [
 @contextlib.contextmanager
 def serving(room, place, *options):
     """A desk with the store of a room serves at a port, or at the Unix socket of a path."""
-    where = ["--port" if isinstance(place, int) else "--socket", str(place)]
-    words = ["serve", "--store", str(room.store), *where, "--count", "1000000", *options]
-    with subprocess.Popen([room.program, *words], stdin=subprocess.DEVNULL, stdout=subprocess.PIPE) as desk:
-        try:
-            watch = threading.Timer(LIMIT, desk.kill)
-            watch.start()
-            line = desk.stdout.readline()
-            watch.cancel()
-            if not line.startswith(b"listening "):
-                raise RuntimeError(f"the desk does not listen: {line!r}")
-            yield desk
-        finally:
-            desk.kill()
+    with harness.Serving(room.program, room.store, words=options, place=place) as desk:
+        desk.listens()
+        yield desk.process
 
 
 @contextlib.contextmanager
@@ -176,9 +167,9 @@ def see_place(seen, room, place):
 
 
 def main():
-    seen, program = reading_room.Seen(), reading_room.program(sys.argv[1:])
+    seen, program = harness.Seen(), harness.program(sys.argv[1:])
     with reading_room.Room(program) as one, reading_room.Room(program) as other:
-        places = [reading_room.free_ports(1)[0], other.folder / "socket"]
+        places = [harness.free_ports(1)[0], other.folder / "socket"]
         with concurrent.futures.ThreadPoolExecutor() as both:
             list(both.map(see_place, [seen, seen], [one, other], places))
     sys.exit(seen.told())

@@ -1,7 +1,7 @@
 #!/usr/bin/env python3
 """scripts/pages-over-a-stand-in.py [PART..]: drives both pages in headless Chromium over a stand-in for the desk.
 
-The stand-in (scripts/stand_in.py) answers as docs/FORMATS.md says, over a museum in memory, so this needs no built
+The stand-in (scripts/lib/stand_in.py) answers as docs/FORMATS.md says, over a museum in memory, so this needs no built
 desk and can be as large as a museum may become. scripts/in-a-browser.py looks at the pages over the desk itself.
 
 You need Python 3 with its standard library alone, Linux, and Debian's chromium and chromium-driver, which the script
@@ -9,6 +9,8 @@ installs as root if they are missing. PART names the parts to look at; all of th
 
 import sys
 
+import lib
+import harness
 import pages_access
 import pages_audit
 import pages_eyes
@@ -20,7 +22,6 @@ import pages_reading
 import pages_rehearsal
 import pages_standing
 import pages_titles
-import reading_room
 import tools
 from page_tabs import browsing
 
@@ -34,7 +35,7 @@ PARTS = {
 def main():
     named = sys.argv[1:] or list(PARTS)
     tools.install(["chromium", "chromedriver"], ["chromium", "chromium-driver", "fonts-dejavu-core"])
-    seen = reading_room.Seen()
+    seen = harness.Seen()
     with browsing() as browser:
         for name in named:
             PARTS[name](seen, browser)

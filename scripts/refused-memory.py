@@ -26,10 +26,11 @@ import sys
 import tempfile
 import time
 
+import lib
+import harness
 import wal_pages
 
-from client_cases import ROOT
-from reading_room import free_ports
+from harness import ROOT
 
 CRATES = ("rd_policy_tests", "rd_disk_tests", "rd_tests", "rd_main")
 # After how many seconds a run is given up.
@@ -280,17 +281,14 @@ def tried(trial, at):
 # All runs
 
 
-class Sweeps:
+class Sweeps(harness.Seen):
     """The runs that go on at a time, and how the sweeps before ended."""
 
     def __init__(self, jobs, pool):
+        super().__init__()
         self.jobs = jobs
         self.pool = pool
-        self.passed = self.failed = self.growths = self.dumps = 0
-
-    def fails(self, text):
-        self.failed += 1
-        print(f"FAILED: {text}", flush=True)
+        self.growths = self.dumps = 0
 
     def sweep(self, name, trial):
         """The trial has to succeed with each growth refused. Each number is given out once, in order."""
@@ -407,7 +405,7 @@ def main():
     memory = "/dev/shm" if os.access("/dev/shm", os.W_OK) else None
     forks = multiprocessing.get_context("fork")
     ports = forks.Queue()
-    for port in free_ports(jobs + 1):
+    for port in harness.free_ports(jobs + 1):
         ports.put(port)
     with tempfile.TemporaryDirectory() as name, tempfile.TemporaryDirectory(dir=memory) as room:
         work = pathlib.Path(name)
@@ -423,8 +421,7 @@ def main():
                 sweeps.sweep_program()
     seconds = time.monotonic() - before
     print(f"{sweeps.growths} growths refused in {seconds:.0f} s, with {sweeps.dumps} dumps by sqlite3")
-    print(f"{sweeps.passed} passed, {sweeps.failed} failed")
-    sys.exit(1 if sweeps.failed else 0)
+    sys.exit(sweeps.told())
 
 
 if __name__ == "__main__":

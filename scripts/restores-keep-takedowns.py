@@ -22,9 +22,12 @@ import sys
 import threading
 import time
 
+import lib
+import harness
 import reading_room
 
-from client_cases import HOST, LIMIT, ROOM, STAFF, Asked, badge, bytes_of, digest, get, put, put_image, put_rule
+from client_cases import ROOM, STAFF, Asked, badge, bytes_of, digest, get, put, put_image, put_rule
+from harness import LIMIT
 from front_cases import Door
 from house import House
 
@@ -345,8 +348,8 @@ def usage_of(came):
 def main():
     reading_room.install()
     words = sys.argv[1:]
-    program = reading_room.program(words)
-    seen = reading_room.Seen()
+    program = harness.program(words)
+    seen = harness.Seen()
     for see in (see_whole_week, see_given_up, see_cut_journal, see_words):
         see(seen, program)
     see_kills(seen, program, int(words[1]) if len(words) > 1 else 150)

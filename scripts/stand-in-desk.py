@@ -16,8 +16,10 @@ import sqlite3
 import sys
 import threading
 
+import lib
 import stand_in
-from client_cases import HOST, bytes_of
+from client_cases import bytes_of
+from harness import HOST
 
 TABLES = re.findall(r"^CREATE TABLE .*$", bytes_of("docs", "FORMATS.md").decode(), re.M)
 EFFECTS = ("deny", "list", "read")

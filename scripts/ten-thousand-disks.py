@@ -34,8 +34,9 @@ import time
 
 ROOT = pathlib.Path(__file__).resolve().parent.parent
 sys.path.insert(0, str(ROOT / "bench"))
+import lib
+import harness
 import measured_desk
-import reading_room
 import rooms
 
 CHECK_ALL = ROOT / "operate" / "check-all"
@@ -44,27 +45,6 @@ FEW, DAY, VISITS = 10, 200, 200
 # After how many seconds the script ends in any case.
 LONGEST = 3600
 DONE = b'{"done":true}'
-
-
-class Seen:
-    """What was measured so far, and how often it was more than it may be."""
-
-    def __init__(self):
-        self.passed = self.failed = 0
-
-    def most(self, what, came, limit, unit):
-        """Prints what came, and counts whether it is at most the limit."""
-        fits = came <= limit
-        self.passed += fits
-        self.failed += not fits
-        print(f"{'' if fits else 'FAILED: '}{what}: {came:,.2f} {unit}, at most {limit:,.0f} {unit}", flush=True)
-
-    def same(self, what, due, came):
-        """Counts whether what came is what is due."""
-        self.passed += due == came
-        self.failed += due != came
-        if due != came:
-            print(f"FAILED: {what}: due is {repr(due)[:300]}, came {repr(came)[:300]}", flush=True)
 
 
 # What is asked, and what is due
@@ -233,8 +213,8 @@ def main():
     parser.add_argument("program", nargs="?")
     parser.add_argument("--disks", type=int, default=10_000)
     words = parser.parse_args()
-    program = reading_room.program([words.program] if words.program else [])
-    seen = Seen()
+    program = harness.program([words.program])
+    seen = harness.Seen()
     signal.signal(signal.SIGTERM, lambda *_: sys.exit("stopped"))
     signal.signal(signal.SIGALRM, lambda *_: sys.exit(f"not at its end after {LONGEST:,} s"))
     signal.alarm(LONGEST)
@@ -251,8 +231,7 @@ def main():
         few.stop()
         look_at_check(museum, folder, seen)
         look_at_import(museum, folder, seen)
-    print(f"{seen.passed} passed, {seen.failed} failed")
-    sys.exit(1 if seen.failed else 0)
+    sys.exit(seen.told())
 
 
 if __name__ == "__main__":

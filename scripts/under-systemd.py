@@ -15,6 +15,7 @@ import re
 import sys
 import time
 
+import lib
 import booted
 import operating_page
 import reading_room

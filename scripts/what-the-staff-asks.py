@@ -31,8 +31,9 @@ import tempfile
 
 ROOT = pathlib.Path(__file__).resolve().parent.parent
 sys.path.insert(0, str(ROOT / "bench"))
+import lib
+import harness
 import measured_desk
-import reading_room
 import rooms
 
 # The large deed has one disk in so many of the museum.
@@ -160,18 +161,12 @@ def questions(museum):
 # What is looked at
 
 
-class Look:
+class Look(harness.Seen):
     """A desk that serves, and what was measured of it so far."""
 
     def __init__(self, server):
-        self.server, self.passed, self.failed = server, 0, 0
-
-    def most(self, what, came, limit, unit):
-        """Prints what came, and counts whether it is at most the limit."""
-        fits = came <= limit
-        self.passed += fits
-        self.failed += not fits
-        print(f"{'' if fits else 'FAILED: '}{what}: {came:,.2f} {unit}, at most {limit:,.1f} {unit}", flush=True)
+        super().__init__()
+        self.server = server
 
     def medians(self, several, count):
         """How long each of several questions takes, asked in turn: the medians."""
@@ -203,7 +198,7 @@ def main():
     parser.add_argument("program", nargs="?")
     parser.add_argument("--disks", type=int, default=10_000)
     words = parser.parse_args()
-    program = reading_room.program([words.program] if words.program else [])
+    program = harness.program([words.program])
     signal.signal(signal.SIGTERM, lambda *_: sys.exit("stopped"))
     signal.signal(signal.SIGALRM, lambda *_: sys.exit(f"not at its end after {LONGEST:,} s"))
     signal.alarm(LONGEST)
@@ -214,8 +209,7 @@ def main():
         print(f"{museum.disks:,} disks, {len(museum.deeds):,} deeds, {rules:,} rules; a store of {size:,.0f} MB", flush=True)
         with measured_desk.served(program, museum.store) as server:
             seen = look(server, museum)
-    print(f"{seen.passed} passed, {seen.failed} failed")
-    sys.exit(1 if seen.failed else 0)
+    sys.exit(seen.told())
 
 
 if __name__ == "__main__":

@@ -1,0 +1,211 @@
+"""What the scripts that look at desk share: where the repository and the program are, what was compared so far, free
+ports, connections to a place, and a desk that serves."""
+
+import contextlib
+import http.client
+import os
+import resource
+import socket
+import subprocess
+import sys
+import threading
+import time
+
+ROOT = os.path.dirname(os.path.dirname(os.path.dirname(os.path.abspath(__file__))))
+# The program where ./desk has built it.
+PROGRAM = os.path.join(ROOT, "crates", "rd_main", "out", "rd_main")
+HOST = "127.0.0.1"
+# After how many seconds a client or the program is given up.
+LIMIT = 60
+# A number of visits that no desk here reaches.
+ENDLESS = 1_000_000
+# How many characters of a value are shown where it is not the one that is wanted.
+SHOWN = 600
+
+
+# Files
+
+
+def bytes_of(*parts):
+    """The bytes of a file of this repository, or of one that is named by its whole path."""
+    with open(os.path.join(ROOT, *parts), "rb") as file:
+        return file.read()
+
+
+def write(path, data):
+    """Makes a file of these bytes."""
+    with open(path, "wb") as file:
+        file.write(data)
+
+
+# The program
+
+
+def program(words):
+    """The path of the program that the first of some words names, or that of this repository, which ./desk builds where
+    it is missing or older than its sources. The script ends where it does not run."""
+    named = words and words[0]
+    path = os.path.abspath(named) if named else os.path.join(ROOT, "desk")
+    if not os.path.exists(path):
+        sys.exit(f"missing: {path}")
+    if subprocess.run([path, "--version"], stdin=subprocess.DEVNULL, stdout=subprocess.DEVNULL).returncode:
+        sys.exit(f"it does not run: {path}")
+    return path if named else PROGRAM
+
+
+# What was seen
+
+
+def shown(value):
+    """A value as a report shows it: where it is long, its beginning."""
+    text = repr(value)
+    return text if len(text) < SHOWN else f"{text[:SHOWN]} .."
+
+
+class Seen:
+    """What was compared so far."""
+
+    def __init__(self):
+        self.passed = 0
+        self.failed = 0
+
+    def same(self, label, wanted, came):
+        """Counts whether what came is what is wanted."""
+        if wanted == came:
+            self.passed += 1
+        else:
+            self.fails(f"{label}: wanted {shown(wanted)}, came {shown(came)}")
+
+    def most(self, label, came, limit, unit):
+        """Prints what came, and counts whether it is at most the limit."""
+        fits = came <= limit
+        self.passed += fits
+        self.failed += not fits
+        print(f"{'' if fits else 'FAILED: '}{label}: {came:,.2f} {unit}, at most {limit:,.1f} {unit}", flush=True)
+
+    def fails(self, text, count=1):
+        """Counts what failed, and says why."""
+        self.failed += count
+        print(f"FAILED: {text}", flush=True)
+
+    def told(self):
+        """Prints the counts, and gives the status with which a script ends."""
+        print(f"{self.passed} passed, {self.failed} failed")
+        return 1 if self.failed or not self.passed else 0
+
+
+# Places: a port of this machine, or the path of a Unix socket
+
+
+def free_ports(count):
+    """Ports at which nobody listens now, each another."""
+    with contextlib.ExitStack() as stack:
+        probes = [stack.enter_context(socket.socket()) for _ in range(count)]
+        for probe in probes:
+            probe.bind((HOST, 0))
+        return [probe.getsockname()[1] for probe in probes]
+
+
+def free_port():
+    return free_ports(1)[0]
+
+
+def wait_for(port, process, seconds=LIMIT):
+    """Waits until a process listens at a port, for so many seconds at most."""
+    end = time.monotonic() + seconds
+    while time.monotonic() < end and process.poll() is None:
+        with socket.socket() as probe:
+            if probe.connect_ex((HOST, port)) == 0:
+                return
+        time.sleep(0.05)
+    raise RuntimeError(f"nobody listens at port {port}")
+
+
+def socket_at(place, timeout=LIMIT):
+    """A plain connection to a place."""
+    if isinstance(place, int):
+        return socket.create_connection((HOST, place), timeout)
+    connection = socket.socket(socket.AF_UNIX)
+    connection.settimeout(timeout)
+    connection.connect(str(place))
+    return connection
+
+
+class SocketConnection(http.client.HTTPConnection):
+    """A client at a Unix socket."""
+
+    def __init__(self, path, timeout):
+        super().__init__("desk", timeout=timeout)
+        self.path = path
+
+    def connect(self):
+        self.sock = socket_at(self.path, self.timeout)
+
+
+def client_at(place, timeout=LIMIT):
+    """A client at a place."""
+    if isinstance(place, int):
+        return http.client.HTTPConnection(HOST, place, timeout=timeout)
+    return SocketConnection(place, timeout)
+
+
+# A desk that serves
+
+
+class Serving:
+    """The program while it serves visits of a store, at a place or at a free port. With few_files it may open no more
+    than so many files: a connection that is not closed is soon one too many."""
+
+    def __init__(self, program, store, count=ENDLESS, words=(), environment=None, place=None, few_files=None):
+        self.place = free_port() if place is None else place
+        self.port = self.place if isinstance(self.place, int) else None
+        where = ["--port" if self.port else "--socket", str(self.place)]
+        self.process = subprocess.Popen(
+            [program, "serve", "--store", str(store), *where, "--count", str(count), *words],
+            bufsize=0,
+            env={**os.environ, **(environment or {})},
+            stdin=subprocess.DEVNULL,
+            stdout=subprocess.PIPE,
+            stderr=subprocess.PIPE,
+        )
+        if few_files:
+            with contextlib.suppress(ProcessLookupError):
+                resource.prlimit(self.process.pid, resource.RLIMIT_NOFILE, (few_files, few_files))
+
+    def __enter__(self):
+        return self
+
+    def __exit__(self, *_):
+        self.kill()
+
+    def kill(self):
+        """Ends it as a loss of power would."""
+        self.process.kill()
+        self.process.communicate()
+
+    def wanted_line(self):
+        """The line that it writes when it listens."""
+        return f"listening {f'{HOST}:' if self.port else ''}{self.place}\n"
+
+    def line(self):
+        """The line that it writes first. It is killed where it writes none in time."""
+        watch = threading.Timer(LIMIT, self.process.kill)
+        watch.start()
+        try:
+            return self.process.stdout.readline().decode()
+        finally:
+            watch.cancel()
+
+    def listens(self):
+        """Waits until it listens. The script ends where it does not."""
+        line = self.line()
+        if line != self.wanted_line():
+            sys.exit(f"it does not listen: {line!r}, {self.end()}")
+
+    def end(self):
+        """How it ends: its status, what else it wrote, and its errors."""
+        try:
+            written, errors = self.process.communicate(timeout=LIMIT)
+        except subprocess.TimeoutExpired:
+            return "it does not end"
+        return self.process.returncode, written.decode(), errors.decode()
