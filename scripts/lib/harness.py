@@ -4,6 +4,8 @@ ports, connections to a place, and a desk that serves."""
 import contextlib
 import http.client
 import os
+import pathlib
+import random
 import resource
 import socket
 import subprocess
@@ -15,6 +17,8 @@ ROOT = os.path.dirname(os.path.dirname(os.path.dirname(os.path.abspath(__file__)
 # The program where ./desk has built it.
 PROGRAM = os.path.join(ROOT, "crates", "rd_main", "out", "rd_main")
 HOST = "127.0.0.1"
+# Ports from this one on are nobody's by custom, and no browser refuses them.
+FIRST_PORT = 10240
 # After how many seconds a client or the program is given up.
 LIMIT = 60
 # A number of visits that no desk here reaches.
@@ -98,12 +102,18 @@ class Seen:
 
 
 def free_ports(count):
-    """Ports at which nobody listens now, each another."""
+    """Ports at which nobody listens now, each another. None of them is one that Linux gives to who connects: it could
+    do that before somebody listens there."""
+    given = pathlib.Path("/proc/sys/net/ipv4/ip_local_port_range").read_text().split()
+    chance, probes = random.SystemRandom(), {}
     with contextlib.ExitStack() as stack:
-        probes = [stack.enter_context(socket.socket()) for _ in range(count)]
-        for probe in probes:
-            probe.bind((HOST, 0))
-        return [probe.getsockname()[1] for probe in probes]
+        while len(probes) < count:
+            port = chance.randrange(FIRST_PORT, max(int(given[0]), 2 * FIRST_PORT))
+            probe = stack.enter_context(socket.socket())
+            with contextlib.suppress(OSError):
+                probe.bind((HOST, port))
+                probes[port] = probe
+        return list(probes)
 
 
 def free_port():
