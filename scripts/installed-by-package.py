@@ -10,6 +10,7 @@ staff may ask.
 The Debian is kept in /var/tmp/desk-under-systemd for the next run, and no run changes it."""
 
 import functools
+import os
 import pathlib
 import re
 import shutil
@@ -23,7 +24,7 @@ import operating_page
 import reading_room
 import tools
 
-from client_cases import ROOT
+from client_cases import ROOT, digest
 
 MAKE = f"{ROOT}/operate/make-deb"
 # What apt is given longer for than other commands, in seconds.
@@ -333,12 +334,47 @@ def see_package(seen, package):
     seen.same("lintian", [], found)
 
 
-def see_refusals(seen, folder):
-    """Without a proved program no package is made."""
-    if not pathlib.Path(ROOT, "crates", "rd_main", "out", "rd_main.stamp").exists():
-        ran = subprocess.run([MAKE, folder], capture_output=True, text=True)
-        seen.same("no proof", (1, "make-deb: no proved program: type ./desk --version\n"), (ran.returncode, ran.stderr))
+def see_refusals(seen, folder, program):
+    """Without a proved program no package is made. A clone has a program, and in the place of the kit's stamp and the
+    kit ones of this script."""
+    clone, bin_ = pathlib.Path(folder, "clone"), pathlib.Path(folder, "bin")
+    subprocess.run(["git", "clone", "-q", ROOT, clone], check=True)
+    built = clone / "crates" / "rd_main" / "out" / "rd_main"
+    built.parent.mkdir()
+    shutil.copy(program or f"{ROOT}/crates/rd_main/out/rd_main", built)
+    bin_.mkdir()
+    (bin_ / "rt").write_text("#!/bin/sh\necho a kit\n")
+    (bin_ / "rt").chmod(0o755)
+
+    def made_by():
+        """What make-deb says or makes."""
+        where = {**os.environ, "PATH": f"{bin_}:{os.environ['PATH']}"}
+        ran = subprocess.run([clone / "operate" / "make-deb", folder], capture_output=True, text=True, env=where)
+        return ran.stderr.removeprefix("make-deb: ") or ran.stdout
+
+    page, source, stamp = clone / "docs" / "OPERATING.md", clone / "crates.txt", built.with_suffix(".stamp")
+    seen.same("no proof", "no proved program: type ./desk --version\n", made_by())
+    stamp.write_text(f"of another program\n{'0' * 64}")
+    seen.same("another program", "the program is not the one that was proved\n", made_by())
+    stamp.write_text(f"of this one\n{digest(built.read_bytes())}")
+    page.write_text(page.read_text() + "More.\n")
+    seen.same("no commit", "the sources are no commit\n", made_by())
+    subprocess.run(["git", "-C", clone, "checkout", "-q", page], check=True)
+    os.utime(source, (built.stat().st_mtime + 10,) * 2)
+    seen.same("a source that is newer", f"{source} is newer than the program: type ./desk --version\n", made_by())
+    os.utime(source, (0, 0))
+    package = pathlib.Path(made_by().strip())
+    seen.same("a proved program", True, package.suffix == ".deb" and package.exists())
+    see_words(seen, package, clone)
     seen.same("no folder", 1, subprocess.run([MAKE, f"{folder}/none"], capture_output=True).returncode)
+
+
+def see_words(seen, package, clone):
+    """What a package says of its proof."""
+    words = f"dpkg-deb --fsys-tarfile {package} | tar -xO ./usr/share/doc/desk/proved"
+    told = subprocess.run(["sh", "-c", words], capture_output=True, text=True).stdout.splitlines()
+    commit = subprocess.run(["git", "-C", clone, "rev-parse", "HEAD"], capture_output=True, text=True).stdout.strip()
+    seen.same("what it says of that", f"This program is proved: commit {commit}, a kit.", (told or [""])[0])
 
 
 # The users and groups of a machine, as far as the package's folders are theirs.
@@ -490,8 +526,8 @@ def main():
     program = reading_room.program(sys.argv[1:]) if sys.argv[1:] else None
     seen = reading_room.Seen()
     with tempfile.TemporaryDirectory() as folder:
-        see_refusals(seen, folder)
         older, newer = made(folder, program, "0.1.0"), made(folder, program, "0.1.1")
+        see_refusals(seen, folder, program)
         see_package(seen, newer)
         see_journals_folder(seen)
         with booted.Machine() as machine:
