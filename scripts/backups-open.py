@@ -9,9 +9,9 @@ staff may ask.
 It makes COUNT backups, 20 by default, of a store of 10 MB, and LARGE, by default as many, of one of DISKS disks, 400 by
 default, which are 70 MB; 5,700 are 1 GB. The two take turns. A backup has to be a store after exactly as many commands
 as were done at one moment between its beginning and its end; sqlite3 reads it, and desk has opened it. A reader asks
-without a rest, too: their longest wait at the larger store is at most twice that at the smaller one. Where MINUTES, 60
-by default, are not enough, backups are left out, first those of the larger store, and the script says how many; but it
-makes ten of each size.
+without a rest, too: of as many replies of each store, their longest wait at the larger one is at most twice that at
+the smaller one. Where MINUTES, 60 by default, are not enough, backups are left out, first those of the larger store,
+and the script says how many; but it makes ten of each size.
 
 Then come backups while commands go round the staff's door, backups that fail, and the choice of those that are kept.
 The larger store needs four times its room on the disk, and twice in the memory."""
@@ -195,7 +195,7 @@ def see_backup(seen, store, label):
     os.sync()
     print(f"{label}: a reader waited {reader.longest:.3f} s; {out.strip().split('; ')[-1]}", flush=True)
     store.waits.append(reader.longest)
-    store.replies += reader.statuses[200]
+    store.replies.append(reader.statuses[200])
 
 
 def see_copy(seen, folder, writer, counts, label):
@@ -212,12 +212,12 @@ def see_copy(seen, folder, writer, counts, label):
 
 
 class Busy:
-    """A house with a store of so many disks, who sends commands to it, how many backups are due, the longest wait of a
-    reader at each that was made, and how many seconds each took."""
+    """A house with a store of so many disks, who sends commands to it, how many backups are due; and of each that was
+    made the longest wait of a reader, how many replies they got, and how many seconds it took."""
 
     def __init__(self, house, writer, disks, due):
         self.house, self.writer, self.disks, self.due = house, writer, disks, due
-        self.waits, self.replies, self.taken = [], 0, []
+        self.waits, self.replies, self.taken = [], [], []
 
     def left(self):
         return self.due - len(self.waits)
@@ -228,6 +228,14 @@ class Busy:
     def seconds(self):
         """How long one more backup may take."""
         return statistics.mean(self.taken or [0])
+
+    def longest(self, replies):
+        """The longest wait of a reader at the first backups, until they got so many replies."""
+        longest = came = 0
+        for wait, count in zip(self.waits, self.replies):
+            if came < replies:
+                longest, came = max(longest, wait), came + count
+        return longest
 
     def back_up(self, seen, label):
         begun = time.monotonic()
@@ -280,11 +288,14 @@ def see_waits(seen, large, small):
     """How long a reader waited while backups were made of a large and of a small store."""
     for store in (large, small):
         size, most, usual = os.path.getsize(store.house.room.store), max(store.waits), statistics.median(store.waits)
-        words = f"{store.disks} disks, {size / 1e6:.0f} MB, {store.writer.done} commands, {store.replies} replies"
-        print(f"{words}: a reader waited {most:.3f} s at most, {usual:.3f} s mostly", flush=True)
+        print(f"{store.disks} disks: {size / 1e6:.0f} MB; {store.writer.done} commands", flush=True)
+        words = f"{sum(store.replies)} replies, of which a reader waited {most:.3f} s at most, {usual:.3f} s mostly"
+        print(f"{store.disks} disks: {words}", flush=True)
         seen.same(f"{store.disks} disks: the desk is never frozen", 0, store.house.freezes())
-    # of as many waits of each, since the longest of many is longer than that of a few
-    longest, allowed = max(large.waits), max(LONGER * max(small.waits[: len(large.waits)]), NOTHING)
+    # of as many replies of each, since the longest of many waits is longer than that of a few
+    replies = min(sum(large.replies), sum(small.replies))
+    longest, allowed = large.longest(replies), max(LONGER * small.longest(replies), NOTHING)
+    print(f"of {replies} replies each: {longest:.3f} s at the larger store, {allowed:.3f} s are allowed", flush=True)
     seen.same(f"a reader waits {longest:.3f} s at most at the larger store", True, longest <= allowed)
 
 
