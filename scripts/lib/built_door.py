@@ -120,6 +120,11 @@ class BuiltDoor:
             store.execute("UPDATE image SET bytes = ? WHERE acc = ?", [bytes(disk), acc])
         self.room.start_desk()
 
+    def change_bytes(self, acc):
+        """A disk has changed, which a check has found."""
+        self.flip(acc)
+        self.check(acc)
+
     def effects(self, acc):
         """What the public and the room may do with each file of a disk, as the desk lists it to them."""
         image = self.museum.images[acc]

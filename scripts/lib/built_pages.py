@@ -1,6 +1,7 @@
 """What scripts/in-a-browser.py looks at of both pages over a museum that a built desk holds behind nginx, as
 scripts/pages-over-a-stand-in.py does over a stand-in: texts of the machines, downloads, a zip; titles; who sees what,
-and the next year; rehearsals and the ranks of takedowns; one form for many; keys alone; the yearly audit."""
+and the next year; rehearsals and the ranks of takedowns; one form for many; names of controls, contrast, headings and
+focus in each view; keys alone; the yearly audit."""
 
 import contextlib
 import time
@@ -8,6 +9,7 @@ import time
 import cbm_image
 import cpm_image
 import made_museum
+import pages_access
 import pages_audit
 import pages_eyes
 import pages_keyboard
@@ -190,6 +192,17 @@ def see_many(seen, browser, program):
             group(seen, tab)
 
 
+# Names of controls, contrast, headings and focus
+
+
+def see_access(seen, browser, program):
+    museum, _ = reading_museum()
+    museum.rules["R7"].pop(10)
+    with built(program, museum, {"titles.csv": pages_access.TITLES}) as room:
+        pages_access.see_readers(seen, ReadersTab(browser, BuiltDoor(room, museum, outside=True)))
+        pages_access.see_staff(seen, StaffTab(browser, BuiltDoor(room, museum)))
+
+
 # By keys alone
 
 
@@ -246,7 +259,7 @@ def words_of_rule(rule):
 
 
 PARTS = (
-    see_reading, see_titles, see_eyes, see_rehearsals, see_not_read, see_many, see_keyboard, see_audit,
+    see_reading, see_titles, see_eyes, see_rehearsals, see_not_read, see_many, see_access, see_keyboard, see_audit,
 )
 
 

@@ -143,7 +143,8 @@ def see_readers(seen, tab):
     see_strict(seen, tab, "readers")
 
 
-def see_staff(seen, tab):
+def see_staff(seen, tab, held=()):
+    """The staff's page; with `held` also what it shows while something holds the desk up."""
     tab.browser.logs()
     see_view(seen, tab, "staff without a key", set())
     tab.begin()
@@ -166,16 +167,18 @@ def see_staff(seen, tab):
     see_focus(seen, tab, "a change")
     tab.press("#change [name=leave]")
     see_states(seen, tab)
+    for group in held:
+        group(seen, tab)
     see_strict(seen, tab, "staff")
 
 
 def see_states(seen, tab):
-    """What a view shows besides: a survey, a disk that has changed, a refusal, what is asked of a deed and of a key, a
-    report of what failed, and a work that has not ended."""
+    """What a view shows besides: a survey, a disk that has changed, a refusal, and what is asked of a deed and of a
+    key."""
     tab.go("checks")
     tab.of_row("disk 1002", "Survey")
     see_faults(seen, tab, "a survey")
-    tab.door.museum.latest[1003] = "2026-01-02", "changed"
+    tab.door.change_bytes(1003)
     tab.go("deeds")
     tab.go("checks")
     see_faults(seen, tab, "a changed disk")
@@ -193,11 +196,10 @@ def see_states(seen, tab):
     see_faults(seen, tab, "a key")
     see_focus(seen, tab, "a key")
     tab.answer(False)
-    see_report(seen, tab)
-    see_progress(seen, tab)
 
 
 def see_report(seen, tab):
+    """A report of what failed."""
     tab.go("takedowns")
     tab.rule("takedowns", "1001-1002", "", "deny", "all", None, "public")
     tab.submit("takedowns")
@@ -209,7 +211,7 @@ def see_report(seen, tab):
 
 
 def see_progress(seen, tab):
-    """The rest of these takedowns, of which the first waits for the desk."""
+    """A work that has not ended: the rest of these takedowns, of which the first waits for the desk."""
     goes = threading.Event()
 
     def before(method, path):
@@ -238,4 +240,4 @@ def see(seen, browser):
         with door(museum, outside=True, folder=folder) as outside:
             see_readers(seen, ReadersTab(browser, outside))
         with door(museum, folder=folder) as staffs:
-            see_staff(seen, StaffTab(browser, staffs))
+            see_staff(seen, StaffTab(browser, staffs), (see_report, see_progress))

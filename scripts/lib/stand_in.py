@@ -355,6 +355,10 @@ class Door(socketserver.ThreadingTCPServer):
     def put_deed(self, number, donor, signed):
         self.museum.deeds[number] = donor, signed
 
+    def change_bytes(self, acc):
+        """A disk has changed, which a check has found."""
+        self.museum.latest[acc] = "2026-01-02", "changed"
+
     def ranks(self, acc):
         """The ranks of the takedowns of a disk."""
         return sorted(self.museum.rules.get(f"T{acc}", {}))
