@@ -4,7 +4,8 @@
 # among the cases. Of a Unix socket it looks who may use it, whether it gives way once its desk was killed, and
 # whether it goes with its desk. The program is ./desk of this repository, or the one that you name.
 set -u
-desk=${1:+$(realpath "$1")}
+desk=
+[ $# -eq 0 ] || desk=$(realpath -e -- "$1") || exit 1
 cd "$(dirname "$0")/.." && source scripts/lib/harness.sh && desk=$(program "$desk") || exit 1
 work=$(mktemp -d) || exit 1
 serving=

@@ -4,7 +4,8 @@
 # which the script installs as root if they are missing. Each backup must give the catalogue of its moment, images
 # with the SHA-256 that they came with, and the last change before it, which is only in the log.
 set -u
-desk=${1:+$(realpath "$1")}
+desk=
+[ $# -eq 0 ] || desk=$(realpath -e -- "$1") || exit 1
 cd "$(dirname "$0")/.." && source scripts/lib/harness.sh && desk=$(program "$desk") || exit 1
 there() { command -v sqlite3 >/dev/null && command -v curl >/dev/null; }
 install() { DEBIAN_FRONTEND=noninteractive apt-get install -y -qq --no-install-recommends sqlite3 curl </dev/null; }

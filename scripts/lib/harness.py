@@ -48,13 +48,12 @@ def write(path, data):
 def program(words):
     """The path of the program that the first of some words names, or that of this repository, which ./desk builds where
     it is missing or older than its sources. The script ends where it does not run."""
-    named = words and words[0]
-    path = os.path.abspath(named) if named else os.path.join(ROOT, "desk")
-    if not os.path.exists(path):
+    path = os.path.abspath(words[0]) if words else os.path.join(ROOT, "desk")
+    if not os.path.isfile(path):
         sys.exit(f"missing: {path}")
     if subprocess.run([path, "--version"], stdin=subprocess.DEVNULL, stdout=subprocess.DEVNULL).returncode:
         sys.exit(f"it does not run: {path}")
-    return path if named else PROGRAM
+    return path if words else PROGRAM
 
 
 # What was seen
