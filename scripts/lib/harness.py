@@ -168,6 +168,7 @@ class Serving:
     def __init__(self, program, store, count=ENDLESS, words=(), environment=None, place=None, few_files=None):
         self.place = free_port() if place is None else place
         self.port = self.place if isinstance(self.place, int) else None
+        self.has_told = False
         where = ["--port" if self.port else "--socket", str(self.place)]
         self.process = subprocess.Popen(
             [program, "serve", "--store", str(store), *where, "--count", str(count), *words],
@@ -188,9 +189,11 @@ class Serving:
         self.kill()
 
     def kill(self):
-        """Ends it as a loss of power would."""
+        """Ends it as a loss of power would. Errors that it wrote and that nobody has looked at are shown."""
         self.process.kill()
-        self.process.communicate()
+        errors = self.process.communicate()[1]
+        if errors and not self.has_told:
+            print(errors.decode(errors="replace"), end="", file=sys.stderr)
 
     def wanted_line(self):
         """The line that it writes when it listens."""
@@ -217,4 +220,5 @@ class Serving:
             written, errors = self.process.communicate(timeout=LIMIT)
         except subprocess.TimeoutExpired:
             return "it does not end"
+        self.has_told = True
         return self.process.returncode, written.decode(), errors.decode()
