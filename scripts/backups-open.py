@@ -7,11 +7,13 @@ installs as root if they are missing. Without PROGRAM it takes ./desk of this re
 staff may ask.
 
 It makes COUNT backups, 20 by default, of a store of 10 MB, and LARGE, by default as many, of one of DISKS disks, 400 by
-default, which are 70 MB; 5,700 are 1 GB. The two take turns. A backup has to be a store after exactly as many commands
-as were done at one moment between its beginning and its end; sqlite3 reads it, and desk has opened it. A reader asks
-without a rest, too: of as many replies of each store, their longest wait at the larger one is at most twice that at
-the smaller one. Where MINUTES, 60 by default, are not enough, backups are left out, first those of the larger store,
-and the script says how many; but it makes ten of each size.
+default, which are 70 MB; 5,700 are 1 GB. A backup has to be a store after exactly as many commands as were done at one
+moment between its beginning and its end; sqlite3 reads it, and desk has opened it.
+
+A reader asks without a rest, too: their longest wait at the larger store is at most twice that at the smaller one. The
+more replies they get, the longer is the longest wait of them. So the two stores take turns by the number of replies,
+and as many of each are compared, the first ones. Where MINUTES, 60 by default, are not enough for all, backups of the
+larger store are left out, and the script says how many; but it makes ten.
 
 Then come backups while commands go round the staff's door, backups that fail, and the choice of those that are kept.
 The larger store needs four times its room on the disk, and twice in the memory."""
@@ -49,8 +51,8 @@ SMALL, FEWEST = 57, 10
 # How many backups are made while commands go round the door; and during how many no more than one disk is put, so that
 # the store keeps its size.
 AROUND, EACH = 4, 4
-# How much longer a reader may wait at the larger store, of a wait that is no matter of chance.
-LONGER, NOTHING = 2, 0.25
+# How many times as long a reader may wait at the larger store.
+LONGER = 2
 READ = "/images/1/files/0"
 
 
@@ -130,11 +132,11 @@ class Writer(threading.Thread):
 
 
 class Reader(threading.Thread):
-    """A reader who asks without a rest, and how long they waited at most, until the block ends."""
+    """A reader who asks without a rest, and how long they waited for each reply, until the block ends."""
 
     def __init__(self, room):
         super().__init__(daemon=True)
-        self.room, self.longest, self.statuses = room, 0, collections.Counter()
+        self.room, self.waits, self.statuses = room, [], collections.Counter()
         self.stop = threading.Event()
 
     def __enter__(self):
@@ -158,7 +160,7 @@ class Reader(threading.Thread):
                 self.statuses[reply.status] += 1
             except (OSError, http.client.HTTPException) as fault:
                 self.statuses[repr(fault)] += 1
-            self.longest = max(self.longest, time.monotonic() - began)
+            self.waits.append(time.monotonic() - began)
 
 
 def held(folder):
@@ -176,8 +178,8 @@ def held(folder):
 
 
 def see_backup(seen, store, label):
-    """One backup under commands: what it holds, how desk-backup ends, and how long a reader waited, which the store
-    keeps. The backup is taken away again."""
+    """One backup under commands: what it holds, how desk-backup ends, and how long a reader waited for each reply. The
+    backup is taken away again."""
     house, writer = store.house, store.writer
     least = writer.done
     with Reader(house.room) as reader:
@@ -193,9 +195,9 @@ def see_backup(seen, store, label):
         shutil.rmtree(old)
     # what the disk does for that is done before the next one
     os.sync()
-    print(f"{label}: a reader waited {reader.longest:.3f} s; {out.strip().split('; ')[-1]}", flush=True)
-    store.waits.append(reader.longest)
-    store.replies.append(reader.statuses[200])
+    words = f"of {len(reader.waits)} replies a reader waited {max(reader.waits):.3f} s at most"
+    print(f"{label}: {words}; {out.strip().split('; ')[-1]}", flush=True)
+    store.waits += reader.waits
 
 
 def see_copy(seen, folder, writer, counts, label):
@@ -212,34 +214,26 @@ def see_copy(seen, folder, writer, counts, label):
 
 
 class Busy:
-    """A house with a store of so many disks, who sends commands to it, how many backups are due; and of each that was
-    made the longest wait of a reader, how many replies they got, and how many seconds it took."""
+    """A house with a store of so many disks, who sends commands to it, how many backups are due; how many seconds each
+    took that was made, and how long a reader waited for each reply meanwhile."""
 
     def __init__(self, house, writer, disks, due):
         self.house, self.writer, self.disks, self.due = house, writer, disks, due
-        self.waits, self.replies, self.taken = [], [], []
+        self.waits, self.taken = [], []
 
     def left(self):
-        return self.due - len(self.waits)
+        return self.due - len(self.taken)
 
     def has_few(self):
-        return len(self.waits) < min(FEWEST, self.due)
+        return len(self.taken) < min(FEWEST, self.due)
 
     def seconds(self):
         """How long one more backup may take."""
         return statistics.mean(self.taken or [0])
 
-    def longest(self, replies):
-        """The longest wait of a reader at the first backups, until they got so many replies."""
-        longest = came = 0
-        for wait, count in zip(self.waits, self.replies):
-            if came < replies:
-                longest, came = max(longest, wait), came + count
-        return longest
-
     def back_up(self, seen, label):
         begun = time.monotonic()
-        self.writer.most = self.disks + 1 + len(self.waits) // EACH
+        self.writer.most = self.disks + 1 + len(self.taken) // EACH
         self.writer.may_send.set()
         see_backup(seen, self, label)
         self.writer.may_send.clear()
@@ -263,14 +257,11 @@ def busy(seen, program, disks, due, seed):
 
 
 def next_of(large, small, seconds):
-    """The store of which a backup is made next, where there are so many seconds left: the one of which a smaller part
-    of what is due is made. None where there is no time, or nothing is left."""
-    few = [store for store in (large, small) if store.has_few()]
-    stores = few or [store for store in (large, small) if store.left() and seconds > 0]
-    if not few and seconds < small.left() * small.seconds() + large.seconds():
-        # the time that is left is for the smaller one
-        stores = [store for store in stores if store is small]
-    return min(stores, key=lambda store: len(store.waits) / store.due, default=None)
+    """The store of which a backup is made next, with so many seconds left: the one at which a reader got fewer replies.
+    All of the small one are made, of the large one a few, and more while there is time. None where nothing is left."""
+    has_time = seconds > small.left() * small.seconds() + large.seconds()
+    stores = [store for store in (large, small) if store.left() and (store is small or store.has_few() or has_time)]
+    return min(stores, key=lambda store: len(store.waits), default=None)
 
 
 def see_sizes(seen, program, dues, disks, seconds):
@@ -278,25 +269,31 @@ def see_sizes(seen, program, dues, disks, seconds):
     with busy(seen, program, disks, dues[0], 1) as large, busy(seen, program, SMALL, dues[1], 2) as small:
         end = time.monotonic() + seconds
         while store := next_of(large, small, end - time.monotonic()):
-            store.back_up(seen, f"{store.disks} disks, backup {len(store.waits) + 1}")
+            store.back_up(seen, f"{store.disks} disks, backup {len(store.taken) + 1}")
         for store in (large, small):
-            print(f"{store.disks} disks: {len(store.waits)} backups are made, {store.left()} are left out", flush=True)
+            print(f"{store.disks} disks: {len(store.taken)} backups are made, {store.left()} are left out", flush=True)
         see_waits(seen, large, small)
 
 
 def see_waits(seen, large, small):
     """How long a reader waited while backups were made of a large and of a small store."""
+    replies = min(len(large.waits), len(small.waits))
     for store in (large, small):
-        size, most, usual = os.path.getsize(store.house.room.store), max(store.waits), statistics.median(store.waits)
-        print(f"{store.disks} disks: {size / 1e6:.0f} MB; {store.writer.done} commands", flush=True)
-        words = f"{sum(store.replies)} replies, of which a reader waited {most:.3f} s at most, {usual:.3f} s mostly"
-        print(f"{store.disks} disks: {words}", flush=True)
+        size = os.path.getsize(store.house.room.store) / 1e6
+        print(f"{store.disks} disks: {size:.0f} MB; {store.writer.done} commands", flush=True)
+        print(f"{store.disks} disks, all replies: {told(store.waits)}", flush=True)
+        print(f"{store.disks} disks, as many as of the other: {told(store.waits[:replies])}", flush=True)
         seen.same(f"{store.disks} disks: the desk is never frozen", 0, store.house.freezes())
-    # of as many replies of each, since the longest of many waits is longer than that of a few
-    replies = min(sum(large.replies), sum(small.replies))
-    longest, allowed = large.longest(replies), max(LONGER * small.longest(replies), NOTHING)
-    print(f"of {replies} replies each: {longest:.3f} s at the larger store, {allowed:.3f} s are allowed", flush=True)
-    seen.same(f"a reader waits {longest:.3f} s at most at the larger store", True, longest <= allowed)
+    at_large, at_small = (max(store.waits[:replies]) for store in (large, small))
+    label = f"a reader's longest wait of {replies} replies at the larger store, beside the smaller one"
+    seen.most(label, at_large / at_small, LONGER, "times")
+
+
+def told(waits):
+    """How long a reader waited, in words."""
+    of_all = sorted(waits)
+    parts = [f"{of_all[int(len(of_all) * part)]:.3f} s for {part:.1%}" for part in (0.5, 0.99, 0.999)]
+    return f"{len(of_all)} replies; a reader waited at most {', '.join(parts)}, {of_all[-1]:.3f} s for all"
 
 
 def see_around(seen, program):
@@ -304,7 +301,7 @@ def see_around(seen, program):
     with busy(seen, program, SMALL, AROUND, 3) as store:
         store.writer.place_now = store.house.room.place
         while store.left():
-            store.back_up(seen, f"round the door, backup {len(store.waits) + 1}")
+            store.back_up(seen, f"round the door, backup {len(store.taken) + 1}")
         seen.same("round the door: the desk is frozen", True, store.house.freezes() > 0)
 
 
@@ -410,6 +407,8 @@ def main():
     numbers = [int(word) for word in words[1:]]
     count, disks, minutes = [*numbers, *[20, 400, 60][len(numbers):]][:3]
     large = numbers[3] if len(numbers) > 3 else count
+    if min(count, large) < 1:
+        sys.exit("COUNT and LARGE are at least 1")
     seen = reading_room.Seen()
     see_sizes(seen, program, (large, count), disks, 60 * minutes)
     see_around(seen, program)
