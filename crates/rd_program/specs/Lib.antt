@@ -1,4 +1,5 @@
 -- ---- what a reader of a public clause believes
+pub mod Promises
 pub mod Inits
 pub mod Serving
 pub mod Importing
