@@ -1,10 +1,11 @@
 #!/usr/bin/env python3
-"""scripts/refused-memory.py [--jobs N]: runs each test of refused memory, and commands of the program itself, once for
+"""scripts/refused-memory.py [--jobs N] [PROGRAM]: runs each test of refused memory, and commands of the program itself, once for
 each growth of memory that the test or command asks for, with that growth refused, until a run asks for no more.
 
-N runs go on at a time, four without it. You need Linux, Python 3.11 with its standard library alone, gcc with the C
-library's headers, the shell sqlite3, and the crates' built tests and program: `rt test` in crates/rd_policy_tests,
-crates/rd_disk_tests, crates/rd_tests and crates/rd_main, and `rt run` in crates/rd_main.
+N runs go on at a time, four without it. PROGRAM is a built desk, that of this repository where none is named; the tests
+are those that were built beside it, or those of this repository where it lies by itself. You need Linux, Python 3.11
+with its standard library alone, gcc with the C library's headers, the shell sqlite3, and built tests: `rt test` in
+crates/rd_policy_tests, crates/rd_disk_tests, crates/rd_tests and crates/rd_main.
 
 A test has to pass with each growth refused. A command has to do its work, or to say that memory was refused and leave
 the store as it was; a second run then does the work. What a store holds is what sqlite3 dumps of it: wal_pages.py says
@@ -27,6 +28,7 @@ import tempfile
 import time
 
 import lib
+import built
 import harness
 import wal_pages
 
@@ -284,10 +286,11 @@ def tried(trial, at):
 class Sweeps(harness.Seen):
     """The runs that go on at a time, and how the sweeps before ended."""
 
-    def __init__(self, jobs, pool):
+    def __init__(self, jobs, pool, tree):
         super().__init__()
         self.jobs = jobs
         self.pool = pool
+        self.tree = tree
         self.growths = self.dumps = 0
 
     def sweep(self, name, trial):
@@ -316,7 +319,7 @@ class Sweeps(harness.Seen):
 
     def sweep_tests(self):
         for crate in CRATES:
-            tests = os.path.join(ROOT, "crates", crate, "out", f"{crate}_tests")
+            tests = os.path.join(self.tree, "crates", crate, "out", f"{crate}_tests")
             ran = subprocess.run([tests, "--list"], capture_output=True, text=True) if os.path.exists(tests) else None
             names = re.findall(r"^(tests::.*_when_memory_is_refused): test$", ran.stdout, re.M) if ran else []
             if not names:
@@ -368,11 +371,11 @@ def sheet(acc, kind, path):
     return f"accession,kind,deed,sha256,file\n{acc},{kind},7,{digest},{path}\n"
 
 
-def prepare(work):
+def prepare(work, program):
     """Compiles the allocator that refuses, and copies what all runs use."""
     source = os.path.join(ROOT, "scripts", "refuse.c")
     subprocess.run(["gcc", "-O2", "-shared", "-fPIC", "-o", work / "refuse.so", source, "-ldl"], check=True)
-    shutil.copy(os.path.join(ROOT, "crates/rd_main/out/rd_main"), work / "desk")
+    shutil.copy(program, work / "desk")
     shutil.copy(os.path.join(ROOT, "crates/rd_main/stdin"), work / "image")
     (work / "plain.csv").write_text(sheet(12, "cpm8", work / "image"))
     (work / "marked.csv").write_text(sheet(13, "d64e", os.path.join(ROOT, "images/damaged.d64")))
@@ -399,7 +402,9 @@ def make_stores():
 def main():
     parser = argparse.ArgumentParser(usage=__doc__)
     parser.add_argument("--jobs", type=int, default=4)
-    jobs = max(1, parser.parse_args().jobs)
+    parser.add_argument("program", nargs="*")
+    words = parser.parse_args()
+    jobs, program = max(1, words.jobs), harness.program(words.program)
     before = time.monotonic()
     # stores, which are written thousands of times: in memory if the system has a folder there
     memory = "/dev/shm" if os.access("/dev/shm", os.W_OK) else None
@@ -409,11 +414,11 @@ def main():
         ports.put(port)
     with tempfile.TemporaryDirectory() as name, tempfile.TemporaryDirectory(dir=memory) as room:
         work = pathlib.Path(name)
-        prepare(work)
+        prepare(work, program)
         settle(work, room, ports)
         fault = make_stores()
         with concurrent.futures.ProcessPoolExecutor(jobs, forks, settle, (work, room, ports)) as pool:
-            sweeps = Sweeps(jobs, pool)
+            sweeps = Sweeps(jobs, pool, built.tree_of(program))
             sweeps.sweep_tests()
             if fault:
                 sweeps.fails(f"no stores to run on: {fault}")

@@ -3,15 +3,17 @@
 import collections
 import os
 
+from built import PROGRAM
+
 ROOT = os.path.dirname(os.path.dirname(os.path.dirname(os.path.abspath(__file__))))
-PROGRAM = os.path.join("crates", "rd_main", "out", "rd_main")
 TESTS = tuple(
     os.path.join("crates", crate, "out", f"{crate}_tests")
     for crate in ("rd_policy_tests", "rd_disk_tests", "rd_tests", "rd_main")
 )
 
-# A check: its name, its command, its words, in which {} stands for the program; the files that have to be built; and
-# what it may not share with another that runs at the same time: a port, or the whole machine, where it measures time.
+# A check: its name, its command, its words, in which {program} stands for the program and {tree} for the tree in which
+# its tests lie; the files that have to be built; and what it may not share with another that runs at the same time: a
+# port, or the whole machine, where it measures time.
 Check = collections.namedtuple("Check", "name command words needs shares")
 MACHINE = "the machine"
 
@@ -22,7 +24,7 @@ def check(command, *words, needs=(), shares=None, name=None):
 
 def of_program(command, *words, **more):
     """A check that is given the program behind its other words."""
-    return check(command, *words, "{}", needs=(PROGRAM, *more.pop("needs", ())), **more)
+    return check(command, *words, "{program}", needs=(PROGRAM, *more.pop("needs", ())), **more)
 
 
 def of_page(page):
@@ -70,10 +72,10 @@ BUILT = [
     of_program("looks-find-faults.py"),
     of_program("restores-keep-takedowns.py"),
     of_program("in-a-browser.py", shares="a browser"),
-    check("open-with-sqlite3.sh", needs=(TESTS[2],)),
+    check("open-with-sqlite3.sh", os.path.join("{tree}", TESTS[2]), needs=(TESTS[2],)),
     of_program("under-systemd.py", shares="the small Debian"),
     of_program("installed-by-package.py", shares="the small Debian"),
-    check("refused-memory.py", needs=(PROGRAM, *TESTS)),
+    of_program("refused-memory.py", needs=TESTS),
     of_program("no-reply-is-lost.py", shares=MACHINE),
     of_program("no-visitor-stays.py", shares=MACHINE),
     of_program("no-page-stops-the-room.py", shares=MACHINE),
