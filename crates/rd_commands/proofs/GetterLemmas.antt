@@ -24,12 +24,12 @@ use Rattle.rd_policy.specs.declared.zone.Zone.{Zone}
 use Rattle.rd_policy.specs.declared.zone.ZoneFault.{ZoneFault}
 use Rattle.rd_geometry.specs.Kinds.{word_of}
 use Rattle.clap.specs.declared.error.kind.ErrorKind.{ErrorKind}
-use Rattle.rd_commands.specs.Asks.{EntersAs, EntersByRule, EntersCat, EntersCheck, EntersExport, EntersImport, EntersInit, EntersList, EntersNaming, EntersNamingNone, EntersNoPlace, EntersServe, EntersShow, EntersTelling, EntersTimed, HasTimeouts, IsMistake, IsWithinLimits, IsFaultOf, IsForMemory, IsFileAsk, IsFilesAsk, IsHelp, IsImportAsk, IsInitAsk, IsMomentNamed, IsOneQuestionAsk, IsServeAsk, TellsOnOutput}
+use Rattle.rd_commands.specs.Asks.{EntersAs, EntersByRule, EntersCat, EntersCheck, EntersExport, EntersImport, EntersInit, EntersList, EntersNaming, EntersNamingNone, EntersNoPlace, EntersServe, EntersShow, EntersStaffKey, EntersSumming, EntersTelling, EntersTimed, HasTimeouts, IsMistake, IsWithinLimits, IsFaultOf, IsForMemory, IsFileAsk, IsFilesAsk, IsHelp, IsImportAsk, IsInitAsk, IsMomentNamed, IsOneQuestionAsk, IsServeAsk, IsStaffKeyAsk, TellsOnOutput, has_sums}
 use Rattle.rd_commands.specs.CommandLine.{AsksForHelp, Enters, HasFault, IsDeskApp, IsTaken, IsTakenAs, IsTakenTelling, NameList, desk_app}
-use Rattle.rd_commands.specs.Commands.{AsksCheck, AsksExport, AsksImport, AsksInit, AsksServe, AsksShow, IsAskOf, IsCommand, IsTakenServingNowhere, IsTakenShowingNothing, NamesWhatItShows, TellsARule}
+use Rattle.rd_commands.specs.Commands.{AsksCheck, AsksExport, AsksImport, AsksInit, AsksServe, AsksShow, AsksStaffKey, IsAskOf, IsCommand, IsTakenServingNowhere, IsTakenShowingNothing, NamesWhatItShows, Sums, TellsARule}
 use Rattle.rd_commands.specs.Serving.{Place}
 use Rattle.rd_commands.specs.Words.{AsksCat, AsksList, IsSlotText}
-use Rattle.rd_commands.specs.Zones.{HasClocks, rule_text}
+use Rattle.rd_commands.specs.Zones.{HasClocks, IsFlagTold, rule_text}
 use Rattle.rd_commands.specs.declared.words.Ask.{Ask}
 use Rattle.rd_commands.specs.declared.words.Question.TheVariants.{Catalogue, Check, Show}
 use Rattle.rd_commands.specs.declared.words.Shown.{Shown}
@@ -103,6 +103,13 @@ pub moment_is : (o : Option Text) (moment r : Option ℤ) → (o ≡ None → r 
 moment_is (Some text) moment r none value told = signed_is text told.0 r (value text refl) told.1 ∙ sym told.2
 moment_is None moment r none value told = none refl ∙ sym told
 
+-- the truth value that is read is the one that is told
+pub flag_is : (o : Option Text) (flag r : Bool) → (o ≡ None → r ≡ false) → (o ≡ Some (codes "true") → r ≡ true) → (o ≡ Some (codes "false") → r ≡ false)
+    → IsFlagTold o flag → r ≡ flag
+flag_is (Some text) true r none on off told = on (ap Some told)
+flag_is (Some text) false r none on off told = off (ap Some told)
+flag_is None flag r none on off told = none refl ∙ sym told
+
 -- the words that a parse of the program's command line was given went into a command
 pub entered_is : (app : App) (words : List Text) (m : ArgMatches) → IsDeskApp app → HasMatchesOf app words m → subcommand_of app words ≡ subcommand_rows_of m
 entered_is app words m desk matches = sym (matches (ap is_simple desk.is ∙ simple desk.cat_kinds desk.list_kinds desk.shown)).1
@@ -122,6 +129,7 @@ pub record GivesAsk (words : List Text) (o : Option Ask) : Type 0 where
       → IsSomeAnd o (IsOneQuestionAsk store (Some key) (Check acc) moment rule)
   pub show : (store key : Text) (shown : Shown) (moment : Option ℤ) (rule : Text) → AsksShow words store key shown moment rule
       → IsSomeAnd o (IsOneQuestionAsk store (Some key) (Show shown) moment rule)
+  pub staff_key : (store key : Text) → AsksStaffKey words store key → IsSomeAnd o (IsStaffKeyAsk store key)
 
 -- What the rows of the command that a parse went into ask for is found.
 pub record GivesRows (entered : Option (Text × List Row)) (shown : Option Shown) (o : Option Ask) : Type 0 where
@@ -138,6 +146,7 @@ pub record GivesRows (entered : Option (Text × List Row)) (shown : Option Shown
       → IsSomeAnd o (IsOneQuestionAsk store (Some key) (Check acc) moment rule)
   pub show : (store key : Text) (what : Shown) (moment : Option ℤ) (rule : Text) → shown ≡ Some what → EntersShow entered store key moment rule
       → IsSomeAnd o (IsOneQuestionAsk store (Some key) (Show what) moment rule)
+  pub staff_key : (store key : Text) → EntersStaffKey entered store key → IsSomeAnd o (IsStaffKeyAsk store key)
 
 -- so the options of `serve` say how long a visitor may take
 timed_rows : (o : Option Ask) (entered : Option (Text × List Row)) (rows : List Row) → entered ≡ Some (codes "serve", rows) → IfSome o (EntersTimed entered)
@@ -163,12 +172,13 @@ ask_given o shown app words m desk matches naming given =
           let into = sym same ∙ asks.enters.into app desk in
           given.show store key what moment rule (named_given shown asks.rows what (naming asks.rows into) asks.names)
           (record { rows = asks.rows; into = into; found = asks.found });
+      staff_key = λ store key asks. given.staff_key store key (record { rows = asks.rows; into = sym same ∙ asks.enters.into app desk; found = asks.found });
     }
 
 -- words that are read are what is asked for
 pub ask_read : (o : Option Ask) (fault : Unread) (r : Result Ask Unread) (words : List Text) → r ≡ ok_or o fault → GivesAsk words o
     → IfOk r (IsAskOf words)
-ask_read (Some ask) fault r words is given = subst (λ x. IfOk x (IsAskOf words)) (sym is) (record { file = given.file; files = given.files; init = given.init; serve = given.serve; timeouts = given.timeouts; import = given.import; export = given.export; check = given.check; show = given.show })
+ask_read (Some ask) fault r words is given = subst (λ x. IfOk x (IsAskOf words)) (sym is) (record { file = given.file; files = given.files; init = given.init; serve = given.serve; timeouts = given.timeouts; import = given.import; export = given.export; check = given.check; show = given.show; staff_key = given.staff_key })
 ask_read None fault r words is given = subst (λ x. IfOk x (IsAskOf words)) (sym is) tt
 
 -- an accession that is read is a number of one
@@ -217,7 +227,8 @@ no_command words given (inr (inr (inr (inl serve)))) = given.serve serve.0 serve
 no_command words given (inr (inr (inr (inr (inl import))))) = given.import import.0 import.1 import.2 import.3 import.4 import.5
 no_command words given (inr (inr (inr (inr (inr (inl export)))))) = given.export export.0 export.1 export.2 export.3 export.4
 no_command words given (inr (inr (inr (inr (inr (inr (inl check))))))) = given.check check.1.0 check.1.1 check.0 check.1.2 check.1.3 check.1.4
-no_command words given (inr (inr (inr (inr (inr (inr (inr show))))))) = given.show show.0 show.1 show.2 show.3 show.4 show.5
+no_command words given (inr (inr (inr (inr (inr (inr (inr (inl show)))))))) = given.show show.0 show.1 show.2 show.3 show.4 show.5
+no_command words given (inr (inr (inr (inr (inr (inr (inr (inr staff_key)))))))) = given.staff_key staff_key.0 staff_key.1 staff_key.2
 
 -- words that are not read are no command
 pub ask_unread : (o : Option Ask) (fault : Unread) (r : Result Ask Unread) (words : List Text) (P : Unread → Type 0) → r ≡ ok_or o fault → GivesAsk words o
@@ -247,8 +258,10 @@ fails_for_memory app words error desk (inr (inr (inr (inr (inr (inl export))))))
     none_among (fault_of app words) error (export.4.enters.no_fault app desk) (has (ap is_simple_and_free desk.is ∙ free desk.cat_kinds desk.list_kinds desk.shown))
 fails_for_memory app words error desk (inr (inr (inr (inr (inr (inr (inl check))))))) passes has =
     none_among (fault_of app words) error (check.1.4.enters.no_fault app desk) (has (ap is_simple_and_free desk.is ∙ free desk.cat_kinds desk.list_kinds desk.shown))
-fails_for_memory app words error desk (inr (inr (inr (inr (inr (inr (inr show))))))) passes has =
+fails_for_memory app words error desk (inr (inr (inr (inr (inr (inr (inr (inl show)))))))) passes has =
     none_among (fault_of app words) error (show.5.enters.no_fault app desk) (has (ap is_simple_and_free desk.is ∙ free desk.cat_kinds desk.list_kinds desk.shown))
+fails_for_memory app words error desk (inr (inr (inr (inr (inr (inr (inr (inr staff_key)))))))) passes has =
+    none_among (fault_of app words) error (staff_key.2.enters.no_fault app desk) (has (ap is_simple_and_free desk.is ∙ free desk.cat_kinds desk.list_kinds desk.shown))
 
 -- words that `clap` takes as a command have no fault
 pub no_fault_in : (words : List Text) (name : Text) (rows : List Row) (kind : ErrorKind) → Enters words name rows → HasFault words kind → ⊥
@@ -273,11 +286,12 @@ clocked name (inr (inr (inr (inr show)))) = subst (λ n. is_clocked (second n) �
 unset : false ≡ true → ⊥
 unset set = cc
 
--- the commands on images and `init` have no clocks
-pub clockless : (name : Text) → (name ≡ codes "cat") ⊎ ((name ≡ codes "list") ⊎ (name ≡ codes "init")) → HasClocks name → ⊥
+-- the commands on images, `init` and `staff-key` have no clocks
+pub clockless : (name : Text) → (name ≡ codes "cat") ⊎ ((name ≡ codes "list") ⊎ ((name ≡ codes "init") ⊎ (name ≡ codes "staff-key"))) → HasClocks name → ⊥
 clockless name (inl cat) clocks = unset (subst (λ n. is_clocked (second n) ≡ true) cat (clocked name clocks))
 clockless name (inr (inl list)) clocks = unset (subst (λ n. is_clocked (second n) ≡ true) list (clocked name clocks))
-clockless name (inr (inr init)) clocks = unset (subst (λ n. is_clocked (second n) ≡ true) init (clocked name clocks))
+clockless name (inr (inr (inl init))) clocks = unset (subst (λ n. is_clocked (second n) ≡ true) init (clocked name clocks))
+clockless name (inr (inr (inr staff_key))) clocks = unset (subst (λ n. is_clocked (second n) ≡ true) staff_key (clocked name clocks))
 
 -- the rows of the command that a parse went into
 pub rows_met : (m : ArgMatches) (name : Text) (rows shown : List Row) → subcommand_rows_of m ≡ Some (name, rows)
@@ -312,6 +326,17 @@ pub rule_read : (words : List Text) (entered : Option (Text × List Row)) (o : O
     → OnSome o (EntersByRule entered) → (EntersByRule entered → TellsARule words) → OnOk r (TellsARule words)
 rule_read words entered (Some ask) fault r is found tells = subst (λ x. OnOk x (TellsARule words)) (sym is) (tells found)
 rule_read words entered None fault r is found tells = subst (λ x. OnOk x (TellsARule words)) (sym is) tt
+
+-- the pages end in sums as the words tell, where what was found in them does
+pub sums_read : (app : App) (words : List Text) (m : ArgMatches) (o : Option Ask) (fault : Unread) (r : Result Ask Unread) (summed : Bool) → IsDeskApp app → HasMatchesOf app words m
+    → r ≡ ok_or o fault → ((t : Bool) → EntersSumming (subcommand_rows_of m) t → IfSome o (λ ask. has_sums ask ≡ t)) → Sums words summed → IfOk r (λ ask. has_sums ask ≡ summed)
+sums_read app words m (Some ask) fault r summed desk matches is found told =
+    subst (λ x. IfOk x (λ ask. has_sums ask ≡ summed)) (sym is) (found summed (told.0, sym (entered_is app words m desk matches) ∙ told.1.into app desk, told.2))
+sums_read app words m None fault r summed desk matches is found told = subst (λ x. IfOk x (λ ask. has_sums ask ≡ summed)) (sym is) tt
+
+-- another command is not `init`
+pub no_init : (name : Text) → (second name == 110) ≡ false → codes "init" ≡ name → ⊥
+no_init name other is = unset (sym (subst (λ n. (second n == 110) ≡ false) (sym is) other))
 
 -- words of which nothing is found are a mistake
 pub unread_usage : (P : Type 0) (o : Option Ask) (r : Result Ask Unread) → r ≡ ok_or o Usage → IfErr r (λ fault. P → IsMistake fault ⊎ IsForMemory fault)

@@ -1,5 +1,5 @@
 -- What the program reads in the words of a command.
-use Rattle.std.specs.Prelude.{◌≡◌, ◌+◌, ◌⊎◌, ⊤, ℕ, ℤ, IsSomeAnd, List, None, Ok, Option, Some, codes, option_map}
+use Rattle.std.specs.Prelude.{◌≡◌, ◌+◌, ◌⊎◌, ⊤, ℕ, ℤ, Bool, IsSomeAnd, List, None, Ok, Option, Some, codes, false, option_map}
 use Rattle.std.specs.Int.{w64}
 use Rattle.std.specs.Str.Parse.{ParsesSigned, ParsesUnsigned}
 use Rattle.std.specs.declared.num.ParseIntError.{ParseIntError}
@@ -12,7 +12,7 @@ use Rattle.rd_geometry.specs.Kinds.{size_of, word_of}
 use Rattle.rd_policy.specs.Zones.{IsZoneOf}
 use Rattle.rd_policy.specs.Rules.{IsScope}
 use Rattle.rd_commands.specs.declared.words.Ask.{Ask}
-use Rattle.rd_commands.specs.declared.words.Ask.TheVariants.{File, Files, Import, Init, OneQuestion, Serve}
+use Rattle.rd_commands.specs.declared.words.Ask.TheVariants.{File, Files, Import, Init, OneQuestion, Serve, StaffKey}
 use Rattle.rd_commands.specs.declared.words.FileAsk.{FileAsk}
 use Rattle.rd_commands.specs.declared.words.ImageAsk.{ImageAsk}
 use Rattle.rd_commands.specs.declared.words.ImportAsk.{ImportAsk}
@@ -22,6 +22,7 @@ use Rattle.rd_commands.specs.declared.words.Question.{Question}
 use Rattle.rd_commands.specs.declared.words.Question.TheVariants as question
 use Rattle.rd_commands.specs.declared.words.ServeAsk.{ServeAsk}
 use Rattle.rd_commands.specs.declared.words.Shown.{Shown}
+use Rattle.rd_commands.specs.declared.words.StaffKeyAsk.{StaffKeyAsk}
 use Rattle.rd_commands.specs.declared.words.Unread.{Unread}
 use Rattle.rd_commands.specs.declared.words.WhenAsk.{WhenAsk}
 use Rattle.rd_commands.specs.declared.words.Unread.TheVariants.{Day, Place as NoPlace, Clap, Usage, NoMemory}
@@ -29,7 +30,7 @@ use Rattle.rd_commands.specs.CommandLine.{HasFault}
 use Rattle.rd_commands.specs.Serving.{GivesTimeouts, NamesOnePlace, NamesPlace, Place, place_of}
 use Rattle.rd_commands.specs.Shown.{IsShowable, NamesAny, NamesShown}
 use Rattle.rd_commands.specs.Words.{IsSlotText}
-use Rattle.rd_commands.specs.Zones.{HasClocks, HasZoneRule, IsRuleNamed}
+use Rattle.rd_commands.specs.Zones.{HasClocks, HasZoneRule, IsFlagTold, IsRuleNamed}
 
 -- it asks for the file at the slot of the image of the kind
 pub record AsksFile (ask : FileAsk) (kind : Kind) (image : List ℕ) (slot : ℕ) : Type 0 where
@@ -77,6 +78,12 @@ pub record AsksOneQuestion (ask : OneQuestionAsk) (store : List ℕ) (key : Opti
   pub question_is : ask.question ≡ question
   pub when_is : AsksWhen ask.when moment rule
 
+-- it asks to put this key, without the blanks and tabs at both ends, as one of the staff, in the desk in the file of the
+-- store
+pub record AsksStaff (ask : StaffKeyAsk) (store key : List ℕ) : Type 0 where
+  pub store_is : ask.store.now ≡ store
+  pub key_is : ask.key.now ≡ trim_ows key
+
 -- the command asks for the file at the slot of the image of the kind
 abbrev pub IsFileAsk : Kind → List ℕ → ℕ → Ask → Type 0
 IsFileAsk kind image slot (File ask) = AsksFile ask kind image slot
@@ -113,6 +120,11 @@ IsImportAsk store key sheet moment rule _ = ⊥
 abbrev pub IsOneQuestionAsk : List ℕ → Option (List ℕ) → Question → Option ℤ → List ℕ → Ask → Type 0
 IsOneQuestionAsk store key question moment rule (OneQuestion ask) = AsksOneQuestion ask store key question moment rule
 IsOneQuestionAsk store key question moment rule _ = ⊥
+
+-- the command asks to put the key as one of the staff, in the desk in the file of the store
+abbrev pub IsStaffKeyAsk : List ℕ → List ℕ → Ask → Type 0
+IsStaffKeyAsk store key (StaffKey ask) = AsksStaff ask store key
+IsStaffKeyAsk store key _ = ⊥
 
 -- one question to a desk
 abbrev pub AsksADesk : Ask → Type 0
@@ -157,6 +169,11 @@ abbrev pub IsWithinLimits : Ask → Type 0
 IsWithinLimits (OneQuestion ask) = IsAskable ask.question
 IsWithinLimits _ = ⊤
 
+-- the pages of the new store end in sums
+abbrev pub has_sums : Ask → Bool
+has_sums (Init ask) = ask.has_sums
+has_sums ask = false
+
 -- how many bytes of the input the command reads at most: one more than an image of the kind has,
 -- or none if it reads no image
 abbrev pub most_read : Ask → ℕ
@@ -166,6 +183,7 @@ most_read (Init ask) = 0
 most_read (Serve ask) = 0
 most_read (Import ask) = 0
 most_read (OneQuestion ask) = 0
+most_read (StaffKey ask) = 0
 
 -- the text to write is help
 abbrev pub IsHelp : Unread → Type 0
@@ -244,6 +262,10 @@ pub record EntersInit (entered : Option (Text × List Row)) (store key : List �
   pub rows : List Row
   pub into : entered ≡ Some (codes "init", rows)
   pub found : AreInitRows rows store key
+
+-- the parse went into `init`, which tells whether the pages end in sums
+abbrev pub EntersSumming : Option (Text × List Row) → Bool → Type 0
+EntersSumming entered summed = (rows : List Row) × (entered ≡ Some (codes "init", rows)) × IsFlagTold (one_of (codes "sums") rows) summed
 
 -- the options that `clap` found for `serve`: of the numbers the texts, and of the zone one that may be absent
 pub record AreServeRows (rows : List Row) (store : List ℕ) (place : Place) (count : ℕ) (rule : List ℕ) : Type 0 where
@@ -346,6 +368,17 @@ pub record EntersShow (entered : Option (Text × List Row)) (store key : List �
   pub rows : List Row
   pub into : entered ≡ Some (codes "show", rows)
   pub found : AreShowRows rows store key moment rule
+
+-- the options that `clap` found for `staff-key`
+pub record AreStaffKeyRows (rows : List Row) (store key : List ℕ) : Type 0 where
+  pub store_found : first_of (codes "store") rows ≡ Some store
+  pub key_found : first_of (codes "key") rows ≡ Some key
+
+-- the parse went into `staff-key`, and found its options
+pub record EntersStaffKey (entered : Option (Text × List Row)) (store key : List ℕ) : Type 0 where
+  pub rows : List Row
+  pub into : entered ≡ Some (codes "staff-key", rows)
+  pub found : AreStaffKeyRows rows store key
 
 -- if the parse went into `show`, this is what is named there
 abbrev pub EntersNaming : Option (Text × List Row) → Option Shown → Type 0

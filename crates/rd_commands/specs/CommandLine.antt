@@ -5,6 +5,7 @@ use Rattle.clap.specs.Simple.{on_top}
 use Rattle.clap.specs.Words.{App, IsAmong, Row, Rule, Shape, Text, fault_of, new_app, new_rule, subcommand_of, with_rule, with_subcommand}
 use Rattle.clap.specs.declared.error.kind.ErrorKind.{ErrorKind}
 use Rattle.clap.specs.declared.error.kind.ErrorKind.TheVariants.{DisplayHelp, DisplayVersion}
+use Rattle.clap.specs.declared.builder.action.ArgAction.TheVariants.{SetTrue}
 use Rattle.clap.specs.declared.builder.value_parser.ValueParser.{ValueParser}
 use Rattle.clap.specs.declared.builder.value_parser.ValueParser.TheVariants.{Names, Signed}
 use Rattle.rd_geometry.specs.Kinds.{word_of}
@@ -76,6 +77,10 @@ count_rule = record (required_option (codes "count")) { parser = Some (Signed (p
 abbrev pub zone_rule : Rule
 zone_rule = record (new_rule (codes "zone")) { long = Some (codes "zone"); value_names = 1 }
 
+-- the flag that says that the pages of a new store end in sums
+abbrev pub sums_rule : Rule
+sums_rule = record (new_rule (codes "sums")) { long = Some (codes "sums"); action = Some SetTrue }
+
 -- the option for a sheet
 abbrev pub sheet_rule : Rule
 sheet_rule = required_option (codes "sheet")
@@ -98,7 +103,7 @@ accession_rule = record (required_option (codes "acc")) { parser = Some (Signed 
 
 -- the command `init`
 abbrev pub init_app : App
-init_app = with_rule (with_rule (new_app (codes "init")) store_rule) key_rule
+init_app = with_rule (with_rule (with_rule (new_app (codes "init")) store_rule) key_rule) sums_rule
 
 -- the command `serve`, without the options for how long a visitor may take
 abbrev pub untimed_app : App
@@ -148,6 +153,10 @@ show_app names =
     with_rule (with_rule (with_rule (with_rule (with_rule (with_rule (new_app (codes "show")) (what_rule names)) store_rule)
     key_rule) day_rule) moment_rule) zone_rule
 
+-- the command `staff-key`
+abbrev pub staff_key_app : App
+staff_key_app = with_rule (with_rule (new_app (codes "staff-key")) store_rule) key_rule
+
 -- the words come without the program's name, one of them is a command's, and there is a version
 abbrev pub wants_command : Shape → Shape
 wants_command s = record s {
@@ -165,8 +174,8 @@ bare_app = on_top wants_command (new_app (codes "desk"))
 abbrev pub desk_app : NameList → NameList → NameList → App
 desk_app kinds kinds' names =
     with_subcommand (with_subcommand (with_subcommand (with_subcommand (with_subcommand (with_subcommand (with_subcommand
-    (with_subcommand bare_app (cat_app kinds).top) (list_app kinds').top) init_app.top) serve_app.top) import_app.top)
-    export_app.top) check_app.top) (show_app names).top
+    (with_subcommand (with_subcommand bare_app (cat_app kinds).top) (list_app kinds').top) init_app.top) serve_app.top)
+    import_app.top) export_app.top) check_app.top) (show_app names).top) staff_key_app.top
 
 -- the names are the words of all kinds
 abbrev pub AreKindNames : NameList → Type 0

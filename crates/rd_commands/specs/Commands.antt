@@ -1,16 +1,16 @@
 -- What words ask for.
-use Rattle.std.specs.Prelude.{◌⊎◌, ℕ, ℤ, List, Option, Some, codes}
-use Rattle.clap.specs.Words.{Row, Text}
+use Rattle.std.specs.Prelude.{◌⊎◌, ℕ, ℤ, Bool, List, Option, Some, codes}
+use Rattle.clap.specs.Words.{Row, Text, one_of}
 use Rattle.rd_geometry.specs.declared.kind.Kind.{Kind}
 use Rattle.rd_commands.specs.declared.words.Ask.{Ask}
 use Rattle.rd_commands.specs.declared.words.Question.TheVariants.{Catalogue, Check, Show}
 use Rattle.rd_commands.specs.declared.words.Shown.{Shown}
-use Rattle.rd_commands.specs.Asks.{AreCheckRows, AreExportRows, AreImportRows, AreInitRows, AreServeRows, AreShowRows, HasTimeouts, IsFileAsk, IsFilesAsk, IsImportAsk, IsInitAsk, IsOneQuestionAsk, IsServeAsk}
+use Rattle.rd_commands.specs.Asks.{AreCheckRows, AreExportRows, AreImportRows, AreInitRows, AreServeRows, AreShowRows, AreStaffKeyRows, HasTimeouts, IsFileAsk, IsFilesAsk, IsImportAsk, IsInitAsk, IsOneQuestionAsk, IsServeAsk, IsStaffKeyAsk}
 use Rattle.rd_commands.specs.CommandLine.{Enters, IsTakenAs}
 use Rattle.rd_commands.specs.Serving.{NamesOnePlace, Place}
 use Rattle.rd_commands.specs.Shown.{NamesAny, NamesShown}
 use Rattle.rd_commands.specs.Words.{AsksCat, AsksList}
-use Rattle.rd_commands.specs.Zones.{HasClocks, HasZoneRule}
+use Rattle.rd_commands.specs.Zones.{HasClocks, HasZoneRule, IsFlagTold}
 
 -- The words ask for a desk in the file of a store, with a key: they are those of `init`, as `clap` takes them.
 pub record AsksInit (words : List Text) (store key : List ℕ) : Type 0 where
@@ -74,12 +74,23 @@ abbrev pub IsShow : List Text → Type 0
 IsShow words = (store : List ℕ) × (key : List ℕ) × (shown : Shown) × (moment : Option ℤ) × (rule : List ℕ)
     × AsksShow words store key shown moment rule
 
--- the words ask for a desk, for visits, to take in images, for the catalogue, for a check, or to show what the desk
--- holds; none of these reads the input
+-- The words ask to put a key as one of the staff, in the desk in the file of a store: they are those of `staff-key`, as
+-- `clap` takes them.
+pub record AsksStaffKey (words : List Text) (store key : List ℕ) : Type 0 where
+  pub rows : List Row
+  pub enters : Enters words (codes "staff-key") rows
+  pub found : AreStaffKeyRows rows store key
+
+-- they ask for it with some options
+abbrev pub IsStaffKey : List Text → Type 0
+IsStaffKey words = (store : List ℕ) × (key : List ℕ) × AsksStaffKey words store key
+
+-- the words ask for a desk, for visits, to take in images, for the catalogue, for a check, to show what the desk holds, or
+-- to put a key of the staff; none of these reads the input
 abbrev pub AsksOfStore : List Text → Type 0
 AsksOfStore words = ((store : List ℕ) × (key : List ℕ) × AsksInit words store key)
     ⊎ (((store : List ℕ) × (place : Place) × (count : ℕ) × (rule : List ℕ) × AsksServe words store place count rule)
-    ⊎ (IsImport words ⊎ (IsExport words ⊎ (((acc : ℕ) × IsCheckOf words acc) ⊎ IsShow words))))
+    ⊎ (IsImport words ⊎ (IsExport words ⊎ (((acc : ℕ) × IsCheckOf words acc) ⊎ (IsShow words ⊎ IsStaffKey words)))))
 
 -- the words are a command of the program: a plain form of `cat` or `list`, or any form of the others
 abbrev pub IsCommand : List Text → Type 0
@@ -106,6 +117,10 @@ IsTakenShowingNothing words = (taken : IsTakenAs (codes "show") words) × ¬ Nam
 abbrev pub IsTakenServingNowhere : List Text → Type 0
 IsTakenServingNowhere words = (taken : IsTakenAs (codes "serve") words) × ¬ NamesOnePlace taken.rows
 
+-- `clap` takes the words as `init`, and they tell whether the pages of the new store end in sums
+abbrev pub Sums : List Text → Bool → Type 0
+Sums words summed = (rows : List Row) × Enters words (codes "init") rows × IsFlagTold (one_of (codes "sums") rows) summed
+
 -- the program asks for what the words ask for
 pub record IsAskOf (words : List Text) (ask : Ask) : Type 0 where
   pub file : (kind : Kind) (image : List ℕ) (slot : ℕ) → AsksCat words kind image slot → IsFileAsk kind image slot ask
@@ -122,3 +137,4 @@ pub record IsAskOf (words : List Text) (ask : Ask) : Type 0 where
       → AsksCheck words store key acc moment rule → IsOneQuestionAsk store (Some key) (Check acc) moment rule ask
   pub show : (store key : List ℕ) (shown : Shown) (moment : Option ℤ) (rule : List ℕ)
       → AsksShow words store key shown moment rule → IsOneQuestionAsk store (Some key) (Show shown) moment rule ask
+  pub staff_key : (store key : List ℕ) → AsksStaffKey words store key → IsStaffKeyAsk store key ask

@@ -1,5 +1,5 @@
 -- The zone of a desk's clocks, as the words of a command give it.
-use Rattle.std.specs.Prelude.{◌≡◌, ◌⊎◌, ℕ, List, None, Option, Some, codes}
+use Rattle.std.specs.Prelude.{◌≡◌, ◌⊎◌, ℕ, Bool, List, None, Option, Some, codes, false, true}
 use Rattle.clap.specs.Words.{Row, first_of}
 use Rattle.rd_policy.specs.Zones.{IsZoneRule}
 
@@ -19,3 +19,9 @@ HasZoneRule rows = IsZoneRule (rule_text (first_of (codes "zone") rows))
 -- the command of this name has an option for the zone of a desk's clocks
 abbrev pub HasClocks : List ℕ → Type 0
 HasClocks name = (name ≡ codes "serve") ⊎ ((name ≡ codes "import") ⊎ ((name ≡ codes "export") ⊎ ((name ≡ codes "check") ⊎ (name ≡ codes "show"))))
+
+-- what a flag tells: its text is that of the truth value, and without a text it is not set
+abbrev pub IsFlagTold : Option (List ℕ) → Bool → Type 0
+IsFlagTold (Some text) true = text ≡ codes "true"
+IsFlagTold (Some text) false = text ≡ codes "false"
+IsFlagTold None flag = flag ≡ false

@@ -1,10 +1,10 @@
 ghost use Rattle.std.specs.Prelude.{◌≡◌, IfOk, codes, false};
 ghost use Rattle.clap.specs.Words.{app_of, rule_of};
 ghost use Rattle.clap.specs.declared.builder.command.Command.TheViews.{out-Command as fields_of};
-ghost use Rattle.rd_commands.specs.CommandLine.{IsCatApp, IsDeskApp, IsKindRule, IsListApp, IsShowApp, IsWhatRule, accession_rule, bare_app, check_app, count_rule, day_rule, export_app, image_rule, import_app, init_app, key_rule, moment_rule, optional_key_rule, port_rule, serve_app, sheet_rule, slot_rule, socket_rule, store_rule, timeout_rule, untimed_app, zone_rule};
+ghost use Rattle.rd_commands.specs.CommandLine.{IsCatApp, IsDeskApp, IsKindRule, IsListApp, IsShowApp, IsWhatRule, accession_rule, bare_app, check_app, count_rule, day_rule, export_app, image_rule, import_app, init_app, key_rule, moment_rule, optional_key_rule, port_rule, serve_app, sheet_rule, slot_rule, socket_rule, staff_key_app, store_rule, sums_rule, timeout_rule, untimed_app, zone_rule};
 
 use crate::version::VERSION;
-use clap::{Arg, Command, value_parser};
+use clap::{Arg, ArgAction, Command, value_parser};
 use rd_geometry::KIND_WORDS;
 use rd_policy::{LAST_SCOPE, LAST_SLOT};
 use std::alloc::{AllocError, Global};
@@ -142,6 +142,17 @@ fn zone_option<'a>(alloc: Global) -> Arg<'a>
     )
 }
 
+/// The flag that says that the pages of a new store end in sums.
+fn sums_option<'a>(alloc: Global) -> Arg<'a>
+    ensures rule { rule_of result ≡ sums_rule }
+    ensures local { result.global ≡ false }
+{
+    Arg::new(alloc, "sums")
+        .long("sums")
+        .action(ArgAction::SetTrue)
+        .help("Puts a sum at the end of each page of the store, so that a bit that flips is seen")
+}
+
 fn sheet_option<'a>(alloc: Global) -> Arg<'a>
     ensures rule { rule_of result ≡ sheet_rule }
     ensures local { result.global ≡ false }
@@ -172,9 +183,12 @@ fn init_command<'a>(alloc: Global) -> Result<Command<'a>, AllocError>
 {
     Command::new(alloc, "init")
         .about("Makes a desk with one staff key in the file of a store")
-        .after_help("Example:\n  desk init --store museum.sqlite --key 'a long phrase'")
+        .after_help(
+            "Examples:\n  desk init --store museum.sqlite --key 'a long phrase'\n  desk init --sums --store museum.sqlite --key 'a long phrase'",
+        )
         .arg(store_option(alloc))?
-        .arg(key_option(alloc))
+        .arg(key_option(alloc))?
+        .arg(sums_option(alloc))
 }
 
 /// The command `serve`, without the options for how long a visitor may take.
@@ -342,6 +356,17 @@ fn show_command<'a>(alloc: Global) -> Result<Command<'a>, AllocError>
         .arg(zone_option(alloc))
 }
 
+fn staff_key_command<'a>(alloc: Global) -> Result<Command<'a>, AllocError>
+    ensures shape { IfOk result (λ staff_key. app_of staff_key ≡ staff_key_app) }
+    ensures local { IfOk result (λ staff_key. (fields_of staff_key).has_globals ≡ false) }
+{
+    Command::new(alloc, "staff-key")
+        .about("Puts a desk key as one of the staff, for whoever may write the store")
+        .after_help("Example:\n  desk staff-key --store museum.sqlite --key 'another long phrase'")
+        .arg(store_option(alloc))?
+        .arg(key_option(alloc))
+}
+
 /// The program's command line, without its commands.
 fn bare_desk<'a>(alloc: Global) -> Result<Command<'a>, AllocError>
     ensures { IfOk result (λ desk. app_of desk ≡ bare_app) }
@@ -350,7 +375,7 @@ fn bare_desk<'a>(alloc: Global) -> Result<Command<'a>, AllocError>
         .version(VERSION)
         .about("Reads files from disk images, and serves those of a museum by its rules")
         .after_help(
-            "Examples:\n  desk list cpm8 disk.img\n  desk cat cpm8 disk.img 0\n  desk list d64 disk.d64\n  desk init --store museum.sqlite --key 'a long phrase'\n  desk serve --store museum.sqlite --port 8041 --count 1000\n  desk import --store museum.sqlite --key 'a long phrase' --sheet images.csv\n  desk export --store museum.sqlite\n  desk check --store museum.sqlite --key 'a long phrase' --acc 12\n  desk show deeds --store museum.sqlite --key 'a long phrase'",
+            "Examples:\n  desk list cpm8 disk.img\n  desk cat cpm8 disk.img 0\n  desk list d64 disk.d64\n  desk init --store museum.sqlite --key 'a long phrase'\n  desk serve --store museum.sqlite --port 8041 --count 1000\n  desk import --store museum.sqlite --key 'a long phrase' --sheet images.csv\n  desk export --store museum.sqlite\n  desk check --store museum.sqlite --key 'a long phrase' --acc 12\n  desk show deeds --store museum.sqlite --key 'a long phrase'\n  desk staff-key --store museum.sqlite --key 'another long phrase'",
         )
         .no_binary_name(true)
         .bin_name("desk")?;
@@ -369,5 +394,6 @@ pub(crate) fn desk_command<'a>(alloc: Global) -> Result<Command<'a>, AllocError>
         .subcommand(import_command(alloc)?)?
         .subcommand(export_command(alloc)?)?
         .subcommand(check_command(alloc)?)?
-        .subcommand(show_command(alloc)?)
+        .subcommand(show_command(alloc)?)?
+        .subcommand(staff_key_command(alloc)?)
 }

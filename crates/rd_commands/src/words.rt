@@ -1,5 +1,5 @@
 ghost use Rattle.std.specs.Option.{ForSome};
-ghost use Rattle.std.specs.Prelude.{◌≡◌, ◌⊎◌, IfErr, IfNone, IfOk, IfSome, IsSomeAnd, List, Ok, OnOk, OnSome, Option, Some, codes, map, option_map, ℕ, ℤ};
+ghost use Rattle.std.specs.Prelude.{◌≡◌, ◌⊎◌, Bool, IfErr, IfNone, IfOk, IfSome, IsSomeAnd, List, Ok, OnOk, OnSome, Option, Some, codes, map, option_map, ℕ, ℤ};
 ghost use Rattle.std.specs.Str.Parse.{ParsesUnsigned};
 ghost use Rattle.std.specs.declared.num.ParseIntError.{ParseIntError};
 ghost use Rattle.clap.specs.Words.{app_of, first_of, found_of, one_of, rows_of};
@@ -8,18 +8,18 @@ ghost use Rattle.httparse.specs.Grammar.{trim_ows};
 ghost use Rattle.rd_geometry.specs.Kinds.{word_of};
 ghost use Rattle.rd_policy.specs.Rules.{IsScope};
 ghost use Rattle.rd_policy.specs.Zones.{IsZoneOf};
-ghost use Rattle.rd_commands.specs.Asks.{AreCatRows, AreCheckRows, AreExportRows, AreImportRows, AreInitRows, AreListRows, AreServeRows, AreShowRows, IsMomentNamed};
-ghost use Rattle.rd_commands.specs.Asks.{AsksFile, AsksFiles, AsksImages, AsksNew, AsksOneQuestion, AsksVisits, AsksWhen, IsAskable};
+ghost use Rattle.rd_commands.specs.Asks.{AreCatRows, AreCheckRows, AreExportRows, AreImportRows, AreInitRows, AreListRows, AreServeRows, AreShowRows, AreStaffKeyRows, IsMomentNamed};
+ghost use Rattle.rd_commands.specs.Asks.{AsksFile, AsksFiles, AsksImages, AsksNew, AsksOneQuestion, AsksStaff, AsksVisits, AsksWhen, IsAskable};
 ghost use Rattle.rd_commands.specs.Asks.{EntersAtAPlace, EntersNoPlace, EntersTimed};
-ghost use Rattle.rd_commands.specs.Asks.{EntersByRule, EntersCat, EntersCheck, EntersExport, EntersImport, EntersInit, EntersList, EntersNaming, EntersNamingNone, EntersServe, EntersShow, EntersTelling};
-ghost use Rattle.rd_commands.specs.Asks.{IsWithinLimits, IsFaultOf, IsFileAsk, IsFilesAsk, IsForMemory, IsHelp, IsImportAsk, IsInitAsk, IsMistake, IsOneQuestionAsk, IsServeAsk, IsTold, IsVersion, TellsOnOutput};
+ghost use Rattle.rd_commands.specs.Asks.{EntersByRule, EntersCat, EntersCheck, EntersExport, EntersImport, EntersInit, EntersList, EntersNaming, EntersNamingNone, EntersServe, EntersShow, EntersStaffKey, EntersSumming, EntersTelling};
+ghost use Rattle.rd_commands.specs.Asks.{IsWithinLimits, IsFaultOf, IsFileAsk, IsFilesAsk, IsForMemory, IsHelp, IsImportAsk, IsInitAsk, IsMistake, IsOneQuestionAsk, IsServeAsk, IsStaffKeyAsk, IsTold, IsVersion, TellsOnOutput, has_sums};
 ghost use Rattle.rd_commands.specs.CommandLine.{IsDeskApp, IsTaken, IsTakenTelling};
-ghost use Rattle.rd_commands.specs.Commands.{IsAskOf, IsCommand, IsTakenServingNowhere, IsTakenShowingNothing, NamesAPlace, NamesWhatItShows, TellsARule};
+ghost use Rattle.rd_commands.specs.Commands.{IsAskOf, IsCommand, IsTakenServingNowhere, IsTakenShowingNothing, NamesAPlace, NamesWhatItShows, Sums, TellsARule};
 ghost use Rattle.rd_commands.specs.Serving.{GivesTimeouts};
 ghost use Rattle.rd_commands.specs.Serving as spec;
 ghost use Rattle.rd_commands.specs.Shown.{IsDayGiven, IsShowable, IsShownAs, NamesAny, NamesShown};
 ghost use Rattle.rd_commands.specs.Words.{AsksHelp, AsksVersion, IsSlotText};
-ghost use Rattle.rd_commands.specs.Zones.{HasZoneRule, IsRuleNamed};
+ghost use Rattle.rd_commands.specs.Zones.{HasZoneRule, IsFlagTold, IsRuleNamed};
 ghost use Rattle.rd_commands.specs.declared.words.Unread.TheVariants as Unread;
 
 use crate::blanks::trimmed;
@@ -57,6 +57,8 @@ pub struct InitAsk<'a> {
     pub store: &'a str,
     /// The desk key of the staff, without blanks and tabs at both ends.
     pub key: &'a [u8],
+    /// Whether the pages of the store end in sums.
+    pub has_sums: bool,
 }
 
 /// The visits that `serve` serves.
@@ -136,6 +138,15 @@ pub struct OneQuestionAsk<'a> {
     pub when: WhenAsk,
 }
 
+/// The key that `staff-key` puts as one of the staff.
+#[derive(Clone, Copy, Debug)]
+pub struct StaffKeyAsk<'a> {
+    /// The path of the store.
+    pub store: &'a str,
+    /// The desk key, without blanks and tabs at both ends.
+    pub key: &'a [u8],
+}
+
 /// What a command asks for.
 #[derive(Clone, Copy, Debug)]
 pub enum Ask<'a> {
@@ -151,6 +162,8 @@ pub enum Ask<'a> {
     Import(ImportAsk<'a>),
     /// One question to a desk, by `export`, `check` or `show`.
     OneQuestion(OneQuestionAsk<'a>),
+    /// A key of the staff in a desk that stands.
+    StaffKey(StaffKeyAsk<'a>),
 }
 
 /// Why the words do not run a command.
@@ -231,15 +244,25 @@ fn key_asked<'a>(found: &ArgMatches<'a>) -> Option<&'a [u8]>
     Some(trimmed(found.get_str("key")?.as_bytes()))
 }
 
+/// Whether its flag says that the pages of a new store end in sums.
+fn sums_asked(found: &ArgMatches) -> bool
+    ensures { (summed : Bool) → IsFlagTold (one_of (codes "sums") (rows_of (found_of found.now))) summed → result ≡ summed }
+{
+    found.get_flag("sums")
+}
+
 /// What the options of `init` ask for, `None` if one is missing.
 fn init_asked<'a>(found: &ArgMatches<'a>) -> Option<InitAsk<'a>>
-    ensures { (store : List ℕ) (key : List ℕ)
+    ensures asked { (store : List ℕ) (key : List ℕ)
         → AreInitRows (rows_of (found_of found.now)) store key
         → IsSomeAnd result (λ ask. AsksNew ask store key) }
+    ensures sums { (summed : Bool) → IsFlagTold (one_of (codes "sums") (rows_of (found_of found.now))) summed
+        → IfSome result (λ ask. ask.has_sums ≡ summed) }
 {
     Some(InitAsk {
         store: found.get_str("store")?,
         key: key_asked(found)?,
+        has_sums: sums_asked(found),
     })
 }
 
@@ -453,6 +476,17 @@ fn show_asked<'a>(found: &ArgMatches<'a>, shown: Shown) -> Option<OneQuestionAsk
     })
 }
 
+/// What the options of `staff-key` ask for, `None` if one is missing.
+fn staff_key_asked<'a>(found: &ArgMatches<'a>) -> Option<StaffKeyAsk<'a>>
+    ensures { (store : List ℕ) (key : List ℕ)
+        → AreStaffKeyRows (rows_of (found_of found.now)) store key
+        → IsSomeAnd result (λ ask. AsksStaff ask store key) }
+{
+    let store = found.get_str("store")?;
+    let key = key_asked(found)?;
+    Some(StaffKeyAsk { store, key })
+}
+
 /// Looks at what `clap` does not look at: whether `serve` has one place, and what `show` shows; `None` if the words are
 /// not of `show`.
 ///
@@ -496,10 +530,14 @@ fn ask_found<'a>(matches: &ArgMatches<'a>, shown: Option<Shown>) -> Option<Ask<'
     ensures show { (store key : List ℕ) (what : Shown) (moment : Option ℤ) (rule : List ℕ) → shown ≡ Some what
         → EntersShow (subcommand_rows_of matches.now) store key moment rule
         → IsSomeAnd result (IsOneQuestionAsk store (Some key) (Question.Show what) moment rule) }
+    ensures staff_key { (store key : List ℕ)
+        → EntersStaffKey (subcommand_rows_of matches.now) store key
+        → IsSomeAnd result (IsStaffKeyAsk store key) }
     ensures written_on_output { IfSome result (λ ask. TellsOnOutput ask → EntersTelling (subcommand_rows_of matches.now)) }
     ensures accession { IfSome result IsWithinLimits }
     ensures timeouts { IfSome result (EntersTimed (subcommand_rows_of matches.now)) }
     ensures zone { OnSome result (EntersByRule (subcommand_rows_of matches.now)) }
+    ensures sums { (summed : Bool) → EntersSumming (subcommand_rows_of matches.now) summed → IfSome result (λ ask. has_sums ask ≡ summed) }
 {
     let (name, found) = matches.subcommand()?;
     match name {
@@ -511,6 +549,7 @@ fn ask_found<'a>(matches: &ArgMatches<'a>, shown: Option<Shown>) -> Option<Ask<'
         "export" => Some(Ask::OneQuestion(export_asked(found)?)),
         "check" => Some(Ask::OneQuestion(check_asked(found)?)),
         "show" => Some(Ask::OneQuestion(show_asked(found, shown?)?)),
+        "staff-key" => Some(Ask::StaffKey(staff_key_asked(found)?)),
         _ => None,
     }
 }
@@ -525,6 +564,7 @@ fn read_by<'a>(alloc: Global, desk: Command<'a>, words: &'a [&'a str]) -> Result
     ensures written_on_output { IfOk result (λ ask. TellsOnOutput ask → IsTakenTelling (map (λ word. word.now) words.entry.now)) }
     ensures accession { IfOk result IsWithinLimits }
     ensures zone { OnOk result (TellsARule (map (λ word. word.now) words.entry.now)) }
+    ensures sums { (summed : Bool) → Sums (map (λ word. word.now) words.entry.now) summed → IfOk result (λ ask. has_sums ask ≡ summed) }
     ensures shown { OnOk result (NamesWhatItShows (map (λ word. word.now) words.entry.now)) }
     ensures no_rule { IfErr result (λ fault. ¬ TellsARule (map (λ word. word.now) words.entry.now)
         → IsMistake fault ⊎ (IsForMemory fault)) }
@@ -565,6 +605,7 @@ pub fn read_words<'a>(alloc: Global, words: &'a [&'a str]) -> Result<Ask<'a>, Un
     ensures written_on_output { IfOk result (λ ask. TellsOnOutput ask → IsTakenTelling (map (λ word. word.now) words.entry.now)) }
     ensures accession { IfOk result IsWithinLimits }
     ensures zone { OnOk result (TellsARule (map (λ word. word.now) words.entry.now)) }
+    ensures sums { (summed : Bool) → Sums (map (λ word. word.now) words.entry.now) summed → IfOk result (λ ask. has_sums ask ≡ summed) }
     ensures shown { OnOk result (NamesWhatItShows (map (λ word. word.now) words.entry.now)) }
     ensures no_rule { IfErr result (λ fault. ¬ TellsARule (map (λ word. word.now) words.entry.now)
         → IsMistake fault ⊎ (IsForMemory fault)) }

@@ -42,7 +42,11 @@ impl Machine for Bare {
 
     ghost left = { λ _. None };
 
-    fn connect(&mut self, _path: &str) -> Result<Connection<MemStore>, MachineFault> {
+    fn connect(
+        &mut self,
+        _path: &str,
+        _new_has_sums: bool,
+    ) -> Result<Connection<MemStore>, MachineFault> {
         Err(MachineFault::Failed)
     }
 

@@ -20,8 +20,8 @@ pub trait Supply {
 
     fn sheet(&self, alloc: Global, path: &str) -> Result<Vec<u8>, MachineFault>;
 
-    /// It fails when the machine does not give its store.
-    fn check_store(&self) -> Result<(), MachineFault> {
+    /// It fails when the machine does not give its store, or makes none with sums where they are asked for.
+    fn check_store(&self, _new_has_sums: bool) -> Result<(), MachineFault> {
         Ok(())
     }
 
@@ -80,8 +80,8 @@ impl<P: Supply + Drop, S: Alter + Drop> Machine for Museum<P, S> {
 
     /// It also fails at a path without a store, and if the store has not come back, or is inside a
     /// transaction.
-    fn connect(&mut self, path: &str) -> Result<Connection<S>, MachineFault> {
-        self.supply.check_store()?;
+    fn connect(&mut self, path: &str, new_has_sums: bool) -> Result<Connection<S>, MachineFault> {
+        self.supply.check_store(new_has_sums)?;
         if path != STORE {
             return Err(MachineFault::Failed);
         }

@@ -27,11 +27,15 @@ const COPIED_FRAMES: usize = 1;
 /// page, it trusts no byte of that page.
 type HostDisk = FileStore<FileFrom<Wary>>;
 
-/// Opens the store in the file at a path, or makes it.
+/// Opens the store in the file at a path, or makes it, with a sum at the end of each page or without.
 ///
 /// It fails with `NoMemory`, and with `Failed` when it cannot open the file, when the file holds no sound database, and
 /// when SQLite takes the path for something other than a file: `:memory:`, or what begins with `file:`.
-fn open_store(rt: &HostRuntime, path: &str) -> Result<Connection<HostDisk>, MachineFault>
+fn open_store(
+    rt: &HostRuntime,
+    path: &str,
+    new_has_sums: bool,
+) -> Result<Connection<HostDisk>, MachineFault>
     ensures outside { IfOk result (λ conn. conn.in_transaction ≡ false) }
 {
     if path == ":memory:" || path.starts_with("file:") {
@@ -47,7 +51,7 @@ fn open_store(rt: &HostRuntime, path: &str) -> Result<Connection<HostDisk>, Mach
         checkpoint_frames: COPIED_FRAMES,
         ..Options::new(RandomState::new(rt)?.hash_one(&0u8))
     };
-    match Connection::open_files_with(rt.alloc(), files, options, false) {
+    match Connection::open_files_with(rt.alloc(), files, options, new_has_sums) {
         Ok(conn) => Ok(conn),
         Err((error, _)) => Err(connect_fault(error)),
     }
@@ -174,8 +178,12 @@ impl<'a, D: Door + Drop, P: Places<D> + Drop> Machine for Host<'a, D, P> {
 
     ghost left = { λ _. None };
 
-    fn connect(&mut self, path: &str) -> Result<Connection<HostDisk>, MachineFault> {
-        open_store(self.rt, path)
+    fn connect(
+        &mut self,
+        path: &str,
+        new_has_sums: bool,
+    ) -> Result<Connection<HostDisk>, MachineFault> {
+        open_store(self.rt, path, new_has_sums)
     }
 
     /// What was committed stands already, so a fault of closing loses nothing.

@@ -8,6 +8,7 @@ mod museums;
 mod refused;
 mod sheets;
 mod sockets;
+mod sums;
 mod visits;
 
 use rd_fakes::stream::{End, Narrow, Tape};

@@ -120,7 +120,7 @@ pub command_at : (words : List (List ℕ)) (store : List ℕ) (moment : Option �
 command_at words store moment rule (inl (key, sheet, asks)) = inr (inr (inr (inr (inl (store, key, sheet, moment, rule, asks)))))
 command_at words store moment rule (inr (inl (key, asks))) = inr (inr (inr (inr (inr (inl (store, key, moment, rule, asks))))))
 command_at words store moment rule (inr (inr (inl (key, acc, asks)))) = inr (inr (inr (inr (inr (inr (inl (acc, (store, key, moment, rule, asks))))))))
-command_at words store moment rule (inr (inr (inr (key, what, asks)))) = inr (inr (inr (inr (inr (inr (inr (store, key, what, moment, rule, asks)))))))
+command_at words store moment rule (inr (inr (inr (key, what, asks)))) = inr (inr (inr (inr (inr (inr (inr (inl (store, key, what, moment, rule, asks))))))))
 
 -- ---- the clock, by the words
 

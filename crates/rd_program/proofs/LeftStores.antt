@@ -52,7 +52,7 @@ pub on_ended_always : {T : Type 0} (r : Result T Refusal) (P : Type 0) → P →
 on_ended_always (Ok value) P holds = holds
 on_ended_always (Err refusal) P holds = λ one. holds
 
-opening_is_3 : (refusal : Refusal) → IsOpenRefusal refusal → status_of refusal ≡ 3
+pub opening_is_3 : (refusal : Refusal) → IsOpenRefusal refusal → status_of refusal ≡ 3
 opening_is_3 refusal (inl is) = ap status_of is
 opening_is_3 refusal (inr (inl is)) = ap status_of is
 opening_is_3 refusal (inr (inr (inl is))) = ap status_of is
@@ -89,32 +89,39 @@ module _ {S : Type 0} (g : Ghosts S) where
   }
 
   -- where none was opened the database is as it was
-  from_unopened : (Reached : Desk → Desk → Type 0) (fault : OpenFault) (before after : Held S) → IsNotMigrated g before after fault
+  pub from_unopened : (Reached : Desk → Desk → Type 0) (fault : OpenFault) (before after : Held S) → IsNotMigrated g before after fault
       → LeavesStore g Reached before after
   from_unopened Reached fault before after is = record {
     lasts = is.lasts;
     reached = λ is_open. inl (is.untouched is_open);
   }
 
-  both_unopened : (was old new : Option (Held S)) (Reached : Desk → Desk → Type 0) (fault : OpenFault)
-      → IfBoth old new (λ before after. IsNotMigrated g before after fault) → Leaves was old new (LeavesStore g Reached)
-  both_unopened was None new Reached fault is = tt
-  both_unopened was (Some before) None Reached fault is = tt
-  both_unopened was (Some before) (Some after) Reached fault is = inr (from_unopened Reached fault before after is)
+  both_unopened : (was old new : Option (Held S)) (P : Held S → Held S → Type 0) (fault : OpenFault)
+      → ((before after : Held S) → IsNotMigrated g before after fault → P before after)
+      → IfBoth old new (λ before after. IsNotMigrated g before after fault) → Leaves was old new P
+  both_unopened was None new P fault of_fault is = tt
+  both_unopened was (Some before) None P fault of_fault is = tt
+  both_unopened was (Some before) (Some after) P fault of_fault is = inr (of_fault before after is)
+
+  -- what holds wherever none was opened is what is left
+  pub unopened_with : (was old new : Option (Held S)) (P : Held S → Held S → Type 0)
+      → ((fault : OpenFault) (before after : Held S) → IsNotMigrated g before after fault → P before after)
+      → (refusal : Refusal) → IsOpenRefusal refusal → LeavesUnopened g was old new refusal → Leaves was old new P
+  unopened_with was old new P of_fault refusal (inl is) left =
+      both_unopened was old new P open_fault.NotADesk (of_fault open_fault.NotADesk) (subst (LeavesUnopened g was old new) is left)
+  unopened_with was old new P of_fault refusal (inr (inl is)) left =
+      both_unopened was old new P open_fault.Version (of_fault open_fault.Version) (subst (LeavesUnopened g was old new) is left)
+  unopened_with was old new P of_fault refusal (inr (inr (inl is))) left =
+      both_unopened was old new P open_fault.Inconsistent (of_fault open_fault.Inconsistent) (subst (LeavesUnopened g was old new) is left)
+  unopened_with was old new P of_fault refusal (inr (inr (inr (inl is)))) left =
+      leaves_weaker was old new (λ before after. IsNotMigrated g before after open_fault.Sql) P
+      (of_fault open_fault.Sql) (subst (LeavesUnopened g was old new) is left)
+  unopened_with was old new P of_fault refusal (inr (inr (inr (inr is)))) left =
+      none_left was old new P (subst (LeavesUnopened g was old new) is left)
 
   pub unopened_left : (was old new : Option (Held S)) (Reached : Desk → Desk → Type 0) (refusal : Refusal) → IsOpenRefusal refusal
       → LeavesUnopened g was old new refusal → Leaves was old new (LeavesStore g Reached)
-  unopened_left was old new Reached refusal (inl is) left =
-      both_unopened was old new Reached open_fault.NotADesk (subst (LeavesUnopened g was old new) is left)
-  unopened_left was old new Reached refusal (inr (inl is)) left =
-      both_unopened was old new Reached open_fault.Version (subst (LeavesUnopened g was old new) is left)
-  unopened_left was old new Reached refusal (inr (inr (inl is))) left =
-      both_unopened was old new Reached open_fault.Inconsistent (subst (LeavesUnopened g was old new) is left)
-  unopened_left was old new Reached refusal (inr (inr (inr (inl is)))) left =
-      leaves_weaker was old new (λ before after. IsNotMigrated g before after open_fault.Sql) (LeavesStore g Reached)
-      (from_unopened Reached open_fault.Sql) (subst (LeavesUnopened g was old new) is left)
-  unopened_left was old new Reached refusal (inr (inr (inr (inr is)))) left =
-      none_left was old new (LeavesStore g Reached) (subst (LeavesUnopened g was old new) is left)
+  unopened_left was old new Reached refusal = unopened_with was old new (LeavesStore g Reached) (from_unopened Reached) refusal
 
   weaker_reached : {Same : Type 0} (db : Database) (First Second : Desk → Desk → Type 0) (new : Desk) → ((d e : Desk) → First d e → Second d e)
       → Same ⊎ IsReached db First new → Same ⊎ IsReached db Second new

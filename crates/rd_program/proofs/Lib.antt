@@ -13,3 +13,4 @@ pub mod RowLemmas
 pub mod DaylessMoments
 pub mod Dated
 pub mod Named
+pub mod StaffKeyLemmas

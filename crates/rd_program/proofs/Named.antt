@@ -1,15 +1,15 @@
 -- The store that words name, and the connection to it.
 use Rattle.std.proofs.Common.{◌≡◌, ◌≢◌, ◌≤◌, Bool, ℕ, ℤ, List, Option, None, Some, arith, inl, inr, subst, sym, refl}
 use Rattle.sqlite.specs.Held.{Held}
-use Rattle.rd_commands.specs.Asks.{IsImportAsk, IsInitAsk, IsOneQuestionAsk, IsServeAsk}
+use Rattle.rd_commands.specs.Asks.{IsImportAsk, IsInitAsk, IsOneQuestionAsk, IsServeAsk, IsStaffKeyAsk, has_sums}
 use Rattle.rd_commands.specs.Commands.{IsAskOf, IsCommand}
 use Rattle.rd_commands.specs.Serving.{Place}
 use Rattle.rd_commands.specs.declared.words.Ask.{Ask}
-use Rattle.rd_commands.specs.declared.words.Ask.TheVariants.{Import, Init, OneQuestion, Serve}
+use Rattle.rd_commands.specs.declared.words.Ask.TheVariants.{Import, Init, OneQuestion, Serve, StaffKey}
 use Rattle.rd_commands.specs.declared.words.Question.{Question}
 use Rattle.rd_commands.specs.declared.words.Question.TheVariants.{Catalogue, Check, Show}
-use Rattle.rd_program.specs.Asked.{AsksBy, NamesStore}
-use Rattle.rd_program.specs.Doors.{AsksNoOther, AsksPath}
+use Rattle.rd_program.specs.Asked.{AsksBy, NamesStore, SumsBy}
+use Rattle.rd_program.specs.Doors.{AsksNoOther, AsksNoOtherSums, AsksPath, AsksSums}
 use Rattle.rd_program.specs.Leaves.{HasBoth, StandsThere}
 use Rattle.rd_program.proofs.DaylessMoments.{command_at}
 
@@ -17,6 +17,10 @@ module _ {S : Type 0} (shows : Bool) (stands : List ℕ → Option (Held S)) (le
   init_both : (ask : Ask) (store key : List ℕ) → IsInitAsk store key ask → StandsThere shows stands left ask → HasBoth shows (stands store) left
   init_both (Init ask) store key asks both = subst (λ s. HasBoth shows (stands s) left) asks.store_is both
   init_both ask store key asks both = absurd asks
+
+  staff_key_both : (ask : Ask) (store key : List ℕ) → IsStaffKeyAsk store key ask → StandsThere shows stands left ask → HasBoth shows (stands store) left
+  staff_key_both (StaffKey ask) store key asks both = subst (λ s. HasBoth shows (stands s) left) asks.store_is both
+  staff_key_both ask store key asks both = absurd asks
 
   serve_both : (ask : Ask) (store : List ℕ) (place : Place) (count : ℕ) (rule : List ℕ) → IsServeAsk store place count rule ask → StandsThere shows stands left ask
       → HasBoth shows (stands store) left
@@ -36,7 +40,8 @@ module _ {S : Type 0} (shows : Bool) (stands : List ℕ → Option (Held S)) (le
   -- the connection is the one for the store that the words name
   pub has_both_by : (words : List (List ℕ)) (ask : Ask) (store : List ℕ) → IsAskOf words ask → NamesStore words store → StandsThere shows stands left ask
       → HasBoth shows (stands store) left
-  has_both_by words ask store is (inl (key, asks)) = init_both ask store key (is.init store key asks)
+  has_both_by words ask store is (inl (key, inl asks)) = init_both ask store key (is.init store key asks)
+  has_both_by words ask store is (inl (key, inr asks)) = staff_key_both ask store key (is.staff_key store key asks)
   has_both_by words ask store is (inr (inl (place, count, rule, asks))) = serve_both ask store place count rule (is.serve store place count rule asks)
   has_both_by words ask store is (inr (inr (moment, rule, inl (key, sheet, asks)))) = import_both ask store key sheet moment rule (is.import store key sheet moment rule asks)
   has_both_by words ask store is (inr (inr (moment, rule, inr (inl (key, asks))))) = once_both ask store key Catalogue moment rule (is.export store key moment rule asks)
@@ -57,6 +62,10 @@ module _ (old new : Option (List (List ℕ))) where
   init_asks (Init ask) store key asks by = subst (λ s. AsksNoOther old s new) asks.store_is (no_other ask.store.now by)
   init_asks ask store key asks by = absurd asks
 
+  staff_key_asks : (ask : Ask) (store key : List ℕ) → IsStaffKeyAsk store key ask → AsksBy old ask new → AsksNoOther old store new
+  staff_key_asks (StaffKey ask) store key asks by = subst (λ s. AsksNoOther old s new) asks.store_is (no_other ask.store.now by)
+  staff_key_asks ask store key asks by = absurd asks
+
   serve_asks : (ask : Ask) (store : List ℕ) (place : Place) (count : ℕ) (rule : List ℕ) → IsServeAsk store place count rule ask → AsksBy old ask new → AsksNoOther old store new
   serve_asks (Serve ask) store place count rule asks by = subst (λ s. AsksNoOther old s new) asks.store_is (no_other ask.store.now by)
   serve_asks ask store place count rule asks by = absurd asks
@@ -73,7 +82,8 @@ module _ (old new : Option (List (List ℕ))) where
 
   -- a command asks for no other than the one that the words name
   pub asks_by : (words : List (List ℕ)) (ask : Ask) (store : List ℕ) → IsAskOf words ask → NamesStore words store → AsksBy old ask new → AsksNoOther old store new
-  asks_by words ask store is (inl (key, asks)) = init_asks ask store key (is.init store key asks)
+  asks_by words ask store is (inl (key, inl asks)) = init_asks ask store key (is.init store key asks)
+  asks_by words ask store is (inl (key, inr asks)) = staff_key_asks ask store key (is.staff_key store key asks)
   asks_by words ask store is (inr (inl (place, count, rule, asks))) = serve_asks ask store place count rule (is.serve store place count rule asks)
   asks_by words ask store is (inr (inr (moment, rule, inl (key, sheet, asks)))) = import_asks ask store key sheet moment rule (is.import store key sheet moment rule asks)
   asks_by words ask store is (inr (inr (moment, rule, inr (inl (key, asks))))) = once_asks ask store key Catalogue moment rule (is.export store key moment rule asks)
@@ -91,10 +101,27 @@ asked_then old mid new path asks same = subst (AsksPath old path) (sym same) ask
 
 -- words that name a store are a command
 pub command_of_store : (words : List (List ℕ)) (store : List ℕ) → NamesStore words store → IsCommand words
-command_of_store words store (inl (key, asks)) = inr (inr (inl (store, key, asks)))
+command_of_store words store (inl (key, inl asks)) = inr (inr (inl (store, key, asks)))
+command_of_store words store (inl (key, inr asks)) = inr (inr (inr (inr (inr (inr (inr (inr (store, key, asks))))))))
 command_of_store words store (inr (inl (place, count, rule, asks))) = inr (inr (inr (inl (store, place, count, rule, asks))))
 command_of_store words store (inr (inr (moment, rule, asks))) = command_at words store moment rule asks
 
 -- a status of at most 1 that is not 0
 pub one_of_status : (status : ℕ) → status ≤ 1 → status ≢ 0 → status ≡ 1
 one_of_status status most some = omega (arith, most, some)
+
+-- ---- sums
+
+-- an `init` asks for them as the words do
+pub sums_by : (old new : Option (List Bool)) (ask : Ask) (store key : List ℕ) (summed : Bool) → IsInitAsk store key ask → has_sums ask ≡ summed → SumsBy old ask new
+    → AsksNoOtherSums old summed new
+sums_by old new (Init ask) store key summed asks is by = subst (λ b. AsksNoOtherSums old b new) is (go old by)
+  where
+    go : (o : Option (List Bool)) → AsksSums o ask.has_sums new → AsksNoOtherSums o ask.has_sums new
+    go None by = tt
+    go (Some before) by = inr by
+sums_by old new ask store key summed asks is by = absurd asks
+
+pub sums_none : (old : Option (List Bool)) (summed : Bool) → AsksNoOtherSums old summed old
+sums_none None summed = tt
+sums_none (Some before) summed = inl refl

@@ -1,18 +1,18 @@
 -- The moment at which a command asks a desk.
-use Rattle.std.specs.Prelude.{◌≡◌, ◌⊎◌, ⊤, ℕ, ℤ, IfSome, List, Option, Result}
+use Rattle.std.specs.Prelude.{◌≡◌, ◌⊎◌, ⊤, ℕ, ℤ, Bool, IfSome, List, Option, Result}
 use Rattle.sqlite.specs.Held.{Held}
 use Rattle.sqlite.specs.Store.{Ghosts}
 use Rattle.rd_policy.specs.Days.{HasDay}
 use Rattle.rd_store.specs.Migrated.{IsMigrated}
-use Rattle.rd_commands.specs.Commands.{AsksCheck, AsksExport, AsksImport, AsksInit, AsksServe, AsksShow}
+use Rattle.rd_commands.specs.Commands.{AsksCheck, AsksExport, AsksImport, AsksInit, AsksServe, AsksShow, AsksStaffKey}
 use Rattle.rd_commands.specs.declared.done.Done.{Done}
 use Rattle.rd_commands.specs.declared.refusal.Refusal.{Refusal}
 use Rattle.rd_commands.specs.declared.refusal.Refusal.TheVariants.{Clock}
 use Rattle.rd_commands.specs.declared.words.Ask.{Ask}
-use Rattle.rd_commands.specs.declared.words.Ask.TheVariants.{Import, Init, OneQuestion, Serve}
+use Rattle.rd_commands.specs.declared.words.Ask.TheVariants.{Import, Init, OneQuestion, Serve, StaffKey}
 use Rattle.rd_commands.specs.declared.words.Shown.{Shown}
 use Rattle.rd_commands.specs.Serving.{Place}
-use Rattle.rd_program.specs.Doors.{AsksPath}
+use Rattle.rd_program.specs.Doors.{AsksPath, AsksSums}
 use Rattle.rd_program.specs.Leaves.{moment_of}
 use Rattle.rd_program.specs.Serving.{IsUnasked}
 use Rattle.rd_program.specs.Showing.{EndsWith}
@@ -26,10 +26,11 @@ AsksAt words store moment rule =
     ⊎ (((key : List ℕ) × (acc : ℕ) × AsksCheck words store key acc moment rule)
     ⊎ ((key : List ℕ) × (what : Shown) × AsksShow words store key what moment rule)))
 
--- the words name the store in this file: they are an `init`, a `serve`, or a command that asks a desk at a moment
+-- the words name the store in this file: they are an `init`, a `staff-key`, a `serve`, or a command that asks a desk at a
+-- moment
 abbrev pub NamesStore : List (List ℕ) → List ℕ → Type 0
 NamesStore words store =
-    ((key : List ℕ) × AsksInit words store key)
+    ((key : List ℕ) × (AsksInit words store key ⊎ AsksStaffKey words store key))
     ⊎ (((place : Place) × (count : ℕ) × (rule : List ℕ) × AsksServe words store place count rule)
     ⊎ ((moment : Option ℤ) × (rule : List ℕ) × AsksAt words store moment rule))
 
@@ -53,6 +54,7 @@ AsksBy old (Init ask) new = AsksPath old ask.store.now new
 AsksBy old (Serve ask) new = AsksPath old ask.store.now new
 AsksBy old (Import ask) new = AsksPath old ask.store.now new
 AsksBy old (OneQuestion ask) new = AsksPath old ask.store.now new
+AsksBy old (StaffKey ask) new = AsksPath old ask.store.now new
 AsksBy old other new = new ≡ old
 
 -- when a command that asks at a moment may fail with `clock`
@@ -66,3 +68,8 @@ abbrev pub IsUnaskedBy : Option ℤ → Ask → Result Done Refusal → Type 0
 IsUnaskedBy clock (Import ask) result = IsUnasked (moment_of ask.when.seconds clock) result
 IsUnaskedBy clock (OneQuestion ask) result = IsUnasked (moment_of ask.when.seconds clock) result
 IsUnaskedBy clock ask result = ⊤
+
+-- an `init` asks for sums as its words do
+abbrev pub SumsBy : Option (List Bool) → Ask → Option (List Bool) → Type 0
+SumsBy old (Init ask) new = AsksSums old ask.has_sums new
+SumsBy old ask new = ⊤

@@ -12,6 +12,14 @@ AsksPath old path new = IfSome old (λ before. new ≡ Some (path ∷ before))
 abbrev pub AsksNoOther : Option (List (List ℕ)) → List ℕ → Option (List (List ℕ)) → Type 0
 AsksNoOther old path new = IfSome old (λ before. (new ≡ Some before) ⊎ (new ≡ Some (path ∷ before)))
 
+-- a connection was asked for, with this word on sums for a file that is new
+abbrev pub AsksSums : Option (List Bool) → Bool → Option (List Bool) → Type 0
+AsksSums old summed new = IfSome old (λ before. new ≡ Some (summed ∷ before))
+
+-- or none was
+abbrev pub AsksNoOtherSums : Option (List Bool) → Bool → Option (List Bool) → Type 0
+AsksNoOtherSums old summed new = IfSome old (λ before. (new ≡ Some before) ⊎ (new ≡ Some (summed ∷ before)))
+
 -- The machine shows its connections as before, no connection was asked for, and at the place, if it showed the door there, the door as its borrower
 -- left it. A machine that shows its connections shows that visitors may take as long as it was told.
 pub record KeepsDoor {M D : Type 0} (shows : M → Bool) (paths : M → Option (List (List ℕ))) (limits : M → Option TimeLimits) (doors : M → Place → Option D)

@@ -27,7 +27,7 @@ use Rattle.rd_commands.specs.declared.refusal.Refusal.{Refusal}
 use Rattle.rd_commands.specs.declared.refusal.Refusal.TheVariants.{Clock, Device, Inconsistent, NoMemory, NotADesk, Store, Version}
 use Rattle.rd_commands.specs.declared.sheet.SheetRow.{SheetRow}
 use Rattle.rd_commands.specs.declared.words.Ask.{Ask}
-use Rattle.rd_commands.specs.declared.words.Ask.TheVariants.{Import, Init, OneQuestion, Serve}
+use Rattle.rd_commands.specs.declared.words.Ask.TheVariants.{Import, Init, OneQuestion, Serve, StaffKey}
 use Rattle.rd_commands.specs.declared.words.Question.{Question}
 use Rattle.rd_commands.specs.declared.words.Question.TheVariants as question
 
@@ -189,6 +189,7 @@ StandsThere shows stands left (Init ask) = HasBoth shows (stands ask.store.now) 
 StandsThere shows stands left (Serve ask) = HasBoth shows (stands ask.store.now) left
 StandsThere shows stands left (Import ask) = HasBoth shows (stands ask.store.now) left
 StandsThere shows stands left (OneQuestion ask) = HasBoth shows (stands ask.store.now) left
+StandsThere shows stands left (StaffKey ask) = HasBoth shows (stands ask.store.now) left
 StandsThere shows stands left other = ⊤
 
 -- what `serve`, `import`, `export`, `check` and `show` leave, however they end

@@ -10,6 +10,7 @@ pub mod Doors
 pub mod Visiting
 pub mod Rows
 pub mod Asked
+pub mod StaffKeys
 pub use Rattle.rd_commands.specs.Words
 pub use Rattle.rd_commands.specs.CommandLine
 pub use Rattle.rd_commands.specs.Zones

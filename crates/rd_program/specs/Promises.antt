@@ -38,6 +38,7 @@ use Rattle.rd_program.specs.Leaves.{Checks, GivesBack, HasBoth, IsSame, Leaves, 
 use Rattle.rd_program.specs.Rows.{IsBadSheetDue, TakesSheetIn}
 use Rattle.rd_program.specs.Serving.{GivesLimits, IsUnaskedRefusal, RefusesServe, serve_text}
 use Rattle.rd_program.specs.Showing.{EndsWith, FindsStore, IsDueIn, RefusesShow, ShowsStore, request_of}
+use Rattle.rd_program.specs.StaffKeys.{LeavesStaffKey, PutsStaff, RefusesStaffKey}
 use Rattle.rd_program.specs.Visiting.{ServesDoorBy}
 
 -- the words, behind their references
@@ -219,3 +220,13 @@ pub record DoesShow {S : Type 0} (g : Ghosts S) (result : ℕ) (badge : Option (
       → Tells (λ refusal. RefusesShow out written refusal × NamesOpening g stood left refusal
       × IsDueIn g Days (request_of badge what) stood left refusal × IsClockDue g moment stood left refusal) result errors told
   pub show_leaves : Leaves was stood left (LeavesStore g IsSame)
+
+-- At 0 a `staff-key` has put this key as one of the staff of the desk that stood, changed nothing else, and said so. Not
+-- at 0 it names its refusal, whose status is never 1; the desk is as it was, unless only the line that says so was not
+-- written.
+pub record DoesStaffKey {S : Type 0} (g : Ghosts S) (result : ℕ) (staff : List ℕ) (was stood left : Option (Held S))
+    (out written errors told : Option (List ℕ)) : Type 0 where
+  pub put : result ≡ 0 → EndsWith stood left (PutsStaff g staff) × Appends out written done_line
+  pub put_due : result ≢ 0
+      → Tells (λ refusal. RefusesStaffKey refusal out written × LeavesStaffKey g was stood left staff refusal × NamesOpening g stood left refusal)
+      result errors told

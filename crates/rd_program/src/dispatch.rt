@@ -1,33 +1,36 @@
-ghost use Rattle.std.specs.Prelude.{◌≡◌, ◌≢◌, ◌⊎◌, ◌≤◌, IfErr, IfOk, IfSome, List, OnOk, Option, Some, codes, option_map, ℕ, ℤ};
+ghost use Rattle.std.specs.Prelude.{◌≡◌, ◌≢◌, ◌⊎◌, ◌≤◌, Bool, IfErr, IfOk, IfSome, List, OnOk, Option, Some, codes, option_map, ℕ, ℤ};
 ghost use Rattle.std.specs.Io.KnownBytes.{Appends, Keeps};
 ghost use Rattle.httparse.specs.Grammar.{trim_ows};
 ghost use Rattle.sha2.specs.Sha256.{sha256};
 ghost use Rattle.rd_geometry.specs.declared.kind.Kind.{Kind};
 ghost use Rattle.rd_program.specs.Asking.{RefusesOneQuestion, TellsCheck};
-ghost use Rattle.rd_commands.specs.Asks.{AsksADesk, AsksCheckOf, IsWithinLimits, IsFileAsk, IsFilesAsk, IsInitAsk, IsServeAsk, TellsInRows, TellsOnOutput, most_read};
+ghost use Rattle.rd_commands.specs.Asks.{AsksADesk, AsksCheckOf, IsWithinLimits, IsFileAsk, IsFilesAsk, IsInitAsk, IsServeAsk, IsStaffKeyAsk, TellsInRows, TellsOnOutput, most_read};
 ghost use Rattle.rd_commands.specs.Cat.{Refuses, Serves};
-ghost use Rattle.rd_commands.specs.Commands.{AsksCheck, AsksExport, AsksImport, AsksInit, AsksServe, AsksShow};
+ghost use Rattle.rd_commands.specs.Commands.{AsksCheck, AsksExport, AsksImport, AsksInit, AsksServe, AsksShow, AsksStaffKey, Sums};
 ghost use Rattle.rd_program.specs.Importing.{RefusesImport, TellsRows};
 ghost use Rattle.rd_program.specs.Inits.{LeavesInit, MakesDesk, RefusesInit, done_line};
 ghost use Rattle.rd_commands.specs.Input.{ReadsUpTo};
-ghost use Rattle.rd_program.specs.Leaves.{GivesBack, IsDayBy, LeavesBy, LeavesRefused, OnEnded, StandsThere, moment_of};
+ghost use Rattle.rd_program.specs.Leaves.{GivesBack, IsDayBy, LeavesBy, LeavesRefused, NamesOpening, OnEnded, StandsThere, moment_of};
 ghost use Rattle.rd_commands.specs.Listed.{Lists, RefusesList};
 ghost use Rattle.rd_commands.specs.Refusals.{status_of};
 ghost use Rattle.rd_program.specs.Rows.{ImportsBy, RefusesSheetBy};
-ghost use Rattle.rd_program.specs.Asked.{AsksBy, IsClockDueBy, IsUnaskedBy};
+ghost use Rattle.rd_program.specs.Asked.{AsksBy, IsClockDueBy, IsUnaskedBy, SumsBy};
 ghost use Rattle.rd_program.specs.Serving.{LimitsVisitors, RefusesServe, serve_text};
 ghost use Rattle.rd_commands.specs.Serving.{GivesTimeouts, Place};
+ghost use Rattle.rd_program.specs.Doors.{AsksNoOtherSums};
 ghost use Rattle.rd_program.specs.Visiting.{ServesBy};
 ghost use Rattle.rd_program.specs.DiskFiles.{GivesFile, IsOfImage};
-ghost use Rattle.rd_program.specs.Showing.{AnswersBy, what_of};
+ghost use Rattle.rd_program.specs.Showing.{AnswersBy, EndsWith, what_of};
+ghost use Rattle.rd_program.specs.StaffKeys.{LeavesStaffKey, PutsStaff, RefusesStaffKey};
 ghost use Rattle.rd_commands.specs.declared.words.Shown.{Shown};
-ghost use Rattle.rd_program.specs.Promises.{DoesCat, DoesCheck, DoesExport, DoesImport, DoesInit, DoesList, DoesServe, DoesShow, EndsByWords, KeepsMachine, ReadsInput, TellsOfItself, UsesOneStore, WritesByStatus, texts};
+ghost use Rattle.rd_program.specs.Promises.{DoesCat, DoesCheck, DoesExport, DoesImport, DoesInit, DoesList, DoesServe, DoesShow, DoesStaffKey, EndsByWords, KeepsMachine, ReadsInput, TellsOfItself, UsesOneStore, WritesByStatus, texts};
 
 use crate::export_check::ask_once;
 use crate::import::import;
 use crate::init::init;
 use crate::machine::Machine;
 use crate::serve::serve;
+use crate::staff_key::staff_key;
 use rd_commands::cat::cat;
 use rd_commands::list::list;
 use rd_commands::{Ask, Done, Refusal, read_words, tell_refusal, tell_unread, whole};
@@ -36,7 +39,7 @@ use std::io::{Read, Write};
 
 /// Does what a command asks for.
 ///
-/// It fails as `cat`, `list`, `init`, `serve`, `import` and `ask_once` do.
+/// It fails as `cat`, `list`, `init`, `serve`, `import`, `ask_once` and `staff_key` do.
 fn perform<R: Read, W: Write, M: Machine>(
     alloc: Global,
     ask: Ask,
@@ -67,6 +70,13 @@ fn perform<R: Read, W: Write, M: Machine>(
     ensures not_made { (store key : List ℕ) → IsInitAsk store key ask.entry
         → IfErr result (λ refusal. RefusesInit refusal (W.contents output.old) (W.contents output.new)
         × LeavesInit M.Disk.Store (M.left machine.old) (M.stands machine.old store) (M.left machine.new) (sha256 (trim_ows key)) refusal) }
+    ensures put { (store key : List ℕ) → IsStaffKeyAsk store key ask.entry
+        → OnOk result (EndsWith (M.stands machine.old store) (M.left machine.new) (PutsStaff M.Disk.Store (sha256 (trim_ows key)))
+        × Appends (W.contents output.old) (W.contents output.new) done_line) }
+    ensures not_put { (store key : List ℕ) → IsStaffKeyAsk store key ask.entry
+        → IfErr result (λ refusal. RefusesStaffKey refusal (W.contents output.old) (W.contents output.new)
+        × LeavesStaffKey M.Disk.Store (M.left machine.old) (M.stands machine.old store) (M.left machine.new) (sha256 (trim_ows key)) refusal
+        × NamesOpening M.Disk.Store (M.stands machine.old store) (M.left machine.new) refusal) }
     ensures served { (store : List ℕ) (place : Place) (count : ℕ) (rule : List ℕ) → IsServeAsk store place count rule ask.entry
         → OnOk result (Appends (W.contents output.old) (W.contents output.new) (serve_text place count)) }
     ensures not_served { (store : List ℕ) (place : Place) (count : ℕ) (rule : List ℕ) → IsServeAsk store place count rule ask.entry
@@ -92,6 +102,7 @@ fn perform<R: Read, W: Write, M: Machine>(
     ensures back { GivesBack (M.shows machine.old) (M.left machine.old) (M.left machine.new) }
     ensures there { OnEnded result (StandsThere (M.shows machine.old) (M.stands machine.old) (M.left machine.new) ask.entry) }
     ensures asked { AsksBy (M.paths machine.old) ask.entry (M.paths machine.new) }
+    ensures sums { SumsBy (M.sums machine.old) ask.entry (M.sums machine.new) }
     ensures clock { IfErr result (IsClockDueBy M.Disk.Store (M.stands machine.old) (M.left machine.new) ask.entry) }
     ensures bad_sheet { IfErr result (RefusesSheetBy (M.sheet_bytes machine.old) ask.entry) }
     ensures leaves { LeavesBy M.Disk.Store (M.clock machine.old) (M.left machine.old) (M.stands machine.old) (M.left machine.new) ask.entry }
@@ -106,6 +117,7 @@ fn perform<R: Read, W: Write, M: Machine>(
         Ask::Serve(ask) => whole(serve(alloc, ask, output, machine)),
         Ask::Import(ask) => import(alloc, ask, output, machine),
         Ask::OneQuestion(ask) => ask_once(alloc, ask, output, machine),
+        Ask::StaffKey(ask) => whole(staff_key(alloc, ask, output, machine)),
     }
 }
 
@@ -146,9 +158,16 @@ pub fn run<R: Read, W: Write, E: Write, M: Machine>(
     ensures list { DoesList (texts words.entry.now) result (R.remaining input.old) (M.file_bytes machine.old)
         (W.contents output.old) (W.contents output.new) (E.contents errors.old) (E.contents errors.new) }
 
-    // Of a store, in any form of the words of its command. The caller is named by the SHA-256 of their key.
+    // Of a store, in any form of the words of its command. The caller is named by the SHA-256 of their key. An `init`
+    // asks for sums in a file that is new exactly if its words do.
     ensures init { (store key : List ℕ) → AsksInit (texts words.entry.now) store key
         → DoesInit M.Disk.Store result (sha256 (trim_ows key))
+        (M.left machine.old) (M.stands machine.old store) (M.left machine.new)
+        (W.contents output.old) (W.contents output.new) (E.contents errors.old) (E.contents errors.new) }
+    ensures sums { (store key : List ℕ) (summed : Bool) → AsksInit (texts words.entry.now) store key
+        → Sums (texts words.entry.now) summed → AsksNoOtherSums (M.sums machine.old) summed (M.sums machine.new) }
+    ensures staff_key { (store key : List ℕ) → AsksStaffKey (texts words.entry.now) store key
+        → DoesStaffKey M.Disk.Store result (sha256 (trim_ows key))
         (M.left machine.old) (M.stands machine.old store) (M.left machine.new)
         (W.contents output.old) (W.contents output.new) (E.contents errors.old) (E.contents errors.new) }
     ensures serve { (store : List ℕ) (place : Place) (count : ℕ) (rule : List ℕ)

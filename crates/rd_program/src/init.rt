@@ -2,7 +2,7 @@ ghost use Rattle.std.specs.Prelude.{◌≡◌, IfErr, OnOk, false};
 ghost use Rattle.std.specs.Io.KnownBytes.{Appends};
 ghost use Rattle.sha2.specs.Sha256.{sha256};
 ghost use Rattle.rd_store.specs.Created.{IsCreated};
-ghost use Rattle.rd_program.specs.Doors.{AsksPath};
+ghost use Rattle.rd_program.specs.Doors.{AsksPath, AsksSums};
 ghost use Rattle.rd_program.specs.Leaves.{GivesBack, HasBoth, OnEnded};
 ghost use Rattle.rd_program.specs.Inits.{IsInitRefusal, LeavesInit, MakesDesk, NotMade, RefusesInit, done_line};
 
@@ -28,7 +28,7 @@ fn make<S: Alter + Drop>(conn: Connection<S>, key: &[u8]) -> (Result<(), Refusal
     }
 }
 
-/// Makes a desk in the file of a store, with one staff key.
+/// Makes a desk in the file of a store, with one staff key, and with sums if the words say so and the file is new.
 ///
 /// It fails with `Exists`, with `Store`, and with `NoMemory`.
 fn make_desk<M: Machine>(ask: InitAsk, machine: &mut M) -> Result<(), Refusal>
@@ -40,8 +40,9 @@ fn make_desk<M: Machine>(ask: InitAsk, machine: &mut M) -> Result<(), Refusal>
     ensures back { GivesBack (M.shows machine.old) (M.left machine.old) (M.left machine.new) }
     ensures there { OnEnded result (HasBoth (M.shows machine.old) (M.stands machine.old ask.entry.store.now) (M.left machine.new)) }
     ensures asked { AsksPath (M.paths machine.old) ask.entry.store.now (M.paths machine.new) }
+    ensures sums { AsksSums (M.sums machine.old) ask.entry.has_sums (M.sums machine.new) }
 {
-    let conn = match machine.connect(ask.store) {
+    let conn = match machine.connect(ask.store, ask.has_sums) {
         Ok(conn) => conn,
         Err(fault) => return Err(fault.or(Refusal::Store)),
     };
@@ -70,6 +71,7 @@ pub(crate) fn init<W: Write, M: Machine>(
     ensures back { GivesBack (M.shows machine.old) (M.left machine.old) (M.left machine.new) }
     ensures there { OnEnded result (HasBoth (M.shows machine.old) (M.stands machine.old ask.entry.store.now) (M.left machine.new)) }
     ensures asked { AsksPath (M.paths machine.old) ask.entry.store.now (M.paths machine.new) }
+    ensures sums { AsksSums (M.sums machine.old) ask.entry.has_sums (M.sums machine.new) }
 {
     make_desk(ask, machine)?;
     write_whole(output, b"done\n")

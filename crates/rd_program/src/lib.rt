@@ -12,6 +12,7 @@ mod machine;
 mod open_desk;
 mod serve;
 mod show;
+mod staff_key;
 
 pub use dispatch::run;
 pub use machine::{Machine, connect_fault};

@@ -6,7 +6,7 @@ ghost use Rattle.std.specs.Borrow.{sem};
 ghost use Rattle.rd_messages.specs.declared.pace.TimeLimits as pace;
 ghost use Rattle.rd_commands.specs.Serving as places;
 ghost use Rattle.rd_commands.specs.Serving.{place_of};
-ghost use Rattle.rd_program.specs.Doors.{AsksPath, LendsDoor};
+ghost use Rattle.rd_program.specs.Doors.{AsksPath, AsksSums, LendsDoor};
 ghost use Rattle.rd_program.specs.Leaves.{LeavesNone};
 ghost use Rattle.rd_program.specs.Rows.{KeepsFiles};
 
@@ -50,20 +50,29 @@ pub trait Machine: Files {
     /// The paths for which connections were asked, the latest first, if the machine shows them.
     ghost paths: { Self → Option (List (List ℕ)) } = { λ _. None };
 
+    /// For each connection that was asked for, whether a file that is new was to have sums, the latest first, if the
+    /// machine shows it.
+    ghost sums: { Self → Option (List Bool) } = { λ _. None };
+
     /// The connection that it took back last, if the machine shows it.
     ghost left: { Self → Option (Held Self.Disk) };
 
     /// A connection to the database in the file at a path, outside a transaction. It makes the
-    /// file if there is none.
+    /// file if there is none, with a sum at the end of each page or without.
     ///
     /// It fails when it cannot open the file, or the file holds no sound database.
-    fn connect(&mut self, path: &str) -> Result<Connection<Self::Disk>, MachineFault>
+    fn connect(
+        &mut self,
+        path: &str,
+        new_has_sums: bool,
+    ) -> Result<Connection<Self::Disk>, MachineFault>
         ensures outside { IfOk result (λ conn. conn.in_transaction ≡ false) }
         ensures stands { IfOk result (λ conn. IfSome (stands self.old path.now) (λ held. conn ≡ held)) }
         ensures there { IfOk result (λ conn. IsTrue (shows self.old) → stands self.old path.now ≡ Some conn) }
         ensures none { IfErr result (λ _. LeavesNone (left self.old) (left self.new)) }
         ensures kept { IfErr result (λ _. IsTrue (shows self.old) → left self.new ≡ left self.old) }
         ensures asked { AsksPath (paths self.old) path.now (paths self.new) }
+        ensures sums { AsksSums (sums self.old) new_has_sums (sums self.new) }
         ensures shows { shows self.new ≡ shows self.old }
         ensures clock { clock self.new ≡ clock self.old }
         ensures files { KeepsFiles Self.file_bytes Self.sheet_bytes self.old self.new }
@@ -74,6 +83,7 @@ pub trait Machine: Files {
         ensures left { IfSome (left self.new) (λ held. conn.old ≡ Some held) }
         ensures back { IsTrue (shows self.old) → left self.new ≡ conn.old }
         ensures asked { paths self.new ≡ paths self.old }
+        ensures sums { sums self.new ≡ sums self.old }
         ensures shows { shows self.new ≡ shows self.old }
         ensures door_limits { door_limits self.new ≡ door_limits self.old }
         ensures door { door self.new ≡ door self.old };
@@ -85,6 +95,7 @@ pub trait Machine: Files {
         ensures shown { IfOk result (λ seconds. IfSome (clock self.old) (λ moment. seconds ≡ moment)) }
         ensures files { KeepsFiles Self.file_bytes Self.sheet_bytes self.old self.new }
         ensures asked { paths self.new ≡ paths self.old }
+        ensures sums { sums self.new ≡ sums self.old }
         ensures shows { shows self.new ≡ shows self.old };
 
     /// Lends the door through which visits come at a place, and gives its visitors these limits. The machine keeps the

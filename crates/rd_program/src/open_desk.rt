@@ -18,6 +18,39 @@ use rd_store::{Refused, Store};
 use sqlite::Alter;
 use std::alloc::Global;
 
+/// Opens the desk in the file of a store, without clocks. It brings a store of version 1 to version 2.
+///
+/// It fails with `NotADesk`, `Version`, `Inconsistent` and `Store`, and with `NoMemory`.
+pub(crate) fn open_store<M: Machine>(
+    alloc: Global,
+    store: &str,
+    machine: &mut M,
+) -> Result<Store<M::Disk>, Refusal>
+    ensures opened { IfOk result (λ opened. IfSome (M.stands machine.old store.now) (λ before. IsMigrated M.Disk.Store before opened)) }
+    ensures there { IfOk result (λ _. IsTrue (M.shows machine.old) → IsSome (M.stands machine.old store.now)) }
+    ensures shows { M.shows machine.new ≡ M.shows machine.old }
+    ensures asked { AsksPath (M.paths machine.old) store.now (M.paths machine.new) }
+    ensures clock { IfOk result (λ _. M.clock machine.new ≡ M.clock machine.old) }
+    ensures files { IfOk result (λ _. KeepsFiles M.file_bytes M.sheet_bytes machine.old machine.new) }
+    ensures door { M.door machine.new ≡ M.door machine.old }
+    ensures back { IfErr result (λ _. GivesBack (M.shows machine.old) (M.left machine.old) (M.left machine.new)) }
+    ensures refused { IfErr result IsOpenRefusal }
+    ensures left { IfErr result
+        (LeavesUnopened M.Disk.Store (M.left machine.old) (M.stands machine.old store.now) (M.left machine.new)) }
+{
+    let conn = match machine.connect(store, false) {
+        Ok(conn) => conn,
+        Err(fault) => return Err(fault.or(Refusal::Store)),
+    };
+    match Store::migrate(alloc, conn) {
+        Ok(store) => Ok(store),
+        Err(Refused { fault, conn }) => {
+            machine.release(&mut Some(conn));
+            Err(not_opened(fault))
+        }
+    }
+}
+
 /// Opens the desk in the file of a store, with the clocks of a zone. It brings a store of version 1 to version 2.
 ///
 /// It fails with `NotADesk`, `Version`, `Inconsistent` and `Store`, and with `NoMemory`.
@@ -40,16 +73,9 @@ pub(crate) fn open_desk<M: Machine>(
     ensures left { IfErr result
         (LeavesUnopened M.Disk.Store (M.left machine.old) (M.stands machine.old store.now) (M.left machine.new)) }
 {
-    let conn = match machine.connect(store) {
-        Ok(conn) => conn,
-        Err(fault) => return Err(fault.or(Refusal::Store)),
-    };
-    match Store::migrate(alloc, conn) {
+    match open_store(alloc, store, machine) {
         Ok(store) => Ok(Desk::new(store, zone)),
-        Err(Refused { fault, conn }) => {
-            machine.release(&mut Some(conn));
-            Err(not_opened(fault))
-        }
+        Err(refused) => Err(refused),
     }
 }
 

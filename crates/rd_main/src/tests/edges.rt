@@ -176,7 +176,7 @@ fn remove(rt: &HostRuntime, path: &str) -> Result<(), Fail> {
 }
 
 /// What a run on the real machine left behind.
-fn run_on_host(rt: &HostRuntime, words: &[&str]) -> Ran {
+pub(super) fn run_on_host(rt: &HostRuntime, words: &[&str]) -> Ran {
     let mut output = Vec::new(rt.alloc());
     let mut errors = Vec::new(rt.alloc());
     let status = run(

@@ -31,7 +31,8 @@ impl File {
     }
 }
 
-/// What the machine does not give, and why: the `store`, the `door`, the `clock`, or the file at a path.
+/// What the machine does not give, and why: the `store`, `sums` for one with sums, the `door`, the `clock`, or the file at
+/// a path.
 #[derive(Drop)]
 struct Lack {
     what: String,
@@ -158,8 +159,12 @@ impl Supply for Given {
         copied(alloc, self.bytes_at(path)?)
     }
 
-    fn check_store(&self) -> Result<(), MachineFault> {
-        self.given("store")
+    fn check_store(&self, new_has_sums: bool) -> Result<(), MachineFault> {
+        self.given("store")?;
+        if new_has_sums {
+            self.given("sums")?;
+        }
+        Ok(())
     }
 
     /// Notes the place, and how long a visitor may take there.

@@ -1,9 +1,9 @@
-use Rattle.std.proofs.Common.{◌≡◌, ◌∙◌, Some, inl, inr, subst, sym}
-use Rattle.clap.specs.Words.{subcommand_rows_of}
-use Rattle.rd_commands.specs.Asks.{AreCatRows, AreCheckRows, AreExportRows, AreImportRows, AreInitRows, AreServeRows, AreShowRows, AsksOneQuestion, EntersAs}
+use Rattle.std.proofs.Common.{◌≡◌, ◌∙◌, Some, codes, inl, inr, refl, subst, sym}
+use Rattle.clap.specs.Words.{one_of, subcommand_rows_of}
+use Rattle.rd_commands.specs.Asks.{AreCatRows, AreCheckRows, AreExportRows, AreImportRows, AreInitRows, AreServeRows, AreShowRows, AreStaffKeyRows, AsksOneQuestion, EntersAs}
 use Rattle.rd_commands.specs.declared.words.Question.TheVariants.{Show}
-use Rattle.rd_commands.specs.Zones.{HasZoneRule}
-use Rattle.rd_commands.proofs.GetterLemmas.{clockless, entered_as, name_met, rows_met}
+use Rattle.rd_commands.specs.Zones.{HasZoneRule, IsFlagTold}
+use Rattle.rd_commands.proofs.GetterLemmas.{clockless, entered_as, name_met, no_init, rows_met}
 use Rattle.rd_commands.proofs.Places.{timed_met}
 use Rattle.rd_commands.proofs.words.ask_found.Goals as goal
 
@@ -20,7 +20,7 @@ returns-in_ok-file_asked-in-cat-clause-file c = λ kind image slot enters.
 pub returns-in_ok-init_asked-in-init-clause-init : goal.returns-in_ok-init_asked-in-init-clause-init
 returns-in_ok-init_asked-in-init-clause-init c = λ store key enters.
     let rows = rows_met c.args.matches.now _ enters.rows _ enters.into (sym c.in_ok-name.ensures.rows) in
-    c.in_ok-init_asked-in-init.ensures store key (subst (λ r. AreInitRows r store key) rows enters.found)
+    c.in_ok-init_asked-in-init.ensures.asked store key (subst (λ r. AreInitRows r store key) rows enters.found)
 
 pub returns-in_err-serve_asked-in-serve-clause-serve : goal.returns-in_err-serve_asked-in-serve-clause-serve
 returns-in_err-serve_asked-in-serve-clause-serve c = λ store place count rule enters.
@@ -85,7 +85,17 @@ returns-in_ok-files_asked-in-list-clause-zone c = λ name rows into clocks.
 pub returns-in_ok-init_asked-in-init-clause-zone : goal.returns-in_ok-init_asked-in-init-clause-zone
 returns-in_ok-init_asked-in-init-clause-zone c = λ name rows into clocks.
     let met = name_met c.args.matches.now name _ rows _ into c.in_ok-name.ensures.name c.in_ok-name.ensures.rows in
-    absurd (clockless name (inr (inr (met ∙ c.in-init.is))) clocks)
+    absurd (clockless name (inr (inr (inl (met ∙ c.in-init.is)))) clocks)
+
+pub returns-in_ok-staff_key_asked-in-text-clause-staff_key : goal.returns-in_ok-staff_key_asked-in-text-clause-staff_key
+returns-in_ok-staff_key_asked-in-text-clause-staff_key c = λ store key enters.
+    let rows = rows_met c.args.matches.now _ enters.rows _ enters.into (sym c.in_ok-name.ensures.rows) in
+    c.in_ok-staff_key_asked-in-text.ensures store key (subst (λ r. AreStaffKeyRows r store key) rows enters.found)
+
+pub returns-in_ok-staff_key_asked-in-text-clause-zone : goal.returns-in_ok-staff_key_asked-in-text-clause-zone
+returns-in_ok-staff_key_asked-in-text-clause-zone c = λ name rows into clocks.
+    let met = name_met c.args.matches.now name _ rows _ into c.in_ok-name.ensures.name c.in_ok-name.ensures.rows in
+    absurd (clockless name (inr (inr (inr (met ∙ c.in-text.is)))) clocks)
 
 pub returns-in_ok-serve_asked-in-serve-clause-zone : goal.returns-in_ok-serve_asked-in-serve-clause-zone
 returns-in_ok-serve_asked-in-serve-clause-zone c = λ name rows into clocks.
@@ -119,3 +129,50 @@ returns-in_ok-show_asked-in-show-clause-show c = λ store key what moment rule i
     let same : c.in_ok-shown-in-show.field-0 ≡ what = cc in
     subst (λ w. AsksOneQuestion c.in_ok-show_asked-in-show.field-0 store (Some key) (Show w) moment rule) same
     (c.in_ok-show_asked-in-show.ensures.asked store key moment rule (subst (λ r. AreShowRows r store key moment rule) rows enters.found))
+
+-- ---- sums
+
+pub returns-in_ok-init_asked-in-init-clause-sums : goal.returns-in_ok-init_asked-in-init-clause-sums
+returns-in_ok-init_asked-in-init-clause-sums c = λ summed told.
+    c.in_ok-init_asked-in-init.ensures.sums summed
+    (subst (λ rows. IsFlagTold (one_of (codes "sums") rows) summed) (rows_met c.args.matches.now _ told.0 _ told.1 (sym c.in_ok-name.ensures.rows)) told.2)
+
+pub returns-in_ok-file_asked-in-cat-clause-sums : goal.returns-in_ok-file_asked-in-cat-clause-sums
+returns-in_ok-file_asked-in-cat-clause-sums c = λ summed told.
+    let met = name_met c.args.matches.now (codes "init") _ told.0 _ told.1 c.in_ok-name.ensures.name c.in_ok-name.ensures.rows in
+    absurd (no_init _ refl (met ∙ c.in-cat.is))
+
+pub returns-in_ok-files_asked-in-list-clause-sums : goal.returns-in_ok-files_asked-in-list-clause-sums
+returns-in_ok-files_asked-in-list-clause-sums c = λ summed told.
+    let met = name_met c.args.matches.now (codes "init") _ told.0 _ told.1 c.in_ok-name.ensures.name c.in_ok-name.ensures.rows in
+    absurd (no_init _ refl (met ∙ c.in-list.is))
+
+pub returns-in_ok-serve_asked-in-serve-clause-sums : goal.returns-in_ok-serve_asked-in-serve-clause-sums
+returns-in_ok-serve_asked-in-serve-clause-sums c = λ summed told.
+    let met = name_met c.args.matches.now (codes "init") _ told.0 _ told.1 c.in_ok-name.ensures.name c.in_ok-name.ensures.rows in
+    absurd (no_init _ refl (met ∙ c.in-serve.is))
+
+pub returns-in_ok-import_asked-in-import-clause-sums : goal.returns-in_ok-import_asked-in-import-clause-sums
+returns-in_ok-import_asked-in-import-clause-sums c = λ summed told.
+    let met = name_met c.args.matches.now (codes "init") _ told.0 _ told.1 c.in_ok-name.ensures.name c.in_ok-name.ensures.rows in
+    absurd (no_init _ refl (met ∙ c.in-import.is))
+
+pub returns-in_ok-export_asked-in-export-clause-sums : goal.returns-in_ok-export_asked-in-export-clause-sums
+returns-in_ok-export_asked-in-export-clause-sums c = λ summed told.
+    let met = name_met c.args.matches.now (codes "init") _ told.0 _ told.1 c.in_ok-name.ensures.name c.in_ok-name.ensures.rows in
+    absurd (no_init _ refl (met ∙ c.in-export.is))
+
+pub returns-in_ok-check_asked-in-check-clause-sums : goal.returns-in_ok-check_asked-in-check-clause-sums
+returns-in_ok-check_asked-in-check-clause-sums c = λ summed told.
+    let met = name_met c.args.matches.now (codes "init") _ told.0 _ told.1 c.in_ok-name.ensures.name c.in_ok-name.ensures.rows in
+    absurd (no_init _ refl (met ∙ c.in-check.is))
+
+pub returns-in_ok-show_asked-in-show-clause-sums : goal.returns-in_ok-show_asked-in-show-clause-sums
+returns-in_ok-show_asked-in-show-clause-sums c = λ summed told.
+    let met = name_met c.args.matches.now (codes "init") _ told.0 _ told.1 c.in_ok-name.ensures.name c.in_ok-name.ensures.rows in
+    absurd (no_init _ refl (met ∙ c.in-show.is))
+
+pub returns-in_ok-staff_key_asked-in-text-clause-sums : goal.returns-in_ok-staff_key_asked-in-text-clause-sums
+returns-in_ok-staff_key_asked-in-text-clause-sums c = λ summed told.
+    let met = name_met c.args.matches.now (codes "init") _ told.0 _ told.1 c.in_ok-name.ensures.name c.in_ok-name.ensures.rows in
+    absurd (no_init _ refl (met ∙ c.in-text.is))

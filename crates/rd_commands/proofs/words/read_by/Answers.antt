@@ -4,7 +4,7 @@ use Rattle.rd_commands.specs.Asks.{IsForMemory, IsTold}
 use Rattle.rd_commands.specs.CommandLine.{IsTaken}
 use Rattle.rd_commands.specs.Commands.{IsTakenServingNowhere, IsTakenShowingNothing, NamesAPlace, NamesWhatItShows, TellsARule}
 use Rattle.rd_commands.specs.declared.words.Unread.TheVariants.{Day, Place as NoPlace, Usage}
-use Rattle.rd_commands.proofs.GetterLemmas.{GivesRows, ask_given, ask_accession, ask_read, ask_unread, entered_is, fails_for_memory, names_what_it_shows, never_faulty, no_day, no_fault_in, on_ok_always, passed_on, rule_read, taken_by, taken_on_output, taken_serving, taken_showing, unread_usage, words_at_fault, words_taken}
+use Rattle.rd_commands.proofs.GetterLemmas.{GivesRows, ask_given, ask_accession, ask_read, ask_unread, entered_is, fails_for_memory, names_what_it_shows, never_faulty, no_day, no_fault_in, on_ok_always, passed_on, rule_read, sums_read, taken_by, taken_on_output, taken_serving, taken_showing, unread_usage, words_at_fault, words_taken}
 use Rattle.rd_commands.proofs.HelpLine.{help_not_parsed, help_unread, not_help}
 use Rattle.rd_commands.proofs.Places.{look_mistake, look_no_fault, look_not_placed, look_not_shown, look_unread, names_a_place, no_place_of}
 use Rattle.rd_commands.proofs.VersionLine.{not_version, version_not_parsed, version_unread}
@@ -13,7 +13,7 @@ use Rattle.rd_commands.proofs.words.read_by.Goals as goal
 pub returns-in_ok-shown-in-Ok-clause-read : goal.returns-in_ok-shown-in-Ok-clause-read
 returns-in_ok-shown-in-Ok-clause-read c =
     let words = map (λ word. word.now) c.args.words.now in
-    let rows : GivesRows (subcommand_rows_of c.in-Ok.matches) c.in_ok-shown-in-Ok.shown c.ask_found.result = record { file = c.ask_found.ensures.file; files = c.ask_found.ensures.files; init = c.ask_found.ensures.init; serve = c.ask_found.ensures.serve; timeouts = c.ask_found.ensures.timeouts; import = c.ask_found.ensures.import; export = c.ask_found.ensures.export; check = c.ask_found.ensures.check; show = c.ask_found.ensures.show } in
+    let rows : GivesRows (subcommand_rows_of c.in-Ok.matches) c.in_ok-shown-in-Ok.shown c.ask_found.result = record { file = c.ask_found.ensures.file; files = c.ask_found.ensures.files; init = c.ask_found.ensures.init; serve = c.ask_found.ensures.serve; timeouts = c.ask_found.ensures.timeouts; import = c.ask_found.ensures.import; export = c.ask_found.ensures.export; check = c.ask_found.ensures.check; show = c.ask_found.ensures.show; staff_key = c.ask_found.ensures.staff_key } in
     ask_read c.ask_found.result Usage c.ok_or.result words c.ok_or.ensures.value
     (ask_given c.ask_found.result c.in_ok-shown-in-Ok.shown (app_of c.args.desk) words c.in-Ok.matches c.requires c.in-Ok.ensures.matches c.in_ok-shown-in-Ok.ensures.named rows)
 
@@ -23,7 +23,7 @@ returns-in_ok-shown-in-Ok-clause-accession c = ask_accession c.ask_found.result 
 pub returns-in_ok-shown-in-Ok-clause-unread : goal.returns-in_ok-shown-in-Ok-clause-unread
 returns-in_ok-shown-in-Ok-clause-unread c =
     let words = map (λ word. word.now) c.args.words.now in
-    let rows : GivesRows (subcommand_rows_of c.in-Ok.matches) c.in_ok-shown-in-Ok.shown c.ask_found.result = record { file = c.ask_found.ensures.file; files = c.ask_found.ensures.files; init = c.ask_found.ensures.init; serve = c.ask_found.ensures.serve; timeouts = c.ask_found.ensures.timeouts; import = c.ask_found.ensures.import; export = c.ask_found.ensures.export; check = c.ask_found.ensures.check; show = c.ask_found.ensures.show } in
+    let rows : GivesRows (subcommand_rows_of c.in-Ok.matches) c.in_ok-shown-in-Ok.shown c.ask_found.result = record { file = c.ask_found.ensures.file; files = c.ask_found.ensures.files; init = c.ask_found.ensures.init; serve = c.ask_found.ensures.serve; timeouts = c.ask_found.ensures.timeouts; import = c.ask_found.ensures.import; export = c.ask_found.ensures.export; check = c.ask_found.ensures.check; show = c.ask_found.ensures.show; staff_key = c.ask_found.ensures.staff_key } in
     ask_unread c.ask_found.result Usage c.ok_or.result words IsForMemory c.ok_or.ensures.value
     (ask_given c.ask_found.result c.in_ok-shown-in-Ok.shown (app_of c.args.desk) words c.in-Ok.matches c.requires c.in-Ok.ensures.matches c.in_ok-shown-in-Ok.ensures.named rows)
 
@@ -188,3 +188,9 @@ pub returns-in_err-shown-in-Ok-clause-of_clap : goal.returns-in_err-shown-in-Ok-
 returns-in_err-shown-in-Ok-clause-of_clap c =
     passed_on c.from_residual.result c.in_err-shown-in-Ok.field-0.0 _ c.from_residual.ensures.1
     (λ none. absurd (none (taken_by (app_of c.args.desk) _ c.requires c.in-Ok.ensures.kinds)))
+
+-- ---- sums
+
+pub returns-in_ok-shown-in-Ok-clause-sums : goal.returns-in_ok-shown-in-Ok-clause-sums
+returns-in_ok-shown-in-Ok-clause-sums c = λ summed told.
+    sums_read (app_of c.args.desk) _ c.in-Ok.matches c.ask_found.result Usage c.ok_or.result summed c.requires c.in-Ok.ensures.matches c.ok_or.ensures.value c.ask_found.ensures.sums told

@@ -1,6 +1,6 @@
 use Rattle.std.proofs.Common.{◌≡◌, IfErr, IfOk, IfSome, OnOk, ap, codes, inl, subst, sym}
 use Rattle.std.proofs.lemmas.Result.{IfErr-weaker}
-use Rattle.rd_commands.specs.Asks.{AsksADesk, AsksCheckOf, AsksFile, AsksFiles, AsksNew, AsksVisits, IsFileAsk, IsFilesAsk, IsInitAsk, IsServeAsk, TellsInRows, TellsOnOutput}
+use Rattle.rd_commands.specs.Asks.{AsksADesk, AsksCheckOf, AsksFile, AsksFiles, AsksNew, AsksStaff, AsksVisits, IsFileAsk, IsFilesAsk, IsInitAsk, IsServeAsk, IsStaffKeyAsk, TellsInRows, TellsOnOutput}
 use Rattle.rd_commands.specs.Cat.{Refuses, Serves}
 use Rattle.std.specs.Io.KnownBytes.{Appends}
 use Rattle.rd_program.specs.Leaves.{LeavesBy, LeavesRefused, OnEnded, StandsThere}
@@ -11,13 +11,14 @@ use Rattle.rd_program.proofs.AnswerLemmas.{once_kept, once_never}
 use Rattle.rd_program.proofs.ImportLemmas.{ended_whole, err_whole, ok_whole, whole_is}
 use Rattle.rd_program.proofs.InitLemmas.{at_err_both, left_as, made_as, on_both}
 use Rattle.rd_program.proofs.LeftStores.{on_ended_always}
+use Rattle.rd_program.proofs.StaffKeyLemmas.{at_err_all, left_unput_as, opens_as, put_as, staff_key_never, staff_key_not_1}
 use Rattle.rd_program.proofs.LeftStoresByWords.{no_refusal}
 use Rattle.rd_program.proofs.FileLemmas.{stands_nowhere}
 use Rattle.rd_commands.proofs.RunLemmas.{as_asked}
 use Rattle.std.specs.Prelude.{IsSome}
 use Rattle.rd_program.specs.DiskFiles.{GivesFile, IsOfImage}
 use Rattle.rd_program.specs.Showing.{AnswersBy}
-use Rattle.rd_program.specs.Asked.{AsksBy, IsClockDueBy, IsUnaskedBy}
+use Rattle.rd_program.specs.Asked.{AsksBy, IsClockDueBy, IsUnaskedBy, SumsBy}
 use Rattle.rd_program.specs.Rows.{ImportsBy, RefusesSheetBy}
 use Rattle.rd_program.specs.Visiting.{ServesBy}
 use Rattle.rd_commands.specs.declared.done.Done.TheVariants.{InPart}
@@ -599,3 +600,183 @@ returns-in-Import-clause-asked g c =
 pub returns-in-OneQuestion-clause-asked : goal.returns-in-OneQuestion-clause-asked
 returns-in-OneQuestion-clause-asked g c =
     subst (λ ask. AsksBy (g.M.Machine.paths c.args.machine.now) ask (g.M.Machine.paths c.ask_once.new.machine)) (sym c.in-OneQuestion.is) c.ask_once.ensures.asked
+
+-- ---- a key of the staff
+
+pub returns-in-StaffKey-clause-done : goal.returns-in-StaffKey-clause-done
+returns-in-StaffKey-clause-done g c = λ kind slot asked. absurd (subst (IsFileAsk kind (codes "-") slot) c.in-StaffKey.is asked)
+
+pub returns-in-StaffKey-clause-refused : goal.returns-in-StaffKey-clause-refused
+returns-in-StaffKey-clause-refused g c = λ kind slot asked. absurd (subst (IsFileAsk kind (codes "-") slot) c.in-StaffKey.is asked)
+
+pub returns-in-StaffKey-clause-listed : goal.returns-in-StaffKey-clause-listed
+returns-in-StaffKey-clause-listed g c = λ kind asked. absurd (subst (IsFilesAsk kind (codes "-")) c.in-StaffKey.is asked)
+
+pub returns-in-StaffKey-clause-list_refused : goal.returns-in-StaffKey-clause-list_refused
+returns-in-StaffKey-clause-list_refused g c = λ kind asked. absurd (subst (IsFilesAsk kind (codes "-")) c.in-StaffKey.is asked)
+
+pub returns-in-StaffKey-clause-served : goal.returns-in-StaffKey-clause-served
+returns-in-StaffKey-clause-served g c = λ store port count rule asked. absurd (subst (IsServeAsk store port count rule) c.in-StaffKey.is asked)
+
+pub returns-in-StaffKey-clause-not_served : goal.returns-in-StaffKey-clause-not_served
+returns-in-StaffKey-clause-not_served g c = λ store port count rule asked. absurd (subst (IsServeAsk store port count rule) c.in-StaffKey.is asked)
+
+pub returns-in-StaffKey-clause-imported : goal.returns-in-StaffKey-clause-imported
+returns-in-StaffKey-clause-imported g c = λ tells. absurd (subst TellsInRows c.in-StaffKey.is tells)
+
+pub returns-in-StaffKey-clause-not_imported : goal.returns-in-StaffKey-clause-not_imported
+returns-in-StaffKey-clause-not_imported g c = λ tells. absurd (subst TellsInRows c.in-StaffKey.is tells)
+
+pub returns-in-StaffKey-clause-in_part : goal.returns-in-StaffKey-clause-in_part
+returns-in-StaffKey-clause-in_part g c = whole_is _ c.staff_key.result c.whole-in-StaffKey.result c.whole-in-StaffKey.ensures
+
+pub returns-in-StaffKey-clause-checked : goal.returns-in-StaffKey-clause-checked
+returns-in-StaffKey-clause-checked g c = λ acc asked. absurd (subst (AsksCheckOf acc) c.in-StaffKey.is asked)
+
+pub returns-in-StaffKey-clause-not_answered : goal.returns-in-StaffKey-clause-not_answered
+returns-in-StaffKey-clause-not_answered g c = λ asked. absurd (subst AsksADesk c.in-StaffKey.is asked)
+
+pub returns-in-StaffKey-clause-leaves : goal.returns-in-StaffKey-clause-leaves
+returns-in-StaffKey-clause-leaves g c =
+    subst (LeavesBy g.M.Disk.Store (g.M.Machine.clock c.args.machine.now) (g.M.Machine.left c.args.machine.now) (g.M.Machine.stands c.args.machine.now) (g.M.Machine.left c.staff_key.new.machine)) (sym c.in-StaffKey.is) tt
+
+pub returns-in-StaffKey-clause-leaves_refused : goal.returns-in-StaffKey-clause-leaves_refused
+returns-in-StaffKey-clause-leaves_refused g c =
+    subst (λ ask. IfErr c.whole-in-StaffKey.result (LeavesRefused g.M.Disk.Store (g.M.Machine.left c.args.machine.now) (g.M.Machine.stands c.args.machine.now) (g.M.Machine.left c.staff_key.new.machine)
+    (g.W.Write.contents c.args.output.now) (g.W.Write.contents c.staff_key.new.output) ask)) (sym c.in-StaffKey.is) (no_refusal c.whole-in-StaffKey.result)
+
+pub returns-in-StaffKey-clause-answers : goal.returns-in-StaffKey-clause-answers
+returns-in-StaffKey-clause-answers g c =
+    subst (λ ask. AnswersBy g.M.Disk.Store (g.M.Machine.clock c.args.machine.now) (g.M.Machine.stands c.args.machine.now) (g.M.Machine.left c.staff_key.new.machine)
+    (g.W.Write.contents c.args.output.now) (g.W.Write.contents c.staff_key.new.output) ask c.whole-in-StaffKey.result) (sym c.in-StaffKey.is) tt
+
+pub returns-in-StaffKey-clause-of_file : goal.returns-in-StaffKey-clause-of_file
+returns-in-StaffKey-clause-of_file g c =
+    subst (λ ask. GivesFile (g.M.Files.file_bytes c.args.machine.now) (g.W.Write.contents c.args.output.now) (g.W.Write.contents c.staff_key.new.output) ask c.whole-in-StaffKey.result) (sym c.in-StaffKey.is) tt
+
+pub returns-in-StaffKey-clause-untouched : goal.returns-in-StaffKey-clause-untouched
+returns-in-StaffKey-clause-untouched g c = λ of. absurd (subst IsOfImage c.in-StaffKey.is of)
+
+pub returns-in-StaffKey-clause-serves : goal.returns-in-StaffKey-clause-serves
+returns-in-StaffKey-clause-serves g c =
+    subst (λ ask. OnOk c.whole-in-StaffKey.result (ServesBy g.M.Disk.Store g.M.Door.Door.told g.M.Door.Door.coming (g.M.Machine.door c.args.machine.now) (g.M.Machine.door c.staff_key.new.machine)
+    (g.M.Machine.stands c.args.machine.now) (g.M.Machine.left c.staff_key.new.machine) ask)) (sym c.in-StaffKey.is)
+    (stands_nowhere c.whole-in-StaffKey.result)
+
+pub returns-in-StaffKey-clause-limits : goal.returns-in-StaffKey-clause-limits
+returns-in-StaffKey-clause-limits g c =
+    subst (λ ask. OnOk c.whole-in-StaffKey.result (LimitsVisitors (g.M.Machine.shows c.args.machine.now) (g.M.Machine.door_limits c.staff_key.new.machine) ask)) (sym c.in-StaffKey.is) (no_limits c.whole-in-StaffKey.result)
+
+pub returns-in-StaffKey-clause-there : goal.returns-in-StaffKey-clause-there
+returns-in-StaffKey-clause-there g c =
+    subst (λ ask. OnEnded c.whole-in-StaffKey.result (StandsThere (g.M.Machine.shows c.args.machine.now) (g.M.Machine.stands c.args.machine.now) (g.M.Machine.left c.staff_key.new.machine) ask)) (sym c.in-StaffKey.is)
+    (ended_whole _ c.staff_key.result c.whole-in-StaffKey.result c.whole-in-StaffKey.ensures c.staff_key.ensures.there)
+
+pub returns-in-StaffKey-clause-clock : goal.returns-in-StaffKey-clause-clock
+returns-in-StaffKey-clause-clock g c =
+    subst (λ ask. IfErr c.whole-in-StaffKey.result (IsClockDueBy g.M.Disk.Store (g.M.Machine.stands c.args.machine.now) (g.M.Machine.left c.staff_key.new.machine) ask)) (sym c.in-StaffKey.is) (no_refusal c.whole-in-StaffKey.result)
+
+pub returns-in-StaffKey-clause-bad_sheet : goal.returns-in-StaffKey-clause-bad_sheet
+returns-in-StaffKey-clause-bad_sheet g c =
+    subst (λ ask. IfErr c.whole-in-StaffKey.result (RefusesSheetBy (g.M.Files.sheet_bytes c.args.machine.now) ask)) (sym c.in-StaffKey.is) (no_refusal c.whole-in-StaffKey.result)
+
+pub returns-in-StaffKey-clause-asked : goal.returns-in-StaffKey-clause-asked
+returns-in-StaffKey-clause-asked g c =
+    subst (λ ask. AsksBy (g.M.Machine.paths c.args.machine.now) ask (g.M.Machine.paths c.staff_key.new.machine)) (sym c.in-StaffKey.is) c.staff_key.ensures.asked
+
+pub returns-in-StaffKey-clause-made : goal.returns-in-StaffKey-clause-made
+returns-in-StaffKey-clause-made g c = λ store key asked. absurd (subst (IsInitAsk store key) c.in-StaffKey.is asked)
+
+pub returns-in-StaffKey-clause-not_made : goal.returns-in-StaffKey-clause-not_made
+returns-in-StaffKey-clause-not_made g c = λ store key asked. absurd (subst (IsInitAsk store key) c.in-StaffKey.is asked)
+
+pub returns-in-StaffKey-clause-never : goal.returns-in-StaffKey-clause-never
+returns-in-StaffKey-clause-never g c =
+    err_whole _ c.staff_key.result c.whole-in-StaffKey.result c.whole-in-StaffKey.ensures
+    (IfErr-weaker c.staff_key.result _ _ (λ refusal refused. staff_key_never refusal _ _ refused) c.staff_key.ensures.refused)
+
+pub returns-in-StaffKey-clause-kept : goal.returns-in-StaffKey-clause-kept
+returns-in-StaffKey-clause-kept g c =
+    err_whole _ c.staff_key.result c.whole-in-StaffKey.result c.whole-in-StaffKey.ensures
+    (IfErr-weaker c.staff_key.result _ _ (λ refusal refused one. absurd (staff_key_not_1 refusal _ _ refused one)) c.staff_key.ensures.refused)
+
+pub returns-in-StaffKey-clause-put : goal.returns-in-StaffKey-clause-put
+returns-in-StaffKey-clause-put g c = λ store key asked.
+    let asks : AsksStaff c.in-StaffKey.ask store key = subst (IsStaffKeyAsk store key) c.in-StaffKey.is asked in
+    ok_whole _ c.staff_key.result c.whole-in-StaffKey.result c.whole-in-StaffKey.ensures (on_both c.staff_key.result _ _
+    (put_as g.M.Disk.Store (g.M.Machine.stands c.args.machine.now) (g.M.Machine.left c.staff_key.new.machine) c.staff_key.result _ store _ key asks.store_is asks.key_is c.staff_key.ensures.put)
+    c.staff_key.ensures.done)
+
+pub returns-in-StaffKey-clause-not_put : goal.returns-in-StaffKey-clause-not_put
+returns-in-StaffKey-clause-not_put g c = λ store key asked.
+    let asks : AsksStaff c.in-StaffKey.ask store key = subst (IsStaffKeyAsk store key) c.in-StaffKey.is asked in
+    err_whole _ c.staff_key.result c.whole-in-StaffKey.result c.whole-in-StaffKey.ensures (at_err_all c.staff_key.result _ _ _ c.staff_key.ensures.refused
+    (left_unput_as g.M.Disk.Store (g.M.Machine.left c.args.machine.now) (g.M.Machine.stands c.args.machine.now) (g.M.Machine.left c.staff_key.new.machine) c.staff_key.result _ store _ key
+    asks.store_is asks.key_is c.staff_key.ensures.left)
+    (opens_as g.M.Disk.Store (g.M.Machine.stands c.args.machine.now) (g.M.Machine.left c.staff_key.new.machine) c.staff_key.result _ store asks.store_is c.staff_key.ensures.opens))
+
+pub returns-in-File-clause-put : goal.returns-in-File-clause-put
+returns-in-File-clause-put g c = λ store key asked. absurd (subst (IsStaffKeyAsk store key) c.in-File.is asked)
+
+pub returns-in-File-clause-not_put : goal.returns-in-File-clause-not_put
+returns-in-File-clause-not_put g c = λ store key asked. absurd (subst (IsStaffKeyAsk store key) c.in-File.is asked)
+
+pub returns-in-Files-clause-put : goal.returns-in-Files-clause-put
+returns-in-Files-clause-put g c = λ store key asked. absurd (subst (IsStaffKeyAsk store key) c.in-Files.is asked)
+
+pub returns-in-Files-clause-not_put : goal.returns-in-Files-clause-not_put
+returns-in-Files-clause-not_put g c = λ store key asked. absurd (subst (IsStaffKeyAsk store key) c.in-Files.is asked)
+
+pub returns-in-Init-clause-put : goal.returns-in-Init-clause-put
+returns-in-Init-clause-put g c = λ store key asked. absurd (subst (IsStaffKeyAsk store key) c.in-Init.is asked)
+
+pub returns-in-Init-clause-not_put : goal.returns-in-Init-clause-not_put
+returns-in-Init-clause-not_put g c = λ store key asked. absurd (subst (IsStaffKeyAsk store key) c.in-Init.is asked)
+
+pub returns-in-Serve-clause-put : goal.returns-in-Serve-clause-put
+returns-in-Serve-clause-put g c = λ store key asked. absurd (subst (IsStaffKeyAsk store key) c.in-Serve.is asked)
+
+pub returns-in-Serve-clause-not_put : goal.returns-in-Serve-clause-not_put
+returns-in-Serve-clause-not_put g c = λ store key asked. absurd (subst (IsStaffKeyAsk store key) c.in-Serve.is asked)
+
+pub returns-in-Import-clause-put : goal.returns-in-Import-clause-put
+returns-in-Import-clause-put g c = λ store key asked. absurd (subst (IsStaffKeyAsk store key) c.in-Import.is asked)
+
+pub returns-in-Import-clause-not_put : goal.returns-in-Import-clause-not_put
+returns-in-Import-clause-not_put g c = λ store key asked. absurd (subst (IsStaffKeyAsk store key) c.in-Import.is asked)
+
+pub returns-in-OneQuestion-clause-put : goal.returns-in-OneQuestion-clause-put
+returns-in-OneQuestion-clause-put g c = λ store key asked. absurd (subst (IsStaffKeyAsk store key) c.in-OneQuestion.is asked)
+
+pub returns-in-OneQuestion-clause-not_put : goal.returns-in-OneQuestion-clause-not_put
+returns-in-OneQuestion-clause-not_put g c = λ store key asked. absurd (subst (IsStaffKeyAsk store key) c.in-OneQuestion.is asked)
+
+-- ---- sums
+
+pub returns-in-File-clause-sums : goal.returns-in-File-clause-sums
+returns-in-File-clause-sums g c =
+    subst (λ ask. SumsBy (g.M.Machine.sums c.args.machine.now) ask (g.M.Machine.sums c.cat.new.machine)) (sym c.in-File.is) tt
+
+pub returns-in-Files-clause-sums : goal.returns-in-Files-clause-sums
+returns-in-Files-clause-sums g c =
+    subst (λ ask. SumsBy (g.M.Machine.sums c.args.machine.now) ask (g.M.Machine.sums c.list.new.machine)) (sym c.in-Files.is) tt
+
+pub returns-in-Init-clause-sums : goal.returns-in-Init-clause-sums
+returns-in-Init-clause-sums g c =
+    subst (λ ask. SumsBy (g.M.Machine.sums c.args.machine.now) ask (g.M.Machine.sums c.init.new.machine)) (sym c.in-Init.is) c.init.ensures.sums
+
+pub returns-in-Serve-clause-sums : goal.returns-in-Serve-clause-sums
+returns-in-Serve-clause-sums g c =
+    subst (λ ask. SumsBy (g.M.Machine.sums c.args.machine.now) ask (g.M.Machine.sums c.serve.new.machine)) (sym c.in-Serve.is) tt
+
+pub returns-in-Import-clause-sums : goal.returns-in-Import-clause-sums
+returns-in-Import-clause-sums g c =
+    subst (λ ask. SumsBy (g.M.Machine.sums c.args.machine.now) ask (g.M.Machine.sums c.import.new.machine)) (sym c.in-Import.is) tt
+
+pub returns-in-StaffKey-clause-sums : goal.returns-in-StaffKey-clause-sums
+returns-in-StaffKey-clause-sums g c =
+    subst (λ ask. SumsBy (g.M.Machine.sums c.args.machine.now) ask (g.M.Machine.sums c.staff_key.new.machine)) (sym c.in-StaffKey.is) tt
+
+pub returns-in-OneQuestion-clause-sums : goal.returns-in-OneQuestion-clause-sums
+returns-in-OneQuestion-clause-sums g c =
+    subst (λ ask. SumsBy (g.M.Machine.sums c.args.machine.now) ask (g.M.Machine.sums c.ask_once.new.machine)) (sym c.in-OneQuestion.is) tt

@@ -26,7 +26,7 @@ use Rattle.std.proofs.KnownBytes.{Keeps-refl}
 use Rattle.rd_program.proofs.AnswerLemmas.{check_asks, check_of_desk, export_is_whole, show_is_whole}
 use Rattle.rd_program.proofs.ImportLemmas.{done_lines, import_tells, in_part_is_one, not_in_rows, one_is_some, rows_of, rows_tell}
 use Rattle.rd_program.proofs.LeftStores.{none_still, still_left}
-use Rattle.rd_program.proofs.Named.{asks_by, asks_none, command_of_store, has_both_by, one_of_status}
+use Rattle.rd_program.proofs.Named.{asks_by, asks_none, command_of_store, has_both_by, one_of_status, sums_by, sums_none}
 use Rattle.rd_program.proofs.ShowLemmas.{memory_no_accession, once_due, once_finds, once_not_shown, once_shows}
 use Rattle.rd_program.proofs.LeftStoresByWords.{import_leaves, import_names, once_leaves, once_names, serve_leaves, serve_refused}
 use Rattle.rd_commands.proofs.RunLemmas.{is_cut, kept_is_cut, no_sound_file, not_done, of_all, of_known, reads_few, reads_no_input, reads_of_kind, tells}
@@ -428,7 +428,7 @@ returns-in-Ok-perform-clause-serve g c = λ store place count rule asks.
     record {
       served = λ zero. c.in-Ok-perform.ensures.served store place count rule read;
       serve_due = λ some.
-          absurd (not_in_rows _ c.in-Ok.ask c.in-Ok.ensures.read (c.in-Ok-perform.ensures.in_part (c.status.ensures.in_part some)) (inr (inr (inr (store, place, count, rule, asks)))));
+          absurd (not_in_rows _ c.in-Ok.ask c.in-Ok.ensures.read (c.in-Ok-perform.ensures.in_part (c.status.ensures.in_part some)) (inr (inr (inr (inl (store, place, count, rule, asks))))));
       visits = λ zero.
           serves_by g.M.Disk.Store g.M.Door.Door.told g.M.Door.Door.coming (g.M.Machine.door c.args.machine.now) (g.M.Machine.door c.perform.new.machine)
           (g.M.Machine.stands c.args.machine.now) (g.M.Machine.left c.perform.new.machine) c.in-Ok.ask store place count rule read c.in-Ok-perform.ensures.serves;
@@ -703,7 +703,7 @@ returns-in-Err-perform-clause-show g c = λ store key what moment rule asks.
 
 pub returns-in-Err-clause-show : goal.returns-in-Err-clause-show
 returns-in-Err-clause-show g c = λ store key what moment rule asks.
-    let none = c.in-Err.ensures.unread (inr (inr (inr (inr (inr (inr (inr (store, key, what, moment, rule, asks)))))))) in
+    let none = c.in-Err.ensures.unread (inr (inr (inr (inr (inr (inr (inr (inl (store, key, what, moment, rule, asks))))))))) in
     let memory = c.tell_unread.ensures.memory none in
     record {
       shown = λ zero. let three : c.tell_unread.result ≡ 3 = memory.0 in absurd (omega arith);
@@ -711,3 +711,46 @@ returns-in-Err-clause-show g c = λ store key what moment rule asks.
           tells _ NoMemory _ _ _ ((inl (inr (inl (inr refl)), memory.1), memory_no_accession), tt, tt, tt) memory.0 (c.tell_unread.ensures.no_memory none);
       show_leaves = still_left (g.M.Machine.left c.args.machine.now) (g.M.Machine.stands c.args.machine.now store) _;
     }
+
+-- ---- a key of the staff
+
+pub returns-in-Ok-perform-clause-staff_key : goal.returns-in-Ok-perform-clause-staff_key
+returns-in-Ok-perform-clause-staff_key g c = λ store key asks. record {
+  put = λ zero. c.in-Ok-perform.ensures.put store key (c.in-Ok.ensures.read.staff_key store key asks);
+  put_due = λ some.
+      absurd (not_in_rows _ c.in-Ok.ask c.in-Ok.ensures.read (c.in-Ok-perform.ensures.in_part (c.status.ensures.in_part some)) (inr (inr (inr (inr (store, key, asks))))));
+}
+
+pub returns-in-Err-perform-clause-staff_key : goal.returns-in-Err-perform-clause-staff_key
+returns-in-Err-perform-clause-staff_key g c = λ store key asks. record {
+  put = λ zero. absurd (not_done c.in-Err-perform.refused (sym c.tell_refusal.ensures.status ∙ zero));
+  put_due = λ some.
+      tells _ c.in-Err-perform.refused _ _ _ (c.in-Err-perform.ensures.not_put store key (c.in-Ok.ensures.read.staff_key store key asks))
+      c.tell_refusal.ensures.status c.tell_refusal.ensures.written;
+}
+
+pub returns-in-Err-clause-staff_key : goal.returns-in-Err-clause-staff_key
+returns-in-Err-clause-staff_key g c = λ store key asks.
+    let none = c.in-Err.ensures.unread (inr (inr (inr (inr (inr (inr (inr (inr (store, key, asks))))))))) in
+    let memory = c.tell_unread.ensures.memory none in
+    record {
+      put = λ zero. let three : c.tell_unread.result ≡ 3 = memory.0 in absurd (omega arith);
+      put_due = λ some.
+          tells _ NoMemory _ _ _ ((memory.1, inr (inr (inr (inr refl)))), still_left (g.M.Machine.left c.args.machine.now) (g.M.Machine.stands c.args.machine.now store) _, tt) memory.0
+          (c.tell_unread.ensures.no_memory none);
+    }
+
+-- ---- sums
+
+pub returns-in-Ok-perform-clause-sums : goal.returns-in-Ok-perform-clause-sums
+returns-in-Ok-perform-clause-sums g c = λ store key summed asks told.
+    sums_by (g.M.Machine.sums c.args.machine.now) (g.M.Machine.sums c.perform.new.machine) c.in-Ok.ask store key summed (c.in-Ok.ensures.read.init store key asks)
+    (c.in-Ok.ensures.sums summed told) c.perform.ensures.sums
+
+pub returns-in-Err-perform-clause-sums : goal.returns-in-Err-perform-clause-sums
+returns-in-Err-perform-clause-sums g c = λ store key summed asks told.
+    sums_by (g.M.Machine.sums c.args.machine.now) (g.M.Machine.sums c.perform.new.machine) c.in-Ok.ask store key summed (c.in-Ok.ensures.read.init store key asks)
+    (c.in-Ok.ensures.sums summed told) c.perform.ensures.sums
+
+pub returns-in-Err-clause-sums : goal.returns-in-Err-clause-sums
+returns-in-Err-clause-sums g c = λ store key summed asks told. sums_none (g.M.Machine.sums c.args.machine.now) summed

@@ -1,0 +1,93 @@
+//! Puts a key of the staff in a desk that stands, for whoever may write the file of its store.
+
+ghost use Rattle.std.specs.Prelude.{◌≡◌, IfErr, OnOk};
+ghost use Rattle.std.specs.Io.KnownBytes.{Appends};
+ghost use Rattle.sha2.specs.Sha256.{sha256};
+ghost use Rattle.rd_holdings.specs.State.{with_key};
+ghost use Rattle.rd_store.specs.Held.{Changes, desk};
+ghost use Rattle.rd_program.specs.Doors.{AsksPath};
+ghost use Rattle.rd_program.specs.Inits.{done_line};
+ghost use Rattle.rd_program.specs.Leaves.{GivesBack, HasBoth, Leaves, NamesOpening, OnEnded};
+ghost use Rattle.rd_program.specs.Serving.{IsOpenRefusal};
+ghost use Rattle.rd_program.specs.Showing.{EndsWith};
+ghost use Rattle.rd_program.specs.StaffKeys.{LeavesStaffKey, PutsNone, PutsStaff, RefusesStaffKey};
+
+use crate::machine::Machine;
+use crate::open_desk::open_store;
+use rd_commands::{Refusal, StaffKeyAsk, write_whole};
+use rd_policy::Audience;
+use rd_store::Store;
+use sha2::{Digest, Sha256};
+use sqlite::Alter;
+use std::alloc::Global;
+use std::io::Write;
+
+/// Puts a desk key by its digest, its SHA-256, as one of the staff.
+///
+/// It fails with `Store`.
+fn put_digest<S: Alter>(store: &mut Store<S>, digest: &[u8; 32]) -> Result<(), Refusal>
+    ensures changes { Changes S.Store store.old store.new (with_key digest.now Audience.Staff (desk S.Store store.old)) result }
+    ensures refused { IfErr result (λ refusal. refusal ≡ Refusal.Store) }
+{
+    match store.put_key(digest, Audience::Staff) {
+        Ok(()) => Ok(()),
+        Err(_) => Err(Refusal::Store),
+    }
+}
+
+/// Puts a desk key as one of the staff.
+///
+/// It fails with `Store`.
+fn put_staff<S: Alter>(store: &mut Store<S>, key: &[u8]) -> Result<(), Refusal>
+    ensures changes { Changes S.Store store.old store.new (with_key (sha256 key.now) Audience.Staff (desk S.Store store.old)) result }
+    ensures refused { IfErr result (λ refusal. refusal ≡ Refusal.Store) }
+{
+    put_digest(store, &Sha256::digest(key))
+}
+
+/// Puts a desk key as one of the staff of the desk in the file of a store.
+///
+/// It fails with `NotADesk`, `Version`, `Inconsistent` and `Store`, and with `NoMemory`.
+fn put_in_store<M: Machine>(alloc: Global, ask: StaffKeyAsk, machine: &mut M) -> Result<(), Refusal>
+    ensures put { OnOk result
+        (EndsWith (M.stands machine.old ask.entry.store.now) (M.left machine.new) (PutsStaff M.Disk.Store (sha256 ask.entry.key.now))) }
+    ensures left { IfErr result (λ _.
+        Leaves (M.left machine.old) (M.stands machine.old ask.entry.store.now) (M.left machine.new) (PutsNone M.Disk.Store (sha256 ask.entry.key.now))) }
+    ensures opens { IfErr result (NamesOpening M.Disk.Store (M.stands machine.old ask.entry.store.now) (M.left machine.new)) }
+    ensures refused { IfErr result IsOpenRefusal }
+    ensures back { GivesBack (M.shows machine.old) (M.left machine.old) (M.left machine.new) }
+    ensures there { OnEnded result (HasBoth (M.shows machine.old) (M.stands machine.old ask.entry.store.now) (M.left machine.new)) }
+    ensures asked { AsksPath (M.paths machine.old) ask.entry.store.now (M.paths machine.new) }
+{
+    let mut store = open_store(alloc, ask.store, machine)?;
+    let put = put_staff(&mut store, ask.key);
+    machine.release(&mut Some(store.into_connection()));
+    put
+}
+
+/// Puts a desk key as one of the staff of the desk in the file of a store, says that it is done, and flushes the
+/// output. It asks for no key of the staff.
+///
+/// It fails with `NotADesk`, `Version`, `Inconsistent` and `Store` when it cannot open the desk or put the key, with
+/// `NoMemory`, and with `Device` when a write or the flush fails; the key stands then.
+pub(crate) fn staff_key<W: Write, M: Machine>(
+    alloc: Global,
+    ask: StaffKeyAsk,
+    output: &mut W,
+    machine: &mut M,
+) -> Result<(), Refusal>
+    ensures done { OnOk result (Appends (W.contents output.old) (W.contents output.new) done_line) }
+    ensures refused { IfErr result (λ refusal.
+        RefusesStaffKey refusal (W.contents output.old) (W.contents output.new)) }
+    ensures put { OnOk result
+        (EndsWith (M.stands machine.old ask.entry.store.now) (M.left machine.new) (PutsStaff M.Disk.Store (sha256 ask.entry.key.now))) }
+    ensures left { IfErr result
+        (LeavesStaffKey M.Disk.Store (M.left machine.old) (M.stands machine.old ask.entry.store.now) (M.left machine.new) (sha256 ask.entry.key.now)) }
+    ensures opens { IfErr result (NamesOpening M.Disk.Store (M.stands machine.old ask.entry.store.now) (M.left machine.new)) }
+    ensures back { GivesBack (M.shows machine.old) (M.left machine.old) (M.left machine.new) }
+    ensures there { OnEnded result (HasBoth (M.shows machine.old) (M.stands machine.old ask.entry.store.now) (M.left machine.new)) }
+    ensures asked { AsksPath (M.paths machine.old) ask.entry.store.now (M.paths machine.new) }
+{
+    put_in_store(alloc, ask, machine)?;
+    write_whole(output, b"done\n")
+}
