@@ -6,7 +6,7 @@ PAGE is docs/OPERATING.md, docs/BY-HAND.md, README.md or docs/COMMANDS.md; witho
 built desk; without one it is ./desk of this repository. You need Linux, Python 3 with its standard library alone, and
 packages of Debian, which the script installs as root: for the first page nginx, openssl, sqlite3, curl, python3 and
 tzdata, for docs/BY-HAND.md nginx, openssl, sqlite3, curl, logrotate, adduser and systemd, for README.md curl, for
-docs/COMMANDS.md curl, sqlite3 and cpmtools. The ports 8041, 8043, 8080 and 8443 have to be free.
+docs/COMMANDS.md curl and sqlite3. The ports 8041, 8043, 8080 and 8443 have to be free.
 
 Commands after `$` run in one shell, in a copy of what they need of this repository; those of README.md and
 docs/COMMANDS.md have a /tmp of their own. Commands after `#` need the rights of root. Where it has them, they run in
@@ -65,7 +65,7 @@ PAGES = {
         [*reading_room.PACKAGES, "curl", "logrotate", "adduser", "systemd"],
     ),
     "README.md": Page({"$": OWN_TMP}, [], ["curl"], ["curl"]),
-    "docs/COMMANDS.md": Page({"$": OWN_TMP}, [], ["curl", "sqlite3", "cpmcp"], ["curl", "sqlite3", "cpmtools"]),
+    "docs/COMMANDS.md": Page({"$": OWN_TMP}, [], ["curl", "sqlite3"], ["curl", "sqlite3"]),
 }
 
 
