@@ -42,6 +42,7 @@ WHEN = ["--at", "1893452400", "--zone", "CET-1CEST,M3.5.0,M10.5.0/3"]
 STORE = ["--store", "{store}"]
 KEY = ["--key", "abc"]
 INIT = ["{desk}", "init", *STORE, *KEY]
+STAFF_KEY = ["{desk}", "staff-key", *STORE, "--key", "def"]
 IMPORT = ["{desk}", "import", *STORE, *KEY, *WHEN, "--sheet"]
 EXPORT = ["{desk}", "export", *STORE, *WHEN]
 CHECK = ["{desk}", "check", *STORE, *KEY, "--acc", "12", *WHEN]
@@ -336,6 +337,8 @@ PROGRAM = [
     ("desk cat of a file", Cat("{work}/image")),
     ("desk cat of standard input", Cat("-")),
     ("desk init", Over("none", "made", "done", tuple(INIT))),
+    ("desk init with sums", Over("none", "made", "done", (*INIT, "--sums"))),
+    ("desk staff-key", Over("filled", "keyed", "done", tuple(STAFF_KEY))),
     ("desk import", Import("ruled", "filled", "12 done", (*IMPORT, "{work}/plain.csv"))),
     (
         "desk import of a disk with error bytes",
@@ -362,6 +365,7 @@ STORES = [
     ("marked", "ruled", "13 done", [*IMPORT, "{work}/marked.csv"]),
     ("checked", "filled", "12 sound", CHECK),
     ("first", "filled", "", [*SQLITE, BACK]),
+    ("keyed", "filled", "done", STAFF_KEY),
 ]
 
 
