@@ -1,8 +1,9 @@
 #!/usr/bin/env bash
 # Runs the built program as a shell does, and compares what it writes to its standard output and its standard
-# errors, and its exit status, for each of the statuses 0 to 3; a closed standard output and a full device are
-# among the cases. Of a Unix socket it looks who may use it, whether it gives way once its desk was killed, and
-# whether it goes with its desk. The program is ./desk of this repository, or the one that you name.
+# errors, and its exit status, for each of the statuses 0 to 3; a closed standard output, a full device, folders
+# in place of a sheet and of an image, and bits that flip in a store are among the cases. Of a Unix socket it looks
+# who may use it, whether it gives way once its desk was killed, and whether it goes with its desk. The program is
+# ./desk of this repository, or the one that you name.
 set -u
 desk=
 [ $# -eq 0 ] || desk=$(realpath -e -- "$1") || exit 1
@@ -99,10 +100,39 @@ for path in :memory: file:desk; do
     same "what is at $path" nothing "$(kind_at "$path")"
 done
 
+# A folder is no sheet and no image.
+printf 'done\n' >"$work/done"
+{
+    echo 'accession,kind,deed,sha256,file'
+    echo '12,d64,7,ee352834e06f2b572e65490eb845939724cc38542aed18acdf81eded76912afb,/'
+} >"$work/folders"
+ends 0 "" "$work/done" "$desk" init --store "$work/sheets" --key abc
+ends 3 "desk: device" "$work/nothing" "$desk" import --store "$work/sheets" --key abc --sheet /
+ends 3 "desk: device" "$work/nothing" "$desk" import --store "$work/sheets" --key abc --sheet "$work/folders"
+
+# With sums a flipped bit of any page shuts a store; without them a store has no room for sums.
+# flip PATH PLACE: flips the lowest bit of the byte at this place of a file
+flip() {
+    local byte
+    byte=$(od -An -tu1 -j "$2" -N 1 "$1") || return
+    printf "\\x$(printf %02x $((byte ^ 1)))" | dd of="$1" bs=1 seek="$2" conv=notrunc status=none
+}
+ends 0 "" "$work/done" "$desk" init --sums --store "$work/summed" --key abc
+same "bytes left alone in a page with a sum" 8 "$(od -An -tu1 -j 20 -N 1 "$work/summed" | tr -d ' ')"
+pages=$(($(stat -c %s "$work/summed") / 4096)) shut=0
+for page in $(seq 0 $((pages - 1))); do
+    flip "$work/summed" $((page * 4096 + 2048))
+    [ "$("$desk" show keys --store "$work/summed" --key abc 2>&1)" != 'desk: store' ] || shut=$((shut + 1))
+    flip "$work/summed" $((page * 4096 + 2048))
+done
+same "pages of which a flipped bit shuts the store" "$pages" "$shut"
+ends 0 "" '*' "$desk" show keys --store "$work/summed" --key abc
+ends 0 "" "$work/done" "$desk" init --store "$work/plain" --key abc
+same "bytes left alone in a page without a sum" 0 "$(od -An -tu1 -j 20 -N 1 "$work/plain" | tr -d ' ')"
+
 # The socket of a killed desk gives way; that of a desk that serves, a link, a file and a folder do not.
 socket=$work/socket
 printf 'listening %s\nserved 0\n' "$socket" >"$work/both"
-printf 'done\n' >"$work/done"
 ends 0 "" "$work/done" "$desk" init --store "$work/store" --key abc
 ends 0 "" "$work/done" "$desk" init --store "$work/other" --key abc
 serve_at "$socket"

@@ -8,7 +8,6 @@ mod museums;
 mod refused;
 mod sheets;
 mod sockets;
-mod sums;
 mod visits;
 
 use rd_fakes::stream::{End, Narrow, Tape};

@@ -1,6 +1,5 @@
 //! Writers that fail once, and files of the real machine.
 
-use super::sheets::HEADER;
 use super::{Ran, is_refused};
 use crate::host::Host;
 use rd_fakes::stream::{End, Stumbling};
@@ -163,60 +162,5 @@ fn the_machine_reads_a_sheet_whole(rt: HostRuntime) -> Result<(), Fail> {
     let given = Host::new(&rt).read_sheet(rt.alloc(), path.as_str());
     fs::remove_file(&rt, path.as_str())?;
     assert!(rt; given.is_ok_and(|given| given == bytes));
-    Ok(())
-}
-
-/// Removes a database, if it stands.
-fn remove(rt: &HostRuntime, path: &str) -> Result<(), Fail> {
-    for end in ["", "-wal", "-shm"] {
-        let file = format!(in rt.alloc(); "{path}{end}")?;
-        let _ = fs::remove_file(rt, file.as_str());
-    }
-    Ok(())
-}
-
-/// What a run on the real machine left behind.
-pub(super) fn run_on_host(rt: &HostRuntime, words: &[&str]) -> Ran {
-    let mut output = Vec::new(rt.alloc());
-    let mut errors = Vec::new(rt.alloc());
-    let status = run(
-        rt.alloc(),
-        words,
-        &mut [].as_slice(),
-        &mut output,
-        &mut errors,
-        &mut Host::new(rt),
-    );
-    Ran {
-        status,
-        output,
-        errors,
-    }
-}
-
-/// What an `import` on the real machine left behind.
-fn import_on_host(rt: &HostRuntime, store: &str, sheet: &str) -> Ran {
-    let words = ["import", "--store", store, "--key", "abc", "--sheet", sheet];
-    run_on_host(rt, words.as_slice())
-}
-
-/// A row whose file is a folder.
-const FOLDER_ROW: &str =
-    "12,d64,7,ee352834e06f2b572e65490eb845939724cc38542aed18acdf81eded76912afb,/\n";
-
-#[test]
-fn a_folder_is_neither_a_sheet_nor_an_image(rt: HostRuntime) -> Result<(), Fail> {
-    let store = fresh_path(&rt)?;
-    let sheet = fresh_path(&rt)?;
-    let rows = format!(in rt.alloc(); "{HEADER}{FOLDER_ROW}{FOLDER_ROW}")?;
-    fs::write(&rt, sheet.as_str(), rows.as_bytes())?;
-    let init = run_on_host(&rt, &["init", "--store", store.as_str(), "--key", "abc"]);
-    let of_a_folder = import_on_host(&rt, store.as_str(), "/");
-    let with_a_folder = import_on_host(&rt, store.as_str(), sheet.as_str());
-    remove(&rt, store.as_str())?;
-    remove(&rt, sheet.as_str())?;
-    assert!(rt; init.status == 0 && init.errors.is_empty());
-    assert!(rt; is_refused(&of_a_folder, 3, "desk: device\n"));
-    assert!(rt; is_refused(&with_a_folder, 3, "desk: device\n"));
     Ok(())
 }
