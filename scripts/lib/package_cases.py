@@ -361,7 +361,12 @@ GOES_ON = [
         "systemctl start desk-check; echo $?; journalctl -u desk-check -o cat | grep accessions | tail -n 1",
         "0\n4 accessions: 4 sound, 0 changed, 0 not asked",
     ),
-    ("a backup", "systemctl start desk-backup; echo $?; ls /var/backups/desk | grep -c Z", "0\n2"),
+    (
+        "a backup takes the place of the one before of this day",
+        "before=$(ls /var/backups/desk); systemctl start desk-backup; echo $?; "
+        "ls /var/backups/desk | grep -vc $before",
+        "0\n1",
+    ),
     ("a look", "desk-look; echo $?", "0"),
 ]
 NEXT_START = [
