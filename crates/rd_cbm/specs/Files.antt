@@ -10,7 +10,7 @@ use Rattle.rd_cbm.specs.Entries.{ChainRole, entry_at, type_of, start_of, ClaimsB
 abbrev pub AreDirectoryBlocks : List ℕ → List ℕ → Type 0
 AreDirectoryBlocks image blocks = IsChain (link_of image) (index_of 18 1) blocks
 
--- The slot is that of a file: it is a slot of the directory, and its entry is used.
+-- The slot is that of a file: it is a slot of the directory, and its entry is used, so its type byte is not 0.
 pub record IsFileSlot (image blocks : List ℕ) (slot : ℕ) : Type 0 where
   pub inside : slot < 8 * length blocks
   pub used : type_of (entry_at image blocks slot) ≢ 0

@@ -10,8 +10,8 @@ abbrev pub link_to : Option ℕ → Link
 link_to (Some n) = Next n
 link_to None = Off
 
--- what a track and a sector say as a link: track 0 means last block, and the sector is then the
--- position of its last byte used (this project's profile)
+-- what a track and a sector say as a link: track 0 means last block, and the sector is then the position of its last
+-- byte used (this project's profile); any others that name no block lead off the disk
 abbrev pub link_by : ℕ → ℕ → Link
 link_by t s = if nat_lt 0 t then link_to (index_of t s) else Last s
 

@@ -75,7 +75,7 @@ pub record IsFileAt (image : List ℕ) (slot : ℕ) (answer : Option CbmFile) : 
   pub described : IfSome answer (Describes image blocks)
   pub none : IfNone answer (¬ IsFileSlot image blocks slot)
 
--- The three counts of the block map: of tracks, and of blocks by their indices.
+-- The three counts of the block map: of tracks, and of blocks by their indices, as `block_map` gives them.
 pub record AreCounts (image : List ℕ) (report : MapReport) : Type 0 where
   pub blocks : List ℕ
   pub directory : AreDirectoryBlocks image blocks

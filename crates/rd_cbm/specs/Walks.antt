@@ -16,8 +16,8 @@ next_of (Next n) = Some n
 next_of (Last e) = None
 next_of Off = None
 
--- place i, counted from 0, of the walk from s: the block there, if the walk comes that far. Place 0
--- is s, where it is on the disk; place i + 1 is the block that the link of place i leads to.
+-- place i, counted from 0, of the walk from s: the block there, if the walk comes that far. Place 0 is s, where it is
+-- on the disk; place i + 1 is the block that the link of place i leads to. No code follows this definition.
 unfoldable pub at : Links → Option ℕ → ℕ → Option ℕ
 at link s zero = s
 at link s (suc i) = option_and_then (λ n. next_of (link n)) (at link s i)
@@ -64,7 +64,7 @@ end_word (end.Last e) = codes "end"
 end_word end.Off = codes "off"
 end_word end.Loop = codes "loop"
 
--- The walk ends in one way, and in no other.
+-- The walk ends in one way, and in no other: at a last block, with one last byte, off the disk, or in a loop.
 pub record EndsOnce (link : Links) (s : Option ℕ) : Type 0 where
   pub ending : End
   pub holds : EndsBy link s ending

@@ -215,7 +215,8 @@ pub record IsDeskApp (app : App) : Type 0 where
   pub shown_names : AreWhatNames shown
   pub is : app ≡ desk_app cat_kinds list_kinds shown
 
--- `clap` finds no fault in the words: they are a command of the program
+-- `clap` finds no fault in the words: they are a command of the program, in a plain form or in another, such as `list
+-- cpm8 -- -x`
 pub record IsTaken (words : List Text) : Type 0 where
   pub app : App
   pub is_desk : IsDeskApp app
@@ -229,7 +230,7 @@ pub record IsTakenAs (name : Text) (words : List Text) : Type 0 where
   pub rows : List Row
   pub into : subcommand_of app words ≡ Some (name, rows)
 
--- they are a command whose output says if not all is well
+-- they are a command whose output says if not all is well: `import` or `check`
 abbrev pub IsTakenTelling : List Text → Type 0
 IsTakenTelling words = IsTakenAs (codes "import") words ⊎ IsTakenAs (codes "check") words
 

@@ -1,3 +1,5 @@
+-- What words ask of the program, what it writes of an image, and its refusals: `clap`'s own definitions for words,
+-- else this project's rules.
 -- ---- what a reader of a public clause believes
 pub mod Words
 pub mod CommandLine

@@ -24,8 +24,8 @@ abbrev pub number_text : Option ℕ → List ℕ
 number_text (Some n) = decimal n
 number_text None = []
 
--- the line of a file of an image of a kind: its slot, user, type, size, the words of its faults and its
--- name, with a tab between each
+-- the line of a file of an image of a kind: its slot, user, type, size, the words of its faults and its name, with a
+-- tab between each; the field of a user or a size that it does not have is empty
 abbrev pub line_text : Kind → Found → List ℕ
 line_text kind file =
     decimal file.slot ++ (tab ++ (number_text file.user ++ (tab ++ (file.ty ++ (tab ++ (number_text file.size

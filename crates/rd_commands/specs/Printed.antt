@@ -28,6 +28,6 @@ abbrev pub words_after : Refusal → List (List ℕ)
 words_after (Faulty kind faults) = words_of kind faults
 words_after refusal = []
 
--- the line of a refusal: its name and the words that follow it, each after a blank
+-- the line of a refusal: `desk:`, its name and the words that follow it, each after a blank
 abbrev pub refusal_line : Refusal → List ℕ
 refusal_line refusal = codes "desk:" ++ (blanked (name_of refusal ∷ words_after refusal) ++ line_feed)

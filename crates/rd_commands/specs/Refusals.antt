@@ -7,7 +7,7 @@ use Rattle.rd_commands.specs.declared.refusal.Refusal.TheVariants.{Usage, Device
 use Rattle.rd_commands.specs.declared.refusal.Refusal.TheVariants.{WrongSize, NoFile, ListedOnly, Faulty}
 use Rattle.rd_commands.specs.declared.refusal.Refusal.TheVariants.{BadSheet, Clock, Exists, Inconsistent, NoAccession, NotADesk, StaffOnly, Store, UnknownKey, Version}
 
--- the name that the program prints, with the label of the rule if a rule is the reason
+-- the name that the program prints, with the label of the rule if a rule is the reason, as in `unknown-key K0`
 abbrev pub name_of : Refusal → List ℕ
 name_of Usage = codes "usage"
 name_of Device = codes "device"
@@ -54,7 +54,8 @@ IsDeviceOrMemory Device = ⊤
 IsDeviceOrMemory NoMemory = ⊤
 IsDeviceOrMemory refusal = ⊥
 
--- what the program ends with when the machine fails: memory ran out, or otherwise this
+-- what the program ends with when the machine fails: memory ran out, or otherwise this, `device` for a file, a port
+-- or a Unix socket, and `store` for a database
 abbrev pub refusal_for : Refusal → MachineFault → Refusal
 refusal_for failed fault.Failed = failed
 refusal_for failed fault.NoMemory = NoMemory

@@ -16,7 +16,8 @@ IsRuleNamed told rule = (rule ≡ rule_text told) × IsZoneRule rule
 abbrev pub HasZoneRule : List Row → Type 0
 HasZoneRule rows = IsZoneRule (rule_text (first_of (codes "zone") rows))
 
--- the command of this name has an option for the zone of a desk's clocks
+-- the command of this name has an option for the zone of a desk's clocks: `serve`, `import`, `export`, `check` or
+-- `show`
 abbrev pub HasClocks : List ℕ → Type 0
 HasClocks name = (name ≡ codes "serve") ⊎ ((name ≡ codes "import") ⊎ ((name ≡ codes "export") ⊎ ((name ≡ codes "check") ⊎ (name ≡ codes "show"))))
 

@@ -3,7 +3,8 @@
 use Rattle.std.specs.Prelude.{ℕ, ◌+◌, ◌*◌, ◌/◌, ◌%◌, ◌<◌, List, slice_index, slice_range, map}
 use Rattle.rd_geometry.specs.Places.{cpm_unit}
 
--- the 32 bytes of slot k, 0 to 63, of the directory of an image: four to a logical sector
+-- the 32 bytes of slot k, 0 to 63, of the directory of an image: four to a logical sector, so that slot k is number
+-- `k mod 4` of sector `k div 4`
 unfoldable pub entry_of_slot : List ℕ → ℕ → List ℕ
 entry_of_slot image k = slice_range (cpm_unit image (k / 4)) (32 * (k % 4)) (32 * (k % 4) + 32)
 

@@ -71,7 +71,7 @@ pub record IsCrossed (directory : Directory) (slot : ℕ) : Type 0 where
   pub claim : Claims directory entry place block
   pub taken : (block ≡ 1) ⊎ HasOtherClaim directory entry place block
 
--- The file of a slot has no fault.
+-- The file of a slot has no fault: none of the seven.
 pub record IsSound (directory : Directory) (slot : ℕ) : Type 0 where
   pub no_bad_count : ¬ HasBadCount directory slot
   pub no_duplicate : ¬ HasDuplicate directory slot

@@ -128,7 +128,8 @@ IsResponseAfter (Err fault) (Ok (Refused refusal)) = Unit {0}
 IsResponseAfter (Err fault) (Err none) = Unit {0}
 IsResponseAfter stored answer = ⊥
 
--- One call that carries out a request on a day, or changes nothing, and what it returned.
+-- One call that carries out a request on a day, or changes nothing, and what it returned. After Ok it has carried it
+-- out, and after an error it has changed nothing (`Held.Changes` of `rd_store`).
 pub record IsOneChange {S : Type 0} (g : Ghosts S) (old new : Held S) (day : ℤ) (what : What) (Returned : Result ⊤ StoreFault → Type 0) : Type 0 where
   pub result : Result ⊤ StoreFault
   pub changes : Changes g old new (carried_out day what (desk g old)) result

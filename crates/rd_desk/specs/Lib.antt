@@ -1,3 +1,5 @@
+-- What the definitions of `rd_protocol` mean over a store: which answer a request gets, and what a crash and the
+-- calls of a request leave, by this project's rules.
 -- ---- what a reader of a public clause believes
 -- of `Calls` only `IsResponse`, `IsResponseAfter`, `LeavesStep`, `IsOneChange` and `MakesOneChange`
 pub mod Calls

@@ -32,7 +32,7 @@ sectors_of track =
     else if nat_lt track 36 then 17
     else 0
 
--- whether a track and a sector name a block
+-- whether a track and a sector name a block: the sector, counted from 0, is below the number of sectors of the track
 abbrev pub is_on_disk : ℕ → ℕ → Bool
 is_on_disk track sector = nat_lt sector (sectors_of track)
 
@@ -46,7 +46,8 @@ blocks_among (suc n) = blocks_among n + cond (is_on_disk (n / 256) (n % 256)) 1 
 abbrev pub blocks_before : ℕ → ℕ → ℕ
 blocks_before track sector = blocks_among (256 * track + sector)
 
--- the index of the block that a pair names: how many blocks come before it
+-- the index of the block that a pair names: how many blocks come before it. The code has a table of the four zones,
+-- and is proved to agree
 unfoldable pub index_of : ℕ → ℕ → Option ℕ
 index_of track sector =
     if is_on_disk track sector then Some (blocks_before track sector) else None

@@ -21,7 +21,8 @@ CPM_UNITS = 1950
 abbrev pub skewed : ℕ → ℕ
 skewed s = (6 * s) % 26 + s / 13
 
--- the byte at which unit n begins
+-- the byte at which unit n begins: the sectors of the tracks before its own come before it, and on its track those
+-- before its place. The code has the guide's table, and is proved to agree with this formula
 abbrev pub place_of_cpm_unit : ℕ → ℕ
 place_of_cpm_unit n = 128 * (26 * (2 + n / 26) + skewed (n % 26))
 

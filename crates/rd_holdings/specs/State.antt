@@ -79,7 +79,8 @@ abbrev pub digest_cmp : List ℕ → List ℕ → Ordering
 digest_cmp = slice_cmp nat_cmp
 
 -- What a desk holds, with at most one entry for each number, place or digest, and for each accession and day of a
--- check.
+-- check. These are five finite maps: deeds by number, images by accession, rules by place, audiences by the digest of
+-- a key, and outcomes of checks by accession and day.
 pub record Desk : Type 0 where
   -- deeds by number, images by accession, rules by place
   pub deeds : FinMap nat_cmp DeedRow
@@ -130,7 +131,7 @@ rules_with desk acc (Some image) = rules_at desk Takedown acc ++ rules_at desk D
 abbrev pub rules_for : Desk → ℕ → List Rule
 rules_for desk acc = rules_with desk acc (get desk.images acc)
 
--- all rules, by place
+-- all rules, by place: takedowns before rules of deeds, then by number, then by rank
 abbrev pub all_rules : Desk → List Rule
 all_rules desk = map rule_of (entries desk.rules)
 

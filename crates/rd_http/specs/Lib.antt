@@ -1,3 +1,5 @@
+-- What a visit and a run of visits do, over a wire or a door and over a desk: RFC 9110 and RFC 9112 for a reply, else
+-- this project's rules.
 -- ---- what a reader of a public clause believes
 pub mod Visits
 pub mod Hidden

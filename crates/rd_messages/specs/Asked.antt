@@ -23,9 +23,9 @@ use Rattle.rd_messages.specs.declared.route.Route.TheVariants.{Images, Listing, 
 
 -- ---- a request
 
--- what a path asks with a method and a body: DELETE removes a rule or a key, and PUT puts one, or
--- a deed, as the body describes it in JSON; the body of an image is its bytes. A rehearsal asks what
--- would change if the rule were removed, or put
+-- what a path asks with a method and a body: DELETE removes a rule or a key, and PUT puts one, or a deed, as the body
+-- describes it in JSON; the body of an image is its bytes. A rehearsal asks what would change if the rule were
+-- removed, or put. A question, a survey, a check and a DELETE are asked by the path alone, whatever the body is
 abbrev pub Asks : Route → Method → List ℕ → What → Type 0
 Asks Images method body asked = asked ≡ what.Images
 Asks (Listing acc) method body asked = asked ≡ what.Listing acc

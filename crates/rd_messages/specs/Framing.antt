@@ -8,8 +8,8 @@ use Rattle.rd_messages.specs.Fields.{fields_of, values_named}
 use Rattle.rd_messages.specs.declared.framing.Framing.{Framing}
 use Rattle.rd_messages.specs.declared.limits.TheConstants.{LONGEST_BODY}
 
--- the number that one or more decimal digits write; none if it is above 262,144, or for another
--- text
+-- the number that one or more decimal digits write; none if it is above 262,144, or for another text; zeros may stand
+-- in front
 abbrev pub length_in_value : List ℕ → Option ℕ
 length_in_value text =
     if nat_lt 0 (length text) && all_ascii_digits text && nat_le (digits_value 10 text) LONGEST_BODY

@@ -6,8 +6,8 @@ use Rattle.httparse.specs.declared.spans.HeaderSpan.{HeaderSpan}
 use Rattle.httparse.specs.declared.spans.RequestSpans.{RequestSpans}
 use Rattle.rd_messages.specs.declared.limits.TheConstants.{LONGEST_HEAD, MOST_FIELDS}
 
--- The bytes begin with this head, which is no longer than 8,192 bytes and has at most 64 fields;
--- the rest comes after it.
+-- The bytes begin with this head, which is no longer than 8,192 bytes and has at most 64 fields; the rest comes after
+-- it. The grammar is that of `httparse`, of HTTP 1.0 or 1.1; empty lines before the head belong to it, and count.
 pub record BeginsWith (stream : List ℕ) (head : RequestHead) (rest : List ℕ) : Type 0 where
   pub reads : ReadsRequest stream head rest
   pub short : length (print_request head) ≤ LONGEST_HEAD

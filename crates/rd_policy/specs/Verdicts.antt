@@ -43,7 +43,7 @@ label_of Deed deed rank = DeedLabel deed rank
 abbrev pub verdict_of : Rule → Verdict
 verdict_of rule = record { effect = rule.effect; label = label_of rule.band rule.scope rule.rank }
 
--- what holds if no rule matches
+-- what holds if no rule matches: to deny, with the label D0
 abbrev pub DEFAULT : Verdict
 DEFAULT = record { effect = Deny; label = Default }
 
@@ -69,7 +69,7 @@ OneVerdict = (rules : List Rule) (audience : Audience) (day : ℤ) (file : Found
     → IsVerdict (Contains rules) audience day file other
     → one ≡ other
 
--- the text of a label: T12.1, R7.10 or D0
+-- the text of a label: T12.1, R7.10 or D0, of the accession or the deed and of the rank
 abbrev pub label_text : Label → List ℕ
 label_text (TakedownLabel accession rank) = codes "T" ++ decimal accession ++ codes "." ++ decimal rank
 label_text (DeedLabel deed rank) = codes "R" ++ decimal deed ++ codes "." ++ decimal rank

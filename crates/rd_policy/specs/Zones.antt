@@ -7,7 +7,7 @@ use Rattle.jiff.specs.Words.{plain_zone, read_whole, offset_at as offset_of}
 use Rattle.rd_policy.specs.declared.zone.Zone.{Zone}
 
 -- the text is a rule as jiff reads one: of the form that POSIX has for the variable TZ, where clocks may change at an
--- hour from -167 to 167
+-- hour from -167 to 167 (RFC 9636)
 abbrev pub IsZoneRule : List ℕ → Type 0
 IsZoneRule text = IsSome (read_whole text)
 
@@ -24,7 +24,7 @@ abbrev pub offset_at : Zone → ℤ → ℤ
 offset_at zone instant = offset_of (plain_zone zone.clock) instant
 
 -- the day of a moment in a zone, by the offset of its clocks at that moment: a day has 86,400 seconds, and the
--- quotient is rounded down, before 1970 too
+-- quotient is rounded down, before 1970 too; day 0 is 1970-01-01
 abbrev pub day_number : ℤ → Zone → ℤ
 day_number seconds zone =
     int_div_euclid (seconds +ℤ offset_at zone (seconds *ℤ pos 1_000_000_000)) (pos 86_400)

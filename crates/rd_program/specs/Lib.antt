@@ -1,3 +1,5 @@
+-- What a command on a store writes, leaves and refuses, over the definitions of `rd_commands` and of the desk; this
+-- project's rules.
 -- ---- what a reader of a public clause believes
 pub mod Promises
 pub mod Inits

@@ -68,7 +68,7 @@ feed_after Json = line_feed
 feed_after Csv = []
 feed_after Octets = []
 
--- what is written of a reply
+-- what is written of a reply: its body, and after JSON a line feed
 abbrev pub shown_text : Reply → List ℕ
 shown_text reply = reply.body.bytes ++ feed_after reply.form
 

@@ -37,6 +37,7 @@ record_of listing line =
 abbrev pub records_text : Listing → List ℕ
 records_text listing = flat_map (λ line. row_text default_writer (record_of listing line)) listing.files
 
--- the names of the columns, and then the records of each accession
+-- the names of the columns, and then the records of each accession, each as the crate `csv` writes it with its
+-- defaults; what is missing is an empty field
 unfoldable pub catalogue_text : List Listing → List ℕ
 catalogue_text listings = row_text default_writer COLUMNS ++ flat_map records_text listings

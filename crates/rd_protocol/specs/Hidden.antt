@@ -86,8 +86,8 @@ SameInAlike AreAlike desk day request reply = ¬ IsOfStaff desk request → (aud
 abbrev pub HidesTheRest : Desk → ℤ → Request → Reply → Type 0
 HidesTheRest = SameInAlike LooksAlike
 
--- unless the staff asks what only they may, nothing changes the reply but the keys, the accessions and
--- what their images show
+-- unless the staff asks what only they may, nothing changes the reply but the keys, the accessions and what their
+-- images show; or the reply is that of unavailability
 abbrev pub TellsWhatIsShown : Desk → ℤ → Request → Reply → Type 0
 TellsWhatIsShown = SameInAlike ShowsTheSame
 

@@ -41,7 +41,8 @@ abbrev pub deed_at : Band → ℕ → Option ℕ
 deed_at Takedown scope = None
 deed_at Deed scope = Some scope
 
--- a request that names an accession is refused if none of that number stands
+-- a request that names an accession is refused if none of that number stands: the one in a question, a survey or a
+-- check, or that of a takedown; a rehearsal needs what its command needs
 abbrev pub accession_of : What → Option ℕ
 accession_of (Listing acc) = Some acc
 accession_of (Bytes acc slot) = Some acc
@@ -53,7 +54,8 @@ accession_of (RehearseRule on rule) = accession_at rule.band rule.scope
 accession_of (RehearseDrop on band scope rank) = accession_at band scope
 accession_of other = None
 
--- a request that names a deed is refused if no such deed stands
+-- a request that names a deed is refused if no such deed stands: that of an image to put, or that of another rule
+-- than a takedown; a rehearsal needs what its command needs
 abbrev pub deed_of : What → Option ℕ
 deed_of (PutImage acc kind deed digest bytes) = Some deed
 deed_of (PutRule rule) = deed_at rule.band rule.scope
@@ -100,7 +102,8 @@ IsAsked desk day request None = (judged : JudgedFile) → ¬ IsJudgedFile desk d
 
 -- ---- refusals
 
--- an image that differs stands at the accession; or the last key of the staff would be lost
+-- an image that differs in kind, deed or digest stands at the accession; or the last key of the staff would be lost,
+-- dropped or given to the reading room
 abbrev pub Conflicts : Desk → What → Type 0
 Conflicts desk (PutImage acc kind deed digest bytes) =
     HasOtherImage desk acc (record { kind = kind; deed = deed; digest = digest; bytes = bytes })

@@ -17,7 +17,7 @@ abbrev pub bytes_lent : Lent → List ℕ
 bytes_lent lent = contents_of lent.kind lent.image lent.file
 
 -- The contents of a file can be lent: the bytes are those of an image of the kind, the file is sound and lies in it,
--- and its pieces have no more bytes together than can be counted.
+-- and its pieces have no more bytes together than can be counted: fewer than 2^64.
 pub record CanBeLent (kind : Kind) (image : List ℕ) (file : Found) : Type 0 where
   pub sized : length image ≡ size_of kind
   pub sound : IsSoundFile file

@@ -1,3 +1,6 @@
+-- What may be asked, which refusal holds, what is replied and how it reads, by this project's rules; SHA-256 by FIPS
+-- 180-4, statuses by RFC 9110, JSON by RFC 8259. A badge is the SHA-256 of the desk key that a caller gives. A body
+-- is lent (`Lent`) if its bytes lie in an image and are not copied: its pieces are slices of that image.
 -- ---- what a reader of a public clause believes
 pub use Rattle.rd_holdings.specs.State
 pub use Rattle.rd_holdings.specs.Lawful

@@ -38,7 +38,8 @@ differences_between (now ∷ verdicts) (later ∷ others) = differences_at now.a
 differences_between verdicts others = []
 
 -- The rehearsal of a command that makes another desk of this one: the differences in effect between the verdicts of a
--- day of the two.
+-- day of the two. Each file and audience whose effects differ is there, with both verdicts, by accession, slot and
+-- audience.
 pub record IsRehearsal (desk after : Desk) (day : ℤ) (differences : List Difference) : Type 0 where
   pub verdicts : List Verdicts
   pub others : List Verdicts

@@ -86,7 +86,8 @@ pub record LendsFile (desk : Desk) (acc slot : ℕ) (lent : Lent) : Type 0 where
   pub described : IsFound image.kind image.bytes lent.file
   pub are : AreBytesOf image.kind image.bytes slot (bytes_lent lent)
 
--- All accessions, ascending, each as it is listed: each of these is one, and none is left out.
+-- All accessions, ascending, each as it is listed: each of these is one, and none is left out. An accession is there
+-- even if no file of it is listed.
 pub record AreListings (desk : Desk) (audience : Audience) (day : ℤ) (listings : List Lines) : Type 0 where
   pub each : All (λ listing. IsListing desk audience day listing.accession listing) listings
   pub ascending : AllPairs (λ one other. one.accession < other.accession) listings
@@ -116,7 +117,8 @@ abbrev pub with_checked : Option ImageRow → ℕ → ℤ → Desk → Desk
 with_checked None acc day desk = desk
 with_checked (Some image) acc day desk = with_check acc day (outcome_of image.bytes image.digest) desk
 
--- what an accepted request makes of the desk on a day
+-- what an accepted request makes of the desk on a day: a put or a drop changes it, a check records its outcome for
+-- the accession and the day, and a question, a survey and a rehearsal change nothing
 abbrev pub carried_out : ℤ → What → Desk → Desk
 carried_out day (Check acc) desk = with_checked (get desk.images acc) acc day desk
 carried_out day (PutImage acc kind deed digest bytes) desk =
@@ -130,7 +132,9 @@ carried_out day other desk = desk
 
 -- ---- the answer to an accepted request
 
--- the answer to an accepted request; the desk serves a file only if the verdict on it is to read
+-- the answer to an accepted request: to a put or a drop that it is done, to a check what it found, to a rehearsal
+-- what the command would change, and to a question or a survey what it asks for; the desk serves a file only if the
+-- verdict on it is to read
 abbrev pub Tells : Desk → Audience → ℤ → Option JudgedFile → Response → What → Type 0
 Tells desk audience day file response.Done what = IsPutOrDrop what
 Tells desk audience day file (response.Images lines) Images = AreImageLines desk audience day lines

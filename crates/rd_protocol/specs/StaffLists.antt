@@ -30,7 +30,7 @@ deed_line desk e = record {
   rules = rules_at desk Deed e.0;
 }
 
--- all deeds, ascending
+-- all deeds, ascending, each with its rules by rank and the number of accessions under it
 abbrev pub deed_lines : Desk → List DeedLine
 deed_lines desk = map (deed_line desk) (entries desk.deeds)
 
@@ -45,7 +45,7 @@ has_rules (rule ∷ rules) = true
 abbrev pub takedown_line : Desk → ℕ × ImageRow → TakedownLine
 takedown_line desk e = record { accession = e.0; rules = rules_at desk Takedown e.0 }
 
--- the accessions that have takedowns, ascending
+-- the accessions that have takedowns, ascending, each with these by rank
 abbrev pub takedown_lines : Desk → List TakedownLine
 takedown_lines desk = filter (λ line. has_rules line.rules) (map (takedown_line desk) (entries desk.images))
 

@@ -1,3 +1,4 @@
+-- Laws of what the staff may ask, over the definitions of `rd_protocol`. No code calls them.
 pub mod PutAgain
 pub mod RehearsedCommands
 pub mod SizedFiles

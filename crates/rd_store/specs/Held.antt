@@ -80,7 +80,8 @@ pub record IsDeskAt (s : State) : Type 0 where
   pub tables : HasTables s
   pub holds : Holds (desk_of s.now.trees) s.now
 
--- what a store keeps true of its connection; of one that a fault of the disk has shut nothing is known
+-- what a store keeps true of its connection: while it is open, it is outside a transaction, all that it shows is
+-- committed, and that is a lawful desk; of one that a fault of the disk has shut nothing is known
 abbrev pub HoldsDesk : State → Type 0
 HoldsDesk s = IsTrue s.is_open → IsDeskAt s
 
@@ -147,7 +148,8 @@ pub record Keeps {S : Type 0} (g : Ghosts S) (old new : Held S) : Type 0 where
   pub crash : IsOpen g old → IsClean g new → LeavesOnly g new (desk g old)
   pub durable : IsOpen g new → LeavesOnly g new (desk g new)
 
--- A call that reads, and answers this of the desk, or fails.
+-- A call that reads, and answers this of the desk, or fails. It keeps the desk; after Ok the connection is open,
+-- where the disk has returned what was written.
 pub record Reads {S T X : Type 0} (g : Ghosts S) (old new : Held S) (result : Result T X) (Answers : T → Type 0) : Type 0 where
   pub keeps : Keeps g old new
   pub answer : IsOpen g new → IfOk result Answers
@@ -167,8 +169,9 @@ IsAnswered (Err Missing) P = P
 IsAnswered (Err Conflict) P = P
 IsAnswered (Err Sql) P = ⊤
 
--- Why a call is refused, where the connection is open at the end; and after such an answer it is open, where
--- the disk has returned what was written. Sql is answered at any time, and does not say why.
+-- Why a call is refused, where the connection is open at the end; and after such an answer it is open, where the disk
+-- has returned what was written. Sql is answered at any time, for lack of memory or by a fault of the database, and
+-- does not say why.
 pub record Judges {S T : Type 0} (g : Ghosts S) (new : Held S) (result : Result T StoreFault) (IsThere Conflicts : Type 0) : Type 0 where
   pub why : IsOpen g new → IsJudged IsThere Conflicts result
   pub ends_open : IsClean g new → IsAnswered result (IsOpen g new)

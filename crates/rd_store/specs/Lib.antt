@@ -1,3 +1,6 @@
+-- What a store's tables spell, and what its calls read, change and leave, by this project's rules. A connection is at
+-- rest (`IsAtRest`) between two calls: while it is open, its tables hold a lawful desk, and a crash leaves that desk
+-- and nothing else.
 -- ---- what a reader of a public clause believes
 pub mod Codes
 pub mod Index

@@ -24,7 +24,7 @@ abbrev pub listed_in : Option (Vec (ℕ × Heading) Global) → List (ℕ × Hea
 listed_in None = []
 listed_in (Some entries) = entries.items
 
--- what a register lists
+-- what a register lists: of each accession the kind of its image, the deed and the digest
 abbrev pub listed : Register → List (ℕ × Heading)
 listed register = listed_in register.entries
 

@@ -1,3 +1,5 @@
+-- The tables of a desk as SQL understands them, by SQLite's documentation; the tables are this project's. What stands
+-- is there now: a table, or a row.
 -- ---- what a reader of a public clause believes
 pub mod Spellings
 pub mod Schemas

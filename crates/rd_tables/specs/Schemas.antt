@@ -154,7 +154,7 @@ desk_with more = record {
 abbrev pub first_schema : Schema
 first_schema = desk_with []
 
--- the tables of a desk, in the order in which a new desk makes them
+-- the tables of a desk, in the order in which a new desk makes them: eight, with four indexes
 abbrev pub desk_schema : Schema
 desk_schema = desk_with (marks_table 11 ∷ [])
 
@@ -162,7 +162,8 @@ desk_schema = desk_with (marks_table 11 ∷ [])
 abbrev pub is_foreign_desk : View → Bool
 is_foreign_desk view = unwrap_or (option_map (λ owner. same_name owner (codes "desk")) view.foreign) false && same_name view.name (codes "desk") && not view.binds
 
--- such a table stands; its columns are not told
+-- such a table stands; its columns are not told, since SQL does not understand something on it, such as a trigger,
+-- and keeps it as it is
 abbrev pub has_foreign_desk : Schema → Bool
 has_foreign_desk schema = list_any is_foreign_desk schema.views
 
@@ -206,7 +207,7 @@ pub record TellsVersion (tree : ℕ) (schema : Schema) : Type 0 where
   pub tells : tells_version (take at schema.tables) table ≡ true
   pub on : table.tree ≡ tree
 
--- Nothing stands.
+-- Nothing stands: no table, no view and no index.
 pub record IsBlank (schema : Schema) : Type 0 where
   pub tables : schema.tables ≡ []
   pub indexes : schema.indexes ≡ []

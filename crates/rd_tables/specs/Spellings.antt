@@ -12,7 +12,8 @@ use Rattle.sqlite_trees.specs.View.{is_int}
 use Rattle.sqlite_rules.specs.Lists.{Has}
 use Rattle.sqlite_rules.specs.Edit.{id_in}
 
--- How the rows of one table are read.
+-- How the rows of one table are read: where the columns stand in a row, which columns spell an entry of a key and a
+-- value, which entry columns spell, and the order of the keys.
 pub record Spelling (K X : Type 0) : Type 0 where
   -- where the columns stand in a row
   pub places : List ℕ

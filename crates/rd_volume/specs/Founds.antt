@@ -15,7 +15,7 @@ pub record Fits (kind : Kind) (found : Found) : Type 0 where
   pub units : All (λ unit. unit < unit_count_of kind) found.units
   pub last : found.last_len ≤ room_of kind
 
--- The record gives no contents.
+-- The record gives no contents: no size, no units, and 0 for its last length.
 pub record HasNoContents (found : Found) : Type 0 where
   pub size : found.size ≡ None
   pub units : found.units ≡ []

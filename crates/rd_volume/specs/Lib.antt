@@ -1,3 +1,6 @@
+-- All kinds of image as one, by this project's rules over the manuals' fields. A found file (`Found`) is a file as
+-- its image describes it: everything that the record says of it is true. What is told of a file or an image is what
+-- something says or shows of it.
 -- ---- what a reader of a public clause believes
 pub mod Kinds
 pub mod Lists

@@ -74,7 +74,9 @@ pub record AreCbmUnits (image : List ℕ) (slot : ℕ) (units : List ℕ) (last 
   pub ends : Ends (link_of image) (start_of (entry_at image blocks slot) Data) used
   pub is_last : last ≡ used - 1
 
--- these are the units of the sound file at a slot, and the last of them holds `last` bytes of it
+-- these are the units of the sound file at a slot, and the last of them holds `last` bytes of it: on a CP/M disk its
+-- sectors, of which the last holds 128; on a 1541 disk the blocks of the chain of its data, of which the last holds
+-- those from byte 2 up to the last byte used
 abbrev pub AreUnitsOf : Kind → List ℕ → ℕ → List ℕ → ℕ → Type 0
 AreUnitsOf Cpm8 image slot units last = AreCpmUnits image slot units last
 AreUnitsOf D64 image slot units last = OfDirectory image (AreCbmUnits image slot units last)

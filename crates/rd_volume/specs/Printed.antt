@@ -50,7 +50,7 @@ dotted (c ∷ cs) = 46 ∷ c ∷ cs
 abbrev pub cpm_type_of : List ℕ → List ℕ
 cpm_type_of name = printed Cpm8 (drop 8 name)
 
--- the printed name of a CP/M file, from the same bytes
+-- the printed name of a CP/M file, from the same bytes: both parts, with a dot between them if the type is not empty
 abbrev pub cpm_name_of : List ℕ → List ℕ
 cpm_name_of name = printed Cpm8 (take 8 name) ++ dotted (cpm_type_of name)
 

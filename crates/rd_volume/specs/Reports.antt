@@ -47,7 +47,8 @@ IsMapReport Cpm8 image map = map ≡ record { wrong_counts = 0; claimed_free = 0
 IsMapReport D64 image map = AreCounts image map
 IsMapReport D64e image map = AreCounts image map
 
--- how the directory's walk ends; that of a CP/M disk, which has no links, is at a last block
+-- how the directory's walk ends; that of a CP/M disk, which has no links, is at a last block with byte 0, and that of
+-- a 1541 disk ends as the walk from 18/1 does (1541 User's Guide)
 abbrev pub IsDirectoryEnd : Kind → List ℕ → End → Type 0
 IsDirectoryEnd Cpm8 image ends = ends ≡ end.Last 0
 IsDirectoryEnd D64 image ends = EndsBy (link_of image) (index_of 18 1) ends
@@ -57,7 +58,7 @@ IsDirectoryEnd D64e image ends = EndsBy (link_of image) (index_of 18 1) ends
 abbrev pub cbm_label_of : List ℕ → List ℕ
 cbm_label_of image = printed D64 (slice_range (map_of image) 144 160)
 
--- the printed name of the disk; a CP/M disk has none
+-- the printed name of the disk: of a 1541 disk bytes 144 to 159 of 18/0; a CP/M disk has none
 abbrev pub label_of : Kind → List ℕ → List ℕ
 label_of Cpm8 image = []
 label_of D64 image = cbm_label_of image

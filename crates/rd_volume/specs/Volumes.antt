@@ -74,7 +74,7 @@ AreBytesOf Cpm8 image k bytes = AreCpmBytes image k bytes
 AreBytesOf D64 image k bytes = OfDirectory image (AreCbmBytes image k bytes)
 AreBytesOf D64e image k bytes = OfDirectory image (AreCbmBytes image k bytes)
 
--- the record describes a file of the image
+-- the record describes a file of the image: everything that it says of the file is true
 abbrev pub IsFound : Kind → List ℕ → Found → Type 0
 IsFound Cpm8 image found = IsCpmFile image found
 IsFound D64 image found = OfDirectory image (IsCbmFile image found)

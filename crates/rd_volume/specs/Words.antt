@@ -19,7 +19,7 @@ fault_names D64e = cbm_fault_names
 abbrev pub set_bits : ℕ → ℕ → List ℕ
 set_bits count n = filter (λ bit. n / 2 ^ bit % 2 == 1) (range_with_len 0 count)
 
--- the words of the faults whose bits are set, ascending
+-- the words of the faults whose bits are set, ascending; a bit for which the kind has no word is left out
 abbrev pub words_of : Kind → ℕ → List (List ℕ)
 words_of kind faults = map (λ bit. slice_index_or (fault_names kind) bit []) (set_bits (length (fault_names kind)) faults)
 
