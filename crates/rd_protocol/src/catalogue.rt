@@ -1,15 +1,20 @@
 //! The table of all listed files, as CSV.
 
 ghost use Rattle.std.specs.Prelude.{◌≡◌, ◌++◌, IfOk, OnOk, List, map, ℕ};
+ghost use Rattle.std.specs.Fmt.{decimal};
 ghost use Rattle.std.specs.List.{flat_map};
 ghost use Rattle.csv.specs.Writing.{default_writer, row_text};
+ghost use Rattle.rd_geometry.specs.Kinds.{word_of};
+ghost use Rattle.rd_policy.specs.Rules.{effect_word};
+ghost use Rattle.rd_policy.specs.Verdicts.{label_text};
 ghost use Rattle.rd_protocol.specs.Catalogues.{catalogue_text, faults_text, number_text, record_of, records_text};
 ghost use Rattle.rd_protocol.specs.Written.{HasWritten};
 
 use crate::response::{Line, Listing};
 use csv::{Writer, WriterBuilder};
 use rd_geometry::{Items, Kind, NoMemory, Text};
-use rd_volume::fault_words;
+use rd_policy::Verdict;
+use rd_volume::{Found, fault_words};
 use std::alloc::Global;
 
 /// The names of the columns.
@@ -62,23 +67,99 @@ pub(crate) fn faults(alloc: Global, kind: Kind, faults: u8) -> Result<Text, NoMe
     Ok(Text::of(words.as_slice().join(alloc, " ")?))
 }
 
+/// The cells of an accession.
+#[derive(Drop)]
+pub(crate) struct AccessionCells {
+    pub(crate) accession: Text,
+    pub(crate) deed: Text,
+    pub(crate) kind: Text,
+}
+
+/// The cells of a file.
+#[derive(Drop)]
+pub(crate) struct FileCells {
+    pub(crate) slot: Text,
+    pub(crate) user: Text,
+    pub(crate) name: Text,
+    pub(crate) ty: Text,
+    pub(crate) size: Text,
+    pub(crate) faults: Text,
+}
+
+/// The cells of what the rules say of a file.
+#[derive(Drop)]
+pub(crate) struct RuledCells {
+    pub(crate) effect: Text,
+    pub(crate) rule: Text,
+}
+
+/// The number of an accession, that of its deed, and the word for the kind of its image.
+pub(crate) fn accession_cells(
+    alloc: Global,
+    accession: u32,
+    deed: u32,
+    kind: Kind,
+) -> Result<AccessionCells, NoMemory>
+    ensures accession { IfOk result (λ cells. cells.accession ≡ decimal accession) }
+    ensures deed { IfOk result (λ cells. cells.deed ≡ decimal deed) }
+    ensures kind { IfOk result (λ cells. cells.kind ≡ word_of kind) }
+{
+    Ok(AccessionCells {
+        accession: number(alloc, Some(accession))?,
+        deed: number(alloc, Some(deed))?,
+        kind: cell(alloc, kind.word())?,
+    })
+}
+
+/// What the index tells of a file on an image of a kind.
+pub(crate) fn file_cells(alloc: Global, kind: Kind, file: &Found) -> Result<FileCells, NoMemory>
+    ensures slot { IfOk result (λ cells. cells.slot ≡ decimal file.now.slot) }
+    ensures user { IfOk result (λ cells. cells.user ≡ number_text file.now.user) }
+    ensures name { IfOk result (λ cells. cells.name ≡ file.now.name) }
+    ensures ty { IfOk result (λ cells. cells.ty ≡ file.now.ty) }
+    ensures size { IfOk result (λ cells. cells.size ≡ number_text file.now.size) }
+    ensures faults { IfOk result (λ cells. cells.faults ≡ faults_text kind file.now.faults) }
+{
+    Ok(FileCells {
+        slot: number(alloc, Some(u32::from(file.slot)))?,
+        user: user(alloc, file.user)?,
+        name: cell(alloc, file.name.as_str())?,
+        ty: cell(alloc, file.ty.as_str())?,
+        size: number(alloc, file.size)?,
+        faults: faults(alloc, kind, file.faults)?,
+    })
+}
+
+/// The word for what the desk does with a file, and the label of the rule that decided.
+pub(crate) fn ruled_cells(alloc: Global, verdict: Verdict) -> Result<RuledCells, NoMemory>
+    ensures effect { IfOk result (λ cells. cells.effect ≡ effect_word verdict.effect) }
+    ensures rule { IfOk result (λ cells. cells.rule ≡ label_text verdict.label) }
+{
+    Ok(RuledCells {
+        effect: cell(alloc, verdict.effect.word())?,
+        rule: Text::of(verdict.label.to_string(alloc)?),
+    })
+}
+
 /// The cells of a file of an accession, in the order of the columns.
 fn catalogue_cells(alloc: Global, listing: &Listing, line: &Line) -> Result<[Text; 11], NoMemory>
     ensures { IfOk result (λ cells. cells ≡ record_of listing.now line.now) }
 {
-    let accession = number(alloc, Some(listing.accession))?;
-    let deed = number(alloc, Some(listing.deed))?;
-    let kind = cell(alloc, listing.kind.word())?;
-    let slot = number(alloc, Some(u32::from(line.file.slot)))?;
-    let user = user(alloc, line.file.user)?;
-    let name = cell(alloc, line.file.name.as_str())?;
-    let ty = cell(alloc, line.file.ty.as_str())?;
-    let size = number(alloc, line.file.size)?;
-    let faults = faults(alloc, listing.kind, line.file.faults)?;
-    let rule = Text::of(line.verdict.label.to_string(alloc)?);
-    let effect = cell(alloc, line.verdict.effect.word())?;
+    let heading = accession_cells(alloc, listing.accession, listing.deed, listing.kind)?;
+    let file = file_cells(alloc, listing.kind, &line.file)?;
+    let ruled = ruled_cells(alloc, line.verdict)?;
     Ok([
-        accession, deed, kind, slot, user, name, ty, size, faults, rule, effect,
+        heading.accession,
+        heading.deed,
+        heading.kind,
+        file.slot,
+        file.user,
+        file.name,
+        file.ty,
+        file.size,
+        file.faults,
+        ruled.rule,
+        ruled.effect,
     ])
 }
 

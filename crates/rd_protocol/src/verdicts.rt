@@ -6,7 +6,9 @@ ghost use Rattle.csv.specs.Writing.{default_writer, row_text};
 ghost use Rattle.rd_protocol.specs.VerdictTables.{difference_record, differences_text, verdict_record, verdict_records, verdicts_text};
 ghost use Rattle.rd_protocol.specs.Written.{HasWritten};
 
-use crate::catalogue::{cell, faults, number, user, write_cells, write_record};
+use crate::catalogue::{
+    accession_cells, cell, file_cells, number, ruled_cells, write_cells, write_record,
+};
 use crate::response::{Difference, FileVerdicts, Verdicts};
 use csv::{Writer, WriterBuilder};
 use rd_geometry::{Items, NoMemory, Text};
@@ -47,37 +49,27 @@ const DIFFERENCE_COLUMNS: [&[u8]; 8] = [
 fn verdict_cells(alloc: Global, one: &Verdicts, file: &FileVerdicts) -> Result<[Text; 15], NoMemory>
     ensures { IfOk result (λ cells. cells ≡ verdict_record one.now file.now) }
 {
-    let accession = number(alloc, Some(one.accession))?;
-    let deed = number(alloc, Some(one.deed))?;
-    let kind = cell(alloc, one.kind.word())?;
-    let slot = number(alloc, Some(u32::from(file.file.slot)))?;
-    let user = user(alloc, file.file.user)?;
-    let name = cell(alloc, file.file.name.as_str())?;
-    let ty = cell(alloc, file.file.ty.as_str())?;
-    let size = number(alloc, file.file.size)?;
-    let faults = faults(alloc, one.kind, file.file.faults)?;
-    let public = cell(alloc, file.public.effect.word())?;
-    let public_rule = Text::of(file.public.label.to_string(alloc)?);
-    let room = cell(alloc, file.room.effect.word())?;
-    let room_rule = Text::of(file.room.label.to_string(alloc)?);
-    let staff = cell(alloc, file.staff.effect.word())?;
-    let staff_rule = Text::of(file.staff.label.to_string(alloc)?);
+    let heading = accession_cells(alloc, one.accession, one.deed, one.kind)?;
+    let cells = file_cells(alloc, one.kind, &file.file)?;
+    let public = ruled_cells(alloc, file.public)?;
+    let room = ruled_cells(alloc, file.room)?;
+    let staff = ruled_cells(alloc, file.staff)?;
     Ok([
-        accession,
-        deed,
-        kind,
-        slot,
-        user,
-        name,
-        ty,
-        size,
-        faults,
-        public,
-        public_rule,
-        room,
-        room_rule,
-        staff,
-        staff_rule,
+        heading.accession,
+        heading.deed,
+        heading.kind,
+        cells.slot,
+        cells.user,
+        cells.name,
+        cells.ty,
+        cells.size,
+        cells.faults,
+        public.effect,
+        public.rule,
+        room.effect,
+        room.rule,
+        staff.effect,
+        staff.rule,
     ])
 }
 
@@ -142,19 +134,17 @@ fn difference_cells(alloc: Global, difference: &Difference) -> Result<[Text; 8],
     let slot = number(alloc, Some(u32::from(difference.slot)))?;
     let name = cell(alloc, difference.name.as_str())?;
     let audience = cell(alloc, difference.audience.word())?;
-    let effect = cell(alloc, difference.before.effect.word())?;
-    let rule = Text::of(difference.before.label.to_string(alloc)?);
-    let then_effect = cell(alloc, difference.after.effect.word())?;
-    let then_rule = Text::of(difference.after.label.to_string(alloc)?);
+    let before = ruled_cells(alloc, difference.before)?;
+    let after = ruled_cells(alloc, difference.after)?;
     Ok([
         accession,
         slot,
         name,
         audience,
-        effect,
-        rule,
-        then_effect,
-        then_rule,
+        before.effect,
+        before.rule,
+        after.effect,
+        after.rule,
     ])
 }
 

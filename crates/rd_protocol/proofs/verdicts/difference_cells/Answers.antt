@@ -12,8 +12,8 @@ returns c =
     let slot : c.in_ok-slot.slot ≡ decimal difference.slot = search rules in
     let name : c.in_ok-name.name ≡ difference.name = search rules in
     let audience : c.in_ok-audience.audience ≡ audience_word difference.audience = search rules in
-    let effect : c.in_ok-effect.effect ≡ effect_word difference.before.effect = search rules in
-    let rule : c.of-rule.result ≡ label_text difference.before.label = search rules in
-    let then_effect : c.in_ok-then_effect.then_effect ≡ effect_word difference.after.effect = search rules in
-    let then_rule : c.of-then_rule.result ≡ label_text difference.after.label = search rules in
+    let effect : c.in_ok-before.before.effect ≡ effect_word difference.before.effect = search rules in
+    let rule : c.in_ok-before.before.rule ≡ label_text difference.before.label = search rules in
+    let then_effect : c.in_ok-after.after.effect ≡ effect_word difference.after.effect = search rules in
+    let then_rule : c.in_ok-after.after.rule ≡ label_text difference.after.label = search rules in
     rw (accession, slot, name, audience, effect, rule, then_effect, then_rule) refl
