@@ -1,13 +1,11 @@
 //! The program `desk`: it reads files from disk images, and serves those of a museum over HTTP.
 #![tactic(auto)]
 
-mod host;
-mod places;
 #[cfg(test)]
 mod tests;
 
 use std::process::ExitCode;
 
 fn main(rt: HostRuntime) -> ExitCode {
-    host::start(&rt)
+    rd_host::start(&rt)
 }

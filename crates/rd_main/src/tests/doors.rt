@@ -1,8 +1,8 @@
 //! Visits at the doors of the real machine.
 
 use super::folders::Folder;
-use crate::host::Host;
 use rd_fakes::desk::{desk_over, new_store};
+use rd_host::Host;
 use rd_http::{Door, Ended, Served, TimeLimits, serve_in_memory};
 use rd_program::{Machine, Place};
 use rd_samples::days::CENTRAL;

@@ -1,8 +1,8 @@
 //! Writers that fail once, and files of the real machine.
 
 use super::{Ran, is_refused};
-use crate::host::Host;
 use rd_fakes::stream::{End, Stumbling};
+use rd_host::Host;
 use rd_machines::Bare;
 use rd_program::{Files, MachineFault, run};
 use rd_samples::cpm::hello;

@@ -1,7 +1,7 @@
 //! Paths at which the real machine is to make a Unix socket.
 
 use super::folders::Folder;
-use crate::host::Host;
+use rd_host::Host;
 use rd_http::TimeLimits;
 use rd_program::{Machine, MachineFault, Place};
 use std::fs;

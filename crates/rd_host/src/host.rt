@@ -25,7 +25,7 @@ const COPIED_FRAMES: usize = 1;
 
 /// What keeps the bytes of a store: a file of the machine and its log. It is wary: where a crash interrupts a write of a
 /// page, it trusts no byte of that page.
-type HostDisk = FileStore<FileFrom<Wary>>;
+pub type HostDisk = FileStore<FileFrom<Wary>>;
 
 /// Opens the store in the file at a path, or makes it, with a sum at the end of each page or without.
 ///
@@ -59,7 +59,7 @@ fn open_store(
 
 /// The clock of the machine.
 #[derive(Clone, Copy)]
-pub(crate) struct HostClock {
+pub struct HostClock {
     rt: HostRuntime,
     /// When the clock was made.
     start: Instant,
@@ -76,7 +76,7 @@ impl Clock for HostClock {
 }
 
 /// What opens doors at places of the machine itself.
-pub(crate) trait Places<D: Door> {
+pub trait Places<D: Door> {
     /// A door at a place, for visitors who may take so long.
     ///
     /// It fails with `NoMemory`, and with `Failed` when the place cannot be opened.
@@ -85,12 +85,12 @@ pub(crate) trait Places<D: Door> {
 
 /// The places of the machine that the program runs on.
 #[derive(Drop)]
-pub(crate) struct HostPlaces<'a> {
+pub struct HostPlaces<'a> {
     rt: &'a HostRuntime,
 }
 
 /// A door of that machine.
-type HostDoor = StreamDoor<HostListener, HostClock>;
+pub type HostDoor = StreamDoor<HostListener, HostClock>;
 
 impl Places<HostDoor> for HostPlaces<'_> {
     /// It also fails with `Failed` when the clock fails.
@@ -111,7 +111,7 @@ impl Places<HostDoor> for HostPlaces<'_> {
 
 /// The machine that the program runs on.
 #[derive(Drop)]
-pub(crate) struct Host<'a, D: Door + Drop, P: Places<D> + Drop> {
+pub struct Host<'a, D: Door + Drop, P: Places<D> + Drop> {
     rt: &'a HostRuntime,
     places: P,
     /// The doors that it has lent, the last one at the end.
@@ -120,7 +120,7 @@ pub(crate) struct Host<'a, D: Door + Drop, P: Places<D> + Drop> {
 
 impl<'a> Host<'a, HostDoor, HostPlaces<'a>> {
     /// The machine of the process.
-    pub(crate) fn new(rt: &'a HostRuntime) -> Host<'a, HostDoor, HostPlaces<'a>> {
+    pub fn new(rt: &'a HostRuntime) -> Host<'a, HostDoor, HostPlaces<'a>> {
         Host {
             rt,
             places: HostPlaces { rt },
@@ -247,6 +247,6 @@ fn run_here(rt: &HostRuntime) -> Result<u8, Refusal> {
 }
 
 /// Runs the program in the process, writes why if it cannot run, and gives its exit status.
-pub(crate) fn start(rt: &HostRuntime) -> ExitCode {
+pub fn start(rt: &HostRuntime) -> ExitCode {
     exit_code(run_here(rt), &mut rt.stderr())
 }

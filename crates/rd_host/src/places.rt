@@ -14,7 +14,7 @@ const SOCKET_MODE: u32 = 0o660;
 
 /// The stream of a visitor at a port or at a Unix socket.
 #[derive(Drop)]
-pub(crate) enum HostStream {
+pub enum HostStream {
     Port(TcpStream),
     Socket(UnixStream),
 }
@@ -72,7 +72,7 @@ type FileNumber = (u64, u64);
 
 /// A Unix socket, and the file by which visitors find it. Where it ends, the file goes first, so that no other desk can
 /// have taken the path by then, and the socket shuts after that. A file that somebody has put in its place stays.
-pub(crate) struct HostSocket {
+pub struct HostSocket {
     rt: HostRuntime,
     path: String,
     file: FileNumber,
@@ -96,7 +96,7 @@ impl Drop for HostSocket {
 
 /// What waits for visitors at a port, or at a Unix socket.
 #[derive(Drop)]
-pub(crate) enum HostListener {
+pub enum HostListener {
     Port(TcpListener),
     Socket(HostSocket),
 }
