@@ -240,8 +240,8 @@ pub record HasFault (words : List Text) (kind : ErrorKind) : Type 0 where
   pub is_desk : IsDeskApp app
   pub fault : IsAmong kind (fault_of app words)
 
--- `clap` finds no fault in the words, and takes them as the command of this name with these rows, however
--- the program is described
+-- `clap` finds no fault in the words, and takes them as the command of this name with these rows, however the program is
+-- described: in any order of the options, and in the form `--store=F` too
 pub record Enters (words : List Text) (name : Text) (rows : List Row) : Type 0 where
   pub no_fault : (app : App) → IsDeskApp app → fault_of app words ≡ []
   pub into : (app : App) → IsDeskApp app → subcommand_of app words ≡ Some (name, rows)

@@ -15,7 +15,8 @@ cat_words kind image slot = codes "cat" ∷ kind ∷ image ∷ slot ∷ []
 abbrev pub IsOperand : List ℕ → Type 0
 IsOperand word = (word ≡ codes "-") ⊎ (slice_get word 0 ≢ Some 45)
 
--- the text reads as the number n of a slot: `str::parse` reads it as the `u16` n, at most 9,999
+-- the text reads as the number n of a slot: `str::parse` reads it as the `u16` n, at most 9,999; so `+0` and `0000` read
+-- as slot 0
 pub record IsSlotText (text : List ℕ) (n : ℕ) : Type 0 where
   pub reads : ParsesUnsigned {E = ParseIntError} 16 10 text (Ok n)
   pub most : n ≤ LAST_SLOT

@@ -38,7 +38,7 @@ module _ {S : Type 0} (g : Ghosts S) (stream : List ℕ) (old new : Held S) (day
   Handles (request asked) = (reply : Reply) × Serves g old new day asked reply × (text ≡ answer_bytes reply)
   Handles (fault reason) = (new ≡ old) × (text ≡ fault_bytes reason)
 
-  -- the bytes that came are answered with this text, over a store
+  -- this text goes out for what the bytes that came ask, over a store; or it says that the desk is unavailable
   abbrev pub IsAnswer : Type 0
   IsAnswer = ((asked : Asked) × IsAsked stream asked × Handles asked) ⊎ IsWanting stream old new text
 
@@ -65,8 +65,9 @@ Visits Answers old new before after (Err Read) = (new ≡ old) × (after ≡ bef
 Visits Answers old new before after (Err Clock) = (new ≡ old) × (after ≡ before)
 
 -- A visit at a moment, over a wire that may show its bytes and over a desk with the clocks of a zone: what it leaves of
--- both, and how it ends. If the moment has no day, it touches neither; if a read fails, nothing goes out and nothing
--- changes; and at most the bytes of a head and of a body come.
+-- both, and how it ends: its end says whether the moment has a day, a read failed or a write did. If the moment has no
+-- day, it touches neither; if a read fails, nothing goes out and nothing changes; at most the bytes of a head and of a
+-- body come; and after Ok the wire holds nothing back.
 pub record IsServed {S W : Type 0} (g : Ghosts S) (w : WireGhosts W) (seconds : ℤ) (zone : Zone) (before after : W) (old new : Held S) (result : Result (Unit {0}) WireFault) : Type 0 where
   pub answered : IfSome (w.incoming before) (λ stream. Visits (IsAnswer g stream old new (day_number seconds zone)) old new (w.outgoing before) (w.outgoing after) result)
   pub clock : (result ≢ Err Clock) ↔ HasDay seconds

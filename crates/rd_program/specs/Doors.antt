@@ -8,7 +8,7 @@ use Rattle.rd_commands.specs.Serving.{Place}
 abbrev pub AsksPath : Option (List (List ℕ)) → List ℕ → Option (List (List ℕ)) → Type 0
 AsksPath old path new = IfSome old (λ before. new ≡ Some (path ∷ before))
 
--- or none was
+-- a connection was asked for at this path and at no other, or none was
 abbrev pub AsksNoOther : Option (List (List ℕ)) → List ℕ → Option (List (List ℕ)) → Type 0
 AsksNoOther old path new = IfSome old (λ before. (new ≡ Some before) ⊎ (new ≡ Some (path ∷ before)))
 
@@ -16,12 +16,13 @@ AsksNoOther old path new = IfSome old (λ before. (new ≡ Some before) ⊎ (new
 abbrev pub AsksSums : Option (List Bool) → Bool → Option (List Bool) → Type 0
 AsksSums old summed new = IfSome old (λ before. new ≡ Some (summed ∷ before))
 
--- or none was
+-- a connection was asked for, with this word on sums for a file that is new, or none was
 abbrev pub AsksNoOtherSums : Option (List Bool) → Bool → Option (List Bool) → Type 0
 AsksNoOtherSums old summed new = IfSome old (λ before. (new ≡ Some before) ⊎ (new ≡ Some (summed ∷ before)))
 
--- The machine shows its connections as before, no connection was asked for, and at the place, if it showed the door there, the door as its borrower
--- left it. A machine that shows its connections shows that visitors may take as long as it was told.
+-- The machine shows its connections as before, no connection was asked for, and at the place, if it showed the door
+-- there, the door as its borrower left it. A machine that shows its connections shows that visitors may take as long as
+-- it was told.
 pub record KeepsDoor {M D : Type 0} (shows : M → Bool) (paths : M → Option (List (List ℕ))) (limits : M → Option TimeLimits) (doors : M → Place → Option D)
     (place : Place) (given : TimeLimits) (old new : M) (door : D) : Type 0 where
   pub shown : shows new ≡ shows old

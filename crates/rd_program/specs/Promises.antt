@@ -55,7 +55,7 @@ EndsAsMistake result errors told = (result ≡ 2) ⊎ Tells (λ refusal. refusal
 -- written. At 0 and 1, a command that has clocks has a rule as the text of `--zone`, or none; `show` names what it shows,
 -- and a date where that needs one; and `serve` names a port or a Unix socket, and one of them alone. If they do not, the
 -- words are a mistake, or memory ran out; and so it is with words that are no command, unless they ask for help or the
--- version. At 2 the words are no form of a command.
+-- version. At 2 they are no plain form of `cat` or `list`, and no form of another command.
 pub record EndsByWords (words : List (List ℕ)) (result : ℕ) (out written errors told : Option (List ℕ)) : Type 0 where
   pub command : result ≡ 0 → IsTaken words ⊎ (AsksForHelp words ⊎ (AsksForVersion words × Appends out written version_line))
   pub refused_command : result ≡ 1 → IsTaken words

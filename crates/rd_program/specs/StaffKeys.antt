@@ -38,8 +38,8 @@ pub record PutsNone {S : Type 0} (g : Ghosts S) (digest : List ℕ) (before last
   pub crash : LeavesOldOrPut g digest before last
   pub durable : IsOpen g last → LeavesOld g before last ⊎ LeavesOnly g last (desk g last)
 
--- Why no key is put, and what was written then: nothing if the desk was not opened or its store failed; and if the device
--- failed, a front part of the line that says that it is done.
+-- Why `staff-key` fails, and what was written then: nothing if the desk was not opened, its store failed or memory ran
+-- out; and if the device failed, a front part of the line that says that it is done.
 abbrev pub RefusesStaffKey : Refusal → Option (List ℕ) → Option (List ℕ) → Type 0
 RefusesStaffKey Device old new = AppendsPart old new done_line
 RefusesStaffKey refusal old new = Keeps old new × IsOpenRefusal refusal
