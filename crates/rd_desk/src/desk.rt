@@ -1,9 +1,10 @@
 //! The desk: who sees what, by which rule, and how the tables change.
 
-ghost use Rattle.std.specs.Prelude.{◌≡◌, ◌↔◌, Ok, IsOk, IfOk, IfErr, None};
+ghost use Rattle.std.specs.Prelude.{◌≡◌, ◌↔◌, Ok, IsOk, IfOk, IfErr, MatchBool, None};
 ghost use Rattle.rd_policy.specs.Days.{HasDay, IsDay};
 ghost use Rattle.rd_policy.specs.Zones.{day_number};
-ghost use Rattle.rd_store.specs.Held.{LeavesOpen};
+ghost use Rattle.rd_store.specs.Held.{LeavesOpen, Reads, desk};
+ghost use Rattle.rd_store.specs.Latest.{HasCheckAfter, HasNoCheckAfter};
 ghost use Rattle.rd_desk.specs.Calls.{IsResponseAfter, IsWritten, MakesOneChange, MakesResponse};
 ghost use Rattle.rd_protocol.specs.Requests.{IsForStaff, IsRequest};
 ghost use Rattle.rd_desk.specs.Served.{Responds, Serves};
@@ -91,6 +92,20 @@ impl<S: Alter> Desk<S> {
         ensures fault { IfErr result (λ fault. fault ≡ DayFault.OutOfRange) }
     {
         day_of(seconds, &self.zone)
+    }
+
+    /// Whether the desk has recorded a check of a later day than this one. It changes nothing.
+    ///
+    /// It fails with `Unavailable` when the store fails.
+    pub fn has_check_after(&mut self, day: i32) -> Result<bool, Unavailable>
+        ensures reads { Reads S.Store self.old.store self.new.store result (λ found. MatchBool found
+            (HasCheckAfter day (desk S.Store self.old.store)) (HasNoCheckAfter day (desk S.Store self.old.store))) }
+        ensures zone { self.new.zone ≡ self.old.zone }
+    {
+        match self.store.has_check_after(day) {
+            Ok(found) => Ok(found),
+            Err(_) => Err(Unavailable),
+        }
     }
 
     /// Gives the store back, with the state that it has.

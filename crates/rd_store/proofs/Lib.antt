@@ -29,3 +29,4 @@ pub mod KeptImages
 pub mod ImageWalks
 pub mod Maps
 pub mod LatestCheckQuery
+pub mod LaterCheckQuery

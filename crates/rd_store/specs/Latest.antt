@@ -1,13 +1,36 @@
--- The columns for a check of an accession.
-use Rattle.std.specs.Prelude.{◌==◌, ℕ, pos, Bool, [], ◌∷◌}
+-- The checks after a day, and the columns for a check.
+use Rattle.std.specs.Prelude.{◌≡◌, ◌≢◌, ◌==◌, ℕ, ℤ, pos, Bool, List, [], ◌∷◌, int_lt}
+use Rattle.std.specs.FinMap.{entries, retain_keys}
 use Rattle.sqlite.specs.declared.types.Value.TheVariants.{Int}
 use Rattle.sqlite.specs.Order.{Row, column}
 use Rattle.sqlite_rules.specs.Edit.{id_in}
 use Rattle.rd_tables.specs.Spellings.{natural}
-use Rattle.rd_holdings.specs.State.{Checkup}
+use Rattle.rd_holdings.specs.State.{Checkup, Desk}
 use Rattle.rd_holdings.specs.declared.rows.Finding.{Finding}
 use Rattle.rd_holdings.specs.declared.rows.Outcome.{Outcome}
 use Rattle.rd_store.specs.Codes.{outcome_code, outcome_in}
+
+-- a check of a later day than this one
+abbrev pub is_after : ℤ → Checkup → Bool
+is_after day checkup = int_lt day checkup.day
+
+-- the checks of later days than this one that are recorded, by accession and day
+abbrev pub checks_after : ℤ → Desk → List (Checkup × Outcome)
+checks_after day desk = entries (retain_keys desk.checks (is_after day))
+
+-- some are
+abbrev pub HasCheckAfter : ℤ → Desk → Type 0
+HasCheckAfter day desk = checks_after day desk ≢ []
+
+-- none is
+abbrev pub HasNoCheckAfter : ℤ → Desk → Type 0
+HasNoCheckAfter day desk = checks_after day desk ≡ []
+
+-- ---- inside
+
+-- the accession and the day of a check
+abbrev pub checkup_shown : Checkup × Outcome → Row
+checkup_shown e = Int (pos e.0.acc) ∷ Int e.0.day ∷ []
 
 -- a check of the accession
 abbrev pub is_of : ℕ → Checkup → Bool

@@ -1,9 +1,9 @@
-ghost use Rattle.std.specs.Prelude.{◌≡◌, false, IsSome, None, IfErr, IfOk, option_map, slice_get, ◌≢◌, map};
+ghost use Rattle.std.specs.Prelude.{◌≡◌, false, IsSome, MatchBool, None, IfErr, IfOk, option_map, slice_get, ◌≢◌, map};
 ghost use Rattle.std.specs.FinMap.{get, entries, retain_keys};
 ghost use Rattle.sqlite.specs.Held.{state};
 ghost use Rattle.rd_policy.specs.Days.{IsDay};
 ghost use Rattle.rd_store.specs.Held.{Changes, HoldsDesk, IsOf, IsOpen, Moves, desk, Judges, Reads};
-ghost use Rattle.rd_store.specs.Latest.{finding_in, check_shown, is_of};
+ghost use Rattle.rd_store.specs.Latest.{HasCheckAfter, HasNoCheckAfter, checks_after, finding_in, check_shown, checkup_shown, is_of};
 ghost use Rattle.rd_holdings.specs.State.{with_check, without_check};
 ghost use Rattle.std.specs.Option.{option_to_list};
 ghost use Rattle.rd_holdings.specs.Findings.{last_of, latest};
@@ -113,6 +113,31 @@ impl<S: Alter> Store<S> {
     {
         let rows = self.latest_rows(acc)?;
         first_finding(&rows)
+    }
+
+    /// The rows for the checks of later days than this one, each with its accession and its day.
+    fn later_rows(&mut self, day: i32) -> Result<Vec<Row>, StoreFault>
+        ensures reads { Reads S.Store self.old self.new result (λ rows.
+            rows.items ≡ map checkup_shown (checks_after day (desk S.Store self.old))) }
+        ensures fault { IfErr result (λ fault. fault ≡ StoreFault.Sql) }
+    {
+        let from = day.to_sql();
+        self.query(
+            "SELECT acc, day FROM checked WHERE day > ?1 ORDER BY acc, day",
+            &[from],
+        )
+    }
+
+    /// Whether a check of a later day than this one is recorded. It is one query, which shows those checks alone.
+    ///
+    /// It fails with `Sql`.
+    pub fn has_check_after(&mut self, day: i32) -> Result<bool, StoreFault>
+        ensures reads { Reads S.Store self.old self.new result (λ found. MatchBool found
+            (HasCheckAfter day (desk S.Store self.old)) (HasNoCheckAfter day (desk S.Store self.old))) }
+        ensures fault { IfErr result (λ fault. fault ≡ StoreFault.Sql) }
+    {
+        let rows = self.later_rows(day)?;
+        Ok(!rows.is_empty())
     }
 
     /// Puts the finding of a check of an accession, 1 to 999,999, on a day of the years 1 to 9999

@@ -1,0 +1,74 @@
+-- The text that asks for the checks after a day, and what it shows.
+use Rattle.std.proofs.Common.{◌≡◌, ◌∙◌, ◌&&◌, ◌==◌, ℕ, ℤ, pos, Bool, List, [], ◌∷◌, false, Less, ap, ap₂, arith, codes, eqb-true, int_cmp, int_lt, is_eq, is_gt, is_lt, length, map, nat_cmp, not, refl, subst, sym, true}
+use Rattle.std.specs.Prelude.{◌≢◌, MatchBool}
+use Rattle.std.specs.FinMap.{entries, retain_keys}
+use Rattle.std.specs.Ordering.{ordering_then}
+use Rattle.std.proofs.lemmas.Bool.Decides.{nat_tests}
+use Rattle.sqlite.specs.declared.types.Value.TheVariants.{Int}
+use Rattle.sqlite.specs.Listing.{understood}
+use Rattle.sqlite.specs.Order.{Row, column}
+use Rattle.sqlite.specs.Query.{Query, key_cmp}
+use Rattle.sqlite.specs.Collation.TheVariants.{Binary}
+use Rattle.sqlite.specs.Term.{col}
+use Rattle.sqlite_sql.specs.Ops.{binary, is_true}
+use Rattle.sqlite_sql.specs.declared.ops.BinaryOp.TheVariants.{Compare}
+use Rattle.sqlite_sql.specs.declared.ops.CompareOp.TheVariants.{Gt}
+use Rattle.sqlite_tied.specs.Compute.{everything}
+use Rattle.sqlite_value.proofs.OrderLemmas.{value_cmp-Int, then-Equal}
+use Rattle.rd_tables.specs.Asked.{IsPicked, asks_of, greater, rising}
+use Rattle.rd_tables.specs.Spellings.{Spells, entry_of, map_of}
+use Rattle.rd_tables.proofs.ListLemmas.{and_true, empty_by_length}
+use Rattle.rd_tables.proofs.QueryMaps.{in_order}
+use Rattle.rd_tables.proofs.QueryTexts.{AsksBy}
+use Rattle.rd_tables.proofs.Values.{truth_kept}
+use Rattle.rd_store.specs.Latest.{checkup_shown, is_after}
+use Rattle.rd_store.specs.Spelled.{check_spelling}
+use Rattle.rd_store.proofs.Orders.{checkup_order}
+
+-- the checks of later days than a parameter, by accession and day
+abbrev pub later_text : List ℕ
+later_text = codes "SELECT acc, day FROM checked WHERE day > ?1 ORDER BY acc, day"
+
+abbrev pub later_query : Query
+later_query = asks_of 7 (greater 2 0 ∷ []) (col 1 1 ∷ col 1 2 ∷ []) ((col 1 1, rising) ∷ (col 1 2, rising) ∷ [])
+
+pub later_asks : AsksBy later_text 7 later_query
+unfolding understood everything
+later_asks = record { names = codes "acc" ∷ codes "day" ∷ []; means = refl; plain = (refl, refl); stored = refl; here = λ trees. refl }
+
+-- a number is greater than another
+greater_integers : (a b : ℤ) → is_true (binary (Compare Gt Binary) (Int a) (Int b)) ≡ int_lt b a
+unfolding binary
+greater_integers a b = truth_kept _ ∙ ap is_gt (value_cmp-Int a b) ∙ grind (arith, nat_tests)
+
+-- ORDER BY the accession and the day, as checks rise
+two_keys : (a b : ℕ) (d e : ℤ) → key_cmp 0 (rising ∷ rising ∷ []) (Int (pos a) ∷ Int d ∷ []) (Int (pos b) ∷ Int e ∷ []) ≡ ordering_then (int_cmp (pos a) (pos b)) (int_cmp d e)
+two_keys a b d e = ap₂ ordering_then (value_cmp-Int (pos a) (pos b)) (then-Equal _ ∙ value_cmp-Int d e)
+
+checks_rise : (a b : ℕ) (d e : ℤ) → is_lt (ordering_then (int_cmp (pos b) (pos a)) (int_cmp e d)) ≡ false → is_eq (ordering_then (nat_cmp a b) (int_cmp d e)) ≡ false
+    → ordering_then (nat_cmp a b) (int_cmp d e) ≡ Less
+checks_rise a b d e up apart = grind (arith, nat_tests)
+
+pub later_found : (day : ℤ) (table rows : List Row) → Spells check_spelling table → IsPicked later_query (Int day ∷ []) table rows
+    → rows ≡ map checkup_shown (entries (retain_keys (map_of check_spelling table) (is_after day)))
+later_found day table rows spells picks =
+    in_order check_spelling checkup_order later_query (Int day ∷ []) table rows spells picks (is_after day) checkup_shown (λ checkup. Int (pos checkup.acc) ∷ Int checkup.day ∷ [])
+    (λ row is. ap (λ s. is_true (binary (Compare Gt Binary) (column s 1) (Int day)) && true) is ∙ and_true _ ∙ greater_integers (entry_of check_spelling row).0.day day)
+    (λ row is. ap (λ s. (column s 0 ∷ column s 1 ∷ [], column s 0 ∷ column s 1 ∷ [])) is)
+    (λ a b at bt up apart. checks_rise a.acc b.acc a.day b.day (sym (ap is_lt (two_keys b.acc a.acc b.day a.day)) ∙ up) apart)
+
+-- rows show something exactly where there is something
+pub none_shown : {A : Type 0} (f : A → Row) (all : List A) (rows : List Row) → rows ≡ map f all → rows ≡ [] → all ≡ []
+none_shown f [] rows shown none = refl
+none_shown f (one ∷ more) rows shown none = absurd (let both : [] ≡ f one ∷ map f more = sym none ∙ shown in cc both)
+
+pub some_shown : {A : Type 0} (f : A → Row) (all : List A) (rows : List Row) → rows ≡ map f all → rows ≢ [] → all ≢ []
+some_shown f all rows shown some none = some (shown ∙ ap (map f) none)
+
+-- so whether there are rows tells whether there is something
+pub later_told : {A : Type 0} (f : A → Row) (all : List A) (rows : List Row) (count : ℕ) (none : Bool) → rows ≡ map f all → count ≡ length rows → none ≡ (count == 0)
+    → MatchBool (not none) (all ≢ []) (all ≡ [])
+later_told f all rows count true shown len is = none_shown f all rows shown (empty_by_length rows (sym len ∙ eqb-true count 0 (sym is)))
+later_told f all rows count false shown len is = some_shown f all rows shown (λ none.
+    let zero : count ≡ 0 = len ∙ ap length none in
+    let both : false ≡ true = is ∙ subst (λ n. (n == 0) ≡ true) (sym zero) refl in cc both)
