@@ -8,7 +8,9 @@ use Rattle.clap.specs.declared.error.kind.ErrorKind.TheVariants.{DisplayHelp, Ou
 use Rattle.clap.proofs.OnLiterals.{clap_on_literals}
 use Rattle.rd_commands.specs.Asks.{IsForMemory, IsHelp}
 use Rattle.rd_commands.specs.CommandLine.{IsDeskApp, IsTaken, NameList, desk_app}
+use Rattle.rd_commands.specs.Helps.{help_for}
 use Rattle.rd_commands.specs.Words.{AsksHelp}
+use Rattle.rd_commands.specs.declared.help.TheConstants.{DESK_HELP}
 use Rattle.rd_commands.specs.declared.words.Unread.TheVariants.{Clap}
 
 long_shows : (kinds others shown : NameList) (rest : List Text) → fault_of (desk_app kinds others shown) (codes "--help" ∷ rest) ≡ DisplayHelp ∷ []
@@ -63,3 +65,10 @@ pub help_unread : (app : App) (words : List Text) (error : Error) → IsDeskApp 
     → AsksHelp words → IsForMemory (Clap error) ⊎ IsHelp (Clap error)
 help_unread app words error desk has asks =
     one_kind (fault_of app words) error (shows_help app words desk asks) (has (ap is_simple_and_free desk.is ∙ free desk.cat_kinds desk.list_kinds desk.shown))
+
+-- it is the help of the program
+pub help_of_desk : (words : List Text) → AsksHelp words → help_for words ≡ DESK_HELP.now
+help_of_desk words asks = elim asks.1 [
+  | inl long ↦ ap help_for long
+  | inr short ↦ ap help_for short
+]

@@ -3,6 +3,7 @@ pub mod Texts
 pub mod CatLine
 pub mod ListLine
 pub mod HelpLine
+mod HelpNames
 pub mod VersionLine
 pub mod ShowWords
 pub mod GetterLemmas

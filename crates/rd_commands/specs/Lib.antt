@@ -17,3 +17,4 @@ pub mod Listed
 pub mod RefusalLines
 pub mod Sheets
 pub mod Versions
+pub mod Helps

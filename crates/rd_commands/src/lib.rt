@@ -7,6 +7,7 @@ pub mod cat;
 mod command_line;
 mod done;
 mod files;
+mod help;
 mod input;
 pub mod list;
 mod output;

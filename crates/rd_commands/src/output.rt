@@ -66,7 +66,7 @@ fn write_each<W: Write>(output: &mut W, pieces: Pieces<'_>) -> Result<(), Refusa
 }
 
 /// Flushes an output. It fails with `Device` when the flush fails.
-pub(crate) fn flush<W: Write>(output: &mut W) -> Result<(), Refusal>
+fn flush<W: Write>(output: &mut W) -> Result<(), Refusal>
     ensures bytes { Keeps (W.contents output.old) (W.contents output.new) }
     ensures device { IfErr result (λ refusal. refusal ≡ Refusal.Device) }
 {

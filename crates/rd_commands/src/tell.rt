@@ -1,6 +1,6 @@
 //! What goes to standard error: the line of a refusal, or what is wrong with the words.
 
-ghost use Rattle.std.specs.Prelude.{◌≡◌, ◌≢◌, ◌≤◌, ◌⊎◌, ◌++◌, ⊤, IfErr, IfOk, OnErr, OnOk, codes};
+ghost use Rattle.std.specs.Prelude.{◌≡◌, ◌≢◌, ◌≤◌, ◌⊎◌, ◌++◌, ⊤, IfErr, IfOk, OnErr, OnOk, codes, map};
 ghost use Rattle.std.specs.Io.KnownBytes.{Appends, Keeps};
 ghost use Rattle.std.specs.Process.{exit_status};
 ghost use Rattle.clap.specs.Values.{kind_of};
@@ -8,6 +8,7 @@ ghost use Rattle.clap.specs.declared.error.Error.{Error};
 ghost use Rattle.clap.specs.declared.error.kind.ErrorKind.TheVariants.{DisplayHelp, DisplayVersion, OutOfMemory};
 ghost use Rattle.rd_volume.specs.Words.{words_left};
 ghost use Rattle.rd_commands.specs.Asks.{IsForMemory, IsHelp, IsMistake, IsVersion};
+ghost use Rattle.rd_commands.specs.Helps.{RefusesHelp, help_for};
 ghost use Rattle.rd_commands.specs.Output.{AppendsPart};
 ghost use Rattle.rd_commands.specs.Printed.{blanked, refusal_line, words_after};
 ghost use Rattle.rd_commands.specs.Refusals.{status_of};
@@ -16,11 +17,11 @@ ghost use Rattle.rd_commands.specs.Versions.{RefusesVersion, version_line};
 ghost use Rattle.rd_commands.specs.declared.refusal.Refusal.TheVariants.{NoMemory};
 ghost use Rattle.rd_commands.specs.declared.words.Unread.TheVariants as Unread;
 
-use crate::output::{flush, write_bytes};
+use crate::help::tell_help;
+use crate::output::write_bytes;
 use crate::refusal::Refusal;
 use crate::version::tell_version;
 use crate::words::Unread;
-use clap::Error;
 use clap::error::ErrorKind;
 use rd_volume::{FaultWords, fault_words};
 use std::io::Write;
@@ -122,24 +123,18 @@ pub fn exit_code<E: Write>(ran: Result<u8, Refusal>, errors: &mut E) -> ExitCode
     ExitCode::from(status)
 }
 
-/// Writes the help that the words ask for.
-///
-/// It fails with `Device` when a write fails.
-fn tell_help<W: Write>(help: &Error, output: &mut W) -> Result<(), Refusal>
-    ensures { IfErr result (λ refused. refused ≡ Refusal.Device) }
-{
-    if write!(output, "{help}").is_err() {
-        return Err(Refusal::Device);
-    }
-    flush(output)
-}
-
-/// Writes help, the version, what is wrong with the words, or that memory ran out, and gives the status: 0 if the words
-/// ask for help or the version and it is written, 2 if the words are no command, otherwise 3.
-pub fn tell_unread<W: Write, E: Write>(unread: Unread, output: &mut W, errors: &mut E) -> u8
+/// Writes the help that the words ask for, the version, what is wrong with the words, or that memory ran out, and gives
+/// the status: 0 if the words ask for help or the version and it is written, 2 if the words are no command, otherwise 3.
+pub fn tell_unread<W: Write, E: Write>(
+    words: &[&str],
+    unread: Unread,
+    output: &mut W,
+    errors: &mut E,
+) -> u8
     ensures status { result ≤ 3 }
     ensures not_refused { result ≢ 1 }
-    ensures shown { result ≡ 0 → IsHelp unread
+    ensures shown { result ≡ 0 → (IsHelp unread
+        × Appends (W.contents output.old) (W.contents output.new) (help_for (map (λ word. word.now) words.now)))
         ⊎ (IsVersion unread × Appends (W.contents output.old) (W.contents output.new) version_line) }
     ensures silent { result ≡ 0 → Keeps (E.contents errors.old) (E.contents errors.new) }
     ensures usage { result ≡ 2 → Keeps (W.contents output.old) (W.contents output.new) }
@@ -157,7 +152,8 @@ pub fn tell_unread<W: Write, E: Write>(unread: Unread, output: &mut W, errors: &
     ensures written { result ≡ 3
         → Tells (λ _. ⊤) 3 (E.contents errors.old) (E.contents errors.new) }
     ensures help { IsHelp unread → result ≢ 0
-        → (result ≡ 3) × Tells (λ refusal. refusal ≡ Refusal.Device) 3 (E.contents errors.old) (E.contents errors.new) }
+        → (result ≡ 3) × Tells (RefusesHelp (help_for (map (λ word. word.now) words.now))
+        (W.contents output.old) (W.contents output.new)) 3 (E.contents errors.old) (E.contents errors.new) }
     ensures version { IsVersion unread → result ≢ 0
         → (result ≡ 3) × Tells (RefusesVersion (W.contents output.old) (W.contents output.new)) 3
         (E.contents errors.old) (E.contents errors.new) }
@@ -178,7 +174,7 @@ pub fn tell_unread<W: Write, E: Write>(unread: Unread, output: &mut W, errors: &
         }
         Unread::Clap(error) => {
             let written = match error.kind() {
-                ErrorKind::DisplayHelp => tell_help(&error, output),
+                ErrorKind::DisplayHelp => tell_help(words, output),
                 ErrorKind::DisplayVersion => tell_version(output),
                 ErrorKind::OutOfMemory => return tell_refusal(Refusal::NoMemory, errors),
                 _ => {

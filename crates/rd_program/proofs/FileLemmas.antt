@@ -1,17 +1,16 @@
 -- What is given of a file of the machine, by the words.
-use Rattle.std.proofs.Common.{◌≡◌, ◌≢◌, ◌⊎◌, ℕ, List, Err, Ok, OnOk, Option, Result, IfSome, codes, inl, inr, refl, subst, suc, sym, zero}
+use Rattle.std.proofs.Common.{◌≡◌, ◌≢◌, ℕ, List, Err, Ok, OnOk, Option, Result, IfSome, codes, inl, inr, subst, sym}
 use Rattle.std.specs.Prelude.{⊤}
 use Rattle.rd_geometry.specs.declared.kind.Kind.{Kind}
 use Rattle.rd_commands.specs.Asks.{IsFileAsk, IsFilesAsk}
 use Rattle.rd_commands.specs.Cat.{Refuses, Serves}
 use Rattle.rd_commands.specs.Commands.{IsAskOf}
+use Rattle.rd_commands.specs.Helps.{RefusesHelp}
 use Rattle.rd_commands.specs.Listed.{Lists, RefusesList}
 use Rattle.rd_commands.specs.declared.refusal.Refusal.{Refusal}
 use Rattle.rd_commands.specs.RefusalLines.{Tells}
-use Rattle.rd_commands.specs.Refusals.{IsDeviceOrMemory}
 use Rattle.rd_commands.specs.Words.{AsksOfKind}
 use Rattle.rd_commands.specs.declared.done.Done.{Done}
-use Rattle.rd_commands.specs.declared.refusal.Refusal.TheVariants.{Device}
 use Rattle.rd_commands.specs.declared.words.Ask.{Ask}
 use Rattle.rd_commands.specs.declared.words.Ask.TheVariants.{File, Files}
 use Rattle.rd_program.specs.DiskFiles.{GivesFile, IsOfImage}
@@ -65,18 +64,11 @@ module _ (files : List ℕ → Option (List ℕ)) (out written : Option (List �
       (gives (subst (λ p. p ≢ codes "-") (sym asks.image_is) other)).refused)
   files_refused ask kind path other asks gives = absurd asks
 
--- help is written, or the device failed
-pub help_told : (status : ℕ) (old new : Option (List ℕ)) → (status ≢ 0 → (status ≡ 3) × Tells (λ refusal. refusal ≡ Device) 3 old new)
-    → (status ≡ 0) ⊎ Tells IsDeviceOrMemory status old new
-help_told zero old new told = inl refl
-help_told (suc n) old new told =
-    let failed = told (λ same. cc same) in
-    inr (subst (λ s. Tells IsDeviceOrMemory s old new) (sym failed.0) (record {
-      refusal = failed.1.refusal;
-      why = subst IsDeviceOrMemory (sym failed.1.why) tt;
-      has_status = failed.1.has_status;
-      line = failed.1.line;
-    }))
+-- a help that is not written, under another name
+pub help_refused : (status : ℕ) (out written errors told : Option (List ℕ)) (help same : List ℕ) → help ≡ same
+    → (status ≡ 3) × Tells (RefusesHelp help out written) 3 errors told → Tells (RefusesHelp same out written) status errors told
+help_refused status out written errors told help same is due =
+    subst (λ text. Tells (RefusesHelp text out written) status errors told) is (subst (λ s. Tells (RefusesHelp help out written) s errors told) (sym due.0) due.1)
 
 -- a success of which nothing is said
 pub stands_nowhere : {T E : Type 0} (r : Result T E) → OnOk r ⊤

@@ -20,13 +20,14 @@ use Rattle.rd_commands.specs.Cat.{HasNoSoundFile, IsCut, Refuses, Serves}
 use Rattle.rd_commands.specs.CommandLine.{AsksForHelp, AsksForVersion, IsTaken, IsTakenTelling}
 use Rattle.rd_commands.specs.Commands.{AsksOfStore, IsCommand, NamesAPlace, NamesWhatItShows, TellsARule}
 use Rattle.rd_commands.specs.Input.{ReadsUpTo}
+use Rattle.rd_commands.specs.Helps.{RefusesHelp, help_for}
 use Rattle.rd_commands.specs.Listed.{Lists, RefusesList}
 use Rattle.rd_commands.specs.RefusalLines.{Tells}
-use Rattle.rd_commands.specs.Refusals.{IsDeviceOrMemory}
 use Rattle.rd_commands.specs.Serving.{Place}
 use Rattle.rd_commands.specs.Versions.{RefusesVersion, version_line}
 use Rattle.rd_commands.specs.Words.{AsksCat, AsksHelp, AsksList, AsksOfKind, AsksVersion}
 use Rattle.rd_commands.specs.declared.done.Done.TheVariants.{InPart, Whole}
+use Rattle.rd_commands.specs.declared.help.TheConstants.{DESK_HELP}
 use Rattle.rd_commands.specs.declared.refusal.Refusal.TheVariants.{BadSheet, NoMemory}
 use Rattle.rd_commands.specs.declared.serving.Timeouts.{Timeouts}
 use Rattle.rd_program.specs.Asked.{AsksAt, IsClockDue, NamesStore}
@@ -51,13 +52,15 @@ texts words = map (λ word. word.now) words
 abbrev pub EndsAsMistake : ℕ → Option (List ℕ) → Option (List ℕ) → Type 0
 EndsAsMistake result errors told = (result ≡ 2) ⊎ Tells (λ refusal. refusal ≡ NoMemory) result errors told
 
--- At 0 and 1 the words are a command. At 0 they may also ask for help, or for the version, and then exactly its line is
--- written. At 0 and 1, a command that has clocks has a rule as the text of `--zone`, or none; `show` names what it shows,
--- and a date where that needs one; and `serve` names a port or a Unix socket, and one of them alone. If they do not, the
--- words are a mistake, or memory ran out; and so it is with words that are no command, unless they ask for help or the
--- version. At 2 they are no plain form of `cat` or `list`, and no form of another command.
+-- At 0 and 1 the words are a command. At 0 they may also ask for help, or for the version, and then exactly the help that
+-- they ask for is written, or the line of the version. At 0 and 1, a command that has clocks has a rule as the text of
+-- `--zone`, or none; `show` names what it shows, and a date where that needs one; and `serve` names a port or a Unix
+-- socket, and one of them alone. If they do not, the words are a mistake, or memory ran out; and so it is with words that
+-- are no command, unless they ask for help or the version. At 2 they are no plain form of `cat` or `list`, and no form of
+-- another command.
 pub record EndsByWords (words : List (List ℕ)) (result : ℕ) (out written errors told : Option (List ℕ)) : Type 0 where
-  pub command : result ≡ 0 → IsTaken words ⊎ (AsksForHelp words ⊎ (AsksForVersion words × Appends out written version_line))
+  pub command : result ≡ 0 → IsTaken words ⊎ (
+      (AsksForHelp words × Appends out written (help_for words)) ⊎ (AsksForVersion words × Appends out written version_line))
   pub refused_command : result ≡ 1 → IsTaken words
   pub zone : result ≤ 1 → TellsARule words
   pub no_rule : ¬ TellsARule words → EndsAsMistake result errors told
@@ -105,10 +108,11 @@ pub record UsesOneStore {S : Type 0} (words : List (List ℕ)) (result : ℕ) (s
   pub unasked : (store : List ℕ) (moment : Option ℤ) (rule : List ℕ) → AsksAt words store moment rule
       → IfSome (moment_of moment clock) (λ seconds. ¬ HasDay seconds → Tells IsUnaskedRefusal result errors told)
 
--- Help, if the first word asks for it: at 0, unless the output fails or memory runs out. The version, if the first word
--- asks for it: at 0 exactly its line is written, and otherwise the errors say why not.
+-- Help, if the first word asks for it: at 0 exactly the help of the program is written, and otherwise the errors say why
+-- not. The version, if the first word asks for it: at 0 exactly its line is written, and otherwise the errors say why not.
 pub record TellsOfItself (words : List (List ℕ)) (result : ℕ) (out written errors told : Option (List ℕ)) : Type 0 where
-  pub help : AsksHelp words → (result ≡ 0) ⊎ Tells IsDeviceOrMemory result errors told
+  pub help : result ≡ 0 → AsksHelp words → Appends out written DESK_HELP.now
+  pub help_due : result ≢ 0 → AsksHelp words → Tells (RefusesHelp DESK_HELP.now out written) result errors told
   pub version : result ≡ 0 → AsksVersion words → Appends out written version_line
   pub version_due : result ≢ 0 → AsksVersion words → Tells (RefusesVersion out written) result errors told
 

@@ -205,6 +205,6 @@ pub fn run<R: Read, W: Write, E: Write, M: Machine>(
             Ok(done) => done.status(),
             Err(refused) => tell_refusal(refused, errors),
         },
-        Err(unread) => tell_unread(unread, output, errors),
+        Err(unread) => tell_unread(words, unread, output, errors),
     }
 }

@@ -11,18 +11,18 @@ use Rattle.rd_commands.specs.declared.words.Question.TheVariants.{Catalogue, Che
 use Rattle.httparse.specs.Grammar.{trim_ows}
 use Rattle.sha2.specs.Sha256.{sha256}
 use Rattle.rd_protocol.specs.declared.request.What.TheVariants as request
-use Rattle.rd_commands.specs.Refusals.{IsDeviceOrMemory}
 use Rattle.rd_program.specs.Leaves.{IsDayBy, moment_of}
 use Rattle.rd_program.specs.Showing.{EndsWith, FindsStore, found_by, what_of}
-use Rattle.rd_commands.proofs.HelpLine.{help_not_taken}
+use Rattle.rd_commands.proofs.HelpLine.{help_not_taken, help_of_desk}
 use Rattle.rd_program.specs.Rows.{IsBadSheetDue, TakesSheetIn}
 use Rattle.rd_program.proofs.RowLemmas.{import_at_1, imports_by, no_memory_sheet, sheet_of_words}
 use Rattle.rd_program.specs.Serving.{IsUnaskedRefusal}
 use Rattle.rd_program.proofs.DaylessMoments.{always, command_at, import_clock, once_clock, unasked_by}
 use Rattle.rd_program.proofs.VisitLemmas.{limits_by, serves_by}
-use Rattle.rd_program.proofs.FileLemmas.{files_done, files_refused, help_told, of_image, one_file_done, one_file_refused}
+use Rattle.rd_program.proofs.FileLemmas.{files_done, files_refused, help_refused, of_image, one_file_done, one_file_refused}
 use Rattle.rd_commands.proofs.GetterLemmas.{help_asked, no_fault_in}
 use Rattle.std.proofs.KnownBytes.{Keeps-refl}
+use Rattle.std.specs.Io.KnownBytes.{Appends}
 use Rattle.rd_program.proofs.AnswerLemmas.{check_asks, check_of_desk, export_is_whole, show_is_whole}
 use Rattle.rd_program.proofs.ImportLemmas.{done_lines, import_tells, in_part_is_one, not_in_rows, one_is_some, rows_of, rows_tell}
 use Rattle.rd_program.proofs.LeftStores.{none_still, still_left}
@@ -68,14 +68,14 @@ returns-in-Err-perform-clause-by_words g c = record {
 pub returns-in-Err-clause-by_words : goal.returns-in-Err-clause-by_words
 returns-in-Err-clause-by_words g c = record {
   command = λ zero. inr (elim (c.tell_unread.ensures.shown zero) [
-    | inl help ↦ inl (help_asked _ c.in-Err.unread help c.in-Err.ensures.mistake_in)
+    | inl help ↦ inl (help_asked _ c.in-Err.unread help.0 c.in-Err.ensures.mistake_in, help.1)
     | inr version ↦ inr (version_asked _ c.in-Err.unread version.0 c.in-Err.ensures.mistake_in, version.1)
   ]);
   refused_command = λ one. absurd (c.tell_unread.ensures.not_refused one);
   zone = λ well name rows enters clocks.
       let zero : c.tell_unread.result ≡ 0 = omega (arith, c.tell_unread.ensures.not_refused, well) in
       absurd (elim (c.tell_unread.ensures.shown zero) as (λ _. ⊥) [
-        | inl help ↦ no_fault_in _ name rows _ enters (help_asked _ c.in-Err.unread help c.in-Err.ensures.mistake_in)
+        | inl help ↦ no_fault_in _ name rows _ enters (help_asked _ c.in-Err.unread help.0 c.in-Err.ensures.mistake_in)
         | inr version ↦ no_fault_in _ name rows _ enters (version_asked _ c.in-Err.unread version.0 c.in-Err.ensures.mistake_in)
       ]);
   no_rule = λ none. elim (c.in-Err.ensures.no_rule none) [
@@ -85,7 +85,7 @@ returns-in-Err-clause-by_words g c = record {
   named = λ well rows enters.
       let zero : c.tell_unread.result ≡ 0 = omega (arith, c.tell_unread.ensures.not_refused, well) in
       absurd (elim (c.tell_unread.ensures.shown zero) as (λ _. ⊥) [
-        | inl help ↦ no_fault_in _ (codes "show") rows _ enters (help_asked _ c.in-Err.unread help c.in-Err.ensures.mistake_in)
+        | inl help ↦ no_fault_in _ (codes "show") rows _ enters (help_asked _ c.in-Err.unread help.0 c.in-Err.ensures.mistake_in)
         | inr version ↦ no_fault_in _ (codes "show") rows _ enters (version_asked _ c.in-Err.unread version.0 c.in-Err.ensures.mistake_in)
       ]);
   none_named = λ none. elim (c.in-Err.ensures.none_shown none) [
@@ -95,7 +95,7 @@ returns-in-Err-clause-by_words g c = record {
   place = λ well rows enters.
       let zero : c.tell_unread.result ≡ 0 = omega (arith, c.tell_unread.ensures.not_refused, well) in
       absurd (elim (c.tell_unread.ensures.shown zero) as (λ _. ⊥) [
-        | inl help ↦ no_fault_in _ (codes "serve") rows _ enters (help_asked _ c.in-Err.unread help c.in-Err.ensures.mistake_in)
+        | inl help ↦ no_fault_in _ (codes "serve") rows _ enters (help_asked _ c.in-Err.unread help.0 c.in-Err.ensures.mistake_in)
         | inr version ↦ no_fault_in _ (codes "serve") rows _ enters (version_asked _ c.in-Err.unread version.0 c.in-Err.ensures.mistake_in)
       ]);
   no_place = λ none. elim (c.in-Err.ensures.no_place none) [
@@ -252,28 +252,41 @@ returns-in-Err-clause-one_store g c = record {
 
 pub returns-in-Ok-perform-clause-itself : goal.returns-in-Ok-perform-clause-itself
 returns-in-Ok-perform-clause-itself g c = record {
-  help = λ asks. absurd (help_not_taken _ c.in-Ok.ensures.taken asks);
+  help = λ zero asks. absurd (help_not_taken _ c.in-Ok.ensures.taken asks);
+  help_due = λ some asks. absurd (help_not_taken _ c.in-Ok.ensures.taken asks);
   version = λ zero asks. absurd (version_not_taken _ c.in-Ok.ensures.taken asks);
   version_due = λ some asks. absurd (version_not_taken _ c.in-Ok.ensures.taken asks);
 }
 
 pub returns-in-Err-perform-clause-itself : goal.returns-in-Err-perform-clause-itself
 returns-in-Err-perform-clause-itself g c = record {
-  help = λ asks. absurd (help_not_taken _ c.in-Ok.ensures.taken asks);
+  help = λ zero asks. absurd (help_not_taken _ c.in-Ok.ensures.taken asks);
+  help_due = λ some asks. absurd (help_not_taken _ c.in-Ok.ensures.taken asks);
   version = λ zero asks. absurd (version_not_taken _ c.in-Ok.ensures.taken asks);
   version_due = λ some asks. absurd (version_not_taken _ c.in-Ok.ensures.taken asks);
 }
 
 pub returns-in-Err-clause-itself : goal.returns-in-Err-clause-itself
 returns-in-Err-clause-itself g c = record {
-  help = λ asks. elim (c.in-Err.ensures.help asks) [
-    | inl none ↦ inr (tells IsDeviceOrMemory NoMemory _ _ _ tt (c.tell_unread.ensures.memory none).0 (c.tell_unread.ensures.no_memory none))
-    | inr help ↦ help_told c.tell_unread.result (g.E.Write.contents c.args.errors.now) (g.E.Write.contents c.tell_unread.new.errors) (c.tell_unread.ensures.help help)
+  help = λ zero asks. elim (c.tell_unread.ensures.shown zero) [
+    | inl help ↦
+        subst (λ text. Appends (g.W.Write.contents c.args.output.now) (g.W.Write.contents c.tell_unread.new.output) text) (help_of_desk _ asks) help.1
+    | inr version ↦ elim (c.in-Err.ensures.help asks) [
+      | inl none ↦ let three : c.tell_unread.result ≡ 3 = (c.tell_unread.ensures.memory none).0 in absurd (omega arith)
+      | inr help ↦ absurd (version_no_help c.in-Err.unread version.0 help)
+    ]
+  ];
+  help_due = λ some asks. elim (c.in-Err.ensures.help asks) [
+    | inl none ↦ let memory = c.tell_unread.ensures.memory none in
+        tells _ NoMemory _ _ _ (memory.1, refl) memory.0 (c.tell_unread.ensures.no_memory none)
+    | inr help ↦ let told = c.tell_unread.ensures.help help some in
+        help_refused c.tell_unread.result (g.W.Write.contents c.args.output.now) (g.W.Write.contents c.tell_unread.new.output) (g.E.Write.contents c.args.errors.now)
+        (g.E.Write.contents c.tell_unread.new.errors) _ _ (help_of_desk _ asks) told
   ];
   version = λ zero asks. elim (c.tell_unread.ensures.shown zero) [
     | inl help ↦ elim (c.in-Err.ensures.version asks) [
       | inl none ↦ let three : c.tell_unread.result ≡ 3 = (c.tell_unread.ensures.memory none).0 in absurd (omega arith)
-      | inr shown ↦ absurd (version_no_help c.in-Err.unread shown help)
+      | inr shown ↦ absurd (version_no_help c.in-Err.unread shown help.0)
     ]
     | inr version ↦ version.1
   ];

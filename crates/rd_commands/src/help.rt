@@ -1,0 +1,278 @@
+//! The texts of help, and what words ask for them.
+//!
+//! They are those that `clap` makes of the command line; no contract of `clap` says which text it writes, so they stand
+//! here, and the program writes these.
+
+ghost use Rattle.std.specs.Prelude.{◌≡◌, IfErr, OnErr, OnOk, map};
+ghost use Rattle.std.specs.Io.KnownBytes.{Appends};
+ghost use Rattle.rd_commands.specs.Helps as spec;
+ghost use Rattle.rd_commands.specs.Helps.{help_for, help_named};
+ghost use Rattle.rd_commands.specs.Output.{AppendsPart};
+
+use crate::output::write_whole;
+use crate::refusal::Refusal;
+use std::io::Write;
+
+/// The help of the program.
+pub const DESK_HELP: &str = "Reads files from disk images, and serves those of a museum by its rules
+
+Usage: desk <COMMAND>
+
+Commands:
+  cat        Writes the bytes of a file of an image to standard output
+  list       Lists the files of an image: slot, user, type, size, faults and name
+  init       Makes a desk with one staff key in the file of a store
+  serve      Serves visits over HTTP on 127.0.0.1 or at a Unix socket, one after the other
+  import     Takes in the images that a sheet names, and tells what became of each row
+  export     Writes the catalogue: the files of all accessions that the caller may see
+  check      Tells whether the image of an accession is as it was given, and records it
+  show       Shows the staff what the desk holds: deeds, takedowns, keys, checks, or the verdicts of a day
+  staff-key  Puts a desk key as one of the staff, for whoever may write the store
+  help       Print this message or the help of the given subcommand(s)
+
+Options:
+  -h, --help     Print help
+  -V, --version  Print version
+
+Examples:
+  desk list cpm8 disk.img
+  desk cat cpm8 disk.img 0
+  desk list d64 disk.d64
+  desk init --store museum.sqlite --key 'a long phrase'
+  desk serve --store museum.sqlite --port 8041 --count 1000
+  desk import --store museum.sqlite --key 'a long phrase' --sheet images.csv
+  desk export --store museum.sqlite
+  desk check --store museum.sqlite --key 'a long phrase' --acc 12
+  desk show deeds --store museum.sqlite --key 'a long phrase'
+  desk staff-key --store museum.sqlite --key 'another long phrase'
+";
+
+/// The help of `cat`.
+pub const CAT_HELP: &str = "Writes the bytes of a file of an image to standard output
+
+Usage: desk cat <KIND> <IMAGE> <SLOT>
+
+Arguments:
+  <KIND>   The kind of disk image; a d64e is a d64 with error bytes behind it [possible values: cpm8, d64, d64e]
+  <IMAGE>  The path of the image, or - for standard input
+  <SLOT>   The slot of the file in the directory, 0 to 9999
+
+Options:
+  -h, --help  Print help
+
+Examples:
+  desk cat cpm8 disk.img 0
+  desk cat d64 disk.d64 0
+";
+
+/// The help of `list`.
+pub const LIST_HELP: &str = "Lists the files of an image: slot, user, type, size, faults and name
+
+Usage: desk list <KIND> <IMAGE>
+
+Arguments:
+  <KIND>   The kind of disk image; a d64e is a d64 with error bytes behind it [possible values: cpm8, d64, d64e]
+  <IMAGE>  The path of the image, or - for standard input
+
+Options:
+  -h, --help  Print help
+
+Examples:
+  desk list cpm8 disk.img
+  desk list d64 disk.d64
+";
+
+/// The help of `init`.
+pub const INIT_HELP: &str = "Makes a desk with one staff key in the file of a store
+
+Usage: desk init [OPTIONS] --store <FILE> --key <KEY>
+
+Options:
+      --store <FILE>  The file of the store
+      --key <KEY>     A desk key of the staff, without blanks and tabs at both ends
+      --sums          Puts a sum at the end of each page of the store, so that a bit that flips is seen
+  -h, --help          Print help
+
+Examples:
+  desk init --store museum.sqlite --key 'a long phrase'
+  desk init --sums --store museum.sqlite --key 'a long phrase'
+";
+
+/// The help of `serve`.
+pub const SERVE_HELP: &str =
+    "Serves visits over HTTP on 127.0.0.1 or at a Unix socket, one after the other
+
+Usage: desk serve [OPTIONS] --store <FILE> --count <COUNT>
+
+Options:
+      --store <FILE>               The file of the store
+      --port <PORT>                The port on 127.0.0.1, 1 to 65535; give this or --socket
+      --socket <PATH>              The path of a Unix socket, which desk makes; give this or --port
+      --count <COUNT>              How many visits are served, 0 to 4294967295
+      --zone <ZONE>                The rule of the desk's clocks as POSIX writes it, such as CET-1CEST,M3.5.0,M10.5.0/3; UTC0 where it is not given
+      --request-timeout <SECONDS>  The most seconds for sending a request, 1 to 3600; 10 where it is not given
+      --write-timeout <SECONDS>    The most seconds that a reply waits for room, 1 to 3600; 10 where it is not given
+      --reply-timeout <SECONDS>    The most seconds for taking a reply, 1 to 3600; 60 where it is not given
+  -h, --help                       Print help
+
+Example:
+  desk serve --store museum.sqlite --port 8041 --count 1000 --zone CET-1CEST,M3.5.0,M10.5.0/3
+";
+
+/// The help of `import`.
+pub const IMPORT_HELP: &str =
+    "Takes in the images that a sheet names, and tells what became of each row
+
+Usage: desk import [OPTIONS] --store <FILE> --key <KEY> --sheet <SHEET>
+
+Options:
+      --store <FILE>   The file of the store
+      --key <KEY>      A desk key of the staff, without blanks and tabs at both ends
+      --sheet <SHEET>  The file of the sheet: CSV with the header accession,kind,deed,sha256,file
+      --at <SECONDS>   The moment, in seconds since 1970-01-01 of UTC, that of the clock where it is not given
+      --zone <ZONE>    The rule of the desk's clocks as POSIX writes it, such as CET-1CEST,M3.5.0,M10.5.0/3; UTC0 where it is not given
+  -h, --help           Print help
+
+Example:
+  desk import --store museum.sqlite --key 'a long phrase' --sheet images.csv
+";
+
+/// The help of `export`.
+pub const EXPORT_HELP: &str =
+    "Writes the catalogue: the files of all accessions that the caller may see
+
+Usage: desk export [OPTIONS] --store <FILE>
+
+Options:
+      --store <FILE>  The file of the store
+      --key <KEY>     A desk key, without blanks and tabs at both ends; the public has none
+      --at <SECONDS>  The moment, in seconds since 1970-01-01 of UTC, that of the clock where it is not given
+      --zone <ZONE>   The rule of the desk's clocks as POSIX writes it, such as CET-1CEST,M3.5.0,M10.5.0/3; UTC0 where it is not given
+  -h, --help          Print help
+
+Example:
+  desk export --store museum.sqlite
+";
+
+/// The help of `check`.
+pub const CHECK_HELP: &str =
+    "Tells whether the image of an accession is as it was given, and records it
+
+Usage: desk check [OPTIONS] --store <FILE> --key <KEY> --acc <ACCESSION>
+
+Options:
+      --store <FILE>     The file of the store
+      --key <KEY>        A desk key of the staff, without blanks and tabs at both ends
+      --acc <ACCESSION>  The number of an accession, 1 to 999999
+      --at <SECONDS>     The moment, in seconds since 1970-01-01 of UTC, that of the clock where it is not given
+      --zone <ZONE>      The rule of the desk's clocks as POSIX writes it, such as CET-1CEST,M3.5.0,M10.5.0/3; UTC0 where it is not given
+  -h, --help             Print help
+
+Example:
+  desk check --store museum.sqlite --key 'a long phrase' --acc 12
+";
+
+/// The help of `show`.
+pub const SHOW_HELP: &str =
+    "Shows the staff what the desk holds: deeds, takedowns, keys, checks, or the verdicts of a day
+
+Usage: desk show [OPTIONS] --store <FILE> --key <KEY> <WHAT>
+
+Arguments:
+  <WHAT>  What to show: the verdicts as a CSV table, all else as JSON [possible values: deeds, takedowns, keys, checks, verdicts]
+
+Options:
+      --store <FILE>  The file of the store
+      --key <KEY>     A desk key of the staff, without blanks and tabs at both ends
+      --on <DATE>     The day of the verdicts, such as 2030-01-01; `verdicts` needs it, and nothing else takes it
+      --at <SECONDS>  The moment, in seconds since 1970-01-01 of UTC, that of the clock where it is not given
+      --zone <ZONE>   The rule of the desk's clocks as POSIX writes it, such as CET-1CEST,M3.5.0,M10.5.0/3; UTC0 where it is not given
+  -h, --help          Print help
+
+Examples:
+  desk show deeds --store museum.sqlite --key 'a long phrase'
+  desk show verdicts --on 2030-01-01 --store museum.sqlite --key 'a long phrase'
+";
+
+/// The help of `staff-key`.
+pub const STAFF_KEY_HELP: &str =
+    "Puts a desk key as one of the staff, for whoever may write the store
+
+Usage: desk staff-key --store <FILE> --key <KEY>
+
+Options:
+      --store <FILE>  The file of the store
+      --key <KEY>     A desk key of the staff, without blanks and tabs at both ends
+  -h, --help          Print help
+
+Example:
+  desk staff-key --store museum.sqlite --key 'another long phrase'
+";
+
+/// The help of `help`.
+pub const HELP_HELP: &str = "Print this message or the help of the given subcommand(s)
+
+Usage: desk help [COMMAND]...
+
+Arguments:
+  [COMMAND]...  Print help for the subcommand(s)
+";
+
+/// The help of the command of this name, and that of the program if there is none.
+fn help_of(name: &str) -> &'static str
+    ensures { result.now ≡ help_named name.now }
+{
+    match name {
+        "cat" => CAT_HELP,
+        "list" => LIST_HELP,
+        "init" => INIT_HELP,
+        "serve" => SERVE_HELP,
+        "import" => IMPORT_HELP,
+        "export" => EXPORT_HELP,
+        "check" => CHECK_HELP,
+        "show" => SHOW_HELP,
+        "staff-key" => STAFF_KEY_HELP,
+        "help" => HELP_HELP,
+        _ => DESK_HELP,
+    }
+}
+
+/// The help of the command that the first of these names, and that of the program if there is none.
+fn help_of_first(names: &[&str]) -> &'static str
+    ensures { result.now ≡ spec.help_of_first (map (λ name. name.now) names.now) }
+{
+    match names {
+        [name, ..] => help_of(name),
+        [] => DESK_HELP,
+    }
+}
+
+/// The help that words ask for, if they ask for help: that of the command whose name comes first, or after a first word
+/// `help`, and else that of the program.
+fn help_asked(words: &[&str]) -> &'static str
+    ensures { result.now ≡ help_for (map (λ word. word.now) words.now) }
+{
+    match words {
+        [word, names @ ..] => {
+            if *word == "help" {
+                help_of_first(names)
+            } else {
+                help_of(word)
+            }
+        }
+        [] => DESK_HELP,
+    }
+}
+
+/// Writes the help that words ask for, and flushes the output.
+///
+/// It fails with `Device` when a write or the flush fails: then a front part was written.
+pub(crate) fn tell_help<W: Write>(words: &[&str], output: &mut W) -> Result<(), Refusal>
+    ensures done { OnOk result (Appends (W.contents output.old) (W.contents output.new)
+        (help_for (map (λ word. word.now) words.now))) }
+    ensures cut { OnErr result (AppendsPart (W.contents output.old) (W.contents output.new)
+        (help_for (map (λ word. word.now) words.now))) }
+    ensures device { IfErr result (λ refused. refused ≡ Refusal.Device) }
+{
+    write_whole(output, help_asked(words).as_bytes())
+}
