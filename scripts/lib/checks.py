@@ -45,6 +45,7 @@ FAST = [
 
 # What needs neither, and takes longer, a browser or git.
 SLOW = [
+    check("help-agrees.py"),
     check("each-disk-is-checked.py"),
     check("desk-shows-its-work.py"),
     check("pages-over-a-stand-in.py", shares="a browser"),

@@ -1,0 +1,123 @@
+#!/usr/bin/env python3
+"""scripts/help-agrees.py [--write]: looks whether each text of help in rd_commands is the one that `clap` makes.
+
+`clap` makes the help of the program and of each command from the command line that command_line.rt describes; the
+program writes the texts in help.rt. This command runs `clap` on that command line, by `rt try` and in a folder of its
+own, and compares what it answers to `--help`, `-h`, `help`, and these after or before each command. The status is 0
+only if all agree. --write puts the texts of `clap` in the place of those in help.rt; then `rt fmt` lays that file out.
+
+You need Python 3.11, the command rt of the kit on the path, and a minute."""
+
+import pathlib
+import re
+import subprocess
+import sys
+import tempfile
+
+import lib
+from rattle import CRATES
+
+SOURCES = CRATES / "rd_commands" / "src"
+HELP = SOURCES / "help.rt"
+TEXT = re.compile(r'pub const (\w+)_HELP: &str =\s+"([^"]*)";')
+COMMAND = re.compile(r'Command::new\(alloc, "([\w-]+)"\)')
+USED = re.compile(r"use (?:crate|rd_\w+)(?:::\w+)*::(?:\{([^}]*)\}|([A-Z_]+));\n")
+CUT = "=== "
+
+MAIN = """#![tactic(auto)]
+
+mod command_line;
+
+use anyhow::Result;
+
+fn show(rt: &HostRuntime, words: &[&str]) -> Result<()> {
+    let desk = command_line::desk_command(rt.alloc())?;
+    if let Err(error) = desk.try_get_matches_from(words) {
+        print!(rt; "=== {error}")?;
+    }
+    Ok(())
+}
+
+fn main(rt: HostRuntime) -> Result<()> {
+    for line in rt.lines(rt.alloc()) {
+        let line = line?;
+        let mut words = Vec::new(rt.alloc());
+        for word in line.as_str().split(' ') {
+            words.push(word)?;
+        }
+        show(&rt, words.as_slice())?;
+    }
+    Ok(())
+}
+"""
+
+
+def line_source():
+    return (SOURCES / "command_line.rt").read_text(encoding="utf-8")
+
+
+def constant(name):
+    """The line that makes a constant, in whichever crate that is."""
+    made = re.compile(rf"^pub(?:\(crate\))? ((?:const|static) {name}: [^;]*(?:; \d+\])?[^;]*;)", re.MULTILINE)
+    for path in sorted(CRATES.glob("rd_*/src/*.rt")):
+        if found := made.search(path.read_text(encoding="utf-8")):
+            return found[1] + "\n"
+    sys.exit(f"help-agrees: no constant {name}")
+
+
+def without_clauses(text):
+    """A source without its clauses and what they use, and with the constants that it takes from others."""
+    kept, in_clause = [], False
+    for line in text.splitlines(keepends=True):
+        in_clause = line.startswith(("    ensures", "    requires")) or in_clause and line.startswith("        ")
+        if not in_clause and not line.startswith("ghost use "):
+            kept.append(line)
+    names = lambda use: [name.strip() for name in (use[1] or use[2]).split(",")]
+    return USED.sub(lambda use: "".join(map(constant, names(use))), "".join(kept))
+
+
+def answers(asked):
+    """What `clap` answers to each of these words."""
+    with tempfile.TemporaryDirectory() as folder:
+        crate = pathlib.Path(folder) / "crates" / "helps"
+        (crate / "src").mkdir(parents=True)
+        (pathlib.Path(folder) / "crates.txt").write_text("helps: anyhow clap\n")
+        (crate / "src" / "main.rt").write_text(MAIN)
+        (crate / "src" / "command_line.rt").write_text(without_clauses(line_source()), encoding="utf-8")
+        lines = "".join(f"{words}\n" for words in asked)
+        ran = subprocess.run(["rt", "try", "--seconds", "300"], cwd=crate, input=lines, capture_output=True, text=True)
+    if ran.returncode or ran.stdout.count(CUT) != len(asked):
+        sys.exit(f"help-agrees: clap was not run\n{ran.stdout}{ran.stderr}")
+    return ran.stdout.split(CUT)[1:]
+
+
+def asks(name):
+    """The words that ask for the help of this name."""
+    if name == "DESK":
+        return ["--help", "-h", "help"]
+    if name == "HELP":
+        return ["help help"]
+    command = name.lower().replace("_", "-")
+    return [f"{command} --help", f"{command} -h", f"help {command}"]
+
+
+def main():
+    source = HELP.read_text(encoding="utf-8")
+    asked = [(name, words) for name, _ in TEXT.findall(source) for words in asks(name)]
+    given = dict(zip([words for _, words in asked], answers([words for _, words in asked])))
+    if sys.argv[1:] == ["--write"]:
+        source = TEXT.sub(lambda text: f'pub const {text[1]}_HELP: &str = "{given[asks(text[1])[0]]}";', source)
+        HELP.write_text(source, encoding="utf-8")
+    texts = dict(TEXT.findall(source))
+    bare = [name for name in COMMAND.findall(line_source()) if name.upper().replace("-", "_") not in texts]
+    for name in bare:
+        print(f"{name}: help.rt has no text of this command")
+    others = [words for name, words in asked if given[words] != texts[name]]
+    for words in others:
+        print(f"{words}: help.rt has another text than clap makes")
+    print(f"{len(texts)} texts, {len(asked)} ways to ask for them: {len(others)} do not agree")
+    return 1 if others or bare else 0
+
+
+if __name__ == "__main__":
+    sys.exit(main())
