@@ -3,7 +3,7 @@
 ghost use Rattle.std.specs.Duration.{as_nanos};
 ghost use Rattle.std.specs.Io.{ReadsAtMost, WritesAtMost};
 ghost use Rattle.std.specs.Io.KnownBytes.{Appends, WriteAppends};
-ghost use Rattle.std.specs.Prelude.{◌≡◌, ◌↔◌, ◌≤◌, ◌*◌, ◌<◌, None, true, false, length, vec_len, IfOk, IfSome, IsErr, OnOk};
+ghost use Rattle.std.specs.Prelude.{◌≡◌, ◌↔◌, ◌≤◌, ◌*◌, ◌+◌, ◌<◌, ◌++◌, None, true, false, length, take, vec_len, IfOk, IfSome, IsErr, OnOk};
 ghost use Rattle.rd_messages.specs.Streams.{limits_of};
 
 use crate::pace::{Clock, Pace, TimeLimits, time_left};
@@ -34,10 +34,14 @@ const MOST_HELD: usize = 16_384;
 pub struct StreamWire<S, C> {
     stream: S,
     pace: Pace<C>,
-    held: Vec<u8>,
+    /// The room for what it holds back: `MOST_HELD` bytes, or none if there is no memory for them.
+    room: Vec<u8>,
+    /// How many bytes at the front of the room it holds back.
+    held: usize,
     read_failed: bool,
     write_failed: bool,
-    ghost within: { vec_len held ≤ 16384 },
+    ghost within: { held ≤ vec_len room },
+    ghost most: { vec_len room ≤ 16384 },
 }
 
 /// Reads once, while the time of the request lasts, and gives how many bytes came.
@@ -87,19 +91,33 @@ fn send<S: Stream, C: Clock>(stream: &mut S, pace: &mut Pace<C>, bytes: &[u8]) -
     Ok(())
 }
 
+/// The room for what a connection holds back, in a list that may have it already: `MOST_HELD` bytes, or none if there
+/// is no memory for them.
+fn room_in(mut room: Vec<u8>) -> Vec<u8>
+    ensures { vec_len result ≤ 16384 }
+{
+    match room.resize(MOST_HELD, 0) {
+        Ok(()) => room,
+        Err(_) => {
+            room.clear();
+            room
+        }
+    }
+}
+
 impl<S: Stream, C: Clock + Drop> StreamWire<S, C> {
     /// A connection over a stream on which nothing has failed yet. It holds bytes back in the list
-    /// `held`, which it empties first.
-    fn new(stream: S, pace: Pace<C>, mut held: Vec<u8>) -> StreamWire<S, C>
+    /// `room`.
+    fn new(stream: S, pace: Pace<C>, room: Vec<u8>) -> StreamWire<S, C>
         ensures take { result.read_failed ≡ false }
         ensures put { result.write_failed ≡ false }
-        ensures unsent { vec_len result.held ≡ 0 }
+        ensures unsent { result.held ≡ 0 }
     {
-        held.clear();
         StreamWire {
             stream,
             pace,
-            held,
+            room: room_in(room),
+            held: 0,
             read_failed: false,
             write_failed: false,
         }
@@ -111,7 +129,8 @@ impl<S: Stream, C: Clock + Drop> StreamWire<S, C> {
         ensures sent { result ≡ sent }
         ensures failed { IsErr sent ↔ (self.new.write_failed ≡ true) }
         ensures reads_unchanged { self.new.read_failed ≡ self.old.read_failed }
-        ensures held { vec_len self.new.held ≡ vec_len self.old.held }
+        ensures held { self.new.held ≡ self.old.held }
+        ensures room { vec_len self.new.room ≡ vec_len self.old.room }
     {
         if sent.is_err() {
             self.write_failed = true;
@@ -119,19 +138,90 @@ impl<S: Stream, C: Clock + Drop> StreamWire<S, C> {
         sent
     }
 
-    /// Sends what is held back, and then these bytes, and gives how many they are.
+    /// Sends what is held back.
+    ///
+    /// It fails with `Broken` when the time of the reply is over, and when a write fails or takes no byte.
+    #[cold]
+    #[inline(never)]
+    fn send_held(&mut self) -> Result<(), Broken>
+        requires { self.old.write_failed ≡ false }
+        ensures sent { self.new.held ≡ 0 }
+        ensures room { vec_len self.new.room ≡ vec_len self.old.room }
+        ensures failed { IsErr result ↔ (self.new.write_failed ≡ true) }
+        ensures reads_unchanged { self.new.read_failed ≡ self.old.read_failed }
+    {
+        let sent = send(&mut self.stream, &mut self.pace, &self.room[..self.held]);
+        self.held = 0;
+        self.tell(sent)
+    }
+
+    /// Makes room for a byte at least: where there is none, it sends what is held back.
+    ///
+    /// It fails with `Broken` when the time of the reply is over, and when a write fails or takes no byte.
+    fn make_room(&mut self) -> Result<(), Broken>
+        requires ready { self.old.write_failed ≡ false }
+        requires room { 0 < vec_len self.old.room }
+        ensures room { IfOk result (λ _. self.new.held < vec_len self.new.room) }
+        ensures failed { IsErr result ↔ (self.new.write_failed ≡ true) }
+        ensures reads_unchanged { self.new.read_failed ≡ self.old.read_failed }
+    {
+        if self.held < self.room.len() {
+            return Ok(());
+        }
+        self.send_held()
+    }
+
+    /// Sends these bytes, and gives how many they are. Nothing is held back.
     ///
     /// It fails with `Broken` when the time of the reply is over, and when a write fails or takes no byte.
     fn put_at_once(&mut self, bytes: &[u8]) -> Result<usize, Broken>
-        requires { self.old.write_failed ≡ false }
+        requires ready { self.old.write_failed ≡ false }
+        requires none { self.old.held ≡ 0 }
         ensures count { IfOk result (λ count. count ≡ length bytes.now) }
         ensures failed { IsErr result ↔ (self.new.write_failed ≡ true) }
         ensures reads_unchanged { self.new.read_failed ≡ self.old.read_failed }
     {
-        self.flush()?;
         let sent = send(&mut self.stream, &mut self.pace, bytes);
         self.tell(sent)?;
         Ok(bytes.len())
+    }
+
+    /// Holds bytes back, for which there is room.
+    #[inline]
+    fn hold(&mut self, bytes: &[u8])
+        requires { self.old.held + length bytes.now ≤ vec_len self.old.room }
+        ensures held { take self.new.held self.new.room.items ≡ take self.old.held self.old.room.items ++ bytes.now }
+        ensures count { self.new.held ≡ self.old.held + length bytes.now }
+        ensures unchanged { self.new.write_failed ≡ self.old.write_failed }
+        ensures reads_unchanged { self.new.read_failed ≡ self.old.read_failed }
+    {
+        let start = self.held;
+        let end = start + bytes.len();
+        self.room[start..end].copy_from_slice(bytes);
+        self.held = end;
+    }
+
+    /// Holds back as many bytes from the front of a slice as there is room for, and gives how many. Where there is no
+    /// room, it sends what it holds back before. Without memory for any room, it sends at once what it would hold back.
+    ///
+    /// It fails with `Broken` when the time of the reply is over, and when a write fails or takes no byte.
+    #[cold]
+    #[inline(never)]
+    fn put_front(&mut self, bytes: &[u8]) -> Result<usize, Broken>
+        requires ready { self.old.write_failed ≡ false }
+        requires some { 0 < length bytes.now }
+        ensures bound { WritesAtMost result bytes.now }
+        ensures some { IfOk result (λ count. 0 < count) }
+        ensures failed { IsErr result ↔ (self.new.write_failed ≡ true) }
+        ensures reads_unchanged { self.new.read_failed ≡ self.old.read_failed }
+    {
+        if self.room.is_empty() {
+            return self.put_at_once(&bytes[..bytes.len().min(MOST_HELD)]);
+        }
+        self.make_room()?;
+        let count = bytes.len().min(self.room.len() - self.held);
+        self.hold(&bytes[..count]);
+        Ok(count)
     }
 }
 
@@ -146,7 +236,7 @@ impl<S: Stream, C: Clock + Drop> Wire for StreamWire<S, C> {
 
     ghost write_failed = { λ wire. wire.write_failed };
 
-    ghost unsent = { λ wire. vec_len wire.held };
+    ghost unsent = { λ wire. wire.held };
 
     fn take(&mut self, into: &mut [u8]) -> Result<usize, Broken> {
         match read_in_time(&mut self.stream, &mut self.pace, into) {
@@ -158,21 +248,17 @@ impl<S: Stream, C: Clock + Drop> Wire for StreamWire<S, C> {
         }
     }
 
+    #[inline]
     fn put(&mut self, bytes: &[u8]) -> Result<usize, Broken> {
-        if self.held.len() >= MOST_HELD {
-            self.flush()?;
+        if bytes.len() <= self.room.len() - self.held {
+            self.hold(bytes);
+            return Ok(bytes.len());
         }
-        let count = bytes.len().min(MOST_HELD - self.held.len());
-        match self.held.extend_from_slice(&bytes[..count]) {
-            Ok(()) => Ok(count),
-            Err(_) => self.put_at_once(&bytes[..count]),
-        }
+        self.put_front(bytes)
     }
 
     fn flush(&mut self) -> Result<(), Broken> {
-        let sent = send(&mut self.stream, &mut self.pace, self.held.as_slice());
-        self.held.clear();
-        self.tell(sent)
+        self.send_held()
     }
 }
 
@@ -304,9 +390,9 @@ impl<L: Listener, C: Clock + Copy + Drop> Door for StreamDoor<L, C> {
         }
         match next_visitor(&self.listener, &mut self.clock) {
             Some((moment, millisecond, stream)) => {
-                let held = mem::replace(&mut self.spare, Vec::new(self.alloc));
+                let room = mem::replace(&mut self.spare, Vec::new(self.alloc));
                 let pace = Pace::new(self.clock, self.limits, millisecond);
-                Ok((moment, StreamWire::new(stream, pace, held)))
+                Ok((moment, StreamWire::new(stream, pace, room)))
             }
             None => {
                 self.has_shut = true;
@@ -318,10 +404,10 @@ impl<L: Listener, C: Clock + Copy + Drop> Door for StreamDoor<L, C> {
     fn leave(&mut self, conn: StreamWire<L::Stream, C>) {
         let StreamWire {
             mut stream,
-            held,
+            room,
             ..
         } = conn;
-        self.spare = held;
+        self.spare = room;
         if stream.end_writes().is_ok() {
             linger(&mut stream, &mut self.leftover, &mut self.clock);
         }

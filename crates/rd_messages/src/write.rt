@@ -11,6 +11,7 @@ use rd_protocol::{Body, Reply};
 /// Writes bytes.
 ///
 /// It fails with `Broken` when a write fails: then a front part went out, and not all of them.
+#[inline]
 pub(crate) fn put_all<W: Wire>(wire: &mut W, bytes: &[u8]) -> Result<(), Broken>
     requires { W.write_failed wire.old ≡ false }
     ensures sends { Sends (W.outgoing wire.old) (W.outgoing wire.new) result bytes.now }
