@@ -24,9 +24,9 @@ use Rattle.rd_policy.specs.declared.zone.Zone.{Zone}
 use Rattle.rd_policy.specs.declared.zone.ZoneFault.{ZoneFault}
 use Rattle.rd_geometry.specs.Kinds.{word_of}
 use Rattle.clap.specs.declared.error.kind.ErrorKind.{ErrorKind}
-use Rattle.rd_commands.specs.Asks.{EntersAs, EntersByRule, EntersCat, EntersCheck, EntersExport, EntersImport, EntersInit, EntersList, EntersNaming, EntersNamingNone, EntersNoPlace, EntersServe, EntersShow, EntersStaffKey, EntersSumming, EntersTelling, EntersTimed, HasTimeouts, IsMistake, IsWithinLimits, IsFaultOf, IsForMemory, IsFileAsk, IsFilesAsk, IsHelp, IsImportAsk, IsInitAsk, IsMomentNamed, IsOneQuestionAsk, IsServeAsk, IsStaffKeyAsk, TellsOnOutput, has_sums}
+use Rattle.rd_commands.specs.Asks.{EntersAs, EntersByRule, EntersCat, EntersCheck, EntersExport, EntersImport, EntersInit, EntersList, EntersNaming, EntersNamingNone, EntersNoPlace, EntersServe, EntersShow, EntersStaffKey, EntersSumming, EntersTelling, EntersTimed, HasTimeouts, EntersTrusting, IsMistake, IsWithinLimits, IsFaultOf, IsForMemory, IsFileAsk, IsFilesAsk, IsHelp, IsImportAsk, IsInitAsk, IsMomentNamed, IsOneQuestionAsk, IsServeAsk, IsStaffKeyAsk, TellsOnOutput, has_sums, is_trusting}
 use Rattle.rd_commands.specs.CommandLine.{AsksForHelp, Enters, HasFault, IsDeskApp, IsTaken, IsTakenAs, IsTakenTelling, NameList, desk_app}
-use Rattle.rd_commands.specs.Commands.{AsksCheck, AsksExport, AsksImport, AsksInit, AsksServe, AsksShow, AsksStaffKey, IsAskOf, IsCommand, IsTakenServingNowhere, IsTakenShowingNothing, NamesWhatItShows, Sums, TellsARule}
+use Rattle.rd_commands.specs.Commands.{AsksCheck, AsksExport, AsksImport, AsksInit, AsksServe, AsksShow, AsksStaffKey, IsAskOf, IsCommand, IsTakenServingNowhere, IsTakenShowingNothing, NamesWhatItShows, Sums, TellsARule, Trusts}
 use Rattle.rd_commands.specs.Serving.{Place}
 use Rattle.rd_commands.specs.Words.{AsksCat, AsksList, IsSlotText}
 use Rattle.rd_commands.specs.Zones.{HasClocks, IsFlagTold, rule_text}
@@ -326,6 +326,14 @@ pub rule_read : (words : List Text) (entered : Option (Text × List Row)) (o : O
     → OnSome o (EntersByRule entered) → (EntersByRule entered → TellsARule words) → OnOk r (TellsARule words)
 rule_read words entered (Some ask) fault r is found tells = subst (λ x. OnOk x (TellsARule words)) (sym is) (tells found)
 rule_read words entered None fault r is found tells = subst (λ x. OnOk x (TellsARule words)) (sym is) tt
+
+-- the clock is trusted as the words tell, where what was found in them does
+pub trust_read : (app : App) (words : List Text) (m : ArgMatches) (o : Option Ask) (fault : Unread) (r : Result Ask Unread) (trusted : Bool) → IsDeskApp app → HasMatchesOf app words m
+    → r ≡ ok_or o fault → ((t : Bool) → EntersTrusting (subcommand_rows_of m) t → IfSome o (λ ask. is_trusting ask ≡ t)) → Trusts words trusted → IfOk r (λ ask. is_trusting ask ≡ trusted)
+trust_read app words m (Some ask) fault r trusted desk matches is found told =
+    subst (λ x. IfOk x (λ ask. is_trusting ask ≡ trusted)) (sym is)
+    (found trusted (told.0, told.1, sym (entered_is app words m desk matches) ∙ told.2.into app desk, told.3, told.4))
+trust_read app words m None fault r trusted desk matches is found told = subst (λ x. IfOk x (λ ask. is_trusting ask ≡ trusted)) (sym is) tt
 
 -- the pages end in sums as the words tell, where what was found in them does
 pub sums_read : (app : App) (words : List Text) (m : ArgMatches) (o : Option Ask) (fault : Unread) (r : Result Ask Unread) (summed : Bool) → IsDeskApp app → HasMatchesOf app words m

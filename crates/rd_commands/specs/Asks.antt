@@ -30,7 +30,7 @@ use Rattle.rd_commands.specs.CommandLine.{HasFault}
 use Rattle.rd_commands.specs.Serving.{GivesTimeouts, NamesOnePlace, NamesPlace, Place, place_of}
 use Rattle.rd_commands.specs.Shown.{IsShowable, NamesAny, NamesShown}
 use Rattle.rd_commands.specs.Words.{IsSlotText}
-use Rattle.rd_commands.specs.Zones.{HasClocks, HasZoneRule, IsFlagTold, IsRuleNamed}
+use Rattle.rd_commands.specs.Zones.{HasClocks, HasZoneRule, IsFlagTold, IsRuleNamed, TellsTrust}
 
 -- it asks for the file at the slot of the image of the kind
 pub record AsksFile (ask : FileAsk) (kind : Kind) (image : List ℕ) (slot : ℕ) : Type 0 where
@@ -173,6 +173,13 @@ IsWithinLimits _ = ⊤
 abbrev pub has_sums : Ask → Bool
 has_sums (Init ask) = ask.has_sums
 has_sums ask = false
+
+-- the command trusts the clock
+abbrev pub is_trusting : Ask → Bool
+is_trusting (Serve ask) = ask.is_trusting
+is_trusting (Import ask) = ask.when.is_trusting
+is_trusting (OneQuestion ask) = ask.when.is_trusting
+is_trusting ask = false
 
 -- how many bytes of the input the command reads at most: one more than an image of the kind has,
 -- or none if it reads no image
@@ -322,6 +329,10 @@ EntersAs name entered = (rows : List Row) × (entered ≡ Some (name, rows))
 -- if the parse went into a command that has clocks, it found a rule for them
 abbrev pub EntersByRule : Option (Text × List Row) → Type 0
 EntersByRule entered = (name : List ℕ) (rows : List Row) → entered ≡ Some (name, rows) → HasClocks name → HasZoneRule rows
+
+-- the parse went into a command that has clocks, which tells whether these are trusted
+abbrev pub EntersTrusting : Option (Text × List Row) → Bool → Type 0
+EntersTrusting entered trusted = (name : List ℕ) × (rows : List Row) × (entered ≡ Some (name, rows)) × HasClocks name × TellsTrust rows trusted
 
 -- the options that `clap` found for `export`: of the key, the moment and the zone those that are there
 pub record AreExportRows (rows : List Row) (store : List ℕ) (key : Option (List ℕ)) (moment : Option ℤ) (rule : List ℕ) : Type 0 where

@@ -77,6 +77,10 @@ count_rule = record (required_option (codes "count")) { parser = Some (Signed (p
 abbrev pub zone_rule : Rule
 zone_rule = record (new_rule (codes "zone")) { long = Some (codes "zone"); value_names = 1 }
 
+-- the flag that says that the clock is trusted
+abbrev pub trust_rule : Rule
+trust_rule = record (new_rule (codes "trust-clock")) { long = Some (codes "trust-clock"); action = Some SetTrue }
+
 -- the flag that says that the pages of a new store end in sums
 abbrev pub sums_rule : Rule
 sums_rule = record (new_rule (codes "sums")) { long = Some (codes "sums"); action = Some SetTrue }
@@ -108,8 +112,8 @@ init_app = with_rule (with_rule (with_rule (new_app (codes "init")) store_rule) 
 -- the command `serve`, without the options for how long a visitor may take
 abbrev pub untimed_app : App
 untimed_app =
-    with_rule (with_rule (with_rule (with_rule (with_rule (new_app (codes "serve")) store_rule) port_rule) socket_rule) count_rule)
-    zone_rule
+    with_rule (with_rule (with_rule (with_rule (with_rule (with_rule (new_app (codes "serve")) store_rule) port_rule)
+    socket_rule) count_rule) zone_rule) trust_rule
 
 -- the command `serve`
 abbrev pub serve_app : App
@@ -120,20 +124,20 @@ serve_app =
 -- the command `import`
 abbrev pub import_app : App
 import_app =
-    with_rule (with_rule (with_rule (with_rule (with_rule (new_app (codes "import")) store_rule) key_rule) sheet_rule)
-    moment_rule) zone_rule
+    with_rule (with_rule (with_rule (with_rule (with_rule (with_rule (new_app (codes "import")) store_rule) key_rule)
+    sheet_rule) moment_rule) zone_rule) trust_rule
 
 -- the command `export`
 abbrev pub export_app : App
 export_app =
-    with_rule (with_rule (with_rule (with_rule (new_app (codes "export")) store_rule) optional_key_rule) moment_rule)
-    zone_rule
+    with_rule (with_rule (with_rule (with_rule (with_rule (new_app (codes "export")) store_rule) optional_key_rule)
+    moment_rule) zone_rule) trust_rule
 
 -- the command `check`
 abbrev pub check_app : App
 check_app =
-    with_rule (with_rule (with_rule (with_rule (with_rule (new_app (codes "check")) store_rule) key_rule) accession_rule)
-    moment_rule) zone_rule
+    with_rule (with_rule (with_rule (with_rule (with_rule (with_rule (new_app (codes "check")) store_rule) key_rule)
+    accession_rule) moment_rule) zone_rule) trust_rule
 
 -- the words for what `show` shows
 abbrev pub what_words : List Text
@@ -150,8 +154,8 @@ day_rule = record (new_rule (codes "on")) { long = Some (codes "on"); value_name
 -- the command `show`
 abbrev pub show_app : NameList → App
 show_app names =
-    with_rule (with_rule (with_rule (with_rule (with_rule (with_rule (new_app (codes "show")) (what_rule names)) store_rule)
-    key_rule) day_rule) moment_rule) zone_rule
+    with_rule (with_rule (with_rule (with_rule (with_rule (with_rule (with_rule (new_app (codes "show")) (what_rule names))
+    store_rule) key_rule) day_rule) moment_rule) zone_rule) trust_rule
 
 -- the command `staff-key`
 abbrev pub staff_key_app : App

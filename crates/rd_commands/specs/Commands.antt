@@ -10,7 +10,7 @@ use Rattle.rd_commands.specs.CommandLine.{Enters, IsTakenAs}
 use Rattle.rd_commands.specs.Serving.{NamesOnePlace, Place}
 use Rattle.rd_commands.specs.Shown.{NamesAny, NamesShown}
 use Rattle.rd_commands.specs.Words.{AsksCat, AsksList}
-use Rattle.rd_commands.specs.Zones.{HasClocks, HasZoneRule, IsFlagTold}
+use Rattle.rd_commands.specs.Zones.{HasClocks, HasZoneRule, IsFlagTold, TellsTrust}
 
 -- The words ask for a desk in the file of a store, with a key: they are those of `init`, as `clap` takes them.
 pub record AsksInit (words : List Text) (store key : List ℕ) : Type 0 where
@@ -116,6 +116,10 @@ IsTakenShowingNothing words = (taken : IsTakenAs (codes "show") words) × ¬ Nam
 -- it takes them as `serve`, and they name no place, or two
 abbrev pub IsTakenServingNowhere : List Text → Type 0
 IsTakenServingNowhere words = (taken : IsTakenAs (codes "serve") words) × ¬ NamesOnePlace taken.rows
+
+-- `clap` takes the words as a command that has clocks, and they tell whether these are trusted
+abbrev pub Trusts : List Text → Bool → Type 0
+Trusts words trusted = (name : List ℕ) × (rows : List Row) × Enters words name rows × HasClocks name × TellsTrust rows trusted
 
 -- `clap` takes the words as `init`, and they tell whether the pages of the new store end in sums
 abbrev pub Sums : List Text → Bool → Type 0

@@ -1,6 +1,6 @@
 -- The zone of a desk's clocks, as the words of a command give it.
 use Rattle.std.specs.Prelude.{◌≡◌, ◌⊎◌, ℕ, Bool, List, None, Option, Some, codes, false, true}
-use Rattle.clap.specs.Words.{Row, first_of}
+use Rattle.clap.specs.Words.{Row, first_of, one_of}
 use Rattle.rd_policy.specs.Zones.{IsZoneRule}
 
 -- the rule that a text gives; without a text the clocks are those of UTC
@@ -26,3 +26,7 @@ abbrev pub IsFlagTold : Option (List ℕ) → Bool → Type 0
 IsFlagTold (Some text) true = text ≡ codes "true"
 IsFlagTold (Some text) false = text ≡ codes "false"
 IsFlagTold None flag = flag ≡ false
+
+-- what `clap` found for a command tells whether the clock is trusted
+abbrev pub TellsTrust : List Row → Bool → Type 0
+TellsTrust rows trusted = IsFlagTold (one_of (codes "trust-clock") rows) trusted

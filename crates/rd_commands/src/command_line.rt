@@ -1,7 +1,7 @@
 ghost use Rattle.std.specs.Prelude.{◌≡◌, IfOk, codes, false};
 ghost use Rattle.clap.specs.Words.{app_of, rule_of};
 ghost use Rattle.clap.specs.declared.builder.command.Command.TheViews.{out-Command as fields_of};
-ghost use Rattle.rd_commands.specs.CommandLine.{IsCatApp, IsDeskApp, IsKindRule, IsListApp, IsShowApp, IsWhatRule, accession_rule, bare_app, check_app, count_rule, day_rule, export_app, image_rule, import_app, init_app, key_rule, moment_rule, optional_key_rule, port_rule, serve_app, sheet_rule, slot_rule, socket_rule, staff_key_app, store_rule, sums_rule, timeout_rule, untimed_app, zone_rule};
+ghost use Rattle.rd_commands.specs.CommandLine.{IsCatApp, IsDeskApp, IsKindRule, IsListApp, IsShowApp, IsWhatRule, accession_rule, bare_app, check_app, count_rule, day_rule, export_app, image_rule, import_app, init_app, key_rule, moment_rule, optional_key_rule, port_rule, serve_app, sheet_rule, slot_rule, socket_rule, staff_key_app, store_rule, sums_rule, timeout_rule, trust_rule, untimed_app, zone_rule};
 
 use crate::version::VERSION;
 use clap::{Arg, ArgAction, Command, value_parser};
@@ -142,6 +142,17 @@ fn zone_option<'a>(alloc: Global) -> Arg<'a>
     )
 }
 
+/// The flag that says that the clock is trusted.
+fn trust_option<'a>(alloc: Global) -> Arg<'a>
+    ensures rule { rule_of result ≡ trust_rule }
+    ensures local { result.global ≡ false }
+{
+    Arg::new(alloc, "trust-clock")
+        .long("trust-clock")
+        .action(ArgAction::SetTrue)
+        .help("Goes by the clock even if it shows a day long before that of a recorded check")
+}
+
 /// The flag that says that the pages of a new store end in sums.
 fn sums_option<'a>(alloc: Global) -> Arg<'a>
     ensures rule { rule_of result ≡ sums_rule }
@@ -205,7 +216,8 @@ fn untimed_command<'a>(alloc: Global) -> Result<Command<'a>, AllocError>
         .arg(port_option(alloc))?
         .arg(socket_option(alloc))?
         .arg(count_option(alloc))?
-        .arg(zone_option(alloc))
+        .arg(zone_option(alloc))?
+        .arg(trust_option(alloc))
 }
 
 fn request_option<'a>(alloc: Global) -> Arg<'a>
@@ -264,7 +276,8 @@ fn import_command<'a>(alloc: Global) -> Result<Command<'a>, AllocError>
         .arg(key_option(alloc))?
         .arg(sheet_option(alloc))?
         .arg(moment_option(alloc))?
-        .arg(zone_option(alloc))
+        .arg(zone_option(alloc))?
+        .arg(trust_option(alloc))
 }
 
 /// The option for a desk key that may be absent.
@@ -299,7 +312,8 @@ fn export_command<'a>(alloc: Global) -> Result<Command<'a>, AllocError>
         .arg(store_option(alloc))?
         .arg(optional_key_option(alloc))?
         .arg(moment_option(alloc))?
-        .arg(zone_option(alloc))
+        .arg(zone_option(alloc))?
+        .arg(trust_option(alloc))
 }
 
 fn check_command<'a>(alloc: Global) -> Result<Command<'a>, AllocError>
@@ -313,7 +327,8 @@ fn check_command<'a>(alloc: Global) -> Result<Command<'a>, AllocError>
         .arg(key_option(alloc))?
         .arg(accession_option(alloc))?
         .arg(moment_option(alloc))?
-        .arg(zone_option(alloc))
+        .arg(zone_option(alloc))?
+        .arg(trust_option(alloc))
 }
 
 /// The operand for what to show.
@@ -353,7 +368,8 @@ fn show_command<'a>(alloc: Global) -> Result<Command<'a>, AllocError>
         .arg(key_option(alloc))?
         .arg(day_option(alloc))?
         .arg(moment_option(alloc))?
-        .arg(zone_option(alloc))
+        .arg(zone_option(alloc))?
+        .arg(trust_option(alloc))
 }
 
 fn staff_key_command<'a>(alloc: Global) -> Result<Command<'a>, AllocError>

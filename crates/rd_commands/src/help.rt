@@ -110,6 +110,7 @@ Options:
       --socket <PATH>              The path of a Unix socket, which desk makes; give this or --port
       --count <COUNT>              How many visits are served, 0 to 4294967295
       --zone <ZONE>                The rule of the desk's clocks as POSIX writes it, such as CET-1CEST,M3.5.0,M10.5.0/3; UTC0 where it is not given
+      --trust-clock                Goes by the clock even if it shows a day long before that of a recorded check
       --request-timeout <SECONDS>  The most seconds for sending a request, 1 to 3600; 10 where it is not given
       --write-timeout <SECONDS>    The most seconds that a reply waits for room, 1 to 3600; 10 where it is not given
       --reply-timeout <SECONDS>    The most seconds for taking a reply, 1 to 3600; 60 where it is not given
@@ -131,6 +132,7 @@ Options:
       --sheet <SHEET>  The file of the sheet: CSV with the header accession,kind,deed,sha256,file
       --at <SECONDS>   The moment, in seconds since 1970-01-01 of UTC, that of the clock where it is not given
       --zone <ZONE>    The rule of the desk's clocks as POSIX writes it, such as CET-1CEST,M3.5.0,M10.5.0/3; UTC0 where it is not given
+      --trust-clock    Goes by the clock even if it shows a day long before that of a recorded check
   -h, --help           Print help
 
 Example:
@@ -148,6 +150,7 @@ Options:
       --key <KEY>     A desk key, without blanks and tabs at both ends; the public has none
       --at <SECONDS>  The moment, in seconds since 1970-01-01 of UTC, that of the clock where it is not given
       --zone <ZONE>   The rule of the desk's clocks as POSIX writes it, such as CET-1CEST,M3.5.0,M10.5.0/3; UTC0 where it is not given
+      --trust-clock   Goes by the clock even if it shows a day long before that of a recorded check
   -h, --help          Print help
 
 Example:
@@ -166,6 +169,7 @@ Options:
       --acc <ACCESSION>  The number of an accession, 1 to 999999
       --at <SECONDS>     The moment, in seconds since 1970-01-01 of UTC, that of the clock where it is not given
       --zone <ZONE>      The rule of the desk's clocks as POSIX writes it, such as CET-1CEST,M3.5.0,M10.5.0/3; UTC0 where it is not given
+      --trust-clock      Goes by the clock even if it shows a day long before that of a recorded check
   -h, --help             Print help
 
 Example:
@@ -187,6 +191,7 @@ Options:
       --on <DATE>     The day of the verdicts, such as 2030-01-01; `verdicts` needs it, and nothing else takes it
       --at <SECONDS>  The moment, in seconds since 1970-01-01 of UTC, that of the clock where it is not given
       --zone <ZONE>   The rule of the desk's clocks as POSIX writes it, such as CET-1CEST,M3.5.0,M10.5.0/3; UTC0 where it is not given
+      --trust-clock   Goes by the clock even if it shows a day long before that of a recorded check
   -h, --help          Print help
 
 Examples:

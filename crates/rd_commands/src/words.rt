@@ -11,15 +11,15 @@ ghost use Rattle.rd_policy.specs.Zones.{IsZoneOf};
 ghost use Rattle.rd_commands.specs.Asks.{AreCatRows, AreCheckRows, AreExportRows, AreImportRows, AreInitRows, AreListRows, AreServeRows, AreShowRows, AreStaffKeyRows, IsMomentNamed};
 ghost use Rattle.rd_commands.specs.Asks.{AsksFile, AsksFiles, AsksImages, AsksNew, AsksOneQuestion, AsksStaff, AsksVisits, AsksWhen, IsAskable};
 ghost use Rattle.rd_commands.specs.Asks.{EntersAtAPlace, EntersNoPlace, EntersTimed};
-ghost use Rattle.rd_commands.specs.Asks.{EntersByRule, EntersCat, EntersCheck, EntersExport, EntersImport, EntersInit, EntersList, EntersNaming, EntersNamingNone, EntersServe, EntersShow, EntersStaffKey, EntersSumming, EntersTelling};
-ghost use Rattle.rd_commands.specs.Asks.{IsWithinLimits, IsFaultOf, IsFileAsk, IsFilesAsk, IsForMemory, IsHelp, IsImportAsk, IsInitAsk, IsMistake, IsOneQuestionAsk, IsServeAsk, IsStaffKeyAsk, IsTold, IsVersion, TellsOnOutput, has_sums};
+ghost use Rattle.rd_commands.specs.Asks.{EntersByRule, EntersCat, EntersCheck, EntersExport, EntersImport, EntersInit, EntersList, EntersNaming, EntersNamingNone, EntersServe, EntersShow, EntersStaffKey, EntersSumming, EntersTelling, EntersTrusting};
+ghost use Rattle.rd_commands.specs.Asks.{IsWithinLimits, IsFaultOf, IsFileAsk, IsFilesAsk, IsForMemory, IsHelp, IsImportAsk, IsInitAsk, IsMistake, IsOneQuestionAsk, IsServeAsk, IsStaffKeyAsk, IsTold, IsVersion, TellsOnOutput, has_sums, is_trusting};
 ghost use Rattle.rd_commands.specs.CommandLine.{IsDeskApp, IsTaken, IsTakenTelling};
-ghost use Rattle.rd_commands.specs.Commands.{IsAskOf, IsCommand, IsTakenServingNowhere, IsTakenShowingNothing, NamesAPlace, NamesWhatItShows, Sums, TellsARule};
+ghost use Rattle.rd_commands.specs.Commands.{IsAskOf, IsCommand, IsTakenServingNowhere, IsTakenShowingNothing, NamesAPlace, NamesWhatItShows, Sums, TellsARule, Trusts};
 ghost use Rattle.rd_commands.specs.Serving.{GivesTimeouts};
 ghost use Rattle.rd_commands.specs.Serving as spec;
 ghost use Rattle.rd_commands.specs.Shown.{IsDayGiven, IsShowable, IsShownAs, NamesAny, NamesShown};
 ghost use Rattle.rd_commands.specs.Words.{AsksHelp, AsksVersion, IsSlotText};
-ghost use Rattle.rd_commands.specs.Zones.{HasZoneRule, IsFlagTold, IsRuleNamed};
+ghost use Rattle.rd_commands.specs.Zones.{HasZoneRule, IsFlagTold, IsRuleNamed, TellsTrust};
 ghost use Rattle.rd_commands.specs.declared.words.Unread.TheVariants as Unread;
 
 use crate::blanks::trimmed;
@@ -74,6 +74,8 @@ pub struct ServeAsk<'a> {
     pub zone: Zone,
     /// How long a visitor may take.
     pub timeouts: Timeouts,
+    /// Whether the clock is trusted, even if it shows a day long before that of a recorded check.
+    pub is_trusting: bool,
 }
 
 /// When to do a command, and by which clocks.
@@ -84,6 +86,8 @@ pub struct WhenAsk {
     pub seconds: Option<i64>,
     /// The zone of the desk's clocks.
     pub zone: Zone,
+    /// Whether the clock is trusted, even if it shows a day long before that of a recorded check.
+    pub is_trusting: bool,
 }
 
 /// The images that `import` takes in.
@@ -294,6 +298,7 @@ fn serve_asked<'a>(found: &ArgMatches<'a>) -> Option<ServeAsk<'a>>
         → IsSomeAnd result (λ ask. AsksVisits ask store place count rule) }
     ensures timeouts { IfSome result (λ ask. GivesTimeouts (rows_of (found_of found.now)) ask.timeouts) }
     ensures zone { OnSome result (HasZoneRule (rows_of (found_of found.now))) }
+    ensures trust { (trusted : Bool) → TellsTrust (rows_of (found_of found.now)) trusted → IfSome result (λ ask. ask.is_trusting ≡ trusted) }
 {
     Some(ServeAsk {
         store: found.get_str("store")?,
@@ -301,6 +306,7 @@ fn serve_asked<'a>(found: &ArgMatches<'a>) -> Option<ServeAsk<'a>>
         count: count_asked(found)?,
         zone: zone_asked(found)?,
         timeouts: timeouts_asked(found),
+        is_trusting: trust_asked(found),
     })
 }
 
@@ -312,6 +318,13 @@ fn moment_asked(found: &ArgMatches) -> Option<i64>
     found.get_one::<i64>("at")
 }
 
+/// Whether its flag says that the clock is trusted.
+fn trust_asked(found: &ArgMatches) -> bool
+    ensures { (trusted : Bool) → TellsTrust (rows_of (found_of found.now)) trusted → result ≡ trusted }
+{
+    found.get_flag("trust-clock")
+}
+
 /// When to do a command, and by which clocks; `None` if the text of `--zone` is no rule.
 fn when_asked(found: &ArgMatches) -> Option<WhenAsk>
     ensures asked { (moment : Option ℤ) (rule : List ℕ)
@@ -319,10 +332,12 @@ fn when_asked(found: &ArgMatches) -> Option<WhenAsk>
         → IsRuleNamed (first_of (codes "zone") (rows_of (found_of found.now))) rule
         → IsSomeAnd result (λ ask. AsksWhen ask moment rule) }
     ensures zone { OnSome result (HasZoneRule (rows_of (found_of found.now))) }
+    ensures trust { (trusted : Bool) → TellsTrust (rows_of (found_of found.now)) trusted → IfSome result (λ ask. ask.is_trusting ≡ trusted) }
 {
     Some(WhenAsk {
         seconds: moment_asked(found),
         zone: zone_asked(found)?,
+        is_trusting: trust_asked(found),
     })
 }
 
@@ -332,6 +347,7 @@ fn import_asked<'a>(found: &ArgMatches<'a>) -> Option<ImportAsk<'a>>
         → AreImportRows (rows_of (found_of found.now)) store key sheet moment rule
         → IsSomeAnd result (λ ask. AsksImages ask store key sheet moment rule) }
     ensures zone { OnSome result (HasZoneRule (rows_of (found_of found.now))) }
+    ensures trust { (trusted : Bool) → TellsTrust (rows_of (found_of found.now)) trusted → IfSome result (λ ask. ask.when.is_trusting ≡ trusted) }
 {
     Some(ImportAsk {
         store: found.get_str("store")?,
@@ -370,6 +386,7 @@ fn export_asked<'a>(found: &ArgMatches<'a>) -> Option<OneQuestionAsk<'a>>
         → AreExportRows (rows_of (found_of found.now)) store key moment rule
         → IsSomeAnd result (λ ask. AsksOneQuestion ask store key Question.Catalogue moment rule) }
     ensures zone { OnSome result (HasZoneRule (rows_of (found_of found.now))) }
+    ensures trust { (trusted : Bool) → TellsTrust (rows_of (found_of found.now)) trusted → IfSome result (λ ask. ask.when.is_trusting ≡ trusted) }
     ensures question { IfSome result (λ ask. ask.question ≡ Question.Catalogue) }
 {
     Some(OneQuestionAsk {
@@ -386,6 +403,7 @@ fn check_asked<'a>(found: &ArgMatches<'a>) -> Option<OneQuestionAsk<'a>>
         → AreCheckRows (rows_of (found_of found.now)) store key acc moment rule
         → IsSomeAnd result (λ ask. AsksOneQuestion ask store (Some key) (Question.Check acc) moment rule) }
     ensures zone { OnSome result (HasZoneRule (rows_of (found_of found.now))) }
+    ensures trust { (trusted : Bool) → TellsTrust (rows_of (found_of found.now)) trusted → IfSome result (λ ask. ask.when.is_trusting ≡ trusted) }
     ensures question { IfSome result (λ ask. IsAskable ask.question) }
 {
     Some(OneQuestionAsk {
@@ -466,6 +484,7 @@ fn show_asked<'a>(found: &ArgMatches<'a>, shown: Shown) -> Option<OneQuestionAsk
         → AreShowRows (rows_of (found_of found.now)) store key moment rule
         → IsSomeAnd result (λ ask. AsksOneQuestion ask store (Some key) (Question.Show shown) moment rule) }
     ensures zone { OnSome result (HasZoneRule (rows_of (found_of found.now))) }
+    ensures trust { (trusted : Bool) → TellsTrust (rows_of (found_of found.now)) trusted → IfSome result (λ ask. ask.when.is_trusting ≡ trusted) }
     ensures question { IfSome result (λ ask. ask.question ≡ Question.Show shown) }
 {
     Some(OneQuestionAsk {
@@ -537,6 +556,7 @@ fn ask_found<'a>(matches: &ArgMatches<'a>, shown: Option<Shown>) -> Option<Ask<'
     ensures accession { IfSome result IsWithinLimits }
     ensures timeouts { IfSome result (EntersTimed (subcommand_rows_of matches.now)) }
     ensures zone { OnSome result (EntersByRule (subcommand_rows_of matches.now)) }
+    ensures trust { (trusted : Bool) → EntersTrusting (subcommand_rows_of matches.now) trusted → IfSome result (λ ask. is_trusting ask ≡ trusted) }
     ensures sums { (summed : Bool) → EntersSumming (subcommand_rows_of matches.now) summed → IfSome result (λ ask. has_sums ask ≡ summed) }
 {
     let (name, found) = matches.subcommand()?;
@@ -564,6 +584,7 @@ fn read_by<'a>(alloc: Global, desk: Command<'a>, words: &'a [&'a str]) -> Result
     ensures written_on_output { IfOk result (λ ask. TellsOnOutput ask → IsTakenTelling (map (λ word. word.now) words.entry.now)) }
     ensures accession { IfOk result IsWithinLimits }
     ensures zone { OnOk result (TellsARule (map (λ word. word.now) words.entry.now)) }
+    ensures trust { (trusted : Bool) → Trusts (map (λ word. word.now) words.entry.now) trusted → IfOk result (λ ask. is_trusting ask ≡ trusted) }
     ensures sums { (summed : Bool) → Sums (map (λ word. word.now) words.entry.now) summed → IfOk result (λ ask. has_sums ask ≡ summed) }
     ensures shown { OnOk result (NamesWhatItShows (map (λ word. word.now) words.entry.now)) }
     ensures no_rule { IfErr result (λ fault. ¬ TellsARule (map (λ word. word.now) words.entry.now)
@@ -605,6 +626,7 @@ pub fn read_words<'a>(alloc: Global, words: &'a [&'a str]) -> Result<Ask<'a>, Un
     ensures written_on_output { IfOk result (λ ask. TellsOnOutput ask → IsTakenTelling (map (λ word. word.now) words.entry.now)) }
     ensures accession { IfOk result IsWithinLimits }
     ensures zone { OnOk result (TellsARule (map (λ word. word.now) words.entry.now)) }
+    ensures trust { (trusted : Bool) → Trusts (map (λ word. word.now) words.entry.now) trusted → IfOk result (λ ask. is_trusting ask ≡ trusted) }
     ensures sums { (summed : Bool) → Sums (map (λ word. word.now) words.entry.now) summed → IfOk result (λ ask. has_sums ask ≡ summed) }
     ensures shown { OnOk result (NamesWhatItShows (map (λ word. word.now) words.entry.now)) }
     ensures no_rule { IfErr result (λ fault. ¬ TellsARule (map (λ word. word.now) words.entry.now)

@@ -3,6 +3,7 @@ use Rattle.std.proofs.Common.{◌≡◌, ◌≢◌, ◌⊎◌, ℕ, ℤ, List, O
 use Rattle.std.proofs.lemmas.Result.{IfErr-weaker}
 use Rattle.sqlite.specs.Held.{Held}
 use Rattle.sqlite.specs.Store.{Ghosts}
+use Rattle.rd_store.specs.Held.{Keeps}
 use Rattle.rd_store.specs.Migrated.{IsMigrated}
 use Rattle.rd_policy.specs.Days.{HasDay}
 use Rattle.rd_commands.specs.Asks.{IsImportAsk, IsOneQuestionAsk}
@@ -12,10 +13,11 @@ use Rattle.rd_commands.specs.declared.words.Ask.{Ask}
 use Rattle.rd_commands.specs.declared.words.Ask.TheVariants.{Import, OneQuestion}
 use Rattle.rd_commands.specs.declared.words.Question.{Question}
 use Rattle.rd_commands.specs.declared.words.Question.TheVariants.{Catalogue, Check, Show}
-use Rattle.rd_program.specs.Asked.{AsksAt, IsClockDue, IsClockDueBy, IsClockOn, IsUnaskedBy}
+use Rattle.rd_program.specs.Asked.{AsksAt, IsClockDue, IsClockDueBy, IsClockOn, IsOpenedToRead, IsStillOrRead, IsUnaskedBy}
 use Rattle.rd_commands.specs.declared.refusal.Refusal.{Refusal}
 use Rattle.rd_commands.specs.declared.refusal.Refusal.TheVariants.{Clock, NoMemory}
 use Rattle.rd_program.specs.Leaves.{moment_of}
+use Rattle.rd_program.specs.Showing.{EndsWith}
 use Rattle.rd_program.proofs.ShowLemmas.{ends_with}
 use Rattle.rd_program.specs.Serving.{IsDayless, IsOpenRefusal, IsRefused, IsUnasked, IsUnaskedRefusal}
 
@@ -33,16 +35,25 @@ unasked told clock other r same dayless = subst (λ c. IsUnasked (moment_of told
 
 -- ---- why the clock is named
 
+-- a desk that was opened and is still so, or was read
+opened_to_read : {S : Type 0} (g : Ghosts S) (before opened last : Held S) → IsMigrated g before opened → IsStillOrRead g opened last → IsOpenedToRead g before last
+opened_to_read g before opened last at (inl still) = inl (subst (IsMigrated g before) (sym still) at)
+opened_to_read g before opened last at (inr keeps) = inr (opened, at, keeps)
+
 clock_in : {S : Type 0} (g : Ghosts S) (moment : Option ℤ) (old new : Option (Held S)) (opened last conn : Held S) (refusal : Refusal)
-    → IfSome old (λ before. IsMigrated g before opened) → conn ≡ last → IfSome new (λ held. Some conn ≡ Some held) → IsClockOn moment opened last refusal
+    → IfSome old (λ before. IsMigrated g before opened) → conn ≡ last → IfSome new (λ held. Some conn ≡ Some held) → IsClockOn g moment opened last refusal
     → IsClockDue g moment old new refusal
 clock_in g moment old new opened last conn Clock is same took due =
-    (due.0, ends_with g old new opened last conn (IsMigrated g) is (λ before at. subst (IsMigrated g before) (sym due.1) at) same took)
+    (ends_with g old new opened last conn (IsOpenedToRead g) is (λ before at. opened_to_read g before opened last at due.0) same took, named moment due.1)
+  where
+    named : (m : Option ℤ) → IfSome m (λ seconds. ¬ HasDay seconds × (last ≡ opened)) → IfSome m (λ seconds. ¬ HasDay seconds × EndsWith old new (IsMigrated g))
+    named None told = tt
+    named (Some seconds) told = (told.0, ends_with g old new opened last conn (IsMigrated g) is (λ before at. subst (IsMigrated g before) (sym told.1) at) same took)
 clock_in g moment old new opened last conn refusal is same took due = tt
 
 -- what is so of an open desk is so of the one that stood
 pub clock_ended : {T : Type 0} (r : Result T Refusal) {S : Type 0} (g : Ghosts S) (moment : Option ℤ) (old new : Option (Held S)) (opened last conn : Held S)
-    → IfSome old (λ before. IsMigrated g before opened) → conn ≡ last → IfSome new (λ held. Some conn ≡ Some held) → IfErr r (IsClockOn moment opened last)
+    → IfSome old (λ before. IsMigrated g before opened) → conn ≡ last → IfSome new (λ held. Some conn ≡ Some held) → IfErr r (IsClockOn g moment opened last)
     → IfErr r (IsClockDue g moment old new)
 clock_ended r g moment old new opened last conn is same took =
     IfErr-weaker r _ _ (λ refusal. clock_in g moment old new opened last conn refusal is same took)
@@ -56,9 +67,9 @@ opening_no_clock g moment old new refusal (inr (inr (inr (inl is)))) = subst (Is
 opening_no_clock g moment old new refusal (inr (inr (inr (inr is)))) = subst (IsClockDue g moment old new) (sym is) tt
 
 -- and once the day is known nothing else does
-pub no_clock_on : {S : Type 0} (moment : Option ℤ) (opened last : Held S) (refusal : Refusal) → refusal ≢ Clock → IsClockOn moment opened last refusal
-no_clock_on moment opened last Clock other = absurd (other refl)
-no_clock_on moment opened last refusal other = tt
+pub no_clock_on : {S : Type 0} (g : Ghosts S) (moment : Option ℤ) (opened last : Held S) (refusal : Refusal) → refusal ≢ Clock → IsClockOn g moment opened last refusal
+no_clock_on g moment opened last Clock other = absurd (other refl)
+no_clock_on g moment opened last refusal other = tt
 
 -- no day was found
 abbrev pub no_day : Refusal → Result ℤ Refusal
@@ -68,11 +79,16 @@ refused_day : (refusal : Refusal) (day : ℤ) → Err refusal ≡ Ok day → ⊥
 refused_day refusal day is = cc is
 
 -- a day was not found: the moment that is named has none
-pub dayless_on : {S : Type 0} (moment : Option ℤ) (day : ℤ → ℤ) (opened : Held S) (refusal : Refusal)
-    → IfSome moment (λ seconds. (HasDay seconds → Err refusal ≡ Ok (day seconds)) × (¬ HasDay seconds → Err refusal ≡ no_day Clock)) → IsClockOn moment opened opened refusal
-dayless_on None day opened Clock told = (tt, refl)
-dayless_on (Some seconds) day opened Clock told = (λ has. refused_day Clock (day seconds) (told.0 has), refl)
-dayless_on moment day opened refusal told = tt
+pub dayless_on : {S : Type 0} (g : Ghosts S) (moment : Option ℤ) (day : ℤ → ℤ) (opened : Held S) (refusal : Refusal)
+    → IfSome moment (λ seconds. (HasDay seconds → Err refusal ≡ Ok (day seconds)) × (¬ HasDay seconds → Err refusal ≡ no_day Clock)) → IsClockOn g moment opened opened refusal
+dayless_on g None day opened Clock told = (inl refl, tt)
+dayless_on g (Some seconds) day opened Clock told = (inl refl, (λ has. refused_day Clock (day seconds) (told.0 has), refl))
+dayless_on g moment day opened refusal told = tt
+
+-- the desk was read for the moment of the clock
+pub behind_on : {S : Type 0} (g : Ghosts S) (moment : Option ℤ) (opened last : Held S) (refusal : Refusal) → moment ≡ None → Keeps g opened last → IsClockOn g moment opened last refusal
+behind_on g moment opened last Clock none keeps = (inr keeps, subst (λ m. IfSome m (λ seconds. ¬ HasDay seconds × (last ≡ opened))) (sym none) tt)
+behind_on g moment opened last refusal none keeps = tt
 
 -- ---- by the words
 

@@ -9,8 +9,9 @@ use Rattle.rd_store.specs.Migrated.{IsMigrated, IsNotMigrated}
 use Rattle.rd_holdings.specs.State.{Desk}
 use Rattle.rd_store.specs.declared.faults.OpenFault.{OpenFault}
 use Rattle.rd_store.specs.declared.faults.OpenFault.TheVariants as open_fault
-use Rattle.rd_store.proofs.Laws.{lasts_then}
-use Rattle.rd_program.specs.Leaves.{GivesBack, HasBoth, IfBoth, IsReached, Leaves, LeavesDesk, LeavesNone, LeavesStore, LeavesUnopened, OnEnded}
+use Rattle.rd_store.proofs.Laws.{lasts_still, lasts_then}
+use Rattle.rd_program.specs.Asked.{IsStillOrRead}
+use Rattle.rd_program.specs.Leaves.{GivesBack, HasBoth, IfBoth, IsReached, IsSame, Leaves, LeavesDesk, LeavesNone, LeavesStore, LeavesUnopened, OnEnded}
 use Rattle.rd_program.specs.Serving.{IsOpenRefusal}
 use Rattle.rd_commands.specs.Refusals.{status_of}
 use Rattle.rd_commands.specs.declared.refusal.Refusal.{Refusal}
@@ -74,6 +75,11 @@ module _ {S : Type 0} (g : Ghosts S) where
     lasts = lasts_then g old mid new first.lasts second.lasts;
     reached = λ is_open. joined (desk g old) (desk g mid) (desk g new) (first.reached (second.lasts.was_open is_open)) (second.reached is_open);
   }
+
+  -- nothing was done, or the desk was read
+  pub still_same : (opened last : Held S) → IsStillOrRead g opened last → LeavesDesk g IsSame opened last
+  still_same opened last (inl still) = subst (LeavesDesk g IsSame opened) (sym still) (record { lasts = lasts_still g opened; reached = λ is_open. refl })
+  still_same opened last (inr keeps) = record { lasts = keeps.lasts; reached = keeps.same }
 
   -- ---- a desk that was opened
 

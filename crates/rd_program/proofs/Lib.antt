@@ -14,3 +14,4 @@ pub mod DaylessMoments
 pub mod Dated
 pub mod Named
 pub mod StaffKeyLemmas
+pub mod OnTimeLemmas

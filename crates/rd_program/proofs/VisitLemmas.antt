@@ -17,7 +17,8 @@ use Rattle.rd_commands.specs.Commands.{AsksServe, IsAskOf}
 use Rattle.rd_commands.specs.declared.serving.Timeouts.{Timeouts}
 use Rattle.rd_messages.specs.declared.pace.TimeLimits.{TimeLimits}
 use Rattle.rd_program.specs.Serving.{AreLimitsOf, GivesLimits, LimitsVisitors}
-use Rattle.rd_program.specs.Visiting.{RunsVisits, ServesBy, ServesDoor, ServesDoorBy, ServesVisits}
+use Rattle.rd_program.specs.Leaves.{IsSame, LeavesDesk}
+use Rattle.rd_program.specs.Visiting.{HasVisits, RunsVisits, ServesBy, ServesDoor, ServesDoorBy, ServesVisits}
 use Rattle.rd_program.proofs.ShowLemmas.{ends_with}
 
 module _ {S D : Type 0} (g : Ghosts S) (told : D → Option VisitsSoFar) (coming : D → Option (List Coming)) where
@@ -45,14 +46,28 @@ module _ {S D : Type 0} (g : Ghosts S) (told : D → Option VisitsSoFar) (coming
   pub serves_door : {T E : Type 0} (r : Result T E) (served : Served) (count : ℕ) (zone asked : Zone) (mid door lent later : Option D) (old new : Option (Held S))
       (opened last conn : Held S) → zone ≡ asked → mid ≡ door → later ≡ lent → IfSome old (λ before. IsMigrated g before opened) → Lasts g opened last
       → conn ≡ last → IfSome new (λ held. Some conn ≡ Some held) → (served.ended ≡ Count → served.visits ≡ count) → OnOk r (served.ended ≡ Count)
-      → IfSome mid (λ before. IsSomeAnd lent (λ after. RunsVisits g told coming zone before after served opened last))
+      → (served.ended ≡ Count → IfSome mid (λ before. IsSomeAnd lent (λ after. RunsVisits g told coming zone before after served opened last)))
       → OnOk r (ServesDoor g told coming count asked door later old new)
   serves_door (Ok value) served count zone asked mid door lent later old new opened last conn by here there is lasts same took counted whole runs =
       subst (λ z. ServesDoor g told coming count z door later old new) by
       (subst (λ d. ServesDoor g told coming count zone d later old new) here
       (subst (λ d. ServesDoor g told coming count zone mid d old new) (sym there)
-      (both_doors count zone mid lent old new opened last conn served (counted whole) whole is lasts same took runs)))
+      (both_doors count zone mid lent old new opened last conn served (counted whole) whole is lasts same took (runs whole))))
   serves_door (Err error) served count zone asked mid door lent later old new opened last conn by here there is lasts same took counted whole runs = tt
+
+  -- the visits come after the desk was asked whether the clock is behind
+  pub runs_from : (zone : Zone) (before after : D) (served : Served) (opened mid last : Held S) → LeavesDesk g IsSame opened mid → Lasts g mid last
+      → RunsVisits g told coming zone before after served mid last → RunsVisits g told coming zone before after served opened last
+  runs_from zone before after served opened mid last same lasts runs is_open =
+      subst (λ d. HasVisits told coming zone before after served d (desk g last)) (same.reached (lasts.was_open is_open)) (runs is_open)
+
+  -- of the door that the machine shows
+  pub visits_from : (zone : Zone) (door later : Option D) (served : Served) (opened mid last : Held S) → LeavesDesk g IsSame opened mid → Lasts g mid last
+      → IfSome door (λ before. IsSomeAnd later (λ after. RunsVisits g told coming zone before after served mid last))
+      → IfSome door (λ before. IsSomeAnd later (λ after. RunsVisits g told coming zone before after served opened last))
+  visits_from zone None later served opened mid last same lasts runs = tt
+  visits_from zone (Some before) None served opened mid last same lasts runs = absurd runs
+  visits_from zone (Some before) (Some after) served opened mid last same lasts runs = runs_from zone before after served opened mid last same lasts runs
 
   -- ---- by the words
 

@@ -3,6 +3,7 @@ use Rattle.std.specs.Prelude.{◌≡◌, ◌⊎◌, ⊤, ℕ, ℤ, Bool, IfSome,
 use Rattle.sqlite.specs.Held.{Held}
 use Rattle.sqlite.specs.Store.{Ghosts}
 use Rattle.rd_policy.specs.Days.{HasDay}
+use Rattle.rd_store.specs.Held.{Keeps}
 use Rattle.rd_store.specs.Migrated.{IsMigrated}
 use Rattle.rd_commands.specs.Commands.{AsksCheck, AsksExport, AsksImport, AsksInit, AsksServe, AsksShow, AsksStaffKey}
 use Rattle.rd_commands.specs.declared.done.Done.{Done}
@@ -34,19 +35,28 @@ NamesStore words store =
     ⊎ (((place : Place) × (count : ℕ) × (rule : List ℕ) × AsksServe words store place count rule)
     ⊎ ((moment : Option ℤ) × (rule : List ℕ) × AsksAt words store moment rule))
 
--- `clock` comes only where a desk was opened in the store and nothing more was done, and never if the words name a
--- moment that has a day
+-- A desk was opened in the store, and at most read since.
+abbrev pub IsOpenedToRead : {S : Type 0} → Ghosts S → Held S → Held S → Type 0
+IsOpenedToRead {S} g before last = IsMigrated g before last ⊎ ((opened : Held S) × IsMigrated g before opened × Keeps g opened last)
+
+-- `clock` comes only where a desk was opened in the store, and at most read since. If the words name a moment, this has no
+-- day, and nothing more was done.
 abbrev pub IsClockDue : {S : Type 0} → Ghosts S → Option ℤ → Option (Held S) → Option (Held S) → Refusal → Type 0
-IsClockDue g moment stood left Clock = IfSome moment (λ seconds. ¬ HasDay seconds) × EndsWith stood left (IsMigrated g)
+IsClockDue g moment stood left Clock =
+    EndsWith stood left (IsOpenedToRead g) × IfSome moment (λ seconds. ¬ HasDay seconds × EndsWith stood left (IsMigrated g))
 IsClockDue g moment stood left refusal = ⊤
 
 -- ---- inside
 
--- the same for the connection of an open desk: `clock` comes only where nothing was done to it since, and never for
--- a named moment that has a day
-abbrev pub IsClockOn : {S : Type 0} → Option ℤ → Held S → Held S → Refusal → Type 0
-IsClockOn moment opened last Clock = IfSome moment (λ seconds. ¬ HasDay seconds) × (last ≡ opened)
-IsClockOn moment opened last refusal = ⊤
+-- nothing was done over the connection of an open desk, or the desk was read
+abbrev pub IsStillOrRead : {S : Type 0} → Ghosts S → Held S → Held S → Type 0
+IsStillOrRead g opened last = (last ≡ opened) ⊎ Keeps g opened last
+
+-- the same for the connection of an open desk: `clock` comes only where the desk was at most read and, for a named moment,
+-- only if it has no day and nothing was done
+abbrev pub IsClockOn : {S : Type 0} → Ghosts S → Option ℤ → Held S → Held S → Refusal → Type 0
+IsClockOn g moment opened last Clock = IsStillOrRead g opened last × IfSome moment (λ seconds. ¬ HasDay seconds × (last ≡ opened))
+IsClockOn g moment opened last refusal = ⊤
 
 -- a command asks for a connection to its store alone, or for none
 abbrev pub AsksBy : Option (List (List ℕ)) → Ask → Option (List (List ℕ)) → Type 0

@@ -1,7 +1,7 @@
 -- What `run` promises: of any words, and of those of each command. `result` is the status. The output has had `out`
 -- before and has `written` after, and the errors `errors` and `told`. A machine that shows its connections took back
 -- `was` last, before; has `stood` for the store, or `stands` for each; and took back `left`.
-use Rattle.std.specs.Prelude.{◌≡◌, ◌≢◌, ◌⊎◌, ◌≤◌, ◌+◌, ⊤, ℕ, ℤ, Bool, IfSome, IsSomeAnd, IsTrue, List, Option, codes, map}
+use Rattle.std.specs.Prelude.{◌≡◌, ◌≢◌, ◌⊎◌, ◌≤◌, ◌+◌, ⊤, ℕ, ℤ, Bool, IfSome, IsSomeAnd, IsTrue, List, Option, codes, false, map}
 use Rattle.std.specs.Borrow.{Bor}
 use Rattle.std.specs.Io.KnownBytes.{Appends, Keeps}
 use Rattle.sqlite.specs.Held.{Held}
@@ -18,7 +18,7 @@ use Rattle.rd_protocol.specs.declared.request.What.{What}
 use Rattle.rd_protocol.specs.declared.request.What.TheVariants as request
 use Rattle.rd_commands.specs.Cat.{HasNoSoundFile, IsCut, Refuses, Serves}
 use Rattle.rd_commands.specs.CommandLine.{AsksForHelp, AsksForVersion, IsTaken, IsTakenTelling}
-use Rattle.rd_commands.specs.Commands.{AsksOfStore, IsCommand, NamesAPlace, NamesWhatItShows, TellsARule}
+use Rattle.rd_commands.specs.Commands.{AsksOfStore, IsCommand, NamesAPlace, NamesWhatItShows, TellsARule, Trusts}
 use Rattle.rd_commands.specs.Input.{ReadsUpTo}
 use Rattle.rd_commands.specs.Helps.{RefusesHelp, help_for}
 use Rattle.rd_commands.specs.Listed.{Lists, RefusesList}
@@ -36,6 +36,7 @@ use Rattle.rd_program.specs.Doors.{AsksNoOther}
 use Rattle.rd_program.specs.Importing.{GainsLines, IsDoneLine, IsRowLine, RefusesImport}
 use Rattle.rd_program.specs.Inits.{LeavesInit, MakesDesk, RefusesInit, done_line}
 use Rattle.rd_program.specs.Leaves.{Checks, GivesBack, HasBoth, IsSame, Leaves, LeavesServe, LeavesStore, NamesOpening, TakesIn, moment_of}
+use Rattle.rd_program.specs.OnTime.{GoesByClock, WasOnTimeBy}
 use Rattle.rd_program.specs.Rows.{IsBadSheetDue, TakesSheetIn}
 use Rattle.rd_program.specs.Serving.{GivesLimits, IsUnaskedRefusal, RefusesServe, serve_text}
 use Rattle.rd_program.specs.Showing.{EndsWith, FindsStore, IsDueIn, RefusesShow, ShowsStore, request_of}
@@ -100,13 +101,17 @@ pub record KeepsMachine {S M : Type 0} (words : List (List ℕ)) (result : ℕ) 
 
 -- If the words name a store, at 0 and 1 the machine, if it shows its connections, had one for that store and has taken
 -- one back; it is asked for no connection but one to that store; and an `import`, an `export`, a `check` and a `show` at
--- a moment without a day ask the desk nothing: their refusal is that of the opening or of the moment.
-pub record UsesOneStore {S : Type 0} (words : List (List ℕ)) (result : ℕ) (shows : Bool) (clock : Option ℤ) (paths later : Option (List (List ℕ)))
+-- a moment without a day ask the desk nothing: their refusal is that of the opening or of the moment. At 0 an `import`,
+-- an `export` or a `check` that goes by the clock of the machine, and does not trust it, has found no check recorded of a
+-- later day than the one after that of the clock.
+pub record UsesOneStore {S : Type 0} (g : Ghosts S) (words : List (List ℕ)) (result : ℕ) (shows : Bool) (clock : Option ℤ) (paths later : Option (List (List ℕ)))
     (stands : List ℕ → Option (Held S)) (left : Option (Held S)) (errors told : Option (List ℕ)) : Type 0 where
   pub there : result ≤ 1 → (store : List ℕ) → NamesStore words store → HasBoth shows (stands store) left
   pub asked : (store : List ℕ) → NamesStore words store → AsksNoOther paths store later
   pub unasked : (store : List ℕ) (moment : Option ℤ) (rule : List ℕ) → AsksAt words store moment rule
       → IfSome (moment_of moment clock) (λ seconds. ¬ HasDay seconds → Tells IsUnaskedRefusal result errors told)
+  pub on_time : result ≡ 0 → (store : List ℕ) (rule : List ℕ) → GoesByClock words store rule → Trusts words false
+      → WasOnTimeBy g clock rule (stands store) left
 
 -- Help, if the first word asks for it: at 0 exactly the help of the program is written, and otherwise the errors say why
 -- not. The version, if the first word asks for it: at 0 exactly its line is written, and otherwise the errors say why not.

@@ -15,6 +15,7 @@ ghost use Rattle.rd_commands.specs.Listed.{Lists, RefusesList};
 ghost use Rattle.rd_commands.specs.Refusals.{status_of};
 ghost use Rattle.rd_program.specs.Rows.{ImportsBy, RefusesSheetBy};
 ghost use Rattle.rd_program.specs.Asked.{AsksBy, IsClockDueBy, IsUnaskedBy, SumsBy};
+ghost use Rattle.rd_program.specs.OnTime.{IsOnTimeBy};
 ghost use Rattle.rd_program.specs.Serving.{LimitsVisitors, RefusesServe, serve_text};
 ghost use Rattle.rd_commands.specs.Serving.{GivesTimeouts, Place};
 ghost use Rattle.rd_program.specs.Doors.{AsksNoOtherSums};
@@ -97,6 +98,7 @@ fn perform<R: Read, W: Write, M: Machine>(
     ensures imports { ImportsBy M.Disk.Store (M.file_bytes machine.old) (M.sheet_bytes machine.old) (M.clock machine.old) (M.stands machine.old)
         (M.left machine.new) (W.contents output.old) (W.contents output.new) ask.entry result }
     ensures unasked { IsUnaskedBy (M.clock machine.old) ask.entry result }
+    ensures on_time { IsOnTimeBy M.Disk.Store (M.clock machine.old) (M.stands machine.old) (M.left machine.new) ask.entry result }
     ensures of_file { GivesFile (M.file_bytes machine.old) (W.contents output.old) (W.contents output.new) ask.entry result }
     ensures untouched { IsOfImage ask.entry → machine.new ≡ machine.old }
     ensures back { GivesBack (M.shows machine.old) (M.left machine.old) (M.left machine.new) }
@@ -146,7 +148,7 @@ pub fn run<R: Read, W: Write, E: Write, M: Machine>(
     ensures reads { ReadsInput (texts words.entry.now) (R.remaining input.old) (R.remaining input.new) }
     ensures keeps { KeepsMachine (texts words.entry.now) result (M.shows machine.old) (M.left machine.old) (M.left machine.new)
         machine.old machine.new }
-    ensures one_store { UsesOneStore (texts words.entry.now) result (M.shows machine.old) (M.clock machine.old)
+    ensures one_store { UsesOneStore M.Disk.Store (texts words.entry.now) result (M.shows machine.old) (M.clock machine.old)
         (M.paths machine.old) (M.paths machine.new) (M.stands machine.old) (M.left machine.new)
         (E.contents errors.old) (E.contents errors.new) }
     ensures itself { TellsOfItself (texts words.entry.now) result

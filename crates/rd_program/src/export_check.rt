@@ -1,25 +1,28 @@
 //! Asks a desk one question: for the catalogue, what a check of an image finds, or what stands.
 
-ghost use Rattle.std.specs.Prelude.{◌≡◌, ◌≢◌, ◌⊎◌, IfErr, IfOk, IsSome, OnOk, Some, option_map, ℕ};
+ghost use Rattle.std.specs.Prelude.{◌≡◌, ◌≢◌, ◌⊎◌, IfErr, IfOk, IfSome, IsSome, IsTrue, OnOk, Some, false, option_map, true, ℕ};
 ghost use Rattle.std.specs.String.{string_bytes};
 ghost use Rattle.sha2.specs.Sha256.{sha256};
 ghost use Rattle.rd_policy.specs.Days.{IsDay};
+ghost use Rattle.rd_policy.specs.Zones.{day_number};
 ghost use Rattle.rd_policy.specs.Rules.{IsScope};
 ghost use Rattle.rd_holdings.specs.Findings.{outcome_word};
+ghost use Rattle.rd_store.specs.Held.{IsOpen, desk as desk_in};
 ghost use Rattle.rd_program.specs.Doors.{AsksPath};
-ghost use Rattle.rd_program.specs.Asked.{IsClockDue, IsClockOn};
+ghost use Rattle.rd_program.specs.Asked.{IsClockDue, IsClockOn, IsStillOrRead};
 ghost use Rattle.rd_program.specs.Asking.{RefusesOneQuestion, TellsCheck};
 ghost use Rattle.rd_commands.specs.Asks.{IsAskable, IsCheck, IsCheckOf};
 ghost use Rattle.rd_program.specs.Importing.{accession_line};
 ghost use Rattle.rd_protocol.specs.declared.request.What.{What};
 ghost use Rattle.rd_program.specs.Leaves.{Checks, GivesBack, HasBoth, IsDayAt, IsOfOpenDesk, Leaves, LeavesDesk, LeavesStore, NamesOpening, OnEnded, StepsOf, moment_of};
-ghost use Rattle.rd_program.specs.Serving.{IsDayless, IsUnasked};
+ghost use Rattle.rd_program.specs.OnTime.{IsOnTime, WasOnTime, is_dated, must_be_on_time};
+ghost use Rattle.rd_program.specs.Serving.{IsClockRefusal, IsDayless, IsUnasked};
 ghost use Rattle.rd_program.specs.Showing.{AnswersOneQuestion, Finds, IsDueOn, OfDesk, RefusesShow, Shows, asked_of, found_by, request_of, what_to_show};
 
 use crate::answers::outcome_of;
 use crate::asker::{Asker, answer_of, badge_of};
 use crate::machine::Machine;
-use crate::open_desk::{open_desk, visit_day};
+use crate::open_desk::{day_on_time, open_desk, visit_day};
 use crate::show::{show, what_of};
 use rd_commands::{Done, OneQuestionAsk, Question, Refusal, write_whole};
 use rd_desk::{Desk, Outcome, What};
@@ -79,10 +82,38 @@ fn check<S: Alter + Drop, W: Write>(
     }
 }
 
+/// The day on which to ask a desk a question. What `show` shows is the same on every day, so its day need not be on time.
+///
+/// It fails as `visit_day` and `day_on_time` do.
+fn question_day<S: Alter, M: Machine>(
+    ask: &OneQuestionAsk,
+    desk: &mut Desk<S>,
+    machine: &mut M,
+) -> Result<i32, Refusal>
+    ensures day { IfOk result (IsDayAt (moment_of ask.now.when.seconds (M.clock machine.old)) desk.old.zone) }
+    ensures on_time { is_dated ask.now.question ≡ true → IfOk result (λ day. IsTrue (must_be_on_time ask.now.when.seconds ask.now.when.is_trusting)
+        → IsOpen S.Store desk.new.store → IsOnTime day (desk_in S.Store desk.old.store)) }
+    ensures reads { IsStillOrRead S.Store desk.old.store desk.new.store }
+    ensures zone { desk.new.zone ≡ desk.old.zone }
+    ensures shows { M.shows machine.new ≡ M.shows machine.old }
+    ensures asked { M.paths machine.new ≡ M.paths machine.old }
+    ensures in_range { IfOk result IsDay }
+    ensures dayless { IsDayless (moment_of ask.now.when.seconds (M.clock machine.old)) result }
+    ensures clock { IfErr result (IsClockOn S.Store ask.now.when.seconds desk.old.store desk.new.store) }
+    ensures untouched { must_be_on_time ask.now.when.seconds ask.now.when.is_trusting ≡ false → desk.new.store ≡ desk.old.store }
+    ensures undated { is_dated ask.now.question ≡ false → desk.new.store ≡ desk.old.store }
+    ensures refused { IfErr result (λ refusal. IsClockRefusal refusal ⊎ (refusal ≡ Refusal.Store)) }
+{
+    match ask.question {
+        Question::Show(_) => visit_day(ask.when.seconds, desk, machine),
+        _ => day_on_time(ask.when, desk, machine),
+    }
+}
+
 /// Asks an open desk one question, at the moment that the command names, and writes the answer.
 ///
-/// It fails with `Clock` when the clock fails or the moment has no day, and then as `check` and
-/// `show` do.
+/// It fails with `Clock` when the clock fails, the moment has no day, or the clock shows a day long before that of a recorded
+/// check, and then as `check` and `show` do.
 fn tell_asked<S: Alter + Drop, W: Write, M: Machine>(
     alloc: Global,
     ask: &OneQuestionAsk,
@@ -96,7 +127,10 @@ fn tell_asked<S: Alter + Drop, W: Write, M: Machine>(
         → IfOk result (TellsCheck acc (W.contents output.old) (W.contents output.new)) }
     ensures refused { IfErr result (RefusesOneQuestion (W.contents output.old) (W.contents output.new)) }
     ensures dayless { IsDayless (moment_of ask.now.when.seconds (M.clock machine.old)) result }
-    ensures clock { IfErr result (IsClockOn ask.now.when.seconds desk.old.store desk.new.store) }
+    ensures clock { IfErr result (IsClockOn S.Store ask.now.when.seconds desk.old.store desk.new.store) }
+    ensures on_time { is_dated ask.now.question ≡ true → IsTrue (must_be_on_time ask.now.when.seconds ask.now.when.is_trusting)
+        → OnOk result (IfSome (M.clock machine.old) (λ seconds. IsOpen S.Store desk.new.store
+        → IsOnTime (day_number seconds desk.old.zone) (desk_in S.Store desk.old.store))) }
     ensures opened { IfErr result IsOfOpenDesk }
     ensures steps { LeavesDesk S.Store (StepsOf (option_map sha256 (option_map (λ key. key.now) ask.now.key))
         (IsDayAt (moment_of ask.now.when.seconds (M.clock machine.old)) desk.old.zone) ask.now.question) desk.old.store desk.new.store }
@@ -115,7 +149,7 @@ fn tell_asked<S: Alter + Drop, W: Write, M: Machine>(
     ensures shows { M.shows machine.new ≡ M.shows machine.old }
     ensures asked { M.paths machine.new ≡ M.paths machine.old }
 {
-    let day = visit_day(ask.when.seconds, desk, machine)?;
+    let day = question_day(ask, desk, machine)?;
     let badge = badge_of(ask.key);
     let asker = Asker { badge, day };
     match ask.question {
@@ -150,6 +184,8 @@ pub(crate) fn ask_once<W: Write, M: Machine>(
     ensures asked { AsksPath (M.paths machine.old) ask.entry.store.now (M.paths machine.new) }
     ensures clock { IfErr result (IsClockDue M.Disk.Store ask.entry.when.seconds (M.stands machine.old ask.entry.store.now) (M.left machine.new)) }
     ensures opens { IfErr result (NamesOpening M.Disk.Store (M.stands machine.old ask.entry.store.now) (M.left machine.new)) }
+    ensures on_time { is_dated ask.entry.question ≡ true → IsTrue (must_be_on_time ask.entry.when.seconds ask.entry.when.is_trusting)
+        → OnOk result (WasOnTime M.Disk.Store (M.clock machine.old) ask.entry.when.zone (M.stands machine.old ask.entry.store.now) (M.left machine.new)) }
     ensures answers { AnswersOneQuestion M.Disk.Store (M.clock machine.old) (M.stands machine.old ask.entry.store.now) (M.left machine.new)
         (W.contents output.old) (W.contents output.new) ask.entry result }
 {

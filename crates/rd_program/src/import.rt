@@ -1,15 +1,17 @@
 //! Takes in images, row by row of a sheet.
 
 ghost use Rattle.rd_store.specs.Held.{IsOpen, desk as desk_in};
-ghost use Rattle.std.specs.Prelude.{◌≡◌, IfErr, IfOk, IfSome, OnErr, OnOk, Some};
+ghost use Rattle.std.specs.Prelude.{◌≡◌, IfErr, IfOk, IfSome, IsTrue, OnErr, OnOk, Some};
 ghost use Rattle.std.specs.Io.KnownBytes.{Appends};
 ghost use Rattle.csv.specs.Records.{fields_of};
 ghost use Rattle.sha2.specs.Sha256.{sha256};
 ghost use Rattle.rd_policy.specs.Days.{IsDay};
+ghost use Rattle.rd_policy.specs.Zones.{day_number};
 ghost use Rattle.rd_desk.specs.Served.{Responds};
 ghost use Rattle.rd_program.specs.Doors.{AsksPath};
 ghost use Rattle.rd_program.specs.Importing as spec;
 ghost use Rattle.rd_program.specs.Asked.{IsClockDue, IsClockOn};
+ghost use Rattle.rd_program.specs.OnTime.{IsOnTime, WasOnTime, must_be_on_time};
 ghost use Rattle.rd_program.specs.Rows.{GivesLine, IsBadSheetDue, IsRowTaken, TakesImage, TakesSheet, TakesSheetIn, TakesSheetOn};
 ghost use Rattle.rd_program.specs.Serving.{IsDayless, IsUnasked};
 ghost use Rattle.rd_program.specs.Showing.{EndsWith};
@@ -20,7 +22,7 @@ ghost use Rattle.rd_commands.specs.Refusals.{IsDeviceOrMemory};
 ghost use Rattle.rd_commands.specs.Sheets.{IsWithin};
 
 use crate::machine::Machine;
-use crate::open_desk::{open_desk, visit_day};
+use crate::open_desk::{day_on_time, open_desk};
 use csv::{ByteRecord, ReaderBuilder};
 use rd_commands::{Done, ImportAsk, Refusal, SheetRow, is_header, next_row, row_of, write_whole};
 use rd_desk::{Desk, Items, Request, Response, Unavailable, What};
@@ -245,8 +247,8 @@ fn import_rows<W: Write, M: Machine>(
 
 /// Takes in the images of the sheet that the command names, at the moment that it names.
 ///
-/// It fails with `Clock` when the clock fails or the moment has no day, with `Device` when it
-/// cannot read the sheet, with `NoMemory`, and as `import_rows` does.
+/// It fails with `Clock` when the clock fails, the moment has no day, or the clock shows a day long before
+/// that of a recorded check, with `Store`, with `Device` when it cannot read the sheet, with `NoMemory`, and as `import_rows` does.
 fn import_sheet<W: Write, M: Machine>(
     alloc: Global,
     ask: ImportAsk,
@@ -257,8 +259,11 @@ fn import_sheet<W: Write, M: Machine>(
     ensures written { IfOk result (TellsRows (W.contents output.old) (W.contents output.new)) }
     ensures refused { IfErr result (RefusesImport (W.contents output.old) (W.contents output.new)) }
     ensures dayless { IsDayless (moment_of ask.entry.when.seconds (M.clock machine.old)) result }
-    ensures clock { IfErr result (IsClockOn ask.entry.when.seconds desk.old.store desk.new.store) }
+    ensures clock { IfErr result (IsClockOn M.Disk.Store ask.entry.when.seconds desk.old.store desk.new.store) }
     ensures bad_sheet { IfErr result (λ refusal. IfSome (M.sheet_bytes machine.old ask.entry.sheet.now) (λ bytes. IsBadSheetDue bytes refusal)) }
+    ensures on_time { IsTrue (must_be_on_time ask.entry.when.seconds ask.entry.when.is_trusting)
+        → OnOk result (IfSome (M.clock machine.old) (λ seconds. IsOpen M.Disk.Store desk.new.store
+        → IsOnTime (day_number seconds desk.old.zone) (desk_in M.Disk.Store desk.old.store))) }
     ensures opened { IfErr result IsOfOpenDesk }
     ensures takes { LeavesDesk M.Disk.Store (TakesIn (sha256 ask.entry.key.now)
         (IsDayAt (moment_of ask.entry.when.seconds (M.clock machine.old)) desk.old.zone)) desk.old.store desk.new.store }
@@ -269,7 +274,7 @@ fn import_sheet<W: Write, M: Machine>(
     ensures shows { M.shows machine.new ≡ M.shows machine.old }
     ensures asked { M.paths machine.new ≡ M.paths machine.old }
 {
-    let day = visit_day(ask.when.seconds, desk, machine)?;
+    let day = day_on_time(ask.when, desk, machine)?;
     let sheet = match machine.read_sheet(alloc, ask.sheet) {
         Ok(sheet) => sheet,
         Err(fault) => return Err(fault.or(Refusal::Device)),
@@ -299,6 +304,8 @@ pub(crate) fn import<W: Write, M: Machine>(
         (TakesSheetIn M.Disk.Store (M.file_bytes machine.old) (sha256 ask.entry.key.now)
         (IsDayAt (moment_of ask.entry.when.seconds (M.clock machine.old)) ask.entry.when.zone)
         (M.sheet_bytes machine.old ask.entry.sheet.now) (W.contents output.old) (W.contents output.new) done)) }
+    ensures on_time { IsTrue (must_be_on_time ask.entry.when.seconds ask.entry.when.is_trusting)
+        → OnOk result (WasOnTime M.Disk.Store (M.clock machine.old) ask.entry.when.zone (M.stands machine.old ask.entry.store.now) (M.left machine.new)) }
     ensures unasked { IsUnasked (moment_of ask.entry.when.seconds (M.clock machine.old)) result }
     ensures back { GivesBack (M.shows machine.old) (M.left machine.old) (M.left machine.new) }
     ensures there { OnEnded result (HasBoth (M.shows machine.old) (M.stands machine.old ask.entry.store.now) (M.left machine.new)) }

@@ -96,7 +96,8 @@ pub trait Machine: Files {
         ensures files { KeepsFiles Self.file_bytes Self.sheet_bytes self.old self.new }
         ensures asked { paths self.new ≡ paths self.old }
         ensures sums { sums self.new ≡ sums self.old }
-        ensures shows { shows self.new ≡ shows self.old };
+        ensures shows { shows self.new ≡ shows self.old }
+        ensures door { door self.new ≡ door self.old };
 
     /// Lends the door through which visits come at a place, and gives its visitors these limits. The machine keeps the
     /// door. A machine need not have sockets, and the visitors of one in memory take no time.

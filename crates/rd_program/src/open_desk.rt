@@ -1,17 +1,20 @@
 //! Opens the desk in the file of a store, and finds the day on which to ask it.
 
-ghost use Rattle.std.specs.Prelude.{◌≡◌, Err, IfErr, IfOk, IfSome, IsSome, IsTrue, Ok};
+ghost use Rattle.std.specs.Prelude.{◌≡◌, ◌⊎◌, Err, IfErr, IfOk, IfSome, IsSome, IsTrue, MatchBool, None, Ok, false};
 ghost use Rattle.rd_program.specs.Doors.{AsksPath};
+ghost use Rattle.rd_program.specs.Asked.{IsClockOn, IsStillOrRead};
 ghost use Rattle.rd_program.specs.Leaves.{GivesBack, IsDayAt, LeavesUnopened, moment_of};
+ghost use Rattle.rd_program.specs.OnTime.{IsBehind, IsOnTime, must_be_on_time};
 ghost use Rattle.rd_program.specs.Rows.{KeepsFiles};
 ghost use Rattle.rd_program.specs.Serving.{IsClockRefusal, IsDayless, IsOpenRefusal};
+ghost use Rattle.rd_store.specs.Held.{IsOpen, Keeps, desk as desk_in};
 ghost use Rattle.rd_store.specs.Migrated.{IsMigrated};
 ghost use Rattle.rd_policy.specs.Days.{HasDay, IsDay};
 ghost use Rattle.rd_policy.specs.Zones.{day_number};
 
 use crate::faults::not_opened;
 use crate::machine::Machine;
-use rd_commands::Refusal;
+use rd_commands::{Refusal, WhenAsk};
 use rd_desk::Desk;
 use rd_policy::{DayFault, Zone};
 use rd_store::{Refused, Store};
@@ -136,5 +139,92 @@ pub(crate) fn visit_day<S: Alter, M: Machine>(
         Ok(day) => Ok(day),
         Err(DayFault::OutOfRange) => Err(Refusal::Clock),
         Err(DayFault::NoMemory) => Err(Refusal::NoMemory),
+    }
+}
+
+/// Whether an open desk has recorded a check of a later day than the one after this day. It changes nothing.
+///
+/// It fails with `Store`.
+fn is_behind<S: Alter>(day: i32, desk: &mut Desk<S>) -> Result<bool, Refusal>
+    requires day { IsDay day }
+    ensures keeps { Keeps S.Store desk.old.store desk.new.store }
+    ensures zone { desk.new.zone ≡ desk.old.zone }
+    ensures behind { IfOk result (λ behind. IsOpen S.Store desk.new.store → MatchBool behind
+        (IsBehind day (desk_in S.Store desk.old.store)) (IsOnTime day (desk_in S.Store desk.old.store))) }
+    ensures refused { IfErr result (λ refusal. refusal ≡ Refusal.Store) }
+{
+    match desk.has_check_after(day + 1) {
+        Ok(behind) => Ok(behind),
+        Err(_) => Err(Refusal::Store),
+    }
+}
+
+/// The day on which to ask a desk what depends on the day, as `visit_day` gives it: if the words name no moment and do not
+/// trust the clock, no check of a later day than the one after it is recorded.
+///
+/// It fails as `visit_day` does, with `Clock` when such a check is recorded, and with `Store`.
+pub(crate) fn day_on_time<S: Alter, M: Machine>(
+    when: WhenAsk,
+    desk: &mut Desk<S>,
+    machine: &mut M,
+) -> Result<i32, Refusal>
+    ensures day { IfOk result (IsDayAt (moment_of when.seconds (M.clock machine.old)) desk.old.zone) }
+    ensures on_time { IfOk result (λ day. IsTrue (must_be_on_time when.seconds when.is_trusting)
+        → IsOpen S.Store desk.new.store → IsOnTime day (desk_in S.Store desk.old.store)) }
+    ensures reads { IsStillOrRead S.Store desk.old.store desk.new.store }
+    ensures zone { desk.new.zone ≡ desk.old.zone }
+    ensures files { KeepsFiles M.file_bytes M.sheet_bytes machine.old machine.new }
+    ensures shows { M.shows machine.new ≡ M.shows machine.old }
+    ensures asked { M.paths machine.new ≡ M.paths machine.old }
+    ensures in_range { IfOk result IsDay }
+    ensures dayless { IsDayless (moment_of when.seconds (M.clock machine.old)) result }
+    ensures clock { IfErr result (IsClockOn S.Store when.seconds desk.old.store desk.new.store) }
+    ensures untouched { must_be_on_time when.seconds when.is_trusting ≡ false → desk.new.store ≡ desk.old.store }
+    ensures refused { IfErr result (λ refusal. IsClockRefusal refusal ⊎ (refusal ≡ Refusal.Store)) }
+{
+    let day = visit_day(when.seconds, desk, machine)?;
+    if when.seconds.is_some() || when.is_trusting {
+        return Ok(day);
+    }
+    let behind = is_behind(day, desk)?;
+    if behind {
+        return Err(Refusal::Clock);
+    }
+    Ok(day)
+}
+
+/// What the machine's clock shows; `None` if it fails, or if it is trusted and nobody need look.
+pub(crate) fn clock_shown<M: Machine>(is_trusting: bool, machine: &mut M) -> Option<i64>
+    ensures shown { IfSome result (λ seconds. IfSome (M.clock machine.old) (λ moment. seconds ≡ moment)) }
+    ensures trusted { IsTrue is_trusting → result ≡ None }
+    ensures shows { M.shows machine.new ≡ M.shows machine.old }
+    ensures asked { M.paths machine.new ≡ M.paths machine.old }
+    ensures door { M.door machine.new ≡ M.door machine.old }
+{
+    if is_trusting {
+        return None;
+    }
+    match machine.now() {
+        Ok(seconds) => Some(seconds),
+        Err(_) => None,
+    }
+}
+
+/// Whether an open desk has recorded a check of a later day than the one after the day of a moment. It changes nothing.
+/// It says no if there is no moment, if the moment has no day, and if the store fails: each visit finds that too.
+pub(crate) fn is_late<S: Alter>(shown: Option<i64>, desk: &mut Desk<S>) -> bool
+    ensures moment { IsTrue result → IsSome shown }
+    ensures reads { IsStillOrRead S.Store desk.old.store desk.new.store }
+    ensures zone { desk.new.zone ≡ desk.old.zone }
+{
+    let Some(seconds) = shown else {
+        return false;
+    };
+    let Ok(day) = desk.day(seconds) else {
+        return false;
+    };
+    match is_behind(day, desk) {
+        Ok(behind) => behind,
+        Err(_) => false,
     }
 }

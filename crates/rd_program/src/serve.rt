@@ -11,7 +11,7 @@ ghost use Rattle.rd_commands.specs.Refusals.{IsDeviceOrMemory};
 ghost use Rattle.rd_program.specs.Serving.{AreLimitsOf, RefusesServe, RefusesToEnd, listening_at, listening_line, listening_on, serve_text, served_line};
 
 use crate::machine::Machine;
-use crate::open_desk::open_desk;
+use crate::open_desk::{clock_shown, is_late, open_desk};
 use rd_commands::{Place, Refusal, ServeAsk, Timeouts, write_whole};
 use rd_desk::Desk;
 use rd_http::{Ended, Served, TimeLimits, serve_many};
@@ -83,7 +83,20 @@ fn time_limits(timeouts: Timeouts) -> TimeLimits
     }
 }
 
-/// Serves visits at the place that the command names.
+/// A run that has served nobody, since the clock shows a day long before that of a recorded check.
+fn none_served() -> Served
+    ensures { result.ended ≡ Ended.Clock }
+{
+    Served {
+        visits: 0,
+        read_faults: 0,
+        write_faults: 0,
+        ended: Ended::Clock,
+    }
+}
+
+/// Serves visits at the place that the command names. It serves nobody, and the run ends as by a moment without a day, if
+/// the clock is not trusted and shows a day long before that of a recorded check.
 ///
 /// It fails with `Device` when it cannot open the place or a write fails, and with `NoMemory`.
 fn serve_visits<W: Write, M: Machine>(
@@ -102,22 +115,26 @@ fn serve_visits<W: Write, M: Machine>(
     ensures shows { M.shows machine.new ≡ M.shows machine.old }
     ensures asked { M.paths machine.new ≡ M.paths machine.old }
     ensures limits { IfOk result (λ _. IsTrue (M.shows machine.old) → IsSomeAnd (M.door_limits machine.new) (AreLimitsOf ask.entry.timeouts)) }
-    ensures visits { IfOk result (λ served. IfSome (M.door machine.old (place_of ask.entry.place))
+    ensures visits { IfOk result (λ served. served.ended ≡ Ended.Count → IfSome (M.door machine.old (place_of ask.entry.place))
         (λ before. IsSomeAnd (M.door machine.new (place_of ask.entry.place)) (λ after.
         RunsVisits M.Disk.Store M.Door.told M.Door.coming desk.old.zone before after served desk.old.store desk.new.store))) }
 {
+    let shown = clock_shown(ask.is_trusting, machine);
     let door = match machine.listen(ask.place, time_limits(ask.timeouts)) {
         Ok(door) => door,
         Err(fault) => return Err(fault.or(Refusal::Device)),
     };
     tell_listening(alloc, ask.place, output)?;
+    if is_late(shown, desk) {
+        return Ok(none_served());
+    }
     Ok(serve_many(alloc, door, desk, ask.count))
 }
 
 /// Writes how many visits a run served, or fails as the run ended.
 ///
-/// It fails with `Clock` when a moment has no day, with `Device` when the door shuts or a write
-/// fails, and with `NoMemory`.
+/// It fails with `Clock` when a moment has no day or the clock is behind, with `Device` when the door shuts
+/// or a write fails, and with `NoMemory`.
 fn tell_ended<W: Write>(alloc: Global, served: Served, output: &mut W) -> Result<(), Refusal>
     ensures done { OnOk result (Appends (W.contents output.old) (W.contents output.new) (served_line served.visits)) }
     ensures count { OnOk result (served.ended ≡ Ended.Count) }
@@ -135,7 +152,7 @@ fn tell_ended<W: Write>(alloc: Global, served: Served, output: &mut W) -> Result
 ///
 /// It fails with `NotADesk`, `Version`, `Inconsistent` and `Store` when it cannot open the desk,
 /// then with `Device` when it cannot open the place, a write fails or the door shuts, with `Clock`
-/// when a moment has no day, and with `NoMemory`.
+/// when the clock shows a day long before that of a recorded check or a moment has no day, and with `NoMemory`.
 pub(crate) fn serve<W: Write, M: Machine>(
     alloc: Global,
     ask: ServeAsk,

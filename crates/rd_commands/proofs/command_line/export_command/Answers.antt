@@ -2,7 +2,7 @@ use Rattle.std.proofs.Common.{◌≡◌, ◌∙◌, ◌||◌, ap₂, codes, fals
 use Rattle.std.proofs.lemmas.Result.{IfOk-weaker}
 use Rattle.clap.specs.Words.{app_of, new_app, with_rule}
 use Rattle.clap.specs.declared.builder.command.Command.TheViews.{out-Command as fields_of}
-use Rattle.rd_commands.specs.CommandLine.{moment_rule, optional_key_rule, store_rule}
+use Rattle.rd_commands.specs.CommandLine.{moment_rule, optional_key_rule, store_rule, zone_rule}
 use Rattle.rd_commands.proofs.command_line.export_command.Goals as goal
 
 pub returns-clause-shape : goal.returns-clause-shape
@@ -14,7 +14,9 @@ returns-clause-shape c =
     c.in_ok-arg-2.ensures.shape c.optional_key_option.ensures.local ∙ ap₂ with_rule store c.optional_key_option.ensures.rule in
     let moment : app_of c.in_ok-arg-3.field-0 ≡ with_rule (with_rule (with_rule (new_app (codes "export")) store_rule) optional_key_rule) moment_rule =
     c.in_ok-arg-3.ensures.shape c.moment_option.ensures.local ∙ ap₂ with_rule key c.moment_option.ensures.rule in
-    IfOk-weaker c.arg-4.result _ _ (λ export adds. adds.shape c.zone_option.ensures.local ∙ ap₂ with_rule moment c.zone_option.ensures.rule) c.arg-4.ensures
+    let zone : app_of c.in_ok-arg-4.field-0 ≡ with_rule (with_rule (with_rule (with_rule (new_app (codes "export")) store_rule) optional_key_rule) moment_rule) zone_rule =
+    c.in_ok-arg-4.ensures.shape c.zone_option.ensures.local ∙ ap₂ with_rule moment c.zone_option.ensures.rule in
+    IfOk-weaker c.arg-5.result _ _ (λ export adds. adds.shape c.trust_option.ensures.local ∙ ap₂ with_rule zone c.trust_option.ensures.rule) c.arg-5.ensures
 
 pub returns-clause-local : goal.returns-clause-local
 returns-clause-local c =
@@ -22,4 +24,5 @@ returns-clause-local c =
     let store : (fields_of c.in_ok-arg.field-0).has_globals ≡ false = c.in_ok-arg.ensures.globals ∙ ap₂ ◌||◌ bare c.store_option.ensures.local in
     let key : (fields_of c.in_ok-arg-2.field-0).has_globals ≡ false = c.in_ok-arg-2.ensures.globals ∙ ap₂ ◌||◌ store c.optional_key_option.ensures.local in
     let moment : (fields_of c.in_ok-arg-3.field-0).has_globals ≡ false = c.in_ok-arg-3.ensures.globals ∙ ap₂ ◌||◌ key c.moment_option.ensures.local in
-    IfOk-weaker c.arg-4.result _ _ (λ export adds. adds.globals ∙ ap₂ ◌||◌ moment c.zone_option.ensures.local) c.arg-4.ensures
+    let zone : (fields_of c.in_ok-arg-4.field-0).has_globals ≡ false = c.in_ok-arg-4.ensures.globals ∙ ap₂ ◌||◌ moment c.zone_option.ensures.local in
+    IfOk-weaker c.arg-5.result _ _ (λ export adds. adds.globals ∙ ap₂ ◌||◌ zone c.trust_option.ensures.local) c.arg-5.ensures

@@ -2,7 +2,7 @@ use Rattle.std.proofs.Common.{◌≡◌, ◌∙◌, Some, codes, inl, inr, refl,
 use Rattle.clap.specs.Words.{one_of, subcommand_rows_of}
 use Rattle.rd_commands.specs.Asks.{AreCatRows, AreCheckRows, AreExportRows, AreImportRows, AreInitRows, AreServeRows, AreShowRows, AreStaffKeyRows, AsksOneQuestion, EntersAs}
 use Rattle.rd_commands.specs.declared.words.Question.TheVariants.{Show}
-use Rattle.rd_commands.specs.Zones.{HasZoneRule, IsFlagTold}
+use Rattle.rd_commands.specs.Zones.{HasZoneRule, IsFlagTold, TellsTrust}
 use Rattle.rd_commands.proofs.GetterLemmas.{clockless, entered_as, name_met, no_init, rows_met}
 use Rattle.rd_commands.proofs.Places.{timed_met}
 use Rattle.rd_commands.proofs.words.ask_found.Goals as goal
@@ -129,6 +129,48 @@ returns-in_ok-show_asked-in-show-clause-show c = λ store key what moment rule i
     let same : c.in_ok-shown-in-show.field-0 ≡ what = cc in
     subst (λ w. AsksOneQuestion c.in_ok-show_asked-in-show.field-0 store (Some key) (Show w) moment rule) same
     (c.in_ok-show_asked-in-show.ensures.asked store key moment rule (subst (λ r. AreShowRows r store key moment rule) rows enters.found))
+
+-- ---- the clock
+
+pub returns-in_ok-file_asked-in-cat-clause-trust : goal.returns-in_ok-file_asked-in-cat-clause-trust
+returns-in_ok-file_asked-in-cat-clause-trust c = λ trusted told.
+    let met = name_met c.args.matches.now told.0 _ told.1 _ told.2 c.in_ok-name.ensures.name c.in_ok-name.ensures.rows in
+    absurd (clockless told.0 (inl (met ∙ c.in-cat.is)) told.3)
+
+pub returns-in_ok-files_asked-in-list-clause-trust : goal.returns-in_ok-files_asked-in-list-clause-trust
+returns-in_ok-files_asked-in-list-clause-trust c = λ trusted told.
+    let met = name_met c.args.matches.now told.0 _ told.1 _ told.2 c.in_ok-name.ensures.name c.in_ok-name.ensures.rows in
+    absurd (clockless told.0 (inr (inl (met ∙ c.in-list.is))) told.3)
+
+pub returns-in_ok-init_asked-in-init-clause-trust : goal.returns-in_ok-init_asked-in-init-clause-trust
+returns-in_ok-init_asked-in-init-clause-trust c = λ trusted told.
+    let met = name_met c.args.matches.now told.0 _ told.1 _ told.2 c.in_ok-name.ensures.name c.in_ok-name.ensures.rows in
+    absurd (clockless told.0 (inr (inr (inl (met ∙ c.in-init.is)))) told.3)
+
+pub returns-in_ok-staff_key_asked-in-text-clause-trust : goal.returns-in_ok-staff_key_asked-in-text-clause-trust
+returns-in_ok-staff_key_asked-in-text-clause-trust c = λ trusted told.
+    let met = name_met c.args.matches.now told.0 _ told.1 _ told.2 c.in_ok-name.ensures.name c.in_ok-name.ensures.rows in
+    absurd (clockless told.0 (inr (inr (inr (met ∙ c.in-text.is)))) told.3)
+
+pub returns-in_ok-serve_asked-in-serve-clause-trust : goal.returns-in_ok-serve_asked-in-serve-clause-trust
+returns-in_ok-serve_asked-in-serve-clause-trust c = λ trusted told.
+    c.in_ok-serve_asked-in-serve.ensures.trust trusted (subst (λ rows. TellsTrust rows trusted) (rows_met c.args.matches.now told.0 told.1 _ told.2 (sym c.in_ok-name.ensures.rows)) told.4)
+
+pub returns-in_ok-import_asked-in-import-clause-trust : goal.returns-in_ok-import_asked-in-import-clause-trust
+returns-in_ok-import_asked-in-import-clause-trust c = λ trusted told.
+    c.in_ok-import_asked-in-import.ensures.trust trusted (subst (λ rows. TellsTrust rows trusted) (rows_met c.args.matches.now told.0 told.1 _ told.2 (sym c.in_ok-name.ensures.rows)) told.4)
+
+pub returns-in_ok-export_asked-in-export-clause-trust : goal.returns-in_ok-export_asked-in-export-clause-trust
+returns-in_ok-export_asked-in-export-clause-trust c = λ trusted told.
+    c.in_ok-export_asked-in-export.ensures.trust trusted (subst (λ rows. TellsTrust rows trusted) (rows_met c.args.matches.now told.0 told.1 _ told.2 (sym c.in_ok-name.ensures.rows)) told.4)
+
+pub returns-in_ok-check_asked-in-check-clause-trust : goal.returns-in_ok-check_asked-in-check-clause-trust
+returns-in_ok-check_asked-in-check-clause-trust c = λ trusted told.
+    c.in_ok-check_asked-in-check.ensures.trust trusted (subst (λ rows. TellsTrust rows trusted) (rows_met c.args.matches.now told.0 told.1 _ told.2 (sym c.in_ok-name.ensures.rows)) told.4)
+
+pub returns-in_ok-show_asked-in-show-clause-trust : goal.returns-in_ok-show_asked-in-show-clause-trust
+returns-in_ok-show_asked-in-show-clause-trust c = λ trusted told.
+    c.in_ok-show_asked-in-show.ensures.trust trusted (subst (λ rows. TellsTrust rows trusted) (rows_met c.args.matches.now told.0 told.1 _ told.2 (sym c.in_ok-name.ensures.rows)) told.4)
 
 -- ---- sums
 

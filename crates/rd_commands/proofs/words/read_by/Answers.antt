@@ -4,7 +4,7 @@ use Rattle.rd_commands.specs.Asks.{IsForMemory, IsTold}
 use Rattle.rd_commands.specs.CommandLine.{IsTaken}
 use Rattle.rd_commands.specs.Commands.{IsTakenServingNowhere, IsTakenShowingNothing, NamesAPlace, NamesWhatItShows, TellsARule}
 use Rattle.rd_commands.specs.declared.words.Unread.TheVariants.{Day, Place as NoPlace, Usage}
-use Rattle.rd_commands.proofs.GetterLemmas.{GivesRows, ask_given, ask_accession, ask_read, ask_unread, entered_is, fails_for_memory, names_what_it_shows, never_faulty, no_day, no_fault_in, on_ok_always, passed_on, rule_read, sums_read, taken_by, taken_on_output, taken_serving, taken_showing, unread_usage, words_at_fault, words_taken}
+use Rattle.rd_commands.proofs.GetterLemmas.{GivesRows, ask_given, ask_accession, ask_read, ask_unread, entered_is, fails_for_memory, names_what_it_shows, never_faulty, no_day, no_fault_in, on_ok_always, passed_on, rule_read, sums_read, taken_by, taken_on_output, taken_serving, trust_read, taken_showing, unread_usage, words_at_fault, words_taken}
 use Rattle.rd_commands.proofs.HelpLine.{help_not_parsed, help_unread, not_help}
 use Rattle.rd_commands.proofs.Places.{look_mistake, look_no_fault, look_not_placed, look_not_shown, look_unread, names_a_place, no_place_of}
 use Rattle.rd_commands.proofs.VersionLine.{not_version, version_not_parsed, version_unread}
@@ -188,6 +188,12 @@ pub returns-in_err-shown-in-Ok-clause-of_clap : goal.returns-in_err-shown-in-Ok-
 returns-in_err-shown-in-Ok-clause-of_clap c =
     passed_on c.from_residual.result c.in_err-shown-in-Ok.field-0.0 _ c.from_residual.ensures.1
     (λ none. absurd (none (taken_by (app_of c.args.desk) _ c.requires c.in-Ok.ensures.kinds)))
+
+-- ---- the clock
+
+pub returns-in_ok-shown-in-Ok-clause-trust : goal.returns-in_ok-shown-in-Ok-clause-trust
+returns-in_ok-shown-in-Ok-clause-trust c = λ trusted told.
+    trust_read (app_of c.args.desk) _ c.in-Ok.matches c.ask_found.result Usage c.ok_or.result trusted c.requires c.in-Ok.ensures.matches c.ok_or.ensures.value c.ask_found.ensures.trust told
 
 -- ---- sums
 

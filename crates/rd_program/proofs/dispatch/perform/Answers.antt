@@ -20,6 +20,7 @@ use Rattle.rd_program.specs.DiskFiles.{GivesFile, IsOfImage}
 use Rattle.rd_program.specs.Showing.{AnswersBy}
 use Rattle.rd_program.specs.Asked.{AsksBy, IsClockDueBy, IsUnaskedBy, SumsBy}
 use Rattle.rd_program.specs.Rows.{ImportsBy, RefusesSheetBy}
+use Rattle.rd_program.specs.OnTime.{IsOnTimeBy}
 use Rattle.rd_program.specs.Visiting.{ServesBy}
 use Rattle.rd_commands.specs.declared.done.Done.TheVariants.{InPart}
 use Rattle.rd_program.proofs.dispatch.perform.Goals as goal
@@ -750,6 +751,18 @@ returns-in-OneQuestion-clause-put g c = λ store key asked. absurd (subst (IsSta
 
 pub returns-in-OneQuestion-clause-not_put : goal.returns-in-OneQuestion-clause-not_put
 returns-in-OneQuestion-clause-not_put g c = λ store key asked. absurd (subst (IsStaffKeyAsk store key) c.in-OneQuestion.is asked)
+
+-- ---- the clock that is not behind
+
+pub returns-in-Import-clause-on_time : goal.returns-in-Import-clause-on_time
+returns-in-Import-clause-on_time g c =
+    subst (λ ask. IsOnTimeBy g.M.Disk.Store (g.M.Machine.clock c.args.machine.now) (g.M.Machine.stands c.args.machine.now) (g.M.Machine.left c.import.new.machine) ask c.import.result)
+    (sym c.in-Import.is) c.import.ensures.on_time
+
+pub returns-in-OneQuestion-clause-on_time : goal.returns-in-OneQuestion-clause-on_time
+returns-in-OneQuestion-clause-on_time g c =
+    subst (λ ask. IsOnTimeBy g.M.Disk.Store (g.M.Machine.clock c.args.machine.now) (g.M.Machine.stands c.args.machine.now) (g.M.Machine.left c.ask_once.new.machine) ask c.ask_once.result)
+    (sym c.in-OneQuestion.is) c.ask_once.ensures.on_time
 
 -- ---- sums
 

@@ -1,9 +1,13 @@
-use Rattle.std.proofs.Common.{◌∙◌, IsTrue, ap, subst, sym}
+use Rattle.std.proofs.Common.{◌∙◌, IsTrue, ap, subst, sym, IfSome, OnOk}
 use Rattle.sha2.specs.Sha256.{sha256}
 use Rattle.rd_program.specs.Leaves.{IsDayAt, LeavesDesk, TakesIn, moment_of}
 use Rattle.rd_program.proofs.RowLemmas.{opening_no_sheet, sheet_ended, shown_before}
 use Rattle.rd_program.proofs.ShowLemmas.{passed_on}
 use Rattle.rd_program.proofs.DaylessMoments.{clock_ended, opening_no_clock, unasked}
+use Rattle.rd_policy.specs.Zones.{day_number}
+use Rattle.rd_store.specs.Held.{IsOpen, desk}
+use Rattle.rd_program.specs.OnTime.{IsOnTime}
+use Rattle.rd_program.proofs.OnTimeLemmas.{stood_on_time}
 use Rattle.rd_program.proofs.Named.{asked_then}
 use Rattle.rd_program.proofs.LeftStores.{desk_left, gives_back, has_both, on_ended_always, opening_fails, unopened_left}
 use Rattle.rd_program.proofs.import.import.Goals as goal
@@ -86,3 +90,18 @@ pub returns-clause-asked : goal.returns-clause-asked
 returns-clause-asked g c =
     asked_then (g.M.Machine.paths c.args.machine.now) (g.M.Machine.paths c.open_desk.new.machine) (g.M.Machine.paths c.release.new.self) c.args.ask.store.now c.open_desk.ensures.asked
     (c.release.ensures.asked ∙ c.import_sheet-imported.ensures.asked)
+
+-- ---- the clock that is not behind
+
+pub returns-clause-on_time : goal.returns-clause-on_time
+returns-clause-on_time g c = λ held.
+    let stood = g.M.Machine.stands c.args.machine.now c.args.ask.store.now in
+    let left = g.M.Machine.left c.release.new.self in
+    let clock = g.M.Machine.clock c.args.machine.now in
+    let opened = c.in_ok-desk.desk.store in
+    let last = c.import_sheet-imported.new.desk.store in
+    stood_on_time g.M.Disk.Store stood left opened last c.into_connection.result clock c.args.ask.when.zone c.import_sheet-imported.result
+    c.in_ok-desk.ensures.opened c.import_sheet-imported.ensures.takes.lasts (c.into_connection.ensures.same ∙ c.into_store.ensures) c.release.ensures.left
+    (subst (λ z. OnOk c.import_sheet-imported.result (IfSome clock (λ seconds. IsOpen g.M.Disk.Store last → IsOnTime (day_number seconds z) (desk g.M.Disk.Store opened)))) c.in_ok-desk.ensures.zone
+    (subst (λ m. OnOk c.import_sheet-imported.result (IfSome m (λ seconds. IsOpen g.M.Disk.Store last → IsOnTime (day_number seconds c.in_ok-desk.desk.zone) (desk g.M.Disk.Store opened)))) c.in_ok-desk.ensures.clock
+    (c.import_sheet-imported.ensures.on_time held)))
