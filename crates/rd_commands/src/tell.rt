@@ -8,13 +8,13 @@ ghost use Rattle.clap.specs.declared.error.Error.{Error};
 ghost use Rattle.clap.specs.declared.error.kind.ErrorKind.TheVariants.{DisplayHelp, DisplayVersion, OutOfMemory};
 ghost use Rattle.rd_volume.specs.Words.{words_left};
 ghost use Rattle.rd_commands.specs.Asks.{IsForMemory, IsHelp, IsMistake, IsVersion};
-ghost use Rattle.rd_commands.specs.Helps.{RefusesHelp, help_for};
+ghost use Rattle.rd_commands.specs.Helps.{help_for};
 ghost use Rattle.rd_commands.specs.Output.{AppendsPart};
 ghost use Rattle.rd_commands.specs.Printed.{blanked, refusal_line, words_after};
 ghost use Rattle.rd_commands.specs.Refusals.{status_of};
 ghost use Rattle.rd_commands.specs.RefusalLines.{Tells};
 ghost use Rattle.rd_commands.specs.Versions.{RefusesVersion, version_line};
-ghost use Rattle.rd_commands.specs.declared.refusal.Refusal.TheVariants.{NoMemory};
+ghost use Rattle.rd_commands.specs.declared.refusal.Refusal.TheVariants.{Device, NoMemory};
 ghost use Rattle.rd_commands.specs.declared.words.Unread.TheVariants as Unread;
 
 use crate::help::tell_help;
@@ -152,8 +152,9 @@ pub fn tell_unread<W: Write, E: Write>(
     ensures written { result ≡ 3
         → Tells (λ _. ⊤) 3 (E.contents errors.old) (E.contents errors.new) }
     ensures help { IsHelp unread → result ≢ 0
-        → (result ≡ 3) × Tells (RefusesHelp (help_for (map (λ word. word.now) words.now))
-        (W.contents output.old) (W.contents output.new)) 3 (E.contents errors.old) (E.contents errors.new) }
+        → (result ≡ 3) × Tells (λ refusal. (refusal ≡ Device)
+        × AppendsPart (W.contents output.old) (W.contents output.new) (help_for (map (λ word. word.now) words.now))) 3
+        (E.contents errors.old) (E.contents errors.new) }
     ensures version { IsVersion unread → result ≢ 0
         → (result ≡ 3) × Tells (RefusesVersion (W.contents output.old) (W.contents output.new)) 3
         (E.contents errors.old) (E.contents errors.new) }

@@ -1,5 +1,5 @@
 -- What is given of a file of the machine, by the words.
-use Rattle.std.proofs.Common.{◌≡◌, ◌≢◌, ℕ, List, Err, Ok, OnOk, Option, Result, IfSome, codes, inl, inr, subst, sym}
+use Rattle.std.proofs.Common.{◌≡◌, ◌≢◌, ℕ, List, Err, Ok, OnOk, Option, Result, IfSome, codes, inl, inr, subst, sym, ◌∙◌}
 use Rattle.std.specs.Prelude.{⊤}
 use Rattle.rd_geometry.specs.declared.kind.Kind.{Kind}
 use Rattle.rd_commands.specs.Asks.{IsFileAsk, IsFilesAsk}
@@ -8,6 +8,8 @@ use Rattle.rd_commands.specs.Commands.{IsAskOf}
 use Rattle.rd_commands.specs.Helps.{RefusesHelp}
 use Rattle.rd_commands.specs.Listed.{Lists, RefusesList}
 use Rattle.rd_commands.specs.declared.refusal.Refusal.{Refusal}
+use Rattle.rd_commands.specs.declared.refusal.Refusal.TheVariants.{Device}
+use Rattle.rd_commands.specs.Output.{AppendsPart}
 use Rattle.rd_commands.specs.RefusalLines.{Tells}
 use Rattle.rd_commands.specs.Words.{AsksOfKind}
 use Rattle.rd_commands.specs.declared.done.Done.{Done}
@@ -64,11 +66,16 @@ module _ (files : List ℕ → Option (List ℕ)) (out written : Option (List �
       (gives (subst (λ p. p ≢ codes "-") (sym asks.image_is) other)).refused)
   files_refused ask kind path other asks gives = absurd asks
 
--- a help that is not written, under another name
+-- a help that a device cut off, under another name
 pub help_refused : (status : ℕ) (out written errors told : Option (List ℕ)) (help same : List ℕ) → help ≡ same
-    → (status ≡ 3) × Tells (RefusesHelp help out written) 3 errors told → Tells (RefusesHelp same out written) status errors told
-help_refused status out written errors told help same is due =
-    subst (λ text. Tells (RefusesHelp text out written) status errors told) is (subst (λ s. Tells (RefusesHelp help out written) s errors told) (sym due.0) due.1)
+    → (status ≡ 3) × Tells (λ refusal. (refusal ≡ Device) × AppendsPart out written help) 3 errors told
+    → Tells (RefusesHelp same out written) status errors told
+help_refused status out written errors told help same is due = record {
+    refusal = due.1.refusal;
+    why = subst (RefusesHelp same out written) (sym due.1.why.0) (subst (AppendsPart out written) is due.1.why.1);
+    has_status = due.1.has_status ∙ sym due.0;
+    line = due.1.line
+}
 
 -- a success of which nothing is said
 pub stands_nowhere : {T E : Type 0} (r : Result T E) → OnOk r ⊤
