@@ -1,11 +1,13 @@
 #!/usr/bin/env python3
-"""bench/changes.py NAME=PROGRAM NAME=PROGRAM [..] [--size N] [--visits N]: what a change of the store costs.
+"""bench/changes.py NAME=PROGRAM NAME=PROGRAM [..] [--sums NAME] [--size N] [--visits N]: what a change of the store
+costs.
 
-Each PROGRAM is a desk. Each makes and fills a store of its own, of 100 accessions with eight files each. Then their
-servers, which this script starts, are asked in turn for changes, and for a file beside them: so what else the machine
-does meets all. It prints what each costs divided by what it costs the desk that is named first: by the clock and in
-processor time, the median of 20 visits; and how many syncs and how many bytes a change takes, as strace counts them of
-five more. Of opening the store it prints the time. You need Debian's strace; as root, the script installs it."""
+Each PROGRAM is a desk. Each makes and fills a store of its own, of 100 accessions with eight files each, and with sums
+if --sums names it; a program may have two names. Then their servers, which this script starts, are asked in turn for
+changes, and for a file beside them: so what else the machine does meets all. It prints what each costs divided by what
+it costs the desk that is named first: by the clock and in processor time, the median of 20 visits; and how many syncs
+and how many bytes a change takes, as strace counts them of five more. Of opening the store it prints the time. You need
+Debian's strace; as root, the script installs it."""
 
 import argparse
 import hashlib
@@ -115,7 +117,8 @@ def counts_of(store, asked, first, words, path):
             else:
                 server.visit(rooms.question("GET", "/nowhere"))
         server.end()
-    calls = CALL.findall(tools.bytes_of(path))
+    with open(path, "rb") as trace:
+        calls = CALL.findall(trace.read())
     written = [int(count) for call, count in calls if call == b"pwrite64"]
     return len(calls) - len(written), sum(written)
 
@@ -128,6 +131,7 @@ def show(title, first, other):
 def main():
     parser = argparse.ArgumentParser(usage=__doc__)
     parser.add_argument("programs", nargs="+")
+    parser.add_argument("--sums", metavar="NAME", action="append", default=[])
     parser.add_argument("--size", type=int, default=100)
     parser.add_argument("--visits", type=int, default=20)
     words = parser.parse_args()
@@ -135,8 +139,8 @@ def main():
     programs, asked = rooms.named_programs(words.programs), questions(words.size)
     with tempfile.TemporaryDirectory() as folder:
         stores = {name: (program, os.path.join(folder, f"{name}.sqlite")) for name, program in programs.items()}
-        for program, store in stores.values():
-            rooms.fill(program, store, rooms.Shelf(words.size))
+        for name, (program, store) in stores.items():
+            rooms.fill(program, store, rooms.Shelf(words.size), ["--sums"] if name in words.sums else [])
         opened = {name: shelves.opening(*store)[0] for name, store in stores.items()}
         timed = times(stores, asked, words.visits)
         counted = traced(stores, asked, words.visits, folder)

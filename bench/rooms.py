@@ -223,9 +223,9 @@ def filling(accessions):
         yield "PUT", f"/images/{acc}/rules/1", TAKEDOWN
 
 
-def fill(program, store, accessions):
-    """Makes a store and fills it, by the desk's own commands."""
-    subprocess.run([program, "init", "--store", store, "--key", STAFF], check=True, stdout=subprocess.DEVNULL)
+def fill(program, store, accessions, words=()):
+    """Makes a store, with further words of `init`, and fills it, by the desk's own commands."""
+    subprocess.run([program, "init", *words, "--store", store, "--key", STAFF], check=True, stdout=subprocess.DEVNULL)
     with Server(desk_serves(program), store, len(FIRST_REQUESTS) + 2 * len(accessions)) as server:
         for method, path, body in filling(accessions):
             reply = server.visit(question(method, path, STAFF, body))

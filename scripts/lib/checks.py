@@ -68,6 +68,7 @@ BUILT = [
     of_page("docs/OPERATING.md"),
     of_page("docs/BY-HAND.md"),
     of_program("killed-at-any-moment.py"),
+    of_program("flipped-bits.py"),
     of_program("behind-nginx.py"),
     of_program("journal-is-whole.py"),
     of_program("looks-find-faults.py"),
