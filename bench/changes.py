@@ -6,8 +6,8 @@ Each PROGRAM is a desk. Each makes and fills a store of its own, of 100 accessio
 if --sums names it; a program may have two names. Then their servers, which this script starts, are asked in turn for
 changes, and for a file beside them: so what else the machine does meets all. It prints what each costs divided by what
 it costs the desk that is named first: by the clock and in processor time, the median of 20 visits; and how many syncs
-and how many bytes a change takes, as strace counts them of five more. Of opening the store it prints the time. You need
-Debian's strace; as root, the script installs it."""
+and how many bytes a change takes, as strace counts them of five more. Of opening the store it prints both times, the
+median of eleven. You need Debian's strace; as root, the script installs it."""
 
 import argparse
 import hashlib
@@ -23,7 +23,7 @@ import shelves
 import tools
 from shelves import Question
 
-TRACED = 5
+OPENINGS, TRACED = 11, 5
 CALL = re.compile(rb"(fsync|fdatasync|pwrite64)\(.*= (-?\d+)")
 
 
@@ -70,6 +70,19 @@ def serve(stores, visits, before=lambda name: ()):
         name: rooms.Server(rooms.desk_serves(program), store, visits, before(name))
         for name, (program, store) in stores.items()
     }
+
+
+def openings(stores):
+    """By desk the median of the clock's times of an opening, and that of the processor's. The desks take turns."""
+    took = {name: [] for name in stores}
+    for _ in range(OPENINGS):
+        for name, (program, store) in stores.items():
+            began = time.monotonic()
+            with rooms.Server(rooms.desk_serves(program), store, 1) as server:
+                took[name].append((time.monotonic() - began, server.spent()))
+                server.visit(rooms.question("GET", "/nowhere"))
+                server.end()
+    return {name: tuple(statistics.median(part) for part in zip(*found)) for name, found in took.items()}
 
 
 def times(stores, asked, visits):
@@ -141,13 +154,14 @@ def main():
         stores = {name: (program, os.path.join(folder, f"{name}.sqlite")) for name, program in programs.items()}
         for name, (program, store) in stores.items():
             rooms.fill(program, store, rooms.Shelf(words.size), ["--sums"] if name in words.sums else [])
-        opened = {name: shelves.opening(*store)[0] for name, store in stores.items()}
+        opened = openings(stores)
         timed = times(stores, asked, words.visits)
         counted = traced(stores, asked, words.visits, folder)
     base = next(iter(programs))
     for name in programs:
         print(f"{name}, beside {base}")
-        show("opening, by the clock", opened[base], opened[name])
+        show("opening, by the clock", opened[base][0], opened[name][0])
+        show("opening, processor", opened[base][1], opened[name][1])
         for title in (question.title for question in asked):
             show(f"{title}, by the clock", timed[base][title][0], timed[name][title][0])
             show(f"{title}, processor", timed[base][title][1], timed[name][title][1])

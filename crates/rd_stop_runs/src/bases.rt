@@ -35,6 +35,8 @@ pub(crate) enum Base {
     Checked,
     /// The desk with an image, a takedown of it, and another key of the staff. The key is in the log.
     Takedown,
+    /// The desk with an image, and each page with a sum. The last rule is in the log.
+    Summed,
     /// The desk with three images and a third deed, in the tables of version 1. The deed is in the
     /// log.
     First,
@@ -97,10 +99,10 @@ const THIRD_DEED: &[&str] = &[
     "INSERT INTO deed (num, donor, signed) VALUES (9, 'C. Donor', 18628)",
 ];
 
-/// Connects to the database in two files.
-fn connection(alloc: Global, pair: &Pair) -> Result<Connection<FilesStore>> {
+/// Connects to the database in two files. Where they are new, its pages get sums if that is asked for.
+fn connection(alloc: Global, pair: &Pair, new_has_sums: bool) -> Result<Connection<FilesStore>> {
     let files = pair.files(alloc, Sort::AnyBytes, None)?;
-    match connect(alloc, files, options(SALT, USUAL_FRAMES)) {
+    match connect(alloc, files, options(SALT, USUAL_FRAMES), new_has_sums) {
         Ok(conn) => Ok(conn),
         Err((error, _)) => bail!("no database: {error}"),
     }
@@ -114,15 +116,15 @@ fn desk_made<S: Alter + Drop>(conn: Connection<S>) -> Result<Desk<S>> {
     }
 }
 
-/// Connects to a database in new files.
-fn new_connection(alloc: Global) -> Result<Connection<FilesStore>> {
+/// Connects to a database in new files, with sums or without.
+fn new_connection(alloc: Global, has_sums: bool) -> Result<Connection<FilesStore>> {
     let empty = Pair::empty(alloc);
-    connection(alloc, &empty)
+    connection(alloc, &empty, has_sums)
 }
 
-/// A desk with one key in new files.
-fn new_desk(alloc: Global) -> Result<Desk<FilesStore>> {
-    let conn = new_connection(alloc)?;
+/// A desk with one key in new files, with sums or without.
+fn new_desk(alloc: Global, has_sums: bool) -> Result<Desk<FilesStore>> {
+    let conn = new_connection(alloc, has_sums)?;
     desk_made(conn)
 }
 
@@ -136,7 +138,7 @@ fn desk_migrated<S: Alter + Drop>(alloc: Global, conn: Connection<S>) -> Result<
 
 /// The desk in two files.
 fn standing_desk(alloc: Global, pair: &Pair) -> Result<Desk<FilesStore>> {
-    let conn = connection(alloc, pair)?;
+    let conn = connection(alloc, pair, false)?;
     desk_migrated(alloc, conn)
 }
 
@@ -166,7 +168,14 @@ fn after_each<S: Alter + Drop>(
 
 /// The files of a new desk after commands, with all pages in the database.
 fn copied_desk(alloc: Global, lists: &[&[Command]]) -> Result<Pair> {
-    let desk = new_desk(alloc)?;
+    let desk = new_desk(alloc, false)?;
+    let conn = after_each(alloc, desk, lists)?;
+    copied(conn)
+}
+
+/// The same of a desk whose pages end in sums.
+fn summed_desk(alloc: Global, lists: &[&[Command]]) -> Result<Pair> {
+    let desk = new_desk(alloc, true)?;
     let conn = after_each(alloc, desk, lists)?;
     copied(conn)
 }
@@ -199,7 +208,7 @@ fn after_statements(
     pair: &Pair,
     statements: &[&str],
 ) -> Result<Connection<FilesStore>> {
-    let conn = connection(alloc, pair)?;
+    let conn = connection(alloc, pair, false)?;
     after_all(conn, statements)
 }
 
@@ -244,6 +253,13 @@ fn with_takedown(alloc: Global) -> Result<Pair> {
     logged_commands(alloc, &desk, OTHER_STAFF)
 }
 
+/// The files of a desk with an image, where each page has a sum and the last rule is in the log.
+fn with_sums(alloc: Global) -> Result<Pair> {
+    let begun = summed_desk(alloc, &[NEW_DESK, FIRST_IMAGE])?;
+    ensure!(begun.has_sums(), "the pages have no sums");
+    logged_commands(alloc, &begun, LAST_RULE)
+}
+
 /// The files of a desk with three images and a third deed, in the tables of version 1.
 fn first_version(alloc: Global) -> Result<Pair> {
     let desk = copied_desk(alloc, &[NEW_DESK, LAST_RULE, FIRST_IMAGE, MORE_IMAGES])?;
@@ -261,6 +277,7 @@ pub(crate) fn files_of(alloc: Global, base: Base) -> Result<Pair> {
         Base::Logged => with_logged_image(alloc),
         Base::Checked => checked(alloc),
         Base::Takedown => with_takedown(alloc),
+        Base::Summed => with_sums(alloc),
         Base::First => first_version(alloc),
     }
 }

@@ -66,6 +66,11 @@ fn calls_of(file: File, stop: Option<Stop>) -> u64 {
 /// How many bytes a page has, and a log at least in which there is one.
 const PAGE_BYTES: usize = 4_096;
 
+/// At which byte a database file says how many bytes its pages end in that hold no row, and how many those of a sum are.
+const SUM_PLACE: usize = 20;
+
+const SUM_BYTES: u8 = 8;
+
 /// How many bytes stand behind the last page of a torn log: less than a page has.
 const TORN_BYTES: usize = 3_000;
 
@@ -119,6 +124,14 @@ impl Pair {
     /// Whether pages are in the log.
     pub(crate) fn has_logged(&self) -> bool {
         self.log.len() >= PAGE_BYTES
+    }
+
+    /// Whether the pages of the database file end in sums.
+    pub(crate) fn has_sums(&self) -> bool {
+        match self.db.get(SUM_PLACE) {
+            Some(byte) => *byte == SUM_BYTES,
+            None => false,
+        }
     }
 
     /// How many pages both hold at most.
@@ -182,18 +195,19 @@ pub(crate) fn options(salt: u64, frames: usize) -> Options {
     }
 }
 
-/// Connects to the database in two files.
+/// Connects to the database in two files. Where they are new, its pages get sums if that is asked for.
 ///
 /// It fails with the error and the files.
 pub(crate) fn connect(
     alloc: Global,
     files: Drives,
     options: Options,
+    new_has_sums: bool,
 ) -> Result<Connection<FilesStore>, (Error, Drives)> {
     if !files.may_be_used() {
         return Err((Error::SqliteFailure(ErrorCode::SystemIoFailure), files));
     }
-    match Connection::open_files(alloc, files, options) {
+    match Connection::open_files_with(alloc, files, options, new_has_sums) {
         Ok(conn) => Ok(conn),
         Err((error, left)) => Err((error, left.into_files())),
     }

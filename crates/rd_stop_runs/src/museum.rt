@@ -1,4 +1,4 @@
-//! A machine whose store is a database on two files in memory, and `desk import` on it.
+//! A machine whose store is a database on two files in memory, and commands of the program on it.
 
 ghost use Rattle.std.specs.Prelude.{Some};
 ghost use Rattle.rd_samples.specs.declared.days.TheConstants.{AFTER};
@@ -14,7 +14,7 @@ use sqlite::{Alter, Connection};
 use std::alloc::{AllocError, Global};
 
 /// The words of an import.
-const WORDS: &[&str] = &[
+const IMPORT: &[&str] = &[
     "import",
     "--store",
     STORE,
@@ -23,6 +23,9 @@ const WORDS: &[&str] = &[
     "--sheet",
     "images.csv",
 ];
+
+/// The words that put a key of the staff, for whom no other key is asked.
+const STAFF_KEY_COMMAND: &[&str] = &["staff-key", "--store", STORE, "--key", "spare"];
 
 /// The accession of the first row of the sheet.
 const FIRST_ACC: usize = 21;
@@ -70,9 +73,9 @@ impl Supply for Given {
     }
 }
 
-/// The status of an import, and what it wrote to both outputs.
+/// The status of a command, and what it wrote to both outputs.
 #[derive(Drop)]
-pub(crate) struct Imported {
+pub(crate) struct Written {
     pub(crate) status: u8,
     pub(crate) output: Vec<u8>,
     pub(crate) errors: Vec<u8>,
@@ -80,22 +83,48 @@ pub(crate) struct Imported {
 
 fn run_on<S: Alter + Drop>(
     alloc: Global,
+    words: &[&str],
     output: &mut Vec<u8>,
     errors: &mut Vec<u8>,
     museum: &mut Museum<Given, S>,
 ) -> u8 {
-    run(alloc, WORDS, &mut [].as_slice(), output, errors, museum)
+    run(alloc, words, &mut [].as_slice(), output, errors, museum)
 }
 
-/// Has a machine import its sheet.
-fn import_on<S: Alter + Drop>(alloc: Global, museum: &mut Museum<Given, S>) -> Imported {
+/// Has a machine carry out a command.
+fn written_on<S: Alter + Drop>(
+    alloc: Global,
+    words: &[&str],
+    museum: &mut Museum<Given, S>,
+) -> Written {
     let mut output = Vec::new(alloc);
     let mut errors = Vec::new(alloc);
-    let status = run_on(alloc, &mut output, &mut errors, museum);
-    Imported {
+    let status = run_on(alloc, words, &mut output, &mut errors, museum);
+    Written {
         status,
         output,
         errors,
+    }
+}
+
+/// Carries out a command on the store of a connection, beside a sheet of some rows, and gives the connection back.
+fn carry_out<S: Alter + Drop>(
+    alloc: Global,
+    words: &[&str],
+    rows: usize,
+    conn: Connection<S>,
+) -> Result<(Written, Connection<S>)> {
+    let door = new_door(alloc, Vec::new(alloc))?;
+    let mut museum = Museum {
+        conn: Some(conn),
+        door,
+        limits: None,
+        supply: Given { rows },
+    };
+    let written = written_on(alloc, words, &mut museum);
+    match museum.conn.take() {
+        Some(conn) => Ok((written, conn)),
+        None => bail!("the program did not give the store back"),
     }
 }
 
@@ -104,17 +133,14 @@ pub(crate) fn import<S: Alter + Drop>(
     alloc: Global,
     conn: Connection<S>,
     rows: usize,
-) -> Result<(Imported, Connection<S>)> {
-    let door = new_door(alloc, Vec::new(alloc))?;
-    let mut museum = Museum {
-        conn: Some(conn),
-        door,
-        limits: None,
-        supply: Given { rows },
-    };
-    let imported = import_on(alloc, &mut museum);
-    match museum.conn.take() {
-        Some(conn) => Ok((imported, conn)),
-        None => bail!("the program did not give the store back"),
-    }
+) -> Result<(Written, Connection<S>)> {
+    carry_out(alloc, IMPORT, rows, conn)
+}
+
+/// Puts a key of the staff into the store of a connection, and gives the connection back.
+pub(crate) fn put_staff_key<S: Alter + Drop>(
+    alloc: Global,
+    conn: Connection<S>,
+) -> Result<(Written, Connection<S>)> {
+    carry_out(alloc, STAFF_KEY_COMMAND, 0, conn)
 }

@@ -1,7 +1,7 @@
 //! Runs whose files stop at each of their calls, one file after the other.
 
 use crate::drive::Sort;
-use crate::files::{File, Pair, Stop, syncs_of};
+use crate::files::{Drives, File, Pair, Stop, syncs_of};
 use crate::leavings::{Kept, Left, leavings};
 use crate::outcomes::{Counts, Outcome, Stopped, outcome_of};
 use crate::running::{Ending, Ran, Report, carry_out};
@@ -49,6 +49,7 @@ impl Start<'_> {
     /// What the run needs without a stop.
     fn needed(&self, alloc: Global) -> Result<Needed> {
         let ran = self.ran(alloc, self.run.action.changes())?;
+        check_sums(self.run, &ran.files)?;
         Ok(Needed {
             db: File::Database.calls(&ran.files),
             log: File::Log.calls(&ran.files),
@@ -61,6 +62,14 @@ impl Start<'_> {
 fn check_done(report: &Report, changes: usize) -> Result<()> {
     let is_done = report.ending == Ending::Done && report.changes == changes;
     ensure!(is_done, "it is not done: {}", report.words);
+    Ok(())
+}
+
+/// Fails where a database has no sums that asks for them.
+fn check_sums(run: &Run, files: &Drives) -> Result<()> {
+    let kept = Pair::kept(files)?;
+    let is_right = !run.action.asks_sums() || kept.has_sums();
+    ensure!(is_right, "the pages have no sums");
     Ok(())
 }
 

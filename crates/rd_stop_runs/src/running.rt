@@ -3,7 +3,7 @@
 use crate::commands::Command;
 use crate::desk::{desk_of, status_of, words_of_create, words_of_open};
 use crate::files::{Drives, FilesStore, close, connect, into_files, options, pages_of};
-use crate::museum::{Imported, accession_of, import};
+use crate::museum::{Written, accession_of, import, put_staff_key};
 use crate::runs::{Action, Run};
 use anyhow::{Result, bail};
 use rd_desk::Desk;
@@ -18,8 +18,11 @@ const SALT: u64 = 3;
 /// How many pages have room in memory beside those that the files hold before a run.
 const MORE_PAGES: usize = 16;
 
-/// What an import writes where its store fails.
+/// What a command writes where its store fails.
 const STORE_LINE: &str = "desk: store\n";
+
+/// What a command writes that is done.
+const DONE_LINE: &str = "done\n";
 
 /// How a run ends.
 #[derive(Clone, Copy, PartialEq, Eq)]
@@ -247,7 +250,7 @@ fn rows_done(alloc: Global, text: &str) -> Result<Option<usize>, AllocError> {
     Ok(Some(rows))
 }
 
-/// How a run ends after an import with this status that wrote these errors.
+/// How a run ends after a command with this status that wrote these errors.
 fn ending_of(status: u8, errors: &str) -> Ending {
     if status == 0 && errors.is_empty() {
         Ending::Done
@@ -273,7 +276,7 @@ fn report_with(alloc: Global, status: u8, output: &str, errors: &str) -> Result<
     })
 }
 
-/// A text that an import wrote.
+/// A text that a command wrote.
 fn text_of(written: &Vec<u8>) -> Result<&str> {
     match str::from_utf8(written.as_slice()) {
         Ok(text) => Ok(text),
@@ -282,7 +285,7 @@ fn text_of(written: &Vec<u8>) -> Result<&str> {
 }
 
 /// What a run reports after an import.
-fn report_of(alloc: Global, imported: &Imported) -> Result<Report> {
+fn report_of(alloc: Global, imported: &Written) -> Result<Report> {
     let output = text_of(&imported.output)?;
     let errors = text_of(&imported.errors)?;
     report_with(alloc, imported.status, output, errors)
@@ -299,15 +302,48 @@ fn run_import<S: Alter + Drop>(
     Ok(Acted { report, conn })
 }
 
+/// How a run ends after a command that makes one change and then says so.
+fn ending_of_one(status: u8, output: &str, errors: &str) -> Ending {
+    let is_done = output == DONE_LINE;
+    if is_done == (status == 0) && (is_done || output.is_empty()) {
+        ending_of(status, errors)
+    } else {
+        Ending::Other
+    }
+}
+
+/// What a run reports after a command that makes one change.
+fn report_of_one(alloc: Global, written: &Written) -> Result<Report> {
+    let status = written.status;
+    let output = text_of(&written.output)?;
+    let errors = text_of(&written.errors)?;
+    let words = format!(in alloc; "status {status} {errors}")?;
+    let ending = ending_of_one(status, output, errors);
+    let changes = if ending == Ending::Done { 1 } else { 0 };
+    Ok(Report {
+        ending,
+        changes,
+        words,
+    })
+}
+
+/// Puts a key of the staff.
+fn run_staff_key<S: Alter + Drop>(alloc: Global, conn: Connection<S>) -> Result<Acted<S>> {
+    let (written, conn) = put_staff_key(alloc, conn)?;
+    let report = report_of_one(alloc, &written)?;
+    Ok(Acted { report, conn })
+}
+
 /// Does what an action says.
 fn act<S: Alter + Drop>(alloc: Global, action: Action, conn: Connection<S>) -> Result<Acted<S>> {
     match action {
-        Action::Create => run_create(alloc, conn),
+        Action::Create | Action::CreateWithSums => run_create(alloc, conn),
         Action::CreateSecond => run_second(alloc, conn),
         Action::Migrate => run_migrate(alloc, conn),
         Action::Ask(commands) => run_commands(alloc, conn, commands),
         Action::AskAsOne(commands) => run_as_one(alloc, conn, commands),
         Action::Import(rows) => run_import(alloc, conn, rows),
+        Action::PutStaffKey => run_staff_key(alloc, conn),
     }
 }
 
@@ -356,7 +392,7 @@ fn options_for(run: &Run, files: &Drives) -> Options {
 /// the run does.
 pub(crate) fn carry_out(alloc: Global, run: &Run, action: Action, files: Drives) -> Result<Ran> {
     let how = options_for(run, &files);
-    match connect(alloc, files, how) {
+    match connect(alloc, files, how, action.asks_sums()) {
         Ok(conn) => act_and_leave(alloc, action, conn, run.is_closed),
         Err((error, files)) => unconnected(alloc, error, files),
     }

@@ -13,6 +13,8 @@ use std::alloc::{AllocError, Global};
 pub(crate) enum Action {
     /// Makes a desk.
     Create,
+    /// Makes a desk each of whose pages ends in a sum.
+    CreateWithSums,
     /// Asks for a desk where one stands.
     CreateSecond,
     /// Brings a desk to the newest version.
@@ -23,6 +25,8 @@ pub(crate) enum Action {
     AskAsOne(&'static [Command]),
     /// Imports a sheet of so many rows. Each is a change.
     Import(usize),
+    /// Puts a key of the staff by a command that asks for none.
+    PutStaffKey,
 }
 
 impl Action {
@@ -32,8 +36,17 @@ impl Action {
             Action::Import(rows) => rows,
             Action::Ask(commands) => commands.len(),
             Action::CreateSecond => 0,
-            Action::Create | Action::Migrate | Action::AskAsOne(_) => 1,
+            Action::Create
+            | Action::CreateWithSums
+            | Action::Migrate
+            | Action::AskAsOne(_)
+            | Action::PutStaffKey => 1,
         }
+    }
+
+    /// Whether it asks for sums in a database that is new.
+    pub(crate) fn asks_sums(self) -> bool {
+        matches!(self, Action::CreateWithSums)
     }
 
     /// The action that makes only its first changes, where each of them is a command or a row.
@@ -194,6 +207,16 @@ const IMPORTED: Run = Run {
     before: "version 2\n",
     after: "version 2\n21\n22\n23\n24\n25\n26\n27\n28\n29\n30\n",
     ..MADE
+};
+
+/// A key of the staff is put by a command that asks for none.
+const STAFF_KEY_PUT: Run = Run {
+    name: "a key of the staff is put without another",
+    action: Action::PutStaffKey,
+    question: "SELECT audience FROM badge ORDER BY audience",
+    before: "version 2\n1\n2\n",
+    after: "version 2\n1\n2\n2\n",
+    ..DEED_PUT
 };
 
 /// The runs that stop at each call. The draws of a run hang on its place here, so a new one stands at
@@ -391,6 +414,42 @@ pub(crate) const RUNS: &[Run] = &[
         before: "version 2\n",
         after: "version 2\n0|256256|HELLO.TXT\n",
         ..DEED_PUT
+    },
+    Run {
+        name: "commands are given one after the other, and each copies the log of the one before",
+        sorts: TWICE,
+        action: Action::Ask(&[
+            THIRD_DEED,
+            FOURTH_DEED,
+            KEY_CHANGED,
+            Command::PutImage(13, Sample::Looped),
+        ]),
+        least_syncs: Some(6),
+        question: "SELECT num FROM deed WHERE num > 8 UNION ALL SELECT audience FROM badge WHERE audience = 1 UNION ALL SELECT acc FROM found",
+        before: "version 2\n1\n",
+        after: "version 2\n9\n10\n13\n",
+        ..DEED_PUT
+    },
+    Run {
+        name: "a desk with sums is made",
+        action: Action::CreateWithSums,
+        ..MADE
+    },
+    Run {
+        name: "a takedown is put where pages have sums",
+        sorts: TWICE,
+        base: Base::Summed,
+        action: Action::Ask(&[Command::PutRule(TAKEDOWN)]),
+        question: "SELECT scope, rank FROM rule WHERE band = 0",
+        before: "version 2\n",
+        after: "version 2\n12|1\n",
+        ..MADE
+    },
+    STAFF_KEY_PUT,
+    Run {
+        name: "a key of the staff is put without another where pages have sums",
+        base: Base::Summed,
+        ..STAFF_KEY_PUT
     },
 ];
 

@@ -139,7 +139,7 @@ impl Seen {
     /// What the database in two files of a sort holds.
     pub(crate) fn of(alloc: Global, pair: &Pair, sort: Sort, question: &str) -> Result<Seen> {
         let files = pair.files(alloc, sort, None)?;
-        match connect(alloc, files, options_for(pair)) {
+        match connect(alloc, files, options_for(pair), false) {
             Ok(conn) => Seen::migrated(alloc, conn, question),
             Err((error, _)) => Seen::unconnected(alloc, error),
         }
