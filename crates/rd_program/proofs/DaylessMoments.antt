@@ -1,5 +1,5 @@
 -- A moment without a day: no desk is asked.
-use Rattle.std.proofs.Common.{◌≡◌, ◌≢◌, ◌⊎◌, ℕ, ℤ, List, Option, Some, None, Result, Ok, Err, IfErr, IfSome, inl, inr, refl, subst, sym}
+use Rattle.std.proofs.Common.{◌≡◌, ◌≢◌, ◌⊎◌, ℕ, ℤ, Bool, List, true, false, Option, Some, None, Result, Ok, Err, IfErr, IfSome, inl, inr, refl, subst, sym}
 use Rattle.std.proofs.lemmas.Result.{IfErr-weaker}
 use Rattle.sqlite.specs.Held.{Held}
 use Rattle.sqlite.specs.Store.{Ghosts}
@@ -17,6 +17,7 @@ use Rattle.rd_program.specs.Asked.{AsksAt, IsClockDue, IsClockDueBy, IsClockOn, 
 use Rattle.rd_commands.specs.declared.refusal.Refusal.{Refusal}
 use Rattle.rd_commands.specs.declared.refusal.Refusal.TheVariants.{Clock, NoMemory}
 use Rattle.rd_program.specs.Leaves.{moment_of}
+use Rattle.rd_program.specs.OnTime.{is_dated}
 use Rattle.rd_program.specs.Showing.{EndsWith}
 use Rattle.rd_program.proofs.ShowLemmas.{ends_with}
 use Rattle.rd_program.specs.Serving.{IsDayless, IsOpenRefusal, IsRefused, IsUnasked, IsUnaskedRefusal}
@@ -40,36 +41,40 @@ opened_to_read : {S : Type 0} (g : Ghosts S) (before opened last : Held S) → I
 opened_to_read g before opened last at (inl still) = inl (subst (IsMigrated g before) (sym still) at)
 opened_to_read g before opened last at (inr keeps) = inr (opened, at, keeps)
 
-clock_in : {S : Type 0} (g : Ghosts S) (moment : Option ℤ) (old new : Option (Held S)) (opened last conn : Held S) (refusal : Refusal)
-    → IfSome old (λ before. IsMigrated g before opened) → conn ≡ last → IfSome new (λ held. Some conn ≡ Some held) → IsClockOn g moment opened last refusal
-    → IsClockDue g moment old new refusal
-clock_in g moment old new opened last conn Clock is same took due =
-    (ends_with g old new opened last conn (IsOpenedToRead g) is (λ before at. opened_to_read g before opened last at due.0) same took, named moment due.1)
+clock_in : {S : Type 0} (g : Ghosts S) (dated : Bool) (moment : Option ℤ) (old new : Option (Held S)) (opened last conn : Held S) (refusal : Refusal)
+    → IfSome old (λ before. IsMigrated g before opened) → conn ≡ last → IfSome new (λ held. Some conn ≡ Some held) → IsClockOn g dated moment opened last refusal
+    → IsClockDue g dated moment old new refusal
+clock_in g dated moment old new opened last conn Clock is same took due =
+    (ends_with g old new opened last conn (IsOpenedToRead g) is (λ before at. opened_to_read g before opened last at due.0) same took, (λ undated. still (due.1 undated)), named moment due.2)
   where
+    still : last ≡ opened → EndsWith old new (IsMigrated g)
+    still kept = ends_with g old new opened last conn (IsMigrated g) is (λ before at. subst (IsMigrated g before) (sym kept) at) same took
+
     named : (m : Option ℤ) → IfSome m (λ seconds. ¬ HasDay seconds × (last ≡ opened)) → IfSome m (λ seconds. ¬ HasDay seconds × EndsWith old new (IsMigrated g))
     named None told = tt
-    named (Some seconds) told = (told.0, ends_with g old new opened last conn (IsMigrated g) is (λ before at. subst (IsMigrated g before) (sym told.1) at) same took)
-clock_in g moment old new opened last conn refusal is same took due = tt
+    named (Some seconds) told = (told.0, still told.1)
+clock_in g dated moment old new opened last conn refusal is same took due = tt
 
 -- what is so of an open desk is so of the one that stood
-pub clock_ended : {T : Type 0} (r : Result T Refusal) {S : Type 0} (g : Ghosts S) (moment : Option ℤ) (old new : Option (Held S)) (opened last conn : Held S)
-    → IfSome old (λ before. IsMigrated g before opened) → conn ≡ last → IfSome new (λ held. Some conn ≡ Some held) → IfErr r (IsClockOn g moment opened last)
-    → IfErr r (IsClockDue g moment old new)
-clock_ended r g moment old new opened last conn is same took =
-    IfErr-weaker r _ _ (λ refusal. clock_in g moment old new opened last conn refusal is same took)
+pub clock_ended : {T : Type 0} (r : Result T Refusal) {S : Type 0} (g : Ghosts S) (dated : Bool) (moment : Option ℤ) (old new : Option (Held S)) (opened last conn : Held S)
+    → IfSome old (λ before. IsMigrated g before opened) → conn ≡ last → IfSome new (λ held. Some conn ≡ Some held) → IfErr r (IsClockOn g dated moment opened last)
+    → IfErr r (IsClockDue g dated moment old new)
+clock_ended r g dated moment old new opened last conn is same took =
+    IfErr-weaker r _ _ (λ refusal. clock_in g dated moment old new opened last conn refusal is same took)
 
 -- no opening names it
-pub opening_no_clock : {S : Type 0} (g : Ghosts S) (moment : Option ℤ) (old new : Option (Held S)) (refusal : Refusal) → IsOpenRefusal refusal → IsClockDue g moment old new refusal
-opening_no_clock g moment old new refusal (inl is) = subst (IsClockDue g moment old new) (sym is) tt
-opening_no_clock g moment old new refusal (inr (inl is)) = subst (IsClockDue g moment old new) (sym is) tt
-opening_no_clock g moment old new refusal (inr (inr (inl is))) = subst (IsClockDue g moment old new) (sym is) tt
-opening_no_clock g moment old new refusal (inr (inr (inr (inl is)))) = subst (IsClockDue g moment old new) (sym is) tt
-opening_no_clock g moment old new refusal (inr (inr (inr (inr is)))) = subst (IsClockDue g moment old new) (sym is) tt
+pub opening_no_clock : {S : Type 0} (g : Ghosts S) (dated : Bool) (moment : Option ℤ) (old new : Option (Held S)) (refusal : Refusal) → IsOpenRefusal refusal
+    → IsClockDue g dated moment old new refusal
+opening_no_clock g dated moment old new refusal (inl is) = subst (IsClockDue g dated moment old new) (sym is) tt
+opening_no_clock g dated moment old new refusal (inr (inl is)) = subst (IsClockDue g dated moment old new) (sym is) tt
+opening_no_clock g dated moment old new refusal (inr (inr (inl is))) = subst (IsClockDue g dated moment old new) (sym is) tt
+opening_no_clock g dated moment old new refusal (inr (inr (inr (inl is)))) = subst (IsClockDue g dated moment old new) (sym is) tt
+opening_no_clock g dated moment old new refusal (inr (inr (inr (inr is)))) = subst (IsClockDue g dated moment old new) (sym is) tt
 
 -- and once the day is known nothing else does
-pub no_clock_on : {S : Type 0} (g : Ghosts S) (moment : Option ℤ) (opened last : Held S) (refusal : Refusal) → refusal ≢ Clock → IsClockOn g moment opened last refusal
-no_clock_on g moment opened last Clock other = absurd (other refl)
-no_clock_on g moment opened last refusal other = tt
+pub no_clock_on : {S : Type 0} (g : Ghosts S) (dated : Bool) (moment : Option ℤ) (opened last : Held S) (refusal : Refusal) → refusal ≢ Clock → IsClockOn g dated moment opened last refusal
+no_clock_on g dated moment opened last Clock other = absurd (other refl)
+no_clock_on g dated moment opened last refusal other = tt
 
 -- no day was found
 abbrev pub no_day : Refusal → Result ℤ Refusal
@@ -79,15 +84,19 @@ refused_day : (refusal : Refusal) (day : ℤ) → Err refusal ≡ Ok day → ⊥
 refused_day refusal day is = cc is
 
 -- a day was not found: the moment that is named has none
-pub dayless_on : {S : Type 0} (g : Ghosts S) (moment : Option ℤ) (day : ℤ → ℤ) (opened : Held S) (refusal : Refusal)
-    → IfSome moment (λ seconds. (HasDay seconds → Err refusal ≡ Ok (day seconds)) × (¬ HasDay seconds → Err refusal ≡ no_day Clock)) → IsClockOn g moment opened opened refusal
-dayless_on g None day opened Clock told = (inl refl, tt)
-dayless_on g (Some seconds) day opened Clock told = (inl refl, (λ has. refused_day Clock (day seconds) (told.0 has), refl))
-dayless_on g moment day opened refusal told = tt
+pub dayless_on : {S : Type 0} (g : Ghosts S) (dated : Bool) (moment : Option ℤ) (day : ℤ → ℤ) (opened : Held S) (refusal : Refusal)
+    → IfSome moment (λ seconds. (HasDay seconds → Err refusal ≡ Ok (day seconds)) × (¬ HasDay seconds → Err refusal ≡ no_day Clock)) → IsClockOn g dated moment opened opened refusal
+dayless_on g dated None day opened Clock told = (inl refl, (λ _. refl), tt)
+dayless_on g dated (Some seconds) day opened Clock told = (inl refl, (λ _. refl), (λ has. refused_day Clock (day seconds) (told.0 has), refl))
+dayless_on g dated moment day opened refusal told = tt
+
+is_set : true ≡ false → ⊥
+is_set is = cc is
 
 -- the desk was read for the moment of the clock
-pub behind_on : {S : Type 0} (g : Ghosts S) (moment : Option ℤ) (opened last : Held S) (refusal : Refusal) → moment ≡ None → Keeps g opened last → IsClockOn g moment opened last refusal
-behind_on g moment opened last Clock none keeps = (inr keeps, subst (λ m. IfSome m (λ seconds. ¬ HasDay seconds × (last ≡ opened))) (sym none) tt)
+pub behind_on : {S : Type 0} (g : Ghosts S) (moment : Option ℤ) (opened last : Held S) (refusal : Refusal) → moment ≡ None → Keeps g opened last
+    → IsClockOn g true moment opened last refusal
+behind_on g moment opened last Clock none keeps = (inr keeps, (λ undated. absurd (is_set undated)), subst (λ m. IfSome m (λ seconds. ¬ HasDay seconds × (last ≡ opened))) (sym none) tt)
 behind_on g moment opened last refusal none keeps = tt
 
 -- ---- by the words
@@ -142,15 +151,16 @@ command_at words store moment rule (inr (inr (inr (key, what, asks)))) = inr (in
 
 module _ {S : Type 0} (g : Ghosts S) (stands : List ℕ → Option (Held S)) (left : Option (Held S)) (refusal : Refusal) (store : List ℕ) (moment : Option ℤ) (rule : List ℕ) where
   pub import_clock : (ask : Ask) (key sheet : List ℕ) → IsImportAsk store key sheet moment rule ask → IsClockDueBy g stands left ask refusal
-      → IsClockDue g moment (stands store) left refusal
+      → IsClockDue g true moment (stands store) left refusal
   import_clock (Import ask) key sheet asks due =
-      subst (λ s. IsClockDue g moment (stands s) left refusal) asks.store_is
-      (subst (λ m. IsClockDue g m (stands ask.store.now) left refusal) asks.when_is.moment_is due)
+      subst (λ s. IsClockDue g true moment (stands s) left refusal) asks.store_is
+      (subst (λ m. IsClockDue g true m (stands ask.store.now) left refusal) asks.when_is.moment_is due)
   import_clock ask key sheet asks due = absurd asks
 
   pub once_clock : (ask : Ask) (key : Option (List ℕ)) (asked : Question) → IsOneQuestionAsk store key asked moment rule ask → IsClockDueBy g stands left ask refusal
-      → IsClockDue g moment (stands store) left refusal
+      → IsClockDue g (is_dated asked) moment (stands store) left refusal
   once_clock (OneQuestion ask) key asked asks due =
-      subst (λ s. IsClockDue g moment (stands s) left refusal) asks.store_is
-      (subst (λ m. IsClockDue g m (stands ask.store.now) left refusal) asks.when_is.moment_is due)
+      subst (λ q. IsClockDue g (is_dated q) moment (stands store) left refusal) asks.question_is
+      (subst (λ s. IsClockDue g (is_dated ask.question) moment (stands s) left refusal) asks.store_is
+      (subst (λ m. IsClockDue g (is_dated ask.question) m (stands ask.store.now) left refusal) asks.when_is.moment_is due))
   once_clock ask key asked asks due = absurd asks

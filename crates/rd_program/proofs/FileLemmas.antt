@@ -71,10 +71,10 @@ pub help_refused : (status : ℕ) (out written errors told : Option (List ℕ)) 
     → (status ≡ 3) × Tells (λ refusal. (refusal ≡ Device) × AppendsPart out written help) 3 errors told
     → Tells (RefusesHelp same out written) status errors told
 help_refused status out written errors told help same is due = record {
-    refusal = due.1.refusal;
-    why = subst (RefusesHelp same out written) (sym due.1.why.0) (subst (AppendsPart out written) is due.1.why.1);
-    has_status = due.1.has_status ∙ sym due.0;
-    line = due.1.line
+  refusal = due.1.refusal;
+  why = subst (RefusesHelp same out written) (sym due.1.why.0) (subst (AppendsPart out written) is due.1.why.1);
+  has_status = due.1.has_status ∙ sym due.0;
+  line = due.1.line;
 }
 
 -- a success of which nothing is said

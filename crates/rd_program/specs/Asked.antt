@@ -1,5 +1,5 @@
 -- The moment at which a command asks a desk.
-use Rattle.std.specs.Prelude.{◌≡◌, ◌⊎◌, ⊤, ℕ, ℤ, Bool, IfSome, List, Option, Result}
+use Rattle.std.specs.Prelude.{◌≡◌, ◌⊎◌, ⊤, ℕ, ℤ, Bool, IfSome, List, Option, Result, false, true}
 use Rattle.sqlite.specs.Held.{Held}
 use Rattle.sqlite.specs.Store.{Ghosts}
 use Rattle.rd_policy.specs.Days.{HasDay}
@@ -15,6 +15,7 @@ use Rattle.rd_commands.specs.declared.words.Shown.{Shown}
 use Rattle.rd_commands.specs.Serving.{Place}
 use Rattle.rd_program.specs.Doors.{AsksPath, AsksSums}
 use Rattle.rd_program.specs.Leaves.{moment_of}
+use Rattle.rd_program.specs.OnTime.{is_dated}
 use Rattle.rd_program.specs.Serving.{IsUnasked}
 use Rattle.rd_program.specs.Showing.{EndsWith}
 
@@ -39,12 +40,13 @@ NamesStore words store =
 abbrev pub IsOpenedToRead : {S : Type 0} → Ghosts S → Held S → Held S → Type 0
 IsOpenedToRead {S} g before last = IsMigrated g before last ⊎ ((opened : Held S) × IsMigrated g before opened × Keeps g opened last)
 
--- `clock` comes only where a desk was opened in the store, and at most read since. If the words name a moment, this has no
--- day, and nothing more was done.
-abbrev pub IsClockDue : {S : Type 0} → Ghosts S → Option ℤ → Option (Held S) → Option (Held S) → Refusal → Type 0
-IsClockDue g moment stood left Clock =
-    EndsWith stood left (IsOpenedToRead g) × IfSome moment (λ seconds. ¬ HasDay seconds × EndsWith stood left (IsMigrated g))
-IsClockDue g moment stood left refusal = ⊤
+-- `clock` comes only where a desk was opened in the store, and at most read since: not even that, if what the command
+-- does is the same on each day. If the words name a moment, this has no day, and nothing more was done.
+abbrev pub IsClockDue : {S : Type 0} → Ghosts S → Bool → Option ℤ → Option (Held S) → Option (Held S) → Refusal → Type 0
+IsClockDue g dated moment stood left Clock =
+    EndsWith stood left (IsOpenedToRead g) × (dated ≡ false → EndsWith stood left (IsMigrated g))
+    × IfSome moment (λ seconds. ¬ HasDay seconds × EndsWith stood left (IsMigrated g))
+IsClockDue g dated moment stood left refusal = ⊤
 
 -- ---- inside
 
@@ -52,11 +54,11 @@ IsClockDue g moment stood left refusal = ⊤
 abbrev pub IsStillOrRead : {S : Type 0} → Ghosts S → Held S → Held S → Type 0
 IsStillOrRead g opened last = (last ≡ opened) ⊎ Keeps g opened last
 
--- the same for the connection of an open desk: `clock` comes only where the desk was at most read and, for a named moment,
--- only if it has no day and nothing was done
-abbrev pub IsClockOn : {S : Type 0} → Ghosts S → Option ℤ → Held S → Held S → Refusal → Type 0
-IsClockOn g moment opened last Clock = IsStillOrRead g opened last × IfSome moment (λ seconds. ¬ HasDay seconds × (last ≡ opened))
-IsClockOn g moment opened last refusal = ⊤
+-- the same for the connection of an open desk
+abbrev pub IsClockOn : {S : Type 0} → Ghosts S → Bool → Option ℤ → Held S → Held S → Refusal → Type 0
+IsClockOn g dated moment opened last Clock =
+    IsStillOrRead g opened last × (dated ≡ false → last ≡ opened) × IfSome moment (λ seconds. ¬ HasDay seconds × (last ≡ opened))
+IsClockOn g dated moment opened last refusal = ⊤
 
 -- a command asks for a connection to its store alone, or for none
 abbrev pub AsksBy : Option (List (List ℕ)) → Ask → Option (List (List ℕ)) → Type 0
@@ -69,8 +71,8 @@ AsksBy old other new = new ≡ old
 
 -- when a command that asks at a moment may fail with `clock`
 abbrev pub IsClockDueBy : {S : Type 0} → Ghosts S → (List ℕ → Option (Held S)) → Option (Held S) → Ask → Refusal → Type 0
-IsClockDueBy g stands left (Import ask) refusal = IsClockDue g ask.when.seconds (stands ask.store.now) left refusal
-IsClockDueBy g stands left (OneQuestion ask) refusal = IsClockDue g ask.when.seconds (stands ask.store.now) left refusal
+IsClockDueBy g stands left (Import ask) refusal = IsClockDue g true ask.when.seconds (stands ask.store.now) left refusal
+IsClockDueBy g stands left (OneQuestion ask) refusal = IsClockDue g (is_dated ask.question) ask.when.seconds (stands ask.store.now) left refusal
 IsClockDueBy g stands left ask refusal = ⊤
 
 -- a command that asks at a moment fails before it asks the desk, if its moment is known and has no day

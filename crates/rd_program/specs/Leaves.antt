@@ -79,8 +79,8 @@ pub record LeavesStore {S : Type 0} (g : Ghosts S) (Reached : Desk → Desk → 
 
 -- ---- where no desk was opened
 
--- a command says `not-a-desk`, `version` or `inconsistent`, that is that no desk was opened, only if `Store::migrate` over
--- the connection that stood answers so
+-- a command says `not-a-desk`, `version` or `inconsistent` only if `Store::migrate` over the connection that stood answers
+-- so
 abbrev pub NamesOpening : {S : Type 0} → Ghosts S → Option (Held S) → Option (Held S) → Refusal → Type 0
 NamesOpening g old new NotADesk = IfBoth old new (λ before after. IsNotMigrated g before after open_fault.NotADesk)
 NamesOpening g old new Version = IfBoth old new (λ before after. IsNotMigrated g before after open_fault.Version)

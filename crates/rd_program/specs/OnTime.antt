@@ -1,5 +1,5 @@
--- A clock that shows a day long before that of a check that was recorded: it is wrong, unless that check was made by one
--- that was.
+-- A clock that shows a day more than one day before that of a recorded check: it is wrong, unless that check was made
+-- by one that was.
 use Rattle.std.specs.Prelude.{◌≡◌, ◌⊎◌, ⊤, ℕ, ℤ, ◌+ℤ◌, pos, Bool, IfSome, IsTrue, List, None, OnOk, Option, Result, false, true}
 use Rattle.sqlite.specs.Held.{Held, state}
 use Rattle.sqlite.specs.Store.{Ghosts}

@@ -1,7 +1,7 @@
 -- What `run` promises: of any words, and of those of each command. `result` is the status. The output has had `out`
 -- before and has `written` after, and the errors `errors` and `told`. A machine that shows its connections took back
 -- `was` last, before; has `stood` for the store, or `stands` for each; and took back `left`.
-use Rattle.std.specs.Prelude.{◌≡◌, ◌≢◌, ◌⊎◌, ◌≤◌, ◌+◌, ⊤, ℕ, ℤ, Bool, IfSome, IsSomeAnd, IsTrue, List, Option, codes, false, map}
+use Rattle.std.specs.Prelude.{◌≡◌, ◌≢◌, ◌⊎◌, ◌≤◌, ◌+◌, ⊤, ℕ, ℤ, Bool, IfSome, IsSomeAnd, IsTrue, List, Option, codes, false, map, true}
 use Rattle.std.specs.Borrow.{Bor}
 use Rattle.std.specs.Io.KnownBytes.{Appends, Keeps}
 use Rattle.sqlite.specs.Held.{Held}
@@ -188,7 +188,7 @@ pub record DoesImport {S : Type 0} (g : Ghosts S) (result : ℕ) (badge : List �
   pub imported : result ≡ 0 → GainsLines IsDoneLine out written
   pub import_due : result ≢ 0
       → ((result ≡ 1) × Keeps errors told × GainsLines IsRowLine out written)
-      ⊎ Tells (λ refusal. RefusesImport out written refusal × NamesOpening g stood left refusal × IsClockDue g moment stood left refusal
+      ⊎ Tells (λ refusal. RefusesImport out written refusal × NamesOpening g stood left refusal × IsClockDue g true moment stood left refusal
       × IfSome sheet (λ bytes. IsBadSheetDue bytes refusal)) result errors told
   pub rows : result ≡ 0 → EndsWith stood left (TakesSheetIn g files badge Days sheet out written Whole)
   pub rows_in_part : result ≡ 1
@@ -206,7 +206,7 @@ pub record DoesCheck {S : Type 0} (g : Ghosts S) (result : ℕ) (badge : Option 
   pub check_due : result ≢ 0
       → ((result ≡ 1) × Keeps errors told × TellsCheck acc out written InPart × EndsWith stood left (FindsStore g Days badge acc Changed))
       ⊎ Tells (λ refusal. RefusesOneQuestion out written refusal × NamesOpening g stood left refusal
-      × IsDueIn g Days (request_of badge (request.Check acc)) stood left refusal × IsClockDue g moment stood left refusal) result errors told
+      × IsDueIn g Days (request_of badge (request.Check acc)) stood left refusal × IsClockDue g true moment stood left refusal) result errors told
   pub check_leaves : Leaves was stood left (LeavesStore g (Checks badge acc Days))
 
 -- At 0 an `export` has written the catalogue of the desk that stood, on the day of the moment, and not at 0 it names its
@@ -216,7 +216,7 @@ pub record DoesExport {S : Type 0} (g : Ghosts S) (result : ℕ) (badge : Option
   pub exported : result ≡ 0 → EndsWith stood left (ShowsStore g Days (request_of badge request.Catalogue) out written)
   pub export_due : result ≢ 0
       → Tells (λ refusal. RefusesShow out written refusal × NamesOpening g stood left refusal
-      × IsDueIn g Days (request_of badge request.Catalogue) stood left refusal × IsClockDue g moment stood left refusal) result errors told
+      × IsDueIn g Days (request_of badge request.Catalogue) stood left refusal × IsClockDue g true moment stood left refusal) result errors told
   pub export_leaves : Leaves was stood left (LeavesStore g IsSame)
 
 -- At 0 a `show` has written the reply of the desk that stood, and otherwise it names its refusal: that the caller has no
@@ -227,7 +227,7 @@ pub record DoesShow {S : Type 0} (g : Ghosts S) (result : ℕ) (badge : Option (
   pub shown : result ≡ 0 → EndsWith stood left (ShowsStore g Days (request_of badge what) out written)
   pub show_due : result ≢ 0
       → Tells (λ refusal. RefusesShow out written refusal × NamesOpening g stood left refusal
-      × IsDueIn g Days (request_of badge what) stood left refusal × IsClockDue g moment stood left refusal) result errors told
+      × IsDueIn g Days (request_of badge what) stood left refusal × IsClockDue g false moment stood left refusal) result errors told
   pub show_leaves : Leaves was stood left (LeavesStore g IsSame)
 
 -- At 0 a `staff-key` has put this key as one of the staff of the desk that stood, changed nothing else, and said so. Not

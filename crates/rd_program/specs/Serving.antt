@@ -37,7 +37,7 @@ pub record AreLimitsOf (timeouts : Timeouts) (limits : TimeLimits) : Type 0 wher
   pub write : as_nanos limits.write ≡ timeouts.write * 1_000_000_000
   pub reply : as_nanos limits.reply ≡ timeouts.reply * 1_000_000_000
 
--- visitors may take as many seconds as are given; a machine that shows the limits of its door shows these
+-- visitors may take as many seconds as are given
 abbrev pub GivesLimits : (Timeouts → Type 0) → TimeLimits → Type 0
 GivesLimits are_given limits = (timeouts : Timeouts) × are_given timeouts × AreLimitsOf timeouts limits
 

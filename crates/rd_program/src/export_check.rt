@@ -99,7 +99,7 @@ fn question_day<S: Alter, M: Machine>(
     ensures asked { M.paths machine.new ≡ M.paths machine.old }
     ensures in_range { IfOk result IsDay }
     ensures dayless { IsDayless (moment_of ask.now.when.seconds (M.clock machine.old)) result }
-    ensures clock { IfErr result (IsClockOn S.Store ask.now.when.seconds desk.old.store desk.new.store) }
+    ensures clock { IfErr result (IsClockOn S.Store (is_dated ask.now.question) ask.now.when.seconds desk.old.store desk.new.store) }
     ensures untouched { must_be_on_time ask.now.when.seconds ask.now.when.is_trusting ≡ false → desk.new.store ≡ desk.old.store }
     ensures undated { is_dated ask.now.question ≡ false → desk.new.store ≡ desk.old.store }
     ensures refused { IfErr result (λ refusal. IsClockRefusal refusal ⊎ (refusal ≡ Refusal.Store)) }
@@ -112,8 +112,8 @@ fn question_day<S: Alter, M: Machine>(
 
 /// Asks an open desk one question, at the moment that the command names, and writes the answer.
 ///
-/// It fails with `Clock` when the clock fails, the moment has no day, or the clock shows a day long before that of a recorded
-/// check, and then as `check` and `show` do.
+/// It fails with `Clock` when the clock fails, the moment has no day, or the clock shows a day that is more than one day
+/// before that of a recorded check, with `Store` when the checks cannot be read, and then as `check` and `show` do.
 fn tell_asked<S: Alter + Drop, W: Write, M: Machine>(
     alloc: Global,
     ask: &OneQuestionAsk,
@@ -127,7 +127,7 @@ fn tell_asked<S: Alter + Drop, W: Write, M: Machine>(
         → IfOk result (TellsCheck acc (W.contents output.old) (W.contents output.new)) }
     ensures refused { IfErr result (RefusesOneQuestion (W.contents output.old) (W.contents output.new)) }
     ensures dayless { IsDayless (moment_of ask.now.when.seconds (M.clock machine.old)) result }
-    ensures clock { IfErr result (IsClockOn S.Store ask.now.when.seconds desk.old.store desk.new.store) }
+    ensures clock { IfErr result (IsClockOn S.Store (is_dated ask.now.question) ask.now.when.seconds desk.old.store desk.new.store) }
     ensures on_time { is_dated ask.now.question ≡ true → IsTrue (must_be_on_time ask.now.when.seconds ask.now.when.is_trusting)
         → OnOk result (IfSome (M.clock machine.old) (λ seconds. IsOpen S.Store desk.new.store
         → IsOnTime (day_number seconds desk.old.zone) (desk_in S.Store desk.old.store))) }
@@ -182,7 +182,7 @@ pub(crate) fn ask_once<W: Write, M: Machine>(
     ensures back { GivesBack (M.shows machine.old) (M.left machine.old) (M.left machine.new) }
     ensures there { OnEnded result (HasBoth (M.shows machine.old) (M.stands machine.old ask.entry.store.now) (M.left machine.new)) }
     ensures asked { AsksPath (M.paths machine.old) ask.entry.store.now (M.paths machine.new) }
-    ensures clock { IfErr result (IsClockDue M.Disk.Store ask.entry.when.seconds (M.stands machine.old ask.entry.store.now) (M.left machine.new)) }
+    ensures clock { IfErr result (IsClockDue M.Disk.Store (is_dated ask.entry.question) ask.entry.when.seconds (M.stands machine.old ask.entry.store.now) (M.left machine.new)) }
     ensures opens { IfErr result (NamesOpening M.Disk.Store (M.stands machine.old ask.entry.store.now) (M.left machine.new)) }
     ensures on_time { is_dated ask.entry.question ≡ true → IsTrue (must_be_on_time ask.entry.when.seconds ask.entry.when.is_trusting)
         → OnOk result (WasOnTime M.Disk.Store (M.clock machine.old) ask.entry.when.zone (M.stands machine.old ask.entry.store.now) (M.left machine.new)) }

@@ -1,7 +1,7 @@
 //! Takes in images, row by row of a sheet.
 
 ghost use Rattle.rd_store.specs.Held.{IsOpen, desk as desk_in};
-ghost use Rattle.std.specs.Prelude.{◌≡◌, IfErr, IfOk, IfSome, IsTrue, OnErr, OnOk, Some};
+ghost use Rattle.std.specs.Prelude.{◌≡◌, IfErr, IfOk, IfSome, IsTrue, OnErr, OnOk, Some, true};
 ghost use Rattle.std.specs.Io.KnownBytes.{Appends};
 ghost use Rattle.csv.specs.Records.{fields_of};
 ghost use Rattle.sha2.specs.Sha256.{sha256};
@@ -247,8 +247,9 @@ fn import_rows<W: Write, M: Machine>(
 
 /// Takes in the images of the sheet that the command names, at the moment that it names.
 ///
-/// It fails with `Clock` when the clock fails, the moment has no day, or the clock shows a day long before
-/// that of a recorded check, with `Store`, with `Device` when it cannot read the sheet, with `NoMemory`, and as `import_rows` does.
+/// It fails with `Clock` when the clock fails, the moment has no day, or the clock shows a day that is more than one day
+/// before that of a recorded check, with `Store` when the checks cannot be read, with `Device` when the sheet cannot be
+/// read, with `NoMemory`, and as `import_rows` does.
 fn import_sheet<W: Write, M: Machine>(
     alloc: Global,
     ask: ImportAsk,
@@ -259,7 +260,7 @@ fn import_sheet<W: Write, M: Machine>(
     ensures written { IfOk result (TellsRows (W.contents output.old) (W.contents output.new)) }
     ensures refused { IfErr result (RefusesImport (W.contents output.old) (W.contents output.new)) }
     ensures dayless { IsDayless (moment_of ask.entry.when.seconds (M.clock machine.old)) result }
-    ensures clock { IfErr result (IsClockOn M.Disk.Store ask.entry.when.seconds desk.old.store desk.new.store) }
+    ensures clock { IfErr result (IsClockOn M.Disk.Store true ask.entry.when.seconds desk.old.store desk.new.store) }
     ensures bad_sheet { IfErr result (λ refusal. IfSome (M.sheet_bytes machine.old ask.entry.sheet.now) (λ bytes. IsBadSheetDue bytes refusal)) }
     ensures on_time { IsTrue (must_be_on_time ask.entry.when.seconds ask.entry.when.is_trusting)
         → OnOk result (IfSome (M.clock machine.old) (λ seconds. IsOpen M.Disk.Store desk.new.store
@@ -310,7 +311,7 @@ pub(crate) fn import<W: Write, M: Machine>(
     ensures back { GivesBack (M.shows machine.old) (M.left machine.old) (M.left machine.new) }
     ensures there { OnEnded result (HasBoth (M.shows machine.old) (M.stands machine.old ask.entry.store.now) (M.left machine.new)) }
     ensures asked { AsksPath (M.paths machine.old) ask.entry.store.now (M.paths machine.new) }
-    ensures clock { IfErr result (IsClockDue M.Disk.Store ask.entry.when.seconds (M.stands machine.old ask.entry.store.now) (M.left machine.new)) }
+    ensures clock { IfErr result (IsClockDue M.Disk.Store true ask.entry.when.seconds (M.stands machine.old ask.entry.store.now) (M.left machine.new)) }
     ensures bad_sheet { IfErr result (λ refusal. IfSome (M.sheet_bytes machine.old ask.entry.sheet.now) (λ bytes. IsBadSheetDue bytes refusal)) }
     ensures opens { IfErr result (NamesOpening M.Disk.Store (M.stands machine.old ask.entry.store.now) (M.left machine.new)) }
 {

@@ -1,6 +1,6 @@
 //! Opens the desk in the file of a store, and finds the day on which to ask it.
 
-ghost use Rattle.std.specs.Prelude.{◌≡◌, ◌⊎◌, Err, IfErr, IfOk, IfSome, IsSome, IsTrue, MatchBool, None, Ok, false};
+ghost use Rattle.std.specs.Prelude.{◌≡◌, ◌⊎◌, Err, IfErr, IfOk, IfSome, IsSome, IsTrue, MatchBool, None, Ok, false, true};
 ghost use Rattle.rd_program.specs.Doors.{AsksPath};
 ghost use Rattle.rd_program.specs.Asked.{IsClockOn, IsStillOrRead};
 ghost use Rattle.rd_program.specs.Leaves.{GivesBack, IsDayAt, LeavesUnopened, moment_of};
@@ -178,7 +178,7 @@ pub(crate) fn day_on_time<S: Alter, M: Machine>(
     ensures asked { M.paths machine.new ≡ M.paths machine.old }
     ensures in_range { IfOk result IsDay }
     ensures dayless { IsDayless (moment_of when.seconds (M.clock machine.old)) result }
-    ensures clock { IfErr result (IsClockOn S.Store when.seconds desk.old.store desk.new.store) }
+    ensures clock { IfErr result (IsClockOn S.Store true when.seconds desk.old.store desk.new.store) }
     ensures untouched { must_be_on_time when.seconds when.is_trusting ≡ false → desk.new.store ≡ desk.old.store }
     ensures refused { IfErr result (λ refusal. IsClockRefusal refusal ⊎ (refusal ≡ Refusal.Store)) }
 {
@@ -210,8 +210,8 @@ pub(crate) fn clock_shown<M: Machine>(is_trusting: bool, machine: &mut M) -> Opt
     }
 }
 
-/// Whether an open desk has recorded a check of a later day than the one after the day of a moment. It changes nothing.
-/// It says no if there is no moment, if the moment has no day, and if the store fails: each visit finds that too.
+/// Whether an open desk has recorded a check of a later day than the one after the day of a moment, or does not say. It
+/// changes nothing. It says no if there is no moment, and if the moment has no day: each visit finds that too.
 pub(crate) fn is_late<S: Alter>(shown: Option<i64>, desk: &mut Desk<S>) -> bool
     ensures moment { IsTrue result → IsSome shown }
     ensures reads { IsStillOrRead S.Store desk.old.store desk.new.store }
@@ -225,6 +225,6 @@ pub(crate) fn is_late<S: Alter>(shown: Option<i64>, desk: &mut Desk<S>) -> bool
     };
     match is_behind(day, desk) {
         Ok(behind) => behind,
-        Err(_) => false,
+        Err(_) => true,
     }
 }

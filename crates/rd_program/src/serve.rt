@@ -83,7 +83,7 @@ fn time_limits(timeouts: Timeouts) -> TimeLimits
     }
 }
 
-/// A run that has served nobody, since the clock shows a day long before that of a recorded check.
+/// A run that has served nobody, since the clock is behind the recorded checks.
 fn none_served() -> Served
     ensures { result.ended ≡ Ended.Clock }
 {
@@ -96,7 +96,8 @@ fn none_served() -> Served
 }
 
 /// Serves visits at the place that the command names. It serves nobody, and the run ends as by a moment without a day, if
-/// the clock is not trusted and shows a day long before that of a recorded check.
+/// the clock is not trusted and shows a day that is more than one day before that of a recorded check, or if the checks
+/// cannot be read.
 ///
 /// It fails with `Device` when it cannot open the place or a write fails, and with `NoMemory`.
 fn serve_visits<W: Write, M: Machine>(
@@ -152,7 +153,7 @@ fn tell_ended<W: Write>(alloc: Global, served: Served, output: &mut W) -> Result
 ///
 /// It fails with `NotADesk`, `Version`, `Inconsistent` and `Store` when it cannot open the desk,
 /// then with `Device` when it cannot open the place, a write fails or the door shuts, with `Clock`
-/// when the clock shows a day long before that of a recorded check or a moment has no day, and with `NoMemory`.
+/// when the clock is behind the recorded checks, as `serve_visits` says, or a moment has no day, and with `NoMemory`.
 pub(crate) fn serve<W: Write, M: Machine>(
     alloc: Global,
     ask: ServeAsk,

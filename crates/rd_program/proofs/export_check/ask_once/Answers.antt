@@ -8,6 +8,7 @@ use Rattle.rd_program.specs.OnTime.{IsOnTime}
 use Rattle.rd_program.proofs.OnTimeLemmas.{stood_on_time}
 use Rattle.rd_program.proofs.Named.{asked_then}
 use Rattle.rd_program.proofs.LeftStores.{desk_left, gives_back, has_both, on_ended_always, opening_fails, unopened_left}
+use Rattle.rd_program.specs.OnTime.{is_dated}
 use Rattle.rd_program.proofs.DaylessMoments.{clock_ended, opening_no_clock, unasked}
 use Rattle.rd_program.proofs.export_check.ask_once.Goals as goal
 
@@ -61,14 +62,14 @@ returns-in_err-desk-clause-there g c = opening_fails c.from_residual.result c.in
 
 pub returns-clause-clock : goal.returns-clause-clock
 returns-clause-clock g c =
-    clock_ended c.tell_asked-ended.result g.M.Disk.Store c.args.ask.when.seconds (g.M.Machine.stands c.args.machine.now c.args.ask.store.now) (g.M.Machine.left c.release.new.self)
+    clock_ended c.tell_asked-ended.result g.M.Disk.Store (is_dated c.args.ask.question) c.args.ask.when.seconds (g.M.Machine.stands c.args.machine.now c.args.ask.store.now) (g.M.Machine.left c.release.new.self)
     c.in_ok-desk.desk.store c.tell_asked-ended.new.desk.store c.into_connection.result c.in_ok-desk.ensures.opened (c.into_connection.ensures.same ∙ c.into_store.ensures)
     c.release.ensures.left c.tell_asked-ended.ensures.clock
 
 pub returns-in_err-desk-clause-clock : goal.returns-in_err-desk-clause-clock
 returns-in_err-desk-clause-clock g c =
     passed_on c.from_residual.result c.in_err-desk.field-0.0 _ c.from_residual.ensures.1
-    (opening_no_clock g.M.Disk.Store c.args.ask.when.seconds (g.M.Machine.stands c.args.machine.now c.args.ask.store.now) (g.M.Machine.left c.open_desk.new.machine)
+    (opening_no_clock g.M.Disk.Store (is_dated c.args.ask.question) c.args.ask.when.seconds (g.M.Machine.stands c.args.machine.now c.args.ask.store.now) (g.M.Machine.left c.open_desk.new.machine)
     c.in_err-desk.field-0.0 c.in_err-desk.ensures.refused)
 
 pub returns-clause-unasked : goal.returns-clause-unasked

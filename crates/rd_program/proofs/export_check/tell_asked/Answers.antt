@@ -9,6 +9,7 @@ use Rattle.rd_protocol.specs.declared.request.What.TheVariants as request
 use Rattle.rd_program.specs.Leaves.{IsDayAt, StepsOf, moment_of}
 use Rattle.rd_program.specs.Showing.{Finds, Shows, asked_of, found_by, request_of, what_of, what_to_show}
 use Rattle.rd_program.proofs.ShowLemmas.{badge_there, due_asked, finds_asked, key_of_check, key_of_show, no_check, passed_on, shows_asked}
+use Rattle.rd_program.specs.OnTime.{is_dated}
 use Rattle.rd_program.proofs.DaylessMoments.{no_clock_on}
 use Rattle.rd_program.proofs.LeftStores.{still_same}
 use Rattle.rd_program.proofs.OnTimeLemmas.{check_from, day_asks, day_due, day_no_accession, due_from, if_ok_from, ok_from, on_time_from, same_from, show_undated, still_steps}
@@ -138,15 +139,15 @@ returns-in_err-day-clause-clock g c =
 
 pub returns-in-Catalogue-clause-clock : goal.returns-in-Catalogue-clause-clock
 returns-in-Catalogue-clause-clock g c =
-    IfErr-weaker c.show.result _ _ (no_clock_on g.S.Store c.args.ask.now.when.seconds c.args.desk.now.store c.show.new.desk.store) c.show.ensures.dated
+    IfErr-weaker c.show.result _ _ (no_clock_on g.S.Store (is_dated c.args.ask.now.question) c.args.ask.now.when.seconds c.args.desk.now.store c.show.new.desk.store) c.show.ensures.dated
 
 pub returns-in-Check-clause-clock : goal.returns-in-Check-clause-clock
 returns-in-Check-clause-clock g c =
-    IfErr-weaker c.check.result _ _ (no_clock_on g.S.Store c.args.ask.now.when.seconds c.args.desk.now.store c.check.new.desk.store) c.check.ensures.dated
+    IfErr-weaker c.check.result _ _ (no_clock_on g.S.Store (is_dated c.args.ask.now.question) c.args.ask.now.when.seconds c.args.desk.now.store c.check.new.desk.store) c.check.ensures.dated
 
 pub returns-in-Show-clause-clock : goal.returns-in-Show-clause-clock
 returns-in-Show-clause-clock g c =
-    IfErr-weaker c.show-in-Show.result _ _ (no_clock_on g.S.Store c.args.ask.now.when.seconds c.args.desk.now.store c.show-in-Show.new.desk.store) c.show-in-Show.ensures.dated
+    IfErr-weaker c.show-in-Show.result _ _ (no_clock_on g.S.Store (is_dated c.args.ask.now.question) c.args.ask.now.when.seconds c.args.desk.now.store c.show-in-Show.new.desk.store) c.show-in-Show.ensures.dated
 
 -- ---- the clock that is not behind
 

@@ -1,4 +1,4 @@
-use Rattle.std.proofs.Common.{◌∙◌, IsTrue, ap, subst, sym, IfSome, OnOk}
+use Rattle.std.proofs.Common.{◌∙◌, IsTrue, ap, subst, sym, true, IfSome, OnOk}
 use Rattle.sha2.specs.Sha256.{sha256}
 use Rattle.rd_program.specs.Leaves.{IsDayAt, LeavesDesk, TakesIn, moment_of}
 use Rattle.rd_program.proofs.RowLemmas.{opening_no_sheet, sheet_ended, shown_before}
@@ -59,14 +59,14 @@ returns-in_err-desk-clause-there g c = opening_fails c.from_residual.result c.in
 
 pub returns-clause-clock : goal.returns-clause-clock
 returns-clause-clock g c =
-    clock_ended c.import_sheet-imported.result g.M.Disk.Store c.args.ask.when.seconds (g.M.Machine.stands c.args.machine.now c.args.ask.store.now) (g.M.Machine.left c.release.new.self)
+    clock_ended c.import_sheet-imported.result g.M.Disk.Store true c.args.ask.when.seconds (g.M.Machine.stands c.args.machine.now c.args.ask.store.now) (g.M.Machine.left c.release.new.self)
     c.in_ok-desk.desk.store c.import_sheet-imported.new.desk.store c.into_connection.result c.in_ok-desk.ensures.opened (c.into_connection.ensures.same ∙ c.into_store.ensures)
     c.release.ensures.left c.import_sheet-imported.ensures.clock
 
 pub returns-in_err-desk-clause-clock : goal.returns-in_err-desk-clause-clock
 returns-in_err-desk-clause-clock g c =
     passed_on c.from_residual.result c.in_err-desk.field-0.0 _ c.from_residual.ensures.1
-    (opening_no_clock g.M.Disk.Store c.args.ask.when.seconds (g.M.Machine.stands c.args.machine.now c.args.ask.store.now) (g.M.Machine.left c.open_desk.new.machine)
+    (opening_no_clock g.M.Disk.Store true c.args.ask.when.seconds (g.M.Machine.stands c.args.machine.now c.args.ask.store.now) (g.M.Machine.left c.open_desk.new.machine)
     c.in_err-desk.field-0.0 c.in_err-desk.ensures.refused)
 
 pub returns-clause-unasked : goal.returns-clause-unasked
