@@ -102,11 +102,13 @@ class Desk:
 
 class Served:
     """A desk that serves a store at a socket beside it, as the user of the desk where there is one. nginx does not know
-    the socket. Raises Failed where desk does not open the store."""
+    the socket. It trusts the clock, since what it is asked depends on no day: so a check of a later day stops neither a
+    backup nor a restore. Raises Failed where desk does not open the store."""
 
     def __init__(self, program, store):
         self.socket, self.store = str(store.parent / "socket"), store
-        words = [program, "serve", "--store", str(store), "--socket", self.socket, "--count", "1000000"]
+        at = ["--store", str(store), "--socket", self.socket]
+        words = [program, "serve", *at, "--count", "1000000", "--trust-clock"]
         streams = {"stdin": subprocess.DEVNULL, "stdout": subprocess.PIPE, "stderr": subprocess.PIPE}
         self.process = subprocess.Popen(words, **streams, **as_desk(store.parent))
 

@@ -8,7 +8,8 @@ staff may ask.
 
 On Tuesday there are takedowns, also of a disk that the backup lacks, keys that change, commands whose outcome nobody
 knows, and a bit of a disk that flips. The restore is made with the old store, with one that no longer opens, with a
-journal that is cut, and after nginx's processes were killed 150 times, or KILLS times, while takedowns came."""
+journal that is cut, and after nginx's processes were killed 150 times, or KILLS times, while takedowns came. A store
+with a check of a day to come is backed up and restored too."""
 
 import contextlib
 import http.client
@@ -328,6 +329,28 @@ def see_kills(seen, program, count):
         week.end()
 
 
+def see_check_ahead(seen, program):
+    """A disk was checked while the clock was ahead by a year; since it is right, the desk is told to trust it."""
+    with reading_room.Room(program) as room:
+        house = House(room)
+        for asked in (put("/deeds/7", {"donor": "A", "signed": "2019-05-04"}), put_image(13, "d64", 7, IMAGE)):
+            seen.same("a check ahead: filled", 200, room.ask_staffs_door(asked)[0])
+        seen.same("a check ahead: checked", 200, room.ask_staffs_door(Asked("POST", "/images/13/check", STAFF))[0])
+        room.stop_desk()
+        with contextlib.closing(sqlite3.connect(room.store)) as store, store:
+            store.execute("UPDATE checked SET day = day + 365")
+        words = ("serve", "--store", str(room.store), "--socket", str(room.place), "--count", "1")
+        status, _, errors = room.run(*words)
+        seen.same("a check ahead: the desk says so", (3, "desk: clock\n"), (status, errors))
+        house.start("--trust-clock")
+        status, out, errors = house.back_up()
+        seen.same("a check ahead: the backup", (0, ""), (status, errors))
+        status, _, errors = house.run("desk-restore", out.split(": ")[0])
+        seen.same("a check ahead: the restore", (0, ""), (status, errors))
+        seen.same("a check ahead: it serves", 200, room.ask_staffs_door(get("/staff/checks", STAFF))[0])
+        house.end()
+
+
 def see_words(seen, program):
     """Words that are none, and backups that are none."""
     with reading_room.Room(program) as room:
@@ -350,7 +373,7 @@ def main():
     words = sys.argv[1:]
     program = harness.program(words)
     seen = harness.Seen()
-    for see in (see_whole_week, see_given_up, see_cut_journal, see_words):
+    for see in (see_check_ahead, see_whole_week, see_given_up, see_cut_journal, see_words):
         see(seen, program)
     see_kills(seen, program, int(words[1]) if len(words) > 1 else 150)
     sys.exit(seen.told())

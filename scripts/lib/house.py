@@ -8,7 +8,7 @@ import signal
 import subprocess
 
 from client_cases import STAFF
-from harness import ROOT
+from harness import ENDLESS, ROOT
 
 TOOLS = os.path.join(ROOT, "operate")
 SYSTEMCTL = """#!/bin/sh
@@ -23,7 +23,8 @@ stop) echo stop >>"$folder/calls"; kill -KILL "$pid" 2>/dev/null; while runs; do
 start)
     echo start >>"$folder/calls"
     : >"$folder/serves"
-    {program} serve --store "$folder/museum.sqlite" --socket {socket} --count 1000000 >"$folder/serves" 2>/dev/null &
+    {program} serve --store "$folder/museum.sqlite" --socket {socket} --count 1000000 $(cat "$folder/words") \
+        >"$folder/serves" 2>/dev/null &
     pid=$!
     echo $pid >"$folder/desk.pid"
     until grep -q listening "$folder/serves"; do runs || exit 1; sleep 0.05; done
@@ -46,8 +47,10 @@ class House:
         self.start()
         room.start_nginx()
 
-    def start(self):
-        self.room.start_desk()
+    def start(self, *words):
+        """Starts the desk with these words too, as the room's systemctl does from then on."""
+        (self.room.folder / "words").write_text(" ".join(words))
+        self.room.start_desk(ENDLESS, *words)
         (self.room.folder / "desk.pid").write_text(str(self.room.desk.pid))
 
     def run(self, tool, *words):
