@@ -3,10 +3,12 @@
 
 `clap` makes the help of the program and of each command from the command line that command_line.rt describes; the
 program writes the texts in help.rt. This command runs `clap` on that command line, by `rt try` and in a folder of its
-own, and compares what it answers to `--help`, `-h`, `help`, and these after or before each command. The status is 0
-only if all agree. --write puts the texts of `clap` in the place of those in help.rt; then `rt fmt` lays that file out.
+own, and compares what it answers to `--help`, `-h` and `help`, to the first two before `cat` and after each command,
+and to `help` before each. Each command has to have a text in help.rt, which Helps.antt gives its name, and so has
+`help`. The status is 0 only if all is so. --write puts the texts of `clap` in the place of those in help.rt; then
+`rt fmt` lays that file out.
 
-You need Python 3.11, the command rt of the kit on the path, and a minute."""
+You need Python 3.11, the command rt of the kit on the path, and a minute on a machine that has nothing else to do."""
 
 import pathlib
 import re
@@ -19,7 +21,9 @@ from rattle import CRATES
 
 SOURCES = CRATES / "rd_commands" / "src"
 HELP = SOURCES / "help.rt"
+NAMES = CRATES / "rd_commands" / "specs" / "Helps.antt"
 TEXT = re.compile(r'pub const (\w+)_HELP: &str =\s+"([^"]*)";')
+NAMED = re.compile(r'bytes_eq name \(codes "([\w-]+)"\) then (\w+)_HELP\.now')
 COMMAND = re.compile(r'Command::new\(alloc, "([\w-]+)"\)')
 USED = re.compile(r"use (?:crate|rd_\w+)(?:::\w+)*::(?:\{([^}]*)\}|([A-Z_]+));\n")
 CUT = "=== "
@@ -72,8 +76,12 @@ def without_clauses(text):
         in_clause = line.startswith(("    ensures", "    requires")) or in_clause and line.startswith("        ")
         if not in_clause and not line.startswith("ghost use "):
             kept.append(line)
-    names = lambda use: [name.strip() for name in (use[1] or use[2]).split(",")]
-    return USED.sub(lambda use: "".join(map(constant, names(use))), "".join(kept))
+    return USED.sub(constants_of, "".join(kept))
+
+
+def constants_of(use):
+    """The constants that a line takes from others."""
+    return "".join(constant(name.strip()) for name in (use[1] or use[2]).split(","))
 
 
 def answers(asked):
@@ -85,7 +93,7 @@ def answers(asked):
         (crate / "src" / "main.rt").write_text(MAIN)
         (crate / "src" / "command_line.rt").write_text(without_clauses(line_source()), encoding="utf-8")
         lines = "".join(f"{words}\n" for words in asked)
-        ran = subprocess.run(["rt", "try", "--seconds", "300"], cwd=crate, input=lines, capture_output=True, text=True)
+        ran = subprocess.run(["rt", "try", "--seconds", "900"], cwd=crate, input=lines, capture_output=True, text=True)
     if ran.returncode or ran.stdout.count(CUT) != len(asked):
         sys.exit(f"help-agrees: clap was not run\n{ran.stdout}{ran.stderr}")
     return ran.stdout.split(CUT)[1:]
@@ -94,14 +102,28 @@ def answers(asked):
 def asks(name):
     """The words that ask for the help of this name."""
     if name == "DESK":
-        return ["--help", "-h", "help"]
+        return ["--help", "-h", "help", "--help cat", "-h cat"]
     if name == "HELP":
         return ["help help"]
     command = name.lower().replace("_", "-")
     return [f"{command} --help", f"{command} -h", f"help {command}"]
 
 
+def lacking(texts):
+    """What the texts and their names lack, of the commands and of `help`. The text of `desk` is that of no name."""
+    named, faults = dict(NAMED.findall(NAMES.read_text(encoding="utf-8"))), []
+    for name in [*COMMAND.findall(line_source()), "help"]:
+        text = name.upper().replace("-", "_")
+        if text not in texts:
+            faults.append(f"{name}: help.rt has no text of this command")
+        if name != "desk" and named.get(name) != text:
+            faults.append(f"{name}: Helps.antt does not give this name its text")
+    return faults
+
+
 def main():
+    if sys.argv[1:] not in ([], ["--write"]):
+        sys.exit(__doc__)
     source = HELP.read_text(encoding="utf-8")
     asked = [(name, words) for name, _ in TEXT.findall(source) for words in asks(name)]
     given = dict(zip([words for _, words in asked], answers([words for _, words in asked])))
@@ -109,14 +131,14 @@ def main():
         source = TEXT.sub(lambda text: f'pub const {text[1]}_HELP: &str = "{given[asks(text[1])[0]]}";', source)
         HELP.write_text(source, encoding="utf-8")
     texts = dict(TEXT.findall(source))
-    bare = [name for name in COMMAND.findall(line_source()) if name.upper().replace("-", "_") not in texts]
-    for name in bare:
-        print(f"{name}: help.rt has no text of this command")
+    faults = lacking(texts)
+    for fault in faults:
+        print(fault)
     others = [words for name, words in asked if given[words] != texts[name]]
     for words in others:
         print(f"{words}: help.rt has another text than clap makes")
     print(f"{len(texts)} texts, {len(asked)} ways to ask for them: {len(others)} do not agree")
-    return 1 if others or bare else 0
+    return 1 if others or faults else 0
 
 
 if __name__ == "__main__":

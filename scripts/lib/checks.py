@@ -43,7 +43,7 @@ FAST = [
     check("scripts-stand.py"),
 ]
 
-# What needs neither, and takes longer, a browser or git.
+# What needs neither, but longer, a browser, git, or rt of the kit, which builds a small program without a proof.
 SLOW = [
     check("help-agrees.py"),
     check("each-disk-is-checked.py"),
