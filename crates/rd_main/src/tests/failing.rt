@@ -172,13 +172,17 @@ fn assert_trials(rt: &impl Abort, alloc: Global, calls: u64) -> Result<Ended, Fa
 /// How many calls more the disk of each trial takes than the one of the trial before.
 const EACH: u64 = 7;
 
+/// In which runs the disk fails once the desk is open. `init` opens none, and those of `export` and `show` take so few
+/// calls there that these steps pass over them.
+const MET: [bool; 6] = [false, true, true, false, true, false];
+
 #[test]
 fn a_disk_that_fails_is_told(rt: HostRuntime) -> Result<(), Fail> {
     let mut seen = [false; 6];
     for nth in 0..3_000 {
         match assert_trials(&rt, rt.alloc(), EACH * nth)? {
             Ended::Whole => {
-                assert_eq!(rt; seen, [false, true, true, true, true, true], "{nth}");
+                assert_eq!(rt; seen, MET, "{nth}");
                 return Ok(());
             }
             Ended::Unopened => {}
