@@ -28,7 +28,7 @@ among_put d acc image (Some standing) there (Kept at kept) is = is
 
 module _ {S : Type 0} (g : Ghosts S) (old new : Held S) (last : KeptImage) where
   -- a change that leaves each image that stands
-  last_changes : {T X : Type 0} (after : Desk) (r : Result T X) → Changes g old new after r → (IsAmong last (desk g old).images → IsAmong last after.images) → IsLastOf g old last → IsLastOf g new last
+  pub last_changes : {T X : Type 0} (after : Desk) (r : Result T X) → Changes g old new after r → (IsAmong last (desk g old).images → IsAmong last after.images) → IsLastOf g old last → IsLastOf g new last
   last_changes {T} {X} after r changes leaves was o = both r (changes.ok o) (changes.err o)
     where
       both : (q : Result T X) → OnOk q (desk g new ≡ after) → OnErr q (desk g new ≡ desk g old) → IsAmong last (desk g new).images

@@ -30,3 +30,4 @@ pub mod ImageWalks
 pub mod Maps
 pub mod LatestCheckQuery
 pub mod LaterCheckQuery
+pub mod ChangeLemmas
