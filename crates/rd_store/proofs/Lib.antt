@@ -31,3 +31,7 @@ pub mod Maps
 pub mod LatestCheckQuery
 pub mod LaterCheckQuery
 pub mod ChangeLemmas
+pub mod CheckListQuery
+pub mod CopyLemmas
+pub mod CompareLemmas
+pub mod ImageCopies

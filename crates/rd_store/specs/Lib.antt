@@ -8,6 +8,7 @@ pub mod Marks
 pub mod Spelled
 pub mod Held
 pub mod Created
+pub mod Copied
 pub mod Opened
 pub mod Migrated
 pub mod Batched

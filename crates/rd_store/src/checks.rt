@@ -2,8 +2,10 @@ ghost use Rattle.std.specs.Prelude.{◌≡◌, false, IsSome, MatchBool, None, I
 ghost use Rattle.std.specs.FinMap.{get, entries, retain_keys};
 ghost use Rattle.sqlite.specs.Held.{state};
 ghost use Rattle.rd_policy.specs.Days.{IsDay};
+ghost use Rattle.rd_store.specs.Copied.{numbered_check};
 ghost use Rattle.rd_store.specs.Held.{Changes, HoldsDesk, IsOf, IsOpen, Moves, desk, Judges, Reads};
 ghost use Rattle.rd_store.specs.Latest.{HasCheckAfter, HasNoCheckAfter, checks_after, finding_in, check_shown, checkup_shown, is_of};
+ghost use Rattle.rd_store.specs.Spelled.{check_spelling};
 ghost use Rattle.rd_holdings.specs.State.{with_check, without_check};
 ghost use Rattle.std.specs.Option.{option_to_list};
 ghost use Rattle.rd_holdings.specs.Findings.{last_of, latest};
@@ -15,6 +17,7 @@ use crate::store::Store;
 use rd_holdings::{Finding, Outcome};
 use sqlite::types::ToSql;
 use sqlite::{Alter, Connection, Error, Row, Transaction, params};
+use std::alloc::Global;
 
 /// The day and the outcome of the check that a row shows.
 fn read_finding(row: &Row) -> Result<Finding, StoreFault>
@@ -50,7 +53,7 @@ fn delete_check<S: Alter>(tx: &mut Transaction<'_, S>, acc: u32, day: i32) -> Re
 }
 
 /// Puts the finding of a check of an accession on a day that has none, inside a transaction.
-fn insert_check<S: Alter>(
+pub(crate) fn insert_check<S: Alter>(
     tx: &mut Transaction<'_, S>,
     acc: u32,
     day: i32,
@@ -88,7 +91,57 @@ fn write_check<S: Alter>(
     tx.commit()
 }
 
+/// The check that a row shows, with its accession.
+fn read_check(row: &Row) -> Result<(u32, Finding), StoreFault>
+    ensures check { IfOk result (λ check. check ≡ numbered_check (check_spelling.entry row.now)) }
+    ensures fault { IfErr result (λ fault. fault ≡ StoreFault.Sql) }
+{
+    let acc = number_at(row, 0)?;
+    let day = day_at(row, 1)?;
+    let outcome = outcome(number_at(row, 2)?);
+    Ok((acc, Finding { day, outcome }))
+}
+
+/// The checks that rows show, each with its accession.
+fn read_checks(alloc: Global, rows: &[Row]) -> Result<Vec<(u32, Finding)>, StoreFault>
+    ensures checks { IfOk result (λ checks. checks.items ≡ map (λ row. numbered_check (check_spelling.entry row)) rows.now) }
+    ensures fault { IfErr result (λ fault. fault ≡ StoreFault.Sql) }
+{
+    let mut checks = Vec::new(alloc);
+    for row in rows {
+        let check = read_check(row)?;
+        if checks.push(check).is_err() {
+            return Err(StoreFault::Sql);
+        }
+    }
+    Ok(checks)
+}
+
 impl<S: Alter> Store<S> {
+    /// The rows for all checks, by accession and day.
+    pub(crate) fn check_rows(&mut self) -> Result<Vec<Row>, StoreFault>
+        ensures reads { Reads S.Store self.old self.new result (λ rows.
+            rows.items ≡ map check_spelling.columns (entries (desk S.Store self.old).checks)) }
+        ensures fault { IfErr result (λ fault. fault ≡ StoreFault.Sql) }
+    {
+        self.query(
+            "SELECT acc, day, outcome FROM checked ORDER BY acc, day",
+            &[],
+        )
+    }
+
+    /// All checks, by accession and day, each with its accession. It is one query.
+    ///
+    /// It fails with `Sql`.
+    pub(crate) fn checks(&mut self, alloc: Global) -> Result<Vec<(u32, Finding)>, StoreFault>
+        ensures reads { Reads S.Store self.old self.new result (λ checks.
+            checks.items ≡ map numbered_check (entries (desk S.Store self.old).checks)) }
+        ensures fault { IfErr result (λ fault. fault ≡ StoreFault.Sql) }
+    {
+        let rows = self.check_rows()?;
+        read_checks(alloc, &rows)
+    }
+
     /// The row for the latest check of an accession; none where there was no check.
     fn latest_rows(&mut self, acc: u32) -> Result<Vec<Row>, StoreFault>
         ensures reads { Reads S.Store self.old self.new result (λ rows.

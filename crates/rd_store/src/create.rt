@@ -42,7 +42,7 @@ fn make_table<S: Alter>(tx: &mut Transaction<'_, S>, at: usize) -> Result<usize,
 }
 
 /// Makes the first `count` tables.
-fn make_tables<S: Alter>(tx: &mut Transaction<'_, S>, count: usize) -> Result<(), Error>
+pub(crate) fn make_tables<S: Alter>(tx: &mut Transaction<'_, S>, count: usize) -> Result<(), Error>
     requires { count ≤ 8 }
     ensures same_reference { tx.new.conn.ghost_name ≡ tx.old.conn.ghost_name }
     ensures moves { Moves S.Store tx.old.conn.now tx.new.conn.now (HasFirstTables 0) (HasFirstTables count) result }
@@ -54,7 +54,7 @@ fn make_tables<S: Alter>(tx: &mut Transaction<'_, S>, count: usize) -> Result<()
 }
 
 /// Writes the version of the tables.
-fn insert_version<S: Alter>(tx: &mut Transaction<'_, S>) -> Result<usize, Error>
+pub(crate) fn insert_version<S: Alter>(tx: &mut Transaction<'_, S>) -> Result<usize, Error>
     ensures same_reference { tx.new.conn.ghost_name ≡ tx.old.conn.ghost_name }
     ensures moves { Moves S.Store tx.old.conn.now tx.new.conn.now (HasFirstTables 8) (IsOf empty_desk) result }
 {

@@ -1,7 +1,7 @@
 ghost use Rattle.std.specs.Prelude.{◌≡◌, IfOk, IfErr, IsSome, None, is_some, map, false};
 ghost use Rattle.std.specs.FinMap.{get, entries};
 ghost use Rattle.sqlite.specs.Held.{state};
-ghost use Rattle.rd_store.specs.Held.{Changes, HoldsDesk, IsOpen, desk, Reads};
+ghost use Rattle.rd_store.specs.Held.{Changes, HoldsDesk, IsOf, IsOpen, Moves, desk, Reads};
 ghost use Rattle.rd_holdings.specs.Lawful.{IsDeed};
 ghost use Rattle.rd_store.specs.Shown.{deed_shown};
 ghost use Rattle.rd_store.specs.Spelled.{deed_spelling};
@@ -14,7 +14,7 @@ use crate::store::Store;
 use rd_geometry::Text;
 use rd_holdings::DeedRow;
 use sqlite::types::ToSql;
-use sqlite::{Alter, Connection, Error, Row, params};
+use sqlite::{Alter, Connection, Error, Row, Transaction, params};
 use std::alloc::Global;
 
 /// The deed that a row shows.
@@ -95,6 +95,23 @@ fn insert_deed<S: Alter>(
     )
 }
 
+/// Puts a deed where none stands, inside a transaction.
+pub(crate) fn insert_deed_in<S: Alter>(
+    tx: &mut Transaction<'_, S>,
+    num: u32,
+    donor: &str,
+    signed: i32,
+) -> Result<usize, Error>
+    ensures same_reference { tx.new.conn.ghost_name ≡ tx.old.conn.ghost_name }
+    ensures moves { (before : _) → get before.deeds num ≡ None → Moves S.Store tx.old.conn.now tx.new.conn.now
+        (IsOf before) (IsOf (with_deed num (record { donor = donor.now; signed = signed }) before)) result }
+{
+    tx.execute(
+        "INSERT INTO deed (num, donor, signed) VALUES (?1, ?2, ?3)",
+        params![num, donor, signed],
+    )
+}
+
 /// Puts a deed, in place of the one with its number if it `stands`. An UPDATE keeps the number, so that no foreign
 /// key of an image is looked at; REPLACE deletes the row first, which checks these keys.
 fn write_deed<S: Alter>(
@@ -146,7 +163,7 @@ impl<S: Alter> Store<S> {
     }
 
     /// The rows for all deeds, by number.
-    fn numbered_rows(&mut self) -> Result<Vec<Row>, StoreFault>
+    pub(crate) fn numbered_rows(&mut self) -> Result<Vec<Row>, StoreFault>
         ensures reads { Reads S.Store self.old self.new result (λ rows.
             rows.items ≡ map deed_spelling.columns (entries (desk S.Store self.old).deeds)) }
         ensures fault { IfErr result (λ fault. fault ≡ StoreFault.Sql) }

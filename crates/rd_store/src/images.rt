@@ -165,7 +165,7 @@ fn insert_both<S: Alter>(
 }
 
 /// Puts an image where none stands, inside a transaction; of its files none is in the index yet.
-fn insert_image<S: Alter>(
+pub(crate) fn insert_image<S: Alter>(
     tx: &mut Transaction<'_, S>,
     acc: u32,
     heading: &Heading,

@@ -164,7 +164,7 @@ impl<S: Alter> Store<S> {
     }
 
     /// The rows for all desk keys.
-    fn key_rows(&mut self) -> Result<Vec<Row>, StoreFault>
+    pub(crate) fn key_rows(&mut self) -> Result<Vec<Row>, StoreFault>
         ensures reads { Reads S.Store self.old self.new result (λ rows.
             rows.items ≡ map key_spelling.columns (entries (desk S.Store self.old).keys)) }
         ensures fault { IfErr result (λ fault. fault ≡ StoreFault.Sql) }

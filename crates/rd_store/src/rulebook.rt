@@ -90,6 +90,13 @@ impl Rulebook {
         Some(Rulebook { rules })
     }
 
+    /// All rules: takedowns before rules of deeds, then by number, then by rank.
+    pub(crate) fn all(&self) -> &[Rule]
+        ensures { result.now ≡ self.now }
+    {
+        self.rules.as_slice()
+    }
+
     /// The rules for the files of an accession under a deed: the takedowns of the accession, and the rules of the deed,
     /// each by rank. Takedowns decide before the rules of a deed.
     pub fn under(&self, acc: u32, deed: u32) -> (&[Rule], &[Rule])

@@ -117,7 +117,10 @@ fn delete_place<S: Alter>(tx: &mut Transaction<'_, S>, rule: &Rule) -> Result<us
 }
 
 /// Puts a rule where none stands, inside a transaction.
-fn insert_rule<S: Alter>(tx: &mut Transaction<'_, S>, rule: &Rule) -> Result<usize, Error>
+pub(crate) fn insert_rule<S: Alter>(
+    tx: &mut Transaction<'_, S>,
+    rule: &Rule,
+) -> Result<usize, Error>
     ensures same_reference { tx.new.conn.ghost_name ≡ tx.old.conn.ghost_name }
     ensures moves { (before : _) → get before.rules (place_of rule.now) ≡ None → Moves S.Store tx.old.conn.now tx.new.conn.now
         (IsOf before) (IsOf (with_rule (place_of rule.now) (terms_of rule.now) before)) result }
@@ -186,7 +189,7 @@ impl<S: Alter> Store<S> {
     }
 
     /// The rows for all rules, by place.
-    fn place_rows(&mut self) -> Result<Vec<Row>, StoreFault>
+    pub(crate) fn place_rows(&mut self) -> Result<Vec<Row>, StoreFault>
         ensures reads { Reads S.Store self.old self.new result (λ rows.
             rows.items ≡ map rule_spelling.columns (entries (desk S.Store self.old).rules)) }
         ensures fault { IfErr result (λ fault. fault ≡ StoreFault.Sql) }

@@ -1,0 +1,57 @@
+-- The text that asks for all checks, and what it shows.
+use Rattle.std.proofs.Common.{◌≡◌, ◌∙◌, ℕ, ℤ, pos, List, [], ◌∷◌, false, true, Less, ap, ap₂, arith, codes, int_cmp, is_eq, is_lt, map, nat_cmp, refl, sym}
+use Rattle.std.specs.FinMap.{entries}
+use Rattle.std.specs.Ordering.{ordering_then}
+use Rattle.std.proofs.lemmas.Bool.Decides.{nat_tests}
+use Rattle.sqlite.specs.declared.types.Value.TheVariants.{Int}
+use Rattle.sqlite.specs.Listing.{understood}
+use Rattle.sqlite.specs.Order.{Row, column}
+use Rattle.sqlite.specs.Query.{Query, key_cmp}
+use Rattle.sqlite.specs.Term.{col}
+use Rattle.sqlite_tied.specs.Compute.{everything}
+use Rattle.sqlite_value.proofs.OrderLemmas.{value_cmp-Int, then-Equal}
+use Rattle.rd_tables.specs.Asked.{IsPicked, asks_of, rising}
+use Rattle.rd_tables.specs.Spellings.{Spells, map_of}
+use Rattle.rd_tables.proofs.Entries.{retain_all}
+use Rattle.rd_tables.proofs.QueryMaps.{in_order}
+use Rattle.rd_tables.proofs.QueryTexts.{AsksBy}
+use Rattle.rd_holdings.specs.State.{Checkup, checkup_cmp}
+use Rattle.rd_holdings.specs.declared.rows.Outcome.{Outcome}
+use Rattle.rd_store.specs.Copied.{numbered_check}
+use Rattle.rd_store.specs.Spelled.{check_spelling}
+use Rattle.rd_store.proofs.Orders.{checkup_order, outcome_back}
+
+-- all checks, by accession and day
+abbrev pub check_list_text : List ℕ
+check_list_text = codes "SELECT acc, day, outcome FROM checked ORDER BY acc, day"
+
+abbrev pub check_list_query : Query
+check_list_query = asks_of 7 [] (col 1 1 ∷ col 1 2 ∷ col 1 3 ∷ []) ((col 1 1, rising) ∷ (col 1 2, rising) ∷ [])
+
+pub check_list_asks : AsksBy check_list_text 7 check_list_query
+unfolding understood everything
+check_list_asks = record { names = codes "acc" ∷ codes "day" ∷ codes "outcome" ∷ []; means = refl; plain = (refl, refl); stored = refl; here = λ trees. refl }
+
+-- ORDER BY the accession and the day, as checks rise
+two_keys : (a b : ℕ) (d e : ℤ) → key_cmp 0 (rising ∷ rising ∷ []) (Int (pos a) ∷ Int d ∷ []) (Int (pos b) ∷ Int e ∷ []) ≡ ordering_then (int_cmp (pos a) (pos b)) (int_cmp d e)
+two_keys a b d e = ap₂ ordering_then (value_cmp-Int (pos a) (pos b)) (then-Equal _ ∙ value_cmp-Int d e)
+
+checks_rise : (a b : ℕ) (d e : ℤ) → is_lt (ordering_then (int_cmp (pos b) (pos a)) (int_cmp e d)) ≡ false → is_eq (ordering_then (nat_cmp a b) (int_cmp d e)) ≡ false
+    → ordering_then (nat_cmp a b) (int_cmp d e) ≡ Less
+checks_rise a b d e up apart = grind (arith, nat_tests)
+
+pub checks_listed : (table rows : List Row) → Spells check_spelling table → IsPicked check_list_query [] table rows → rows ≡ map check_spelling.columns (entries (map_of check_spelling table))
+checks_listed table rows spells picks =
+    in_order check_spelling checkup_order check_list_query [] table rows spells picks (λ _. true) check_spelling.columns (λ checkup. Int (pos checkup.acc) ∷ Int checkup.day ∷ [])
+    (λ row is. refl)
+    (λ row is. ap (λ s. (column s 0 ∷ column s 1 ∷ [], s)) is)
+    (λ a b at bt up apart. checks_rise a.acc b.acc a.day b.day (sym (ap is_lt (two_keys b.acc a.acc b.day a.day)) ∙ up) apart)
+    ∙ ap (λ m. map check_spelling.columns (entries m)) (retain_all checkup_cmp checkup_order (map_of check_spelling table))
+
+-- the checks that columns spell
+pub check_back : (e : Checkup × Outcome) → check_spelling.entry (check_spelling.columns e) ≡ e
+check_back e = λ i. (e.0, outcome_back e.1 i)
+
+pub checks_back : (es : List (Checkup × Outcome)) → map (λ row. numbered_check (check_spelling.entry row)) (map check_spelling.columns es) ≡ map numbered_check es
+checks_back [] = refl
+checks_back (e ∷ es) = λ i. numbered_check (check_back e i) ∷ checks_back es i

@@ -1,0 +1,12 @@
+use Rattle.std.proofs.Common.{◌∙◌, IsTrue, arith, rules, sym}
+use Rattle.std.proofs.lemmas.List.{take_all, take_more_same}
+use Rattle.sqlite.specs.declared.types.Value.TheVariants.{Null}
+use Rattle.rd_store.proofs.comparing.is_same_row.Goals as goal
+
+pub loop-at-preserved : goal.loop-at-preserved
+loop-at-preserved c =
+    let told : IsTrue c.is_same_at.result = search rules in
+    take_more_same c.args.one.now c.args.other.now c.loop-at.at Null (omega arith) (omega arith) c.loop-at.invariant (c.is_same_at.ensures told)
+
+pub returns : goal.returns
+returns c told = sym (take_all c.loop-at.at c.args.one.now (omega arith)) ∙ c.loop-at.invariant ∙ take_all c.loop-at.at c.args.other.now (omega arith)
