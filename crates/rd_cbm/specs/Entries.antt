@@ -6,7 +6,7 @@ use Rattle.rd_cbm.specs.declared.class.Class.{Class}
 use Rattle.rd_cbm.specs.declared.class.Class.TheVariants.{Del, Seq, Prg, Usr, Rel, Other}
 
 -- the entry at a slot, by the blocks of the directory: eight entries to a block, in order: that at slot k is the 32
--- bytes at `32 * (k mod 8)` of block `k div 8`
+-- bytes at `32 * (k mod 8)` of the block at place `k div 8` of that list
 unfoldable pub entry_at : List ℕ → List ℕ → ℕ → List ℕ
 entry_at image blocks slot =
     slice_range (cbm_block image (slice_index blocks (slot / 8))) (32 * (slot % 8)) (32 * (slot % 8) + 32)

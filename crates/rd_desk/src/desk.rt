@@ -94,7 +94,8 @@ impl<S: Alter> Desk<S> {
         day_of(seconds, &self.zone)
     }
 
-    /// Whether the desk has recorded a check of a later day than this one. It changes nothing.
+    /// Whether the desk has recorded a check of a later day than this one, counted from 1970-01-01; the day may be any
+    /// number. It changes nothing.
     ///
     /// It fails with `Unavailable` when the store fails.
     pub fn has_check_after(&mut self, day: i32) -> Result<bool, Unavailable>

@@ -79,8 +79,7 @@ abbrev pub digest_cmp : List ℕ → List ℕ → Ordering
 digest_cmp = slice_cmp nat_cmp
 
 -- What a desk holds, with at most one entry for each number, place or digest, and for each accession and day of a
--- check. These are five finite maps: deeds by number, images by accession, rules by place, audiences by the digest of
--- a key, and outcomes of checks by accession and day.
+-- check: five finite maps.
 pub record Desk : Type 0 where
   -- deeds by number, images by accession, rules by place
   pub deeds : FinMap nat_cmp DeedRow

@@ -90,7 +90,7 @@ module _ {State : Type 0} (Answers : List ℕ → State → State → ℤ → Li
 
 -- A run of at most so many visits of a door, over a desk with the clocks of a zone: what the door shows, why the run
 -- ended, that its faults are at most its visits, and that the door shuts only where the run says so, and else is as open
--- as it was; if it shows its visits and has none under way, none is left when it shuts.
+-- as it was; if it shows its visits, had not shut before and has none under way, none is left when it shuts.
 pub record IsRunOf {S D C : Type 0} (g : Ghosts S) (d : DoorGhosts D C) (most : ℕ) (zone : Zone) (before after : D) (old new : Held S) (served : Served) : Type 0 where
   pub run : IfSome (d.told before) (λ told. HasRun (IsAnswer g) zone told (d.told after) (d.coming before) (d.coming after) served old new)
   pub count : (served.ended ≡ Count) ↔ (served.visits ≡ most)

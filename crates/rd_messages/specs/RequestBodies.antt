@@ -117,8 +117,9 @@ abbrev pub RULE_KEYS : List (List ℕ)
 RULE_KEYS = codes "audiences" ∷ codes "effect" ∷ codes "from" ∷ codes "select" ∷ codes "until" ∷ []
 
 -- The value says what a rule says, as in
--- {"audiences":["public"],"effect":"deny","select":{"all":true},"until":"2030-01-01"}. Without such
--- a day there is no `from` or `until`, or null; and there is no other key.
+-- {"audiences":["public"],"effect":"deny","select":{"all":true},"until":"2030-01-01"}. A rule
+-- without a first day has no `from` there, or null, and one without a last day no `until`, or null; and there is no
+-- other key.
 pub record TellsRule (value : Data) (rule : Rule) : Type 0 where
   pub keys : HasOnlyKeys RULE_KEYS value
   pub audiences : HasAudiencesAt (codes "audiences") value rule.audiences

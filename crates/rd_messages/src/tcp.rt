@@ -107,7 +107,7 @@ fn room_in(mut room: Vec<u8>) -> Vec<u8>
 
 impl<S: Stream, C: Clock + Drop> StreamWire<S, C> {
     /// A connection over a stream on which nothing has failed yet. It holds bytes back in the list
-    /// `room`.
+    /// `room`; what that list has now is never sent.
     fn new(stream: S, pace: Pace<C>, room: Vec<u8>) -> StreamWire<S, C>
         ensures take { result.read_failed ≡ false }
         ensures put { result.write_failed ≡ false }

@@ -69,7 +69,7 @@ OneVerdict = (rules : List Rule) (audience : Audience) (day : ℤ) (file : Found
     → IsVerdict (Contains rules) audience day file other
     → one ≡ other
 
--- the text of a label: T12.1, R7.10 or D0, of the accession or the deed and of the rank
+-- the text of a label: `T<accession>.<rank>`, `R<deed>.<rank>` or `D0`, as T12.1 for the rule of rank 1 on accession 12
 abbrev pub label_text : Label → List ℕ
 label_text (TakedownLabel accession rank) = codes "T" ++ decimal accession ++ codes "." ++ decimal rank
 label_text (DeedLabel deed rank) = codes "R" ++ decimal deed ++ codes "." ++ decimal rank

@@ -118,7 +118,8 @@ with_checked None acc day desk = desk
 with_checked (Some image) acc day desk = with_check acc day (outcome_of image.bytes image.digest) desk
 
 -- what an accepted request makes of the desk on a day: a put or a drop changes it, a check records its outcome for
--- the accession and the day, and a question, a survey and a rehearsal change nothing
+-- the accession and the day, and all others (questions, surveys, rehearsals, the lists for the staff and the verdicts)
+-- change nothing
 abbrev pub carried_out : ℤ → What → Desk → Desk
 carried_out day (Check acc) desk = with_checked (get desk.images acc) acc day desk
 carried_out day (PutImage acc kind deed digest bytes) desk =
@@ -133,8 +134,8 @@ carried_out day other desk = desk
 -- ---- the answer to an accepted request
 
 -- the answer to an accepted request: to a put or a drop that it is done, to a check what it found, to a rehearsal
--- what the command would change, and to a question or a survey what it asks for; the desk serves a file only if the
--- verdict on it is to read
+-- what the command would change, and to each other what it asks for; the desk serves a file only if the verdict on it
+-- is to read
 abbrev pub Tells : Desk → Audience → ℤ → Option JudgedFile → Response → What → Type 0
 Tells desk audience day file response.Done what = IsPutOrDrop what
 Tells desk audience day file (response.Images lines) Images = AreImageLines desk audience day lines

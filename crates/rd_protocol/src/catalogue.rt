@@ -67,7 +67,7 @@ pub(crate) fn faults(alloc: Global, kind: Kind, faults: u8) -> Result<Text, NoMe
     Ok(Text::of(words.as_slice().join(alloc, " ")?))
 }
 
-/// The cells of an accession.
+/// The cells of an accession: its number, its deed's number and the kind of its disk.
 #[derive(Drop)]
 pub(crate) struct AccessionCells {
     pub(crate) accession: Text,
@@ -75,7 +75,7 @@ pub(crate) struct AccessionCells {
     pub(crate) kind: Text,
 }
 
-/// The cells of a file.
+/// The cells of a file: its slot, user number, name, type, size in bytes and faults.
 #[derive(Drop)]
 pub(crate) struct FileCells {
     pub(crate) slot: Text,
@@ -86,7 +86,7 @@ pub(crate) struct FileCells {
     pub(crate) faults: Text,
 }
 
-/// The cells of what the rules say of a file.
+/// The cells of what the rules say of a file: the effect and the label of the rule.
 #[derive(Drop)]
 pub(crate) struct RuledCells {
     pub(crate) effect: Text,

@@ -170,8 +170,7 @@ IsAnswered (Err Conflict) P = P
 IsAnswered (Err Sql) P = ⊤
 
 -- Why a call is refused, where the connection is open at the end; and after such an answer it is open, where the disk
--- has returned what was written. Sql is answered at any time, for lack of memory or by a fault of the database, and
--- does not say why.
+-- has returned what was written. Sql may be answered at any time, and says nothing of why.
 pub record Judges {S T : Type 0} (g : Ghosts S) (new : Held S) (result : Result T StoreFault) (IsThere Conflicts : Type 0) : Type 0 where
   pub why : IsOpen g new → IsJudged IsThere Conflicts result
   pub ends_open : IsClean g new → IsAnswered result (IsOpen g new)

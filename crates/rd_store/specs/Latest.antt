@@ -18,11 +18,11 @@ is_after day checkup = int_lt day checkup.day
 abbrev pub checks_after : ℤ → Desk → List (Checkup × Outcome)
 checks_after day desk = entries (retain_keys desk.checks (is_after day))
 
--- some are
+-- a check of a later day than this one is recorded
 abbrev pub HasCheckAfter : ℤ → Desk → Type 0
 HasCheckAfter day desk = checks_after day desk ≢ []
 
--- none is
+-- no check of a later day than this one is recorded
 abbrev pub HasNoCheckAfter : ℤ → Desk → Type 0
 HasNoCheckAfter day desk = checks_after day desk ≡ []
 

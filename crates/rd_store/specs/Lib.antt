@@ -12,6 +12,7 @@ pub mod Copied
 pub mod Opened
 pub mod Migrated
 pub mod Batched
+pub mod Latest
 pub use Rattle.rd_holdings.specs.State
 pub use Rattle.rd_holdings.specs.Lawful
 pub use Rattle.rd_holdings.specs.RulesFor
@@ -19,11 +20,10 @@ pub use Rattle.rd_holdings.specs.Findings
 -- ---- inside: what only private functions and proofs cite
 -- Only private functions and proofs cite what follows a line `inside` in a file.
 -- An invariant of a type is proved of each value, and no caller has to believe it: so `Ruled` is here, which that of
--- `Rulebook` cites, and `Register` and `Last`, which that of `Store` cites.
+-- `Rulebook` cites, and `Register` and `ImageCache`, which that of `Store` cites.
 pub mod Shown
 pub mod Ruled
 pub mod Register
 pub mod ImageCache
 pub mod RowColumns
 pub mod Walked
-pub mod Latest

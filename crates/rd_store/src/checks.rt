@@ -143,6 +143,8 @@ impl<S: Alter> Store<S> {
     }
 
     /// The row for the latest check of an accession; none where there was no check.
+    ///
+    /// It fails with `Sql`.
     fn latest_rows(&mut self, acc: u32) -> Result<Vec<Row>, StoreFault>
         ensures reads { Reads S.Store self.old self.new result (λ rows.
             rows.items ≡ map check_shown (option_to_list (last_of (entries (retain_keys (desk S.Store self.old).checks (is_of acc)))))) }
@@ -169,6 +171,8 @@ impl<S: Alter> Store<S> {
     }
 
     /// The rows for the checks of later days than this one, each with its accession and its day.
+    ///
+    /// It fails with `Sql`.
     fn later_rows(&mut self, day: i32) -> Result<Vec<Row>, StoreFault>
         ensures reads { Reads S.Store self.old self.new result (λ rows.
             rows.items ≡ map checkup_shown (checks_after day (desk S.Store self.old))) }
@@ -181,7 +185,8 @@ impl<S: Alter> Store<S> {
         )
     }
 
-    /// Whether a check of a later day than this one is recorded. It is one query, which shows those checks alone.
+    /// Whether a check of a later day than this one, counted from 1970-01-01, is recorded; the day may be any number. It
+    /// is one query, which shows those checks alone.
     ///
     /// It fails with `Sql`.
     pub fn has_check_after(&mut self, day: i32) -> Result<bool, StoreFault>
