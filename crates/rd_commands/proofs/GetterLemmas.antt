@@ -24,9 +24,9 @@ use Rattle.rd_policy.specs.declared.zone.Zone.{Zone}
 use Rattle.rd_policy.specs.declared.zone.ZoneFault.{ZoneFault}
 use Rattle.rd_geometry.specs.Kinds.{word_of}
 use Rattle.clap.specs.declared.error.kind.ErrorKind.{ErrorKind}
-use Rattle.rd_commands.specs.Asks.{EntersAs, EntersByRule, EntersCat, EntersCheck, EntersExport, EntersImport, EntersInit, EntersList, EntersNaming, EntersNamingNone, EntersNoPlace, EntersServe, EntersShow, EntersStaffKey, EntersSumming, EntersTelling, EntersTimed, HasTimeouts, EntersTrusting, IsMistake, IsWithinLimits, IsFaultOf, IsForMemory, IsFileAsk, IsFilesAsk, IsHelp, IsImportAsk, IsInitAsk, IsMomentNamed, IsOneQuestionAsk, IsServeAsk, IsStaffKeyAsk, TellsOnOutput, has_sums, is_trusting}
+use Rattle.rd_commands.specs.Asks.{EntersAs, EntersByRule, EntersCat, EntersCheck, EntersCopy, EntersExport, EntersImport, EntersInit, EntersList, EntersNaming, EntersNamingNone, EntersNoPlace, EntersServe, EntersShow, EntersStaffKey, EntersSumming, EntersTelling, EntersTimed, HasTimeouts, IsCopyAsk, EntersTrusting, IsMistake, IsWithinLimits, IsFaultOf, IsForMemory, IsFileAsk, IsFilesAsk, IsHelp, IsImportAsk, IsInitAsk, IsMomentNamed, IsOneQuestionAsk, IsServeAsk, IsStaffKeyAsk, TellsOnOutput, has_sums, is_trusting}
 use Rattle.rd_commands.specs.CommandLine.{AsksForHelp, Enters, HasFault, IsDeskApp, IsTaken, IsTakenAs, IsTakenTelling, NameList, desk_app}
-use Rattle.rd_commands.specs.Commands.{AsksCheck, AsksExport, AsksImport, AsksInit, AsksServe, AsksShow, AsksStaffKey, IsAskOf, IsCommand, IsTakenServingNowhere, IsTakenShowingNothing, NamesWhatItShows, Sums, TellsARule, Trusts}
+use Rattle.rd_commands.specs.Commands.{AsksCheck, AsksCopy, AsksExport, AsksImport, AsksInit, AsksServe, AsksShow, AsksStaffKey, IsAskOf, IsCommand, IsTakenServingNowhere, IsTakenShowingNothing, NamesWhatItShows, Sums, TellsARule, Trusts}
 use Rattle.rd_commands.specs.Serving.{Place}
 use Rattle.rd_commands.specs.Words.{AsksCat, AsksList, IsSlotText}
 use Rattle.rd_commands.specs.Zones.{HasClocks, IsFlagTold, rule_text}
@@ -130,6 +130,7 @@ pub record GivesAsk (words : List Text) (o : Option Ask) : Type 0 where
   pub show : (store key : Text) (shown : Shown) (moment : Option ℤ) (rule : Text) → AsksShow words store key shown moment rule
       → IsSomeAnd o (IsOneQuestionAsk store (Some key) (Show shown) moment rule)
   pub staff_key : (store key : Text) → AsksStaffKey words store key → IsSomeAnd o (IsStaffKeyAsk store key)
+  pub copy : (store target : Text) (summed : Bool) → AsksCopy words store target summed → IsSomeAnd o (IsCopyAsk store target summed)
 
 -- What the rows of the command that a parse went into ask for is found.
 pub record GivesRows (entered : Option (Text × List Row)) (shown : Option Shown) (o : Option Ask) : Type 0 where
@@ -147,6 +148,7 @@ pub record GivesRows (entered : Option (Text × List Row)) (shown : Option Shown
   pub show : (store key : Text) (what : Shown) (moment : Option ℤ) (rule : Text) → shown ≡ Some what → EntersShow entered store key moment rule
       → IsSomeAnd o (IsOneQuestionAsk store (Some key) (Show what) moment rule)
   pub staff_key : (store key : Text) → EntersStaffKey entered store key → IsSomeAnd o (IsStaffKeyAsk store key)
+  pub copy : (store target : Text) (summed : Bool) → EntersCopy entered store target summed → IsSomeAnd o (IsCopyAsk store target summed)
 
 -- so the options of `serve` say how long a visitor may take
 timed_rows : (o : Option Ask) (entered : Option (Text × List Row)) (rows : List Row) → entered ≡ Some (codes "serve", rows) → IfSome o (EntersTimed entered)
@@ -173,12 +175,13 @@ ask_given o shown app words m desk matches naming given =
           given.show store key what moment rule (named_given shown asks.rows what (naming asks.rows into) asks.names)
           (record { rows = asks.rows; into = into; found = asks.found });
       staff_key = λ store key asks. given.staff_key store key (record { rows = asks.rows; into = sym same ∙ asks.enters.into app desk; found = asks.found });
+      copy = λ store target summed asks. given.copy store target summed (record { rows = asks.rows; into = sym same ∙ asks.enters.into app desk; found = asks.found });
     }
 
 -- words that are read are what is asked for
 pub ask_read : (o : Option Ask) (fault : Unread) (r : Result Ask Unread) (words : List Text) → r ≡ ok_or o fault → GivesAsk words o
     → IfOk r (IsAskOf words)
-ask_read (Some ask) fault r words is given = subst (λ x. IfOk x (IsAskOf words)) (sym is) (record { file = given.file; files = given.files; init = given.init; serve = given.serve; timeouts = given.timeouts; import = given.import; export = given.export; check = given.check; show = given.show; staff_key = given.staff_key })
+ask_read (Some ask) fault r words is given = subst (λ x. IfOk x (IsAskOf words)) (sym is) (record { file = given.file; files = given.files; init = given.init; serve = given.serve; timeouts = given.timeouts; import = given.import; export = given.export; check = given.check; show = given.show; staff_key = given.staff_key; copy = given.copy })
 ask_read None fault r words is given = subst (λ x. IfOk x (IsAskOf words)) (sym is) tt
 
 -- an accession that is read is a number of one
@@ -228,7 +231,8 @@ no_command words given (inr (inr (inr (inr (inl import))))) = given.import impor
 no_command words given (inr (inr (inr (inr (inr (inl export)))))) = given.export export.0 export.1 export.2 export.3 export.4
 no_command words given (inr (inr (inr (inr (inr (inr (inl check))))))) = given.check check.1.0 check.1.1 check.0 check.1.2 check.1.3 check.1.4
 no_command words given (inr (inr (inr (inr (inr (inr (inr (inl show)))))))) = given.show show.0 show.1 show.2 show.3 show.4 show.5
-no_command words given (inr (inr (inr (inr (inr (inr (inr (inr staff_key)))))))) = given.staff_key staff_key.0 staff_key.1 staff_key.2
+no_command words given (inr (inr (inr (inr (inr (inr (inr (inr (inl staff_key))))))))) = given.staff_key staff_key.0 staff_key.1 staff_key.2
+no_command words given (inr (inr (inr (inr (inr (inr (inr (inr (inr copy))))))))) = given.copy copy.0 copy.1 copy.2 copy.3
 
 -- words that are not read are no command
 pub ask_unread : (o : Option Ask) (fault : Unread) (r : Result Ask Unread) (words : List Text) (P : Unread → Type 0) → r ≡ ok_or o fault → GivesAsk words o
@@ -260,8 +264,10 @@ fails_for_memory app words error desk (inr (inr (inr (inr (inr (inr (inl check))
     none_among (fault_of app words) error (check.1.4.enters.no_fault app desk) (has (ap is_simple_and_free desk.is ∙ free desk.cat_kinds desk.list_kinds desk.shown))
 fails_for_memory app words error desk (inr (inr (inr (inr (inr (inr (inr (inl show)))))))) passes has =
     none_among (fault_of app words) error (show.5.enters.no_fault app desk) (has (ap is_simple_and_free desk.is ∙ free desk.cat_kinds desk.list_kinds desk.shown))
-fails_for_memory app words error desk (inr (inr (inr (inr (inr (inr (inr (inr staff_key)))))))) passes has =
+fails_for_memory app words error desk (inr (inr (inr (inr (inr (inr (inr (inr (inl staff_key))))))))) passes has =
     none_among (fault_of app words) error (staff_key.2.enters.no_fault app desk) (has (ap is_simple_and_free desk.is ∙ free desk.cat_kinds desk.list_kinds desk.shown))
+fails_for_memory app words error desk (inr (inr (inr (inr (inr (inr (inr (inr (inr copy))))))))) passes has =
+    none_among (fault_of app words) error (copy.3.enters.no_fault app desk) (has (ap is_simple_and_free desk.is ∙ free desk.cat_kinds desk.list_kinds desk.shown))
 
 -- words that `clap` takes as a command have no fault
 pub no_fault_in : (words : List Text) (name : Text) (rows : List Row) (kind : ErrorKind) → Enters words name rows → HasFault words kind → ⊥
@@ -286,12 +292,13 @@ clocked name (inr (inr (inr (inr show)))) = subst (λ n. is_clocked (second n) �
 unset : false ≡ true → ⊥
 unset set = cc
 
--- the commands on images, `init` and `staff-key` have no clocks
-pub clockless : (name : Text) → (name ≡ codes "cat") ⊎ ((name ≡ codes "list") ⊎ ((name ≡ codes "init") ⊎ (name ≡ codes "staff-key"))) → HasClocks name → ⊥
+-- the commands on images, `init`, `staff-key` and `copy` have no clocks
+pub clockless : (name : Text) → (name ≡ codes "cat") ⊎ ((name ≡ codes "list") ⊎ ((name ≡ codes "init") ⊎ ((name ≡ codes "staff-key") ⊎ (name ≡ codes "copy")))) → HasClocks name → ⊥
 clockless name (inl cat) clocks = unset (subst (λ n. is_clocked (second n) ≡ true) cat (clocked name clocks))
 clockless name (inr (inl list)) clocks = unset (subst (λ n. is_clocked (second n) ≡ true) list (clocked name clocks))
 clockless name (inr (inr (inl init))) clocks = unset (subst (λ n. is_clocked (second n) ≡ true) init (clocked name clocks))
-clockless name (inr (inr (inr staff_key))) clocks = unset (subst (λ n. is_clocked (second n) ≡ true) staff_key (clocked name clocks))
+clockless name (inr (inr (inr (inl staff_key)))) clocks = unset (subst (λ n. is_clocked (second n) ≡ true) staff_key (clocked name clocks))
+clockless name (inr (inr (inr (inr copy)))) clocks = unset (subst (λ n. is_clocked (second n) ≡ true) copy (clocked name clocks))
 
 -- the rows of the command that a parse went into
 pub rows_met : (m : ArgMatches) (name : Text) (rows shown : List Row) → subcommand_rows_of m ≡ Some (name, rows)

@@ -124,8 +124,10 @@ command_place app words rows desk is (inr (inr (inr (inr (inr (inr (inl check)))
     absurd (no_other _ (codes "check") check.1.4.rows rows refl (check.1.4.enters.into app desk) is)
 command_place app words rows desk is (inr (inr (inr (inr (inr (inr (inr (inl show)))))))) =
     absurd (no_other _ (codes "show") show.5.rows rows refl (show.5.enters.into app desk) is)
-command_place app words rows desk is (inr (inr (inr (inr (inr (inr (inr (inr staff_key)))))))) =
+command_place app words rows desk is (inr (inr (inr (inr (inr (inr (inr (inr (inl staff_key))))))))) =
     absurd (no_other _ (codes "staff-key") staff_key.2.rows rows refl (staff_key.2.enters.into app desk) is)
+command_place app words rows desk is (inr (inr (inr (inr (inr (inr (inr (inr (inr copy))))))))) =
+    absurd (no_other _ (codes "copy") copy.3.rows rows refl (copy.3.enters.into app desk) is)
 
 -- the rows of `serve` give the seconds of a command that was found in the same rows
 pub timed_met : (timeouts : Timeouts) (rows shown : List Row) → rows ≡ shown → GivesTimeouts shown timeouts → GivesTimeouts rows timeouts

@@ -13,7 +13,7 @@ use Rattle.rd_commands.specs.RefusalLines.{Tells}
 use Rattle.rd_commands.specs.Commands.{AsksOfStore, IsAskOf}
 use Rattle.rd_commands.specs.Words.{AsksOfKind}
 use Rattle.rd_commands.specs.declared.words.Ask.{Ask}
-use Rattle.rd_commands.specs.declared.words.Ask.TheVariants.{File, Files, Import, Init, OneQuestion, Serve, StaffKey}
+use Rattle.rd_commands.specs.declared.words.Ask.TheVariants.{Copy, File, Files, Import, Init, OneQuestion, Serve, StaffKey}
 use Rattle.rd_commands.specs.declared.refusal.Refusal.{Refusal}
 use Rattle.rd_commands.specs.declared.refusal.Refusal.TheVariants.{Usage, Device, NoMemory, WrongSize, NoFile, ListedOnly, Faulty, Exists, NotADesk, Version, Inconsistent, Store, Clock, BadSheet, UnknownKey, StaffOnly, NoAccession}
 use Rattle.rd_commands.specs.declared.words.FileAsk.{FileAsk}
@@ -115,6 +115,8 @@ reads_of_kind words (OneQuestion ask) kind is (inl cat) = absurd (is.file kind c
 reads_of_kind words (OneQuestion ask) kind is (inr list) = absurd (is.files kind list.0 list.1)
 reads_of_kind words (StaffKey ask) kind is (inl cat) = absurd (is.file kind cat.0 cat.1 cat.2)
 reads_of_kind words (StaffKey ask) kind is (inr list) = absurd (is.files kind list.0 list.1)
+reads_of_kind words (Copy ask) kind is (inl cat) = absurd (is.file kind cat.0 cat.1 cat.2)
+reads_of_kind words (Copy ask) kind is (inr list) = absurd (is.files kind list.0 list.1)
 
 -- where words ask for something of a store, no input is read
 pub reads_no_input : (words : List (List ℕ)) (ask : Ask) → IsAskOf words ask → AsksOfStore words → most_read ask ≡ 0
@@ -124,19 +126,22 @@ reads_no_input words (File ask) is (inr (inr (inl import))) = absurd (is.import 
 reads_no_input words (File ask) is (inr (inr (inr (inl export)))) = absurd (is.export export.0 export.1 export.2 export.3 export.4)
 reads_no_input words (File ask) is (inr (inr (inr (inr (inl check))))) = absurd (is.check check.1.0 check.1.1 check.0 check.1.2 check.1.3 check.1.4)
 reads_no_input words (File ask) is (inr (inr (inr (inr (inr (inl show)))))) = absurd (is.show show.0 show.1 show.2 show.3 show.4 show.5)
-reads_no_input words (File ask) is (inr (inr (inr (inr (inr (inr staff_key)))))) = absurd (is.staff_key staff_key.0 staff_key.1 staff_key.2)
+reads_no_input words (File ask) is (inr (inr (inr (inr (inr (inr (inl staff_key))))))) = absurd (is.staff_key staff_key.0 staff_key.1 staff_key.2)
+reads_no_input words (File ask) is (inr (inr (inr (inr (inr (inr (inr copy))))))) = absurd (is.copy copy.0 copy.1 copy.2 copy.3)
 reads_no_input words (Files ask) is (inl init) = absurd (is.init init.0 init.1 init.2)
 reads_no_input words (Files ask) is (inr (inl serve)) = absurd (is.serve serve.0 serve.1 serve.2 serve.3 serve.4)
 reads_no_input words (Files ask) is (inr (inr (inl import))) = absurd (is.import import.0 import.1 import.2 import.3 import.4 import.5)
 reads_no_input words (Files ask) is (inr (inr (inr (inl export)))) = absurd (is.export export.0 export.1 export.2 export.3 export.4)
 reads_no_input words (Files ask) is (inr (inr (inr (inr (inl check))))) = absurd (is.check check.1.0 check.1.1 check.0 check.1.2 check.1.3 check.1.4)
 reads_no_input words (Files ask) is (inr (inr (inr (inr (inr (inl show)))))) = absurd (is.show show.0 show.1 show.2 show.3 show.4 show.5)
-reads_no_input words (Files ask) is (inr (inr (inr (inr (inr (inr staff_key)))))) = absurd (is.staff_key staff_key.0 staff_key.1 staff_key.2)
+reads_no_input words (Files ask) is (inr (inr (inr (inr (inr (inr (inl staff_key))))))) = absurd (is.staff_key staff_key.0 staff_key.1 staff_key.2)
+reads_no_input words (Files ask) is (inr (inr (inr (inr (inr (inr (inr copy))))))) = absurd (is.copy copy.0 copy.1 copy.2 copy.3)
 reads_no_input words (Init ask) is asks = refl
 reads_no_input words (Serve ask) is asks = refl
 reads_no_input words (Import ask) is asks = refl
 reads_no_input words (OneQuestion ask) is asks = refl
 reads_no_input words (StaffKey ask) is asks = refl
+reads_no_input words (Copy ask) is asks = refl
 
 -- no more is read than one byte past the largest image
 pub reads_few : (ask : Ask) → most_read ask ≤ size_of Cpm8 + 1
@@ -147,6 +152,7 @@ reads_few (Serve ask) = omega arith
 reads_few (Import ask) = omega arith
 reads_few (OneQuestion ask) = omega arith
 reads_few (StaffKey ask) = omega arith
+reads_few (Copy ask) = omega arith
 
 -- nothing is refused where nothing is known
 pub of_all : {P : List ℕ → Type 0} (known : Option (List ℕ)) → ((bytes : List ℕ) → P bytes) → IfSome known P

@@ -170,5 +170,7 @@ command_names app words rows desk is (inr (inr (inr (inr (inr (inr (inl check)))
     absurd (no_other _ (codes "check") check.1.4.rows rows refl (check.1.4.enters.into app desk) is)
 command_names app words rows desk is (inr (inr (inr (inr (inr (inr (inr (inl show)))))))) =
     subst NamesAny (ap entered_rows (sym (show.5.enters.into app desk) ∙ is)) (show.2, show.5.names)
-command_names app words rows desk is (inr (inr (inr (inr (inr (inr (inr (inr staff_key)))))))) =
+command_names app words rows desk is (inr (inr (inr (inr (inr (inr (inr (inr (inl staff_key))))))))) =
     absurd (no_other _ (codes "staff-key") staff_key.2.rows rows refl (staff_key.2.enters.into app desk) is)
+command_names app words rows desk is (inr (inr (inr (inr (inr (inr (inr (inr (inr copy))))))))) =
+    absurd (no_other _ (codes "copy") copy.3.rows rows refl (copy.3.enters.into app desk) is)

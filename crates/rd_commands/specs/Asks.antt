@@ -12,7 +12,8 @@ use Rattle.rd_geometry.specs.Kinds.{size_of, word_of}
 use Rattle.rd_policy.specs.Zones.{IsZoneOf}
 use Rattle.rd_policy.specs.Rules.{IsScope}
 use Rattle.rd_commands.specs.declared.words.Ask.{Ask}
-use Rattle.rd_commands.specs.declared.words.Ask.TheVariants.{File, Files, Import, Init, OneQuestion, Serve, StaffKey}
+use Rattle.rd_commands.specs.declared.words.Ask.TheVariants.{Copy, File, Files, Import, Init, OneQuestion, Serve, StaffKey}
+use Rattle.rd_commands.specs.declared.words.CopyAsk.{CopyAsk}
 use Rattle.rd_commands.specs.declared.words.FileAsk.{FileAsk}
 use Rattle.rd_commands.specs.declared.words.ImageAsk.{ImageAsk}
 use Rattle.rd_commands.specs.declared.words.ImportAsk.{ImportAsk}
@@ -84,6 +85,12 @@ pub record AsksStaff (ask : StaffKeyAsk) (store key : List ℕ) : Type 0 where
   pub store_is : ask.store.now ≡ store
   pub key_is : ask.key.now ≡ trim_ows key
 
+-- it asks to copy the desk in the file of the store to a new file, with sums or without
+pub record AsksCopying (ask : CopyAsk) (store target : List ℕ) (summed : Bool) : Type 0 where
+  pub store_is : ask.store.now ≡ store
+  pub target_is : ask.target.now ≡ target
+  pub sums_are : ask.has_sums ≡ summed
+
 -- the command asks for the file at the slot of the image of the kind
 abbrev pub IsFileAsk : Kind → List ℕ → ℕ → Ask → Type 0
 IsFileAsk kind image slot (File ask) = AsksFile ask kind image slot
@@ -125,6 +132,11 @@ IsOneQuestionAsk store key question moment rule _ = ⊥
 abbrev pub IsStaffKeyAsk : List ℕ → List ℕ → Ask → Type 0
 IsStaffKeyAsk store key (StaffKey ask) = AsksStaff ask store key
 IsStaffKeyAsk store key _ = ⊥
+
+-- the command asks to copy the desk in the file of the store to a new file, with sums or without
+abbrev pub IsCopyAsk : List ℕ → List ℕ → Bool → Ask → Type 0
+IsCopyAsk store target summed (Copy ask) = AsksCopying ask store target summed
+IsCopyAsk store target summed _ = ⊥
 
 -- one question to a desk
 abbrev pub AsksADesk : Ask → Type 0
@@ -191,6 +203,7 @@ most_read (Serve ask) = 0
 most_read (Import ask) = 0
 most_read (OneQuestion ask) = 0
 most_read (StaffKey ask) = 0
+most_read (Copy ask) = 0
 
 -- the text to write is help
 abbrev pub IsHelp : Unread → Type 0
@@ -390,6 +403,18 @@ pub record EntersStaffKey (entered : Option (Text × List Row)) (store key : Lis
   pub rows : List Row
   pub into : entered ≡ Some (codes "staff-key", rows)
   pub found : AreStaffKeyRows rows store key
+
+-- the options that `clap` found for `copy`
+pub record AreCopyRows (rows : List Row) (store target : List ℕ) (summed : Bool) : Type 0 where
+  pub store_found : first_of (codes "store") rows ≡ Some store
+  pub target_found : first_of (codes "to") rows ≡ Some target
+  pub sums_told : IsFlagTold (one_of (codes "sums") rows) summed
+
+-- the parse went into `copy`, and found its options
+pub record EntersCopy (entered : Option (Text × List Row)) (store target : List ℕ) (summed : Bool) : Type 0 where
+  pub rows : List Row
+  pub into : entered ≡ Some (codes "copy", rows)
+  pub found : AreCopyRows rows store target summed
 
 -- if the parse went into `show`, this is what is named there
 abbrev pub EntersNaming : Option (Text × List Row) → Option Shown → Type 0

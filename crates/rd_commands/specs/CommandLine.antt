@@ -161,6 +161,14 @@ show_app names =
 abbrev pub staff_key_app : App
 staff_key_app = with_rule (with_rule (new_app (codes "staff-key")) store_rule) key_rule
 
+-- the option for the file to which a store is copied
+abbrev pub target_rule : Rule
+target_rule = required_option (codes "to")
+
+-- the command `copy`
+abbrev pub copy_app : App
+copy_app = with_rule (with_rule (with_rule (new_app (codes "copy")) store_rule) target_rule) sums_rule
+
 -- the words come without the program's name, one of them is a command's, and there is a version
 abbrev pub wants_command : Shape → Shape
 wants_command s = record s {
@@ -178,8 +186,8 @@ bare_app = on_top wants_command (new_app (codes "desk"))
 abbrev pub desk_app : NameList → NameList → NameList → App
 desk_app kinds kinds' names =
     with_subcommand (with_subcommand (with_subcommand (with_subcommand (with_subcommand (with_subcommand (with_subcommand
-    (with_subcommand (with_subcommand bare_app (cat_app kinds).top) (list_app kinds').top) init_app.top) serve_app.top)
-    import_app.top) export_app.top) check_app.top) (show_app names).top) staff_key_app.top
+    (with_subcommand (with_subcommand (with_subcommand bare_app (cat_app kinds).top) (list_app kinds').top) init_app.top)
+    serve_app.top) import_app.top) export_app.top) check_app.top) (show_app names).top) staff_key_app.top) copy_app.top
 
 -- the names are the words of all kinds
 abbrev pub AreKindNames : NameList → Type 0

@@ -5,7 +5,7 @@ use Rattle.rd_geometry.specs.declared.kind.Kind.{Kind}
 use Rattle.rd_commands.specs.declared.words.Ask.{Ask}
 use Rattle.rd_commands.specs.declared.words.Question.TheVariants.{Catalogue, Check, Show}
 use Rattle.rd_commands.specs.declared.words.Shown.{Shown}
-use Rattle.rd_commands.specs.Asks.{AreCheckRows, AreExportRows, AreImportRows, AreInitRows, AreServeRows, AreShowRows, AreStaffKeyRows, HasTimeouts, IsFileAsk, IsFilesAsk, IsImportAsk, IsInitAsk, IsOneQuestionAsk, IsServeAsk, IsStaffKeyAsk}
+use Rattle.rd_commands.specs.Asks.{AreCheckRows, AreCopyRows, AreExportRows, AreImportRows, AreInitRows, AreServeRows, AreShowRows, AreStaffKeyRows, HasTimeouts, IsCopyAsk, IsFileAsk, IsFilesAsk, IsImportAsk, IsInitAsk, IsOneQuestionAsk, IsServeAsk, IsStaffKeyAsk}
 use Rattle.rd_commands.specs.CommandLine.{Enters, IsTakenAs}
 use Rattle.rd_commands.specs.Serving.{NamesOnePlace, Place}
 use Rattle.rd_commands.specs.Shown.{NamesAny, NamesShown}
@@ -85,12 +85,23 @@ pub record AsksStaffKey (words : List Text) (store key : List ℕ) : Type 0 wher
 abbrev pub IsStaffKey : List Text → Type 0
 IsStaffKey words = (store : List ℕ) × (key : List ℕ) × AsksStaffKey words store key
 
--- the words ask for a desk, for visits, to take in images, for the catalogue, for a check, to show what the desk holds, or
--- to put a key of the staff; none of these reads the input
+-- The words ask to copy the desk in the file of a store to a new file, whose pages end in sums or do not: they are those of
+-- `copy`, as `clap` takes them.
+pub record AsksCopy (words : List Text) (store target : List ℕ) (summed : Bool) : Type 0 where
+  pub rows : List Row
+  pub enters : Enters words (codes "copy") rows
+  pub found : AreCopyRows rows store target summed
+
+-- they ask for it with some options
+abbrev pub IsCopy : List Text → Type 0
+IsCopy words = (store : List ℕ) × (target : List ℕ) × (summed : Bool) × AsksCopy words store target summed
+
+-- the words ask for a desk, for visits, to take in images, for the catalogue, for a check, to show what the desk holds, to
+-- put a key of the staff, or to copy a desk; none of these reads the input
 abbrev pub AsksOfStore : List Text → Type 0
 AsksOfStore words = ((store : List ℕ) × (key : List ℕ) × AsksInit words store key)
     ⊎ (((store : List ℕ) × (place : Place) × (count : ℕ) × (rule : List ℕ) × AsksServe words store place count rule)
-    ⊎ (IsImport words ⊎ (IsExport words ⊎ (((acc : ℕ) × IsCheckOf words acc) ⊎ (IsShow words ⊎ IsStaffKey words)))))
+    ⊎ (IsImport words ⊎ (IsExport words ⊎ (((acc : ℕ) × IsCheckOf words acc) ⊎ (IsShow words ⊎ (IsStaffKey words ⊎ IsCopy words))))))
 
 -- the words are a command of the program: a plain form of `cat` or `list`, or any form of the others
 abbrev pub IsCommand : List Text → Type 0
@@ -142,3 +153,4 @@ pub record IsAskOf (words : List Text) (ask : Ask) : Type 0 where
   pub show : (store key : List ℕ) (shown : Shown) (moment : Option ℤ) (rule : List ℕ)
       → AsksShow words store key shown moment rule → IsOneQuestionAsk store (Some key) (Show shown) moment rule ask
   pub staff_key : (store key : List ℕ) → AsksStaffKey words store key → IsStaffKeyAsk store key ask
+  pub copy : (store target : List ℕ) (summed : Bool) → AsksCopy words store target summed → IsCopyAsk store target summed ask

@@ -2,7 +2,7 @@
 use Rattle.std.specs.Prelude.{◌≡◌, ℕ, List, [], ◌∷◌, Option, bytes_eq, codes, if◌then◌else◌}
 use Rattle.std.specs.Io.KnownBytes.{Keeps}
 use Rattle.rd_commands.specs.Output.{AppendsPart}
-use Rattle.rd_commands.specs.declared.help.TheConstants.{CAT_HELP, CHECK_HELP, DESK_HELP, EXPORT_HELP, HELP_HELP, IMPORT_HELP, INIT_HELP, LIST_HELP, SERVE_HELP, SHOW_HELP, STAFF_KEY_HELP}
+use Rattle.rd_commands.specs.declared.help.TheConstants.{CAT_HELP, CHECK_HELP, COPY_HELP, DESK_HELP, EXPORT_HELP, HELP_HELP, IMPORT_HELP, INIT_HELP, LIST_HELP, SERVE_HELP, SHOW_HELP, STAFF_KEY_HELP}
 use Rattle.rd_commands.specs.declared.refusal.Refusal.{Refusal}
 use Rattle.rd_commands.specs.declared.refusal.Refusal.TheVariants.{Device, NoMemory}
 
@@ -18,6 +18,7 @@ help_named name =
     if bytes_eq name (codes "check") then CHECK_HELP.now else
     if bytes_eq name (codes "show") then SHOW_HELP.now else
     if bytes_eq name (codes "staff-key") then STAFF_KEY_HELP.now else
+    if bytes_eq name (codes "copy") then COPY_HELP.now else
     if bytes_eq name (codes "help") then HELP_HELP.now else
     DESK_HELP.now
 

@@ -1,7 +1,7 @@
 ghost use Rattle.std.specs.Prelude.{◌≡◌, IfOk, codes, false};
 ghost use Rattle.clap.specs.Words.{app_of, rule_of};
 ghost use Rattle.clap.specs.declared.builder.command.Command.TheViews.{out-Command as fields_of};
-ghost use Rattle.rd_commands.specs.CommandLine.{IsCatApp, IsDeskApp, IsKindRule, IsListApp, IsShowApp, IsWhatRule, accession_rule, bare_app, check_app, count_rule, day_rule, export_app, image_rule, import_app, init_app, key_rule, moment_rule, optional_key_rule, port_rule, serve_app, sheet_rule, slot_rule, socket_rule, staff_key_app, store_rule, sums_rule, timeout_rule, trust_rule, untimed_app, zone_rule};
+ghost use Rattle.rd_commands.specs.CommandLine.{IsCatApp, IsDeskApp, IsKindRule, IsListApp, IsShowApp, IsWhatRule, accession_rule, bare_app, check_app, copy_app, count_rule, day_rule, export_app, image_rule, import_app, init_app, key_rule, moment_rule, optional_key_rule, port_rule, serve_app, sheet_rule, slot_rule, socket_rule, staff_key_app, store_rule, target_rule, sums_rule, timeout_rule, trust_rule, untimed_app, zone_rule};
 
 use crate::version::VERSION;
 use clap::{Arg, ArgAction, Command, value_parser};
@@ -383,6 +383,30 @@ fn staff_key_command<'a>(alloc: Global) -> Result<Command<'a>, AllocError>
         .arg(key_option(alloc))
 }
 
+/// The option for the file to which a store is copied.
+fn target_option<'a>(alloc: Global) -> Arg<'a>
+    ensures rule { rule_of result ≡ target_rule }
+    ensures local { result.global ≡ false }
+{
+    Arg::new(alloc, "to")
+        .long("to")
+        .value_name("FILE")
+        .required(true)
+        .help("The file of the new store; there must be none yet")
+}
+
+fn copy_command<'a>(alloc: Global) -> Result<Command<'a>, AllocError>
+    ensures shape { IfOk result (λ copy. app_of copy ≡ copy_app) }
+    ensures local { IfOk result (λ copy. (fields_of copy).has_globals ≡ false) }
+{
+    Command::new(alloc, "copy")
+        .about("Copies the desk in the file of a store to a new file, and compares the two")
+        .after_help("Example:\n  desk copy --store museum.sqlite --to new.sqlite --sums")
+        .arg(store_option(alloc))?
+        .arg(target_option(alloc))?
+        .arg(sums_option(alloc))
+}
+
 /// The program's command line, without its commands.
 fn bare_desk<'a>(alloc: Global) -> Result<Command<'a>, AllocError>
     ensures { IfOk result (λ desk. app_of desk ≡ bare_app) }
@@ -391,7 +415,7 @@ fn bare_desk<'a>(alloc: Global) -> Result<Command<'a>, AllocError>
         .version(VERSION)
         .about("Reads files from disk images, and serves those of a museum by its rules")
         .after_help(
-            "Examples:\n  desk list cpm8 disk.img\n  desk cat cpm8 disk.img 0\n  desk list d64 disk.d64\n  desk init --store museum.sqlite --key 'a long phrase'\n  desk serve --store museum.sqlite --port 8041 --count 1000\n  desk import --store museum.sqlite --key 'a long phrase' --sheet images.csv\n  desk export --store museum.sqlite\n  desk check --store museum.sqlite --key 'a long phrase' --acc 12\n  desk show deeds --store museum.sqlite --key 'a long phrase'\n  desk staff-key --store museum.sqlite --key 'another long phrase'",
+            "Examples:\n  desk list cpm8 disk.img\n  desk cat cpm8 disk.img 0\n  desk list d64 disk.d64\n  desk init --store museum.sqlite --key 'a long phrase'\n  desk serve --store museum.sqlite --port 8041 --count 1000\n  desk import --store museum.sqlite --key 'a long phrase' --sheet images.csv\n  desk export --store museum.sqlite\n  desk check --store museum.sqlite --key 'a long phrase' --acc 12\n  desk show deeds --store museum.sqlite --key 'a long phrase'\n  desk staff-key --store museum.sqlite --key 'another long phrase'\n  desk copy --store museum.sqlite --to new.sqlite --sums",
         )
         .no_binary_name(true)
         .bin_name("desk")?;
@@ -411,5 +435,6 @@ pub(crate) fn desk_command<'a>(alloc: Global) -> Result<Command<'a>, AllocError>
         .subcommand(export_command(alloc)?)?
         .subcommand(check_command(alloc)?)?
         .subcommand(show_command(alloc)?)?
-        .subcommand(staff_key_command(alloc)?)
+        .subcommand(staff_key_command(alloc)?)?
+        .subcommand(copy_command(alloc)?)
 }

@@ -28,6 +28,7 @@ Commands:
   check      Tells whether the image of an accession is as it was given, and records it
   show       Shows the staff what the desk holds: deeds, takedowns, keys, checks, or the verdicts of a day
   staff-key  Puts a desk key as one of the staff, for whoever may write the store
+  copy       Copies the desk in the file of a store to a new file, and compares the two
   help       Print this message or the help of the given subcommand(s)
 
 Options:
@@ -45,6 +46,7 @@ Examples:
   desk check --store museum.sqlite --key 'a long phrase' --acc 12
   desk show deeds --store museum.sqlite --key 'a long phrase'
   desk staff-key --store museum.sqlite --key 'another long phrase'
+  desk copy --store museum.sqlite --to new.sqlite --sums
 ";
 
 /// The help of `cat`.
@@ -214,6 +216,22 @@ Example:
   desk staff-key --store museum.sqlite --key 'another long phrase'
 ";
 
+/// The help of `copy`.
+pub const COPY_HELP: &str =
+    "Copies the desk in the file of a store to a new file, and compares the two
+
+Usage: desk copy [OPTIONS] --store <FILE> --to <FILE>
+
+Options:
+      --store <FILE>  The file of the store
+      --to <FILE>     The file of the new store; there must be none yet
+      --sums          Puts a sum at the end of each page of the store, so that a bit that flips is seen
+  -h, --help          Print help
+
+Example:
+  desk copy --store museum.sqlite --to new.sqlite --sums
+";
+
 /// The help of `help`.
 pub const HELP_HELP: &str = "Print this message or the help of the given subcommand(s)
 
@@ -237,6 +255,7 @@ fn help_of(name: &str) -> &'static str
         "check" => CHECK_HELP,
         "show" => SHOW_HELP,
         "staff-key" => STAFF_KEY_HELP,
+        "copy" => COPY_HELP,
         "help" => HELP_HELP,
         _ => DESK_HELP,
     }

@@ -29,6 +29,6 @@ pub use serving::{Place, Timeouts};
 pub use sheet::{SheetRow, is_header, next_row, row_of};
 pub use tell::{exit_code, tell_refusal, tell_unread};
 pub use words::{
-    Ask, FileAsk, ImageAsk, ImportAsk, InitAsk, OneQuestionAsk, Question, ServeAsk, Shown,
+    Ask, CopyAsk, FileAsk, ImageAsk, ImportAsk, InitAsk, OneQuestionAsk, Question, ServeAsk, Shown,
     StaffKeyAsk, Unread, WhenAsk, read_words,
 };

@@ -8,11 +8,11 @@ ghost use Rattle.httparse.specs.Grammar.{trim_ows};
 ghost use Rattle.rd_geometry.specs.Kinds.{word_of};
 ghost use Rattle.rd_policy.specs.Rules.{IsScope};
 ghost use Rattle.rd_policy.specs.Zones.{IsZoneOf};
-ghost use Rattle.rd_commands.specs.Asks.{AreCatRows, AreCheckRows, AreExportRows, AreImportRows, AreInitRows, AreListRows, AreServeRows, AreShowRows, AreStaffKeyRows, IsMomentNamed};
-ghost use Rattle.rd_commands.specs.Asks.{AsksFile, AsksFiles, AsksImages, AsksNew, AsksOneQuestion, AsksStaff, AsksVisits, AsksWhen, IsAskable};
+ghost use Rattle.rd_commands.specs.Asks.{AreCatRows, AreCheckRows, AreCopyRows, AreExportRows, AreImportRows, AreInitRows, AreListRows, AreServeRows, AreShowRows, AreStaffKeyRows, IsMomentNamed};
+ghost use Rattle.rd_commands.specs.Asks.{AsksCopying, AsksFile, AsksFiles, AsksImages, AsksNew, AsksOneQuestion, AsksStaff, AsksVisits, AsksWhen, IsAskable};
 ghost use Rattle.rd_commands.specs.Asks.{EntersAtAPlace, EntersNoPlace, EntersTimed};
-ghost use Rattle.rd_commands.specs.Asks.{EntersByRule, EntersCat, EntersCheck, EntersExport, EntersImport, EntersInit, EntersList, EntersNaming, EntersNamingNone, EntersServe, EntersShow, EntersStaffKey, EntersSumming, EntersTelling, EntersTrusting};
-ghost use Rattle.rd_commands.specs.Asks.{IsWithinLimits, IsFaultOf, IsFileAsk, IsFilesAsk, IsForMemory, IsHelp, IsImportAsk, IsInitAsk, IsMistake, IsOneQuestionAsk, IsServeAsk, IsStaffKeyAsk, IsTold, IsVersion, TellsOnOutput, has_sums, is_trusting};
+ghost use Rattle.rd_commands.specs.Asks.{EntersByRule, EntersCat, EntersCheck, EntersCopy, EntersExport, EntersImport, EntersInit, EntersList, EntersNaming, EntersNamingNone, EntersServe, EntersShow, EntersStaffKey, EntersSumming, EntersTelling, EntersTrusting};
+ghost use Rattle.rd_commands.specs.Asks.{IsCopyAsk, IsWithinLimits, IsFaultOf, IsFileAsk, IsFilesAsk, IsForMemory, IsHelp, IsImportAsk, IsInitAsk, IsMistake, IsOneQuestionAsk, IsServeAsk, IsStaffKeyAsk, IsTold, IsVersion, TellsOnOutput, has_sums, is_trusting};
 ghost use Rattle.rd_commands.specs.CommandLine.{IsDeskApp, IsTaken, IsTakenTelling};
 ghost use Rattle.rd_commands.specs.Commands.{IsAskOf, IsCommand, IsTakenServingNowhere, IsTakenShowingNothing, NamesAPlace, NamesWhatItShows, Sums, TellsARule, Trusts};
 ghost use Rattle.rd_commands.specs.Serving.{GivesTimeouts};
@@ -151,6 +151,17 @@ pub struct StaffKeyAsk<'a> {
     pub key: &'a [u8],
 }
 
+/// The desk that `copy` copies.
+#[derive(Clone, Copy, Debug)]
+pub struct CopyAsk<'a> {
+    /// The path of the store.
+    pub store: &'a str,
+    /// The path of the new store.
+    pub target: &'a str,
+    /// Whether the pages of the new store end in sums.
+    pub has_sums: bool,
+}
+
 /// What a command asks for.
 #[derive(Clone, Copy, Debug)]
 pub enum Ask<'a> {
@@ -168,6 +179,8 @@ pub enum Ask<'a> {
     OneQuestion(OneQuestionAsk<'a>),
     /// A key of the staff in a desk that stands.
     StaffKey(StaffKeyAsk<'a>),
+    /// A copy of a desk in a new store.
+    Copy(CopyAsk<'a>),
 }
 
 /// Why the words do not run a command.
@@ -506,6 +519,22 @@ fn staff_key_asked<'a>(found: &ArgMatches<'a>) -> Option<StaffKeyAsk<'a>>
     Some(StaffKeyAsk { store, key })
 }
 
+/// What the options of `copy` ask for, `None` if one is missing.
+fn copy_asked<'a>(found: &ArgMatches<'a>) -> Option<CopyAsk<'a>>
+    ensures { (store : List ℕ) (target : List ℕ) (summed : Bool)
+        → AreCopyRows (rows_of (found_of found.now)) store target summed
+        → IsSomeAnd result (λ ask. AsksCopying ask store target summed) }
+{
+    let from = found.get_str("store")?;
+    let target = found.get_str("to")?;
+    let has_sums = sums_asked(found);
+    Some(CopyAsk {
+        store: from,
+        target,
+        has_sums,
+    })
+}
+
 /// Looks at what `clap` does not look at: whether `serve` has one place, and what `show` shows; `None` if the words are
 /// not of `show`.
 ///
@@ -552,6 +581,9 @@ fn ask_found<'a>(matches: &ArgMatches<'a>, shown: Option<Shown>) -> Option<Ask<'
     ensures staff_key { (store key : List ℕ)
         → EntersStaffKey (subcommand_rows_of matches.now) store key
         → IsSomeAnd result (IsStaffKeyAsk store key) }
+    ensures copy { (store target : List ℕ) (summed : Bool)
+        → EntersCopy (subcommand_rows_of matches.now) store target summed
+        → IsSomeAnd result (IsCopyAsk store target summed) }
     ensures written_on_output { IfSome result (λ ask. TellsOnOutput ask → EntersTelling (subcommand_rows_of matches.now)) }
     ensures accession { IfSome result IsWithinLimits }
     ensures timeouts { IfSome result (EntersTimed (subcommand_rows_of matches.now)) }
@@ -570,6 +602,7 @@ fn ask_found<'a>(matches: &ArgMatches<'a>, shown: Option<Shown>) -> Option<Ask<'
         "check" => Some(Ask::OneQuestion(check_asked(found)?)),
         "show" => Some(Ask::OneQuestion(show_asked(found, shown?)?)),
         "staff-key" => Some(Ask::StaffKey(staff_key_asked(found)?)),
+        "copy" => Some(Ask::Copy(copy_asked(found)?)),
         _ => None,
     }
 }

@@ -10,8 +10,10 @@ use rd_volume::Kind;
 use sqlite::{Connection, FileFrom, FileStore, Options, Wary};
 use sqlite_std_file::OpenError;
 use std::alloc::{AllocError, Global};
+use std::fs::OpenOptions;
 use std::hash::{BuildHasher, RandomState};
 use std::io::{BufWriter, ErrorKind, Read};
+use std::os::unix::fs::OpenOptionsExt;
 use std::process::ExitCode;
 use std::time::{Instant, SystemTime, UNIX_EPOCH};
 use std::{env, fs};
@@ -27,10 +29,15 @@ const COPIED_FRAMES: usize = 1;
 /// page, it trusts no byte of that page.
 pub type HostDisk = FileStore<FileFrom<Wary>>;
 
+/// Whether SQLite takes the path for something other than a file, as it does `:memory:` and what begins with `file:`.
+fn is_no_file(path: &str) -> bool {
+    path == ":memory:" || path.starts_with("file:")
+}
+
 /// Opens the store in the file at a path, or makes it, with a sum at the end of each page or without.
 ///
 /// It fails with `NoMemory`, and with `Failed` when it cannot open the file, when the file holds no sound database, and
-/// when SQLite takes the path for something other than a file: `:memory:`, or what begins with `file:`.
+/// when the path is no file's.
 fn open_store(
     rt: &HostRuntime,
     path: &str,
@@ -38,7 +45,7 @@ fn open_store(
 ) -> Result<Connection<HostDisk>, MachineFault>
     ensures outside { IfOk result (λ conn. conn.in_transaction ≡ false) }
 {
-    if path == ":memory:" || path.starts_with("file:") {
+    if is_no_file(path) {
         return Err(MachineFault::Failed);
     }
     let files = match sqlite_std_file::open(rt, path, Wary) {
@@ -54,6 +61,23 @@ fn open_store(
     match Connection::open_files_with(rt.alloc(), files, options, new_has_sums) {
         Ok(conn) => Ok(conn),
         Err((error, _)) => Err(connect_fault(error)),
+    }
+}
+
+/// Makes an empty file that its owner alone may open. It answers false where something is at the path already, to which it
+/// does nothing.
+///
+/// It fails when the file cannot be made.
+fn make_file(rt: &HostRuntime, path: &str) -> Result<bool, MachineFault> {
+    let made = OpenOptions::new()
+        .write(true)
+        .create_new(true)
+        .mode(0o600)
+        .open(rt, path);
+    match made {
+        Ok(_file) => Ok(true),
+        Err(error) if error.kind() == ErrorKind::AlreadyExists => Ok(false),
+        Err(error) => Err(error.into()),
     }
 }
 
@@ -191,6 +215,28 @@ impl<'a, D: Door + Drop, P: Places<D> + Drop> Machine for Host<'a, D, P> {
         if let Some(conn) = conn.take() {
             let _ = conn.close();
         }
+    }
+
+    /// It makes the file before the database opens it, so that it never takes one that is there.
+    fn connect_new(
+        &mut self,
+        path: &str,
+        has_sums: bool,
+    ) -> Result<Option<Connection<HostDisk>>, MachineFault> {
+        if is_no_file(path) {
+            return Err(MachineFault::Failed);
+        }
+        if !make_file(self.rt, path)? {
+            return Ok(None);
+        }
+        match open_store(self.rt, path, has_sums) {
+            Ok(conn) => Ok(Some(conn)),
+            Err(fault) => Err(fault),
+        }
+    }
+
+    fn release_new(&mut self, conn: &mut Option<Connection<HostDisk>>) {
+        self.release(conn);
     }
 
     fn now(&mut self) -> Result<i64, MachineFault> {

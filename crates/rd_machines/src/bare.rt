@@ -52,6 +52,16 @@ impl Machine for Bare {
 
     fn release(&mut self, _conn: &mut Option<Connection<MemStore>>) {}
 
+    fn connect_new(
+        &mut self,
+        _path: &str,
+        _has_sums: bool,
+    ) -> Result<Option<Connection<MemStore>>, MachineFault> {
+        Err(MachineFault::Failed)
+    }
+
+    fn release_new(&mut self, _conn: &mut Option<Connection<MemStore>>) {}
+
     fn now(&mut self) -> Result<i64, MachineFault> {
         Err(MachineFault::Failed)
     }

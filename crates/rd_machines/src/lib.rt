@@ -5,4 +5,4 @@ mod bare;
 mod museum;
 
 pub use bare::Bare;
-pub use museum::{Museum, STORE, Supply};
+pub use museum::{Museum, NEW_STORE, STORE, Supply};

@@ -10,6 +10,9 @@ use std::alloc::Global;
 /// The path of the store of a museum.
 pub const STORE: &str = "museum.sqlite";
 
+/// The path at which a museum makes a new store.
+pub const NEW_STORE: &str = "new.sqlite";
+
 /// What a museum gives beside its store and its door.
 pub trait Supply {
     /// The moment that its clock shows next, if it shows it.
@@ -22,6 +25,11 @@ pub trait Supply {
 
     /// It fails when the machine does not give its store, or makes none with sums where they are asked for.
     fn check_store(&self, _new_has_sums: bool) -> Result<(), MachineFault> {
+        Ok(())
+    }
+
+    /// It fails when the machine makes no new store, or none with sums where they are asked for.
+    fn check_new_store(&self, _has_sums: bool) -> Result<(), MachineFault> {
         Ok(())
     }
 
@@ -41,6 +49,8 @@ pub trait Supply {
 pub struct Museum<P: Supply + Drop, S: Alter + Drop = MemStore> {
     /// The store; `None` while a command has it.
     pub conn: Option<Connection<S>>,
+    /// The database in which a new store is made; `None` while a command has it, and where no new file can be made.
+    pub fresh: Option<Connection<S>>,
     pub door: MemoryDoor,
     /// The limits that visitors were given when it lent its door last.
     pub limits: Option<TimeLimits>,
@@ -78,6 +88,10 @@ impl<P: Supply + Drop, S: Alter + Drop> Machine for Museum<P, S> {
 
     ghost left = { λ machine. machine.conn };
 
+    ghost fresh = { λ machine _. machine.fresh };
+
+    ghost made = { λ machine. machine.fresh };
+
     /// It also fails at a path without a store, and if the store has not come back, or is inside a
     /// transaction.
     fn connect(&mut self, path: &str, new_has_sums: bool) -> Result<Connection<S>, MachineFault> {
@@ -98,6 +112,35 @@ impl<P: Supply + Drop, S: Alter + Drop> Machine for Museum<P, S> {
     /// It closes nothing: the one that runs the program does.
     fn release(&mut self, conn: &mut Option<Connection<S>>) {
         self.conn = conn.take();
+    }
+
+    /// The path of the store is taken. It also fails at a path other than `NEW_STORE`, and if the database has not come back,
+    /// or is inside a transaction. What stands in the database is for the command to find out.
+    fn connect_new(
+        &mut self,
+        path: &str,
+        has_sums: bool,
+    ) -> Result<Option<Connection<S>>, MachineFault> {
+        self.supply.check_new_store(has_sums)?;
+        if path == STORE {
+            return Ok(None);
+        }
+        if path != NEW_STORE {
+            return Err(MachineFault::Failed);
+        }
+        let Some(conn) = self.fresh.take() else {
+            return Err(MachineFault::Failed);
+        };
+        if conn.is_autocommit() {
+            return Ok(Some(conn));
+        }
+        self.fresh = Some(conn);
+        Err(MachineFault::Failed)
+    }
+
+    /// It closes nothing: the one that runs the program does.
+    fn release_new(&mut self, conn: &mut Option<Connection<S>>) {
+        self.fresh = conn.take();
     }
 
     fn now(&mut self) -> Result<i64, MachineFault> {

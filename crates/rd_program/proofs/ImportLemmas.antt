@@ -1,5 +1,5 @@
 -- The lines of an import.
-use Rattle.std.proofs.Common.{◌≡◌, ◌≢◌, ◌⊎◌, ◌≤◌, ℕ, List, [], ◌∷◌, ◌++◌, Option, Result, Ok, Err, IfErr, IfOk, OnOk, inl, inr, refl, subst, sym, arith, codes}
+use Rattle.std.proofs.Common.{◌≡◌, ◌≢◌, ◌⊎◌, ◌≤◌, ℕ, Bool, List, [], ◌∷◌, ◌++◌, Option, Result, Ok, Err, IfErr, IfOk, OnOk, inl, inr, refl, subst, sym, arith, codes}
 use Rattle.std.proofs.lemmas.List.Elements.{All-nil, All-push, All-weaker}
 use Rattle.std.proofs.lemmas.List.Folds.{concat-append}
 use Rattle.std.specs.List.{concat}
@@ -10,7 +10,7 @@ use Rattle.rd_protocol.specs.declared.response.Response.{Response}
 use Rattle.rd_protocol.specs.declared.response.Response.TheVariants.{Refused}
 use Rattle.rd_geometry.specs.declared.kind.Kind.{Kind}
 use Rattle.rd_commands.specs.Asks.{TellsInRows, TellsOnOutput}
-use Rattle.rd_commands.specs.Commands.{AsksInit, AsksServe, AsksStaffKey, IsAskOf, IsImport}
+use Rattle.rd_commands.specs.Commands.{AsksCopy, AsksInit, AsksServe, AsksStaffKey, IsAskOf, IsImport}
 use Rattle.rd_commands.specs.Serving.{Place}
 use Rattle.rd_program.specs.Importing.{GainsFront, GainsFrontOfLine, GainsLine, GainsLines, IsDoneLine, IsImportRefusal, IsRowLine, IsRowRefusal, RefusesImport, RefusesRow, RefusesRows, TellsAnswer, TellsRow, TellsRows, bad_row_line, accession_line, done_by, word_of}
 use Rattle.rd_commands.specs.Output.{AppendsPart}
@@ -27,7 +27,7 @@ use Rattle.rd_commands.specs.declared.files.MachineFault.TheVariants as machine_
 use Rattle.rd_commands.specs.declared.refusal.Refusal.{Refusal}
 use Rattle.rd_commands.specs.declared.refusal.Refusal.TheVariants.{BadSheet, Clock, Device, Inconsistent, NoMemory, NotADesk, Store, Version}
 use Rattle.rd_commands.specs.declared.words.Ask.{Ask}
-use Rattle.rd_commands.specs.declared.words.Ask.TheVariants.{File, Files, Import, Init, OneQuestion, Serve, StaffKey}
+use Rattle.rd_commands.specs.declared.words.Ask.TheVariants.{Copy, File, Files, Import, Init, OneQuestion, Serve, StaffKey}
 use Rattle.rd_commands.proofs.WriterLemmas.{none_written, part_after, piece_more}
 
 -- ---- lines
@@ -193,6 +193,7 @@ import_tells words (Serve ask) is asks = is.import asks.0 asks.1 asks.2 asks.3 a
 import_tells words (Import ask) is asks = tt
 import_tells words (OneQuestion ask) is asks = is.import asks.0 asks.1 asks.2 asks.3 asks.4 asks.5
 import_tells words (StaffKey ask) is asks = is.import asks.0 asks.1 asks.2 asks.3 asks.4 asks.5
+import_tells words (Copy ask) is asks = is.import asks.0 asks.1 asks.2 asks.3 asks.4 asks.5
 
 -- what is done in rows is told on the output
 pub rows_tell : (ask : Ask) → TellsInRows ask → TellsOnOutput ask
@@ -210,7 +211,8 @@ IsDoneAtOnce words = ((kind : Kind) × (image : List ℕ) × (slot : ℕ) × Ask
     ⊎ (((kind : Kind) × (image : List ℕ) × AsksList words kind image)
     ⊎ (((store : List ℕ) × (key : List ℕ) × AsksInit words store key)
     ⊎ (((store : List ℕ) × (place : Place) × (count : ℕ) × (rule : List ℕ) × AsksServe words store place count rule)
-    ⊎ ((store : List ℕ) × (key : List ℕ) × AsksStaffKey words store key))))
+    ⊎ (((store : List ℕ) × (key : List ℕ) × AsksStaffKey words store key)
+    ⊎ ((store : List ℕ) × (target : List ℕ) × (summed : Bool) × AsksCopy words store target summed)))))
 
 -- what is told on the output where not all is well is asked for by no such words
 pub not_in_rows : (words : List (List ℕ)) (ask : Ask) → IsAskOf words ask → TellsOnOutput ask → IsDoneAtOnce words → ⊥
@@ -219,16 +221,19 @@ not_in_rows words (Files ask) is tells asks = tells
 not_in_rows words (Init ask) is tells asks = tells
 not_in_rows words (Serve ask) is tells asks = tells
 not_in_rows words (StaffKey ask) is tells asks = tells
+not_in_rows words (Copy ask) is tells asks = tells
 not_in_rows words (Import ask) is tells (inl cat) = is.file cat.0 cat.1 cat.2 cat.3
 not_in_rows words (Import ask) is tells (inr (inl list)) = is.files list.0 list.1 list.2
 not_in_rows words (Import ask) is tells (inr (inr (inl init))) = is.init init.0 init.1 init.2
 not_in_rows words (Import ask) is tells (inr (inr (inr (inl serve)))) = is.serve serve.0 serve.1 serve.2 serve.3 serve.4
-not_in_rows words (Import ask) is tells (inr (inr (inr (inr staff_key)))) = is.staff_key staff_key.0 staff_key.1 staff_key.2
+not_in_rows words (Import ask) is tells (inr (inr (inr (inr (inl staff_key))))) = is.staff_key staff_key.0 staff_key.1 staff_key.2
+not_in_rows words (Import ask) is tells (inr (inr (inr (inr (inr copy))))) = is.copy copy.0 copy.1 copy.2 copy.3
 not_in_rows words (OneQuestion ask) is tells (inl cat) = is.file cat.0 cat.1 cat.2 cat.3
 not_in_rows words (OneQuestion ask) is tells (inr (inl list)) = is.files list.0 list.1 list.2
 not_in_rows words (OneQuestion ask) is tells (inr (inr (inl init))) = is.init init.0 init.1 init.2
 not_in_rows words (OneQuestion ask) is tells (inr (inr (inr (inl serve)))) = is.serve serve.0 serve.1 serve.2 serve.3 serve.4
-not_in_rows words (OneQuestion ask) is tells (inr (inr (inr (inr staff_key)))) = is.staff_key staff_key.0 staff_key.1 staff_key.2
+not_in_rows words (OneQuestion ask) is tells (inr (inr (inr (inr (inl staff_key))))) = is.staff_key staff_key.0 staff_key.1 staff_key.2
+not_in_rows words (OneQuestion ask) is tells (inr (inr (inr (inr (inr copy))))) = is.copy copy.0 copy.1 copy.2 copy.3
 
 pub one_is_some : {n : ℕ} → n ≡ 1 → n ≢ 0
 one_is_some one = λ zero. omega (arith, one, zero)

@@ -14,4 +14,5 @@ pub mod DaylessMoments
 pub mod Dated
 pub mod Named
 pub mod StaffKeyLemmas
+pub mod CopyLemmas
 pub mod OnTimeLemmas

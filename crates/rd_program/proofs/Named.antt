@@ -1,11 +1,11 @@
 -- The store that words name, and the connection to it.
 use Rattle.std.proofs.Common.{◌≡◌, ◌≢◌, ◌≤◌, Bool, ℕ, ℤ, List, Option, None, Some, arith, inl, inr, subst, sym, refl}
 use Rattle.sqlite.specs.Held.{Held}
-use Rattle.rd_commands.specs.Asks.{IsImportAsk, IsInitAsk, IsOneQuestionAsk, IsServeAsk, IsStaffKeyAsk, has_sums}
+use Rattle.rd_commands.specs.Asks.{IsCopyAsk, IsImportAsk, IsInitAsk, IsOneQuestionAsk, IsServeAsk, IsStaffKeyAsk, has_sums}
 use Rattle.rd_commands.specs.Commands.{IsAskOf, IsCommand}
 use Rattle.rd_commands.specs.Serving.{Place}
 use Rattle.rd_commands.specs.declared.words.Ask.{Ask}
-use Rattle.rd_commands.specs.declared.words.Ask.TheVariants.{Import, Init, OneQuestion, Serve, StaffKey}
+use Rattle.rd_commands.specs.declared.words.Ask.TheVariants.{Copy, Import, Init, OneQuestion, Serve, StaffKey}
 use Rattle.rd_commands.specs.declared.words.Question.{Question}
 use Rattle.rd_commands.specs.declared.words.Question.TheVariants.{Catalogue, Check, Show}
 use Rattle.rd_program.specs.Asked.{AsksBy, NamesStore, SumsBy}
@@ -21,6 +21,10 @@ module _ {S : Type 0} (shows : Bool) (stands : List ℕ → Option (Held S)) (le
   staff_key_both : (ask : Ask) (store key : List ℕ) → IsStaffKeyAsk store key ask → StandsThere shows stands left ask → HasBoth shows (stands store) left
   staff_key_both (StaffKey ask) store key asks both = subst (λ s. HasBoth shows (stands s) left) asks.store_is both
   staff_key_both ask store key asks both = absurd asks
+
+  copy_both : (ask : Ask) (store target : List ℕ) (summed : Bool) → IsCopyAsk store target summed ask → StandsThere shows stands left ask → HasBoth shows (stands store) left
+  copy_both (Copy ask) store target summed asks both = subst (λ s. HasBoth shows (stands s) left) asks.store_is both
+  copy_both ask store target summed asks both = absurd asks
 
   serve_both : (ask : Ask) (store : List ℕ) (place : Place) (count : ℕ) (rule : List ℕ) → IsServeAsk store place count rule ask → StandsThere shows stands left ask
       → HasBoth shows (stands store) left
@@ -43,10 +47,11 @@ module _ {S : Type 0} (shows : Bool) (stands : List ℕ → Option (Held S)) (le
   has_both_by words ask store is (inl (key, inl asks)) = init_both ask store key (is.init store key asks)
   has_both_by words ask store is (inl (key, inr asks)) = staff_key_both ask store key (is.staff_key store key asks)
   has_both_by words ask store is (inr (inl (place, count, rule, asks))) = serve_both ask store place count rule (is.serve store place count rule asks)
-  has_both_by words ask store is (inr (inr (moment, rule, inl (key, sheet, asks)))) = import_both ask store key sheet moment rule (is.import store key sheet moment rule asks)
-  has_both_by words ask store is (inr (inr (moment, rule, inr (inl (key, asks))))) = once_both ask store key Catalogue moment rule (is.export store key moment rule asks)
-  has_both_by words ask store is (inr (inr (moment, rule, inr (inr (inl (key, acc, asks)))))) = once_both ask store (Some key) (Check acc) moment rule (is.check store key acc moment rule asks)
-  has_both_by words ask store is (inr (inr (moment, rule, inr (inr (inr (key, what, asks)))))) = once_both ask store (Some key) (Show what) moment rule (is.show store key what moment rule asks)
+  has_both_by words ask store is (inr (inr (inl (moment, rule, inl (key, sheet, asks))))) = import_both ask store key sheet moment rule (is.import store key sheet moment rule asks)
+  has_both_by words ask store is (inr (inr (inl (moment, rule, inr (inl (key, asks)))))) = once_both ask store key Catalogue moment rule (is.export store key moment rule asks)
+  has_both_by words ask store is (inr (inr (inl (moment, rule, inr (inr (inl (key, acc, asks))))))) = once_both ask store (Some key) (Check acc) moment rule (is.check store key acc moment rule asks)
+  has_both_by words ask store is (inr (inr (inl (moment, rule, inr (inr (inr (key, what, asks))))))) = once_both ask store (Some key) (Show what) moment rule (is.show store key what moment rule asks)
+  has_both_by words ask store is (inr (inr (inr (target, summed, asks)))) = copy_both ask store target summed (is.copy store target summed asks)
 
 -- ---- the connections that are asked for
 
@@ -65,6 +70,10 @@ module _ (old new : Option (List (List ℕ))) where
   staff_key_asks : (ask : Ask) (store key : List ℕ) → IsStaffKeyAsk store key ask → AsksBy old ask new → AsksNoOther old store new
   staff_key_asks (StaffKey ask) store key asks by = subst (λ s. AsksNoOther old s new) asks.store_is (no_other ask.store.now by)
   staff_key_asks ask store key asks by = absurd asks
+
+  copy_asks : (ask : Ask) (store target : List ℕ) (summed : Bool) → IsCopyAsk store target summed ask → AsksBy old ask new → AsksNoOther old store new
+  copy_asks (Copy ask) store target summed asks by = subst (λ s. AsksNoOther old s new) asks.store_is (no_other ask.store.now by)
+  copy_asks ask store target summed asks by = absurd asks
 
   serve_asks : (ask : Ask) (store : List ℕ) (place : Place) (count : ℕ) (rule : List ℕ) → IsServeAsk store place count rule ask → AsksBy old ask new → AsksNoOther old store new
   serve_asks (Serve ask) store place count rule asks by = subst (λ s. AsksNoOther old s new) asks.store_is (no_other ask.store.now by)
@@ -85,10 +94,11 @@ module _ (old new : Option (List (List ℕ))) where
   asks_by words ask store is (inl (key, inl asks)) = init_asks ask store key (is.init store key asks)
   asks_by words ask store is (inl (key, inr asks)) = staff_key_asks ask store key (is.staff_key store key asks)
   asks_by words ask store is (inr (inl (place, count, rule, asks))) = serve_asks ask store place count rule (is.serve store place count rule asks)
-  asks_by words ask store is (inr (inr (moment, rule, inl (key, sheet, asks)))) = import_asks ask store key sheet moment rule (is.import store key sheet moment rule asks)
-  asks_by words ask store is (inr (inr (moment, rule, inr (inl (key, asks))))) = once_asks ask store key Catalogue moment rule (is.export store key moment rule asks)
-  asks_by words ask store is (inr (inr (moment, rule, inr (inr (inl (key, acc, asks)))))) = once_asks ask store (Some key) (Check acc) moment rule (is.check store key acc moment rule asks)
-  asks_by words ask store is (inr (inr (moment, rule, inr (inr (inr (key, what, asks)))))) = once_asks ask store (Some key) (Show what) moment rule (is.show store key what moment rule asks)
+  asks_by words ask store is (inr (inr (inl (moment, rule, inl (key, sheet, asks))))) = import_asks ask store key sheet moment rule (is.import store key sheet moment rule asks)
+  asks_by words ask store is (inr (inr (inl (moment, rule, inr (inl (key, asks)))))) = once_asks ask store key Catalogue moment rule (is.export store key moment rule asks)
+  asks_by words ask store is (inr (inr (inl (moment, rule, inr (inr (inl (key, acc, asks))))))) = once_asks ask store (Some key) (Check acc) moment rule (is.check store key acc moment rule asks)
+  asks_by words ask store is (inr (inr (inl (moment, rule, inr (inr (inr (key, what, asks))))))) = once_asks ask store (Some key) (Show what) moment rule (is.show store key what moment rule asks)
+  asks_by words ask store is (inr (inr (inr (target, summed, asks)))) = copy_asks ask store target summed (is.copy store target summed asks)
 
 -- nothing was asked for
 pub asks_none : (old : Option (List (List ℕ))) (path : List ℕ) → AsksNoOther old path old
@@ -102,9 +112,10 @@ asked_then old mid new path asks same = subst (AsksPath old path) (sym same) ask
 -- words that name a store are a command
 pub command_of_store : (words : List (List ℕ)) (store : List ℕ) → NamesStore words store → IsCommand words
 command_of_store words store (inl (key, inl asks)) = inr (inr (inl (store, key, asks)))
-command_of_store words store (inl (key, inr asks)) = inr (inr (inr (inr (inr (inr (inr (inr (store, key, asks))))))))
+command_of_store words store (inl (key, inr asks)) = inr (inr (inr (inr (inr (inr (inr (inr (inl (store, key, asks)))))))))
 command_of_store words store (inr (inl (place, count, rule, asks))) = inr (inr (inr (inl (store, place, count, rule, asks))))
-command_of_store words store (inr (inr (moment, rule, asks))) = command_at words store moment rule asks
+command_of_store words store (inr (inr (inl (moment, rule, asks)))) = command_at words store moment rule asks
+command_of_store words store (inr (inr (inr (target, summed, asks)))) = inr (inr (inr (inr (inr (inr (inr (inr (inr (store, target, summed, asks)))))))))
 
 -- a status of at most 1 that is not 0
 pub one_of_status : (status : ℕ) → status ≤ 1 → status ≢ 0 → status ≡ 1

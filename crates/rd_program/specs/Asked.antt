@@ -5,12 +5,12 @@ use Rattle.sqlite.specs.Store.{Ghosts}
 use Rattle.rd_policy.specs.Days.{HasDay}
 use Rattle.rd_store.specs.Held.{Keeps}
 use Rattle.rd_store.specs.Migrated.{IsMigrated}
-use Rattle.rd_commands.specs.Commands.{AsksCheck, AsksExport, AsksImport, AsksInit, AsksServe, AsksShow, AsksStaffKey}
+use Rattle.rd_commands.specs.Commands.{AsksCheck, AsksCopy, AsksExport, AsksImport, AsksInit, AsksServe, AsksShow, AsksStaffKey}
 use Rattle.rd_commands.specs.declared.done.Done.{Done}
 use Rattle.rd_commands.specs.declared.refusal.Refusal.{Refusal}
 use Rattle.rd_commands.specs.declared.refusal.Refusal.TheVariants.{Clock}
 use Rattle.rd_commands.specs.declared.words.Ask.{Ask}
-use Rattle.rd_commands.specs.declared.words.Ask.TheVariants.{Import, Init, OneQuestion, Serve, StaffKey}
+use Rattle.rd_commands.specs.declared.words.Ask.TheVariants.{Copy, Import, Init, OneQuestion, Serve, StaffKey}
 use Rattle.rd_commands.specs.declared.words.Shown.{Shown}
 use Rattle.rd_commands.specs.Serving.{Place}
 use Rattle.rd_program.specs.Doors.{AsksPath, AsksSums}
@@ -28,13 +28,14 @@ AsksAt words store moment rule =
     ⊎ (((key : List ℕ) × (acc : ℕ) × AsksCheck words store key acc moment rule)
     ⊎ ((key : List ℕ) × (what : Shown) × AsksShow words store key what moment rule)))
 
--- the words name the store in this file: they are an `init`, a `staff-key`, a `serve`, or a command that asks a desk at a
--- moment
+-- the words name the store in this file: they are an `init`, a `staff-key`, a `copy` of it, a `serve`, or a command that asks
+-- a desk at a moment
 abbrev pub NamesStore : List (List ℕ) → List ℕ → Type 0
 NamesStore words store =
     ((key : List ℕ) × (AsksInit words store key ⊎ AsksStaffKey words store key))
     ⊎ (((place : Place) × (count : ℕ) × (rule : List ℕ) × AsksServe words store place count rule)
-    ⊎ ((moment : Option ℤ) × (rule : List ℕ) × AsksAt words store moment rule))
+    ⊎ (((moment : Option ℤ) × (rule : List ℕ) × AsksAt words store moment rule)
+    ⊎ ((target : List ℕ) × (summed : Bool) × AsksCopy words store target summed)))
 
 -- A desk was opened in the store, and at most read since.
 abbrev pub IsOpenedToRead : {S : Type 0} → Ghosts S → Held S → Held S → Type 0
@@ -67,6 +68,7 @@ AsksBy old (Serve ask) new = AsksPath old ask.store.now new
 AsksBy old (Import ask) new = AsksPath old ask.store.now new
 AsksBy old (OneQuestion ask) new = AsksPath old ask.store.now new
 AsksBy old (StaffKey ask) new = AsksPath old ask.store.now new
+AsksBy old (Copy ask) new = AsksPath old ask.store.now new
 AsksBy old other new = new ≡ old
 
 -- when a command that asks at a moment may fail with `clock`

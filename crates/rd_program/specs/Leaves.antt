@@ -27,7 +27,7 @@ use Rattle.rd_commands.specs.declared.refusal.Refusal.{Refusal}
 use Rattle.rd_commands.specs.declared.refusal.Refusal.TheVariants.{Clock, Device, Inconsistent, NoMemory, NotADesk, Store, Version}
 use Rattle.rd_commands.specs.declared.sheet.SheetRow.{SheetRow}
 use Rattle.rd_commands.specs.declared.words.Ask.{Ask}
-use Rattle.rd_commands.specs.declared.words.Ask.TheVariants.{Import, Init, OneQuestion, Serve, StaffKey}
+use Rattle.rd_commands.specs.declared.words.Ask.TheVariants.{Copy, Import, Init, OneQuestion, Serve, StaffKey}
 use Rattle.rd_commands.specs.declared.words.Question.{Question}
 use Rattle.rd_commands.specs.declared.words.Question.TheVariants as question
 
@@ -190,15 +190,17 @@ StandsThere shows stands left (Serve ask) = HasBoth shows (stands ask.store.now)
 StandsThere shows stands left (Import ask) = HasBoth shows (stands ask.store.now) left
 StandsThere shows stands left (OneQuestion ask) = HasBoth shows (stands ask.store.now) left
 StandsThere shows stands left (StaffKey ask) = HasBoth shows (stands ask.store.now) left
+StandsThere shows stands left (Copy ask) = HasBoth shows (stands ask.store.now) left
 StandsThere shows stands left other = ⊤
 
--- what `serve`, `import`, `export`, `check` and `show` leave, however they end
+-- what `serve`, `import`, `export`, `check`, `show` and `copy` leave of the store, however they end
 abbrev pub LeavesBy : {S : Type 0} → Ghosts S → Option ℤ → Option (Held S) → (List ℕ → Option (Held S)) → Option (Held S) → Ask → Type 0
 LeavesBy g clock was stands new (Serve ask) = Leaves was (stands ask.store.now) new (Lasts g)
 LeavesBy g clock was stands new (Import ask) =
     Leaves was (stands ask.store.now) new (LeavesStore g (TakesIn (sha256 ask.key.now) (IsDayAt (moment_of ask.when.seconds clock) ask.when.zone)))
 LeavesBy g clock was stands new (OneQuestion ask) =
     Leaves was (stands ask.store.now) new (LeavesStore g (StepsOf (option_map sha256 (option_map (λ key. key.now) ask.key)) (IsDayAt (moment_of ask.when.seconds clock) ask.when.zone) ask.question))
+LeavesBy g clock was stands new (Copy ask) = Leaves was (stands ask.store.now) new (LeavesStore g IsSame)
 LeavesBy g clock was stands new ask = ⊤
 
 -- after a failure: what `serve` leaves; and that `import`, `export`, `check` and `show` name a failed opening only if

@@ -13,6 +13,7 @@ pub mod Visiting
 pub mod Rows
 pub mod Asked
 pub mod StaffKeys
+pub mod Copying
 pub mod OnTime
 pub use Rattle.rd_commands.specs.Words
 pub use Rattle.rd_commands.specs.CommandLine

@@ -32,6 +32,7 @@ use Rattle.rd_commands.specs.declared.refusal.Refusal.TheVariants.{BadSheet, NoM
 use Rattle.rd_commands.specs.declared.serving.Timeouts.{Timeouts}
 use Rattle.rd_program.specs.Asked.{AsksAt, IsClockDue, NamesStore}
 use Rattle.rd_program.specs.Asking.{RefusesOneQuestion, TellsCheck}
+use Rattle.rd_program.specs.Copying.{AsksNoOtherNew, IfAll, LeavesCopy, MakesCopy, RefusesCopy}
 use Rattle.rd_program.specs.Doors.{AsksNoOther}
 use Rattle.rd_program.specs.Importing.{GainsLines, IsDoneLine, IsRowLine, RefusesImport}
 use Rattle.rd_program.specs.Inits.{LeavesInit, MakesDesk, RefusesInit, done_line}
@@ -239,3 +240,18 @@ pub record DoesStaffKey {S : Type 0} (g : Ghosts S) (result : ℕ) (staff : List
   pub put_due : result ≢ 0
       → Tells (λ refusal. RefusesStaffKey refusal out written × LeavesStaffKey g was stood left staff refusal × NamesOpening g stood left refusal)
       result errors told
+
+-- At 0 a `copy` has made the desk that stood in a new store, which had no tables, and said so. Not at 0 it names its
+-- refusal, at 1 that something is there already. Then nothing was done to the new store, or it is as it was, or it has the
+-- whole desk, and so it is after a crash: it never has a part of it. However it ends, the desk that stood is as it was,
+-- and a machine that had given back a connection for a new store, `had`, has one again. It asks for a new store at no
+-- other path, with sums exactly if its words do. For the new store the machine has `fresh`, and it took back `made`.
+pub record DoesCopy {S : Type 0} (g : Ghosts S) (result : ℕ) (target : List ℕ) (summed shows : Bool) (was stood left had fresh made : Option (Held S))
+    (stores later : Option (List (List ℕ × Bool))) (out written errors told : Option (List ℕ)) : Type 0 where
+  pub copied : result ≡ 0 → HasBoth shows fresh made × IfAll stood left fresh made (MakesCopy g) × Appends out written done_line
+  pub copy_due : result ≢ 0
+      → Tells (λ refusal. RefusesCopy refusal out written × LeavesCopy g stood left had fresh made refusal × NamesOpening g stood left refusal)
+      result errors told
+  pub copy_leaves : Leaves was stood left (LeavesStore g IsSame)
+  pub copy_back : GivesBack shows had made
+  pub copy_new : AsksNoOtherNew stores target summed later

@@ -6,7 +6,8 @@ ghost use Rattle.rd_geometry.specs.declared.kind.Kind.{Kind};
 ghost use Rattle.rd_program.specs.Asking.{RefusesOneQuestion, TellsCheck};
 ghost use Rattle.rd_commands.specs.Asks.{AsksADesk, AsksCheckOf, IsWithinLimits, IsFileAsk, IsFilesAsk, IsInitAsk, IsServeAsk, IsStaffKeyAsk, TellsInRows, TellsOnOutput, most_read};
 ghost use Rattle.rd_commands.specs.Cat.{Refuses, Serves};
-ghost use Rattle.rd_commands.specs.Commands.{AsksCheck, AsksExport, AsksImport, AsksInit, AsksServe, AsksShow, AsksStaffKey, Sums};
+ghost use Rattle.rd_commands.specs.Commands.{AsksCheck, AsksCopy, AsksExport, AsksImport, AsksInit, AsksServe, AsksShow, AsksStaffKey, Sums};
+ghost use Rattle.rd_program.specs.Copying.{CopiesBy};
 ghost use Rattle.rd_program.specs.Importing.{RefusesImport, TellsRows};
 ghost use Rattle.rd_program.specs.Inits.{LeavesInit, MakesDesk, RefusesInit, done_line};
 ghost use Rattle.rd_commands.specs.Input.{ReadsUpTo};
@@ -24,8 +25,9 @@ ghost use Rattle.rd_program.specs.DiskFiles.{GivesFile, IsOfImage};
 ghost use Rattle.rd_program.specs.Showing.{AnswersBy, EndsWith, what_of};
 ghost use Rattle.rd_program.specs.StaffKeys.{LeavesStaffKey, PutsStaff, RefusesStaffKey};
 ghost use Rattle.rd_commands.specs.declared.words.Shown.{Shown};
-ghost use Rattle.rd_program.specs.Promises.{DoesCat, DoesCheck, DoesExport, DoesImport, DoesInit, DoesList, DoesServe, DoesShow, DoesStaffKey, EndsByWords, KeepsMachine, ReadsInput, TellsOfItself, UsesOneStore, WritesByStatus, texts};
+ghost use Rattle.rd_program.specs.Promises.{DoesCat, DoesCheck, DoesCopy, DoesExport, DoesImport, DoesInit, DoesList, DoesServe, DoesShow, DoesStaffKey, EndsByWords, KeepsMachine, ReadsInput, TellsOfItself, UsesOneStore, WritesByStatus, texts};
 
+use crate::copy::copy;
 use crate::export_check::ask_once;
 use crate::import::import;
 use crate::init::init;
@@ -40,7 +42,7 @@ use std::io::{Read, Write};
 
 /// Does what a command asks for.
 ///
-/// It fails as `cat`, `list`, `init`, `serve`, `import`, `ask_once` and `staff_key` do.
+/// It fails as `cat`, `list`, `init`, `serve`, `import`, `ask_once`, `staff_key` and `copy` do.
 fn perform<R: Read, W: Write, M: Machine>(
     alloc: Global,
     ask: Ask,
@@ -105,6 +107,8 @@ fn perform<R: Read, W: Write, M: Machine>(
     ensures there { OnEnded result (StandsThere (M.shows machine.old) (M.stands machine.old) (M.left machine.new) ask.entry) }
     ensures asked { AsksBy (M.paths machine.old) ask.entry (M.paths machine.new) }
     ensures sums { SumsBy (M.sums machine.old) ask.entry (M.sums machine.new) }
+    ensures copies { CopiesBy M.Disk.Store (M.shows machine.old) (M.stands machine.old) (M.left machine.new) (M.made machine.old) (M.fresh machine.old)
+        (M.made machine.new) (M.new_stores machine.old) (M.new_stores machine.new) (W.contents output.old) (W.contents output.new) ask.entry result }
     ensures clock { IfErr result (IsClockDueBy M.Disk.Store (M.stands machine.old) (M.left machine.new) ask.entry) }
     ensures bad_sheet { IfErr result (RefusesSheetBy (M.sheet_bytes machine.old) ask.entry) }
     ensures leaves { LeavesBy M.Disk.Store (M.clock machine.old) (M.left machine.old) (M.stands machine.old) (M.left machine.new) ask.entry }
@@ -120,6 +124,7 @@ fn perform<R: Read, W: Write, M: Machine>(
         Ask::Import(ask) => import(alloc, ask, output, machine),
         Ask::OneQuestion(ask) => ask_once(alloc, ask, output, machine),
         Ask::StaffKey(ask) => whole(staff_key(alloc, ask, output, machine)),
+        Ask::Copy(ask) => whole(copy(alloc, ask, output, machine)),
     }
 }
 
@@ -171,6 +176,11 @@ pub fn run<R: Read, W: Write, E: Write, M: Machine>(
     ensures staff_key { (store key : List ℕ) → AsksStaffKey (texts words.entry.now) store key
         → DoesStaffKey M.Disk.Store result (sha256 (trim_ows key))
         (M.left machine.old) (M.stands machine.old store) (M.left machine.new)
+        (W.contents output.old) (W.contents output.new) (E.contents errors.old) (E.contents errors.new) }
+    ensures copy { (store target : List ℕ) (summed : Bool) → AsksCopy (texts words.entry.now) store target summed
+        → DoesCopy M.Disk.Store result target summed (M.shows machine.old)
+        (M.left machine.old) (M.stands machine.old store) (M.left machine.new)
+        (M.made machine.old) (M.fresh machine.old target) (M.made machine.new) (M.new_stores machine.old) (M.new_stores machine.new)
         (W.contents output.old) (W.contents output.new) (E.contents errors.old) (E.contents errors.new) }
     ensures serve { (store : List ℕ) (place : Place) (count : ℕ) (rule : List ℕ)
         → (asks : AsksServe (texts words.entry.now) store place count rule)

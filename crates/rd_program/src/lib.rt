@@ -3,6 +3,7 @@
 
 mod answers;
 mod asker;
+mod copy;
 mod dispatch;
 mod export_check;
 mod faults;

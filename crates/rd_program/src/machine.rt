@@ -1,4 +1,4 @@
-ghost use Rattle.std.specs.Prelude.{◌↔◌, ◌≡◌, Bool, IfErr, IfOk, IfSome, IsTrue, List, None, Option, Some, false, ℕ, ℤ};
+ghost use Rattle.std.specs.Prelude.{◌↔◌, ◌≡◌, Bool, IfErr, IfNone, IfOk, IfSome, IsTrue, List, None, Option, Some, false, ℕ, ℤ};
 ghost use Rattle.sqlite.specs.Held.{Held};
 ghost use Rattle.sqlite.specs.declared.error.Error.TheVariants.{SqliteFailure};
 ghost use Rattle.sqlite.specs.declared.error.ErrorCode.TheVariants as code;
@@ -6,6 +6,7 @@ ghost use Rattle.std.specs.Borrow.{sem};
 ghost use Rattle.rd_messages.specs.declared.pace.TimeLimits as pace;
 ghost use Rattle.rd_commands.specs.Serving as places;
 ghost use Rattle.rd_commands.specs.Serving.{place_of};
+ghost use Rattle.rd_program.specs.Copying.{AsksNew};
 ghost use Rattle.rd_program.specs.Doors.{AsksPath, AsksSums, LendsDoor};
 ghost use Rattle.rd_program.specs.Leaves.{LeavesNone};
 ghost use Rattle.rd_program.specs.Rows.{KeepsFiles};
@@ -57,6 +58,16 @@ pub trait Machine: Files {
     /// The connection that it took back last, if the machine shows it.
     ghost left: { Self → Option (Held Self.Disk) };
 
+    /// The connection that stands for a new store at a path, if the machine shows it.
+    ghost fresh: { Self → List ℕ → Option (Held Self.Disk) } = { λ _ _. None };
+
+    /// The connection for a new store that it took back last, if the machine shows it.
+    ghost made: { Self → Option (Held Self.Disk) } = { λ _. None };
+
+    /// The new stores that were asked for, each by its path and by whether its pages were to end in sums, the latest first,
+    /// if the machine shows them.
+    ghost new_stores: { Self → Option (List (List ℕ × Bool)) } = { λ _. None };
+
     /// A connection to the database in the file at a path, outside a transaction. It makes the
     /// file if there is none, with a sum at the end of each page or without.
     ///
@@ -76,7 +87,10 @@ pub trait Machine: Files {
         ensures shows { shows self.new ≡ shows self.old }
         ensures clock { clock self.new ≡ clock self.old }
         ensures files { KeepsFiles Self.file_bytes Self.sheet_bytes self.old self.new }
-        ensures door { door self.new ≡ door self.old };
+        ensures door { door self.new ≡ door self.old }
+        ensures fresh { fresh self.new ≡ fresh self.old }
+        ensures made { made self.new ≡ made self.old }
+        ensures new_stores { new_stores self.new ≡ new_stores self.old };
 
     /// Takes a connection back at the end of a command.
     fn release(&mut self, conn: &mut Option<Connection<Self::Disk>>)
@@ -86,7 +100,41 @@ pub trait Machine: Files {
         ensures sums { sums self.new ≡ sums self.old }
         ensures shows { shows self.new ≡ shows self.old }
         ensures door_limits { door_limits self.new ≡ door_limits self.old }
-        ensures door { door self.new ≡ door self.old };
+        ensures door { door self.new ≡ door self.old }
+        ensures fresh { fresh self.new ≡ fresh self.old }
+        ensures made { made self.new ≡ made self.old }
+        ensures new_stores { new_stores self.new ≡ new_stores self.old };
+
+    /// A connection to a database in a new file at a path, outside a transaction, with a sum at the end of each page or
+    /// without; `None` where something is at the path already, to which nothing is done. It may be asked for while a
+    /// connection to a store is out.
+    ///
+    /// It fails when it cannot make the file.
+    fn connect_new(
+        &mut self,
+        path: &str,
+        has_sums: bool,
+    ) -> Result<Option<Connection<Self::Disk>>, MachineFault>
+        ensures outside { IfOk result (λ found. IfSome found (λ conn. conn.in_transaction ≡ false)) }
+        ensures fresh { IfOk result (λ found. IfSome found (λ conn. IfSome (fresh self.old path.now) (λ held. conn ≡ held))) }
+        ensures there { IfOk result (λ found. IfSome found (λ conn. IsTrue (shows self.old) → fresh self.old path.now ≡ Some conn)) }
+        ensures none { IfOk result (λ found. IfNone found (made self.new ≡ made self.old)) }
+        ensures kept { IfErr result (λ _. made self.new ≡ made self.old) }
+        ensures new_stores { AsksNew (new_stores self.old) path.now has_sums (new_stores self.new) }
+        ensures left { left self.new ≡ left self.old }
+        ensures asked { paths self.new ≡ paths self.old }
+        ensures sums { sums self.new ≡ sums self.old }
+        ensures shows { shows self.new ≡ shows self.old };
+
+    /// Takes the connection to a new store back.
+    fn release_new(&mut self, conn: &mut Option<Connection<Self::Disk>>)
+        ensures made { IfSome (made self.new) (λ held. conn.old ≡ Some held) }
+        ensures back { IsTrue (shows self.old) → made self.new ≡ conn.old }
+        ensures new_stores { new_stores self.new ≡ new_stores self.old }
+        ensures left { left self.new ≡ left self.old }
+        ensures asked { paths self.new ≡ paths self.old }
+        ensures sums { sums self.new ≡ sums self.old }
+        ensures shows { shows self.new ≡ shows self.old };
 
     /// The seconds since 1970-01-01T00:00:00 UTC.
     ///

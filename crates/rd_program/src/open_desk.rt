@@ -36,6 +36,9 @@ pub(crate) fn open_store<M: Machine>(
     ensures clock { IfOk result (λ _. M.clock machine.new ≡ M.clock machine.old) }
     ensures files { IfOk result (λ _. KeepsFiles M.file_bytes M.sheet_bytes machine.old machine.new) }
     ensures door { M.door machine.new ≡ M.door machine.old }
+    ensures fresh { M.fresh machine.new ≡ M.fresh machine.old }
+    ensures made { M.made machine.new ≡ M.made machine.old }
+    ensures new_stores { M.new_stores machine.new ≡ M.new_stores machine.old }
     ensures back { IfErr result (λ _. GivesBack (M.shows machine.old) (M.left machine.old) (M.left machine.new)) }
     ensures refused { IfErr result IsOpenRefusal }
     ensures left { IfErr result

@@ -117,6 +117,7 @@ fn carry_out<S: Alter + Drop>(
     let door = new_door(alloc, Vec::new(alloc))?;
     let mut museum = Museum {
         conn: Some(conn),
+        fresh: None,
         door,
         limits: None,
         supply: Given { rows },

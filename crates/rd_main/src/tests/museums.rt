@@ -85,6 +85,7 @@ pub(super) fn museum<S: Alter + Drop>(
     };
     rd_machines::Museum {
         conn: Some(conn),
+        fresh: None,
         door,
         limits: None,
         supply,

@@ -31,8 +31,8 @@ impl File {
     }
 }
 
-/// What the machine does not give, and why: the `store`, `sums` for one with sums, the `door`, the `clock`, or the file at
-/// a path.
+/// What the machine does not give, and why: the `store`, a `new` one, `sums` for one with sums, the `door`, the `clock`, or
+/// the file at a path.
 #[derive(Drop)]
 struct Lack {
     what: String,
@@ -83,7 +83,7 @@ fn told_door(alloc: Global, place: Place, limits: TimeLimits) -> Result<String, 
 
 pub(crate) type Museum = rd_machines::Museum<Given>;
 
-/// A machine whose store is an empty database, and which has no file.
+/// A machine whose store is an empty database, as is the one for a new store, and which has no file.
 pub(crate) fn new_museum(alloc: Global) -> Result<Museum, NoMemory> {
     let supply = Given {
         alloc,
@@ -94,6 +94,7 @@ pub(crate) fn new_museum(alloc: Global) -> Result<Museum, NoMemory> {
     };
     Ok(Museum {
         conn: Some(new_connection(alloc)?),
+        fresh: Some(new_connection(alloc)?),
         door: new_door(alloc, Vec::new(alloc))?,
         limits: None,
         supply,
@@ -162,6 +163,14 @@ impl Supply for Given {
     fn check_store(&self, new_has_sums: bool) -> Result<(), MachineFault> {
         self.given("store")?;
         if new_has_sums {
+            self.given("sums")?;
+        }
+        Ok(())
+    }
+
+    fn check_new_store(&self, has_sums: bool) -> Result<(), MachineFault> {
+        self.given("new")?;
+        if has_sums {
             self.given("sums")?;
         }
         Ok(())

@@ -43,6 +43,7 @@ fn is_first(word: &str) -> bool {
             | "query"
             | "tables"
             | "anew"
+            | "swap"
     )
 }
 
@@ -109,6 +110,7 @@ impl<'a> Player<'a> {
             "file" => self.item = Item::File(File::new(rt.alloc(), text)?),
             "query" => self.item = Item::Question(Question::new(rt.alloc(), place, text)),
             "anew" => self.museum = new_museum(rt.alloc())?,
+            "swap" => mem::swap(&mut self.museum.conn, &mut self.museum.fresh),
             "tables" => self.compare(rt, place, text)?,
             _ => self.item = Item::Change(Change::new(place, Effect::of(word), text)),
         }

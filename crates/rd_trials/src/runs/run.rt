@@ -12,8 +12,8 @@ use rd_played::{Tally, bytes_of};
 use rd_program::{MachineFault, run};
 use std::alloc::{AllocError, Global};
 
-/// What the machine does not give, and why: the `store`, `sums` for one with sums, the `door`, the `clock`, or the file at
-/// a path.
+/// What the machine does not give, and why: the `store`, a `new` one, `sums` for one with sums, the `door`, the `clock`, or
+/// the file at a path.
 #[derive(Clone, Copy)]
 struct Lack<'a> {
     what: &'a str,
@@ -153,9 +153,9 @@ impl<'a> Run<'a> {
         Ok(())
     }
 
-    /// Adds what the machine does not give: the store, a store with sums, the clock, the door, or the file at a path.
+    /// Adds what the machine does not give: the store, a new one, one with sums, the clock, the door, or the file at a path.
     fn add_lack(&mut self, what: &'a str, fault: MachineFault) -> Result<()> {
-        if !matches!(what, "store" | "sums" | "clock" | "door") && !what.contains('.') {
+        if !matches!(what, "store" | "new" | "sums" | "clock" | "door") && !what.contains('.') {
             bail!("the machine has no such thing");
         }
         Ok(self.lacks.push(Lack { what, fault })?)

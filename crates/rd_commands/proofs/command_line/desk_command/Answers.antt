@@ -1,7 +1,7 @@
 use Rattle.std.proofs.Common.{◌≡◌, ◌∙◌, ap, ap₂}
 use Rattle.std.proofs.lemmas.Result.{IfOk-weaker}
 use Rattle.clap.specs.Words.{App, app_of, with_subcommand}
-use Rattle.rd_commands.specs.CommandLine.{bare_app, cat_app, check_app, export_app, import_app, init_app, list_app, serve_app, show_app, staff_key_app}
+use Rattle.rd_commands.specs.CommandLine.{bare_app, cat_app, check_app, copy_app, export_app, import_app, init_app, list_app, serve_app, show_app, staff_key_app}
 use Rattle.rd_commands.proofs.command_line.desk_command.Goals as goal
 
 pub returns : goal.returns
@@ -15,6 +15,7 @@ returns c =
     let check = c.in_ok-check_command.ensures.shape in
     let show = c.in_ok-show_command.ensures.shape in
     let staff_key : app_of c.in_ok-staff_key_command.field-0 ≡ staff_key_app = c.in_ok-staff_key_command.ensures.shape in
+    let copy : app_of c.in_ok-copy_command.field-0 ≡ copy_app = c.in_ok-copy_command.ensures.shape in
     let bare : App = bare_app in
     let top : app_of c.in_ok-bare_desk.field-0 ≡ bare = c.in_ok-bare_desk.ensures in
     let with_cat : app_of c.in_ok-subcommand.field-0 ≡ with_subcommand bare (cat_app cat.0).top =
@@ -33,12 +34,14 @@ returns c =
     c.in_ok-subcommand-7.ensures.shape c.in_ok-check_command.ensures.local ∙ ap₂ with_subcommand with_export (ap (λ (a : App). a.top) check) in
     let with_show : app_of c.in_ok-subcommand-8.field-0 ≡ with_subcommand (with_subcommand (with_subcommand (with_subcommand (with_subcommand (with_subcommand (with_subcommand (with_subcommand bare (cat_app cat.0).top) (list_app list.0).top) init_app.top) serve_app.top) import_app.top) export_app.top) check_app.top) (show_app show.0).top =
     c.in_ok-subcommand-8.ensures.shape c.in_ok-show_command.ensures.local ∙ ap₂ with_subcommand with_check (ap (λ (a : App). a.top) show.2) in
-    IfOk-weaker c.subcommand-9.result _ _ (λ r adds. record {
+    let with_key : app_of c.in_ok-subcommand-9.field-0 ≡ with_subcommand (with_subcommand (with_subcommand (with_subcommand (with_subcommand (with_subcommand (with_subcommand (with_subcommand (with_subcommand bare (cat_app cat.0).top) (list_app list.0).top) init_app.top) serve_app.top) import_app.top) export_app.top) check_app.top) (show_app show.0).top) staff_key_app.top =
+    c.in_ok-subcommand-9.ensures.shape c.in_ok-staff_key_command.ensures.local ∙ ap₂ with_subcommand with_show (ap (λ (a : App). a.top) staff_key) in
+    IfOk-weaker c.subcommand-10.result _ _ (λ r adds. record {
       cat_kinds = cat.0;
       list_kinds = list.0;
       shown = show.0;
       cat_names = cat.1;
       list_names = list.1;
       shown_names = show.1;
-      is = adds.shape c.in_ok-staff_key_command.ensures.local ∙ ap₂ with_subcommand with_show (ap (λ (a : App). a.top) staff_key);
-    }) c.subcommand-9.ensures
+      is = adds.shape c.in_ok-copy_command.ensures.local ∙ ap₂ with_subcommand with_key (ap (λ (a : App). a.top) copy);
+    }) c.subcommand-10.ensures

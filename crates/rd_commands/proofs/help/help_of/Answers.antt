@@ -13,5 +13,6 @@ returns-in_default c = rw (
   differs _ _ c.in_default.not-check,
   differs _ _ c.in_default.not-show,
   differs _ _ c.in_default.not-text,
+  differs _ _ c.in_default.not-copy,
   differs _ _ c.in_default.not-help,
 ) refl

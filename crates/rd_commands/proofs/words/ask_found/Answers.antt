@@ -1,6 +1,6 @@
 use Rattle.std.proofs.Common.{◌≡◌, ◌∙◌, Some, codes, inl, inr, refl, subst, sym}
 use Rattle.clap.specs.Words.{one_of, subcommand_rows_of}
-use Rattle.rd_commands.specs.Asks.{AreCatRows, AreCheckRows, AreExportRows, AreImportRows, AreInitRows, AreServeRows, AreShowRows, AreStaffKeyRows, AsksOneQuestion, EntersAs}
+use Rattle.rd_commands.specs.Asks.{AreCatRows, AreCheckRows, AreCopyRows, AreExportRows, AreImportRows, AreInitRows, AreServeRows, AreShowRows, AreStaffKeyRows, AsksOneQuestion, EntersAs}
 use Rattle.rd_commands.specs.declared.words.Question.TheVariants.{Show}
 use Rattle.rd_commands.specs.Zones.{HasZoneRule, IsFlagTold, TellsTrust}
 use Rattle.rd_commands.proofs.GetterLemmas.{clockless, entered_as, name_met, no_init, rows_met}
@@ -95,7 +95,7 @@ returns-in_ok-staff_key_asked-in-text-clause-staff_key c = λ store key enters.
 pub returns-in_ok-staff_key_asked-in-text-clause-zone : goal.returns-in_ok-staff_key_asked-in-text-clause-zone
 returns-in_ok-staff_key_asked-in-text-clause-zone c = λ name rows into clocks.
     let met = name_met c.args.matches.now name _ rows _ into c.in_ok-name.ensures.name c.in_ok-name.ensures.rows in
-    absurd (clockless name (inr (inr (inr (met ∙ c.in-text.is)))) clocks)
+    absurd (clockless name (inr (inr (inr (inl (met ∙ c.in-text.is))))) clocks)
 
 pub returns-in_ok-serve_asked-in-serve-clause-zone : goal.returns-in_ok-serve_asked-in-serve-clause-zone
 returns-in_ok-serve_asked-in-serve-clause-zone c = λ name rows into clocks.
@@ -150,7 +150,7 @@ returns-in_ok-init_asked-in-init-clause-trust c = λ trusted told.
 pub returns-in_ok-staff_key_asked-in-text-clause-trust : goal.returns-in_ok-staff_key_asked-in-text-clause-trust
 returns-in_ok-staff_key_asked-in-text-clause-trust c = λ trusted told.
     let met = name_met c.args.matches.now told.0 _ told.1 _ told.2 c.in_ok-name.ensures.name c.in_ok-name.ensures.rows in
-    absurd (clockless told.0 (inr (inr (inr (met ∙ c.in-text.is)))) told.3)
+    absurd (clockless told.0 (inr (inr (inr (inl (met ∙ c.in-text.is))))) told.3)
 
 pub returns-in_ok-serve_asked-in-serve-clause-trust : goal.returns-in_ok-serve_asked-in-serve-clause-trust
 returns-in_ok-serve_asked-in-serve-clause-trust c = λ trusted told.
@@ -218,3 +218,25 @@ pub returns-in_ok-staff_key_asked-in-text-clause-sums : goal.returns-in_ok-staff
 returns-in_ok-staff_key_asked-in-text-clause-sums c = λ summed told.
     let met = name_met c.args.matches.now (codes "init") _ told.0 _ told.1 c.in_ok-name.ensures.name c.in_ok-name.ensures.rows in
     absurd (no_init _ refl (met ∙ c.in-text.is))
+
+-- ---- `copy`
+
+pub returns-in_ok-copy_asked-in-copy-clause-copy : goal.returns-in_ok-copy_asked-in-copy-clause-copy
+returns-in_ok-copy_asked-in-copy-clause-copy c = λ store target summed enters.
+    let rows = rows_met c.args.matches.now _ enters.rows _ enters.into (sym c.in_ok-name.ensures.rows) in
+    c.in_ok-copy_asked-in-copy.ensures store target summed (subst (λ r. AreCopyRows r store target summed) rows enters.found)
+
+pub returns-in_ok-copy_asked-in-copy-clause-zone : goal.returns-in_ok-copy_asked-in-copy-clause-zone
+returns-in_ok-copy_asked-in-copy-clause-zone c = λ name rows into clocks.
+    let met = name_met c.args.matches.now name _ rows _ into c.in_ok-name.ensures.name c.in_ok-name.ensures.rows in
+    absurd (clockless name (inr (inr (inr (inr (met ∙ c.in-copy.is))))) clocks)
+
+pub returns-in_ok-copy_asked-in-copy-clause-trust : goal.returns-in_ok-copy_asked-in-copy-clause-trust
+returns-in_ok-copy_asked-in-copy-clause-trust c = λ trusted told.
+    let met = name_met c.args.matches.now told.0 _ told.1 _ told.2 c.in_ok-name.ensures.name c.in_ok-name.ensures.rows in
+    absurd (clockless told.0 (inr (inr (inr (inr (met ∙ c.in-copy.is))))) told.3)
+
+pub returns-in_ok-copy_asked-in-copy-clause-sums : goal.returns-in_ok-copy_asked-in-copy-clause-sums
+returns-in_ok-copy_asked-in-copy-clause-sums c = λ summed told.
+    let met = name_met c.args.matches.now (codes "init") _ told.0 _ told.1 c.in_ok-name.ensures.name c.in_ok-name.ensures.rows in
+    absurd (no_init _ refl (met ∙ c.in-copy.is))

@@ -13,7 +13,7 @@ use Rattle.rd_commands.proofs.words.read_by.Goals as goal
 pub returns-in_ok-shown-in-Ok-clause-read : goal.returns-in_ok-shown-in-Ok-clause-read
 returns-in_ok-shown-in-Ok-clause-read c =
     let words = map (λ word. word.now) c.args.words.now in
-    let rows : GivesRows (subcommand_rows_of c.in-Ok.matches) c.in_ok-shown-in-Ok.shown c.ask_found.result = record { file = c.ask_found.ensures.file; files = c.ask_found.ensures.files; init = c.ask_found.ensures.init; serve = c.ask_found.ensures.serve; timeouts = c.ask_found.ensures.timeouts; import = c.ask_found.ensures.import; export = c.ask_found.ensures.export; check = c.ask_found.ensures.check; show = c.ask_found.ensures.show; staff_key = c.ask_found.ensures.staff_key } in
+    let rows : GivesRows (subcommand_rows_of c.in-Ok.matches) c.in_ok-shown-in-Ok.shown c.ask_found.result = record { file = c.ask_found.ensures.file; files = c.ask_found.ensures.files; init = c.ask_found.ensures.init; serve = c.ask_found.ensures.serve; timeouts = c.ask_found.ensures.timeouts; import = c.ask_found.ensures.import; export = c.ask_found.ensures.export; check = c.ask_found.ensures.check; show = c.ask_found.ensures.show; staff_key = c.ask_found.ensures.staff_key; copy = c.ask_found.ensures.copy } in
     ask_read c.ask_found.result Usage c.ok_or.result words c.ok_or.ensures.value
     (ask_given c.ask_found.result c.in_ok-shown-in-Ok.shown (app_of c.args.desk) words c.in-Ok.matches c.requires c.in-Ok.ensures.matches c.in_ok-shown-in-Ok.ensures.named rows)
 
@@ -23,7 +23,7 @@ returns-in_ok-shown-in-Ok-clause-accession c = ask_accession c.ask_found.result 
 pub returns-in_ok-shown-in-Ok-clause-unread : goal.returns-in_ok-shown-in-Ok-clause-unread
 returns-in_ok-shown-in-Ok-clause-unread c =
     let words = map (λ word. word.now) c.args.words.now in
-    let rows : GivesRows (subcommand_rows_of c.in-Ok.matches) c.in_ok-shown-in-Ok.shown c.ask_found.result = record { file = c.ask_found.ensures.file; files = c.ask_found.ensures.files; init = c.ask_found.ensures.init; serve = c.ask_found.ensures.serve; timeouts = c.ask_found.ensures.timeouts; import = c.ask_found.ensures.import; export = c.ask_found.ensures.export; check = c.ask_found.ensures.check; show = c.ask_found.ensures.show; staff_key = c.ask_found.ensures.staff_key } in
+    let rows : GivesRows (subcommand_rows_of c.in-Ok.matches) c.in_ok-shown-in-Ok.shown c.ask_found.result = record { file = c.ask_found.ensures.file; files = c.ask_found.ensures.files; init = c.ask_found.ensures.init; serve = c.ask_found.ensures.serve; timeouts = c.ask_found.ensures.timeouts; import = c.ask_found.ensures.import; export = c.ask_found.ensures.export; check = c.ask_found.ensures.check; show = c.ask_found.ensures.show; staff_key = c.ask_found.ensures.staff_key; copy = c.ask_found.ensures.copy } in
     ask_unread c.ask_found.result Usage c.ok_or.result words IsForMemory c.ok_or.ensures.value
     (ask_given c.ask_found.result c.in_ok-shown-in-Ok.shown (app_of c.args.desk) words c.in-Ok.matches c.requires c.in-Ok.ensures.matches c.in_ok-shown-in-Ok.ensures.named rows)
 

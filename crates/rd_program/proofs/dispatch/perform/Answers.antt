@@ -11,6 +11,8 @@ use Rattle.rd_program.proofs.AnswerLemmas.{once_kept, once_never}
 use Rattle.rd_program.proofs.ImportLemmas.{ended_whole, err_whole, ok_whole, whole_is}
 use Rattle.rd_program.proofs.InitLemmas.{at_err_both, left_as, made_as, on_both}
 use Rattle.rd_program.proofs.LeftStores.{on_ended_always}
+use Rattle.rd_program.specs.Copying.{CopiesBy}
+use Rattle.rd_program.proofs.CopyLemmas.{copy_done, copy_kept, copy_never}
 use Rattle.rd_program.proofs.StaffKeyLemmas.{at_err_all, left_unput_as, opens_as, put_as, staff_key_never, staff_key_not_1}
 use Rattle.rd_program.proofs.LeftStoresByWords.{no_refusal}
 use Rattle.rd_program.proofs.FileLemmas.{stands_nowhere}
@@ -793,3 +795,167 @@ returns-in-StaffKey-clause-sums g c =
 pub returns-in-OneQuestion-clause-sums : goal.returns-in-OneQuestion-clause-sums
 returns-in-OneQuestion-clause-sums g c =
     subst (λ ask. SumsBy (g.M.Machine.sums c.args.machine.now) ask (g.M.Machine.sums c.ask_once.new.machine)) (sym c.in-OneQuestion.is) tt
+
+-- ---- a copy
+
+pub returns-in-Copy-clause-done : goal.returns-in-Copy-clause-done
+returns-in-Copy-clause-done g c = λ kind slot asked. absurd (subst (IsFileAsk kind (codes "-") slot) c.in-Copy.is asked)
+
+pub returns-in-Copy-clause-refused : goal.returns-in-Copy-clause-refused
+returns-in-Copy-clause-refused g c = λ kind slot asked. absurd (subst (IsFileAsk kind (codes "-") slot) c.in-Copy.is asked)
+
+pub returns-in-Copy-clause-listed : goal.returns-in-Copy-clause-listed
+returns-in-Copy-clause-listed g c = λ kind asked. absurd (subst (IsFilesAsk kind (codes "-")) c.in-Copy.is asked)
+
+pub returns-in-Copy-clause-list_refused : goal.returns-in-Copy-clause-list_refused
+returns-in-Copy-clause-list_refused g c = λ kind asked. absurd (subst (IsFilesAsk kind (codes "-")) c.in-Copy.is asked)
+
+pub returns-in-Copy-clause-served : goal.returns-in-Copy-clause-served
+returns-in-Copy-clause-served g c = λ store port count rule asked. absurd (subst (IsServeAsk store port count rule) c.in-Copy.is asked)
+
+pub returns-in-Copy-clause-not_served : goal.returns-in-Copy-clause-not_served
+returns-in-Copy-clause-not_served g c = λ store port count rule asked. absurd (subst (IsServeAsk store port count rule) c.in-Copy.is asked)
+
+pub returns-in-Copy-clause-imported : goal.returns-in-Copy-clause-imported
+returns-in-Copy-clause-imported g c = λ tells. absurd (subst TellsInRows c.in-Copy.is tells)
+
+pub returns-in-Copy-clause-not_imported : goal.returns-in-Copy-clause-not_imported
+returns-in-Copy-clause-not_imported g c = λ tells. absurd (subst TellsInRows c.in-Copy.is tells)
+
+pub returns-in-Copy-clause-in_part : goal.returns-in-Copy-clause-in_part
+returns-in-Copy-clause-in_part g c = whole_is _ c.copy.result c.whole-in-Copy.result c.whole-in-Copy.ensures
+
+pub returns-in-Copy-clause-checked : goal.returns-in-Copy-clause-checked
+returns-in-Copy-clause-checked g c = λ acc asked. absurd (subst (AsksCheckOf acc) c.in-Copy.is asked)
+
+pub returns-in-Copy-clause-not_answered : goal.returns-in-Copy-clause-not_answered
+returns-in-Copy-clause-not_answered g c = λ asked. absurd (subst AsksADesk c.in-Copy.is asked)
+
+pub returns-in-Copy-clause-leaves : goal.returns-in-Copy-clause-leaves
+returns-in-Copy-clause-leaves g c =
+    subst (LeavesBy g.M.Disk.Store (g.M.Machine.clock c.args.machine.now) (g.M.Machine.left c.args.machine.now) (g.M.Machine.stands c.args.machine.now) (g.M.Machine.left c.copy.new.machine)) (sym c.in-Copy.is) c.copy.ensures.leaves
+
+pub returns-in-Copy-clause-leaves_refused : goal.returns-in-Copy-clause-leaves_refused
+returns-in-Copy-clause-leaves_refused g c =
+    subst (λ ask. IfErr c.whole-in-Copy.result (LeavesRefused g.M.Disk.Store (g.M.Machine.left c.args.machine.now) (g.M.Machine.stands c.args.machine.now) (g.M.Machine.left c.copy.new.machine)
+    (g.W.Write.contents c.args.output.now) (g.W.Write.contents c.copy.new.output) ask)) (sym c.in-Copy.is) (no_refusal c.whole-in-Copy.result)
+
+pub returns-in-Copy-clause-answers : goal.returns-in-Copy-clause-answers
+returns-in-Copy-clause-answers g c =
+    subst (λ ask. AnswersBy g.M.Disk.Store (g.M.Machine.clock c.args.machine.now) (g.M.Machine.stands c.args.machine.now) (g.M.Machine.left c.copy.new.machine)
+    (g.W.Write.contents c.args.output.now) (g.W.Write.contents c.copy.new.output) ask c.whole-in-Copy.result) (sym c.in-Copy.is) tt
+
+pub returns-in-Copy-clause-of_file : goal.returns-in-Copy-clause-of_file
+returns-in-Copy-clause-of_file g c =
+    subst (λ ask. GivesFile (g.M.Files.file_bytes c.args.machine.now) (g.W.Write.contents c.args.output.now) (g.W.Write.contents c.copy.new.output) ask c.whole-in-Copy.result) (sym c.in-Copy.is) tt
+
+pub returns-in-Copy-clause-untouched : goal.returns-in-Copy-clause-untouched
+returns-in-Copy-clause-untouched g c = λ of. absurd (subst IsOfImage c.in-Copy.is of)
+
+pub returns-in-Copy-clause-serves : goal.returns-in-Copy-clause-serves
+returns-in-Copy-clause-serves g c =
+    subst (λ ask. OnOk c.whole-in-Copy.result (ServesBy g.M.Disk.Store g.M.Door.Door.told g.M.Door.Door.coming (g.M.Machine.door c.args.machine.now) (g.M.Machine.door c.copy.new.machine)
+    (g.M.Machine.stands c.args.machine.now) (g.M.Machine.left c.copy.new.machine) ask)) (sym c.in-Copy.is)
+    (stands_nowhere c.whole-in-Copy.result)
+
+pub returns-in-Copy-clause-limits : goal.returns-in-Copy-clause-limits
+returns-in-Copy-clause-limits g c =
+    subst (λ ask. OnOk c.whole-in-Copy.result (LimitsVisitors (g.M.Machine.shows c.args.machine.now) (g.M.Machine.door_limits c.copy.new.machine) ask)) (sym c.in-Copy.is) (no_limits c.whole-in-Copy.result)
+
+pub returns-in-Copy-clause-there : goal.returns-in-Copy-clause-there
+returns-in-Copy-clause-there g c =
+    subst (λ ask. OnEnded c.whole-in-Copy.result (StandsThere (g.M.Machine.shows c.args.machine.now) (g.M.Machine.stands c.args.machine.now) (g.M.Machine.left c.copy.new.machine) ask)) (sym c.in-Copy.is)
+    (ended_whole _ c.copy.result c.whole-in-Copy.result c.whole-in-Copy.ensures c.copy.ensures.there)
+
+pub returns-in-Copy-clause-clock : goal.returns-in-Copy-clause-clock
+returns-in-Copy-clause-clock g c =
+    subst (λ ask. IfErr c.whole-in-Copy.result (IsClockDueBy g.M.Disk.Store (g.M.Machine.stands c.args.machine.now) (g.M.Machine.left c.copy.new.machine) ask)) (sym c.in-Copy.is) (no_refusal c.whole-in-Copy.result)
+
+pub returns-in-Copy-clause-bad_sheet : goal.returns-in-Copy-clause-bad_sheet
+returns-in-Copy-clause-bad_sheet g c =
+    subst (λ ask. IfErr c.whole-in-Copy.result (RefusesSheetBy (g.M.Files.sheet_bytes c.args.machine.now) ask)) (sym c.in-Copy.is) (no_refusal c.whole-in-Copy.result)
+
+pub returns-in-Copy-clause-asked : goal.returns-in-Copy-clause-asked
+returns-in-Copy-clause-asked g c =
+    subst (λ ask. AsksBy (g.M.Machine.paths c.args.machine.now) ask (g.M.Machine.paths c.copy.new.machine)) (sym c.in-Copy.is) c.copy.ensures.asked
+
+pub returns-in-Copy-clause-made : goal.returns-in-Copy-clause-made
+returns-in-Copy-clause-made g c = λ store key asked. absurd (subst (IsInitAsk store key) c.in-Copy.is asked)
+
+pub returns-in-Copy-clause-not_made : goal.returns-in-Copy-clause-not_made
+returns-in-Copy-clause-not_made g c = λ store key asked. absurd (subst (IsInitAsk store key) c.in-Copy.is asked)
+
+pub returns-in-Copy-clause-never : goal.returns-in-Copy-clause-never
+returns-in-Copy-clause-never g c =
+    err_whole _ c.copy.result c.whole-in-Copy.result c.whole-in-Copy.ensures
+    (IfErr-weaker c.copy.result _ _ (λ refusal refused. copy_never refusal _ _ refused) c.copy.ensures.refused)
+
+pub returns-in-Copy-clause-kept : goal.returns-in-Copy-clause-kept
+returns-in-Copy-clause-kept g c =
+    err_whole _ c.copy.result c.whole-in-Copy.result c.whole-in-Copy.ensures
+    (IfErr-weaker c.copy.result _ _ (λ refusal refused one. inl (copy_kept refusal _ _ refused one)) c.copy.ensures.refused)
+
+pub returns-in-Copy-clause-put : goal.returns-in-Copy-clause-put
+returns-in-Copy-clause-put g c = λ store key asked. absurd (subst (IsStaffKeyAsk store key) c.in-Copy.is asked)
+
+pub returns-in-Copy-clause-not_put : goal.returns-in-Copy-clause-not_put
+returns-in-Copy-clause-not_put g c = λ store key asked. absurd (subst (IsStaffKeyAsk store key) c.in-Copy.is asked)
+
+pub returns-in-Copy-clause-sums : goal.returns-in-Copy-clause-sums
+returns-in-Copy-clause-sums g c =
+    subst (λ ask. SumsBy (g.M.Machine.sums c.args.machine.now) ask (g.M.Machine.sums c.copy.new.machine)) (sym c.in-Copy.is) tt
+
+pub returns-in-Copy-clause-copies : goal.returns-in-Copy-clause-copies
+returns-in-Copy-clause-copies g c =
+    subst (λ ask. CopiesBy g.M.Disk.Store (g.M.Machine.shows c.args.machine.now) (g.M.Machine.stands c.args.machine.now) (g.M.Machine.left c.copy.new.machine) (g.M.Machine.made c.args.machine.now)
+    (g.M.Machine.fresh c.args.machine.now) (g.M.Machine.made c.copy.new.machine) (g.M.Machine.new_stores c.args.machine.now) (g.M.Machine.new_stores c.copy.new.machine)
+    (g.W.Write.contents c.args.output.now) (g.W.Write.contents c.copy.new.output) ask c.whole-in-Copy.result) (sym c.in-Copy.is) (
+      record {
+        done = ok_whole _ c.copy.result c.whole-in-Copy.result c.whole-in-Copy.ensures (copy_done c.copy.result _ _ _ c.copy.ensures.copied c.copy.ensures.done);
+        due = err_whole _ c.copy.result c.whole-in-Copy.result c.whole-in-Copy.ensures (at_err_all c.copy.result _ _ _ c.copy.ensures.refused c.copy.ensures.not_copied c.copy.ensures.opens);
+        back = c.copy.ensures.back_new;
+      },
+      c.copy.ensures.asked_new,
+    )
+
+pub returns-in-File-clause-copies : goal.returns-in-File-clause-copies
+returns-in-File-clause-copies g c =
+    subst (λ ask. CopiesBy g.M.Disk.Store (g.M.Machine.shows c.args.machine.now) (g.M.Machine.stands c.args.machine.now) (g.M.Machine.left c.cat.new.machine) (g.M.Machine.made c.args.machine.now)
+    (g.M.Machine.fresh c.args.machine.now) (g.M.Machine.made c.cat.new.machine) (g.M.Machine.new_stores c.args.machine.now) (g.M.Machine.new_stores c.cat.new.machine)
+    (g.W.Write.contents c.args.output.now) (g.W.Write.contents c.cat.new.output) ask c.whole.result) (sym c.in-File.is) tt
+
+pub returns-in-Files-clause-copies : goal.returns-in-Files-clause-copies
+returns-in-Files-clause-copies g c =
+    subst (λ ask. CopiesBy g.M.Disk.Store (g.M.Machine.shows c.args.machine.now) (g.M.Machine.stands c.args.machine.now) (g.M.Machine.left c.list.new.machine) (g.M.Machine.made c.args.machine.now)
+    (g.M.Machine.fresh c.args.machine.now) (g.M.Machine.made c.list.new.machine) (g.M.Machine.new_stores c.args.machine.now) (g.M.Machine.new_stores c.list.new.machine)
+    (g.W.Write.contents c.args.output.now) (g.W.Write.contents c.list.new.output) ask c.whole-in-Files.result) (sym c.in-Files.is) tt
+
+pub returns-in-Init-clause-copies : goal.returns-in-Init-clause-copies
+returns-in-Init-clause-copies g c =
+    subst (λ ask. CopiesBy g.M.Disk.Store (g.M.Machine.shows c.args.machine.now) (g.M.Machine.stands c.args.machine.now) (g.M.Machine.left c.init.new.machine) (g.M.Machine.made c.args.machine.now)
+    (g.M.Machine.fresh c.args.machine.now) (g.M.Machine.made c.init.new.machine) (g.M.Machine.new_stores c.args.machine.now) (g.M.Machine.new_stores c.init.new.machine)
+    (g.W.Write.contents c.args.output.now) (g.W.Write.contents c.init.new.output) ask c.whole-in-Init.result) (sym c.in-Init.is) tt
+
+pub returns-in-Serve-clause-copies : goal.returns-in-Serve-clause-copies
+returns-in-Serve-clause-copies g c =
+    subst (λ ask. CopiesBy g.M.Disk.Store (g.M.Machine.shows c.args.machine.now) (g.M.Machine.stands c.args.machine.now) (g.M.Machine.left c.serve.new.machine) (g.M.Machine.made c.args.machine.now)
+    (g.M.Machine.fresh c.args.machine.now) (g.M.Machine.made c.serve.new.machine) (g.M.Machine.new_stores c.args.machine.now) (g.M.Machine.new_stores c.serve.new.machine)
+    (g.W.Write.contents c.args.output.now) (g.W.Write.contents c.serve.new.output) ask c.whole-in-Serve.result) (sym c.in-Serve.is) tt
+
+pub returns-in-Import-clause-copies : goal.returns-in-Import-clause-copies
+returns-in-Import-clause-copies g c =
+    subst (λ ask. CopiesBy g.M.Disk.Store (g.M.Machine.shows c.args.machine.now) (g.M.Machine.stands c.args.machine.now) (g.M.Machine.left c.import.new.machine) (g.M.Machine.made c.args.machine.now)
+    (g.M.Machine.fresh c.args.machine.now) (g.M.Machine.made c.import.new.machine) (g.M.Machine.new_stores c.args.machine.now) (g.M.Machine.new_stores c.import.new.machine)
+    (g.W.Write.contents c.args.output.now) (g.W.Write.contents c.import.new.output) ask c.import.result) (sym c.in-Import.is) tt
+
+pub returns-in-OneQuestion-clause-copies : goal.returns-in-OneQuestion-clause-copies
+returns-in-OneQuestion-clause-copies g c =
+    subst (λ ask. CopiesBy g.M.Disk.Store (g.M.Machine.shows c.args.machine.now) (g.M.Machine.stands c.args.machine.now) (g.M.Machine.left c.ask_once.new.machine) (g.M.Machine.made c.args.machine.now)
+    (g.M.Machine.fresh c.args.machine.now) (g.M.Machine.made c.ask_once.new.machine) (g.M.Machine.new_stores c.args.machine.now) (g.M.Machine.new_stores c.ask_once.new.machine)
+    (g.W.Write.contents c.args.output.now) (g.W.Write.contents c.ask_once.new.output) ask c.ask_once.result) (sym c.in-OneQuestion.is) tt
+
+pub returns-in-StaffKey-clause-copies : goal.returns-in-StaffKey-clause-copies
+returns-in-StaffKey-clause-copies g c =
+    subst (λ ask. CopiesBy g.M.Disk.Store (g.M.Machine.shows c.args.machine.now) (g.M.Machine.stands c.args.machine.now) (g.M.Machine.left c.staff_key.new.machine) (g.M.Machine.made c.args.machine.now)
+    (g.M.Machine.fresh c.args.machine.now) (g.M.Machine.made c.staff_key.new.machine) (g.M.Machine.new_stores c.args.machine.now) (g.M.Machine.new_stores c.staff_key.new.machine)
+    (g.W.Write.contents c.args.output.now) (g.W.Write.contents c.staff_key.new.output) ask c.whole-in-StaffKey.result) (sym c.in-StaffKey.is) tt

@@ -29,6 +29,7 @@ use Rattle.rd_program.proofs.ImportLemmas.{done_lines, import_tells, in_part_is_
 use Rattle.rd_program.proofs.LeftStores.{none_still, still_left}
 use Rattle.rd_program.proofs.Named.{asks_by, asks_none, command_of_store, has_both_by, one_of_status, sums_by, sums_none}
 use Rattle.rd_program.proofs.ShowLemmas.{memory_no_accession, once_due, once_finds, once_not_shown, once_shows}
+use Rattle.rd_program.proofs.CopyLemmas.{asks_no_new, copies_by, copy_leaves, none_new}
 use Rattle.rd_program.proofs.LeftStoresByWords.{import_leaves, import_names, once_leaves, once_names, serve_leaves, serve_refused}
 use Rattle.rd_commands.proofs.RunLemmas.{is_cut, kept_is_cut, no_sound_file, not_done, of_all, of_known, reads_few, reads_no_input, reads_of_kind, tells}
 use Rattle.rd_commands.proofs.ReadLimits.{reads_none, reads_within}
@@ -739,7 +740,7 @@ pub returns-in-Ok-perform-clause-staff_key : goal.returns-in-Ok-perform-clause-s
 returns-in-Ok-perform-clause-staff_key g c = λ store key asks. record {
   put = λ zero. c.in-Ok-perform.ensures.put store key (c.in-Ok.ensures.read.staff_key store key asks);
   put_due = λ some.
-      absurd (not_in_rows _ c.in-Ok.ask c.in-Ok.ensures.read (c.in-Ok-perform.ensures.in_part (c.status.ensures.in_part some)) (inr (inr (inr (inr (store, key, asks))))));
+      absurd (not_in_rows _ c.in-Ok.ask c.in-Ok.ensures.read (c.in-Ok-perform.ensures.in_part (c.status.ensures.in_part some)) (inr (inr (inr (inr (inl (store, key, asks)))))));
 }
 
 pub returns-in-Err-perform-clause-staff_key : goal.returns-in-Err-perform-clause-staff_key
@@ -752,7 +753,7 @@ returns-in-Err-perform-clause-staff_key g c = λ store key asks. record {
 
 pub returns-in-Err-clause-staff_key : goal.returns-in-Err-clause-staff_key
 returns-in-Err-clause-staff_key g c = λ store key asks.
-    let none = c.in-Err.ensures.unread (inr (inr (inr (inr (inr (inr (inr (inr (store, key, asks))))))))) in
+    let none = c.in-Err.ensures.unread (inr (inr (inr (inr (inr (inr (inr (inr (inl (store, key, asks)))))))))) in
     let memory = c.tell_unread.ensures.memory none in
     record {
       put = λ zero. let three : c.tell_unread.result ≡ 3 = memory.0 in absurd (omega arith);
@@ -775,3 +776,56 @@ returns-in-Err-perform-clause-sums g c = λ store key summed asks told.
 
 pub returns-in-Err-clause-sums : goal.returns-in-Err-clause-sums
 returns-in-Err-clause-sums g c = λ store key summed asks told. sums_none (g.M.Machine.sums c.args.machine.now) summed
+
+-- ---- a copy
+
+pub returns-in-Ok-perform-clause-copy : goal.returns-in-Ok-perform-clause-copy
+returns-in-Ok-perform-clause-copy g c = λ store target summed asks.
+    let read = c.in-Ok.ensures.read.copy store target summed asks in
+    let runs = copies_by g.M.Disk.Store (g.M.Machine.shows c.args.machine.now) (g.M.Machine.stands c.args.machine.now) (g.M.Machine.left c.perform.new.machine) (g.M.Machine.made c.args.machine.now)
+    (g.M.Machine.fresh c.args.machine.now) (g.M.Machine.made c.perform.new.machine) (g.M.Machine.new_stores c.args.machine.now) (g.M.Machine.new_stores c.perform.new.machine)
+    (g.W.Write.contents c.args.output.now) (g.W.Write.contents c.perform.new.output) store target summed c.in-Ok.ask (Ok c.in-Ok-perform.done) read c.in-Ok-perform.ensures.copies in
+    record {
+      copied = λ zero. runs.0.done;
+      copy_due = λ some.
+          absurd (not_in_rows _ c.in-Ok.ask c.in-Ok.ensures.read (c.in-Ok-perform.ensures.in_part (c.status.ensures.in_part some)) (inr (inr (inr (inr (inr (store, target, summed, asks)))))));
+      copy_leaves =
+          copy_leaves g.M.Disk.Store (g.M.Machine.clock c.args.machine.now) (g.M.Machine.left c.args.machine.now) (g.M.Machine.stands c.args.machine.now) (g.M.Machine.left c.perform.new.machine)
+          c.in-Ok.ask store target summed read c.perform.ensures.leaves;
+      copy_back = runs.0.back;
+      copy_new = runs.1;
+    }
+
+pub returns-in-Err-perform-clause-copy : goal.returns-in-Err-perform-clause-copy
+returns-in-Err-perform-clause-copy g c = λ store target summed asks.
+    let read = c.in-Ok.ensures.read.copy store target summed asks in
+    let runs = copies_by g.M.Disk.Store (g.M.Machine.shows c.args.machine.now) (g.M.Machine.stands c.args.machine.now) (g.M.Machine.left c.perform.new.machine) (g.M.Machine.made c.args.machine.now)
+    (g.M.Machine.fresh c.args.machine.now) (g.M.Machine.made c.perform.new.machine) (g.M.Machine.new_stores c.args.machine.now) (g.M.Machine.new_stores c.perform.new.machine)
+    (g.W.Write.contents c.args.output.now) (g.W.Write.contents c.perform.new.output) store target summed c.in-Ok.ask (Err c.in-Err-perform.refused) read c.in-Err-perform.ensures.copies in
+    record {
+      copied = λ zero. absurd (not_done c.in-Err-perform.refused (sym c.tell_refusal.ensures.status ∙ zero));
+      copy_due = λ some. tells _ c.in-Err-perform.refused _ _ _ runs.0.due c.tell_refusal.ensures.status c.tell_refusal.ensures.written;
+      copy_leaves =
+          copy_leaves g.M.Disk.Store (g.M.Machine.clock c.args.machine.now) (g.M.Machine.left c.args.machine.now) (g.M.Machine.stands c.args.machine.now) (g.M.Machine.left c.perform.new.machine)
+          c.in-Ok.ask store target summed read c.perform.ensures.leaves;
+      copy_back = runs.0.back;
+      copy_new = runs.1;
+    }
+
+pub returns-in-Err-clause-copy : goal.returns-in-Err-clause-copy
+returns-in-Err-clause-copy g c = λ store target summed asks.
+    let none = c.in-Err.ensures.unread (inr (inr (inr (inr (inr (inr (inr (inr (inr (store, target, summed, asks)))))))))) in
+    let memory = c.tell_unread.ensures.memory none in
+    record {
+      copied = λ zero. let three : c.tell_unread.result ≡ 3 = memory.0 in absurd (omega arith);
+      copy_due = λ some.
+          tells _ NoMemory _ _ _ (
+            (memory.1, inl (inr (inr (inr (inr refl))))),
+            none_new (g.M.Machine.stands c.args.machine.now store) (g.M.Machine.left c.args.machine.now) (g.M.Machine.made c.args.machine.now) (g.M.Machine.fresh c.args.machine.now target) _,
+            tt,
+          )
+          memory.0 (c.tell_unread.ensures.no_memory none);
+      copy_leaves = still_left (g.M.Machine.left c.args.machine.now) (g.M.Machine.stands c.args.machine.now store) _;
+      copy_back = λ shows had. had;
+      copy_new = asks_no_new (g.M.Machine.new_stores c.args.machine.now) (g.M.Machine.new_stores c.args.machine.now) target summed refl;
+    }

@@ -1,0 +1,123 @@
+//! Copies the desk in the file of a store to a new file.
+
+ghost use Rattle.std.specs.Prelude.{◌≡◌, IfErr, OnOk, false};
+ghost use Rattle.std.specs.Io.KnownBytes.{Appends};
+ghost use Rattle.rd_store.specs.Copied.{IsCopied};
+ghost use Rattle.rd_program.specs.Copying.{AsksNew, AsksNoOtherNew, CopiesTo, IfAll, IsCopyRefusal, LeavesCopy, LeavesTarget, MakesCopy, NotCopied, RefusesCopy};
+ghost use Rattle.rd_program.specs.Doors.{AsksPath};
+ghost use Rattle.rd_program.specs.Inits.{IsInitRefusal, done_line};
+ghost use Rattle.rd_program.specs.Leaves.{GivesBack, HasBoth, IsSame, Leaves, LeavesDesk, LeavesStore, NamesOpening, OnEnded};
+
+use crate::faults::not_made;
+use crate::machine::Machine;
+use crate::open_desk::open_store;
+use rd_commands::{CopyAsk, Refusal, write_whole};
+use rd_store::{Refused, Store};
+use sqlite::{Alter, Connection};
+use std::alloc::Global;
+use std::io::Write;
+
+/// Makes the desk of a store over a connection to another, and gives that connection back.
+///
+/// It fails with `Exists` and `Store`.
+fn copy_desk<S: Alter + Drop>(
+    alloc: Global,
+    from: &mut Store<S>,
+    conn: Connection<S>,
+) -> (Result<(), Refusal>, Connection<S>)
+    requires outside { conn.in_transaction ≡ false }
+    ensures leaves { LeavesDesk S.Store IsSame from.old from.new }
+    ensures copied { OnOk result.0 (IsCopied S.Store from.old from.new conn result.1) }
+    ensures not_copied { IfErr result.0 (NotCopied S.Store from.old from.new conn result.1) }
+{
+    match from.copy(alloc, conn) {
+        Ok(store) => (Ok(()), store.into_connection()),
+        Err(Refused { fault, conn }) => (Err(not_made(fault)), conn),
+    }
+}
+
+/// Makes the desk of a store in a new file, with sums or without.
+///
+/// It fails with `Exists` where something is at the path already, with `Store`, and with `NoMemory`.
+fn copy_to<M: Machine>(
+    alloc: Global,
+    from: &mut Store<M::Disk>,
+    target: &str,
+    has_sums: bool,
+    machine: &mut M,
+) -> Result<(), Refusal>
+    ensures leaves { LeavesDesk M.Disk.Store IsSame from.old from.new }
+    ensures copied { OnOk result (HasBoth (M.shows machine.old) (M.fresh machine.old target.now) (M.made machine.new)
+        × CopiesTo (M.fresh machine.old target.now) (M.made machine.new) (IsCopied M.Disk.Store from.old from.new)) }
+    ensures not_copied { IfErr result (LeavesTarget M.Disk.Store from.old from.new (M.made machine.old) (M.fresh machine.old target.now) (M.made machine.new)) }
+    ensures refused { IfErr result IsInitRefusal }
+    ensures back_new { GivesBack (M.shows machine.old) (M.made machine.old) (M.made machine.new) }
+    ensures asked_new { AsksNew (M.new_stores machine.old) target.now has_sums (M.new_stores machine.new) }
+    ensures left { M.left machine.new ≡ M.left machine.old }
+    ensures asked { M.paths machine.new ≡ M.paths machine.old }
+    ensures shows { M.shows machine.new ≡ M.shows machine.old }
+{
+    let found = match machine.connect_new(target, has_sums) {
+        Ok(found) => found,
+        Err(fault) => return Err(fault.or(Refusal::Store)),
+    };
+    let Some(conn) = found else {
+        return Err(Refusal::Exists);
+    };
+    let (copied, conn) = copy_desk(alloc, from, conn);
+    machine.release_new(&mut Some(conn));
+    copied
+}
+
+/// Makes the desk in the file of a store in a new file.
+///
+/// It fails with `NotADesk`, `Version`, `Inconsistent` and `Store`, with `Exists`, and with `NoMemory`.
+fn copy_store<M: Machine>(alloc: Global, ask: CopyAsk, machine: &mut M) -> Result<(), Refusal>
+    ensures copied { OnOk result (HasBoth (M.shows machine.old) (M.fresh machine.old ask.entry.target.now) (M.made machine.new)
+        × IfAll (M.stands machine.old ask.entry.store.now) (M.left machine.new) (M.fresh machine.old ask.entry.target.now) (M.made machine.new) (MakesCopy M.Disk.Store)) }
+    ensures not_copied { IfErr result (LeavesCopy M.Disk.Store (M.stands machine.old ask.entry.store.now) (M.left machine.new)
+        (M.made machine.old) (M.fresh machine.old ask.entry.target.now) (M.made machine.new)) }
+    ensures leaves { Leaves (M.left machine.old) (M.stands machine.old ask.entry.store.now) (M.left machine.new) (LeavesStore M.Disk.Store IsSame) }
+    ensures opens { IfErr result (NamesOpening M.Disk.Store (M.stands machine.old ask.entry.store.now) (M.left machine.new)) }
+    ensures refused { IfErr result IsCopyRefusal }
+    ensures back { GivesBack (M.shows machine.old) (M.left machine.old) (M.left machine.new) }
+    ensures back_new { GivesBack (M.shows machine.old) (M.made machine.old) (M.made machine.new) }
+    ensures there { OnEnded result (HasBoth (M.shows machine.old) (M.stands machine.old ask.entry.store.now) (M.left machine.new)) }
+    ensures asked { AsksPath (M.paths machine.old) ask.entry.store.now (M.paths machine.new) }
+    ensures asked_new { AsksNoOtherNew (M.new_stores machine.old) ask.entry.target.now ask.entry.has_sums (M.new_stores machine.new) }
+{
+    let mut store = open_store(alloc, ask.store, machine)?;
+    let copied = copy_to(alloc, &mut store, ask.target, ask.has_sums, machine);
+    machine.release(&mut Some(store.into_connection()));
+    copied
+}
+
+/// Makes the desk in the file of a store in a new file, says that it is done, and flushes the output. What was written is
+/// compared with what was read before that. It asks for no key of the staff.
+///
+/// It fails with `NotADesk`, `Version`, `Inconsistent` and `Store` when it cannot open the desk or copy it, with `Exists`
+/// where something is at the path of the new file, with `NoMemory`, and with `Device` when a write or the flush fails; the
+/// copy stands then.
+pub(crate) fn copy<W: Write, M: Machine>(
+    alloc: Global,
+    ask: CopyAsk,
+    output: &mut W,
+    machine: &mut M,
+) -> Result<(), Refusal>
+    ensures done { OnOk result (Appends (W.contents output.old) (W.contents output.new) done_line) }
+    ensures refused { IfErr result (λ refusal. RefusesCopy refusal (W.contents output.old) (W.contents output.new)) }
+    ensures copied { OnOk result (HasBoth (M.shows machine.old) (M.fresh machine.old ask.entry.target.now) (M.made machine.new)
+        × IfAll (M.stands machine.old ask.entry.store.now) (M.left machine.new) (M.fresh machine.old ask.entry.target.now) (M.made machine.new) (MakesCopy M.Disk.Store)) }
+    ensures not_copied { IfErr result (LeavesCopy M.Disk.Store (M.stands machine.old ask.entry.store.now) (M.left machine.new)
+        (M.made machine.old) (M.fresh machine.old ask.entry.target.now) (M.made machine.new)) }
+    ensures leaves { Leaves (M.left machine.old) (M.stands machine.old ask.entry.store.now) (M.left machine.new) (LeavesStore M.Disk.Store IsSame) }
+    ensures opens { IfErr result (NamesOpening M.Disk.Store (M.stands machine.old ask.entry.store.now) (M.left machine.new)) }
+    ensures back { GivesBack (M.shows machine.old) (M.left machine.old) (M.left machine.new) }
+    ensures back_new { GivesBack (M.shows machine.old) (M.made machine.old) (M.made machine.new) }
+    ensures there { OnEnded result (HasBoth (M.shows machine.old) (M.stands machine.old ask.entry.store.now) (M.left machine.new)) }
+    ensures asked { AsksPath (M.paths machine.old) ask.entry.store.now (M.paths machine.new) }
+    ensures asked_new { AsksNoOtherNew (M.new_stores machine.old) ask.entry.target.now ask.entry.has_sums (M.new_stores machine.new) }
+{
+    copy_store(alloc, ask, machine)?;
+    write_whole(output, b"done\n")
+}
