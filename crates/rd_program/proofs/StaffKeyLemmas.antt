@@ -16,7 +16,7 @@ use Rattle.rd_store.specs.declared.faults.OpenFault.{OpenFault}
 use Rattle.rd_store.proofs.Laws.{lasts_then}
 use Rattle.rd_commands.specs.Refusals.{status_of}
 use Rattle.rd_commands.specs.declared.refusal.Refusal.{Refusal}
-use Rattle.rd_commands.specs.declared.refusal.Refusal.TheVariants.{Device, Store}
+use Rattle.rd_commands.specs.declared.refusal.Refusal.TheVariants.{Device, NoMemory, Store}
 use Rattle.rd_program.specs.Leaves.{IsSame, Leaves, LeavesUnopened, NamesOpening}
 use Rattle.rd_program.specs.Serving.{IsOpenRefusal}
 use Rattle.rd_program.specs.Showing.{EndsWith}
@@ -41,7 +41,7 @@ module _ {S : Type 0} (g : Ghosts S) (digest : List ℕ) (old new : Option (Held
   ends_putting (Ok value) changes is same took =
       ends_with g old new opened last conn (PutsStaff g digest) is (λ before at. record {
         lasts = lasts_then g before opened last at.lasts changes.lasts;
-        puts = λ clean. let is_open = changes.ends_open clean in (desk g opened, at.is (changes.lasts.was_open is_open), changes.ok is_open);
+        puts = λ is_open. (desk g opened, at.is (changes.lasts.was_open is_open), changes.ok is_open);
         ends_open = changes.ends_open;
         crash = crash_putting (Ok value) before at changes;
         durable = changes.durable;
@@ -49,18 +49,26 @@ module _ {S : Type 0} (g : Ghosts S) (digest : List ℕ) (old new : Option (Held
   ends_putting (Err fault) changes is same took = tt
 
   -- or it is as it was
-  pub unput_left : {T X : Type 0} (r : Result T X) (was : Option (Held S)) → Changes g opened last (with_key digest Staff (desk g opened)) r
-      → IfSome old (λ before. IsMigrated g before opened) → conn ≡ last → IfSome new (λ held. Some conn ≡ Some held)
-      → IfErr r (λ refusal. Leaves was old new (PutsNone g digest))
-  unput_left (Ok value) was changes is same took = tt
-  unput_left (Err fault) was changes is same took =
-      after_opening g was old new (PutsNone g digest) opened last conn is (λ before at. record {
+  pub unput_left : {T : Type 0} (r : Result T Refusal) (was : Option (Held S)) → Changes g opened last (with_key digest Staff (desk g opened)) r
+      → IfErr r (λ refusal. refusal ≡ Store) → IfSome old (λ before. IsMigrated g before opened) → conn ≡ last → IfSome new (λ held. Some conn ≡ Some held)
+      → IfErr r (LeavesStaffKey g was old new digest)
+  unput_left (Ok value) was changes store is same took = tt
+  unput_left (Err fault) was changes store is same took =
+      subst (LeavesStaffKey g was old new digest) (sym store)
+      (after_opening g was old new (PutsNone g digest) opened last conn is (λ before at. record {
         same = from_opened g IsSame before opened last at (record { lasts = changes.lasts; reached = changes.err });
         crash = crash_putting (Err fault) before at changes;
         durable = λ is_open. inr (changes.durable is_open);
-      }) same took
+      }) same took)
 
 -- ---- where no desk was opened
+
+no_device : IsOpenRefusal Device → ⊥
+no_device (inl is) = cc is
+no_device (inr (inl is)) = cc is
+no_device (inr (inr (inl is))) = cc is
+no_device (inr (inr (inr (inl is)))) = cc is
+no_device (inr (inr (inr (inr is)))) = cc is
 
 module _ {S : Type 0} (g : Ghosts S) (digest : List ℕ) where
   -- a crash may leave the desk that stood in tables of version 2
@@ -78,28 +86,17 @@ module _ {S : Type 0} (g : Ghosts S) (digest : List ℕ) where
 
   -- no key was put there
   pub unopened_unput : (was old new : Option (Held S)) (refusal : Refusal) → IsOpenRefusal refusal → LeavesUnopened g was old new refusal
-      → Leaves was old new (PutsNone g digest)
-  unopened_unput was old new refusal = unopened_with g was old new (PutsNone g digest) none_unopened refusal
+      → LeavesStaffKey g was old new digest refusal
+  unopened_unput was old new Device opening left = absurd (no_device opening)
+  unopened_unput was old new NoMemory opening none = none
+  unopened_unput was old new refusal opening left = unopened_with g was old new (PutsNone g digest) none_unopened refusal opening left
 
 -- ---- why not
-
-no_device : IsOpenRefusal Device → ⊥
-no_device (inl is) = cc is
-no_device (inr (inl is)) = cc is
-no_device (inr (inr (inl is))) = cc is
-no_device (inr (inr (inr (inl is)))) = cc is
-no_device (inr (inr (inr (inr is)))) = cc is
 
 -- where no key was put nothing was written
 pub not_put : (refusal : Refusal) (out : Option (List ℕ)) → IsOpenRefusal refusal → RefusesStaffKey refusal out out
 not_put Device out opening = absurd (no_device opening)
 not_put refusal out opening = (Keeps-refl out, opening)
-
--- and the desk is as it was
-pub not_put_left : {S : Type 0} (g : Ghosts S) (was old new : Option (Held S)) (digest : List ℕ) (refusal : Refusal) → IsOpenRefusal refusal
-    → Leaves was old new (PutsNone g digest) → LeavesStaffKey g was old new digest refusal
-not_put_left g was old new digest Device opening left = absurd (no_device opening)
-not_put_left g was old new digest refusal opening left = left
 
 -- a store that failed is no store that was not opened
 pub store_opens : {T : Type 0} (r : Result T Refusal) {S : Type 0} (g : Ghosts S) (old new : Option (Held S)) → IfErr r (λ refusal. refusal ≡ Store)

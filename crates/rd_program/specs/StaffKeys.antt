@@ -9,12 +9,12 @@ use Rattle.rd_policy.specs.declared.audience.Audience.TheVariants.{Staff}
 use Rattle.rd_store.specs.Held.{IsClean, IsLeft, IsOpen, Lasts, LeavesOld, LeavesOnly, desk}
 use Rattle.rd_store.specs.Migrated.{SpellsDesk}
 use Rattle.rd_program.specs.Inits.{done_line}
-use Rattle.rd_program.specs.Leaves.{IsSame, Leaves, LeavesStore}
+use Rattle.rd_program.specs.Leaves.{IsSame, Leaves, LeavesNone, LeavesStore}
 use Rattle.rd_program.specs.Serving.{IsOpenRefusal}
-use Rattle.rd_program.specs.Showing.{EndsWith, HoldsOfDesks}
+use Rattle.rd_program.specs.Showing.{EndsWith}
 use Rattle.rd_commands.specs.Output.{AppendsPart}
 use Rattle.rd_commands.specs.declared.refusal.Refusal.{Refusal}
-use Rattle.rd_commands.specs.declared.refusal.Refusal.TheVariants.{Device}
+use Rattle.rd_commands.specs.declared.refusal.Refusal.TheVariants.{Device, NoMemory}
 
 -- If the connection was open, and the disk has returned what was written, a crash leaves what it left before, or the desk
 -- that the tables spelled, with this key as one of the staff or without it.
@@ -22,11 +22,11 @@ abbrev pub LeavesOldOrPut : {S : Type 0} → Ghosts S → List ℕ → Held S �
 LeavesOldOrPut g digest before last = IsOpen g before → IsClean g last → (left : Trees) → g.recovers last.store left
     → g.recovers before.store left ⊎ ((stood : Desk) × SpellsDesk (state g before).now stood × (IsLeft stood left ⊎ IsLeft (with_key digest Staff stood) left))
 
--- The desk that stood has this key, by its digest, as one of the staff, and nothing else of it is changed. While the
--- connection is open, a crash leaves this desk and nothing else; and it is open if the disk has returned what was written.
+-- While the connection is open, the desk that stood has this key, by its digest, as one of the staff, nothing else of it is
+-- changed, and a crash leaves this desk and nothing else; and it is open if the disk has returned what was written.
 pub record PutsStaff {S : Type 0} (g : Ghosts S) (digest : List ℕ) (before last : Held S) : Type 0 where
   pub lasts : Lasts g before last
-  pub puts : HoldsOfDesks g (λ stood after. after ≡ with_key digest Staff stood) before last
+  pub puts : IsOpen g last → (stood : Desk) × SpellsDesk (state g before).now stood × (desk g last ≡ with_key digest Staff stood)
   pub ends_open : IsClean g last → IsOpen g last
   pub crash : LeavesOldOrPut g digest before last
   pub durable : IsOpen g last → LeavesOnly g last (desk g last)
@@ -45,7 +45,8 @@ RefusesStaffKey Device old new = AppendsPart old new done_line
 RefusesStaffKey refusal old new = Keeps old new × IsOpenRefusal refusal
 
 -- What stands after `staff-key` fails: the desk with the key if the device failed, for then only the line about it was not
--- written; and otherwise the desk as it was.
+-- written; and otherwise the desk as it was. Memory ran out only if there was no connection.
 abbrev pub LeavesStaffKey : {S : Type 0} → Ghosts S → Option (Held S) → Option (Held S) → Option (Held S) → List ℕ → Refusal → Type 0
 LeavesStaffKey g was old new digest Device = EndsWith old new (PutsStaff g digest)
+LeavesStaffKey g was old new digest NoMemory = LeavesNone was new
 LeavesStaffKey g was old new digest refusal = Leaves was old new (PutsNone g digest)

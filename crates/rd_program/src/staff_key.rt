@@ -10,7 +10,7 @@ ghost use Rattle.rd_program.specs.Inits.{done_line};
 ghost use Rattle.rd_program.specs.Leaves.{GivesBack, HasBoth, Leaves, NamesOpening, OnEnded};
 ghost use Rattle.rd_program.specs.Serving.{IsOpenRefusal};
 ghost use Rattle.rd_program.specs.Showing.{EndsWith};
-ghost use Rattle.rd_program.specs.StaffKeys.{LeavesStaffKey, PutsNone, PutsStaff, RefusesStaffKey};
+ghost use Rattle.rd_program.specs.StaffKeys.{LeavesStaffKey, PutsStaff, RefusesStaffKey};
 
 use crate::machine::Machine;
 use crate::open_desk::open_store;
@@ -51,8 +51,8 @@ fn put_staff<S: Alter>(store: &mut Store<S>, key: &[u8]) -> Result<(), Refusal>
 fn put_in_store<M: Machine>(alloc: Global, ask: StaffKeyAsk, machine: &mut M) -> Result<(), Refusal>
     ensures put { OnOk result
         (EndsWith (M.stands machine.old ask.entry.store.now) (M.left machine.new) (PutsStaff M.Disk.Store (sha256 ask.entry.key.now))) }
-    ensures left { IfErr result (λ _.
-        Leaves (M.left machine.old) (M.stands machine.old ask.entry.store.now) (M.left machine.new) (PutsNone M.Disk.Store (sha256 ask.entry.key.now))) }
+    ensures left { IfErr result
+        (LeavesStaffKey M.Disk.Store (M.left machine.old) (M.stands machine.old ask.entry.store.now) (M.left machine.new) (sha256 ask.entry.key.now)) }
     ensures opens { IfErr result (NamesOpening M.Disk.Store (M.stands machine.old ask.entry.store.now) (M.left machine.new)) }
     ensures refused { IfErr result IsOpenRefusal }
     ensures back { GivesBack (M.shows machine.old) (M.left machine.old) (M.left machine.new) }

@@ -758,7 +758,7 @@ returns-in-Err-clause-staff_key g c = λ store key asks.
     record {
       put = λ zero. let three : c.tell_unread.result ≡ 3 = memory.0 in absurd (omega arith);
       put_due = λ some.
-          tells _ NoMemory _ _ _ ((memory.1, inr (inr (inr (inr refl)))), still_left (g.M.Machine.left c.args.machine.now) (g.M.Machine.stands c.args.machine.now store) _, tt) memory.0
+          tells _ NoMemory _ _ _ ((memory.1, inr (inr (inr (inr refl)))), none_still (g.M.Machine.left c.args.machine.now), tt) memory.0
           (c.tell_unread.ensures.no_memory none);
     }
 

@@ -15,7 +15,7 @@ returns-clause-put g c =
 pub returns-clause-left : goal.returns-clause-left
 returns-clause-left g c =
     unput_left g.M.Disk.Store (sha256 c.args.ask.key.now) (g.M.Machine.stands c.args.machine.now c.args.ask.store.now) (g.M.Machine.left c.release.new.self)
-    c.in_ok-store.store c.put_staff-put.new.store c.into_connection.result c.put_staff-put.result (g.M.Machine.left c.args.machine.now) c.put_staff-put.ensures.changes
+    c.in_ok-store.store c.put_staff-put.new.store c.into_connection.result c.put_staff-put.result (g.M.Machine.left c.args.machine.now) c.put_staff-put.ensures.changes c.put_staff-put.ensures.refused
     c.in_ok-store.ensures.opened c.into_connection.ensures.same c.release.ensures.left
 
 pub returns-clause-opens : goal.returns-clause-opens

@@ -1,6 +1,5 @@
-use Rattle.sha2.specs.Sha256.{sha256}
 use Rattle.rd_program.proofs.ShowLemmas.{passed_on}
-use Rattle.rd_program.proofs.StaffKeyLemmas.{device_opens, not_put, not_put_left}
+use Rattle.rd_program.proofs.StaffKeyLemmas.{device_opens, not_put}
 use Rattle.rd_program.proofs.staff_key.staff_key.Goals as goal
 
 pub returns-clause-opens : goal.returns-clause-opens
@@ -15,5 +14,4 @@ returns-in_err-put_in_store-clause-refused g c =
 pub returns-in_err-put_in_store-clause-left : goal.returns-in_err-put_in_store-clause-left
 returns-in_err-put_in_store-clause-left g c =
     passed_on c.from_residual.result c.in_err-put_in_store.field-0.0 _ c.from_residual.ensures.1
-    (not_put_left g.M.Disk.Store (g.M.Machine.left c.args.machine.now) (g.M.Machine.stands c.args.machine.now c.args.ask.store.now) (g.M.Machine.left c.put_in_store.new.machine)
-    (sha256 c.args.ask.key.now) c.in_err-put_in_store.field-0.0 c.in_err-put_in_store.ensures.refused c.in_err-put_in_store.ensures.left)
+    c.in_err-put_in_store.ensures.left
