@@ -1,6 +1,7 @@
 -- The visits that `serve` serves, over the desk that stood.
-use Rattle.std.proofs.Common.{◌≡◌, ℕ, Bool, IsTrue, List, Option, Some, None, Result, Ok, Err, IfSome, OnOk, subst, sym}
-use Rattle.std.specs.Prelude.{IsSomeAnd, ⊤}
+use Rattle.std.proofs.Common.{◌≡◌, ◌⊎◌, ℕ, Bool, IsTrue, List, Option, Some, None, Result, Ok, Err, IfSome, OnOk, inr, refl, subst, sym}
+use Rattle.std.specs.Io.KnownBytes.{Keeps}
+use Rattle.std.specs.Prelude.{IsSome, IsSomeAnd, ⊤}
 use Rattle.sqlite.specs.Held.{Held}
 use Rattle.sqlite.specs.Store.{Ghosts}
 use Rattle.rd_policy.specs.declared.zone.Zone.{Zone}
@@ -16,7 +17,7 @@ use Rattle.rd_commands.specs.Serving.{GivesTimeouts, Place, place_of}
 use Rattle.rd_commands.specs.Commands.{AsksServe, IsAskOf}
 use Rattle.rd_commands.specs.declared.serving.Timeouts.{Timeouts}
 use Rattle.rd_messages.specs.declared.pace.TimeLimits.{TimeLimits}
-use Rattle.rd_program.specs.Serving.{AreLimitsOf, GivesLimits, LimitsVisitors}
+use Rattle.rd_program.specs.Serving.{AreLimitsOf, GivesLimits, LimitsVisitors, WritesOnceLent, WritesOnceLentBy}
 use Rattle.rd_program.specs.Leaves.{IsSame, LeavesDesk}
 use Rattle.rd_program.specs.Visiting.{HasVisits, RunsVisits, ServesBy, ServesDoor, ServesDoorBy, ServesVisits}
 use Rattle.rd_program.proofs.ShowLemmas.{ends_with}
@@ -109,3 +110,27 @@ pub limits_by : (words : List (List ℕ)) (shows : Bool) (limits : Option TimeLi
 limits_by words shows limits (Serve ask) store place count rule is asks are =
     λ shown. given_by (GivesTimeouts asks.rows) limits ask.timeouts (is.timeouts asks.rows asks.enters) (are shown)
 limits_by words shows limits ask store place count rule is asks are = absurd (is.serve store place count rule asks)
+
+-- ---- a door that was lent
+
+-- a call after the visits keeps the limits, and writes nothing
+pub lent_kept : (shows showed : Bool) (limits later : Option TimeLimits) (out written : Option (List ℕ)) → showed ≡ shows → later ≡ limits
+    → WritesOnceLent showed limits out written → WritesOnceLent shows later out written
+lent_kept shows showed limits later out written same kept lent =
+    λ shown. subst (λ l. Keeps out written ⊎ IsSome l) (sym kept) (lent (subst (λ b. IsTrue b) (sym same) shown))
+
+is_there : (limits : Option TimeLimits) (timeouts : Timeouts) → IsSomeAnd limits (AreLimitsOf timeouts) → IsSome limits
+is_there (Some limit) timeouts are = refl
+is_there None timeouts are = absurd are
+
+-- where visitors have their limits, a door was lent
+pub lent_limits : (shows showed : Bool) (limits later : Option TimeLimits) (timeouts : Timeouts) (out written : Option (List ℕ)) → showed ≡ shows → later ≡ limits
+    → (IsTrue showed → IsSomeAnd limits (AreLimitsOf timeouts)) → WritesOnceLent shows later out written
+lent_limits shows showed limits later timeouts out written same kept are =
+    λ shown. inr (subst (λ l. IsSome l) (sym kept) (is_there limits timeouts (are (subst (λ b. IsTrue b) (sym same) shown))))
+
+-- by the words
+pub lent_by : (shows : Bool) (limits : Option TimeLimits) (out written : Option (List ℕ)) (ask : Ask) (store : List ℕ) (place : Place) (count : ℕ) (rule : List ℕ)
+    → IsServeAsk store place count rule ask → WritesOnceLentBy shows limits out written ask → WritesOnceLent shows limits out written
+lent_by shows limits out written (Serve ask) store place count rule asks lent = lent
+lent_by shows limits out written ask store place count rule asks lent = absurd asks

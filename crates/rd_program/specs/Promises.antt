@@ -39,7 +39,7 @@ use Rattle.rd_program.specs.Inits.{LeavesInit, MakesDesk, RefusesInit, done_line
 use Rattle.rd_program.specs.Leaves.{Checks, GivesBack, HasBoth, IsSame, Leaves, LeavesServe, LeavesStore, NamesOpening, TakesIn, moment_of}
 use Rattle.rd_program.specs.OnTime.{GoesByClock, WasOnTimeBy}
 use Rattle.rd_program.specs.Rows.{IsBadSheetDue, TakesSheetIn}
-use Rattle.rd_program.specs.Serving.{GivesLimits, IsUnaskedRefusal, RefusesServe, serve_text}
+use Rattle.rd_program.specs.Serving.{GivesLimits, IsUnaskedRefusal, RefusesServe, WritesOnceLent, serve_text}
 use Rattle.rd_program.specs.Showing.{EndsWith, FindsStore, IsDueIn, RefusesShow, ShowsStore, request_of}
 use Rattle.rd_program.specs.StaffKeys.{LeavesStaffKey, PutsStaff, RefusesStaffKey}
 use Rattle.rd_program.specs.Visiting.{ServesDoorBy}
@@ -168,7 +168,8 @@ pub record DoesInit {S : Type 0} (g : Ghosts S) (result : ℕ) (staff : List ℕ
 -- At 0 a `serve` has served as many visits as the words ask for, and said so. Not at 0 it names its refusal, whose status
 -- is never 1. At 0 the visits of the door at that place are those of a run over the desk that stood, with the clocks of
 -- the rule, they left the desk as it is, and visitors may take as long as the words say. However it ends, the connection
--- lasts.
+-- lasts, and it has written something only if a door was lent: a machine that shows its connections shows that by how long
+-- visitors may take.
 pub record DoesServe {S D : Type 0} (g : Ghosts S) (visits_so_far : D → Option VisitsSoFar) (coming : D → Option (List Coming)) (result : ℕ)
     (place : Place) (count : ℕ) (rule : List ℕ) (are_given : Timeouts → Type 0) (shows : Bool) (pace : Option TimeLimits) (door later : Option D)
     (was stood left : Option (Held S)) (out written errors told : Option (List ℕ)) : Type 0 where
@@ -177,6 +178,7 @@ pub record DoesServe {S D : Type 0} (g : Ghosts S) (visits_so_far : D → Option
       → Tells (λ refusal. RefusesServe refusal place count out written × LeavesServe g was stood left place out written refusal) result errors told
   pub visits : result ≡ 0 → ServesDoorBy g visits_so_far coming count rule door later stood left
   pub limits : result ≡ 0 → IsTrue shows → IsSomeAnd pace (GivesLimits are_given)
+  pub lent : WritesOnceLent shows pace out written
   pub serve_leaves : Leaves was stood left (Lasts g)
 
 -- At 0 an `import` has written only lines that say that an image was taken in. Not at 0 it has written only lines of

@@ -1,5 +1,5 @@
 -- What the command `serve` gives.
-use Rattle.std.specs.Prelude.{◌≡◌, ◌*◌, ◌⊎◌, ℕ, ℤ, Bool, Err, IfSome, IsSomeAnd, IsTrue, List, Ok, Option, Result, ◌++◌, codes, ⊤}
+use Rattle.std.specs.Prelude.{◌≡◌, ◌*◌, ◌⊎◌, ℕ, ℤ, Bool, Err, IfSome, IsSome, IsSomeAnd, IsTrue, List, Ok, Option, Result, ◌++◌, codes, ⊤}
 use Rattle.std.specs.Duration.{as_nanos}
 use Rattle.std.specs.Fmt.{decimal}
 use Rattle.rd_messages.specs.declared.pace.TimeLimits.{TimeLimits}
@@ -45,6 +45,15 @@ GivesLimits are_given limits = (timeouts : Timeouts) × are_given timeouts × Ar
 abbrev pub LimitsVisitors : Bool → Option TimeLimits → Ask → Type 0
 LimitsVisitors shows limits (Serve ask) = IsTrue shows → IsSomeAnd limits (AreLimitsOf ask.timeouts)
 LimitsVisitors shows limits ask = ⊤
+
+-- nothing was written, or a door was lent, by a machine that shows how long visitors may take there
+abbrev pub WritesOnceLent : Bool → Option TimeLimits → Option (List ℕ) → Option (List ℕ) → Type 0
+WritesOnceLent shows limits old new = IsTrue shows → Keeps old new ⊎ IsSome limits
+
+-- a command that asks for visits says so only once it has a door
+abbrev pub WritesOnceLentBy : Bool → Option TimeLimits → Option (List ℕ) → Option (List ℕ) → Ask → Type 0
+WritesOnceLentBy shows limits old new (Serve ask) = WritesOnceLent shows limits old new
+WritesOnceLentBy shows limits old new ask = ⊤
 
 -- the line that says how many visits were served
 abbrev pub served_line : ℕ → List ℕ

@@ -17,7 +17,7 @@ ghost use Rattle.rd_commands.specs.Refusals.{status_of};
 ghost use Rattle.rd_program.specs.Rows.{ImportsBy, RefusesSheetBy};
 ghost use Rattle.rd_program.specs.Asked.{AsksBy, IsClockDueBy, IsUnaskedBy, SumsBy};
 ghost use Rattle.rd_program.specs.OnTime.{IsOnTimeBy};
-ghost use Rattle.rd_program.specs.Serving.{LimitsVisitors, RefusesServe, serve_text};
+ghost use Rattle.rd_program.specs.Serving.{LimitsVisitors, RefusesServe, WritesOnceLentBy, serve_text};
 ghost use Rattle.rd_commands.specs.Serving.{GivesTimeouts, Place};
 ghost use Rattle.rd_program.specs.Doors.{AsksNoOtherSums};
 ghost use Rattle.rd_program.specs.Visiting.{ServesBy};
@@ -97,6 +97,7 @@ fn perform<R: Read, W: Write, M: Machine>(
     ensures serves { OnOk result (ServesBy M.Disk.Store M.Door.told M.Door.coming (M.door machine.old) (M.door machine.new)
         (M.stands machine.old) (M.left machine.new) ask.entry) }
     ensures limits { OnOk result (LimitsVisitors (M.shows machine.old) (M.door_limits machine.new) ask.entry) }
+    ensures lent { WritesOnceLentBy (M.shows machine.old) (M.door_limits machine.new) (W.contents output.old) (W.contents output.new) ask.entry }
     ensures imports { ImportsBy M.Disk.Store (M.file_bytes machine.old) (M.sheet_bytes machine.old) (M.clock machine.old) (M.stands machine.old)
         (M.left machine.new) (W.contents output.old) (W.contents output.new) ask.entry result }
     ensures unasked { IsUnaskedBy (M.clock machine.old) ask.entry result }

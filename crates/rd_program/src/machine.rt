@@ -42,7 +42,8 @@ pub trait Machine: Files {
     /// The door at a place, if the machine shows it.
     ghost door: { Self → places.Place → Option Self.Door };
 
-    /// How long visitors may take at the door that it lent last. A machine that shows its connections shows it.
+    /// How long visitors may take at the door that it lent last; `None` while it has lent none. A machine that shows its
+    /// connections shows it.
     ghost door_limits: { Self → Option pace.TimeLimits };
 
     /// The connection that stands for a store at a path, if the machine shows it.

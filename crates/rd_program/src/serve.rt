@@ -8,7 +8,7 @@ ghost use Rattle.rd_program.specs.Leaves.{GivesBack, HasBoth, Leaves, LeavesServ
 ghost use Rattle.rd_program.specs.Visiting.{RunsVisits, ServesDoor};
 ghost use Rattle.rd_commands.specs.Output.{AppendsPart};
 ghost use Rattle.rd_commands.specs.Refusals.{IsDeviceOrMemory};
-ghost use Rattle.rd_program.specs.Serving.{AreLimitsOf, RefusesServe, RefusesToEnd, listening_at, listening_line, listening_on, serve_text, served_line};
+ghost use Rattle.rd_program.specs.Serving.{AreLimitsOf, RefusesServe, RefusesToEnd, WritesOnceLent, listening_at, listening_line, listening_on, serve_text, served_line};
 
 use crate::machine::Machine;
 use crate::open_desk::{clock_shown, is_late, open_desk};
@@ -113,6 +113,7 @@ fn serve_visits<W: Write, M: Machine>(
     ensures count { IfOk result (λ served. served.ended ≡ Ended.Count → served.visits ≡ ask.entry.count) }
     ensures lasts { IfOk result (λ _. Lasts M.Disk.Store desk.old.store desk.new.store) }
     ensures unserved { IfErr result (λ _. desk.new.store ≡ desk.old.store) }
+    ensures lent { WritesOnceLent (M.shows machine.old) (M.door_limits machine.new) (W.contents output.old) (W.contents output.new) }
     ensures shows { M.shows machine.new ≡ M.shows machine.old }
     ensures asked { M.paths machine.new ≡ M.paths machine.old }
     ensures limits { IfOk result (λ _. IsTrue (M.shows machine.old) → IsSomeAnd (M.door_limits machine.new) (AreLimitsOf ask.entry.timeouts)) }
@@ -170,6 +171,7 @@ pub(crate) fn serve<W: Write, M: Machine>(
         (M.door machine.old (place_of ask.entry.place)) (M.door machine.new (place_of ask.entry.place))
         (M.stands machine.old ask.entry.store.now) (M.left machine.new)) }
     ensures limits { OnOk result (IsTrue (M.shows machine.old) → IsSomeAnd (M.door_limits machine.new) (AreLimitsOf ask.entry.timeouts)) }
+    ensures lent { WritesOnceLent (M.shows machine.old) (M.door_limits machine.new) (W.contents output.old) (W.contents output.new) }
     ensures back { GivesBack (M.shows machine.old) (M.left machine.old) (M.left machine.new) }
     ensures there { OnEnded result (HasBoth (M.shows machine.old) (M.stands machine.old ask.entry.store.now) (M.left machine.new)) }
     ensures asked { AsksPath (M.paths machine.old) ask.entry.store.now (M.paths machine.new) }

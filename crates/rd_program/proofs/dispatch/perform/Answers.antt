@@ -5,7 +5,7 @@ use Rattle.rd_commands.specs.Cat.{Refuses, Serves}
 use Rattle.std.specs.Io.KnownBytes.{Appends}
 use Rattle.rd_program.specs.Leaves.{LeavesBy, LeavesRefused, OnEnded, StandsThere}
 use Rattle.rd_commands.specs.Listed.{Lists, RefusesList}
-use Rattle.rd_program.specs.Serving.{LimitsVisitors, RefusesServe, serve_text}
+use Rattle.rd_program.specs.Serving.{LimitsVisitors, RefusesServe, WritesOnceLentBy, serve_text}
 use Rattle.rd_program.proofs.VisitLemmas.{no_limits}
 use Rattle.rd_program.proofs.AnswerLemmas.{once_kept, once_never}
 use Rattle.rd_program.proofs.ImportLemmas.{ended_whole, err_whole, ok_whole, whole_is}
@@ -959,3 +959,45 @@ returns-in-StaffKey-clause-copies g c =
     subst (λ ask. CopiesBy g.M.Disk.Store (g.M.Machine.shows c.args.machine.now) (g.M.Machine.stands c.args.machine.now) (g.M.Machine.left c.staff_key.new.machine) (g.M.Machine.made c.args.machine.now)
     (g.M.Machine.fresh c.args.machine.now) (g.M.Machine.made c.staff_key.new.machine) (g.M.Machine.new_stores c.args.machine.now) (g.M.Machine.new_stores c.staff_key.new.machine)
     (g.W.Write.contents c.args.output.now) (g.W.Write.contents c.staff_key.new.output) ask c.whole-in-StaffKey.result) (sym c.in-StaffKey.is) tt
+
+-- ---- the door that was lent
+
+pub returns-in-File-clause-lent : goal.returns-in-File-clause-lent
+returns-in-File-clause-lent g c =
+    subst (λ ask. WritesOnceLentBy (g.M.Machine.shows c.args.machine.now) (g.M.Machine.door_limits c.cat.new.machine)
+    (g.W.Write.contents c.args.output.now) (g.W.Write.contents c.cat.new.output) ask) (sym c.in-File.is) tt
+
+pub returns-in-Files-clause-lent : goal.returns-in-Files-clause-lent
+returns-in-Files-clause-lent g c =
+    subst (λ ask. WritesOnceLentBy (g.M.Machine.shows c.args.machine.now) (g.M.Machine.door_limits c.list.new.machine)
+    (g.W.Write.contents c.args.output.now) (g.W.Write.contents c.list.new.output) ask) (sym c.in-Files.is) tt
+
+pub returns-in-Init-clause-lent : goal.returns-in-Init-clause-lent
+returns-in-Init-clause-lent g c =
+    subst (λ ask. WritesOnceLentBy (g.M.Machine.shows c.args.machine.now) (g.M.Machine.door_limits c.init.new.machine)
+    (g.W.Write.contents c.args.output.now) (g.W.Write.contents c.init.new.output) ask) (sym c.in-Init.is) tt
+
+pub returns-in-Serve-clause-lent : goal.returns-in-Serve-clause-lent
+returns-in-Serve-clause-lent g c =
+    subst (λ ask. WritesOnceLentBy (g.M.Machine.shows c.args.machine.now) (g.M.Machine.door_limits c.serve.new.machine)
+    (g.W.Write.contents c.args.output.now) (g.W.Write.contents c.serve.new.output) ask) (sym c.in-Serve.is) c.serve.ensures.lent
+
+pub returns-in-Import-clause-lent : goal.returns-in-Import-clause-lent
+returns-in-Import-clause-lent g c =
+    subst (λ ask. WritesOnceLentBy (g.M.Machine.shows c.args.machine.now) (g.M.Machine.door_limits c.import.new.machine)
+    (g.W.Write.contents c.args.output.now) (g.W.Write.contents c.import.new.output) ask) (sym c.in-Import.is) tt
+
+pub returns-in-OneQuestion-clause-lent : goal.returns-in-OneQuestion-clause-lent
+returns-in-OneQuestion-clause-lent g c =
+    subst (λ ask. WritesOnceLentBy (g.M.Machine.shows c.args.machine.now) (g.M.Machine.door_limits c.ask_once.new.machine)
+    (g.W.Write.contents c.args.output.now) (g.W.Write.contents c.ask_once.new.output) ask) (sym c.in-OneQuestion.is) tt
+
+pub returns-in-StaffKey-clause-lent : goal.returns-in-StaffKey-clause-lent
+returns-in-StaffKey-clause-lent g c =
+    subst (λ ask. WritesOnceLentBy (g.M.Machine.shows c.args.machine.now) (g.M.Machine.door_limits c.staff_key.new.machine)
+    (g.W.Write.contents c.args.output.now) (g.W.Write.contents c.staff_key.new.output) ask) (sym c.in-StaffKey.is) tt
+
+pub returns-in-Copy-clause-lent : goal.returns-in-Copy-clause-lent
+returns-in-Copy-clause-lent g c =
+    subst (λ ask. WritesOnceLentBy (g.M.Machine.shows c.args.machine.now) (g.M.Machine.door_limits c.copy.new.machine)
+    (g.W.Write.contents c.args.output.now) (g.W.Write.contents c.copy.new.output) ask) (sym c.in-Copy.is) tt

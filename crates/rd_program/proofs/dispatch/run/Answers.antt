@@ -19,7 +19,7 @@ use Rattle.rd_program.proofs.RowLemmas.{import_at_1, imports_by, no_memory_sheet
 use Rattle.rd_program.specs.Serving.{IsUnaskedRefusal}
 use Rattle.rd_program.proofs.DaylessMoments.{always, command_at, import_clock, once_clock, unasked_by}
 use Rattle.rd_program.proofs.OnTimeLemmas.{goes_at, on_time_by}
-use Rattle.rd_program.proofs.VisitLemmas.{limits_by, serves_by}
+use Rattle.rd_program.proofs.VisitLemmas.{lent_by, limits_by, serves_by}
 use Rattle.rd_program.proofs.FileLemmas.{files_done, files_refused, help_refused, of_image, one_file_done, one_file_refused}
 use Rattle.rd_commands.proofs.GetterLemmas.{help_asked, no_fault_in}
 use Rattle.std.proofs.KnownBytes.{Keeps-refl}
@@ -457,6 +457,9 @@ returns-in-Ok-perform-clause-serve g c = λ store place count rule asks.
       limits = λ zero.
           limits_by _ (g.M.Machine.shows c.args.machine.now) (g.M.Machine.door_limits c.perform.new.machine) c.in-Ok.ask store place count rule c.in-Ok.ensures.read asks
           c.in-Ok-perform.ensures.limits;
+      lent =
+          lent_by (g.M.Machine.shows c.args.machine.now) (g.M.Machine.door_limits c.perform.new.machine) (g.W.Write.contents c.args.output.now) (g.W.Write.contents c.perform.new.output)
+          c.in-Ok.ask store place count rule read c.perform.ensures.lent;
       serve_leaves =
           serve_leaves g.M.Disk.Store (g.M.Machine.clock c.args.machine.now) (g.M.Machine.left c.args.machine.now) (g.M.Machine.stands c.args.machine.now)
           (g.M.Machine.left c.perform.new.machine) c.in-Ok.ask store place count rule read c.perform.ensures.leaves;
@@ -476,6 +479,9 @@ returns-in-Err-perform-clause-serve g c = λ store place count rule asks.
           c.tell_refusal.ensures.status c.tell_refusal.ensures.written;
       visits = λ zero. absurd (not_done c.in-Err-perform.refused (sym c.tell_refusal.ensures.status ∙ zero));
       limits = λ zero. absurd (not_done c.in-Err-perform.refused (sym c.tell_refusal.ensures.status ∙ zero));
+      lent =
+          lent_by (g.M.Machine.shows c.args.machine.now) (g.M.Machine.door_limits c.perform.new.machine) (g.W.Write.contents c.args.output.now) (g.W.Write.contents c.perform.new.output)
+          c.in-Ok.ask store place count rule read c.perform.ensures.lent;
       serve_leaves =
           serve_leaves g.M.Disk.Store (g.M.Machine.clock c.args.machine.now) (g.M.Machine.left c.args.machine.now) (g.M.Machine.stands c.args.machine.now)
           (g.M.Machine.left c.perform.new.machine) c.in-Ok.ask store place count rule read c.perform.ensures.leaves;
@@ -492,6 +498,7 @@ returns-in-Err-clause-serve g c = λ store place count rule asks.
           memory.0 (c.tell_unread.ensures.no_memory none);
       visits = λ zero. let three : c.tell_unread.result ≡ 3 = memory.0 in absurd (omega arith);
       limits = λ zero. let three : c.tell_unread.result ≡ 3 = memory.0 in absurd (omega arith);
+      lent = λ shows. inl memory.1;
       serve_leaves = still_left (g.M.Machine.left c.args.machine.now) (g.M.Machine.stands c.args.machine.now store) _;
     }
 

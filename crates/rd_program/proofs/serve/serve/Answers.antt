@@ -1,8 +1,9 @@
-use Rattle.std.proofs.Common.{◌∙◌, IsTrue, ap, rules, subst, sym}
+use Rattle.std.proofs.Common.{◌∙◌, IsTrue, ap, inl, rules, subst, sym}
+use Rattle.std.proofs.KnownBytes.{Keeps-refl}
 use Rattle.rd_commands.specs.Serving.{place_of}
 use Rattle.rd_program.proofs.Named.{asked_then}
 use Rattle.rd_program.proofs.LeftStores.{gives_back, has_both, on_ended_always, opening_fails}
-use Rattle.rd_program.proofs.VisitLemmas.{limits_kept, serves_door}
+use Rattle.rd_program.proofs.VisitLemmas.{lent_kept, lent_limits, limits_kept, serves_door}
 use Rattle.rd_program.proofs.LeftStoresByWords.{lasts_left, opened_left, serve_ended, serve_not_begun, unserved_left}
 use Rattle.rd_program.proofs.ServeLines.{both_lines, ends, not_listening, not_opened}
 use Rattle.rd_program.proofs.serve.serve.Goals as goal
@@ -102,3 +103,20 @@ pub returns-in_err-served-clause-asked : goal.returns-in_err-served-clause-asked
 returns-in_err-served-clause-asked g c =
     asked_then (g.M.Machine.paths c.args.machine.now) (g.M.Machine.paths c.open_desk.new.machine) (g.M.Machine.paths c.release.new.self) c.args.ask.store.now c.open_desk.ensures.asked
     (c.release.ensures.asked ∙ c.serve_visits-served.ensures.asked)
+
+-- ---- the door that was lent
+
+pub returns-in_err-desk-clause-lent : goal.returns-in_err-desk-clause-lent
+returns-in_err-desk-clause-lent g c = λ shows. inl (Keeps-refl _)
+
+pub returns-in_err-served-clause-lent : goal.returns-in_err-served-clause-lent
+returns-in_err-served-clause-lent g c =
+    lent_kept (g.M.Machine.shows c.args.machine.now) (g.M.Machine.shows c.open_desk.new.machine) (g.M.Machine.door_limits c.serve_visits-served.new.machine)
+    (g.M.Machine.door_limits c.release.new.self) (g.W.Write.contents c.args.output.now) (g.W.Write.contents c.serve_visits-served.new.output)
+    c.open_desk.ensures.shows c.release.ensures.door_limits c.serve_visits-served.ensures.lent
+
+pub returns-clause-lent : goal.returns-clause-lent
+returns-clause-lent g c =
+    lent_limits (g.M.Machine.shows c.args.machine.now) (g.M.Machine.shows c.open_desk.new.machine) (g.M.Machine.door_limits c.serve_visits-served.new.machine)
+    (g.M.Machine.door_limits c.release.new.self) c.args.ask.timeouts (g.W.Write.contents c.args.output.now) (g.W.Write.contents c.tell_ended.new.output)
+    c.open_desk.ensures.shows c.release.ensures.door_limits c.in_ok-served.ensures.limits
